@@ -1,0 +1,5 @@
+pub mod Names
+pub mod FileNameBack
+pub mod NameBack
+pub mod NameFaults
+pub mod Tids

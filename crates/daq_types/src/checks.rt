@@ -1,0 +1,79 @@
+//! Worked rows of the names, types and lists.
+use crate::{BadFileName, Bytes, FileName, Name, NameRefusal, Tid, Words};
+use std::test::Fail;
+
+/// The refusal of a text, if it is no name.
+fn refusal(text: &[u8]) -> Option<NameRefusal> {
+    match Name::new(text) {
+        Ok(_) => None,
+        Err(refusal) => Some(refusal),
+    }
+}
+
+#[test]
+fn names_by_the_rule(rt: HostRuntime) {
+    assert_eq!(rt; refusal(b""), Some(NameRefusal::EmptyName));
+    assert_eq!(rt; refusal(b"Run number"), None);
+    assert_eq!(rt; refusal(b"a23456789012345678901234567890b"), None);
+    assert_eq!(rt;
+        refusal(b"a23456789012345678901234567890bc"),
+        Some(NameRefusal::LongName)
+    );
+    assert_eq!(rt; refusal(b"[x]"), Some(NameRefusal::BadByte { at: 0 }));
+    assert_eq!(rt; refusal(b"ab  "), Some(NameRefusal::BadByte { at: 3 }));
+    assert_eq!(rt; refusal(b"a;b"), None);
+    assert_eq!(rt; refusal(b";ab"), Some(NameRefusal::BadByte { at: 0 }));
+    assert_eq!(rt; refusal(b"a\x7f"), Some(NameRefusal::BadByte { at: 1 }));
+}
+
+#[test]
+fn names_of_files(rt: HostRuntime) {
+    assert!(rt; FileName::new("") == Err(BadFileName));
+    assert!(rt; FileName::new("a b") == Err(BadFileName));
+    for (text, compressed) in [
+        ("run00001.mid", false),
+        ("run00001.mid.gz", true),
+        (".gz", true),
+        ("x.lz4", true),
+        ("x.bz2", true),
+        ("x.GZ", false),
+    ] {
+        let name = FileName::new(text).expect(&rt, "a name");
+        assert_eq!(rt; name.as_slice(), text.as_bytes());
+        assert_eq!(rt; name.compressed(), compressed, "{text}");
+    }
+}
+
+#[test]
+fn types_by_number_and_name(rt: HostRuntime) {
+    for (code, name, size) in [
+        (1, "UINT8", 1),
+        (6, "UINT32", 4),
+        (10, "DOUBLE", 8),
+        (12, "STRING", 0),
+        (18, "UINT64", 8),
+    ] {
+        let tid = Tid::from_code(code).expect(&rt, "a type");
+        assert_eq!(rt; tid.code(), code);
+        assert_eq!(rt; tid.name(), name);
+        assert_eq!(rt; tid.size(), size);
+        assert_eq!(rt; Tid::from_name(name.as_bytes()), Some(tid));
+    }
+    assert_eq!(rt; Tid::from_code(0), None);
+    assert_eq!(rt; Tid::from_code(19), None);
+    assert_eq!(rt; Tid::from_name(b"DWORD"), Some(Tid::UInt32));
+    assert_eq!(rt; Tid::from_name(b"dword"), None);
+}
+
+#[test]
+fn words_and_bytes(rt: HostRuntime) -> Result<(), Fail> {
+    let mut words = Words::new(rt.alloc());
+    words.add(rt.alloc(), "check")?;
+    words.add(rt.alloc(), "run00001.mid")?;
+    assert_eq!(rt; words.len(), 2);
+    assert_eq!(rt; words.get(1).unwrap_or("none"), "run00001.mid");
+    assert!(rt; words.get(2).is_none());
+    let bytes = Bytes::of([1, 2].to_vec(rt.alloc())?);
+    assert_eq!(rt; bytes.as_slice(), [1, 2].as_slice());
+    Ok(())
+}

@@ -1,0 +1,23 @@
+//! Names, identifiers, run states and the other small types that every crate of the system shares.
+#![tactic(auto)]
+
+mod byte_list;
+#[cfg(test)]
+mod checks;
+mod events;
+mod file_names;
+mod memory;
+mod names;
+mod padding;
+mod runs;
+mod types;
+mod word_list;
+
+pub use byte_list::Bytes;
+pub use events::Event;
+pub use file_names::{BadFileName, FileName};
+pub use memory::NoMemory;
+pub use names::{Name, NameRefusal};
+pub use runs::{ChannelState, Kind, Order, RunState, Transition};
+pub use types::Tid;
+pub use word_list::Words;

@@ -1,0 +1,58 @@
+/// What a request asks of a buffer when it is full.
+#[derive(Clone, Copy, Debug, PartialEq, Eq)]
+pub enum Kind {
+    /// GET_ALL: no matching event is dropped before the client got it; senders wait.
+    All,
+    /// GET_NONBLOCKING: events may be dropped unread.
+    NonBlocking,
+}
+
+/// The state of the run, with the numbers that MIDAS keeps in `/Runinfo/State`.
+#[derive(Clone, Copy, Debug, PartialEq, Eq)]
+pub enum RunState {
+    Stopped = 1,
+    Paused = 2,
+    Running = 3,
+}
+
+/// A change of the run state, or the call-off of a start that a client refused.
+#[derive(Clone, Copy, Debug, PartialEq, Eq)]
+pub enum Transition {
+    Start,
+    Stop,
+    Pause,
+    Resume,
+    StartAbort,
+}
+
+/// What the members are told of a run at a transition.
+#[derive(Clone, Copy, Debug, PartialEq, Eq)]
+pub struct Order {
+    /// The run number, which is used again after a refused start.
+    pub run: u32,
+    /// The start number, which is never used again.
+    pub start: u32,
+    /// When the transition was ordered, in seconds since 1970.
+    pub time: u32,
+    /// The state before the transition.
+    pub from: RunState,
+    /// How many events each front-end has to send.
+    pub quota: u32,
+}
+
+/// What became of a logger channel's file.
+#[derive(Clone, Copy, Debug, PartialEq, Eq)]
+pub enum ChannelState {
+    /// No run is written.
+    Idle,
+    /// The file is open for writing.
+    Writing,
+    /// The file's calls failed; the file is left as it was then.
+    Broken,
+    /// The file is whole, from its begin record to its end record.
+    Ended,
+    /// The file was closed without an end record, since the end of the run had no dump.
+    NoEnd,
+    /// The file was closed without an end record, since the end of the run could not be marked.
+    NoMark,
+}
