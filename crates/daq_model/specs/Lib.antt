@@ -1,0 +1,5 @@
+pub mod Events
+pub mod RunFile
+pub mod Generator
+pub mod Rows
+pub mod GeneratorLaws
