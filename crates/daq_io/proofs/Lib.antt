@@ -1,0 +1,5 @@
+mod ReaderLemmas
+mod Reading
+mod Results
+mod SlotLemmas
+mod Writing

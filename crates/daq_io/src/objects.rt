@@ -1,0 +1,16 @@
+/// All that the program touches outside itself. It is handed in by value and handed back.
+#[derive(Drop)]
+pub struct Outside<S, K, F, E, C, P> {
+    /// The script.
+    pub src: S,
+    /// The console text.
+    pub out: K,
+    /// The run files.
+    pub run_files: F,
+    /// The files of the database: its dumps, and the message log.
+    pub odb_files: E,
+    /// The clock of run starts and stops.
+    pub clock: C,
+    /// Whose turn comes first in a round of a cooperative run.
+    pub pick: P,
+}

@@ -1,0 +1,56 @@
+ghost use Rattle.std.specs.Prelude.{◌<◌, ℕ, List, Option, IfOk, OnOk, OnErr, length};
+ghost use Rattle.std.specs.Io.{ReadsAtMost, WritesAtMost};
+ghost use Rattle.std.specs.Io.KnownBytes.{Appends, ReadConsumes, WriteAppends};
+ghost use Rattle.daq_io.specs.Counts.{CountsFault};
+ghost use Rattle.daq_io.specs.Streams.{AppendsPart};
+
+use crate::faults::Failed;
+
+/// Bytes to read, such as standard input.
+pub trait Source {
+    /// The bytes left, where the source tells them.
+    ghost left: { Self → Option (List ℕ) };
+
+    /// How many calls have failed. The count stands still at 2^64 - 1.
+    ghost faults: { Self → ℕ };
+
+    /// Reads into the front of `into` and answers how many bytes. No byte, where `into` has room, is the end of the
+    /// input, and comes exactly there where the bytes are told.
+    fn read(&mut self, into: &mut [u8]) -> Result<usize, Failed>
+        ensures within { ReadsAtMost result into.new }
+        // The bytes read are the first of those left. None at all means the end, and a failure reads nothing.
+        ensures bytes { ReadConsumes (left self.old) (left self.new) result into.new }
+        ensures faults { CountsFault (faults self.old) (faults self.new) result };
+}
+
+/// A place for bytes, such as standard output.
+pub trait Sink {
+    /// The bytes written, where the sink tells them.
+    ghost written: { Self → Option (List ℕ) };
+
+    /// How many calls have failed. The count stands still at 2^64 - 1.
+    ghost faults: { Self → ℕ };
+
+    /// Writes the front of `bytes` and answers how many bytes, at least one where there is one.
+    fn write(&mut self, bytes: &[u8]) -> Result<usize, Failed>
+        ensures within { WritesAtMost result bytes.now }
+        ensures some { IfOk result (λ count. 0 < length bytes.now → 0 < count) }
+        // The bytes written are appended, and a failure writes nothing.
+        ensures bytes { WriteAppends (written self.old) (written self.new) result bytes.now }
+        ensures faults { CountsFault (faults self.old) (faults self.new) result };
+}
+
+/// Writes all of `bytes`. After a failure the front of them was written.
+pub fn write_all<K: Sink>(out: &mut K, bytes: &[u8]) -> Result<(), Failed>
+    ensures all { OnOk result (Appends (K.written out.old) (K.written out.new) bytes.now) }
+    ensures part { OnErr result (AppendsPart (K.written out.old) (K.written out.new) bytes.now) }
+    ensures faults { CountsFault (K.faults out.old) (K.faults out.new) result }
+{
+    let mut rest = bytes;
+    while !rest.is_empty() {
+        let count = out.write(rest)?;
+        let (_, behind) = rest.split_at(count);
+        rest = behind;
+    }
+    Ok(())
+}
