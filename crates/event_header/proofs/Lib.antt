@@ -1,0 +1,4 @@
+pub mod ReadBack
+pub mod Filling
+mod Gathering
+mod Lending

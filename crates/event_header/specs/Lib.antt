@@ -1,0 +1,4 @@
+pub mod Headers
+pub mod Held
+pub mod Filled
+pub mod Pieces
