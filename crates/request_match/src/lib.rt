@@ -1,0 +1,41 @@
+//! Which events a request matches.
+#![tactic(auto)]
+
+ghost use Rattle.std.specs.Prelude.{◌≡◌};
+ghost use Rattle.daq_types.specs.declared.events.Event.{Event};
+ghost use Rattle.daq_model.specs.Events.{matches as is_match};
+
+/// An event id or a trigger mask in a request that every event matches.
+pub const ANY: u16 = 0xFFFF;
+
+/// Whether a request for this id and mask matches an event: the id is 0xFFFF or the event's, and the mask is 0xFFFF or
+/// has a bit in common with the event's.
+#[tactic(auto, unfolding(daq_model::specs::Events::matches))]
+pub fn matches(id: u16, mask: u16, event_id: u16, event_mask: u16) -> bool
+    ensures { (e : Event) → e.id ≡ event_id → e.mask ≡ event_mask → result ≡ is_match id mask e }
+{
+    (id == ANY || id == event_id) && (mask == ANY || mask & event_mask != 0)
+}
+
+#[cfg(test)]
+mod tests {
+    use super::*;
+
+    #[test]
+    fn matches_by_the_rule(rt: HostRuntime) {
+        for (id, mask, event_id, event_mask, matched) in [
+            (ANY, ANY, 1, 0, true),
+            (1, ANY, 1, 0, true),
+            (2, ANY, 1, 0, false),
+            (ANY, 1, 1, 2, false),
+            (ANY, 3, 1, 2, true),
+            (ANY, 0, 1, ANY, false),
+        ] {
+            assert_eq!(rt;
+                matches(id, mask, event_id, event_mask),
+                matched,
+                "{id} {mask} {event_id} {event_mask}"
+            );
+        }
+    }
+}
