@@ -1,0 +1,11 @@
+pub mod Slots
+pub mod Window
+pub mod Calls
+pub mod Histories
+pub mod Rows
+pub mod Plain
+pub mod SlotLaws
+pub mod WindowLaws
+pub mod ReadingLaws
+pub mod WindowKept
+pub mod HistoryLaws
