@@ -1,0 +1,4 @@
+mod Digits
+mod KeptLines
+mod Scanning
+mod LinesSoFar
