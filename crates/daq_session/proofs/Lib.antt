@@ -1,0 +1,10 @@
+mod Words
+mod Sending
+mod Keeping
+mod Leading
+mod Options
+mod PlayingLaws
+mod PlayingEnds
+mod ClosingLaws
+mod RunLaws
+mod Passing

@@ -1,0 +1,19 @@
+use Rattle.std.proofs.Common.{refl}
+use Rattle.daq_session.specs.BankHeads.{heads}
+use Rattle.daq_session.proofs.generator.write_heads.Goals as goal
+
+pub returns-clause-bytes : goal.returns-clause-bytes
+unfolding heads
+returns-clause-bytes c =
+    rw (
+      c.append_within-5.ensures.items,
+      c.append_within-4.ensures.items,
+      c.append_within-3.ensures.items,
+      c.append_within-2.ensures.items,
+      c.append_within.ensures.items,
+      c.clear.ensures.items,
+      c.to_le_bytes-4.ensures,
+      c.to_le_bytes-3.ensures,
+      c.to_le_bytes-2.ensures,
+      c.to_le_bytes.ensures,
+    ) refl

@@ -1,0 +1,10 @@
+-- How a run's file is begun.
+use Rattle.std.specs.Prelude.{List, ℕ, IsTrue, IsSome}
+use Rattle.daq_io.specs.Seen.{Seen, Same, Creates}
+use Rattle.daq_session.specs.declared.run_files.Begun.{Begun}
+use Rattle.daq_session.specs.declared.run_files.Begun.TheVariants.{Writing, Taken}
+
+-- a file of this name was made and has these bytes, or the name was taken and nothing changed
+abbrev pub BeginsFile : (old new : Seen) (name bytes : List ℕ) → Begun → Type 0
+BeginsFile old new name bytes (Writing file) = Creates old new name file bytes
+BeginsFile old new name bytes Taken = Same old new × (IsTrue old.tells → IsSome (old.at name))

@@ -1,0 +1,101 @@
+-- The console text of a script's replies, and the lines that were refused.
+use Rattle.std.specs.Prelude.{◌≡◌, ℕ, ◌+◌, ◌==◌, Bool, true, false, if◌then◌else◌, List, [], ◌∷◌, ◌++◌, length, codes}
+use Rattle.std.specs.Fmt.{decimal}
+use Rattle.std.proofs.Common.{sym, ap, ◌∙◌, append_assoc, arith}
+use Rattle.std.proofs.lemmas.List.{append-nil}
+use Rattle.daq_types.specs.declared.runs.RunState.{RunState}
+use Rattle.daq_types.specs.declared.runs.RunState.TheVariants.{Stopped, Paused, Running}
+use Rattle.daq_types.specs.declared.runs.ChannelState.{ChannelState}
+use Rattle.daq_types.specs.declared.runs.ChannelState.TheVariants.{Idle, Writing, Broken, Ended, NoEnd, NoMark}
+use Rattle.daq_session.specs.declared.records.Why.{Why}
+use Rattle.daq_session.specs.declared.records.Why.TheVariants.{Exists}
+use Rattle.daq_session.specs.declared.records.FrontTally.{FrontTally}
+use Rattle.daq_session.specs.declared.records.FileRecord.{FileRecord}
+use Rattle.daq_session.specs.declared.replies.Reply.{Reply}
+use Rattle.daq_session.specs.declared.replies.Reply.TheVariants.{Silent, BadCommand, WrongState, StartRefused, Started, Stopped as run_stopped}
+
+-- a run state's number
+abbrev pub state_number : RunState → ℕ
+state_number Stopped = 1
+state_number Paused = 2
+state_number Running = 3
+
+-- a channel state's name
+abbrev pub state_name : ChannelState → List ℕ
+state_name Idle = codes "Idle"
+state_name Writing = codes "Writing"
+state_name Broken = codes "Broken"
+state_name Ended = codes "Ended"
+state_name NoEnd = codes "NoEnd"
+state_name NoMark = codes "NoMark"
+
+-- the name of a client: the front-end FE has number 0, the logger 1
+unfoldable pub client_name : ℕ → List ℕ
+client_name client = if client == 0 then codes "FE" else codes "Logger"
+
+-- why a client refused a start: the name of the reason, and its field
+abbrev pub why_text : Why → List ℕ
+why_text (Exists channel) = codes "Exists " ++ decimal channel
+
+-- the line of a refusal: the script line's number, and the refusal's name and fields
+abbrev pub refused_line : (line : ℕ) → List ℕ → List ℕ
+refused_line line refusal = codes "refused " ++ (decimal line ++ (codes ": " ++ (refusal ++ 10 ∷ [])))
+
+-- what a front-end sent
+abbrev pub front_line : FrontTally → List ℕ
+front_line front = client_name front.client ++ (codes " sent " ++ (decimal front.sent ++ 10 ∷ []))
+
+-- what a channel wrote
+abbrev pub file_line : FileRecord → List ℕ
+file_line file = file.name ++ (32 ∷ (state_name file.state ++ 10 ∷ []))
+
+-- what a script line of this number prints
+abbrev pub text_of : (line : ℕ) → Reply → List ℕ
+text_of line Silent = []
+text_of line (BadCommand at) = refused_line line (codes "BadCommand " ++ decimal at)
+text_of line (WrongState state) = refused_line line (codes "WrongState " ++ decimal (state_number state))
+text_of line (StartRefused client why) = refused_line line (codes "StartRefused " ++ (client_name client ++ (32 ∷ why_text why)))
+text_of line (Started run) = codes "run " ++ (decimal run ++ (codes " started" ++ 10 ∷ []))
+text_of line (run_stopped run front file) = codes "run " ++ (decimal run ++ (codes " stopped" ++ 10 ∷ (front_line front ++ file_line file)))
+
+-- the text of replies, of which the first is to the line of this number
+abbrev pub console_text : (line : ℕ) → List Reply → List ℕ
+console_text line [] = []
+console_text line (reply ∷ replies) = text_of line reply ++ console_text (line + 1) replies
+
+-- whether a reply refuses its line
+abbrev pub is_refusal : Reply → Bool
+is_refusal Silent = false
+is_refusal (BadCommand at) = true
+is_refusal (WrongState state) = true
+is_refusal (StartRefused client why) = true
+is_refusal (Started run) = false
+is_refusal (run_stopped run front file) = false
+
+abbrev pub line_if : Bool → ℕ → List ℕ
+line_if true line = line ∷ []
+line_if false line = []
+
+-- the numbers of the lines that were refused
+abbrev pub refused_lines : (line : ℕ) → List Reply → List ℕ
+refused_lines line [] = []
+refused_lines line (reply ∷ replies) = line_if (is_refusal reply) line ++ refused_lines (line + 1) replies
+
+-- the first of them; 0 where none was refused
+abbrev pub first_line : List ℕ → ℕ
+first_line [] = 0
+first_line (line ∷ lines) = line
+
+-- One reply more.
+
+pub console_text-more : (line : ℕ) (replies : List Reply) (reply : Reply) → console_text line (replies ++ reply ∷ []) ≡ console_text line replies ++ text_of (line + length replies) reply
+console_text-more line [] reply = append-nil (text_of line reply) ∙ ap (λ (n : ℕ). text_of n reply) (omega arith)
+console_text-more line (first ∷ replies) reply =
+    ap (λ (text : List ℕ). text_of line first ++ text) (console_text-more (line + 1) replies reply ∙ ap (λ (n : ℕ). console_text (line + 1) replies ++ text_of n reply) (omega arith))
+    ∙ sym (append_assoc (text_of line first) (console_text (line + 1) replies) (text_of (line + length (first ∷ replies)) reply))
+
+pub refused_lines-more : (line : ℕ) (replies : List Reply) (reply : Reply) → refused_lines line (replies ++ reply ∷ []) ≡ refused_lines line replies ++ line_if (is_refusal reply) (line + length replies)
+refused_lines-more line [] reply = append-nil (line_if (is_refusal reply) line) ∙ ap (λ (n : ℕ). line_if (is_refusal reply) n) (omega arith)
+refused_lines-more line (first ∷ replies) reply =
+    ap (λ (more : List ℕ). line_if (is_refusal first) line ++ more) (refused_lines-more (line + 1) replies reply ∙ ap (λ (n : ℕ). refused_lines (line + 1) replies ++ line_if (is_refusal reply) n) (omega arith))
+    ∙ sym (append_assoc (line_if (is_refusal first) line) (refused_lines (line + 1) replies) (line_if (is_refusal reply) (line + length (first ∷ replies))))

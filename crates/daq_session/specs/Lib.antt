@@ -1,0 +1,15 @@
+pub mod BankHeads
+pub mod RunNames
+pub mod RunRecords
+pub mod Stages
+pub mod RecordBytes
+pub mod Tallies
+pub mod Halts
+pub mod Standing
+pub mod BegunFiles
+pub mod Console
+pub mod Refused
+pub mod Playing
+pub mod Endings
+pub mod Sessions
+pub mod Closing

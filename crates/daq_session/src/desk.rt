@@ -1,0 +1,66 @@
+ghost use Rattle.std.specs.Prelude.{◌≡◌, ◌≤◌, ◌<◌, ◌+◌, ◌^◌, ℕ, [], None, IfOk};
+ghost use Rattle.daq_session.specs.Halts.{CountsHalt, CountsSink};
+ghost use Rattle.daq_session.specs.Standing.{IsReady};
+ghost use Rattle.daq_session.specs.Playing.{DoesLine, IsNew};
+ghost use Rattle.daq_session.specs.Tallies.{most_starts};
+
+use crate::console::print_reply;
+use crate::halts::Halt;
+use crate::refusals::Refusals;
+use crate::session::Session;
+use daq_io::{Clock, Files, Sink};
+use daq_types::NoMemory;
+use odb_script::{Command, TextBuffer};
+use std::alloc::Global;
+
+/// A session with its console: the text that is being made, and the lines that were refused.
+#[derive(Drop)]
+pub struct Desk {
+    /// The session.
+    pub session: Session,
+    /// The text of one reply.
+    pub text: TextBuffer,
+    /// The lines that were refused so far.
+    pub refusals: Refusals,
+}
+
+impl Desk {
+    /// A session before its first line.
+    pub fn new(alloc: Global) -> Result<Desk, NoMemory>
+        ensures session { IfOk result (λ d. IsNew d.session.state) }
+        ensures refusals { IfOk result (λ d. d.refusals ≡ record { count = 0; first = 0 }) }
+    {
+        let session = Session::new(alloc)?;
+        Ok(Desk {
+            session,
+            text: TextBuffer::new(alloc),
+            refusals: Refusals::NONE,
+        })
+    }
+
+    /// Answers the script's line of this number and writes what it prints.
+    pub fn handle<K: Sink, F: Files, C: Clock>(
+        &mut self,
+        alloc: Global,
+        number: u64,
+        line: &[u8],
+        out: &mut K,
+        files: &mut F,
+        clock: &mut C,
+    ) -> Result<(), Halt>
+        requires few { self.old.session.state.starts + 1 ≤ most_starts }
+        requires counted { self.old.refusals.count + 1 < 2 ^ 64 }
+        requires ready { IsReady (F.seen files.old) self.old.session.state.current }
+        ensures did { DoesLine line.now number self.old.session.state self.new.session.state (record { files = F.seen files.old; clock_tells = C.tells clock.old; ahead = C.ahead clock.old }) (record { files = F.seen files.new; clock_tells = C.tells clock.new; ahead = C.ahead clock.new }) (K.written out.old) (K.written out.new) self.old.refusals self.new.refusals result }
+        ensures starts { self.new.session.state.starts ≤ self.old.session.state.starts + 1 }
+        ensures empty { line.now ≡ [] → self.new.session.state.starts ≡ self.old.session.state.starts }
+        ensures refusals { self.new.refusals.count ≤ self.old.refusals.count + 1 }
+        ensures files { CountsHalt (F.faults files.old) (F.faults files.new) result }
+        ensures sink { CountsSink (K.faults out.old) (K.faults out.new) result }
+    {
+        let command = Command::read(line);
+        let reply = self.session.answer(alloc, command, files, clock)?;
+        self.refusals.note(number, &reply);
+        print_reply(&mut self.text, alloc, number, &reply, out)
+    }
+}

@@ -1,0 +1,77 @@
+use crate::entry_list::Entries;
+use daq_types::{ChannelState, FileName};
+
+/// What is kept of a session.
+#[derive(Drop)]
+pub struct SessionRecord {
+    /// One record for each start that was begun, in order.
+    pub runs: Entries<RunRecord>,
+}
+
+/// What is kept of a start and of the run that it began.
+#[derive(Drop)]
+pub struct RunRecord {
+    /// The run number. It is used again after a refused start.
+    pub run: u32,
+    /// The start number. It is never used again.
+    pub start: u32,
+    /// When the run was started, in seconds since 1970.
+    pub time0: u32,
+    /// When it was stopped; 0 for a refused start.
+    pub time1: u32,
+    /// Whether the run came about.
+    pub outcome: StartOutcome,
+    /// What the front-ends sent; nothing for a refused start.
+    pub fronts: Entries<FrontTally>,
+    /// What the logger wrote, by channel number; nothing for a refused start.
+    pub files: Entries<FileRecord>,
+}
+
+/// How a start ended.
+#[derive(Clone, Copy, Debug, PartialEq, Eq)]
+pub enum StartOutcome {
+    /// Every client took part.
+    Completed,
+    /// This client refused.
+    Refused { client: u32, why: Why },
+}
+
+/// Why a client refused a start.
+#[derive(Clone, Copy, Debug, PartialEq, Eq)]
+pub enum Why {
+    /// The name of this channel's run file was taken.
+    Exists { channel: u32 },
+}
+
+/// What a front-end sent in a run.
+#[derive(Clone, Copy, Debug, PartialEq, Eq)]
+pub struct FrontTally {
+    /// Its client number.
+    pub client: u32,
+    /// How many events it sent.
+    pub sent: u32,
+    /// Why it sent no more.
+    pub ended: FrontEnded,
+}
+
+/// Why a front-end sent no more events in a run.
+#[derive(Clone, Copy, Debug, PartialEq, Eq)]
+pub enum FrontEnded {
+    /// It had sent its quota.
+    Quota,
+    /// The run was stopped while it was paused.
+    Paused,
+    /// The buffer takes no more events; `total` is the sum of the slots of all that it ever took.
+    Spent { total: u64 },
+}
+
+/// What a channel of the logger wrote in a run.
+#[derive(Clone, Copy, Debug, PartialEq, Eq)]
+pub struct FileRecord {
+    /// The channel number.
+    pub channel: u32,
+    /// The name of the run file.
+    pub name: FileName,
+    /// What became of the file.
+    pub state: ChannelState,
+}

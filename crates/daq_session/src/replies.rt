@@ -1,0 +1,32 @@
+use crate::records::{FileRecord, FrontTally, Why};
+use daq_types::RunState;
+
+/// What a line of the script is answered.
+#[derive(Clone, Copy, Debug, PartialEq, Eq)]
+pub enum Reply {
+    /// Nothing is printed.
+    Silent,
+    /// Refused: the line is no command.
+    BadCommand {
+        at: u32,
+    },
+    /// Refused: the command does not go with the state of the run.
+    WrongState {
+        state: RunState,
+    },
+    /// Refused: this client refused the start.
+    StartRefused {
+        client: u32,
+        why: Why,
+    },
+    /// The run of this number began.
+    Started {
+        run: u32,
+    },
+    /// The run of this number ended: what the front-end sent, and what the logger wrote.
+    Stopped {
+        run: u32,
+        front: FrontTally,
+        file: FileRecord,
+    },
+}

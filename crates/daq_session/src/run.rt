@@ -1,0 +1,100 @@
+ghost use Rattle.std.specs.Prelude.{◌≡◌, ◌≢◌, [], None, IfSome};
+ghost use Rattle.daq_io.specs.Counts.{Rose};
+ghost use Rattle.daq_session.specs.Sessions.{FaultsBy, IsSession, runs_in};
+
+use crate::causes::Cause;
+use crate::closing::{cause_of, close_run};
+use crate::desk::Desk;
+use crate::entry_list::Entries;
+use crate::records::SessionRecord;
+use crate::script::play;
+use crate::session::Session;
+use daq_io::{Clock, Files, Gate, Outside, Pick, Sink, Source};
+use odb_script::LineReader;
+use std::alloc::Global;
+use std::sync::Wait;
+use std::thread::Threads;
+
+/// The record of a session that is over; none where no start opened it.
+fn record_of(session: Session) -> Option<SessionRecord>
+    ensures runs { runs_in result ≡ session.state.runs.items }
+    ensures opened { IfSome result (λ s. s.runs ≢ []) }
+{
+    let state = session.state;
+    let runs = state.runs;
+    if runs.as_slice().is_empty() {
+        return None;
+    }
+    Some(SessionRecord {
+        runs: Entries::of(runs),
+    })
+}
+
+/// Reads a script and runs the session that it commands. Answers why that ended, and the session's record.
+fn run<S: Source, K: Sink, F: Files, E, C: Clock, P>(
+    alloc: Global,
+    outside: &mut Outside<S, K, F, E, C, P>,
+) -> (Cause, Option<SessionRecord>)
+    ensures session { ¬ Rose (F.faults outside.old.run_files) (F.faults outside.new.run_files) → IsSession (record { files = F.seen outside.old.run_files; clock_tells = C.tells outside.old.clock; ahead = C.ahead outside.old.clock }) (record { files = F.seen outside.new.run_files; clock_tells = C.tells outside.new.clock; ahead = C.ahead outside.new.clock }) (S.left outside.old.src) (K.written outside.old.out) (K.written outside.new.out) (record { old = K.faults outside.old.out; new = K.faults outside.new.out }) result.0 (runs_in result.1) }
+    ensures faults { FaultsBy result.0 (record { old = S.faults outside.old.src; new = S.faults outside.new.src }) (record { old = K.faults outside.old.out; new = K.faults outside.new.out }) (record { old = F.faults outside.old.run_files; new = F.faults outside.new.run_files }) (F.first outside.new.run_files) }
+    ensures broken { F.faults outside.new.run_files ≢ F.faults outside.old.run_files → result.1 ≡ None }
+    ensures opened { IfSome result.1 (λ s. s.runs ≢ []) }
+    ensures database { outside.new.odb_files ≡ outside.old.odb_files }
+    ensures picks { outside.new.pick ≡ outside.old.pick }
+{
+    let Ok(mut desk) = Desk::new(alloc) else {
+        return (Cause::NoMemory, None);
+    };
+    let Ok(mut reader) = LineReader::new(alloc) else {
+        return (Cause::NoMemory, None);
+    };
+    let ending = play(alloc, &mut desk, &mut reader, outside);
+    if ending.is_file_fault() {
+        return (cause_of(ending, &desk.refusals, &outside.run_files), None);
+    }
+    let closed = close_run(
+        alloc,
+        &mut desk,
+        ending,
+        &mut outside.out,
+        &mut outside.run_files,
+        &mut outside.clock,
+    );
+    let cause = cause_of(closed.ending, &desk.refusals, &outside.run_files);
+    if !closed.whole {
+        return (cause, None);
+    }
+    (cause, record_of(desk.session))
+}
+
+/// Reads a script and runs the session that it commands. Answers why that ended, the session's record, and the outside
+/// as it is then. On one thread both ways of running are the same.
+pub fn run_script<
+    R: Threads + Wait + Sync,
+    S: Source,
+    K: Sink,
+    F: Files + Send,
+    E: Files,
+    C: Clock,
+    P: Pick,
+    G: Gate + Sync,
+>(
+    _rt: &R,
+    alloc: Global,
+    _cooperative: bool,
+    mut outside: Outside<S, K, F, E, C, P>,
+    _gate: &G,
+) -> (Cause, Option<SessionRecord>, Outside<S, K, F, E, C, P>)
+    // The records, the run files, the text and the cause are what the script asks for.
+    ensures session { ¬ Rose (F.faults outside.run_files) (F.faults result.2.run_files) → IsSession (record { files = F.seen outside.run_files; clock_tells = C.tells outside.clock; ahead = C.ahead outside.clock }) (record { files = F.seen result.2.run_files; clock_tells = C.tells result.2.clock; ahead = C.ahead result.2.clock }) (S.left outside.src) (K.written outside.out) (K.written result.2.out) (record { old = K.faults outside.out; new = K.faults result.2.out }) result.0 (runs_in result.1) }
+    // A fault is the cause exactly where the count of its object rose, and no earlier cause holds.
+    ensures faults { FaultsBy result.0 (record { old = S.faults outside.src; new = S.faults result.2.src }) (record { old = K.faults outside.out; new = K.faults result.2.out }) (record { old = F.faults outside.run_files; new = F.faults result.2.run_files }) (F.first result.2.run_files) }
+    // There is no record where a call on the run files failed, and none without a run.
+    ensures broken { F.faults result.2.run_files ≢ F.faults outside.run_files → result.1 ≡ None }
+    ensures opened { IfSome result.1 (λ s. s.runs ≢ []) }
+    ensures database { result.2.odb_files ≡ outside.odb_files }
+    ensures picks { result.2.pick ≡ outside.pick }
+{
+    let (cause, session) = run(alloc, &mut outside);
+    (cause, session, outside)
+}

@@ -1,0 +1,67 @@
+ghost use Rattle.std.specs.Prelude.{◌≡◌, ◌≤◌, ◌<◌, ◌+◌, ◌^◌, ℕ, [], None, IfOk};
+ghost use Rattle.odb_script.specs.Lines.{nothing_read};
+ghost use Rattle.daq_session.specs.Endings.{SourceCounts, SinkCounts, FileCounts};
+ghost use Rattle.daq_session.specs.Playing.{PlaysTo, IsNew};
+
+use crate::desk::Desk;
+use crate::endings::Ending;
+use daq_io::{Clock, Files, Outside, Sink, Source};
+use odb_script::{LineReader, NextLine};
+use std::alloc::Global;
+
+/// No script has more lines: each but the last has at least its end.
+const SCRIPT_LINES: u32 = 16_777_217;
+
+/// Plays the lines of the script as they come.
+pub fn play<S: Source, K: Sink, F: Files, E, C: Clock, P>(
+    alloc: Global,
+    desk: &mut Desk,
+    reader: &mut LineReader,
+    outside: &mut Outside<S, K, F, E, C, P>,
+) -> Ending
+    requires new { IsNew desk.old.session.state }
+    requires none { desk.old.refusals ≡ record { count = 0; first = 0 } }
+    requires unread { reader.old ≡ nothing_read }
+    ensures did { PlaysTo (record { files = F.seen outside.old.run_files; clock_tells = C.tells outside.old.clock; ahead = C.ahead outside.old.clock }) result (S.left outside.old.src) (K.written outside.old.out) (K.written outside.new.out) desk.new.session.state (record { files = F.seen outside.new.run_files; clock_tells = C.tells outside.new.clock; ahead = C.ahead outside.new.clock }) desk.new.refusals }
+    ensures source { SourceCounts result (S.faults outside.old.src) (S.faults outside.new.src) }
+    ensures sink { SinkCounts result (K.faults outside.old.out) (K.faults outside.new.out) }
+    ensures files { FileCounts result (F.faults outside.old.run_files) (F.faults outside.new.run_files) }
+    ensures database { outside.new.odb_files ≡ outside.old.odb_files }
+    ensures picks { outside.new.pick ≡ outside.old.pick }
+{
+    for number in 0..SCRIPT_LINES {
+        match reader.advance(&mut outside.src) {
+            NextLine::Line => {
+                let handled = desk.handle(
+                    alloc,
+                    number as u64 + 1,
+                    reader.line(),
+                    &mut outside.out,
+                    &mut outside.run_files,
+                    &mut outside.clock,
+                );
+                if let Err(halt) = handled {
+                    return Ending::Halted { halt };
+                }
+            }
+            NextLine::Last => {
+                let handled = desk.handle(
+                    alloc,
+                    number as u64 + 1,
+                    reader.line(),
+                    &mut outside.out,
+                    &mut outside.run_files,
+                    &mut outside.clock,
+                );
+                return match handled {
+                    Ok(()) => Ending::End,
+                    Err(halt) => Ending::Halted { halt },
+                };
+            }
+            NextLine::End => return Ending::End,
+            NextLine::TooLong => return Ending::TooLong,
+            NextLine::Fault => return Ending::SourceFault,
+        }
+    }
+    unreachable!()
+}

@@ -1,0 +1,102 @@
+ghost use Rattle.std.specs.Prelude.{◌≡◌, ◌≤◌, ◌<◌, ◌+◌, ◌^◌, ℕ, [], None, Ok, IfOk, OnOk, IsSome, false};
+ghost use Rattle.std.specs.Option.{ForNone, ForSome};
+ghost use Rattle.buffer_core.specs.declared.gate.RunGate.TheVariants.{Running, Shut};
+ghost use Rattle.daq_io.specs.Counts.{CountsFault};
+ghost use Rattle.odb_script.specs.declared.commands.Command.TheVariants.{Nothing, Stop};
+ghost use Rattle.daq_session.specs.Console.{is_refusal};
+ghost use Rattle.daq_session.specs.Halts.{CountsHalt};
+ghost use Rattle.daq_session.specs.Standing.{Answers, Handles, IsReady};
+ghost use Rattle.daq_session.specs.Tallies.{most_spent, most_starts};
+
+use crate::data_path::DataPath;
+use crate::halts::Halt;
+use crate::replies::Reply;
+use crate::state::State;
+use crate::transitions::{start, stop};
+use daq_io::{Clock, Failed, Files};
+use daq_types::NoMemory;
+use odb_script::{Command, LineRefusal};
+use std::alloc::Global;
+
+/// A session: where it stands in its script, and the way of its events.
+#[derive(Drop)]
+pub struct Session {
+    /// Where the session stands.
+    pub state: State,
+    /// The way of its events.
+    pub path: DataPath,
+    // The buffer takes the events of the run that is on, and none where none is on.
+    ghost shut: { ForNone state.current (path.buffer.gate ≡ Shut) },
+    ghost open_gate: { ForSome state.current (λ r. path.buffer.gate ≡ Running r.order.start) },
+    ghost later: { path.buffer.last ≤ state.starts },
+    ghost few: { state.starts ≤ most_starts },
+    // Each run that was begun had room for all its events, and so has the one that is on.
+    ghost spent: { path.buffer.total ≤ most_spent state.starts },
+    ghost spends: { ForSome state.current (λ r. path.buffer.total + most_spent 1 ≤ most_spent r.order.start) },
+    ghost begun: { ForSome state.current (λ r. r.order.start ≤ state.starts) },
+}
+
+impl Session {
+    /// A session before its first line.
+    pub fn new(alloc: Global) -> Result<Session, NoMemory>
+        ensures stopped { IfOk result (λ s. s.state.current ≡ None) }
+        ensures runs { IfOk result (λ s. s.state.runs.items ≡ []) }
+        ensures quota { IfOk result (λ s. s.state.quota ≡ 0) }
+        ensures starts { IfOk result (λ s. s.state.starts ≡ 0) }
+        ensures run { IfOk result (λ s. s.state.run ≡ 0) }
+    {
+        let path = DataPath::new(alloc)?;
+        Ok(Session {
+            state: State {
+                quota: 0,
+                starts: 0,
+                run: 0,
+                runs: Vec::new(alloc),
+                current: None,
+            },
+            path,
+        })
+    }
+
+    /// Answers a line of the script: its command, or the refusal of a line that is none.
+    pub fn answer<F: Files, C: Clock>(
+        &mut self,
+        alloc: Global,
+        line: Result<Command, LineRefusal>,
+        files: &mut F,
+        clock: &mut C,
+    ) -> Result<Reply, Halt>
+        requires few { self.old.state.starts + 1 ≤ most_starts }
+        requires ready { IsReady (F.seen files.old) self.old.state.current }
+        ensures did { Handles line self.old.state self.new.state (record { files = F.seen files.old; clock_tells = C.tells clock.old; ahead = C.ahead clock.old }) (record { files = F.seen files.new; clock_tells = C.tells clock.new; ahead = C.ahead clock.new }) result }
+        ensures starts { self.new.state.starts ≤ self.old.state.starts + 1 }
+        ensures nothing { line ≡ Ok Nothing → self.new.state.starts ≡ self.old.state.starts }
+        ensures faults { CountsHalt (F.faults files.old) (F.faults files.new) result }
+    {
+        match line {
+            Err(LineRefusal::BadCommand { at }) => Ok(Reply::BadCommand { at }),
+            Ok(Command::Nothing) => Ok(Reply::Silent),
+            Ok(Command::Events { quota }) => {
+                self.state.quota = quota;
+                Ok(Reply::Silent)
+            }
+            Ok(Command::Start) => start(alloc, &mut self.state, &mut self.path, files, clock),
+            Ok(Command::Stop) => Ok(stop(&mut self.state, &mut self.path, files, clock)?),
+        }
+    }
+
+    /// Ends the run that is on.
+    pub fn stop_run<F: Files, C: Clock>(
+        &mut self,
+        files: &mut F,
+        clock: &mut C,
+    ) -> Result<Reply, Failed>
+        requires ready { IsReady (F.seen files.old) self.old.state.current }
+        ensures did { IfOk result (λ reply. Answers (Ok Stop) reply self.old.state self.new.state (record { files = F.seen files.old; clock_tells = C.tells clock.old; ahead = C.ahead clock.old }) (record { files = F.seen files.new; clock_tells = C.tells clock.new; ahead = C.ahead clock.new })) }
+        ensures idle { OnOk result (self.new.state.current ≡ None) }
+        ensures accepted { IfOk result (λ reply. IsSome self.old.state.current → is_refusal reply ≡ false) }
+        ensures faults { CountsFault (F.faults files.old) (F.faults files.new) result }
+    {
+        stop(&mut self.state, &mut self.path, files, clock)
+    }
+}
