@@ -1,0 +1,69 @@
+//! The program `midas`: the words of its command line, the top call, and the real objects that it runs over.
+#![tactic(auto)]
+
+mod outcome;
+#[cfg(test)]
+mod tests;
+mod top;
+mod words;
+
+use daq_io::{NoGate, Outside, RoundPick, StdClock, StdFiles, StdSink, StdSource};
+use daq_types::{NoMemory, Words};
+use std::env;
+use std::io::{self, Stdin, Stdout};
+use std::process::ExitCode;
+use top::midas;
+
+/// The status where the words find no memory.
+const NO_MEMORY_STATUS: u8 = 5;
+
+/// The real objects: standard input and output, files of the folder in which the program runs, and the system's clock.
+type RealOutside = Outside<
+    StdSource<Stdin>,
+    StdSink<Stdout>,
+    StdFiles<HostRuntime>,
+    StdFiles<HostRuntime>,
+    StdClock<HostRuntime>,
+    RoundPick,
+>;
+
+/// The words of the command line, without the program's name. None of them where one is not UTF-8, so that the line
+/// has no form.
+fn given_words(rt: HostRuntime) -> Result<Words, NoMemory> {
+    let mut words = Words::new(rt.alloc());
+    match env::args(&rt) {
+        Ok(args) => {
+            for word in args.skip(1) {
+                words.add(rt.alloc(), word.as_str())?;
+            }
+            Ok(words)
+        }
+        Err(error) => {
+            if error.kind() == io::ErrorKind::InvalidData {
+                Ok(words)
+            } else {
+                Err(NoMemory)
+            }
+        }
+    }
+}
+
+/// The real objects.
+fn real_outside(rt: HostRuntime) -> Result<RealOutside, NoMemory> {
+    Ok(Outside {
+        src: StdSource::new(rt.alloc(), rt.stdin())?,
+        out: StdSink::new(rt.stdout()),
+        run_files: StdFiles::new(rt.alloc(), rt, ".")?,
+        odb_files: StdFiles::new(rt.alloc(), rt, ".")?,
+        clock: StdClock::new(rt),
+        pick: RoundPick::new(),
+    })
+}
+
+fn main(rt: HostRuntime) -> ExitCode {
+    let (Ok(words), Ok(outside)) = (given_words(rt), real_outside(rt)) else {
+        return ExitCode::from(NO_MEMORY_STATUS);
+    };
+    let (outcome, _outside) = midas(&rt, rt.alloc(), &words, outside, &NoGate);
+    ExitCode::from(outcome.status)
+}

@@ -1,0 +1,79 @@
+ghost use Rattle.std.specs.Prelude.{◌≡◌, ◌≢◌, ◌↔◌, [], None, IfSome};
+ghost use Rattle.std.specs.Io.KnownBytes.{Appends};
+ghost use Rattle.daq_io.specs.Counts.{Rose};
+ghost use Rattle.daq_io.specs.Streams.{AppendsPart};
+ghost use Rattle.daq_session.specs.Sessions.{FaultsBy, IsSession, runs_in};
+ghost use Rattle.midas_cli.specs.CommandLine.{IsRun, usage_line};
+ghost use Rattle.midas_cli.specs.Outcomes.{status_of};
+
+use crate::outcome::{Outcome, status};
+use crate::words::{USAGE, is_run};
+use daq_io::{Clock, Files, Gate, Outside, Pick, Sink, Source, write_all};
+use daq_session::{Cause, run_script};
+use daq_types::Words;
+use std::alloc::Global;
+use std::sync::Wait;
+use std::thread::Threads;
+
+/// Writes the line that tells which forms the words may have.
+fn write_usage<K: Sink>(out: &mut K)
+    ensures line { ¬ Rose (K.faults out.old) (K.faults out.new) → Appends (K.written out.old) (K.written out.new) usage_line }
+    ensures part { AppendsPart (K.written out.old) (K.written out.new) usage_line }
+{
+    let _ = write_all(out, USAGE.as_bytes());
+}
+
+/// The program, over all that it touches outside itself, which it hands back.
+pub fn midas<
+    R: Threads + Wait + Sync,
+    S: Source,
+    K: Sink,
+    F: Files + Send,
+    E: Files,
+    C: Clock,
+    P: Pick,
+    G: Gate + Sync,
+>(
+    rt: &R,
+    alloc: Global,
+    words: &Words,
+    outside: Outside<S, K, F, E, C, P>,
+    gate: &G,
+) -> (Outcome, Outside<S, K, F, E, C, P>)
+    ensures status { result.0.status ≡ status_of result.0.cause }
+    // The words are refused exactly where they have no form. Then only the usage line is written.
+    ensures usage { (result.0.cause ≡ Cause.Usage) ↔ ¬ IsRun words.now }
+    ensures usage_line { ¬ IsRun words.now → ¬ Rose (K.faults outside.out) (K.faults result.1.out) → Appends (K.written outside.out) (K.written result.1.out) usage_line }
+    ensures usage_part { ¬ IsRun words.now → AppendsPart (K.written outside.out) (K.written result.1.out) usage_line }
+    ensures usage_session { ¬ IsRun words.now → result.0.session ≡ None }
+    ensures usage_source { ¬ IsRun words.now → result.1.src ≡ outside.src }
+    ensures usage_files { ¬ IsRun words.now → result.1.run_files ≡ outside.run_files }
+    ensures usage_clock { ¬ IsRun words.now → result.1.clock ≡ outside.clock }
+    // What the session made of the script: its records, the run files, the text and the cause.
+    ensures session { IsRun words.now → ¬ Rose (F.faults outside.run_files) (F.faults result.1.run_files) → IsSession (record { files = F.seen outside.run_files; clock_tells = C.tells outside.clock; ahead = C.ahead outside.clock }) (record { files = F.seen result.1.run_files; clock_tells = C.tells result.1.clock; ahead = C.ahead result.1.clock }) (S.left outside.src) (K.written outside.out) (K.written result.1.out) (record { old = K.faults outside.out; new = K.faults result.1.out }) result.0.cause (runs_in result.0.session) }
+    // There is no record where a call on the run files failed.
+    ensures broken { F.faults result.1.run_files ≢ F.faults outside.run_files → result.0.session ≡ None }
+    // A fault is the cause exactly where its count rose and no earlier cause holds.
+    ensures faults { IsRun words.now → FaultsBy result.0.cause (record { old = S.faults outside.src; new = S.faults result.1.src }) (record { old = K.faults outside.out; new = K.faults result.1.out }) (record { old = F.faults outside.run_files; new = F.faults result.1.run_files }) (F.first result.1.run_files) }
+    ensures opened { IfSome result.0.session (λ s. s.runs ≢ []) }
+    ensures database_files { result.1.odb_files ≡ outside.odb_files }
+    ensures picks { result.1.pick ≡ outside.pick }
+{
+    if !is_run(words) {
+        let mut outside = outside;
+        write_usage(&mut outside.out);
+        let outcome = Outcome {
+            status: 2,
+            cause: Cause::Usage,
+            session: None,
+        };
+        return (outcome, outside);
+    }
+    let (cause, session, outside) = run_script(rt, alloc, false, outside, gate);
+    let outcome = Outcome {
+        status: status(&cause),
+        cause,
+        session,
+    };
+    (outcome, outside)
+}
