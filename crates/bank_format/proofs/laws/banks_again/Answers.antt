@@ -1,0 +1,5 @@
+use Rattle.bank_format.specs.FrontLaws.{area_again}
+use Rattle.bank_format.proofs.laws.banks_again.Goals as goal
+
+pub returns : goal.returns
+returns c = area_again
