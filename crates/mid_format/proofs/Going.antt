@@ -1,0 +1,294 @@
+-- What a reader has given, after each of its steps.
+use Rattle.std.proofs.Common.{◌≡◌, ◌≢◌, ◌∙◌, ℕ, ◌+◌, ◌<◌, List, [], ◌∷◌, ◌++◌, length, Option, Some, None, IfSome, refl, ap, sym, subst, arith, length-append, append_assoc}
+use Rattle.std.specs.Prelude.{is_some, true, false}
+use Rattle.std.proofs.Common.{inl, inr}
+use Rattle.std.proofs.lemmas.List.{append-nil}
+use Rattle.std.proofs.lemmas.List.Elements.{All-append, All-nil, All-cons}
+use Rattle.std.specs.Io.KnownBytes.{Consumes, IsAtEnd}
+use Rattle.std.proofs.KnownBytes.{Consumes-trans}
+use Rattle.daq_types.specs.declared.events.Event.{Event}
+use Rattle.daq_model.specs.Events.{encoding, all_encoded, all_encoded-append, begin_id, end_id}
+use Rattle.daq_model.specs.RunFile.{begin_record, end_record, record_mask, IsFileEvent}
+use Rattle.event_header.specs.Held.{Held}
+use Rattle.event_header.specs.Headers.{header_encoding, length-header_encoding, event_of, fields_of, header_back}
+use Rattle.event_header.specs.declared.head.Header.{Header}
+use Rattle.mid_format.specs.Faults.{fault_at, OfBytes}
+use Rattle.mid_format.specs.Parts.{IsInRange, ReadsHead, ReadsBody, IsCut, IsBehindEnd}
+use Rattle.mid_format.specs.HasRead.{IsStorable, IsBegun, IsEnded, IsMidFault, BeginsWith, IsDone, HasRead}
+use Rattle.mid_format.specs.Steps.{IsGoing, BeginsNow, Begins, BeginStops, Finishes, FinishStops}
+use Rattle.mid_format.specs.declared.faults.MidFault.{MidFault}
+use Rattle.mid_format.specs.declared.faults.MidFault.TheVariants.{AfterEnd}
+use Rattle.mid_format.specs.declared.progress.Progress.{Progress}
+use Rattle.mid_format.proofs.Allowed.{IsBeginHeader, IsEventHeader, IsEndHeader, begin_allowed, event_allowed, end_allowed}
+use Rattle.mid_format.proofs.Beginnings.{map_fault, told_behind, cut_behind}
+
+none_some : {A B : Type 0} (o : Option A) (x : A) → o ≡ None → o ≡ Some x → B
+none_some o x n s = let e : false ≡ true = ap is_some (sym n ∙ s) in absurd cc
+
+abbrev some_or : {A : Type 0} → A → Option A → A
+some_or d None = d
+some_or d (Some x) = x
+
+-- a fact of the one fault
+of_fault : (f : MidFault) (Q : MidFault → Type 0) → Q f → (g : MidFault) → Some f ≡ Some g → Q g
+of_fault f Q q g e = subst Q (ap (some_or f) e) q
+
+begins_of : (first now : Option (List ℕ)) (done : List ℕ) → Consumes first now done → IfSome first (λ text. (rest : List ℕ) × (text ≡ done ++ rest))
+begins_of None now done c = tt
+begins_of (Some text) None done c = absurd c
+begins_of (Some text) (Some rest) done c = (rest, c)
+
+-- a header with its id, its mask and its length
+same_header : (h : Header) (id mask serial size : ℕ) → h.event_id ≡ id → h.trigger_mask ≡ mask → h.serial_number ≡ serial → h.data_size ≡ size
+    → h ≡ record { event_id = id; trigger_mask = mask; serial_number = serial; time_stamp = h.time_stamp; data_size = size }
+same_header h id mask serial size a b c d =
+    ap (λ (n : ℕ). record { event_id = n; trigger_mask = h.trigger_mask; serial_number = h.serial_number; time_stamp = h.time_stamp; data_size = h.data_size }) a
+    ∙ ap (λ (n : ℕ). record { event_id = id; trigger_mask = n; serial_number = h.serial_number; time_stamp = h.time_stamp; data_size = h.data_size }) b
+    ∙ ap (λ (n : ℕ). record { event_id = id; trigger_mask = mask; serial_number = n; time_stamp = h.time_stamp; data_size = h.data_size }) c
+    ∙ ap (λ (n : ℕ). record { event_id = id; trigger_mask = mask; serial_number = serial; time_stamp = h.time_stamp; data_size = n }) d
+
+encoded : (h : Header) (e : Event) → h ≡ fields_of e → header_encoding h ++ e.body ≡ encoding e
+encoded h e p = ap (λ (x : Header). header_encoding x ++ e.body) p
+
+length_encoded : (h : Header) (body : List ℕ) → length body ≡ h.data_size → length (header_encoding h ++ body) ≡ 16 + h.data_size
+length_encoded h body e = length-append (header_encoding h) body ∙ omega (arith, length-header_encoding h, e)
+
+done_of : (done : List ℕ) (p : Progress) (b : Option Header) (events : List Event) → IsDone done p.begin p.last events → p.begin ≡ b → p.last ≡ None → IsDone done b None events
+done_of done p b events d eb el = subst (λ (o : Option Header). IsDone done o None events) eb (subst (λ (o : Option Header). IsDone done p.begin o events) el d)
+
+-- The begin record.
+
+module _ (first before : Option (List ℕ)) (old : Progress) (events : List Event) (r : HasRead first before old events) (going : IsGoing old) (none : old.begin ≡ None) where
+  empty : (r.done ≡ []) × (events ≡ [])
+  empty = done_of r.done old None events r.is_done none going.no_end
+
+  at_begin : old.at ≡ 0
+  at_begin = r.place ∙ ap (length {A = ℕ}) empty.0
+
+  pub begun_now : (after : Option (List ℕ)) (new : Progress) (h : Header) → BeginsNow before after old new h → HasRead first after new events
+  begun_now after new h b =
+      let allowed : IsBeginHeader old.at h = begin_allowed old.at h b.fine in
+      let done : List ℕ = header_encoding h ++ b.dump in
+      let taken : Consumes first after (header_encoding h ++ b.dump) =
+      subst (λ front. Consumes first after (front ++ (header_encoding h ++ b.dump))) empty.0 (Consumes-trans first before after r.done (header_encoding h ++ b.dump) (r.consumed going.no_fault) b.consumed) in
+      let header : h ≡ fields_of (begin_record h.serial_number h.time_stamp b.dump) =
+      same_header h begin_id record_mask h.serial_number (length b.dump) allowed.id allowed.mask refl (sym b.length) in
+      let begun : IsBegun (header_encoding h ++ b.dump) h.serial_number h.time_stamp b.dump [] = record {
+        bytes_are = encoded h (begin_record h.serial_number h.time_stamp b.dump) header ∙ sym (append-nil (encoding (begin_record h.serial_number h.time_stamp b.dump)));
+        small = omega (arith, b.length, allowed.sized.small);
+        storable = subst IsInRange header b.in_range;
+        fine = All-nil IsFileEvent;
+        all_storable = All-nil IsStorable;
+      } in
+      subst (λ p. HasRead first after p events) (sym b.progress) (record {
+        done = header_encoding h ++ b.dump;
+        begins = begins_of first after (header_encoding h ++ b.dump) taken;
+        consumed = λ n. taken;
+        place = omega (arith, at_begin, length_encoded h b.dump b.length);
+        within = allowed.sized.within;
+        is_done = subst (λ (o : Option Header). IsDone (header_encoding h ++ b.dump) (Some h) o events) (sym going.no_end)
+            (subst (BeginsWith (header_encoding h ++ b.dump) h) (sym empty.1) (record { dump = b.dump; header = header; begun = begun }));
+        at_end = λ n end is_last. none_some old.last end going.no_end is_last;
+        fault_is = λ fault is_fault. none_some old.fault fault going.no_fault is_fault;
+      })
+
+  pub begin_stopped : (after : Option (List ℕ)) (new : Progress) (f : MidFault) → BeginStops before old new f → HasRead first after (record new { fault = Some f }) events
+  begin_stopped after new f s =
+      let stays : OfBytes f (IfSome first (λ text. IsMidFault text f)) =
+      map_fault f (IfSome before (λ rest. fault_at None old.at rest ≡ Some f)) (IfSome first (λ text. IsMidFault text f))
+      (told_behind first before r.done (λ rest. fault_at None old.at rest ≡ Some f) (λ text. IsMidFault text f) (r.consumed going.no_fault)
+      (λ rest e. inl (subst (λ front. fault_at None 0 (front ++ rest) ≡ Some f) (sym empty.0) (subst (λ at. fault_at None at rest ≡ Some f) at_begin e)))) s.fault_is in
+      subst (λ (p : Progress). HasRead first after (record p { fault = Some f }) events) (sym s.progress) (record {
+        done = r.done;
+        begins = r.begins;
+        consumed = λ n. none_some (Some f) f n refl;
+        place = r.place;
+        within = r.within;
+        is_done = r.is_done;
+        at_end = λ n end is_last. none_some (Some f) f n refl;
+        fault_is = of_fault f (λ fault. OfBytes fault (IfSome first (λ text. IsMidFault text fault))) stays;
+      })
+
+-- The begin record was read, now or before.
+pub record AfterBegin (first after : Option (List ℕ)) (new : Progress) (events : List Event) (h : Header) : Type 0 where
+  pub read : HasRead first after new events
+  pub going : IsGoing new
+  pub begin : new.begin ≡ Some h
+
+pub going_after : (before after : Option (List ℕ)) (old new : Progress) (h : Header) → IsGoing old → Begins before after old new h → IsGoing new × (new.begin ≡ Some h)
+going_after before after old new h going (inl b) = (
+  record { no_fault = ap (λ (p : Progress). p.fault) b.progress ∙ going.no_fault; no_end = ap (λ (p : Progress). p.last) b.progress ∙ going.no_end },
+  ap (λ (p : Progress). p.begin) b.progress,
+)
+going_after before after old new h going (inr s) = (subst IsGoing (sym s.progress) going, ap (λ (p : Progress). p.begin) s.progress ∙ s.begin)
+
+read_after : (first before after : Option (List ℕ)) (old new : Progress) (events : List Event) (h : Header) → HasRead first before old events → IsGoing old → Begins before after old new h → HasRead first after new events
+read_after first before after old new events h r going (inl b) = begun_now first before old events r going b.none after new h b
+read_after first before after old new events h r going (inr s) = subst (λ p. HasRead first after p events) (sym s.progress) (subst (λ left. HasRead first left old events) (sym s.same) r)
+
+pub after_begin : (first before after : Option (List ℕ)) (old new : Progress) (events : List Event) (h : Header) → HasRead first before old events → IsGoing old → Begins before after old new h
+    → AfterBegin first after new events h
+after_begin first before after old new events h r going b = record {
+  read = read_after first before after old new events h r going b;
+  going = (going_after before after old new h going b).0;
+  begin = (going_after before after old new h going b).1;
+}
+
+-- Behind the begin record.
+
+module _ (first before : Option (List ℕ)) (old : Progress) (events : List Event) (r : HasRead first before old events) (going : IsGoing old) (b : Header) (has_begun : old.begin ≡ Some b) where
+  so_far : BeginsWith r.done b events
+  so_far = done_of r.done old (Some b) events r.is_done has_begun going.no_end
+
+  pub stopped : (after : Option (List ℕ)) (f : MidFault) → OfBytes f (IfSome before (λ rest. fault_at (Some b.serial_number) old.at rest ≡ Some f))
+      → HasRead first after (record old { fault = Some f }) events
+  stopped after f wrong =
+      let stays : OfBytes f (IfSome first (λ text. IsMidFault text f)) =
+      map_fault f (IfSome before (λ rest. fault_at (Some b.serial_number) old.at rest ≡ Some f)) (IfSome first (λ text. IsMidFault text f))
+      (told_behind first before r.done (λ rest. fault_at (Some b.serial_number) old.at rest ≡ Some f) (λ text. IsMidFault text f) (r.consumed going.no_fault)
+      (λ rest e. inr (inl (record {
+        front = r.done;
+        rest = rest;
+        text_is = refl;
+        run = b.serial_number;
+        time = b.time_stamp;
+        dump = so_far.dump;
+        events = events;
+        begun = so_far.begun;
+        counted = omega (arith, r.place, r.within);
+        fault_is = subst (λ at. fault_at (Some b.serial_number) at rest ≡ Some f) r.place e;
+      })))) wrong in
+      record {
+        done = r.done;
+        begins = r.begins;
+        consumed = λ n. none_some (Some f) f n refl;
+        place = r.place;
+        within = r.within;
+        is_done = r.is_done;
+        at_end = λ n end is_last. none_some (Some f) f n refl;
+        fault_is = of_fault f (λ fault. OfBytes fault (IfSome first (λ text. IsMidFault text fault))) stays;
+      }
+
+  module _ (middle : Option (List ℕ)) (h : Header) (head : ReadsHead before middle (Some b.serial_number) old.at h) where
+    pub data_stopped : (after : Option (List ℕ)) (f : MidFault) → IsCut middle (old.at + 16) h.data_size f → HasRead first after (record old { fault = Some f }) events
+    data_stopped after f cut = stopped after f (cut_behind before middle (Some b.serial_number) old.at h f head.consumed head.fine head.in_range cut)
+
+    pub one_more : (after : Option (List ℕ)) (held : Held) → h.event_id ≢ end_id → ReadsBody middle after h held
+        → HasRead first after (record old { at = old.at + 16 + h.data_size }) (events ++ held.event ∷ [])
+    one_more after held ne body =
+        let allowed : IsEventHeader old.at h = event_allowed b.serial_number old.at h head.fine ne in
+        let e : Event = event_of h body.body in
+        let fields : h ≡ fields_of (event_of h body.body) = sym (header_back h body.body (sym body.length)) in
+        let bytes : header_encoding h ++ body.body ≡ encoding (event_of h body.body) = encoded h (event_of h body.body) fields in
+        let taken : Consumes first after (r.done ++ encoding (event_of h body.body)) =
+        subst (λ more. Consumes first after (r.done ++ more)) bytes
+        (Consumes-trans first before after r.done (header_encoding h ++ body.body) (r.consumed going.no_fault) (Consumes-trans before middle after (header_encoding h) body.body head.consumed body.consumed)) in
+        let begun : IsBegun (r.done ++ encoding (event_of h body.body)) b.serial_number b.time_stamp so_far.dump (events ++ event_of h body.body ∷ []) = record {
+          bytes_are = ap (λ front. front ++ encoding (event_of h body.body)) so_far.begun.bytes_are
+              ∙ append_assoc (encoding (begin_record b.serial_number b.time_stamp so_far.dump)) (all_encoded events) (encoding (event_of h body.body))
+              ∙ ap (λ more. encoding (begin_record b.serial_number b.time_stamp so_far.dump) ++ more)
+              (ap (λ more. all_encoded events ++ more) (sym (append-nil (encoding (event_of h body.body)))) ∙ sym (all_encoded-append events (event_of h body.body ∷ [])));
+          small = so_far.begun.small;
+          storable = so_far.begun.storable;
+          fine = All-append IsFileEvent events (event_of h body.body ∷ []) so_far.begun.fine
+              (All-cons IsFileEvent (event_of h body.body) [] (record { begins_none = allowed.begins_none; ends_none = ne; small = omega (arith, body.length, allowed.sized.small) }) (All-nil IsFileEvent));
+          all_storable = All-append IsStorable events (event_of h body.body ∷ []) so_far.begun.all_storable (All-cons IsStorable (event_of h body.body) [] (subst IsInRange fields head.in_range) (All-nil IsStorable));
+        } in
+        subst (λ (x : Event). HasRead first after (record old { at = old.at + 16 + h.data_size }) (events ++ x ∷ [])) (sym body.event) (record {
+          done = r.done ++ encoding (event_of h body.body);
+          begins = begins_of first after (r.done ++ encoding (event_of h body.body)) taken;
+          consumed = λ n. taken;
+          place = omega (arith, r.place, length-append r.done (encoding (event_of h body.body)), ap (length {A = ℕ}) bytes, length_encoded h body.body body.length);
+          within = allowed.sized.within;
+          is_done = subst (λ (o : Option Header). IsDone (r.done ++ encoding (event_of h body.body)) old.begin o (events ++ event_of h body.body ∷ [])) (sym going.no_end)
+              (subst (λ (o : Option Header). IsDone (r.done ++ encoding (event_of h body.body)) o None (events ++ event_of h body.body ∷ [])) (sym has_begun)
+              (record { dump = so_far.dump; header = so_far.header; begun = begun }));
+          at_end = λ n end is_last. none_some old.last end going.no_end is_last;
+          fault_is = λ fault is_fault. none_some old.fault fault going.no_fault is_fault;
+        })
+
+    module _ (is_end : h.event_id ≡ end_id) (dump : List ℕ) (sized : length dump ≡ h.data_size) where
+      allowed : IsEndHeader b.serial_number old.at h
+      allowed = end_allowed b.serial_number old.at h head.fine is_end
+
+      last_is : h ≡ fields_of (end_record b.serial_number h.time_stamp dump)
+      last_is = same_header h end_id record_mask b.serial_number (length dump) is_end allowed.mask allowed.run_is (sym sized)
+
+      last_bytes : header_encoding h ++ dump ≡ encoding (end_record b.serial_number h.time_stamp dump)
+      last_bytes = encoded h (end_record b.serial_number h.time_stamp dump) last_is
+
+      abbrev whole : List ℕ
+      whole = r.done ++ encoding (end_record b.serial_number h.time_stamp dump)
+
+      ended : IsEnded (r.done ++ encoding (end_record b.serial_number h.time_stamp dump)) b.serial_number b.time_stamp so_far.dump events h.time_stamp dump
+      ended = record { front = r.done; begun = so_far.begun; bytes_are = refl; small = omega (arith, sized, allowed.sized.small); storable = subst IsInRange last_is head.in_range }
+
+      taken_to : (after : Option (List ℕ)) → Consumes middle after dump → Consumes first after (r.done ++ encoding (end_record b.serial_number h.time_stamp dump))
+      taken_to after c = subst (λ more. Consumes first after (r.done ++ more)) last_bytes
+          (Consumes-trans first before after r.done (header_encoding h ++ dump) (r.consumed going.no_fault) (Consumes-trans before middle after (header_encoding h) dump head.consumed c))
+
+      place_of : old.at + 16 + h.data_size ≡ length (r.done ++ encoding (end_record b.serial_number h.time_stamp dump))
+      place_of = omega (arith, r.place, length-append r.done (encoding (end_record b.serial_number h.time_stamp dump)), ap (length {A = ℕ}) last_bytes, length_encoded h dump sized)
+
+      is_ended : IsDone (r.done ++ encoding (end_record b.serial_number h.time_stamp dump)) old.begin (Some h) events
+      is_ended = subst (λ (o : Option Header). IsDone (r.done ++ encoding (end_record b.serial_number h.time_stamp dump)) o (Some h) events) (sym has_begun)
+          (record { dump0 = so_far.dump; dump1 = dump; header = so_far.header; last = last_is; ended = ended })
+
+      pub finished : (after : Option (List ℕ)) → Consumes middle after dump → IsAtEnd after → HasRead first after (record old { last = Some h; at = old.at + 16 + h.data_size }) events
+      finished after c at_end = record {
+        done = r.done ++ encoding (end_record b.serial_number h.time_stamp dump);
+        begins = begins_of first after (r.done ++ encoding (end_record b.serial_number h.time_stamp dump)) (taken_to after c);
+        consumed = λ n. taken_to after c;
+        place = place_of;
+        within = allowed.sized.within;
+        is_done = is_ended;
+        at_end = λ n end is_last. at_end;
+        fault_is = λ fault is_fault. none_some old.fault fault going.no_fault is_fault;
+      }
+
+      pub finish_stopped : (left after : Option (List ℕ)) (f : MidFault) → Consumes middle left dump → IsBehindEnd left (old.at + 16 + h.data_size) f
+          → HasRead first after (record old { last = Some h; at = old.at + 16 + h.data_size; fault = Some f }) events
+      finish_stopped left after f c more =
+          let stays : OfBytes f (IfSome first (λ text. IsMidFault text f)) =
+          map_fault f (IfSome left (λ rest. (0 < length rest) × (f ≡ AfterEnd (old.at + 16 + h.data_size)))) (IfSome first (λ text. IsMidFault text f))
+          (told_behind first left (r.done ++ encoding (end_record b.serial_number h.time_stamp dump)) (λ rest. (0 < length rest) × (f ≡ AfterEnd (old.at + 16 + h.data_size))) (λ text. IsMidFault text f)
+          (taken_to left c)
+          (λ rest p. inr (inr (record {
+            front = r.done ++ encoding (end_record b.serial_number h.time_stamp dump);
+            rest = rest;
+            text_is = refl;
+            run = b.serial_number;
+            time0 = b.time_stamp;
+            dump0 = so_far.dump;
+            events = events;
+            time1 = h.time_stamp;
+            dump1 = dump;
+            ended = ended;
+            counted = omega (arith, place_of, allowed.sized.within);
+            more = p.0;
+            fault_is = p.1 ∙ ap AfterEnd place_of;
+          })))) more in
+          record {
+            done = r.done ++ encoding (end_record b.serial_number h.time_stamp dump);
+            begins = begins_of first left (r.done ++ encoding (end_record b.serial_number h.time_stamp dump)) (taken_to left c);
+            consumed = λ n. none_some (Some f) f n refl;
+            place = place_of;
+            within = allowed.sized.within;
+            is_done = is_ended;
+            at_end = λ n end is_last. none_some (Some f) f n refl;
+            fault_is = of_fault f (λ fault. OfBytes fault (IfSome first (λ text. IsMidFault text fault))) stays;
+          }
+
+-- The end record, by what its step did.
+pub last_read : (first before middle after : Option (List ℕ)) (old new : Progress) (events : List Event) (b h : Header) → AfterBegin first before old events b → ReadsHead before middle (Some b.serial_number) old.at h
+    → h.event_id ≡ end_id → Finishes middle after old new h → HasRead first after new events
+last_read first before middle after old new events b h a head is_end f =
+    subst (λ p. HasRead first after p events) (sym f.progress) (finished first before old events a.read a.going b a.begin middle h head is_end f.dump f.length after f.consumed f.ended)
+
+pub last_stopped : (first before middle after : Option (List ℕ)) (old new : Progress) (events : List Event) (b h : Header) (f : MidFault) → AfterBegin first before old events b → ReadsHead before middle (Some b.serial_number) old.at h
+    → h.event_id ≡ end_id → FinishStops middle old new h f → HasRead first after (record new { fault = Some f }) events
+last_stopped first before middle after old new events b h f a head is_end (inl cut) =
+    subst (λ (p : Progress). HasRead first after (record p { fault = Some f }) events) (sym cut.progress) (data_stopped first before old events a.read a.going b a.begin middle h head after f cut.fault_is)
+last_stopped first before middle after old new events b h f a head is_end (inr more) =
+    subst (λ (p : Progress). HasRead first after (record p { fault = Some f }) events) (sym more.progress)
+    (finish_stopped first before old events a.read a.going b a.begin middle h head is_end more.dump more.length more.middle after f more.consumed more.fault_is)

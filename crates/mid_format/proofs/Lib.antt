@@ -1,0 +1,4 @@
+mod PartsRead
+mod Allowed
+mod Beginnings
+mod Going

@@ -1,0 +1,5 @@
+use Rattle.mid_format.specs.ReadLaws.{events_so_far}
+use Rattle.mid_format.proofs.laws.first_events.Goals as goal
+
+pub returns : goal.returns
+returns c = events_so_far

@@ -1,0 +1,5 @@
+use Rattle.mid_format.specs.ReadLaws.{read_fault}
+use Rattle.mid_format.proofs.laws.first_fault.Goals as goal
+
+pub returns : goal.returns
+returns c = read_fault

@@ -1,0 +1,9 @@
+pub mod Faults
+pub mod Parts
+pub mod HasRead
+pub mod Steps
+pub mod Opened
+pub mod FileLeft
+pub mod HeadersBack
+pub mod OneReading
+pub mod ReadLaws

@@ -1,0 +1,181 @@
+//! Worked rows of run files.
+ghost use Rattle.std.specs.Prelude.{◌≡◌, ◌≤◌};
+
+use crate::{FileSource, MidFault, MidReader, begin_record, end_record};
+use daq_io::{Failed, Files, MemFiles, MemSource, Source};
+use daq_types::FileName;
+use event_header::EventBuf;
+use std::alloc::{AllocError, Global};
+use std::test::Fail;
+
+/// The file of a run of one event: a record with 173 bytes, an event with 24 bytes, and a record with 176 bytes.
+fn one_event(alloc: Global) -> Result<Vec<u8>, AllocError> {
+    let mut file = [
+        0, 0x80, 0x4D, 0x49, 1, 0, 0, 0, 0xE8, 3, 0, 0, 0xAD, 0, 0, 0,
+    ]
+    .to_vec(alloc)?;
+    file.resize(189, b'x')?;
+    file.extend_from_slice(&[1, 0, 0, 0, 1, 0, 0, 0, 0xE8, 3, 0, 0, 0x18, 0, 0, 0])?;
+    file.extend_from_slice(&[0x10, 0, 0, 0, 1, 0, 0, 0, 0x47, 0x45, 0x4E, 0x30])?;
+    file.extend_from_slice(&[6, 0, 4, 0, 0xAC, 0x6F, 0x57, 0x6C, 0, 0, 0, 0])?;
+    file.extend_from_slice(&[
+        1, 0x80, 0x4D, 0x49, 1, 0, 0, 0, 0xF2, 3, 0, 0, 0xB0, 0, 0, 0,
+    ])?;
+    file.resize(421, b'x')?;
+    Ok(file)
+}
+
+/// A source that gives one byte at a time.
+struct Drip {
+    source: MemSource,
+}
+
+impl Source for Drip {
+    ghost left = { λ s. ⟦<MemSource as Source>⟧.left s.source };
+
+    ghost faults = { λ s. ⟦<MemSource as Source>⟧.faults s.source };
+
+    fn read(&mut self, into: &mut [u8]) -> Result<usize, Failed> {
+        let (front, _) = into.split_at_mut(into.len().min(1));
+        self.source.read(front)
+    }
+}
+
+/// The first two answers of a reader.
+fn read_two<S: Source>(
+    reader: &mut MidReader<S>,
+    into: &mut EventBuf,
+) -> [Result<Option<()>, MidFault>; 2]
+    requires { 4194304 ≤ into.old.room }
+    ensures { into.new.room ≡ into.old.room }
+{
+    let first = reader.next(into);
+    let second = reader.next(into);
+    [first, second]
+}
+
+/// What becomes of the first bytes of a file.
+fn cut(len: usize) -> Result<Option<()>, MidFault> {
+    let at = len as u64;
+    match len {
+        0 => Err(MidFault::NoBegin { at }),
+        189 | 229 => Err(MidFault::NoEnd { at }),
+        421 => Ok(None),
+        _ => Err(MidFault::Truncated { at }),
+    }
+}
+
+/// What a reader answers to these bytes.
+fn answers_to(alloc: Global, bytes: &[u8]) -> Result<[Result<Option<()>, MidFault>; 2], Fail> {
+    let mut into = EventBuf::new(alloc, 4_194_304)?;
+    let source = MemSource::new(bytes.to_vec(alloc)?, Vec::new(alloc));
+    let mut reader = MidReader::new(source);
+    Ok(read_two(&mut reader, &mut into))
+}
+
+/// The file with these four bytes at a place.
+fn with_bytes(alloc: Global, place: usize, bytes: [u8; 4]) -> Result<Vec<u8>, AllocError> {
+    let mut file = one_event(alloc)?;
+    for (target, byte) in file.as_mut_slice().iter_mut().skip(place).zip(bytes) {
+        *target = byte;
+    }
+    Ok(file)
+}
+
+#[test]
+fn every_cut_of_a_file(rt: HostRuntime) -> Result<(), Fail> {
+    let file = one_event(rt.alloc())?;
+    for len in 0..422 {
+        let (front, _) = file.as_slice().split_at(file.as_slice().len().min(len));
+        let answers = answers_to(rt.alloc(), front)?;
+        let first = if len < 229 { cut(len) } else { Ok(Some(())) };
+        assert_eq!(rt; answers, [first, cut(len)], "{len} bytes");
+    }
+    Ok(())
+}
+
+#[test]
+fn a_byte_behind_the_end(rt: HostRuntime) -> Result<(), Fail> {
+    let mut file = one_event(rt.alloc())?;
+    file.push(0)?;
+    let answers = answers_to(rt.alloc(), file.as_slice())?;
+    assert_eq!(rt;
+        answers,
+        [Ok(Some(())), Err(MidFault::AfterEnd { at: 421 })]
+    );
+    Ok(())
+}
+
+#[test]
+fn files_with_one_wrong_field(rt: HostRuntime) -> Result<(), Fail> {
+    let size = 4194305;
+    for (place, bytes, fault) in [
+        (0, [1, 0x80, 0x4D, 0x49], MidFault::NoBegin { at: 0 }),
+        (0, [0, 0x80, 0x4D, 0x48], MidFault::NoBegin { at: 0 }),
+        (201, [1, 0, 0x40, 0], MidFault::TooBig { at: 189, size }),
+        (229, [0, 0x80, 0x4D, 0x49], MidFault::BadRecord { at: 229 }),
+        (229, [1, 0x80, 0x4E, 0x49], MidFault::BadRecord { at: 229 }),
+        (233, [2, 0, 0, 0], MidFault::BadRecord { at: 229 }),
+    ] {
+        let file = with_bytes(rt.alloc(), place, bytes)?;
+        let [_, second] = answers_to(rt.alloc(), file.as_slice())?;
+        assert_eq!(rt; second, Err(fault), "at {place}");
+    }
+    Ok(())
+}
+
+#[test]
+fn a_source_in_single_bytes(rt: HostRuntime) -> Result<(), Fail> {
+    let source = MemSource::new(one_event(rt.alloc())?, Vec::new(rt.alloc()));
+    let mut into = EventBuf::new(rt.alloc(), 4_194_304)?;
+    let mut reader = MidReader::new(Drip { source });
+    assert_eq!(rt; reader.run(), None);
+    assert_eq!(rt; reader.next(&mut into), Ok(Some(())));
+    assert_eq!(rt; into.bytes().len(), 40);
+    assert_eq!(rt; into.header().serial_number, 1);
+    assert_eq!(rt; reader.run(), Some(1));
+    assert_eq!(rt; reader.begin(), Some(begin_record(1, 1000, 173)));
+    assert_eq!(rt; reader.last(), None);
+    assert_eq!(rt; reader.next(&mut into), Ok(None));
+    assert_eq!(rt; reader.last(), Some(end_record(1, 1010, 176)));
+    assert_eq!(rt; reader.next(&mut into), Ok(None));
+    let Drip { mut source } = reader.into_source();
+    assert_eq!(rt; source.read(&mut [0; 8]), Ok(0));
+    Ok(())
+}
+
+#[test]
+fn a_source_that_fails_in_an_event(rt: HostRuntime) -> Result<(), Fail> {
+    let source = MemSource::new(one_event(rt.alloc())?, [3].to_vec(rt.alloc())?);
+    let mut into = EventBuf::new(rt.alloc(), 4_194_304)?;
+    let mut reader = MidReader::new(source);
+    assert_eq!(rt; reader.next(&mut into), Err(MidFault::ReadFault));
+    assert_eq!(rt; reader.next(&mut into), Err(MidFault::ReadFault));
+    assert_eq!(rt; reader.run(), Some(1));
+    Ok(())
+}
+
+#[test]
+fn a_file_among_files(rt: HostRuntime) -> Result<(), Fail> {
+    let mut into = EventBuf::new(rt.alloc(), 4_194_304)?;
+    let mut files = MemFiles::new(rt.alloc(), 1, 1000, Vec::new(rt.alloc()))?;
+    let Ok(name) = FileName::new("run00001.mid") else {
+        return Ok(());
+    };
+    let file = one_event(rt.alloc())?;
+    let Ok(number) = files.create(&name) else {
+        return Ok(());
+    };
+    assert_eq!(rt; files.append(number, file.as_slice()), Ok(()));
+    assert_eq!(rt; files.close(number), Ok(()));
+    let Ok(number) = files.open_read(&name) else {
+        return Ok(());
+    };
+    let mut reader = MidReader::new(FileSource::new(files, number));
+    assert_eq!(rt; read_two(&mut reader, &mut into), [Ok(Some(())), Ok(None)]);
+    let source = reader.into_source();
+    let number = source.file();
+    let mut files = source.into_files();
+    assert_eq!(rt; files.close(number), Ok(()));
+    Ok(())
+}

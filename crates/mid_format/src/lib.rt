@@ -1,0 +1,19 @@
+//! MIDAS run files: the records at their two ends, and a reader of their events.
+#![tactic(auto)]
+
+#[cfg(test)]
+mod checks;
+mod faults;
+mod file_source;
+pub mod laws;
+mod parts;
+mod progress;
+mod reader;
+mod records;
+mod steps;
+
+pub use faults::MidFault;
+pub use file_source::FileSource;
+pub use progress::Progress;
+pub use reader::MidReader;
+pub use records::{begin_record, end_record};

@@ -1,0 +1,115 @@
+ghost use Rattle.std.specs.Prelude.{◌≡◌, ◌≤◌, ◌+◌, ◌^◌, Some, IfSome, IfOk, IfErr, OnOk};
+ghost use Rattle.daq_io.specs.Counts.{CountsFault};
+ghost use Rattle.mid_format.specs.Faults.{fault_at, OfBytes};
+ghost use Rattle.mid_format.specs.Parts.{ReadsHead, Passes, PassesAll, ReadsBody, IsCut, IsEnd, IsBehindEnd, CountsReads};
+
+use crate::faults::{MidFault, header_fault, nothing_left};
+use daq_io::{Failed, Source};
+use event_header::{EventBuf, Header, read_full, read_header};
+
+/// How many bytes are passed over at once.
+const BLOCK_BYTES: u32 = 4096;
+
+/// Reads the header at this place, in the file of a run or at its begin.
+pub fn read_head<S: Source>(source: &mut S, run: Option<u32>, at: u64) -> Result<Header, MidFault>
+    requires { at ≤ 2 ^ 62 }
+    ensures head { IfOk result (ReadsHead (S.left source.old) (S.left source.new) run at) }
+    ensures fault { IfErr result (λ fault. OfBytes fault (IfSome (S.left source.old) (λ rest. fault_at run at rest ≡ Some fault))) }
+    ensures counted { CountsReads (S.faults source.old) (S.faults source.new) result }
+{
+    let mut head = [0; 16];
+    let Ok(count) = read_full(source, &mut head) else {
+        return Err(MidFault::ReadFault);
+    };
+    if count == 0 {
+        return Err(nothing_left(run, at));
+    }
+    let (front, _) = head.split_at(count);
+    let Ok(header) = read_header(front) else {
+        return Err(MidFault::Truncated {
+            at: at + count as u64,
+        });
+    };
+    match header_fault(run, at, &header) {
+        Some(fault) => Err(fault),
+        None => Ok(header),
+    }
+}
+
+/// Passes over so many bytes, or as many as the source has, and answers how many.
+fn pass<S: Source>(source: &mut S, size: u32) -> Result<u32, Failed>
+    ensures passes { IfOk result (Passes (S.left source.old) (S.left source.new) size) }
+    ensures faults { CountsFault (S.faults source.old) (S.faults source.new) result }
+{
+    let mut block = [0; 4096];
+    let mut rest = size;
+    while rest > 0 {
+        let part = rest.min(BLOCK_BYTES);
+        let (front, _) = block.split_at_mut(part as usize);
+        let count = read_full(source, front)? as u32;
+        rest -= count;
+        if count < part {
+            return Ok(size - rest);
+        }
+    }
+    Ok(size)
+}
+
+/// Passes over the data at this place.
+pub fn pass_data<S: Source>(source: &mut S, place: u64, size: u32) -> Result<(), MidFault>
+    requires { place + size ≤ 2 ^ 62 }
+    ensures passed { OnOk result (PassesAll (S.left source.old) (S.left source.new) size) }
+    ensures cut { IfErr result (IsCut (S.left source.old) place size) }
+    ensures counted { CountsReads (S.faults source.old) (S.faults source.new) result }
+{
+    let Ok(count) = pass(source, size) else {
+        return Err(MidFault::ReadFault);
+    };
+    if count < size {
+        return Err(MidFault::Truncated {
+            at: place + count as u64,
+        });
+    }
+    Ok(())
+}
+
+/// Reads the data of this header, which are at this place, and takes them with the header as an event.
+pub fn read_data<S: Source>(
+    source: &mut S,
+    place: u64,
+    header: &Header,
+    into: &mut EventBuf,
+) -> Result<(), MidFault>
+    requires place { place + header.now.data_size ≤ 2 ^ 62 }
+    requires room { header.now.data_size ≤ into.old.room }
+    ensures read { OnOk result (ReadsBody (S.left source.old) (S.left source.new) header.now into.new) }
+    ensures cut { IfErr result (IsCut (S.left source.old) place header.now.data_size) }
+    ensures room { into.new.room ≡ into.old.room }
+    ensures counted { CountsReads (S.faults source.old) (S.faults source.new) result }
+{
+    let Ok(count) = into.fill_from(header, source) else {
+        return Err(MidFault::ReadFault);
+    };
+    if count < header.data_size as usize {
+        return Err(MidFault::Truncated {
+            at: place + count as u64,
+        });
+    }
+    Ok(())
+}
+
+/// Sees to it that the source has no more bytes behind this place.
+pub fn read_end<S: Source>(source: &mut S, at: u64) -> Result<(), MidFault>
+    ensures end { OnOk result (IsEnd (S.left source.old) (S.left source.new)) }
+    ensures more { IfErr result (IsBehindEnd (S.left source.old) at) }
+    ensures counted { CountsReads (S.faults source.old) (S.faults source.new) result }
+{
+    let mut byte = [0; 1];
+    let Ok(count) = read_full(source, &mut byte) else {
+        return Err(MidFault::ReadFault);
+    };
+    if count > 0 {
+        return Err(MidFault::AfterEnd { at });
+    }
+    Ok(())
+}

@@ -1,0 +1,15 @@
+use crate::faults::MidFault;
+use event_header::Header;
+
+/// How far a run file was read.
+#[derive(Clone, Copy, Debug, PartialEq, Eq)]
+pub struct Progress {
+    /// The header of the begin record, where that was read.
+    pub begin: Option<Header>,
+    /// The header of the end record, where that was read.
+    pub last: Option<Header>,
+    /// The bytes of the records and events that were read.
+    pub at: u64,
+    /// The fault that was met.
+    pub fault: Option<MidFault>,
+}

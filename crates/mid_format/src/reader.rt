@@ -1,0 +1,118 @@
+ghost use Rattle.std.specs.Prelude.{◌≡◌, ◌≤◌, ◌<◌, ◌^◌, ◌↔◌, Some, None, Ok, Err, IfSome, IfOk, IsSome, IsNone};
+ghost use Rattle.mid_format.specs.HasRead.{nothing_read};
+ghost use Rattle.mid_format.specs.Opened.{ReadsOn, CountsNext, fault_of, run_of};
+
+use crate::faults::MidFault;
+use crate::progress::Progress;
+use crate::steps::step;
+use daq_io::Source;
+use event_header::{EventBuf, Header};
+use std::marker::Model;
+
+/// Reads the events of a run file, one at a time, from any source, which may give its bytes in any pieces. Each byte is
+/// read once. Takes no memory.
+#[derive(Drop)]
+pub struct MidReader<S> {
+    source: S,
+    progress: Progress,
+}
+
+impl<S> Model for MidReader<S> {
+    ghost use Rattle.std.specs.Prelude.{◌≤◌, ◌^◌};
+    ghost use Rattle.mid_format.specs.Opened.{Opened};
+
+    ghost Value = { Opened S };
+
+    ghost view = { λ r. record { source = r.source; progress = r.progress } };
+
+    ghost invariant = { λ r. r.progress.at ≤ 2 ^ 62 };
+}
+
+impl<S> MidReader<S> {
+    /// A reader of the source's bytes, which has read nothing.
+    pub fn new(source: S) -> MidReader<S>
+        ensures { result ≡ record { source = source; progress = nothing_read } }
+    {
+        MidReader {
+            source,
+            progress: Progress {
+                begin: None,
+                last: None,
+                at: 0,
+                fault: None,
+            },
+        }
+    }
+
+    /// The source, with what it has left.
+    pub fn into_source(self) -> S
+        ensures { result ≡ self.source }
+    {
+        let MidReader {
+            source,
+            progress: _,
+        } = self;
+        source
+    }
+
+    /// The number of the run, once the begin record was read.
+    pub fn run(&self) -> Option<u32>
+        ensures { result ≡ run_of self.now.progress.begin }
+    {
+        match self.progress.begin {
+            None => None,
+            Some(begin) => Some(begin.serial_number),
+        }
+    }
+
+    /// The header of the begin record, once that was read.
+    pub fn begin(&self) -> Option<Header>
+        ensures { result ≡ self.now.progress.begin }
+    {
+        self.progress.begin
+    }
+
+    /// The header of the end record, once that was read.
+    pub fn last(&self) -> Option<Header>
+        ensures { result ≡ self.now.progress.last }
+    {
+        self.progress.last
+    }
+}
+
+impl<S: Source> MidReader<S> {
+    /// Reads the next event into `into`. `None` where the file has no more: its end record was read, and its source has
+    /// ended. An error is the first fault of the bytes, or `ReadFault` where the source failed; every later call answers
+    /// it again. After an error `into` holds an event of which only a part was read, or the one from before.
+    pub fn next(&mut self, into: &mut EventBuf) -> Result<Option<()>, MidFault>
+        requires { 4194304 ≤ into.old.room }
+        // What was read is the bytes of the records and of the events that were given, and the fault is theirs.
+        ensures reads { ReadsOn (S.left self.old.source) (S.left self.new.source) self.old.progress self.new.progress result into.new.event }
+        ensures fault { self.new.progress.fault ≡ fault_of result }
+        ensures end { IfOk result (λ given. IsNone given ↔ IsSome self.new.progress.last) }
+        // A fault, and the end, are answered again, and the source is left alone.
+        ensures again { IfSome self.old.progress.fault (λ fault. result ≡ Err fault) }
+        ensures still { self.old.progress.fault ≡ None → IsSome self.old.progress.last → result ≡ Ok None }
+        ensures alone { IsSome self.old.progress.fault → self.new ≡ self.old }
+        ensures alone_at_end { IsSome self.old.progress.last → self.new ≡ self.old }
+        // Each event has some bytes, and what was read ends in front of byte 2^62: so a loop over the events ends.
+        ensures onward { IfOk result (λ given. IsSome given → self.old.progress.at < self.new.progress.at) }
+        ensures limit { self.new.progress.at ≤ 2 ^ 62 }
+        ensures counted { CountsNext self.old.progress.fault (S.faults self.old.source) (S.faults self.new.source) result }
+        ensures room { into.new.room ≡ into.old.room }
+    {
+        if let Some(fault) = self.progress.fault {
+            return Err(fault);
+        }
+        if self.progress.last.is_some() {
+            return Ok(None);
+        }
+        match step(&mut self.source, &mut self.progress, into) {
+            Ok(given) => Ok(given),
+            Err(fault) => {
+                self.progress.fault = Some(fault);
+                Err(fault)
+            }
+        }
+    }
+}
