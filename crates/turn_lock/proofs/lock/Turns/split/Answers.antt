@@ -1,0 +1,10 @@
+use Rattle.std.proofs.Common.{rules, refl, arith}
+use Rattle.turn_lock.proofs.Keeps.{splits_pass}
+use Rattle.turn_lock.proofs.lock.Turns.split.Goals as goal
+
+pub split_seat-requires : goal.split_seat-requires
+split_seat-requires g c = let view = c.requires.view in (
+  search rules,
+  search rules,
+  splits_pass _ _ _ _ _ (rw view refl) (rw view (let low = c.requires.room in let few = c.args.self.now.few in omega arith)),
+)

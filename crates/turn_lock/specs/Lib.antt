@@ -1,0 +1,7 @@
+pub mod History
+pub mod Views
+pub mod Protocol
+pub mod Passes
+pub mod Roster
+pub mod Closing
+pub mod Laws

@@ -1,0 +1,270 @@
+// The lock, its passes, and what they do.
+ghost use Rattle.std.specs.Prelude.{◌≡◌, ℕ, ◌+◌, ◌<◌, ◌≤◌, ◌≢◌, ◌⊎◌, ◌++◌, ◌∷◌, [], Option, Some, None, IfOk, IfErr, OnOk, OnErr, IfSome, IfNone};
+ghost use Rattle.turn_lock.specs.Views.{carried};
+
+use crate::object::{Call, Machine};
+use crate::rule::{LockRule, View};
+use crate::steps::{Counts, Frees, Joins, Looks, Says, SplitsNote, TakesTurn};
+use atomic_table::{Seat, Table};
+use std::alloc::Global;
+use std::hint::spin_loop;
+use std::marker::Brand;
+use std::snapshot::Snapshot;
+use std::sync::Wait;
+use std::thread::yield_now;
+
+/// The word with the number of the pass that holds the turn, or `FREE`.
+const TURN: usize = 0;
+
+/// The word that counts the entries, modulo 2^64.
+const COUNT: usize = 1;
+
+/// The slot with the value.
+const VALUE: usize = 0;
+
+/// No pass has this number.
+pub(crate) const FREE: u64 = 256;
+
+/// How often a pass tries for the turn before it gives the processor away.
+const TRIES: u32 = 64;
+
+/// A lock round a value of type `M`, at which its passes take turns.
+#[derive(Drop)]
+pub struct Turns<M: Machine> {
+    pub(crate) table: Table<Option<M>, View<M::State, M::Entry>, Snapshot<M>, LockRule<M>, Global>,
+    pub(crate) count: u32,
+    ghost some: { 0 < count },
+    ghost few: { count ≤ 256 },
+    ghost two_words: { table.shared.table_id.words ≡ 2 },
+    ghost one_slot: { table.shared.table_id.slots ≡ 1 },
+}
+
+/// One caller's place at one lock, with its number. It has no bytes but these numbers.
+#[derive(Drop)]
+pub struct Pass<M: Machine> {
+    pub(crate) number: u32,
+    pub(crate) count: u32,
+    pub(crate) seat: Seat<Option<M>, View<M::State, M::Entry>>,
+    ghost in_range: { number < count },
+    ghost is: { seat.me.0.number ≡ Some number },
+    ghost carries: { seat.me.1 ≡ carried seat.me.0.kept },
+    ghost next: { number ≡ 0 → seat.me.0.next ≡ count },
+}
+
+/// What a pass had seen of the history when the note was made.
+#[derive(Drop)]
+pub struct Note<M: Machine> {
+    pub(crate) seat: Seat<Option<M>, View<M::State, M::Entry>>,
+    ghost bare: { seat.me.1 ≡ [] },
+    ghost unnumbered: { seat.me.0.number ≡ None },
+    ghost idle: { seat.me.0.kept ≡ None },
+}
+
+/// The value, while a pass holds the turn. It has to be put back: it cannot be dropped, nor taken apart outside.
+pub struct Held<M> {
+    pub value: M,
+    owed: Owed,
+}
+
+/// That a value is to be put back.
+struct Owed;
+
+/// The turn was another pass's.
+#[derive(Debug, PartialEq, Eq, Clone, Copy)]
+pub struct Taken {
+    pub holder: u32,
+}
+
+impl<M: Machine> Pass<M> {
+    ghost use Rattle.turn_lock.specs.Passes.{number_of};
+
+    /// The number under which the pass's entries stand in the history.
+    pub fn number(&self) -> u32
+        ensures { result ≡ number_of self.now }
+    {
+        self.number
+    }
+}
+
+impl<M: Machine> Turns<M> {
+    ghost use mathlib.Core.List.{IsPrefix};
+    ghost use Rattle.turn_lock.specs.History.{Leads, Appends};
+    ghost use Rattle.turn_lock.specs.Views.{longer, pair_of};
+    ghost use Rattle.turn_lock.specs.Passes.{first_value, number_of, seen_by, own_entries, found_by, held_by, noted, IsOf, IsNoteOf, IsUnchanged};
+
+    /// Takes the turn if it is free, in one try.
+    pub fn try_take(&self, pass: &mut Pass<M>) -> Result<Held<M>, Taken>
+        requires own { IsOf self.now pass.old }
+        requires idle { held_by pass.old ≡ None }
+
+        ensures own { IsOf self.now pass.new }
+        ensures number { number_of pass.new ≡ number_of pass.old }
+        ensures seen { seen_by pass.new ≡ seen_by pass.old }
+        ensures held { IfOk result (λ held. held_by pass.new ≡ Some (M.state held.value)) }
+        ensures found { OnOk result (found_by pass.new ≡ found_by pass.old) }
+
+        // The number that this try found, which is put behind those found before, is another pass's.
+        ensures taken { IfErr result (λ taken. found_by pass.new ≡ found_by pass.old ++ taken.holder ∷ []) }
+        ensures another { IfErr result (λ taken. (taken.holder < 256) × (taken.holder ≢ number_of pass.old)) }
+        ensures idle { OnErr result (held_by pass.new ≡ None) }
+    {
+        let number = u64::from(pass.number);
+        let found = self
+            .table
+            .shared
+            .compare_exchange::<TakesTurn<M>>(&mut pass.seat, TURN, FREE, number);
+        if found == FREE {
+            let value = self
+                .table
+                .shared
+                .exchange(&mut pass.seat, VALUE, None)
+                .unwrap();
+            Ok(Held { value, owed: Owed })
+        } else {
+            Err(Taken {
+                holder: found as u32,
+            })
+        }
+    }
+
+    /// Tries some times in a row, without giving the processor away.
+    fn spin(&self, pass: &mut Pass<M>) -> Option<Held<M>>
+        requires own { IsOf self.now pass.old }
+        requires idle { held_by pass.old ≡ None }
+
+        ensures own { IsOf self.now pass.new }
+        ensures number { number_of pass.new ≡ number_of pass.old }
+        ensures seen { seen_by pass.new ≡ seen_by pass.old }
+        ensures found { IsPrefix (found_by pass.old) (found_by pass.new) }
+        ensures held { IfSome result (λ held. held_by pass.new ≡ Some (M.state held.value)) }
+        ensures idle { IfNone result (held_by pass.new ≡ None) }
+    {
+        for _ in 0..TRIES {
+            if let Ok(held) = self.try_take(pass) {
+                return Some(held);
+            }
+            spin_loop();
+        }
+        None
+    }
+
+    /// Takes the turn. It tries some times, then gives the processor away and tries again, until the turn is free.
+    pub fn take<R: Wait>(&self, rt: &R, pass: &mut Pass<M>) -> Held<M>
+        requires own { IsOf self.now pass.old }
+        requires idle { held_by pass.old ≡ None }
+
+        ensures own { IsOf self.now pass.new }
+        ensures number { number_of pass.new ≡ number_of pass.old }
+        ensures seen { seen_by pass.new ≡ seen_by pass.old }
+        ensures held { held_by pass.new ≡ Some (M.state result.value) }
+        ensures found { IsPrefix (found_by pass.old) (found_by pass.new) }
+    {
+        for _ in rt.forever() {
+            if let Some(held) = self.spin(pass) {
+                return held;
+            }
+            yield_now();
+        }
+        unreachable!()
+    }
+
+    /// The one step that appends an entry, as `call` names it. The turn is still held, and `value` is to be laid back.
+    fn count<W: Says<M::State, M::Entry>, C: Call<M>>(
+        &self,
+        pass: &mut Pass<M>,
+        value: &M,
+        call: &C,
+    )
+        requires own { IsOf self.now pass.old }
+        requires said { (W.entry ≡ Some (C.entry call.now)) × (W.after ≡ Some (M.state value.now)) }
+        requires step { (before : _) × (held_by pass.old ≡ Some before) × M.step before (number_of pass.old) (C.entry call.now) (M.state value.now) }
+
+        ensures own { IsOf self.now pass.new }
+        ensures number { number_of pass.new ≡ number_of pass.old }
+        ensures held { held_by pass.new ≡ Some (M.state value.now) }
+        ensures found { found_by pass.new ≡ found_by pass.old }
+        ensures appends { Appends (number_of pass.old) (C.entry call.now) (seen_by pass.old) (seen_by pass.new) }
+        ensures legal { Leads M.step (M.state (first_value self.now)) (seen_by pass.new) (M.state value.now) }
+    {
+        self.table
+            .shared
+            .fetch_add::<Counts<M, W>>(&mut pass.seat, COUNT, 1);
+    }
+
+    /// Puts the value back and frees the turn. The entry that `call` stands for is appended to the history.
+    pub fn put<C: Call<M>>(&self, pass: &mut Pass<M>, held: Held<M>, call: &C)
+        requires own { IsOf self.now pass.old }
+        requires step { (before : _) × (held_by pass.old ≡ Some before) × M.step before (number_of pass.old) (C.entry call.now) (M.state held.value) }
+
+        ensures own { IsOf self.now pass.new }
+        ensures number { number_of pass.new ≡ number_of pass.old }
+        ensures idle { held_by pass.new ≡ None }
+        ensures found { found_by pass.new ≡ found_by pass.old }
+
+        // What was seen ends with the new entry; before it come other passes' entries alone.
+        ensures appends { Appends (number_of pass.old) (C.entry call.now) (seen_by pass.old) (seen_by pass.new) }
+        ensures mine { own_entries pass.new ≡ own_entries pass.old ++ (number_of pass.old, C.entry call.now) ∷ [] }
+        ensures legal { Leads M.step (M.state (first_value self.now)) (seen_by pass.new) (M.state held.value) }
+    {
+        let Held { value, owed: Owed } = held;
+        self.count::<Brand, C>(pass, &value, call);
+        let empty = self
+            .table
+            .shared
+            .exchange(&mut pass.seat, VALUE, Some(value));
+        let None = empty else { unreachable!() };
+        self.table.shared.swap::<Frees>(&mut pass.seat, TURN, FREE);
+    }
+
+    /// Copies what the pass has seen, so that another pass can meet it.
+    pub fn note(&self, pass: &mut Pass<M>) -> Note<M>
+        requires { IsOf self.now pass.old }
+
+        ensures own { IsOf self.now pass.new }
+        ensures unchanged { IsUnchanged pass.old pass.new }
+        ensures note { IsNoteOf self.now result }
+        ensures noted { noted result ≡ seen_by pass.old }
+    {
+        Note {
+            seat: self.table.shared.split_seat::<SplitsNote>(&mut pass.seat),
+        }
+    }
+
+    /// The pass has then seen what the note has seen too: the longer of the two lists, which begins with both.
+    pub fn meet(&self, pass: &mut Pass<M>, note: Note<M>)
+        requires own { IsOf self.now pass.old }
+        requires note { IsNoteOf self.now note }
+
+        ensures own { IsOf self.now pass.new }
+        ensures number { number_of pass.new ≡ number_of pass.old }
+        ensures found { found_by pass.new ≡ found_by pass.old }
+        ensures held { held_by pass.new ≡ held_by pass.old }
+        ensures seen { IsPrefix (seen_by pass.old) (seen_by pass.new) }
+        ensures noted { IsPrefix (noted note) (seen_by pass.new) }
+        ensures longer { seen_by pass.new ≡ longer (seen_by pass.old) (noted note) }
+        ensures mine { own_entries pass.new ≡ own_entries pass.old }
+    {
+        self.join(pass, note.seat);
+    }
+
+    /// Joins a seat into the pass. Where the seat has a number, the pass is number 0 and keeps that number's entries.
+    pub(crate) fn join(&self, pass: &mut Pass<M>, other: Seat<Option<M>, View<M::State, M::Entry>>)
+        requires own { IsOf self.now pass.old }
+        requires table { other.table_id ≡ self.now.table.shared.table_id }
+        requires idle { (other.me.0.kept ≡ None) × (other.me.1 ≡ []) }
+        requires asked { (other.me.0.number ≡ None) ⊎ (number_of pass.old ≡ 0) }
+
+        ensures own { IsOf self.now pass.new }
+        ensures number { number_of pass.new ≡ number_of pass.old }
+        ensures found { found_by pass.new ≡ found_by pass.old }
+        ensures held { held_by pass.new ≡ held_by pass.old }
+        ensures seen { IsPrefix (seen_by pass.old) (seen_by pass.new) }
+        ensures met { IsPrefix other.me.0.seen (seen_by pass.new) }
+        ensures longer { seen_by pass.new ≡ longer (seen_by pass.old) other.me.0.seen }
+        ensures mine { own_entries pass.new ≡ own_entries pass.old }
+        ensures pairs { pass.new.seat.me.0.pairs ≡ pass.old.seat.me.0.pairs ++ pair_of other.me.0.number other.me.0.seen }
+    {
+        self.table.shared.join_seat::<Joins>(&mut pass.seat, other);
+        self.table.shared.load::<Looks>(&mut pass.seat, COUNT);
+    }
+}

@@ -1,0 +1,42 @@
+// What a seat at the lock's table knows, and the rule that holds between any two steps.
+use crate::object::Machine;
+use atomic_table::TableRule;
+use std::collections::LinkedList;
+use std::marker::PhantomData;
+use std::snapshot::Snapshot;
+
+/// What one seat knows. It exists in proofs alone: no value of it is made, and it takes no memory.
+pub struct View<D, E> {
+    /// The first data of the lock; none once the seat is spent.
+    pub start: Option<D>,
+    /// The number of the pass; a note and a spent seat have none.
+    pub number: Option<u64>,
+    /// Of number 0 alone: the next number that it gives.
+    pub next: u64,
+    /// While the seat holds the turn: the data of the value taken, and from the count step on those that will be laid back.
+    pub kept: Option<D>,
+    /// A beginning of the history.
+    pub seen: LinkedList<(u64, E)>,
+    /// Further beginnings of the history, met by joining.
+    pub met: LinkedList<LinkedList<(u64, E)>>,
+    /// What was seen before the last join, where no count step came since.
+    pub whole: Option<LinkedList<(u64, E)>>,
+    /// The numbers that failed tries found.
+    pub found: LinkedList<u64>,
+    /// Of number 0 alone: the numbers of the passes joined into it, each with that pass's own entries.
+    pub pairs: LinkedList<(u64, LinkedList<(u64, E)>)>,
+}
+
+/// The rule on the lock's table, whose key is the first value.
+pub struct LockRule<M> {
+    machine: PhantomData<M>,
+}
+
+impl<M: Machine> TableRule<Option<M>, View<M::State, M::Entry>, Snapshot<M>> for LockRule<M> {
+    ghost use Rattle.turn_lock.specs.Views.{first_view};
+    ghost use Rattle.turn_lock.specs.Protocol.{IsLock};
+
+    ghost holds = { λ key. IsLock M.state M.step (M.state key.value) };
+
+    ghost first = { λ key. first_view (M.state key.value) };
+}
