@@ -2,6 +2,7 @@
 pub mod Blocks
 pub mod Counts
 pub mod MemSeen
+pub mod Origins
 pub mod Rooms
 pub mod Seen
 pub mod SeenLaws

@@ -1,4 +1,4 @@
-ghost use Rattle.std.specs.Prelude.{◌≡◌, ◌≤◌, [], Some, IfOk, min, length, take, drop};
+ghost use Rattle.std.specs.Prelude.{◌≡◌, ◌≤◌, [], Some, None, IfOk, min, length, take, drop};
 
 use crate::faults::Failed;
 use crate::planned::Planned;
@@ -32,6 +32,7 @@ impl MemSource {
     pub fn new(bytes: Vec<u8>, fails: Vec<u64>) -> MemSource
         ensures left { ⟦<MemSource as Source>⟧.left result ≡ Some bytes.items }
         ensures faults { ⟦<MemSource as Source>⟧.faults result ≡ 0 }
+        ensures origin { ⟦<MemSource as Source>⟧.origin result ≡ None }
     {
         MemSource {
             bytes,
@@ -45,6 +46,8 @@ impl Source for MemSource {
     ghost left = { λ s. Some (drop s.at s.bytes.items) };
 
     ghost faults = { λ s. s.planned.faults };
+
+    ghost origin = { λ _. None };
 
     fn read(&mut self, into: &mut [u8]) -> Result<usize, Failed> {
         self.planned.call()?;

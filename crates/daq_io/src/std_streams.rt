@@ -1,4 +1,4 @@
-ghost use Rattle.std.specs.Prelude.{◌≡◌, IfOk};
+ghost use Rattle.std.specs.Prelude.{◌≡◌, None, IfOk};
 ghost use Rattle.std.specs.Io.Buffered.{reader_remaining};
 
 use crate::faults::Failed;
@@ -23,6 +23,7 @@ impl<R: Read + Drop> StdSource<R> {
     pub fn new(alloc: Global, reader: R) -> Result<StdSource<R>, NoMemory>
         ensures left { IfOk result (λ made. ⟦<StdSource<R> as Source>⟧.left made ≡ R.remaining reader) }
         ensures faults { IfOk result (λ made. ⟦<StdSource<R> as Source>⟧.faults made ≡ 0) }
+        ensures origin { IfOk result (λ made. ⟦<StdSource<R> as Source>⟧.origin made ≡ None) }
     {
         match BufReader::with_capacity(alloc, AHEAD_BYTES, reader) {
             Ok(reader) => Ok(StdSource { reader, faults: 0 }),
@@ -35,6 +36,8 @@ impl<R: Read + Drop> Source for StdSource<R> {
     ghost left = { λ s. reader_remaining R.remaining s.reader };
 
     ghost faults = { λ s. s.faults };
+
+    ghost origin = { λ _. None };
 
     fn read(&mut self, into: &mut [u8]) -> Result<usize, Failed> {
         match self.reader.read(into) {

@@ -1,7 +1,8 @@
-ghost use Rattle.std.specs.Prelude.{◌<◌, ℕ, List, Option, IfOk, OnOk, OnErr, length};
+ghost use Rattle.std.specs.Prelude.{◌≡◌, ◌<◌, ℕ, List, Option, IfOk, OnOk, OnErr, length};
 ghost use Rattle.std.specs.Io.{ReadsAtMost, WritesAtMost};
 ghost use Rattle.std.specs.Io.KnownBytes.{Appends, ReadConsumes, WriteAppends};
 ghost use Rattle.daq_io.specs.Counts.{CountsFault};
+ghost use Rattle.daq_io.specs.Origins.{Origin};
 ghost use Rattle.daq_io.specs.Streams.{AppendsPart};
 
 use crate::faults::Failed;
@@ -14,13 +15,17 @@ pub trait Source {
     /// How many calls have failed. The count stands still at 2^64 - 1.
     ghost faults: { Self → ℕ };
 
+    /// Where the bytes come from, for a source that reads one of several files. No read changes it.
+    ghost origin: { Self → Option Origin };
+
     /// Reads into the front of `into` and answers how many bytes. No byte, where `into` has room, is the end of the
     /// input, and comes exactly there where the bytes are told.
     fn read(&mut self, into: &mut [u8]) -> Result<usize, Failed>
         ensures within { ReadsAtMost result into.new }
         // The bytes read are the first of those left. None at all means the end, and a failure reads nothing.
         ensures bytes { ReadConsumes (left self.old) (left self.new) result into.new }
-        ensures faults { CountsFault (faults self.old) (faults self.new) result };
+        ensures faults { CountsFault (faults self.old) (faults self.new) result }
+        ensures origin { origin self.new ≡ origin self.old };
 }
 
 /// A place for bytes, such as standard output.

@@ -105,6 +105,7 @@ impl EventBuf {
         ensures gathers { IfOk result (GathersBody (S.left source.old) (S.left source.new) header.now self.new) }
         ensures room { self.new.room ≡ self.old.room }
         ensures faults { CountsFault (S.faults source.old) (S.faults source.new) result }
+        ensures origin { S.origin source.new ≡ S.origin source.old }
     {
         self.prepare(*header);
         let (_, body) = self.bytes.as_mut_slice().split_at_mut(HEADER_BYTES);

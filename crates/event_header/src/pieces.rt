@@ -10,6 +10,7 @@ pub fn read_full<S: Source>(source: &mut S, into: &mut [u8]) -> Result<usize, Fa
     ensures gathers { IfOk result (λ count. Gathers (S.left source.old) (S.left source.new) into.new count) }
     ensures length { length into.new ≡ length into.old }
     ensures faults { CountsFault (S.faults source.old) (S.faults source.new) result }
+    ensures origin { S.origin source.new ≡ S.origin source.old }
 {
     let mut done = 0;
     while done < into.len() {

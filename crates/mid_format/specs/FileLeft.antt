@@ -1,12 +1,19 @@
 -- What a source over one of several files tells.
-use Rattle.std.specs.Prelude.{ℕ, List, Option, Some, None, if◌then◌else◌}
-use Rattle.daq_io.specs.Seen.{Seen}
+use Rattle.std.specs.Prelude.{ℕ, List, Option, Some, None, IsTrue, if◌then◌else◌}
+use Rattle.daq_io.specs.Seen.{Seen, KeepsFiles, KeepsOthers}
 
 -- the bytes left of the file of a number, where they are told
 abbrev pub told_left : Seen → ℕ → Option (List ℕ)
 told_left seen number = if seen.tells then Some (seen.left number) else None
 
--- several files, and the number under which one of them is read
+-- several files, the number under which one of them is read, and the files as they stood when that began
 pub record OneFile (F : Type 0) : Type 0 where
   pub files : F
   pub number : ℕ
+  pub first : F
+
+-- since then nothing was done but to read under this number
+pub record IsOneRead (first now : Seen) (number : ℕ) : Type 0 where
+  pub reads : IsTrue (now.reads number)
+  pub files : KeepsFiles first now
+  pub others : KeepsOthers first now number

@@ -1,5 +1,5 @@
 //! Worked rows of run files.
-ghost use Rattle.std.specs.Prelude.{◌≡◌, ◌≤◌};
+ghost use Rattle.std.specs.Prelude.{◌≡◌, ◌≤◌, None};
 
 use crate::{FileSource, MidFault, MidReader, begin_record, end_record};
 use daq_io::{Failed, Files, MemFiles, MemSource, Source};
@@ -34,6 +34,8 @@ impl Source for Drip {
     ghost left = { λ s. ⟦<MemSource as Source>⟧.left s.source };
 
     ghost faults = { λ s. ⟦<MemSource as Source>⟧.faults s.source };
+
+    ghost origin = { λ _. None };
 
     fn read(&mut self, into: &mut [u8]) -> Result<usize, Failed> {
         let (front, _) = into.split_at_mut(into.len().min(1));

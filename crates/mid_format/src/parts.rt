@@ -16,6 +16,7 @@ pub fn read_head<S: Source>(source: &mut S, run: Option<u32>, at: u64) -> Result
     ensures head { IfOk result (ReadsHead (S.left source.old) (S.left source.new) run at) }
     ensures fault { IfErr result (λ fault. OfBytes fault (IfSome (S.left source.old) (λ rest. fault_at run at rest ≡ Some fault))) }
     ensures counted { CountsReads (S.faults source.old) (S.faults source.new) result }
+    ensures origin { S.origin source.new ≡ S.origin source.old }
 {
     let mut head = [0; 16];
     let Ok(count) = read_full(source, &mut head) else {
@@ -40,6 +41,7 @@ pub fn read_head<S: Source>(source: &mut S, run: Option<u32>, at: u64) -> Result
 fn pass<S: Source>(source: &mut S, size: u32) -> Result<u32, Failed>
     ensures passes { IfOk result (Passes (S.left source.old) (S.left source.new) size) }
     ensures faults { CountsFault (S.faults source.old) (S.faults source.new) result }
+    ensures origin { S.origin source.new ≡ S.origin source.old }
 {
     let mut block = [0; 4096];
     let mut rest = size;
@@ -61,6 +63,7 @@ pub fn pass_data<S: Source>(source: &mut S, place: u64, size: u32) -> Result<(),
     ensures passed { OnOk result (PassesAll (S.left source.old) (S.left source.new) size) }
     ensures cut { IfErr result (IsCut (S.left source.old) place size) }
     ensures counted { CountsReads (S.faults source.old) (S.faults source.new) result }
+    ensures origin { S.origin source.new ≡ S.origin source.old }
 {
     let Ok(count) = pass(source, size) else {
         return Err(MidFault::ReadFault);
@@ -86,6 +89,7 @@ pub fn read_data<S: Source>(
     ensures cut { IfErr result (IsCut (S.left source.old) place header.now.data_size) }
     ensures room { into.new.room ≡ into.old.room }
     ensures counted { CountsReads (S.faults source.old) (S.faults source.new) result }
+    ensures origin { S.origin source.new ≡ S.origin source.old }
 {
     let Ok(count) = into.fill_from(header, source) else {
         return Err(MidFault::ReadFault);
@@ -103,6 +107,7 @@ pub fn read_end<S: Source>(source: &mut S, at: u64) -> Result<(), MidFault>
     ensures end { OnOk result (IsEnd (S.left source.old) (S.left source.new)) }
     ensures more { IfErr result (IsBehindEnd (S.left source.old) at) }
     ensures counted { CountsReads (S.faults source.old) (S.faults source.new) result }
+    ensures origin { S.origin source.new ≡ S.origin source.old }
 {
     let mut byte = [0; 1];
     let Ok(count) = read_full(source, &mut byte) else {

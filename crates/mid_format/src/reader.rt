@@ -100,6 +100,7 @@ impl<S: Source> MidReader<S> {
         ensures limit { self.new.progress.at ≤ 2 ^ 62 }
         ensures counted { CountsNext self.old.progress.fault (S.faults self.old.source) (S.faults self.new.source) result }
         ensures room { into.new.room ≡ into.old.room }
+        ensures origin { S.origin self.new.source ≡ S.origin self.old.source }
     {
         if let Some(fault) = self.progress.fault {
             return Err(fault);

@@ -16,6 +16,7 @@ fn begin<S: Source>(source: &mut S, progress: &mut Progress) -> Result<Header, M
     ensures begins { IfOk result (Begins (S.left source.old) (S.left source.new) progress.old progress.new) }
     ensures stops { IfErr result (BeginStops (S.left source.old) progress.old progress.new) }
     ensures counted { CountsReads (S.faults source.old) (S.faults source.new) result }
+    ensures origin { S.origin source.new ≡ S.origin source.old }
 {
     if let Some(begin) = progress.begin {
         return Ok(begin);
@@ -38,6 +39,7 @@ fn finish<S: Source>(
     ensures finishes { OnOk result (Finishes (S.left source.old) (S.left source.new) progress.old progress.new header) }
     ensures stops { IfErr result (FinishStops (S.left source.old) progress.old progress.new header) }
     ensures counted { CountsReads (S.faults source.old) (S.faults source.new) result }
+    ensures origin { S.origin source.new ≡ S.origin source.old }
 {
     let place = progress.at + HEADER_BYTES as u64;
     pass_data(source, place, header.data_size)?;
@@ -63,6 +65,7 @@ pub fn step<S: Source>(
     ensures last { IfOk result (λ given. IsNone given ↔ IsSome progress.new.last) }
     ensures room { into.new.room ≡ into.old.room }
     ensures counted { CountsReads (S.faults source.old) (S.faults source.new) result }
+    ensures origin { S.origin source.new ≡ S.origin source.old }
 {
     let begin = begin(source, progress)?;
     let header = read_head(source, Some(begin.serial_number), progress.at)?;

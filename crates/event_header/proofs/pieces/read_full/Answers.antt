@@ -9,4 +9,5 @@ loop-done-preserved g c = record {
       c.split_at_mut-rest.ensures.front (search rules) c.loop-done.invariant.consumed c.in_ok-count.ensures.bytes.0;
   same = search rules;
   faults = c.in_ok-count.ensures.faults.done ∙ c.loop-done.invariant.faults;
+  origin = search rules;
 }

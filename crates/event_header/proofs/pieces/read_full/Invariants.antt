@@ -8,6 +8,7 @@ invariant-loop-done g l = record {
   consumed : Consumes (g.S.Source.left l.fn.source) (g.S.Source.left l.source) (take l.done l.into);
   same : length l.into ≡ length l.fn.into;
   faults : g.S.Source.faults l.source ≡ g.S.Source.faults l.fn.source;
+  origin : g.S.Source.origin l.source ≡ g.S.Source.origin l.fn.source;
 }
 
 abbrev pub decreases-loop-done : goal.decreases-loop-done

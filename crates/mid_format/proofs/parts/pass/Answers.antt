@@ -11,5 +11,6 @@ pub loop-rest-preserved : goal.loop-rest-preserved
 loop-rest-preserved g c = record {
   passed = passed_more _ _ _ c.args.size c.loop-rest.rest c.read_full.new.into c.in_ok-count.field-0 _ c.loop-rest.invariant.passed c.in_ok-count.ensures.gathers (search rules);
   faults = c.in_ok-count.ensures.faults.done ∙ c.loop-rest.invariant.faults;
+  origin = search rules;
   block = search rules;
 }

@@ -6,6 +6,7 @@ abbrev pub invariant-loop-rest : goal.invariant-loop-rest
 invariant-loop-rest g l = record {
   passed : Passed (g.S.Source.left l.fn.source) (g.S.Source.left l.source) l.size l.rest;
   faults : g.S.Source.faults l.source ≡ g.S.Source.faults l.fn.source;
+  origin : g.S.Source.origin l.source ≡ g.S.Source.origin l.fn.source;
   block : length l.block ≡ 4096;
 }
 

@@ -1,0 +1,8 @@
+-- Where a source has its bytes from.
+use Rattle.std.specs.Prelude.{ℕ}
+use Rattle.daq_io.specs.Seen.{Seen}
+
+-- One of several files: the files as they stood when the source was made, and the number under which it is read.
+pub record Origin : Type 0 where
+  pub files : Seen
+  pub number : ℕ
