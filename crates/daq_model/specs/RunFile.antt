@@ -3,7 +3,7 @@ use Rattle.std.specs.Prelude.{◌≡◌, ◌≢◌, ℕ, ◌^◌, ◌≤◌, Lis
 use Rattle.daq_types.specs.declared.events.Event.{Event}
 use Rattle.daq_model.specs.Events.{encoding, all_encoded, begin_id, end_id, event_limit, record_limit}
 
--- the mask of both records, "IM"
+-- the mask of both records, "MI"
 abbrev pub record_mask : ℕ
 record_mask = 18765
 
