@@ -3,3 +3,4 @@ pub mod FileNameBack
 pub mod NameBack
 pub mod NameFaults
 pub mod Tids
+pub mod Transitions

@@ -1,5 +1,6 @@
 -- The rules for names of clients and keys, and for names of files.
-use Rattle.std.specs.Prelude.{◌≡◌, ℕ, ◌+◌, ◌-◌, ◌<◌, ◌≤◌, ◌==◌, Bool, false, ◌||◌, ◌&&◌, nat_lt, nat_le, IsTrue, List, ◌++◌, length, take, drop, replicate, slice_index, All, codes, nat_eq}
+use Rattle.std.specs.Prelude.{◌≡◌, ℕ, ◌+◌, ◌-◌, ◌<◌, ◌≤◌, ◌==◌, Bool, false, ◌||◌, ◌&&◌, nat_lt, nat_le, IsTrue, List, ◌++◌, length, map, take, drop, replicate, slice_index, All, codes, nat_eq}
+use Rattle.std.specs.Char.{to_ascii_lowercase}
 use Rattle.std.proofs.Common.{arith, take-append-drop}
 use Rattle.std.proofs.lemmas.Grind.{common_steps}
 use Rattle.std.specs.List.{ends_with}
@@ -30,6 +31,10 @@ pub record IsFirstBreak (text : List ℕ) (place : ℕ) : Type 0 where
   pub inside : place < length text
   pub breaks : BreaksName text place
   pub first : (before : ℕ) → before < place → breaks_name (length text) before (slice_index text before) ≡ false
+
+-- two names that agree but for the case of the letters A to Z
+abbrev pub IsSameName : List ℕ → List ℕ → Type 0
+IsSameName a b = map to_ascii_lowercase a ≡ map to_ascii_lowercase b
 
 -- a byte that a file's name may have: 0x21 to 0x7E
 abbrev pub is_file_byte : ℕ → Bool

@@ -1,5 +1,5 @@
 //! Worked rows of the names, types and lists.
-use crate::{BadFileName, Bytes, FileName, Name, NameRefusal, Tid, Words};
+use crate::{BadFileName, Bytes, FileName, Journal, Name, NameRefusal, Tid, Transition, Words};
 use std::test::Fail;
 
 /// The refusal of a text, if it is no name.
@@ -24,6 +24,33 @@ fn names_by_the_rule(rt: HostRuntime) {
     assert_eq!(rt; refusal(b"a;b"), None);
     assert_eq!(rt; refusal(b";ab"), Some(NameRefusal::BadByte { at: 0 }));
     assert_eq!(rt; refusal(b"a\x7f"), Some(NameRefusal::BadByte { at: 1 }));
+}
+
+#[test]
+fn names_without_case(rt: HostRuntime) {
+    for (ours, theirs, same) in [
+        (b"SYSTEM", b"SYSTEM", true),
+        (b"SYSTEM", b"system", true),
+        (b"SYSTEM", b"SYSTEN", false),
+        (b"Run@no", b"run`no", false),
+    ] {
+        let ours = Name::new(ours).expect(&rt, "a name");
+        let theirs = Name::new(theirs).expect(&rt, "a name");
+        assert_eq!(rt; ours.same_as(&theirs), same);
+    }
+}
+
+#[test]
+fn bits_of_transitions(rt: HostRuntime) {
+    for (transition, bit) in [
+        (Transition::Start, 1),
+        (Transition::Stop, 2),
+        (Transition::Pause, 4),
+        (Transition::Resume, 8),
+        (Transition::StartAbort, 16),
+    ] {
+        assert_eq!(rt; transition.bit(), bit);
+    }
 }
 
 #[test]
@@ -75,5 +102,17 @@ fn words_and_bytes(rt: HostRuntime) -> Result<(), Fail> {
     assert!(rt; words.get(2).is_none());
     let bytes = Bytes::of([1, 2].to_vec(rt.alloc())?);
     assert_eq!(rt; bytes.as_slice(), [1, 2].as_slice());
+    Ok(())
+}
+
+#[test]
+fn journals(rt: HostRuntime) -> Result<(), Fail> {
+    let mut journal = Journal::new(rt.alloc());
+    journal.push(7)?;
+    journal.push(5)?;
+    assert_eq!(rt; journal.len(), 2);
+    assert_eq!(rt; journal.as_slice(), [7, 5].as_slice());
+    let whole = Journal::of([1, 2].to_vec(rt.alloc())?);
+    assert_eq!(rt; whole.as_slice(), [1, 2].as_slice());
     Ok(())
 }

@@ -1,5 +1,5 @@
-ghost use Rattle.std.specs.Prelude.{◌≡◌, ◌<◌, IfOk, IfErr};
-ghost use Rattle.daq_types.specs.Names.{IsName, breaks_name};
+ghost use Rattle.std.specs.Prelude.{◌≡◌, ◌<◌, ◌↔◌, IfOk, IfErr, IsTrue};
+ghost use Rattle.daq_types.specs.Names.{IsName, IsSameName, breaks_name};
 ghost use Rattle.daq_types.specs.NameFaults.{IsNameFault};
 
 use crate::padding::padded;
@@ -84,5 +84,13 @@ impl Name {
         ensures is_name { IsName self.now }
     {
         &self.bytes[..self.len]
+    }
+
+    /// Whether the names agree but for the case of their letters. Clients, keys, buffers and members of a session with
+    /// such names are the same.
+    pub fn same_as(&self, other: &Name) -> bool
+        ensures { IsTrue result ↔ IsSameName self.now other.now }
+    {
+        self.as_slice().eq_ignore_ascii_case(other.as_slice())
     }
 }

@@ -1,3 +1,6 @@
+ghost use Rattle.std.specs.Prelude.{◌≡◌};
+ghost use Rattle.daq_types.specs.Transitions.{transition_bit};
+
 /// What a request asks of a buffer when it is full.
 #[derive(Clone, Copy, Debug, PartialEq, Eq)]
 pub enum Kind {
@@ -23,6 +26,21 @@ pub enum Transition {
     Pause,
     Resume,
     StartAbort,
+}
+
+impl Transition {
+    /// The transition's bit in MIDAS's masks of transitions: 1 start, 2 stop, 4 pause, 8 resume, 16 start-abort.
+    pub fn bit(self) -> u32
+        ensures { result ≡ transition_bit self }
+    {
+        match self {
+            Transition::Start => 1,
+            Transition::Stop => 2,
+            Transition::Pause => 4,
+            Transition::Resume => 8,
+            Transition::StartAbort => 16,
+        }
+    }
 }
 
 /// What the members are told of a run at a transition.
