@@ -9,3 +9,6 @@ pub mod WindowLaws
 pub mod ReadingLaws
 pub mod WindowKept
 pub mod HistoryLaws
+pub mod Points
+pub mod Delivered
+pub mod Runs

@@ -1,0 +1,99 @@
+-- What clients get of a buffer, and when a send is refused because an event is still to be got: read off the calls and
+-- their replies alone.
+use Rattle.std.specs.Prelude.{◌≡◌, ℕ, ◌+◌, ◌^◌, ◌<◌, ◌≤◌, IsTrue, List, [], ◌∷◌, drop, sum_by, slice_get, Option, Some, None, Result, Ok, Err, ⊤, ◌⊎◌}
+use Rattle.daq_types.specs.declared.events.Event.{Event}
+use Rattle.daq_model.specs.Events.{slot_size}
+use Rattle.buffer_core.specs.declared.client.Request.{Request as EventRequest}
+use Rattle.buffer_core.specs.declared.replies.SendRefusal.{SendRefusal}
+use Rattle.buffer_core.specs.declared.replies.SendRefusal.TheVariants.{Full}
+use Rattle.buffer_core.specs.declared.replies.Received.TheVariants.{Got, Empty}
+use Rattle.buffer_core.specs.declared.entry.BufferEntry.{BufferEntry}
+use Rattle.buffer_core.specs.declared.entry.BufferEntry.TheVariants.{Send, SendInRun, Receive}
+use Rattle.buffer_core.specs.Window.{Sent, slot_of_sent, is_all}
+use Rattle.buffer_core.specs.Points.{Life, life_at, sent, count_at, IsWanted, IsDue, past_of}
+
+abbrev pub IsIn : ℕ → List ℕ → Type 0
+IsIn p [] = ⊥
+IsIn p (q ∷ qs) = (p ≡ q) ⊎ IsIn p qs
+
+-- What a client gets.
+
+-- at this point the client may get the event of this place, sent with this start number: it lives and has got only
+-- places below this one, and the event was sent before and is wanted by one of its living requests
+pub record IsRightGot (past : List (ℕ × BufferEntry)) (client place start : ℕ) : Type 0 where
+  pub life : Life
+  pub number : ℕ
+  pub request : EventRequest
+  pub event : Sent
+  pub lives : life_at past client ≡ Some life
+  pub rises : (q : ℕ) → IsIn q life.places → q < place
+  pub wanted : IsWanted past client place number request event
+  pub started : event.start ≡ start
+
+-- at this point the client has got, in this life, each place below this one that a living request for all events wants
+abbrev pub HasAllBelow : List (ℕ × BufferEntry) → (client place : ℕ) → Type 0
+HasAllBelow past client place =
+    (life : Life) (q number : ℕ) (request : EventRequest) (event : Sent) → life_at past client ≡ Some life →
+    IsWanted past client q number request event → IsTrue (is_all request.kind) → q < place → IsIn q life.places
+
+-- When a send is refused as full.
+
+-- the events that were sent from this place on, and this one, do not fit together
+abbrev pub IsTooMuch : (size : ℕ) → List (ℕ × BufferEntry) → (place : ℕ) → Event → Type 0
+IsTooMuch size past place e = size < sum_by slot_of_sent (drop place (sent past)) + slot_size e
+
+-- no event that is due stands in the way of this one
+abbrev pub HasWay : (size : ℕ) → List (ℕ × BufferEntry) → Event → Type 0
+HasWay size past e = (client place : ℕ) → IsDue past client place → IsTooMuch size past place e → ⊥
+
+-- the event of this place does: it is the first that is due to any client and from which on the events do not fit, and
+-- this is the client of the least number that it is due to
+pub record IsInTheWay (size : ℕ) (past : List (ℕ × BufferEntry)) (e : Event) (client place : ℕ) : Type 0 where
+  pub due : IsDue past client place
+  pub too_much : IsTooMuch size past place e
+  pub least_place : (c q : ℕ) → IsDue past c q → IsTooMuch size past q e → place ≤ q
+  pub least_client : (c : ℕ) → IsDue past c place → client ≤ c
+
+-- where no other refusal stops the send, it is refused exactly where a due event is in the way
+abbrev pub IsRightSend : (size : ℕ) → List (ℕ × BufferEntry) → Event → Result ℕ SendRefusal → Type 0
+IsRightSend size past e (Ok n) = HasWay size past e
+IsRightSend size past e (Err (Full client place)) = IsInTheWay size past e client place
+IsRightSend size past e reply = ⊤
+
+-- How much a client gets.
+
+abbrev pub slot_of_place : Option Sent → ℕ
+slot_of_place None = 0
+slot_of_place (Some s) = slot_of_sent s
+
+-- the room that the events of these places take together
+abbrev pub slots_of_places : List Sent → (places : List ℕ) → ℕ
+slots_of_places ss [] = 0
+slots_of_places ss (p ∷ ps) = slot_of_place (slice_get ss p) + slots_of_places ss ps
+
+-- what a client got in its life takes at most 2^62 bytes
+abbrev pub IsBounded : List (ℕ × BufferEntry) → Type 0
+IsBounded past = (client : ℕ) (life : Life) → life_at past client ≡ Some life → slots_of_places (sent past) life.places ≤ 2 ^ 62
+
+-- The whole history.
+
+-- the reply of this entry is right at this point
+abbrev pub IsRight : (size : ℕ) → List (ℕ × BufferEntry) → BufferEntry → Type 0
+IsRight size past (Receive client room (Got place start)) = IsRightGot past client place start × HasAllBelow past client place
+IsRight size past (Receive client room (Empty gate last)) = HasAllBelow past client (count_at past)
+IsRight size past (Send stated e reply) = IsRightSend size past e reply
+IsRight size past (SendInRun start stated e reply) = IsRightSend size past e reply
+IsRight size past entry = ⊤
+
+-- each entry up to this point was right where it came, and no client got too much by then
+abbrev pub IsDelivered : (size : ℕ) → List (ℕ × BufferEntry) → Type 0
+IsDelivered size [] = ⊤
+IsDelivered size (e ∷ past) = IsRight size past e.1 × IsBounded (e ∷ past) × IsDelivered size past
+
+-- In each life of a client: the places that it gets rise, and each is of an event that was sent before, with the start
+-- number replied, and that one of its living requests wants. When it gets a place or finds none, it has got before all
+-- events below that place, or all that were sent, that one of its living requests for all events wants. A send is
+-- refused as full exactly where an event is due to a client from which on the events do not fit, and names the first
+-- such place and the least such client. What a client gets takes at most 2^62 bytes.
+abbrev pub Delivers : (size : ℕ) → (history : List (ℕ × BufferEntry)) → Type 0
+Delivers size h = IsDelivered size (past_of h)
