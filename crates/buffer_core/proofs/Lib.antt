@@ -2,3 +2,12 @@ pub mod RowLaws
 pub mod Kept
 pub mod Room
 pub mod Admit
+pub mod Places
+pub mod Numbered
+pub mod Found
+pub mod Replied
+pub mod Following
+pub mod Linked
+pub mod Delivering
+pub mod Segments
+pub mod Ordering

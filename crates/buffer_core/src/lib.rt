@@ -7,6 +7,7 @@ mod client;
 mod clients;
 mod entry;
 mod gate;
+pub mod laws;
 mod plain;
 mod replies;
 mod rows;

@@ -1,0 +1,244 @@
+-- Each reply of a legal history is right where it came.
+use Rattle.std.specs.Prelude.{◌≡◌, ℕ, ◌+◌, ◌-◌, ◌<◌, ◌≤◌, true, false, nat_le, IsTrue, List, [], ◌∷◌, take, drop, sum_by, slice_get, Option, Some, None, Ok, Err, refl}
+use Rattle.std.proofs.Common.{ap, sym, ◌∙◌, subst, arith}
+use Rattle.std.proofs.Math.Logic.{⊎_elim}
+use Rattle.std.proofs.lemmas.Bool.{and_parts, leb-true, cases_lt}
+use Rattle.std.proofs.lemmas.List.{drop-drop}
+use Rattle.std.proofs.lemmas.List.Sums.{sum_by-take-le}
+use Rattle.daq_types.specs.declared.events.Event.{Event}
+use Rattle.daq_model.specs.Events.{slot_size, matches, Matches}
+use Rattle.buffer_core.specs.declared.gate.RunGate.{RunGate}
+use Rattle.buffer_core.specs.declared.client.Request.{Request as EventRequest}
+use Rattle.buffer_core.specs.declared.client.Client.{Client}
+use Rattle.buffer_core.specs.declared.replies.SendRefusal.TheVariants.{Full}
+use Rattle.buffer_core.specs.declared.replies.Received.TheVariants.{Got, Empty}
+use Rattle.buffer_core.specs.declared.entry.BufferEntry.{BufferEntry}
+use Rattle.buffer_core.specs.declared.entry.BufferEntry.TheVariants.{Send, SendInRun, Receive}
+use Rattle.buffer_core.specs.Slots.{slot_at, first_slot, some_slot}
+use Rattle.buffer_core.specs.Window.{Sent, Window, opening, slot_of_sent, covers, wants, is_all, holds_back, owes}
+use Rattle.buffer_core.specs.Calls.{IsReply, found_in, receive_reply_to, gone_of}
+use Rattle.buffer_core.specs.Histories.{IsLegal}
+use Rattle.buffer_core.specs.Points.{Life, got_end, sent, count_at, life_at, request_at, IsDue, past_of}
+use Rattle.buffer_core.specs.Delivered.{IsIn, IsRightGot, HasAllBelow, IsTooMuch, HasWay, IsInTheWay, IsBounded, IsRight, IsDelivered, Delivers}
+use Rattle.buffer_core.proofs.Places.{get_drop, get_take, get_taken, goes, goes_much}
+use Rattle.buffer_core.proofs.Numbered.{some_found, IsFirst, first_found, none_found}
+use Rattle.buffer_core.proofs.Found.{IsFound, found, not_found, IsFirstOwed, owed, not_owed}
+use Rattle.buffer_core.proofs.Replied.{got_reply, empty_reply, IsAdmitted, admitted, run_admitted, IsHeldUp, held_up, run_held_up}
+use Rattle.buffer_core.proofs.Following.{Follows, HasAll, reads_on, owes_true, owes_next}
+use Rattle.buffer_core.proofs.Linked.{window_at, WasLegal, legal_after, is_window_at, Agrees, IsLinked, linked}
+
+-- a client that has a life in the history lives in the window
+pub followed : (first : ℕ) (ss : List Sent) (asked : ℕ → Option EventRequest) (o : Option Client) (l : Option Life) (life : Life) → Agrees first ss asked o l → l ≡ Some life → (c : Client) × (o ≡ Some c) × Follows first ss asked c life
+followed first ss asked None None life k e = absurd (cc)
+followed first ss asked None (Some l) life k e = absurd k
+followed first ss asked (Some c) None life k e = absurd k
+followed first ss asked (Some c) (Some l) life k e =
+    let same : l ≡ life = cc in
+    (c, refl, subst (Follows first ss asked c) same k)
+
+-- and the other way round
+pub living : (first : ℕ) (ss : List Sent) (asked : ℕ → Option EventRequest) (o : Option Client) (l : Option Life) (c : Client) → Agrees first ss asked o l → o ≡ Some c → (life : Life) × (l ≡ Some life) × Follows first ss asked c life
+living first ss asked None None c k e = absurd (cc)
+living first ss asked None (Some l) c k e = absurd k
+living first ss asked (Some d) None c k e = absurd k
+living first ss asked (Some d) (Some l) c k e =
+    let same : d ≡ c = cc in
+    (l, refl, subst (λ (x : Client). Follows first ss asked x l) same k)
+
+-- Receives.
+
+got_client : (w : Window) (room place start : ℕ) (o : Option Client) → Got place start ≡ receive_reply_to w room o → (c : Client) × (s : Sent) × (o ≡ Some c) × IsFound c w.first w.kept place s × (s.start ≡ start)
+got_client w room place start None e = absurd (cc)
+got_client w room place start (Some c) e =
+    let got = got_reply w.gate w.last room (found_in c w.first w.kept) place start e in
+    (c, got.0, refl, found c w.first w.kept place got.0 got.1, got.2)
+
+-- one of the client's requests wants the event
+wanted_by : (place : ℕ) (e : Event) (c : Client) → wants place e c ≡ true → (n : ℕ) × (q : EventRequest) × (slot_at c.requests n ≡ Some q) × (q.since ≤ place) × Matches q.id q.mask e
+wanted_by place e c h =
+    let some = some_found (covers place e) c.requests (and_parts (nat_le c.next place) (some_slot (covers place e) c.requests) h).1 in
+    let parts = and_parts (nat_le some.1.since place) (matches some.1.id some.1.mask e) some.3 in
+    (some.0, some.1, some.2, leb-true some.1.since place parts.0, parts.1)
+
+all_below : (past : List (ℕ × BufferEntry)) (client to : ℕ) (life : Life) → life_at past client ≡ Some life → HasAll (sent past) (request_at past client) life.places to → HasAllBelow past client to
+all_below past client to life lives all l q n r s lives' wanted is_all less =
+    let same : life ≡ l = cc (lives, lives') in
+    subst (λ (x : Life). IsIn q x.places) same (all q n r s wanted.lives wanted.since wanted.is_sent wanted.matched is_all less)
+
+right_got : (size : ℕ) (past : List (ℕ × BufferEntry)) → WasLegal size past → (client room place start : ℕ) → IsReply (window_at size past) (Receive client room (Got place start)) → IsRightGot past client place start × HasAllBelow past client place
+right_got size past was client room place start reply =
+    let w : Window = window_at size past in
+    let k : IsLinked size past = linked size past was in
+    let got = got_client w room place start (slot_at w.clients client) reply in
+    let alive = living w.first (sent past) (request_at past client) (slot_at w.clients client) (life_at past client) got.0 (k.clients client) got.2 in
+    let f : Follows w.first (sent past) (request_at past client) got.0 alive.0 = alive.2 in
+    let is : IsFound got.0 w.first w.kept place got.1 = got.3 in
+    let there : IsFound got.0 w.first (drop w.first (sent past)) place got.1 = subst (λ (ks : List Sent). IsFound got.0 w.first ks place got.1) k.kept is in
+    let by = wanted_by place got.1.event got.0 is.wanted in
+    let ahead : got.0.next ≤ place = leb-true got.0.next place (and_parts (nat_le got.0.next place) (some_slot (covers place got.1.event) got.0.requests) is.wanted).0 in (
+      record {
+        life = alive.0;
+        number = by.0;
+        request = by.1;
+        event = got.1;
+        lives = alive.1;
+        rises = λ q old. omega (arith, f.rises q old, f.next, ahead);
+        wanted = record {
+          lives = sym (f.asks by.0) ∙ by.2;
+          since = by.3;
+          is_sent = sym (get_drop w.first (sent past) there.index place there.place_is) ∙ there.is;
+          matched = by.4;
+        };
+        started = got.4;
+      },
+      all_below past client place alive.0 alive.1 (reads_on w.first (sent past) (request_at past client) got.0 alive.0 f place there.least),
+    )
+
+right_empty : (size : ℕ) (past : List (ℕ × BufferEntry)) → WasLegal size past → (client room : ℕ) (gate : RunGate) (last : ℕ) → IsReply (window_at size past) (Receive client room (Empty gate last)) → HasAllBelow past client (count_at past)
+right_empty size past was client room gate last reply l q n r s lives wanted is_all less =
+    let w : Window = window_at size past in
+    let k : IsLinked size past = linked size past was in
+    let alive = followed w.first (sent past) (request_at past client) (slot_at w.clients client) (life_at past client) l (k.clients client) lives in
+    let none : found_in alive.0 w.first w.kept ≡ None = empty_reply w.gate w.last room (found_in alive.0 w.first w.kept) gate last (subst (λ (o : Option Client). Empty gate last ≡ receive_reply_to w room o) alive.1 reply) in
+    let unwanted : (i p : ℕ) (x : Sent) → p ≡ w.first + i → slice_get (drop w.first (sent past)) i ≡ Some x → wants p x.event alive.0 ≡ false =
+    subst (λ (ks : List Sent). (i p : ℕ) (x : Sent) → p ≡ w.first + i → slice_get ks i ≡ Some x → wants p x.event alive.0 ≡ false) k.kept (not_found alive.0 w.first w.kept none) in
+    reads_on w.first (sent past) (request_at past client) alive.0 l alive.2 (count_at past) (λ i p x place_is is below. unwanted i p x place_is is) q n r s wanted.lives wanted.since wanted.is_sent wanted.matched is_all less
+
+-- Sends.
+
+-- one of the client's requests for all events wants the event
+owed_by : (place : ℕ) (e : Event) (c : Client) → owes place e c ≡ true → (n : ℕ) × (q : EventRequest) × (slot_at c.requests n ≡ Some q) × (q.since ≤ place) × Matches q.id q.mask e × IsTrue (is_all q.kind)
+owed_by place e c h =
+    let some = some_found (holds_back place e) c.requests (and_parts (nat_le c.next place) (some_slot (holds_back place e) c.requests) h).1 in
+    let both = and_parts (is_all some.1.kind) (covers place e some.1) some.3 in
+    let parts = and_parts (nat_le some.1.since place) (matches some.1.id some.1.mask e) both.1 in
+    (some.0, some.1, some.2, leb-true some.1.since place parts.0, parts.1, both.0)
+
+-- the room that the kept events take from a place on is that of all that were sent from there on
+kept_sum : (size : ℕ) (past : List (ℕ × BufferEntry)) → IsLinked size past → (index place : ℕ) → place ≡ (window_at size past).first + index → sum_by slot_of_sent (drop index (window_at size past).kept) ≡ sum_by slot_of_sent (drop place (sent past))
+kept_sum size past k index place place_is =
+    let w : Window = window_at size past in
+    ap (λ (ks : List Sent). sum_by slot_of_sent (drop index ks)) k.kept
+    ∙ (ap (sum_by slot_of_sent) (drop-drop index w.first (sent past)) ∙ ap (λ (n : ℕ). sum_by slot_of_sent (drop n (sent past))) (sym place_is))
+
+-- an event that is due and in the way is kept, has to go, and is owed
+record IsHeld (w : Window) (e : Event) (client place : ℕ) : Type 0 where
+  pub index : ℕ
+  pub sent : Sent
+  pub reader : Client
+  pub place_is : place ≡ w.first + index
+  pub in_front : slice_get (take (gone_of w e) w.kept) index ≡ Some sent
+  pub lives : slot_at w.clients client ≡ Some reader
+  pub owed : owes place sent.event reader ≡ true
+
+held : (size : ℕ) (past : List (ℕ × BufferEntry)) → WasLegal size past → (e : Event) (client place : ℕ) → IsDue past client place → IsTooMuch size past place e → slot_size e ≤ (window_at size past).size → IsHeld (window_at size past) e client place
+held size past was e client place due much fits =
+    let w : Window = window_at size past in
+    let k : IsLinked size past = linked size past was in
+    let alive = followed w.first (sent past) (request_at past client) (slot_at w.clients client) (life_at past client) due.life (k.clients client) due.lives in
+    let f : Follows w.first (sent past) (request_at past client) alive.0 due.life = alive.2 in
+    let behind : w.first ≤ place =
+    ⊎_elim
+    (λ (gone : place < w.first).
+    let had : IsIn place due.life.places = f.complete place due.number due.request due.event due.wanted.lives due.wanted.since due.wanted.is_sent due.wanted.matched due.all (omega (arith, gone, f.next)) in
+    absurd (omega (arith, f.rises place had, due.ahead)))
+    (λ (there : w.first ≤ place). there)
+    (cases_lt place w.first) in
+    let place_is : place ≡ w.first + (place - w.first) = omega (arith, behind) in
+    let kept : slice_get w.kept (place - w.first) ≡ Some due.event =
+    ap (λ (ks : List Sent). slice_get ks (place - w.first)) k.kept ∙ (get_drop w.first (sent past) (place - w.first) place place_is ∙ due.wanted.is_sent) in
+    let front : place - w.first < gone_of w e =
+    goes_much slot_of_sent w.size (slot_size e) w.kept (place - w.first) fits (omega (arith, much, k.size_is, kept_sum size past k (place - w.first) place place_is)) in
+    let next : alive.0.next ≤ place = omega (arith, f.next, behind, due.ahead) in
+    record {
+      index = place - w.first;
+      sent = due.event;
+      reader = alive.0;
+      place_is = place_is;
+      in_front = get_take (gone_of w e) w.kept (place - w.first) front ∙ kept;
+      lives = alive.1;
+      owed = owes_true place due.event.event alive.0 due.number due.request next (f.asks due.number ∙ due.wanted.lives) due.wanted.since due.wanted.matched due.all;
+    }
+
+has_way : (size : ℕ) (past : List (ℕ × BufferEntry)) → WasLegal size past → (stated : ℕ) (e : Event) (n : ℕ) → IsAdmitted (window_at size past) stated e n → HasWay size past e
+has_way size past was stated e n is client place due much =
+    let w : Window = window_at size past in
+    let it : IsHeld w e client place = held size past was e client place due much is.taken.sendable.fits in
+    let none : first_slot (owes place it.sent.event) w.clients ≡ None = not_owed w.clients w.first (take (gone_of w e) w.kept) is.free it.index place it.sent it.place_is it.in_front in
+    let failed : owes place it.sent.event it.reader ≡ false = none_found (owes place it.sent.event) w.clients none client it.reader it.lives in
+    cc (failed, it.owed)
+
+in_the_way : (size : ℕ) (past : List (ℕ × BufferEntry)) → WasLegal size past → (e : Event) (client place : ℕ) → IsHeldUp (window_at size past) e client place → IsInTheWay size past e client place
+in_the_way size past was e client place is =
+    let w : Window = window_at size past in
+    let k : IsLinked size past = linked size past was in
+    let gone : ℕ = gone_of w e in
+    let it : IsFirstOwed w.clients w.first (take gone w.kept) client place = owed w.clients w.first (take gone w.kept) client place is.owed in
+    let to : IsFirst (owes place it.sent.event) w.clients client = first_found (owes place it.sent.event) w.clients client it.to in
+    let alive = living w.first (sent past) (request_at past client) (slot_at w.clients client) (life_at past client) to.member (k.clients client) to.is in
+    let f : Follows w.first (sent past) (request_at past client) to.member alive.0 = alive.2 in
+    let kept = get_taken gone w.kept it.index it.sent it.is in
+    let is_sent : slice_get (sent past) place ≡ Some it.sent =
+    sym (get_drop w.first (sent past) it.index place it.place_is) ∙ (ap (λ (ks : List Sent). slice_get ks it.index) (sym k.kept) ∙ kept.1) in
+    let by = owed_by place it.sent.event to.member to.passes_it in
+    let much : IsTooMuch size past place e =
+    omega (arith, goes slot_of_sent w.size (slot_size e) w.kept it.index kept.0, k.size_is, kept_sum size past k it.index place it.place_is) in
+    record {
+      due = record {
+        life = alive.0;
+        number = by.0;
+        request = by.1;
+        event = it.sent;
+        lives = alive.1;
+        ahead = omega (arith, f.next, owes_next place it.sent.event to.member to.passes_it);
+        wanted = record { lives = sym (f.asks by.0) ∙ by.2; since = by.3; is_sent = is_sent; matched = by.4 };
+        all = by.5;
+      };
+      too_much = much;
+      least_place = λ c q due too_much.
+          ⊎_elim
+          (λ (less : q < place).
+          let other : IsHeld w e c q = held size past was e c q due too_much is.fits in
+          let none : first_slot (owes q other.sent.event) w.clients ≡ None = it.least other.index q other.sent other.place_is other.in_front less in
+          let failed : owes q other.sent.event other.reader ≡ false = none_found (owes q other.sent.event) w.clients none c other.reader other.lives in
+          absurd (cc (failed, other.owed)))
+          (λ (more : place ≤ q). more)
+          (cases_lt q place);
+      least_client = λ c due.
+          ⊎_elim
+          (λ (less : c < client).
+          let other : IsHeld w e c place = held size past was e c place due much is.fits in
+          let index_is : other.index ≡ it.index = omega (arith, other.place_is, it.place_is) in
+          let there : slice_get (take gone w.kept) it.index ≡ Some other.sent = subst (λ (i : ℕ). slice_get (take gone w.kept) i ≡ Some other.sent) index_is other.in_front in
+          let same : other.sent ≡ it.sent = cc (there, it.is) in
+          let failed : owes place it.sent.event other.reader ≡ false = to.before c other.reader less other.lives in
+          let hit : owes place it.sent.event other.reader ≡ true = subst (λ (s : Sent). owes place s.event other.reader ≡ true) same other.owed in
+          absurd (cc (failed, hit)))
+          (λ (more : client ≤ c). more)
+          (cases_lt c client);
+    }
+
+-- The whole.
+
+bounded : (size : ℕ) (past : List (ℕ × BufferEntry)) → WasLegal size past → IsBounded past
+bounded size past was client life lives =
+    let w : Window = window_at size past in
+    let k : IsLinked size past = linked size past was in
+    let alive = followed w.first (sent past) (request_at past client) (slot_at w.clients client) (life_at past client) life (k.clients client) lives in
+    omega (arith, alive.2.paid, sum_by-take-le slot_of_sent (sent past) (got_end life.places), k.total, (is_window_at size past was).spent)
+
+right : (size : ℕ) (past : List (ℕ × BufferEntry)) → WasLegal size past → (e : BufferEntry) → IsReply (window_at size past) e → IsRight size past e
+right size past was (Receive client room (Got place start)) reply = right_got size past was client room place start reply
+right size past was (Receive client room (Empty gate last)) reply = right_empty size past was client room gate last reply
+right size past was (Send stated e (Ok n)) reply = has_way size past was stated e n (admitted (window_at size past) stated e n (sym reply))
+right size past was (Send stated e (Err (Full client place))) reply = in_the_way size past was e client place (held_up (window_at size past) stated e client place (sym reply))
+right size past was (SendInRun start stated e (Ok n)) reply = has_way size past was stated e n (run_admitted (window_at size past) start stated e n (sym reply)).1
+right size past was (SendInRun start stated e (Err (Full client place))) reply = in_the_way size past was e client place (run_held_up (window_at size past) start stated e client place (sym reply))
+right size past was entry reply = tt
+
+pub delivered : (size : ℕ) (past : List (ℕ × BufferEntry)) → WasLegal size past → IsDelivered size past
+delivered size [] was = tt
+delivered size (e ∷ past) was = (right size past was.1 e.1 was.0, bounded size (e ∷ past) was, delivered size past was.1)
+
+pub history_delivers : (size : ℕ) (h : List (ℕ × BufferEntry)) → IsLegal (opening size) h → Delivers size h
+history_delivers size h legal = delivered size (past_of h) (legal_after size [] h tt legal)
