@@ -12,3 +12,10 @@ pub mod HistoryLaws
 pub mod Points
 pub mod Delivered
 pub mod Runs
+pub mod Journals
+pub mod JournalViews
+pub mod JournalLaws
+pub mod Ports
+pub mod Ported
+pub mod PortLaws
+pub mod GotLaws

@@ -133,7 +133,7 @@ begin_later (Paused s) last start accepted n ok = absurd (cc)
 marked : (right : Bool) (w : Window) (n : ℕ) → Ok n ≡ mark_reply right w → right ≡ true
 marked right w n ok = (passes right (WrongGate w.gate) (Ok (accepted_of w)) n (sym ok)).0
 
-found_got : (gate : RunGate) (last room : ℕ) (found : Option (ℕ × Sent)) (place start : ℕ) → Got place start ≡ found_reply gate last room found → (s : Sent) × (found ≡ Some (place, s))
+pub found_got : (gate : RunGate) (last room : ℕ) (found : Option (ℕ × Sent)) (place start : ℕ) → Got place start ≡ found_reply gate last room found → (s : Sent) × (found ≡ Some (place, s))
 found_got gate last room None place start e = absurd (cc)
 found_got gate last room (Some f) place start e =
     split (nat_le (length f.1.event.body) room) (λ b. Got place start ≡ (if b then Got f.0 f.1.start else SmallBuf (length f.1.event.body)) → (s : Sent) × (Some f ≡ Some (place, s)))

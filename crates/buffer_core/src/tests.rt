@@ -1,10 +1,14 @@
+ghost use Rattle.std.specs.Prelude.{◌≤◌};
+
 use crate::{
-    EventBuffer, MarkRefusal, NoClient, NoSlot, PlainBuffer, Received, RequestRefusal, RunGate,
-    SendRefusal,
+    BufferPort, EventBuffer, LocalPort, MarkRefusal, NoClient, NoSlot, PlainBuffer, Received,
+    RequestRefusal, RunGate, SendRefusal,
 };
-use daq_types::{Kind, Name};
+use daq_types::{Kind, Name, NoMemory};
 use event_header::{EventBuf, Header};
+use std::alloc::Global;
 use std::process::Abort;
+use std::sync::Wait;
 use std::test::Fail;
 
 /// A call with the reply that it must get.
@@ -102,10 +106,14 @@ fn name(rt: &impl Abort) -> Name {
     Name::new(b"ANA").expect(rt, "a name")
 }
 
-fn run_all<R: Abort + AllocGlobal>(rt: &R, steps: &[Step]) -> Result<(), Fail> {
-    let mut buffer = PlainBuffer::new(rt.alloc(), 256)?;
+/// Makes the calls on a new buffer of 256 bytes, and compares their replies.
+fn run_all<R: Abort + AllocGlobal, B: EventBuffer>(
+    rt: &R,
+    buffer: &mut B,
+    steps: &[Step],
+) -> Result<(), Fail> {
     for step in steps {
-        run_step(rt, &mut buffer, *step)?;
+        run_step(rt, buffer, *step)?;
     }
     Ok(())
 }
@@ -147,11 +155,6 @@ const MUST_GET: [Step; 15] = [
     Accepted(9),
 ];
 
-#[test]
-fn a_must_get_client_holds_back_sends(rt: HostRuntime) -> Result<(), Fail> {
-    run_all(&rt, &MUST_GET)
-}
-
 const PUSHED: [Step; 12] = [
     Attach(Ok(0)),
     Request(0, 1, ANY, NonBlocking, Ok(0)),
@@ -166,11 +169,6 @@ const PUSHED: [Step; 12] = [
     Send(1, 0, 8, Ok(8)),
     Receive(0, Received::Got { place: 1, start: 0 }),
 ];
-
-#[test]
-fn a_client_that_need_not_get_all_is_pushed(rt: HostRuntime) -> Result<(), Fail> {
-    run_all(&rt, &PUSHED)
-}
 
 const NOT_OWED: [Step; 12] = [
     Attach(Ok(0)),
@@ -195,11 +193,6 @@ const NOT_OWED: [Step; 12] = [
     ),
 ];
 
-#[test]
-fn events_that_nobody_is_owed_are_dropped(rt: HostRuntime) -> Result<(), Fail> {
-    run_all(&rt, &NOT_OWED)
-}
-
 const REFUSED: [Step; 8] = [
     Send(
         1,
@@ -222,11 +215,6 @@ const REFUSED: [Step; 8] = [
     Level(256),
 ];
 
-#[test]
-fn events_that_are_no_good_are_refused(rt: HostRuntime) -> Result<(), Fail> {
-    run_all(&rt, &REFUSED)
-}
-
 const SMALL_ROOM: [Step; 10] = [
     Attach(Ok(0)),
     Request(0, ANY, ANY, All, Ok(0)),
@@ -239,11 +227,6 @@ const SMALL_ROOM: [Step; 10] = [
     Receive(0, Received::Got { place: 2, start: 0 }),
     Receive(0, NOTHING),
 ];
-
-#[test]
-fn a_small_room_leaves_the_event(rt: HostRuntime) -> Result<(), Fail> {
-    run_all(&rt, &SMALL_ROOM)
-}
 
 const MATCHED: [Step; 13] = [
     Attach(Ok(0)),
@@ -261,11 +244,6 @@ const MATCHED: [Step; 13] = [
     Receive(3, Received::NoClient),
 ];
 
-#[test]
-fn requests_match_by_id_and_mask(rt: HostRuntime) -> Result<(), Fail> {
-    run_all(&rt, &MATCHED)
-}
-
 const CANCELLED: [Step; 10] = [
     Attach(Ok(0)),
     Request(0, 1, ANY, All, Ok(0)),
@@ -278,36 +256,6 @@ const CANCELLED: [Step; 10] = [
     Cancel(1, 0, Err(RequestRefusal::NoClient)),
     Receive(0, NOTHING),
 ];
-
-#[test]
-fn a_cancelled_request_asks_no_more(rt: HostRuntime) -> Result<(), Fail> {
-    run_all(&rt, &CANCELLED)
-}
-
-#[test]
-fn numbers_of_clients_and_requests_are_used_again(rt: HostRuntime) -> Result<(), Fail> {
-    let mut buffer = PlainBuffer::new(rt.alloc(), 256)?;
-    for client in 0..64 {
-        assert_eq!(rt; buffer.attach(name(&rt)), Ok(client));
-    }
-    assert_eq!(rt; buffer.attach(name(&rt)), Err(NoSlot));
-    for request in 0..10 {
-        assert_eq!(rt; buffer.request(7, 1, ANY, All), Ok(request));
-    }
-    for step in [
-        Request(7, 1, ANY, All, Err(RequestRefusal::NoRequestSlot)),
-        Cancel(7, 3, Ok(())),
-        Request(7, 1, ANY, All, Ok(3)),
-        Detach(5, Ok(())),
-        Detach(5, Err(NoClient)),
-        Request(5, 1, ANY, All, Err(RequestRefusal::NoClient)),
-        Attach(Ok(5)),
-        Request(5, 1, ANY, All, Ok(0)),
-    ] {
-        run_step(&rt, &mut buffer, step)?;
-    }
-    Ok(())
-}
 
 const GATED: [Step; 14] = [
     Begin(1, Ok(0)),
@@ -351,16 +299,58 @@ const GATED: [Step; 14] = [
     ),
 ];
 
-#[test]
-fn the_gate_lets_one_run_in(rt: HostRuntime) -> Result<(), Fail> {
-    run_all(&rt, &GATED)
+/// What events a buffer holds back and gives, and which calls it refuses.
+const ROWS: [&[Step]; 8] = [
+    // A client that must get all events holds back sends.
+    &MUST_GET,
+    // A client that need not get them is pushed.
+    &PUSHED,
+    // Events that nobody is owed are dropped.
+    &NOT_OWED,
+    // Events that are no good are refused.
+    &REFUSED,
+    // A small room leaves the event where it is.
+    &SMALL_ROOM,
+    // Requests match by id and mask.
+    &MATCHED,
+    // A cancelled request asks no more.
+    &CANCELLED,
+    // The gate lets one run in.
+    &GATED,
+];
+
+fn use_numbers_again<R: Abort + AllocGlobal, B: EventBuffer>(
+    rt: &R,
+    buffer: &mut B,
+) -> Result<(), Fail> {
+    for client in 0..64 {
+        assert_eq!(rt; buffer.attach(name(rt)), Ok(client));
+    }
+    assert_eq!(rt; buffer.attach(name(rt)), Err(NoSlot));
+    for request in 0..10 {
+        assert_eq!(rt; buffer.request(7, 1, ANY, All), Ok(request));
+    }
+    for step in [
+        Request(7, 1, ANY, All, Err(RequestRefusal::NoRequestSlot)),
+        Cancel(7, 3, Ok(())),
+        Request(7, 1, ANY, All, Ok(3)),
+        Detach(5, Ok(())),
+        Detach(5, Err(NoClient)),
+        Request(5, 1, ANY, All, Err(RequestRefusal::NoClient)),
+        Attach(Ok(5)),
+        Request(5, 1, ANY, All, Ok(0)),
+    ] {
+        run_step(rt, buffer, step)?;
+    }
+    Ok(())
 }
 
-#[test]
-fn what_comes_out_is_what_went_in(rt: HostRuntime) -> Result<(), Fail> {
-    let mut buffer = PlainBuffer::new(rt.alloc(), 256)?;
+fn give_what_was_sent<R: Abort + AllocGlobal, B: EventBuffer>(
+    rt: &R,
+    buffer: &mut B,
+) -> Result<(), Fail> {
     let mut into = EventBuf::new(rt.alloc(), 8)?;
-    assert_eq!(rt; buffer.attach(name(&rt)), Ok(0));
+    assert_eq!(rt; buffer.attach(name(rt)), Ok(0));
     assert_eq!(rt; buffer.request(0, ANY, ANY, All), Ok(0));
     assert_eq!(rt; buffer.begin(4), Ok(0));
     assert_eq!(rt; buffer.send(&header(1, 3, 8), &[7; 8]), Ok(0));
@@ -374,5 +364,92 @@ fn what_comes_out_is_what_went_in(rt: HostRuntime) -> Result<(), Fail> {
     );
     assert_eq!(rt; into.header(), header(2, 5, 3));
     assert_eq!(rt; into.body(), [1, 2, 3].as_slice());
+    Ok(())
+}
+
+#[test]
+fn a_plain_buffer_replies_by_the_rows(rt: HostRuntime) -> Result<(), Fail> {
+    for steps in ROWS {
+        let mut buffer = PlainBuffer::new(rt.alloc(), 256)?;
+        run_all(&rt, &mut buffer, steps)?;
+    }
+    use_numbers_again(&rt, &mut PlainBuffer::new(rt.alloc(), 256)?)?;
+    give_what_was_sent(&rt, &mut PlainBuffer::new(rt.alloc(), 256)?)
+}
+
+/// Makes the call by a port and compares its reply.
+fn run_port_step<R: Abort + AllocGlobal + Wait, P: BufferPort>(
+    rt: &R,
+    port: &mut P,
+    step: Step,
+) -> Result<(), Fail>
+    requires room { 1 ≤ (P.access port.old).entries }
+    requires bytes { 233 ≤ (P.access port.old).bytes }
+{
+    match step {
+        Attach(reply) => assert_eq!(rt; port.attach(rt, name(rt)), reply),
+        Detach(client, reply) => assert_eq!(rt; port.detach(rt, client), reply),
+        Request(client, id, mask, kind, reply) => assert_eq!(rt;
+            port.request(rt, client, id, mask, kind),
+            reply
+        ),
+        Cancel(client, request, reply) => assert_eq!(rt; port.cancel(rt, client, request), reply),
+        Send(id, mask, size, reply) => {
+            assert!(rt; size <= DATA.len());
+            let header = header(id, mask, size as u32);
+            assert_eq!(rt; port.send(rt, &header, &DATA[..size]), reply);
+        }
+        SendShort(reply) => assert_eq!(rt; port.send(rt, &header(1, 0, 8), &DATA[..7]), reply),
+        SendInRun(start, reply) => assert_eq!(rt;
+            port.send_in_run(rt, start, &header(1, 0, 24), &DATA[..24]),
+            reply
+        ),
+        Receive(client, reply) => {
+            let mut into = EventBuf::new(rt.alloc(), 233)?;
+            assert_eq!(rt; port.receive(rt, client, &mut into), reply);
+        }
+        ReceiveInto(client, room, reply) => {
+            let mut into = EventBuf::new(rt.alloc(), room)?;
+            assert_eq!(rt; port.receive(rt, client, &mut into), reply);
+        }
+        Begin(start, reply) => assert_eq!(rt; port.begin(rt, start), reply),
+        Pause(start, reply) => assert_eq!(rt; port.pause(rt, start), reply),
+        Resume(start, reply) => assert_eq!(rt; port.resume(rt, start), reply),
+        End(start, reply) => assert_eq!(rt; port.end(rt, start), reply),
+        Level(level) => assert_eq!(rt; port.level(rt), level),
+        Accepted(accepted) => assert_eq!(rt; port.accepted(rt), accepted),
+    }
+    Ok(())
+}
+
+/// A port to a new buffer of 256 bytes.
+#[tactic(auto, using(crate::specs::WindowKept::window_opens))]
+fn new_port(alloc: Global) -> Result<LocalPort<PlainBuffer>, NoMemory> {
+    let mut port = LocalPort::new(alloc, PlainBuffer::new(alloc, 256)?);
+    port.set_caller(3);
+    Ok(port)
+}
+
+#[test]
+fn a_port_replies_by_the_rows(rt: HostRuntime) -> Result<(), Fail> {
+    for steps in ROWS {
+        let mut port = new_port(rt.alloc())?;
+        for step in steps {
+            port.reserve(1, 233)?;
+            run_port_step(&rt, &mut port, *step)?;
+        }
+        let (_, journal) = port.into_parts();
+        assert_eq!(rt; journal.len(), steps.len());
+    }
+    Ok(())
+}
+
+#[test]
+fn a_port_detaches_clients(rt: HostRuntime) -> Result<(), Fail> {
+    let mut port = new_port(rt.alloc())?;
+    for step in [Attach(Ok(0)), Detach(0, Ok(())), Detach(0, Err(NoClient))] {
+        port.reserve(1, 233)?;
+        run_port_step(&rt, &mut port, step)?;
+    }
     Ok(())
 }

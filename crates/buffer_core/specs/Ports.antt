@@ -1,0 +1,73 @@
+-- What a port to a buffer tells of its caller's own calls.
+use Rattle.std.specs.Prelude.{◌≡◌, ℕ, ◌+◌, ◌≤◌, ◌<◌, ◌==◌, ◌&&◌, nat_le, Bool, true, false, if◌then◌else◌, List, [], ◌∷◌, ◌++◌, length, Option, Some, None, ⊤}
+use Rattle.daq_types.specs.declared.events.Event.{Event}
+use Rattle.daq_model.specs.Events.{slot_size, is_reserved, event_limit}
+use Rattle.buffer_core.specs.declared.replies.SendRefusal.{SendRefusal}
+use Rattle.buffer_core.specs.declared.replies.SendRefusal.TheVariants.{NotRunning, BadSize, ReservedId, TooLarge, Spent, Full}
+use Rattle.buffer_core.specs.declared.replies.Received.{Received}
+use Rattle.buffer_core.specs.declared.replies.Received.TheVariants.{Got, Empty, NoClient, SmallBuf}
+use Rattle.buffer_core.specs.declared.entry.BufferEntry.{BufferEntry}
+use Rattle.buffer_core.specs.declared.entry.BufferEntry.TheVariants.{Receive}
+use Rattle.buffer_core.specs.Journals.{data_of}
+
+-- one caller's access to a buffer: the caller's number; the buffer's size; the caller's own calls with their replies, in
+-- order; the events that its clients got by them, each with the client's number, in order; and room for so many calls more,
+-- which hand over so many bytes of data
+pub record Access : Type 0 where
+  pub caller : ℕ
+  pub size : ℕ
+  pub own : List BufferEntry
+  pub got : List (ℕ × Event)
+  pub entries : ℕ
+  pub bytes : ℕ
+
+-- one call more, after which the clients have got these events
+pub record Called (a b : Access) (entry : BufferEntry) (got : List (ℕ × Event)) : Type 0 where
+  pub caller : b.caller ≡ a.caller
+  pub size : b.size ≡ a.size
+  pub own : b.own ≡ a.own ++ entry ∷ []
+  pub got_is : b.got ≡ got
+  pub entries : a.entries ≤ b.entries + 1
+  pub bytes : a.bytes ≤ b.bytes + data_of entry
+
+-- a call that gives no event
+abbrev pub Calls : Access → Access → BufferEntry → Type 0
+Calls a b entry = Called a b entry a.got
+
+-- the events got, once a receive of this client gave this reply and this event
+abbrev pub got_after : List (ℕ × Event) → (client : ℕ) → Received → Event → List (ℕ × Event)
+got_after got client (Got place start) e = got ++ (client, e) ∷ []
+got_after got client reply e = got
+
+-- a receive, after which the receiver holds this event
+abbrev pub Receives : Access → Access → (client room : ℕ) → Received → Event → Type 0
+Receives a b client room reply held = Called a b (Receive client room reply) (got_after a.got client reply held)
+
+-- the slots of the events that the client of this number got
+abbrev pub slots_got : (client : ℕ) → List (ℕ × Event) → ℕ
+slots_got client [] = 0
+slots_got client (g ∷ gs) = (if g.0 == client then slot_size g.1 else 0) + slots_got client gs
+
+-- an event that a buffer may give
+pub record IsGiven (e : Event) : Type 0 where
+  pub small : length e.body ≤ event_limit
+  pub free : is_reserved e.id ≡ false
+
+-- where the receive gave an event, it is this, and a buffer may give it
+abbrev pub GivesSound : Received → Event → Type 0
+GivesSound (Got place start) e = IsGiven e
+GivesSound reply e = ⊤
+
+-- the receive found an event that had too much data
+abbrev pub IsSmallBuf : Received → Type 0
+IsSmallBuf (SmallBuf need) = ⊤
+IsSmallBuf reply = ⊥
+
+-- a refusal of this event by a buffer of this size, as far as event and size decide
+abbrev pub IsSendFault : (size stated : ℕ) → Event → SendRefusal → Type 0
+IsSendFault size stated e (NotRunning gate) = ⊤
+IsSendFault size stated e (BadSize s given) = (s ≡ stated) × (given ≡ length e.body) × (((stated == length e.body) && nat_le stated event_limit) ≡ false)
+IsSendFault size stated e (ReservedId id) = (id ≡ e.id) × (is_reserved e.id ≡ true)
+IsSendFault size stated e (TooLarge slot whole) = (slot ≡ slot_size e) × (whole ≡ size) × (size < slot_size e)
+IsSendFault size stated e (Spent total) = ⊤
+IsSendFault size stated e (Full client place) = ⊤

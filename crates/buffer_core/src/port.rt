@@ -1,0 +1,182 @@
+ghost use Rattle.std.specs.Prelude.{◌≡◌, ◌-◌, ◌^◌, ◌≤◌, ℕ, length, min, IfErr};
+ghost use Rattle.daq_model.specs.Events.{event_limit};
+ghost use Rattle.event_header.specs.Headers.{event_of};
+ghost use Rattle.buffer_core.specs.declared.entry.BufferEntry.TheVariants.{Attach, Detach, Request, Cancel, Send, SendInRun, Receive, Begin, Pause, Resume, End, Level, Accepted};
+ghost use Rattle.buffer_core.specs.Ports.{Calls, Receives, GivesSound, IsSmallBuf, IsSendFault, slots_got};
+
+use crate::buffer::EventBuffer;
+use crate::local::LocalPort;
+use crate::replies::{MarkRefusal, NoClient, NoSlot, Received, RequestRefusal, SendRefusal};
+use daq_types::{Kind, Name};
+use event_header::{EventBuf, Header};
+use std::sync::Wait;
+
+/// One caller's access to a buffer, by the calls of `EventBuffer`. Each is noted as one call of the caller. There has to
+/// be room to note it, and room for the data that it hands over.
+pub trait BufferPort {
+    ghost use Rattle.buffer_core.specs.Ports.{Access};
+
+    ghost access: { Self → Access };
+
+    /// As `EventBuffer::attach`.
+    fn attach<R: Wait>(&mut self, rt: &R, name: Name) -> Result<u32, NoSlot>
+        requires room { 1 ≤ (access self.old).entries }
+        ensures { Calls (access self.old) (access self.new) (Attach name result) };
+
+    /// As `EventBuffer::detach`.
+    fn detach<R: Wait>(&mut self, rt: &R, client: u32) -> Result<(), NoClient>
+        requires room { 1 ≤ (access self.old).entries }
+        ensures { Calls (access self.old) (access self.new) (Detach client result) };
+
+    /// As `EventBuffer::request`.
+    fn request<R: Wait>(
+        &mut self,
+        rt: &R,
+        client: u32,
+        id: u16,
+        mask: u16,
+        kind: Kind,
+    ) -> Result<u32, RequestRefusal>
+        requires room { 1 ≤ (access self.old).entries }
+        ensures { Calls (access self.old) (access self.new) (Request client id mask kind result) };
+
+    /// As `EventBuffer::cancel`.
+    fn cancel<R: Wait>(&mut self, rt: &R, client: u32, request: u32) -> Result<(), RequestRefusal>
+        requires room { 1 ≤ (access self.old).entries }
+        ensures { Calls (access self.old) (access self.new) (Cancel client request result) };
+
+    /// As `EventBuffer::send`.
+    fn send<R: Wait>(&mut self, rt: &R, header: &Header, body: &[u8]) -> Result<u64, SendRefusal>
+        requires room { 1 ≤ (access self.old).entries }
+        requires bytes { length body.now ≤ (access self.old).bytes }
+        ensures called { Calls (access self.old) (access self.new) (Send header.now.data_size (event_of header.now body.now) result) }
+        ensures refused { IfErr result (IsSendFault (access self.old).size header.now.data_size (event_of header.now body.now)) };
+
+    /// As `EventBuffer::send_in_run`.
+    fn send_in_run<R: Wait>(
+        &mut self,
+        rt: &R,
+        start: u32,
+        header: &Header,
+        body: &[u8],
+    ) -> Result<u64, SendRefusal>
+        requires room { 1 ≤ (access self.old).entries }
+        requires bytes { length body.now ≤ (access self.old).bytes }
+        ensures called { Calls (access self.old) (access self.new) (SendInRun start header.now.data_size (event_of header.now body.now) result) }
+        ensures refused { IfErr result (IsSendFault (access self.old).size header.now.data_size (event_of header.now body.now)) };
+
+    /// As `EventBuffer::receive`.
+    fn receive<R: Wait>(&mut self, rt: &R, client: u32, into: &mut EventBuf) -> Received
+        requires room { 1 ≤ (access self.old).entries }
+        ensures called { Receives (access self.old) (access self.new) client into.old.room result into.new.event }
+        ensures room { into.new.room ≡ into.old.room }
+        ensures whole { min event_limit ((access self.old).size - 24) ≤ into.old.room → ¬ (IsSmallBuf result) }
+        ensures sound { GivesSound result into.new.event }
+        ensures few { (number : ℕ) → slots_got number (access self.new).got ≤ 2 ^ 62 };
+
+    /// As `EventBuffer::begin`.
+    fn begin<R: Wait>(&mut self, rt: &R, start: u32) -> Result<u64, MarkRefusal>
+        requires room { 1 ≤ (access self.old).entries }
+        ensures { Calls (access self.old) (access self.new) (Begin start result) };
+
+    /// As `EventBuffer::pause`.
+    fn pause<R: Wait>(&mut self, rt: &R, start: u32) -> Result<u64, MarkRefusal>
+        requires room { 1 ≤ (access self.old).entries }
+        ensures { Calls (access self.old) (access self.new) (Pause start result) };
+
+    /// As `EventBuffer::resume`.
+    fn resume<R: Wait>(&mut self, rt: &R, start: u32) -> Result<u64, MarkRefusal>
+        requires room { 1 ≤ (access self.old).entries }
+        ensures { Calls (access self.old) (access self.new) (Resume start result) };
+
+    /// As `EventBuffer::end`.
+    fn end<R: Wait>(&mut self, rt: &R, start: u32) -> Result<u64, MarkRefusal>
+        requires room { 1 ≤ (access self.old).entries }
+        ensures { Calls (access self.old) (access self.new) (End start result) };
+
+    /// As `EventBuffer::level`.
+    fn level<R: Wait>(&mut self, rt: &R) -> u64
+        requires room { 1 ≤ (access self.old).entries }
+        ensures { Calls (access self.old) (access self.new) (Level result) };
+
+    /// As `EventBuffer::accepted`.
+    fn accepted<R: Wait>(&mut self, rt: &R) -> u64
+        requires room { 1 ≤ (access self.old).entries }
+        ensures { Calls (access self.old) (access self.new) (Accepted result) };
+}
+
+impl<B: EventBuffer> BufferPort for LocalPort<B> {
+    ghost use Rattle.buffer_core.specs.Ported.{access_of};
+
+    ghost access = { access_of };
+
+    fn attach<R: Wait>(&mut self, _rt: &R, name: Name) -> Result<u32, NoSlot> {
+        LocalPort::attach(self, name)
+    }
+
+    fn detach<R: Wait>(&mut self, _rt: &R, client: u32) -> Result<(), NoClient> {
+        LocalPort::detach(self, client)
+    }
+
+    fn request<R: Wait>(
+        &mut self,
+        _rt: &R,
+        client: u32,
+        id: u16,
+        mask: u16,
+        kind: Kind,
+    ) -> Result<u32, RequestRefusal> {
+        LocalPort::request(self, client, id, mask, kind)
+    }
+
+    fn cancel<R: Wait>(
+        &mut self,
+        _rt: &R,
+        client: u32,
+        request: u32,
+    ) -> Result<(), RequestRefusal> {
+        LocalPort::cancel(self, client, request)
+    }
+
+    fn send<R: Wait>(&mut self, _rt: &R, header: &Header, body: &[u8]) -> Result<u64, SendRefusal> {
+        LocalPort::send(self, header, body)
+    }
+
+    fn send_in_run<R: Wait>(
+        &mut self,
+        _rt: &R,
+        start: u32,
+        header: &Header,
+        body: &[u8],
+    ) -> Result<u64, SendRefusal> {
+        LocalPort::send_in_run(self, start, header, body)
+    }
+
+    fn receive<R: Wait>(&mut self, _rt: &R, client: u32, into: &mut EventBuf) -> Received {
+        LocalPort::receive(self, client, into)
+    }
+
+    fn begin<R: Wait>(&mut self, _rt: &R, start: u32) -> Result<u64, MarkRefusal> {
+        LocalPort::begin(self, start)
+    }
+
+    fn pause<R: Wait>(&mut self, _rt: &R, start: u32) -> Result<u64, MarkRefusal> {
+        LocalPort::pause(self, start)
+    }
+
+    fn resume<R: Wait>(&mut self, _rt: &R, start: u32) -> Result<u64, MarkRefusal> {
+        LocalPort::resume(self, start)
+    }
+
+    fn end<R: Wait>(&mut self, _rt: &R, start: u32) -> Result<u64, MarkRefusal> {
+        LocalPort::end(self, start)
+    }
+
+    fn level<R: Wait>(&mut self, _rt: &R) -> u64 {
+        LocalPort::level(self)
+    }
+
+    fn accepted<R: Wait>(&mut self, _rt: &R) -> u64 {
+        LocalPort::accepted(self)
+    }
+}
