@@ -47,7 +47,7 @@ living first ss asked (Some d) (Some l) c k e =
 
 -- Receives.
 
-got_client : (w : Window) (room place start : ℕ) (o : Option Client) → Got place start ≡ receive_reply_to w room o → (c : Client) × (s : Sent) × (o ≡ Some c) × IsFound c w.first w.kept place s × (s.start ≡ start)
+pub got_client : (w : Window) (room place start : ℕ) (o : Option Client) → Got place start ≡ receive_reply_to w room o → (c : Client) × (s : Sent) × (o ≡ Some c) × IsFound c w.first w.kept place s × (s.start ≡ start)
 got_client w room place start None e = absurd (cc)
 got_client w room place start (Some c) e =
     let got = got_reply w.gate w.last room (found_in c w.first w.kept) place start e in
@@ -65,7 +65,7 @@ all_below past client to life lives all l q n r s lives' wanted is_all less =
     let same : life ≡ l = cc (lives, lives') in
     subst (λ (x : Life). IsIn q x.places) same (all q n r s wanted.lives wanted.since wanted.is_sent wanted.matched is_all less)
 
-right_got : (size : ℕ) (past : List (ℕ × BufferEntry)) → WasLegal size past → (client room place start : ℕ) → IsReply (window_at size past) (Receive client room (Got place start)) → IsRightGot past client place start × HasAllBelow past client place
+pub right_got : (size : ℕ) (past : List (ℕ × BufferEntry)) → WasLegal size past → (client room place start : ℕ) → IsReply (window_at size past) (Receive client room (Got place start)) → IsRightGot past client place start × HasAllBelow past client place
 right_got size past was client room place start reply =
     let w : Window = window_at size past in
     let k : IsLinked size past = linked size past was in

@@ -11,3 +11,6 @@ pub mod Linked
 pub mod Delivering
 pub mod Segments
 pub mod Ordering
+pub mod Continuing
+pub mod Rising
+pub mod Reading

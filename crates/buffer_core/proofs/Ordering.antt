@@ -1,5 +1,5 @@
 -- The events of each run stand between its marks.
-use Rattle.std.specs.Prelude.{◌≡◌, ◌≢◌, ℕ, ◌+◌, ◌<◌, ◌≤◌, ◌==◌, Bool, true, false, if◌then◌else◌, List, [], ◌∷◌, ◌++◌, length, slice_get, Option, Some, None, Ok, Err, refl, ◌⊎◌}
+use Rattle.std.specs.Prelude.{◌≡◌, ◌≢◌, ℕ, ◌+◌, ◌<◌, ◌≤◌, ◌==◌, Bool, true, false, if◌then◌else◌, List, [], ◌∷◌, ◌++◌, length, slice_get, Option, Some, None, Ok, Err, refl, ⊤, ◌⊎◌}
 use Rattle.std.proofs.Common.{ap, sym, ◌∙◌, subst, arith, inl, inr, eq-eqb}
 use Rattle.std.proofs.Math.Logic.{⊎_elim}
 use Rattle.std.proofs.lemmas.Bool.{eqb-true, eqb-false, ne_eqb}
@@ -14,7 +14,7 @@ use Rattle.buffer_core.specs.Calls.{IsReply, window_after, is_running, is_paused
 use Rattle.buffer_core.specs.Histories.{IsLegal}
 use Rattle.buffer_core.specs.SlotLaws.{split}
 use Rattle.buffer_core.specs.Points.{news_of, sent, sent_after, life_at, request_at, past_of}
-use Rattle.buffer_core.specs.Runs.{mark_of, begun_after, ended_after, paused_after, begun_at, ended_at, is_paused_at, OnTaken, OnBegun, NeverInPause, BeginsOnce, AreRunsKept, KeepsRuns}
+use Rattle.buffer_core.specs.Runs.{Mark, Ended, mark_of, begun_after, ended_after, paused_after, begun_at, ended_at, is_paused_at, OnTaken, OnBegun, NeverInPause, BeginsOnce, AreRunsKept, KeepsRuns}
 use Rattle.buffer_core.proofs.Places.{get_pushed, get_within}
 use Rattle.buffer_core.proofs.Found.{split_option}
 use Rattle.buffer_core.proofs.Replied.{run_admitted, IsBegun, run_begun, mark_set}
@@ -262,29 +262,36 @@ end_fits gate last ss begun ended paused r start n is_on count =
           is;
     }
 
+-- what is asked of the run that a mark ends
+abbrev pub OnEnded : Mark → (ℕ → Type 0) → Type 0
+OnEnded (Ended start n) P = P start
+OnEnded mark P = ⊤
+
 -- what a step keeps, and what it says of the event that it sends or of the run that it begins
 pub record RunStep (w : Window) (ss : List Sent) (begun ended : ℕ → Option ℕ) (paused : ℕ → Bool) (e : BufferEntry) : Type 0 where
   pub fit : RunsFit (window_after w e).gate (window_after w e).last (sent_after (news_of e) ss) (λ s. begun_after (mark_of e) s (begun s)) (λ s. ended_after (mark_of e) s (ended s)) (λ s. paused_after (mark_of e) s (paused s))
   pub taken : OnTaken (news_of e) (λ s. paused s.start ≡ false)
   pub once : OnBegun (mark_of e) (λ start. begun start ≡ None)
+  pub last : OnEnded (mark_of e) (λ start. ended start ≡ None)
 
 run_step : (w : Window) (ss : List Sent) (begun ended : ℕ → Option ℕ) (paused : ℕ → Bool) (e : BufferEntry) → accepted_of w ≡ length ss → RunsFit w.gate w.last ss begun ended paused → IsReply w e → RunStep w ss begun ended paused e
-run_step w ss begun ended paused (Attach name (Ok n)) count r reply = record { fit = r; taken = tt; once = tt }
-run_step w ss begun ended paused (Attach name (Err f)) count r reply = record { fit = r; taken = tt; once = tt }
-run_step w ss begun ended paused (Detach client (Ok u)) count r reply = record { fit = r; taken = tt; once = tt }
-run_step w ss begun ended paused (Detach client (Err f)) count r reply = record { fit = r; taken = tt; once = tt }
-run_step w ss begun ended paused (Request client id mask kind (Ok n)) count r reply = record { fit = r; taken = tt; once = tt }
-run_step w ss begun ended paused (Request client id mask kind (Err f)) count r reply = record { fit = r; taken = tt; once = tt }
-run_step w ss begun ended paused (Cancel client request (Ok u)) count r reply = record { fit = r; taken = tt; once = tt }
-run_step w ss begun ended paused (Cancel client request (Err f)) count r reply = record { fit = r; taken = tt; once = tt }
+run_step w ss begun ended paused (Attach name (Ok n)) count r reply = record { fit = r; taken = tt; once = tt; last = tt }
+run_step w ss begun ended paused (Attach name (Err f)) count r reply = record { fit = r; taken = tt; once = tt; last = tt }
+run_step w ss begun ended paused (Detach client (Ok u)) count r reply = record { fit = r; taken = tt; once = tt; last = tt }
+run_step w ss begun ended paused (Detach client (Err f)) count r reply = record { fit = r; taken = tt; once = tt; last = tt }
+run_step w ss begun ended paused (Request client id mask kind (Ok n)) count r reply = record { fit = r; taken = tt; once = tt; last = tt }
+run_step w ss begun ended paused (Request client id mask kind (Err f)) count r reply = record { fit = r; taken = tt; once = tt; last = tt }
+run_step w ss begun ended paused (Cancel client request (Ok u)) count r reply = record { fit = r; taken = tt; once = tt; last = tt }
+run_step w ss begun ended paused (Cancel client request (Err f)) count r reply = record { fit = r; taken = tt; once = tt; last = tt }
 run_step w ss begun ended paused (Send stated e (Ok n)) count r reply =
     let x : Sent = record { event = e; start = 0 } in
     record {
       fit = sent_fits w.gate w.last ss begun ended paused r x (inl refl);
       taken = unpaused w.gate w.last ss begun ended paused r 0 (inl refl);
       once = tt;
+      last = tt;
     }
-run_step w ss begun ended paused (Send stated e (Err f)) count r reply = record { fit = r; taken = tt; once = tt }
+run_step w ss begun ended paused (Send stated e (Err f)) count r reply = record { fit = r; taken = tt; once = tt; last = tt }
 run_step w ss begun ended paused (SendInRun start stated e (Ok n)) count r reply =
     let x : Sent = record { event = e; start = start } in
     let running : w.gate ≡ Running start = running_is w.gate start (run_admitted w start stated e n (sym reply)).0 in
@@ -292,44 +299,49 @@ run_step w ss begun ended paused (SendInRun start stated e (Ok n)) count r reply
       fit = sent_fits w.gate w.last ss begun ended paused r x (inr running);
       taken = unpaused w.gate w.last ss begun ended paused r start (inr running);
       once = tt;
+      last = tt;
     }
-run_step w ss begun ended paused (SendInRun start stated e (Err f)) count r reply = record { fit = r; taken = tt; once = tt }
-run_step w ss begun ended paused (Receive client room (Got place start)) count r reply = record { fit = r; taken = tt; once = tt }
-run_step w ss begun ended paused (Receive client room (Empty gate last)) count r reply = record { fit = r; taken = tt; once = tt }
-run_step w ss begun ended paused (Receive client room NoReader) count r reply = record { fit = r; taken = tt; once = tt }
-run_step w ss begun ended paused (Receive client room (SmallBuf need)) count r reply = record { fit = r; taken = tt; once = tt }
+run_step w ss begun ended paused (SendInRun start stated e (Err f)) count r reply = record { fit = r; taken = tt; once = tt; last = tt }
+run_step w ss begun ended paused (Receive client room (Got place start)) count r reply = record { fit = r; taken = tt; once = tt; last = tt }
+run_step w ss begun ended paused (Receive client room (Empty gate last)) count r reply = record { fit = r; taken = tt; once = tt; last = tt }
+run_step w ss begun ended paused (Receive client room NoReader) count r reply = record { fit = r; taken = tt; once = tt; last = tt }
+run_step w ss begun ended paused (Receive client room (SmallBuf need)) count r reply = record { fit = r; taken = tt; once = tt; last = tt }
 run_step w ss begun ended paused (Begin start (Ok n)) count r reply =
     let is : IsBegun w.gate w.last start (accepted_of w) n = run_begun w.gate w.last start (accepted_of w) n reply in
     record {
       fit = begin_fits w.last ss begun ended paused (subst (λ (g : RunGate). RunsFit g w.last ss begun ended paused) is.shut r) start n is.above (is.place_is ∙ count);
       taken = tt;
       once = fresh_run w.gate w.last ss begun ended paused r start is.above;
+      last = tt;
     }
-run_step w ss begun ended paused (Begin start (Err f)) count r reply = record { fit = r; taken = tt; once = tt }
+run_step w ss begun ended paused (Begin start (Err f)) count r reply = record { fit = r; taken = tt; once = tt; last = tt }
 run_step w ss begun ended paused (Pause start (Ok n)) count r reply =
     record {
       fit = pause_fits w.gate w.last ss begun ended paused r start (running_is w.gate start (mark_set (is_running w.gate start) w n reply).0);
       taken = tt;
       once = tt;
+      last = tt;
     }
-run_step w ss begun ended paused (Pause start (Err f)) count r reply = record { fit = r; taken = tt; once = tt }
+run_step w ss begun ended paused (Pause start (Err f)) count r reply = record { fit = r; taken = tt; once = tt; last = tt }
 run_step w ss begun ended paused (Resume start (Ok n)) count r reply =
     record {
       fit = resume_fits w.gate w.last ss begun ended paused r start (paused_is w.gate start (mark_set (is_paused w.gate start) w n reply).0);
       taken = tt;
       once = tt;
+      last = tt;
     }
-run_step w ss begun ended paused (Resume start (Err f)) count r reply = record { fit = r; taken = tt; once = tt }
+run_step w ss begun ended paused (Resume start (Err f)) count r reply = record { fit = r; taken = tt; once = tt; last = tt }
 run_step w ss begun ended paused (End start (Ok n)) count r reply =
     let set = mark_set (is_open w.gate start) w n reply in
     record {
       fit = end_fits w.gate w.last ss begun ended paused r start n set.0 (set.1 ∙ count);
       taken = tt;
       once = tt;
+      last = (open_run w.gate start begun ended paused set.0 r.fits).not_ended;
     }
-run_step w ss begun ended paused (End start (Err f)) count r reply = record { fit = r; taken = tt; once = tt }
-run_step w ss begun ended paused (Level reply) count r e = record { fit = r; taken = tt; once = tt }
-run_step w ss begun ended paused (Accepted reply) count r e = record { fit = r; taken = tt; once = tt }
+run_step w ss begun ended paused (End start (Err f)) count r reply = record { fit = r; taken = tt; once = tt; last = tt }
+run_step w ss begun ended paused (Level reply) count r e = record { fit = r; taken = tt; once = tt; last = tt }
+run_step w ss begun ended paused (Accepted reply) count r e = record { fit = r; taken = tt; once = tt; last = tt }
 
 -- The whole.
 
@@ -355,15 +367,19 @@ runs_fit size [] was =
 runs_fit size (e ∷ past) was =
     (run_step (window_at size past) (sent past) (begun_at past) (ended_at past) (is_paused_at past) e.1 (counted_at size past was.1) (runs_fit size past was.1) was.0).fit
 
+-- the step of an entry at its point
+pub run_step_at : (size : ℕ) (e : ℕ × BufferEntry) (past : List (ℕ × BufferEntry)) → WasLegal size (e ∷ past) → RunStep (window_at size past) (sent past) (begun_at past) (ended_at past) (is_paused_at past) e.1
+run_step_at size e past was = run_step (window_at size past) (sent past) (begun_at past) (ended_at past) (is_paused_at past) e.1 (counted_at size past was.1) (runs_fit size past was.1) was.0
+
 never_in_pause : (size : ℕ) (past : List (ℕ × BufferEntry)) → WasLegal size past → NeverInPause past
 never_in_pause size [] was = tt
 never_in_pause size (e ∷ past) was =
-    ((run_step (window_at size past) (sent past) (begun_at past) (ended_at past) (is_paused_at past) e.1 (counted_at size past was.1) (runs_fit size past was.1) was.0).taken, never_in_pause size past was.1)
+    ((run_step_at size e past was).taken, never_in_pause size past was.1)
 
 begins_once : (size : ℕ) (past : List (ℕ × BufferEntry)) → WasLegal size past → BeginsOnce past
 begins_once size [] was = tt
 begins_once size (e ∷ past) was =
-    ((run_step (window_at size past) (sent past) (begun_at past) (ended_at past) (is_paused_at past) e.1 (counted_at size past was.1) (runs_fit size past was.1) was.0).once, begins_once size past was.1)
+    ((run_step_at size e past was).once, begins_once size past was.1)
 
 pub runs_kept : (size : ℕ) (past : List (ℕ × BufferEntry)) → WasLegal size past → AreRunsKept past
 runs_kept size past was =

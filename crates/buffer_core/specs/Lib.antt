@@ -12,6 +12,8 @@ pub mod HistoryLaws
 pub mod Points
 pub mod Delivered
 pub mod Runs
+pub mod Continued
+pub mod Readers
 pub mod Journals
 pub mod JournalViews
 pub mod JournalLaws
