@@ -14,3 +14,4 @@ pub mod Ordering
 pub mod Continuing
 pub mod Rising
 pub mod Reading
+pub mod Sampled

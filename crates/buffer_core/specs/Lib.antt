@@ -14,6 +14,7 @@ pub mod Delivered
 pub mod Runs
 pub mod Continued
 pub mod Readers
+pub mod Samples
 pub mod Journals
 pub mod JournalViews
 pub mod JournalLaws

@@ -13,6 +13,7 @@ ghost use Rattle.buffer_core.specs.Delivered.{Delivers};
 ghost use Rattle.buffer_core.specs.Runs.{KeepsRuns, begun_at, ended_at, segment, events_between};
 ghost use Rattle.buffer_core.specs.Continued.{sent_in, RepliesCount, GivesSent};
 ghost use Rattle.buffer_core.specs.Readers.{KeepsLife, HasRead, ReadsAll, places_got, places_of, among, wanted};
+ghost use Rattle.buffer_core.specs.Samples.{refused_once, got_twice, left_out, reached_back, refused_for_nobody, dropped, sent_behind, sent_in_pause};
 
 /// Each client gets only what its requests want, in order and once, and all of what its requests for all events want;
 /// a send is refused as full exactly where such an event is still to be got.
@@ -75,4 +76,17 @@ pub fn reads_all()
         begun_at (past_of history) start ≡ Some from →
         ended_at (past_of history) start ≡ Some to →
         among (segment history start) (places_got history client) ≡ places_of (wanted id mask (segment history start)) }
+{}
+
+/// What the laws ask is more than nothing: a history in which a send is refused as full, and one of each kind that they
+/// rule out.
+pub fn tells_apart()
+    ensures refusal { IsLegal (opening 48) refused_once }
+    ensures twice { (size : ℕ) → Delivers size got_twice → ⊥ }
+    ensures less { (size : ℕ) → Delivers size left_out → ⊥ }
+    ensures before { (size : ℕ) → Delivers size reached_back → ⊥ }
+    ensures nobody { (size : ℕ) → Delivers size refused_for_nobody → ⊥ }
+    ensures owed { Delivers 24 dropped → ⊥ }
+    ensures behind { KeepsRuns sent_behind → ⊥ }
+    ensures pause { KeepsRuns sent_in_pause → ⊥ }
 {}
