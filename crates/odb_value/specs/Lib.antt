@@ -1,0 +1,4 @@
+pub mod ItemBytes
+pub mod Items
+pub mod Values
+pub mod ValueInside

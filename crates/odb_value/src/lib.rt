@@ -1,0 +1,12 @@
+//! Values of the online database: their items, and the text of an item, both ways.
+#![tactic(auto)]
+
+mod items;
+mod parts;
+mod refusals;
+mod values;
+
+pub use items::Item;
+pub use parts::{CharByte, TextBytes};
+pub use refusals::ItemRefusal;
+pub use values::{Items, Value};
