@@ -37,6 +37,13 @@ impl CharByte {
         }
     }
 
+    /// The CHAR of no byte, which is 0.
+    pub fn none() -> CharByte
+        ensures { result ≡ 0 }
+    {
+        CharByte { byte: 0 }
+    }
+
     /// The byte.
     pub fn get(&self) -> u8
         ensures byte { result ≡ self.now }
