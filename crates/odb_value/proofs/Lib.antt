@@ -1,1 +1,2 @@
 pub mod ValueKept
+pub mod FormSteps

@@ -3,3 +3,6 @@ pub mod Items
 pub mod Values
 pub mod ValueInside
 pub mod ValueChanges
+pub mod Forms
+pub mod ItemTexts
+pub mod Sized

@@ -1,4 +1,4 @@
-ghost use Rattle.std.specs.Prelude.{◌≡◌, IfOk};
+ghost use Rattle.std.specs.Prelude.{◌≡◌, IfOk, OnErr};
 ghost use Rattle.daq_types.specs.declared.types.Tid.{Tid};
 ghost use Rattle.odb_value.specs.Items.{tid_of, IsItem};
 
@@ -52,7 +52,8 @@ impl Item {
 
     /// The same item once more. Takes memory for a text alone.
     pub fn try_clone(&self, alloc: Global) -> Result<Item, NoMemory>
-        ensures { IfOk result (λ item. item ≡ self.now) }
+        ensures item { IfOk result (λ item. item ≡ self.now) }
+        ensures memory { OnErr result (tid_of self.now ≡ Tid.Text) }
     {
         match self {
             Item::UInt8(number) => Ok(Item::UInt8(*number)),

@@ -1,12 +1,15 @@
 //! Values of the online database: their items, and the text of an item, both ways.
 #![tactic(auto)]
 
+mod forms;
 mod items;
 mod parts;
 mod refusals;
+mod texts;
 mod values;
 
 pub use items::Item;
 pub use parts::{CharByte, TextBytes};
 pub use refusals::ItemRefusal;
+pub use texts::{parse_item, print_item};
 pub use values::{Items, Value};

@@ -1,4 +1,4 @@
-ghost use Rattle.std.specs.Prelude.{◌≡◌, ◌↔◌, [], IsTrue, IsSome, IfSome, IfOk};
+ghost use Rattle.std.specs.Prelude.{◌≡◌, ◌↔◌, [], IsTrue, IsSome, IfSome, IfNone, IfOk, not, position};
 ghost use Rattle.odb_value.specs.ItemBytes.{is_char_byte, is_text_byte, IsText};
 
 use daq_types::{Bytes, NoMemory};
@@ -81,11 +81,12 @@ impl TextBytes {
         }
     }
 
-    /// Whether these are the bytes of a text.
-    pub fn is_text(bytes: &[u8]) -> bool
-        ensures { IsTrue result ↔ IsText bytes.now }
+    /// The place of the first byte that no text has; None exactly for the bytes of a text.
+    pub fn bad_place(bytes: &[u8]) -> Option<usize>
+        ensures place { result ≡ position (λ b. not (is_text_byte b)) bytes.now }
+        ensures none { IfNone result (IsText bytes.now) }
     {
-        bytes.iter().all(|byte| *byte == 9 || 32 <= *byte && *byte <= 126 || 128 <= *byte)
+        bytes.iter().position(|byte| !(*byte == 9 || 32 <= *byte && *byte <= 126 || 128 <= *byte))
     }
 
     /// The empty text. Takes no memory.

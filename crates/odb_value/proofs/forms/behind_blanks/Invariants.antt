@@ -1,0 +1,9 @@
+use Rattle.std.proofs.Common.{◌≡◌, length}
+use Rattle.odb_value.specs.Forms.{behind, is_blank}
+use Rattle.odb_value.proofs.forms.behind_blanks.Given as goal
+
+abbrev pub invariant-loop-byte : goal.invariant-loop-byte
+invariant-loop-byte l = behind is_blank l.rest ≡ behind is_blank l.fn.text
+
+abbrev pub decreases-loop-byte : goal.decreases-loop-byte
+decreases-loop-byte l = length l.rest
