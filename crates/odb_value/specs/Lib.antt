@@ -6,3 +6,4 @@ pub mod ValueChanges
 pub mod Forms
 pub mod ItemTexts
 pub mod Sized
+pub mod ReadAgain

@@ -1,8 +1,11 @@
 //! Values of the online database: their items, and the text of an item, both ways.
 #![tactic(auto)]
 
+#[cfg(test)]
+mod checks;
 mod forms;
 mod items;
+pub mod laws;
 mod parts;
 mod refusals;
 mod texts;

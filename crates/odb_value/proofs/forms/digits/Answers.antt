@@ -1,7 +1,7 @@
-use Rattle.std.proofs.Common.{◌≡◌, ℕ, ◌-◌, ◌≤◌, Bool, true, false, List, take, drop, length, refl, sym, ap, ◌∙◌}
+use Rattle.std.proofs.Common.{◌≡◌, ℕ, ◌-◌, true, false, List, take, drop, length, refl, sym, ap, ◌∙◌}
 use Rattle.std.specs.Prelude.{Option, nat_eq}
 use Rattle.std.specs.Str.Parse.{digits_value}
-use Rattle.odb_value.specs.Forms.{front, behind, ended, mapped, is_digit_in}
+use Rattle.odb_value.specs.Forms.{front, behind, ended, is_digit_in}
 use Rattle.odb_value.specs.Sized.{in_64_bits}
 use Rattle.odb_value.proofs.FormSteps.{length-behind-le, front_is, behind_is, ended_mapped}
 use Rattle.odb_value.proofs.forms.digits.Goals as goal

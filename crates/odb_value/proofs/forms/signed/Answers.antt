@@ -1,4 +1,4 @@
-use Rattle.std.proofs.Common.{◌≡◌, sym, ◌∙◌, refl, false}
+use Rattle.std.proofs.Common.{sym, ◌∙◌}
 use Rattle.odb_value.specs.Forms.{unsigned_form}
 use Rattle.odb_value.proofs.FormSteps.{positive_of}
 use Rattle.odb_value.proofs.forms.signed.Goals as goal
