@@ -1,2 +1,4 @@
 pub mod ValueKept
 pub mod FormSteps
+pub mod Stops
+pub mod FirstPlace

@@ -7,3 +7,4 @@ pub mod Forms
 pub mod ItemTexts
 pub mod Sized
 pub mod ReadAgain
+pub mod Places
