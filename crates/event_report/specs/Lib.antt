@@ -1,0 +1,9 @@
+pub mod Integers
+pub mod EventBanks
+pub mod Listing
+pub mod Tallies
+pub mod Reports
+pub mod Texts
+pub mod Steps
+pub mod Held
+pub mod Found

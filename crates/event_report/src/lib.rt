@@ -1,0 +1,17 @@
+//! The report of an analysis: how many events there were, of which ids, and what their banks of integers held.
+#![tactic(auto)]
+
+mod banks;
+mod figures;
+mod ids;
+mod integers;
+mod report;
+mod rows;
+mod texts;
+
+pub use integers::IntegerType;
+pub use report::Report;
+pub use rows::{BankRow, Figures, IdRow};
+
+#[cfg(test)]
+mod tests;
