@@ -1,7 +1,6 @@
 -- How a report holds its rows, and how large its numbers can be.
-use Rattle.std.specs.Prelude.{◌≡◌, ℕ, ◌+◌, ◌*◌, ◌^◌, ◌<◌, ◌≤◌, List, [], ◌∷◌, All, length, ⊤, ℤ, pos, neg_ℤ, ◌≤ℤ◌, vec_len, vec_capacity, sum_by}
+use Rattle.std.specs.Prelude.{◌≡◌, ℕ, ◌+◌, ◌*◌, ◌^◌, ◌<◌, ◌≤◌, List, All, length, slice_index_or, ℤ, pos, neg_ℤ, ◌≤ℤ◌, vec_len, vec_capacity, sum_by}
 use Rattle.std.specs.Global.{Vec}
-use Rattle.std.specs.List.{AllByRecursion}
 use Rattle.bank_format.specs.BankAreas.{BankValue}
 use Rattle.event_report.specs.declared.rows.Figures.{Figures}
 use Rattle.event_report.specs.declared.rows.IdRow.{IdRow}
@@ -11,8 +10,7 @@ use Rattle.event_report.specs.Tallies.{IdTally, BankTally}
 
 -- each stands above those in front of it
 abbrev pub IsRising : {R : Type 0} → (R → ℕ) → List R → Type 0
-IsRising number [] = ⊤
-IsRising number (r ∷ rows) = AllByRecursion (λ s. number r < number s) rows × IsRising number rows
+IsRising {R} number rows = (i j : ℕ) (d : R) → i < j → j < length rows → number (slice_index_or rows i d) < number (slice_index_or rows j d)
 
 -- rows by rising numbers, with room for all that there can be
 pub record IsTable {R : Type 0} (number : R → ℕ) (rows : Vec R) : Type 0 where

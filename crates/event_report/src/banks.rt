@@ -118,8 +118,8 @@ impl BankTable {
     pub fn count_all(&mut self, mut banks: Banks)
         requires long { weight banks.left ≤ 2 ^ 62 }
         requires within { BanksWithin (2 ^ 62 - weight banks.left) self.old }
-        ensures counted { self.new ≡ banks_after self.old (filter_map integer_bank banks.left) }
-        ensures within { (m : ℕ) → BanksWithin m self.old → BanksWithin (m + weight banks.left) self.new }
+        ensures counted { self.new ≡ banks_after self.old (filter_map integer_bank banks.entry.left) }
+        ensures within { (m : ℕ) → BanksWithin m self.old → BanksWithin (m + weight banks.entry.left) self.new }
     {
         while let Some(bank) = banks.next() {
             self.count(&bank);

@@ -1,4 +1,4 @@
-ghost use Rattle.std.specs.Prelude.{◌≡◌, ◌+◌, ◌≤◌, ◌^◌, length, [], ◌∷◌, IfSome};
+ghost use Rattle.std.specs.Prelude.{◌≡◌, ◌+◌, ◌≤◌, ◌^◌, length, [], ◌∷◌, IfSome, pos, neg_ℤ, ◌≤ℤ◌};
 ghost use Rattle.event_report.specs.Integers.{whole_items};
 ghost use Rattle.event_report.specs.Tallies.{figures_of};
 ghost use Rattle.event_report.specs.Steps.{joined, some_figures};
@@ -9,7 +9,10 @@ use crate::rows::Figures;
 
 /// The figures of one item.
 fn figures_of_one(item: i128) -> Figures
-    ensures { result ≡ figures_of (item ∷ []) }
+    requires low { neg_ℤ (pos (2 ^ 64)) ≤ℤ item }
+    requires high { item ≤ℤ pos (2 ^ 64) }
+    ensures figures { result ≡ figures_of (item ∷ []) }
+    ensures within { FiguresWithin 1 result }
 {
     Figures {
         count: 1,

@@ -1,4 +1,4 @@
-ghost use Rattle.std.specs.Prelude.{◌≡◌, ◌≤◌, length};
+ghost use Rattle.std.specs.Prelude.{◌≡◌, ◌≤◌, ◌^◌, length, pos, neg_ℤ, ◌≤ℤ◌};
 ghost use Rattle.std.specs.Int.{from_le_bytes, w16, w32, w64};
 ghost use Rattle.event_report.specs.Integers.{tid_of, integer_type, item_size, first_item};
 
@@ -66,7 +66,9 @@ impl IntegerType {
     /// The item at the front of the bytes, its low byte first.
     pub fn first_item(self, bytes: &[u8]) -> i128
         requires { item_size self ≤ length bytes.now }
-        ensures { result ≡ first_item self bytes.now }
+        ensures item { result ≡ first_item self bytes.now }
+        ensures low { neg_ℤ (pos (2 ^ 64)) ≤ℤ result }
+        ensures high { result ≤ℤ pos (2 ^ 64) }
     {
         match self {
             IntegerType::UInt8 => bytes[0] as i128,

@@ -1,0 +1,13 @@
+use Rattle.std.proofs.Common.{◌≡◌, ◌+◌, length, ℕ}
+use Rattle.std.specs.List.{filter_map}
+use Rattle.event_report.specs.EventBanks.{integer_bank}
+use Rattle.event_report.specs.Steps.{banks_after}
+use Rattle.event_report.specs.Held.{BanksWithin, weight}
+use Rattle.event_report.proofs.Loops.{IsCounted}
+use Rattle.event_report.proofs.banks.BankTable.count_all.Given as goal
+
+abbrev pub invariant-loop-bank : goal.invariant-loop-bank
+invariant-loop-bank l = IsCounted l.initial.self l.initial.banks.left l.self l.banks.left
+
+abbrev pub decreases-loop-bank : goal.decreases-loop-bank
+decreases-loop-bank l = length l.banks.left

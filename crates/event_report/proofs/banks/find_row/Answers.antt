@@ -1,0 +1,8 @@
+use Rattle.std.proofs.Common.{rules}
+use Rattle.std.proofs.lemmas.List.Sorted.{answers_always}
+use Rattle.event_report.specs.Steps.{row_number}
+use Rattle.event_report.proofs.Rising.{found_or_fits}
+use Rattle.event_report.proofs.banks.find_row.Goals as goal
+
+pub returns : goal.returns
+returns c = found_or_fits row_number c.args.number c.args.rows.now _ c.requires (c.binary_search_by_key.ensures.position row_number (answers_always _ _ _ (λ f a r g called. search rules))) c.binary_search_by_key.ensures.bound
