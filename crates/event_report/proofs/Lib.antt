@@ -1,3 +1,6 @@
 pub mod Rising
 pub mod Sums
 pub mod Loops
+pub mod Listed
+pub mod Grown
+pub mod Folded

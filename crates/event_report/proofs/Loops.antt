@@ -1,13 +1,16 @@
 -- The loop over the banks of an event.
-use Rattle.std.proofs.Common.{◌≡◌, ℕ, ◌+◌, ◌≤◌, List, [], ◌∷◌, ◌++◌, length, fold, refl, sym, ap, subst, ◌∙◌, arith}
+use Rattle.std.proofs.Common.{◌≡◌, ℕ, ◌+◌, ◌-◌, ◌^◌, ◌≤◌, List, [], ◌∷◌, ◌++◌, length, fold, refl, sym, ap, subst, ◌∙◌, arith}
 use Rattle.std.specs.List.{filter_map}
 use Rattle.std.proofs.lemmas.List.Sums.{fold-append, sum_by-cons}
-use Rattle.std.proofs.lemmas.List.Elements.{filter_map-append}
+use Rattle.std.proofs.lemmas.List.Elements.{filter_map-append, All-weaker}
 use Rattle.bank_format.specs.BankAreas.{BankValue}
 use Rattle.event_report.specs.EventBanks.{integer_bank, IntegerBank}
-use Rattle.event_report.specs.Tallies.{BankTally}
+use Rattle.event_report.specs.Tallies.{IdTally, BankTally}
 use Rattle.event_report.specs.Steps.{bank_tally_after, banks_after}
-use Rattle.event_report.specs.Held.{BanksWithin, weight}
+use Rattle.event_report.specs.declared.rows.IdRow.{IdRow}
+use Rattle.event_report.specs.declared.rows.BankRow.{BankRow}
+use Rattle.event_report.specs.Held.{FiguresWithin, IdsWithin, BanksWithin, weight}
+use Rattle.event_report.proofs.Sums.{within_more}
 
 -- what is left still leads from here to where the whole leads from the start
 pub record IsCounted (first : BankTally) (all : List BankValue) (now : BankTally) (left : List BankValue) : Type 0 where
@@ -47,3 +50,25 @@ within_all first now all left m none so_far h =
     let nothing : weight left ≡ 0 = ap weight none in
     let e : before.0 ≡ m + weight all = omega (arith, before.1, nothing) in
     subst (λ (n : ℕ). BanksWithin n now) e before.2
+
+pub banks_weaker : (m n : ℕ) (t : BankTally) → m ≤ n → BanksWithin m t → BanksWithin n t
+banks_weaker m n t le within =
+    record {
+      rows = All-weaker (λ (r : BankRow). FiguresWithin m r.figures) (λ (r : BankRow). FiguresWithin n r.figures) (λ r h. within_more m n r.figures le h) t.rows within.rows;
+      rest = omega (arith, within.rest);
+    }
+
+-- there is still room for the bank that comes next
+pub room_for_next : (first now : BankTally) (all left rest : List BankValue) (b : BankValue) → left ≡ b ∷ rest → weight all ≤ 2 ^ 62 → BanksWithin (2 ^ 62 - weight all) first
+    → IsCounted first all now left → BanksWithin (2 ^ 62 - (1 + length b.body)) now
+room_for_next first now all left rest b split small within so_far =
+    let weighs : weight left ≡ 1 + length b.body + weight rest = ap weight split ∙ weight_cons b rest in
+    let before = so_far.within (2 ^ 62 - weight all) within in
+    banks_weaker before.0 (2 ^ 62 - (1 + length b.body)) now (omega (arith, before.1, weighs)) before.2
+
+pub ids_weaker : (m n : ℕ) (t : IdTally) → m ≤ n → IdsWithin m t → IdsWithin n t
+ids_weaker m n t le within =
+    record {
+      rows = All-weaker (λ (r : IdRow). r.count ≤ m) (λ (r : IdRow). r.count ≤ n) (λ r h. omega (arith, le, h)) t.rows within.rows;
+      rest = omega (arith, within.rest);
+    }

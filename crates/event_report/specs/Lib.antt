@@ -7,3 +7,4 @@ pub mod Texts
 pub mod Steps
 pub mod Held
 pub mod Found
+pub mod BankAreaLaws

@@ -5,6 +5,7 @@ mod banks;
 mod figures;
 mod ids;
 mod integers;
+pub mod laws;
 mod report;
 mod rows;
 mod texts;

@@ -37,6 +37,7 @@ impl Model for Report {
 
 impl Report {
     /// The report of no events, with all the room that it will need.
+    #[tactic(auto, unfolding(crate::specs::Reports::report_of))]
     pub fn new(alloc: Global) -> Result<Report, NoMemory>
         ensures report { IfOk result (λ report. report ≡ report_of []) }
         ensures bytes { IfOk result (λ report. report.bytes ≡ 0) }

@@ -1,9 +1,9 @@
 ghost use Rattle.std.specs.Prelude.{◌≡◌, ◌++◌, OnOk, map};
 ghost use Rattle.std.specs.List.{flat_map};
 ghost use Rattle.event_report.specs.Texts as texts;
-ghost use Rattle.event_report.specs.Texts.{line, id_text, bank_text};
+ghost use Rattle.event_report.specs.Texts.{line, id_text, figures_text, bank_text};
 
-use crate::rows::{BankRow, IdRow};
+use crate::rows::{BankRow, Figures, IdRow};
 use daq_types::NoMemory;
 use std::alloc::Global;
 
@@ -43,6 +43,21 @@ pub fn append_id(
     Ok(())
 }
 
+/// Appends figures.
+fn append_figures(alloc: Global, figures: &Figures, text: &mut Vec<u8>) -> Result<(), NoMemory>
+    ensures { OnOk result (text.new.items ≡ text.old.items ++ figures_text figures.now) }
+{
+    let Figures {
+        count,
+        sum,
+        least,
+        greatest,
+    } = *figures;
+    let words = format!(in alloc; " count {count} sum {sum} least {least} greatest {greatest}")?;
+    text.extend_from_slice(words.as_bytes())?;
+    Ok(())
+}
+
 /// Appends the line of a name and type of banks.
 pub fn append_bank(
     alloc: Global,
@@ -52,18 +67,13 @@ pub fn append_bank(
 ) -> Result<(), NoMemory>
     ensures { OnOk result (text.new.items ≡ text.old.items ++ line start.now (bank_text row.now)) }
 {
-    let kind = row.kind.tid().name();
-    let count = row.figures.count;
-    let sum = row.figures.sum;
-    let least = row.figures.least;
-    let greatest = row.figures.greatest;
-    let words = format!(in alloc;
-        " {kind} count {count} sum {sum} least {least} greatest {greatest}\n"
-    )?;
     text.extend_from_slice(start)?;
     text.extend_from_slice(b"bank ")?;
     append_name(row.name, text)?;
-    text.extend_from_slice(words.as_bytes())?;
+    text.push(b' ')?;
+    text.extend_from_slice(row.kind.tid().name().as_bytes())?;
+    append_figures(alloc, &row.figures, text)?;
+    text.push(b'\n')?;
     Ok(())
 }
 

@@ -1,0 +1,7 @@
+use Rattle.std.proofs.Common.{◌≡◌, ◌++◌, take}
+use Rattle.std.specs.List.{flat_map}
+use Rattle.event_report.specs.Texts.{line, bank_text}
+use Rattle.event_report.proofs.texts.append_banks.Given as goal
+
+abbrev pub invariant-loop-row : goal.invariant-loop-row
+invariant-loop-row l = l.text.items ≡ l.initial.text.items ++ flat_map (λ r. line l.start (bank_text r)) (take l.row-index l.rows)
