@@ -4,3 +4,4 @@ pub mod Loops
 pub mod Listed
 pub mod Grown
 pub mod Folded
+pub mod Ordered

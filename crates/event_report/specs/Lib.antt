@@ -8,3 +8,4 @@ pub mod Steps
 pub mod Held
 pub mod Found
 pub mod BankAreaLaws
+pub mod WorkedRows

@@ -1,4 +1,4 @@
-use crate::Report;
+use crate::{Report, laws};
 use bank_format::{BankWriter, Format};
 use event_header::Header;
 use std::test::Fail;
@@ -168,4 +168,11 @@ fn more_ids_and_banks_than_rows(rt: HostRuntime) -> Result<(), Fail> {
     assert!(rt; ends_with(&text, end));
     assert_eq!(rt; text.as_slice().split(|b| *b == b'\n').count(), 515);
     Ok(())
+}
+
+#[test]
+fn holds_laws() {
+    laws::banks_of_an_event();
+    laws::one_number();
+    laws::rows_in_order();
 }
