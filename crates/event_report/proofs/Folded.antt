@@ -1,6 +1,6 @@
 -- What one more event makes of a report.
-use Rattle.std.proofs.Common.{◌≡◌, ℕ, zero, suc, ◌+◌, ◌<◌, ◌≤◌, Bool, true, false, not, cond, eqb, List, [], ◌∷◌, ◌++◌, length, map, filter, fold, Option, Some, None, ℤ, refl, sym, ap, subst, ◌∙◌, arith, inl, inr, length-append, append_assoc, zero-add}
-use Rattle.std.specs.Prelude.{◌||◌, count_by, is_none, unwrap_or, option_and_then}
+use Rattle.std.proofs.Common.{◌≡◌, ℕ, ◌+◌, ◌<◌, true, false, cond, eqb, List, [], ◌∷◌, ◌++◌, length, map, filter, Option, Some, None, ℤ, refl, sym, ap, subst, ◌∙◌, arith, inl, inr, length-append, append_assoc, zero-add}
+use Rattle.std.specs.Prelude.{count_by, is_none, unwrap_or, option_and_then}
 use Rattle.std.specs.List.{AllByRecursion, filter_map, flat_map, cons_option}
 use Rattle.std.proofs.lemmas.Bool.{eq-eqb, eqb-true}
 use Rattle.std.proofs.lemmas.List.{append-nil, map-append}
@@ -16,13 +16,13 @@ use Rattle.event_report.specs.declared.rows.IdRow.{IdRow}
 use Rattle.event_report.specs.declared.rows.BankRow.{BankRow}
 use Rattle.event_report.specs.Integers.{integer_type, whole_items}
 use Rattle.event_report.specs.EventBanks.{banks_of, IntegerBank, some_items, integer_bank, event_banks, integer_banks}
-use Rattle.event_report.specs.Listing.{has, listed, in_order, rest_count}
+use Rattle.event_report.specs.Listing.{has}
 use Rattle.event_report.specs.Tallies.{IdTally, own, id_row, id_tally, BankTally, bank_number, items_with, figures_of, bank_row, bank_tally}
-use Rattle.event_report.specs.Steps.{takes, rest_after, id_of, one_more, id_rows_after, id_tally_after, row_number, more_figures, joined, bank_rows_after, own_row, bank_tally_after, banks_after}
+use Rattle.event_report.specs.Steps.{id_of, one_more, id_rows_after, id_tally_after, row_number, more_figures, joined, bank_rows_after, own_row, bank_tally_after, banks_after}
 use Rattle.event_report.specs.Reports.{Totals, report_of}
 use Rattle.event_report.proofs.Sums.{figures-append}
 use Rattle.event_report.proofs.Listed.{bit, true_or_false, both_false, eqb_flip}
-use Rattle.event_report.proofs.Grown.{Becomes, rows_of, rows_more, rest_more}
+use Rattle.event_report.proofs.Grown.{Becomes, rows_more, rest_more}
 
 -- ---- one more id
 

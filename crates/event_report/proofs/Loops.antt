@@ -1,10 +1,10 @@
 -- The loop over the banks of an event.
-use Rattle.std.proofs.Common.{◌≡◌, ℕ, ◌+◌, ◌-◌, ◌^◌, ◌≤◌, List, [], ◌∷◌, ◌++◌, length, fold, refl, sym, ap, subst, ◌∙◌, arith}
+use Rattle.std.proofs.Common.{◌≡◌, ℕ, ◌+◌, ◌-◌, ◌^◌, ◌≤◌, List, [], ◌∷◌, length, refl, sym, ap, subst, ◌∙◌, arith}
 use Rattle.std.specs.List.{filter_map}
 use Rattle.std.proofs.lemmas.List.Sums.{fold-append, sum_by-cons}
 use Rattle.std.proofs.lemmas.List.Elements.{filter_map-append, All-weaker}
 use Rattle.bank_format.specs.BankAreas.{BankValue}
-use Rattle.event_report.specs.EventBanks.{integer_bank, IntegerBank}
+use Rattle.event_report.specs.EventBanks.{integer_bank}
 use Rattle.event_report.specs.Tallies.{IdTally, BankTally}
 use Rattle.event_report.specs.Steps.{bank_tally_after, banks_after}
 use Rattle.event_report.specs.declared.rows.IdRow.{IdRow}

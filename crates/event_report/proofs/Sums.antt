@@ -1,6 +1,5 @@
 -- The figures of integers: what those of two lists are together, and what a bank's bytes give item by item.
-use Rattle.std.proofs.Common.{◌≡◌, ℕ, zero, suc, ◌+◌, ◌-◌, ◌*◌, ◌/◌, ◌^◌, ◌<◌, ◌≤◌, List, [], ◌∷◌, ◌++◌, length, drop, fold, ℤ, pos, neg_ℤ, ◌+ℤ◌, ◌≤ℤ◌, refl, sym, ap, subst, ◌∙◌, arith, Option, Some, length-append, length-drop, append_assoc}
-use Rattle.std.specs.Prelude.{IfSome}
+use Rattle.std.proofs.Common.{◌≡◌, ℕ, suc, ◌+◌, ◌-◌, ◌/◌, ◌<◌, ◌≤◌, List, [], ◌∷◌, ◌++◌, length, drop, fold, ℤ, pos, ◌+ℤ◌, refl, sym, ap, subst, ◌∙◌, arith, Some, length-append, length-drop, append_assoc}
 use Rattle.std.specs.Int.{int_min, int_max}
 use Rattle.std.proofs.Math.IntN.{+ℤ_assoc, +ℤ_idl}
 use Rattle.std.proofs.lemmas.Int.{ints, clamps}
@@ -10,7 +9,7 @@ use Rattle.event_report.specs.declared.integers.IntegerType.{IntegerType}
 use Rattle.event_report.specs.declared.integers.IntegerType.TheVariants.{UInt8, Int8, UInt16, Int16, UInt32, Int32, Int64, UInt64}
 use Rattle.event_report.specs.declared.rows.Figures.{Figures}
 use Rattle.event_report.specs.Integers.{item_size, first_item, items_from, whole_items}
-use Rattle.event_report.specs.Tallies.{total, least_of, greatest_of, figures_of}
+use Rattle.event_report.specs.Tallies.{total, figures_of}
 use Rattle.event_report.specs.Steps.{joined, some_figures}
 use Rattle.event_report.specs.Held.{FiguresWithin}
 

@@ -1,14 +1,14 @@
 -- The banks of an event are those of a bank area, as the format has it.
-use Rattle.std.proofs.Common.{◌≡◌, ℕ, zero, suc, ◌+◌, ◌≤◌, Bool, true, false, cond, eqb, ltb, leb, List, [], ◌∷◌, ◌++◌, length, drop, Option, Some, None, refl, sym, ap, subst, ◌∙◌, arith, inl, inr, length-append}
+use Rattle.std.proofs.Common.{◌≡◌, ℕ, zero, suc, ◌+◌, ◌≤◌, Bool, true, false, cond, eqb, leb, List, [], ◌∷◌, length, drop, Option, Some, None, refl, ap, subst, ◌∙◌, arith, inl, inr, length-append}
 use Rattle.std.specs.Prelude.{◌||◌, ◌&&◌, ◌⊎◌, is_some, option_and_then}
-use Rattle.std.proofs.lemmas.Bool.{le-leb, leb-true, eqb-true, eqb-false}
+use Rattle.std.proofs.lemmas.Bool.{le-leb, leb-true, eqb-true}
 use Rattle.std.proofs.lemmas.List.{nil_from_length, get_or-drop}
 use Rattle.std.proofs.lemmas.List.Sums.{sum_by-cons}
 use Rattle.bank_format.specs.declared.formats.Format.{Format}
 use Rattle.bank_format.specs.declared.faults.BankFault.{BankFault}
 use Rattle.bank_format.specs.Formats.{format_with, header_len, padded}
-use Rattle.bank_format.specs.BankAreas.{BankValue, IsFirst, BanksBefore, IsBankArea}
-use Rattle.bank_format.specs.Places.{stated_flags, stated_size, front_bank, behind_bank, HasBank, banks_within, banks_in}
+use Rattle.bank_format.specs.BankAreas.{BankValue, BanksBefore}
+use Rattle.bank_format.specs.Places.{stated_flags, stated_size, behind_bank, HasBank, banks_within, banks_in}
 use Rattle.bank_format.specs.Faults.{front_fault, IsFirstFault, HoldsBanks}
 use Rattle.bank_format.specs.Spelled.{IsBytes}
 use Rattle.bank_format.specs.BankLaws.{front_is, front_back, behind_is_shorter, header_is_some, IsBytes-behind}

@@ -1,10 +1,8 @@
 -- How a report holds its rows, and how large its numbers can be.
-use Rattle.std.specs.Prelude.{◌≡◌, ℕ, ◌+◌, ◌*◌, ◌^◌, ◌<◌, ◌≤◌, List, All, length, slice_index_or, ℤ, pos, neg_ℤ, ◌≤ℤ◌, vec_len, vec_capacity, sum_by}
+use Rattle.std.specs.Prelude.{◌≡◌, ℕ, ◌+◌, ◌*◌, ◌^◌, ◌<◌, ◌≤◌, List, All, length, slice_index_or, pos, neg_ℤ, ◌≤ℤ◌, vec_len, vec_capacity, sum_by}
 use Rattle.std.specs.Global.{Vec}
 use Rattle.bank_format.specs.BankAreas.{BankValue}
 use Rattle.event_report.specs.declared.rows.Figures.{Figures}
-use Rattle.event_report.specs.declared.rows.IdRow.{IdRow}
-use Rattle.event_report.specs.declared.rows.BankRow.{BankRow}
 use Rattle.event_report.specs.Listing.{row_limit}
 use Rattle.event_report.specs.Tallies.{IdTally, BankTally}
 

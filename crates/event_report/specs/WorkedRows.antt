@@ -1,6 +1,5 @@
 -- Worked rows: reports that the definitions give, as they were worked out by hand.
-use Rattle.std.specs.Prelude.{◌≡◌, ℕ, List, [], ◌∷◌, ◌++◌, codes, refl, pos, negsuc, Some, None}
-use Rattle.std.specs.Int.{from_le_bytes, w16}
+use Rattle.std.specs.Prelude.{◌≡◌, List, [], ◌∷◌, ◌++◌, codes, refl, pos, negsuc}
 use Rattle.std.specs.Fmt.{digits}
 use Rattle.daq_types.specs.declared.events.Event.{Event}
 use Rattle.daq_types.specs.declared.runs.Order.{Order}
@@ -11,7 +10,7 @@ use Rattle.bank_format.specs.Faults.{front_fault}
 use Rattle.event_report.specs.EventBanks.{are_banks, banks_of}
 use Rattle.event_report.specs.Integers.{whole_items}
 use Rattle.event_report.specs.declared.integers.IntegerType.TheVariants.{Int8, UInt16, Int64}
-use Rattle.event_report.specs.Reports.{Totals, report_of}
+use Rattle.event_report.specs.Reports.{report_of}
 use Rattle.event_report.specs.Texts.{line, report_text}
 
 abbrev pub order : Order

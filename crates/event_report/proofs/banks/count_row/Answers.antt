@@ -1,4 +1,4 @@
-use Rattle.std.proofs.Common.{arith, ◌≡◌, ◌+◌, ◌≤◌, ◌<◌, ℕ, length, get_or, sym, ap, subst, ◌∙◌, List}
+use Rattle.std.proofs.Common.{arith, ◌≡◌, ◌+◌, ℕ, sym, ap, subst, ◌∙◌, List}
 use Rattle.std.specs.Prelude.{All}
 use Rattle.std.proofs.lemmas.List.{get_or_read}
 use Rattle.std.proofs.lemmas.List.Elements.{All-weaker, All-set, All-get_or}
@@ -8,7 +8,7 @@ use Rattle.event_report.specs.Found.{StandsAt}
 use Rattle.event_report.specs.Steps.{row_number, more_figures, bank_rows_after}
 use Rattle.event_report.specs.Held.{IsRising, FiguresWithin}
 use Rattle.event_report.proofs.Sums.{within_more}
-use Rattle.event_report.proofs.Rising.{takes_found, after_found, table_set}
+use Rattle.event_report.proofs.Rising.{after_found, table_set}
 use Rattle.event_report.proofs.banks.count_row.Goals as goal
 
 pub find_row-requires : goal.find_row-requires

@@ -1,11 +1,11 @@
-use Rattle.std.proofs.Common.{arith, ◌≡◌, ◌+◌, ◌≤◌, ◌<◌, ℕ, length, sym, subst, ◌∙◌, List}
-use Rattle.std.specs.Prelude.{All, insert}
+use Rattle.std.proofs.Common.{arith, ◌+◌, ℕ, sym, subst, ◌∙◌, List}
+use Rattle.std.specs.Prelude.{All}
 use Rattle.std.proofs.lemmas.List.Elements.{All-weaker}
 use Rattle.event_report.specs.declared.rows.BankRow.{BankRow}
 use Rattle.event_report.specs.Steps.{row_number, more_figures, bank_rows_after}
 use Rattle.event_report.specs.Held.{FiguresWithin}
 use Rattle.event_report.proofs.Sums.{within_more}
-use Rattle.event_report.proofs.Rising.{takes_full, after_full, takes_placed, after_placed, table_insert, All-insert}
+use Rattle.event_report.proofs.Rising.{takes_full, after_full, after_placed, table_insert, All-insert}
 use Rattle.event_report.proofs.banks.insert_row.Goals as goal
 
 pub returns-then-len-ge-ROW_LIMIT-clause-taken : goal.returns-then-len-ge-ROW_LIMIT-clause-taken

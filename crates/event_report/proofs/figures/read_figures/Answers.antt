@@ -1,10 +1,10 @@
-use Rattle.std.proofs.Common.{◌≡◌, ◌<◌, ◌≤◌, ℕ, List, length, drop, ap, ◌∙◌, sym, subst, [], ◌∷◌, ℤ, to_z, of_z, arith, rules}
+use Rattle.std.proofs.Common.{◌≡◌, ℕ, List, drop, ap, ◌∙◌, sym, subst, [], ◌∷◌, ℤ, to_z, of_z, arith, rules}
 use Rattle.std.specs.Prelude.{FitsSigned}
 use Rattle.std.specs.Int.{w128}
 use Rattle.std.proofs.lemmas.Int.{to_z-of_z}
 use Rattle.event_report.specs.declared.rows.Figures.{Figures}
 use Rattle.event_report.specs.Held.{FiguresWithin}
-use Rattle.event_report.specs.Integers.{item_size, first_item}
+use Rattle.event_report.specs.Integers.{first_item}
 use Rattle.event_report.specs.Tallies.{figures_of}
 use Rattle.event_report.proofs.Sums.{size_some, summed_first, summed_more, summed_all}
 use Rattle.event_report.proofs.figures.read_figures.Goals as goal

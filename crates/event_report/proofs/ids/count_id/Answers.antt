@@ -1,9 +1,9 @@
-use Rattle.std.proofs.Common.{arith, rules, ◌≡◌, ◌≤◌, ◌<◌, length, sym, ap, List}
+use Rattle.std.proofs.Common.{ap, List}
 use Rattle.std.proofs.lemmas.List.{get_or_read}
 use Rattle.event_report.specs.declared.rows.IdRow.{IdRow}
 use Rattle.event_report.specs.Found.{StandsAt}
 use Rattle.event_report.specs.Steps.{id_of, one_more, id_rows_after}
-use Rattle.event_report.proofs.Rising.{takes_found, after_found, table_set}
+use Rattle.event_report.proofs.Rising.{after_found, table_set}
 use Rattle.event_report.proofs.ids.count_id.Goals as goal
 
 pub returns-in-Ok-clause-rows : goal.returns-in-Ok-clause-rows

@@ -1,9 +1,6 @@
-use Rattle.std.proofs.Common.{arith, rules, ◌≡◌, ◌≤◌, ◌<◌, length, sym, ◌∙◌, List}
-use Rattle.std.specs.Prelude.{insert}
-use Rattle.event_report.specs.declared.rows.IdRow.{IdRow}
-use Rattle.event_report.specs.Listing.{row_limit}
+use Rattle.std.proofs.Common.{arith, sym, ◌∙◌}
 use Rattle.event_report.specs.Steps.{id_of, one_more, id_rows_after}
-use Rattle.event_report.proofs.Rising.{takes_full, after_full, takes_placed, after_placed, table_insert}
+use Rattle.event_report.proofs.Rising.{takes_full, after_full, after_placed, table_insert}
 use Rattle.event_report.proofs.ids.insert_id.Goals as goal
 
 pub returns-then-len-ge-ROW_LIMIT-clause-taken : goal.returns-then-len-ge-ROW_LIMIT-clause-taken

@@ -1,4 +1,3 @@
-use Rattle.std.proofs.Common.{ℕ}
 use Rattle.event_report.proofs.Loops.{counted_more, within_all, room_for_next}
 use Rattle.event_report.proofs.banks.BankTable.count_all.Goals as goal
 

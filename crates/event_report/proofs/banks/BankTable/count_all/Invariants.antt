@@ -1,8 +1,4 @@
-use Rattle.std.proofs.Common.{◌≡◌, ◌+◌, length, ℕ}
-use Rattle.std.specs.List.{filter_map}
-use Rattle.event_report.specs.EventBanks.{integer_bank}
-use Rattle.event_report.specs.Steps.{banks_after}
-use Rattle.event_report.specs.Held.{BanksWithin, weight}
+use Rattle.std.proofs.Common.{length}
 use Rattle.event_report.proofs.Loops.{IsCounted}
 use Rattle.event_report.proofs.banks.BankTable.count_all.Given as goal
 

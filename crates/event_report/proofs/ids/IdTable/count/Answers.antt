@@ -1,4 +1,4 @@
-use Rattle.std.proofs.Common.{arith, ◌+◌, ◌≤◌, sym, subst}
+use Rattle.std.proofs.Common.{arith, sym, subst}
 use Rattle.event_report.specs.Tallies.{IdTally}
 use Rattle.event_report.specs.Held.{IdsWithin}
 use Rattle.event_report.proofs.ids.IdTable.count.Goals as goal

@@ -1,11 +1,11 @@
-use Rattle.std.proofs.Common.{◌≡◌, ◌≤◌, ◌<◌, ◌+◌, ℕ, List, [], length, Some, None, ap, sym, subst, ◌∙◌, refl, arith, rules, zero-add, add-zero}
+use Rattle.std.proofs.Common.{◌≡◌, ◌≤◌, ◌+◌, ℕ, List, Some, None, ap, sym, subst, ◌∙◌, refl, arith}
 use Rattle.std.specs.Prelude.{is_none}
 use Rattle.std.specs.List.{filter_map}
 use Rattle.daq_types.specs.declared.events.Event.{Event}
 use Rattle.bank_format.specs.BankAreas.{BankValue}
 use Rattle.bank_format.specs.Places.{Reading}
 use Rattle.event_header.specs.Headers.{event_of}
-use Rattle.event_report.specs.EventBanks.{banks_of, integer_bank, event_banks}
+use Rattle.event_report.specs.EventBanks.{banks_of, integer_bank}
 use Rattle.event_report.specs.BankAreaLaws.{weight_within, banks_of_area, no_banks}
 use Rattle.event_report.specs.Steps.{banks_after}
 use Rattle.event_report.specs.Held.{weight}
