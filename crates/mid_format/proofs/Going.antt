@@ -14,7 +14,7 @@ use Rattle.event_header.specs.Headers.{header_encoding, length-header_encoding, 
 use Rattle.event_header.specs.declared.head.Header.{Header}
 use Rattle.mid_format.specs.Faults.{fault_at, OfBytes}
 use Rattle.mid_format.specs.Parts.{IsInRange, ReadsHead, ReadsBody, IsCut, IsBehindEnd}
-use Rattle.mid_format.specs.HasRead.{IsStorable, IsBegun, IsEnded, IsMidFault, BeginsWith, IsDone, HasRead}
+use Rattle.mid_format.specs.HasRead.{IsStorable, IsBegun, IsEnded, IsMidFault, BeginsWith, IsDone, StandsAt, StandsBehind, HasRead}
 use Rattle.mid_format.specs.Steps.{IsGoing, BeginsNow, Begins, BeginStops, Finishes, FinishStops}
 use Rattle.mid_format.specs.declared.faults.MidFault.{MidFault}
 use Rattle.mid_format.specs.declared.faults.MidFault.TheVariants.{AfterEnd}
@@ -56,6 +56,16 @@ length_encoded h body e = length-append (header_encoding h) body ∙ omega (arit
 done_of : (done : List ℕ) (p : Progress) (b : Option Header) (events : List Event) → IsDone done p.begin p.last events → p.begin ≡ b → p.last ≡ None → IsDone done b None events
 done_of done p b events d eb el = subst (λ (o : Option Header). IsDone done o None events) eb (subst (λ (o : Option Header). IsDone done p.begin o events) el d)
 
+-- a fault at the first header, and at a later one
+stands_first : (p : Progress) (at place : ℕ) (rest : List ℕ) (f : MidFault) → p.last ≡ None → p.begin ≡ None → at ≡ place → fault_at None at rest ≡ Some f → StandsAt p.last p.begin place rest f
+stands_first p at place rest f no_end none same e =
+    subst (λ (o : Option Header). StandsAt o p.begin place rest f) (sym no_end) (subst (λ (o : Option Header). StandsAt None o place rest f) (sym none) (subst (λ (n : ℕ). fault_at None n rest ≡ Some f) same e))
+
+stands_later : (p : Progress) (b : Header) (at place : ℕ) (rest : List ℕ) (f : MidFault) → p.last ≡ None → p.begin ≡ Some b → at ≡ place → fault_at (Some b.serial_number) at rest ≡ Some f → StandsAt p.last p.begin place rest f
+stands_later p b at place rest f no_end has_begun same e =
+    subst (λ (o : Option Header). StandsAt o p.begin place rest f) (sym no_end)
+    (subst (λ (o : Option Header). StandsAt None o place rest f) (sym has_begun) (subst (λ (n : ℕ). fault_at (Some b.serial_number) n rest ≡ Some f) same e))
+
 -- The begin record.
 
 module _ (first before : Option (List ℕ)) (old : Progress) (events : List Event) (r : HasRead first before old events) (going : IsGoing old) (none : old.begin ≡ None) where
@@ -90,6 +100,7 @@ module _ (first before : Option (List ℕ)) (old : Progress) (events : List Even
             (subst (BeginsWith (header_encoding h ++ b.dump) h) (sym empty.1) (record { dump = b.dump; header = header; begun = begun }));
         at_end = λ n end is_last. none_some old.last end going.no_end is_last;
         fault_is = λ fault is_fault. none_some old.fault fault going.no_fault is_fault;
+        here = λ fault is_fault. none_some old.fault fault going.no_fault is_fault;
       })
 
   pub begin_stopped : (after : Option (List ℕ)) (new : Progress) (f : MidFault) → BeginStops before old new f → HasRead first after (record new { fault = Some f }) events
@@ -98,6 +109,10 @@ module _ (first before : Option (List ℕ)) (old : Progress) (events : List Even
       map_fault f (IfSome before (λ rest. fault_at None old.at rest ≡ Some f)) (IfSome first (λ text. IsMidFault text f))
       (told_behind first before r.done (λ rest. fault_at None old.at rest ≡ Some f) (λ text. IsMidFault text f) (r.consumed going.no_fault)
       (λ rest e. inl (subst (λ front. fault_at None 0 (front ++ rest) ≡ Some f) (sym empty.0) (subst (λ at. fault_at None at rest ≡ Some f) at_begin e)))) s.fault_is in
+      let stands : OfBytes f (IfSome first (λ text. StandsBehind text r.done old.last old.begin f)) =
+      map_fault f (IfSome before (λ rest. fault_at None old.at rest ≡ Some f)) (IfSome first (λ text. StandsBehind text r.done old.last old.begin f))
+      (told_behind first before r.done (λ rest. fault_at None old.at rest ≡ Some f) (λ text. StandsBehind text r.done old.last old.begin f) (r.consumed going.no_fault)
+      (λ rest e. record { rest = rest; text_is = refl; stands = stands_first old old.at (length r.done) rest f going.no_end none r.place e })) s.fault_is in
       subst (λ (p : Progress). HasRead first after (record p { fault = Some f }) events) (sym s.progress) (record {
         done = r.done;
         begins = r.begins;
@@ -107,6 +122,7 @@ module _ (first before : Option (List ℕ)) (old : Progress) (events : List Even
         is_done = r.is_done;
         at_end = λ n end is_last. none_some (Some f) f n refl;
         fault_is = of_fault f (λ fault. OfBytes fault (IfSome first (λ text. IsMidFault text fault))) stays;
+        here = of_fault f (λ fault. OfBytes fault (IfSome first (λ text. StandsBehind text r.done old.last old.begin fault))) stands;
       })
 
 -- The begin record was read, now or before.
@@ -158,6 +174,10 @@ module _ (first before : Option (List ℕ)) (old : Progress) (events : List Even
         counted = omega (arith, r.place, r.within);
         fault_is = subst (λ at. fault_at (Some b.serial_number) at rest ≡ Some f) r.place e;
       })))) wrong in
+      let stands : OfBytes f (IfSome first (λ text. StandsBehind text r.done old.last old.begin f)) =
+      map_fault f (IfSome before (λ rest. fault_at (Some b.serial_number) old.at rest ≡ Some f)) (IfSome first (λ text. StandsBehind text r.done old.last old.begin f))
+      (told_behind first before r.done (λ rest. fault_at (Some b.serial_number) old.at rest ≡ Some f) (λ text. StandsBehind text r.done old.last old.begin f) (r.consumed going.no_fault)
+      (λ rest e. record { rest = rest; text_is = refl; stands = stands_later old b old.at (length r.done) rest f going.no_end has_begun r.place e })) wrong in
       record {
         done = r.done;
         begins = r.begins;
@@ -167,6 +187,7 @@ module _ (first before : Option (List ℕ)) (old : Progress) (events : List Even
         is_done = r.is_done;
         at_end = λ n end is_last. none_some (Some f) f n refl;
         fault_is = of_fault f (λ fault. OfBytes fault (IfSome first (λ text. IsMidFault text fault))) stays;
+        here = of_fault f (λ fault. OfBytes fault (IfSome first (λ text. StandsBehind text r.done old.last old.begin fault))) stands;
       }
 
   module _ (middle : Option (List ℕ)) (h : Header) (head : ReadsHead before middle (Some b.serial_number) old.at h) where
@@ -205,6 +226,7 @@ module _ (first before : Option (List ℕ)) (old : Progress) (events : List Even
               (record { dump = so_far.dump; header = so_far.header; begun = begun }));
           at_end = λ n end is_last. none_some old.last end going.no_end is_last;
           fault_is = λ fault is_fault. none_some old.fault fault going.no_fault is_fault;
+          here = λ fault is_fault. none_some old.fault fault going.no_fault is_fault;
         })
 
     module _ (is_end : h.event_id ≡ end_id) (dump : List ℕ) (sized : length dump ≡ h.data_size) where
@@ -244,6 +266,7 @@ module _ (first before : Option (List ℕ)) (old : Progress) (events : List Even
         is_done = is_ended;
         at_end = λ n end is_last. at_end;
         fault_is = λ fault is_fault. none_some old.fault fault going.no_fault is_fault;
+        here = λ fault is_fault. none_some old.fault fault going.no_fault is_fault;
       }
 
       pub finish_stopped : (left after : Option (List ℕ)) (f : MidFault) → Consumes middle left dump → IsBehindEnd left (old.at + 16 + h.data_size) f
@@ -268,6 +291,11 @@ module _ (first before : Option (List ℕ)) (old : Progress) (events : List Even
             more = p.0;
             fault_is = p.1 ∙ ap AfterEnd place_of;
           })))) more in
+          let stands : OfBytes f (IfSome first (λ text. StandsBehind text (r.done ++ encoding (end_record b.serial_number h.time_stamp dump)) (Some h) old.begin f)) =
+          map_fault f (IfSome left (λ rest. (0 < length rest) × (f ≡ AfterEnd (old.at + 16 + h.data_size)))) (IfSome first (λ text. StandsBehind text (r.done ++ encoding (end_record b.serial_number h.time_stamp dump)) (Some h) old.begin f))
+          (told_behind first left (r.done ++ encoding (end_record b.serial_number h.time_stamp dump)) (λ rest. (0 < length rest) × (f ≡ AfterEnd (old.at + 16 + h.data_size)))
+          (λ text. StandsBehind text (r.done ++ encoding (end_record b.serial_number h.time_stamp dump)) (Some h) old.begin f) (taken_to left c)
+          (λ rest p. record { rest = rest; text_is = refl; stands = (p.0, p.1 ∙ ap AfterEnd place_of) })) more in
           record {
             done = r.done ++ encoding (end_record b.serial_number h.time_stamp dump);
             begins = begins_of first left (r.done ++ encoding (end_record b.serial_number h.time_stamp dump)) (taken_to left c);
@@ -277,6 +305,7 @@ module _ (first before : Option (List ℕ)) (old : Progress) (events : List Even
             is_done = is_ended;
             at_end = λ n end is_last. none_some (Some f) f n refl;
             fault_is = of_fault f (λ fault. OfBytes fault (IfSome first (λ text. IsMidFault text fault))) stays;
+            here = of_fault f (λ fault. OfBytes fault (IfSome first (λ text. StandsBehind text (r.done ++ encoding (end_record b.serial_number h.time_stamp dump)) (Some h) old.begin fault))) stands;
           }
 
 -- The end record, by what its step did.

@@ -87,6 +87,19 @@ IsDone done None (Some end) events = ⊥
 IsDone done (Some begin) None events = BeginsWith done begin events
 IsDone done (Some begin) (Some end) events = EndsWith done begin end events
 
+-- This fault is the first of the bytes at this place, by the headers of the two records that were read in front of it:
+-- behind the end record any byte is one, and else it is that of the next header and its data.
+abbrev pub StandsAt : (last begin : Option Header) (at : ℕ) → List ℕ → MidFault → Type 0
+StandsAt (Some end) begin at rest fault = (0 < length rest) × (fault ≡ AfterEnd at)
+StandsAt None None at rest fault = fault_at None at rest ≡ Some fault
+StandsAt None (Some begin) at rest fault = fault_at (Some begin.serial_number) at rest ≡ Some fault
+
+-- A fault stands right behind what was read of the bytes.
+pub record StandsBehind (text done : List ℕ) (last begin : Option Header) (fault : MidFault) : Type 0 where
+  pub rest : List ℕ
+  pub text_is : text ≡ done ++ rest
+  pub stands : StandsAt last begin (length done) rest fault
+
 -- Where the source first told its bytes: these events were read of it, and it has `now` left.
 pub record HasRead (first now : Option (List ℕ)) (progress : Progress) (events : List Event) : Type 0 where
   pub done : List ℕ
@@ -102,6 +115,8 @@ pub record HasRead (first now : Option (List ℕ)) (progress : Progress) (events
   pub at_end : progress.fault ≡ None → (end : Header) → progress.last ≡ Some end → IsAtEnd now
   -- a fault is the first one of the bytes, or the source's
   pub fault_is : (fault : MidFault) → progress.fault ≡ Some fault → OfBytes fault (IfSome first (λ text. IsMidFault text fault))
+  -- and stands right behind what was read
+  pub here : (fault : MidFault) → progress.fault ≡ Some fault → OfBytes fault (IfSome first (λ text. StandsBehind text done progress.last progress.begin fault))
 
 -- nothing was read
 abbrev pub nothing_read : Progress

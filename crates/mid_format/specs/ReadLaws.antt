@@ -23,7 +23,7 @@ pub record IsWholeFile (text : List ℕ) (run time0 : ℕ) (dump0 : List ℕ) (e
 
 -- Nothing was read yet.
 pub has_read_none : (first : Option (List ℕ)) → HasRead first first nothing_read []
-has_read_none None = record { done = []; begins = tt; consumed = λ n. tt; place = refl; within = omega arith; is_done = (refl, refl); at_end = λ n end e. some_none end e; fault_is = λ fault e. some_none fault e }
+has_read_none None = record { done = []; begins = tt; consumed = λ n. tt; place = refl; within = omega arith; is_done = (refl, refl); at_end = λ n end e. some_none end e; fault_is = λ fault e. some_none fault e; here = λ fault e. some_none fault e }
 has_read_none (Some text) = record {
   done = [];
   begins = (text, refl);
@@ -33,6 +33,7 @@ has_read_none (Some text) = record {
   is_done = (refl, refl);
   at_end = λ n end e. some_none end e;
   fault_is = λ fault e. some_none fault e;
+  here = λ fault e. some_none fault e;
 }
 
 -- What was read whole.

@@ -72,6 +72,13 @@ impl<S> MidReader<S> {
         self.progress.begin
     }
 
+    /// How many bytes the records and events have that were read.
+    pub fn place(&self) -> u64
+        ensures { result ≡ self.now.progress.at }
+    {
+        self.progress.at
+    }
+
     /// The header of the end record, once that was read.
     pub fn last(&self) -> Option<Header>
         ensures { result ≡ self.now.progress.last }
@@ -90,6 +97,8 @@ impl<S: Source> MidReader<S> {
         ensures reads { ReadsOn (S.left self.old.source) (S.left self.new.source) self.old.progress self.new.progress result into.new.event }
         ensures fault { self.new.progress.fault ≡ fault_of result }
         ensures end { IfOk result (λ given. IsNone given ↔ IsSome self.new.progress.last) }
+        // The begin record is read once.
+        ensures begun { IsSome self.old.progress.begin → self.new.progress.begin ≡ self.old.progress.begin }
         // A fault, and the end, are answered again, and the source is left alone.
         ensures again { IfSome self.old.progress.fault (λ fault. result ≡ Err fault) }
         ensures still { self.old.progress.fault ≡ None → IsSome self.old.progress.last → result ≡ Ok None }

@@ -61,6 +61,7 @@ pub fn step<S: Source>(
     ensures stops { IfErr result (Stops (S.left source.old) (S.left source.new) progress.old progress.new) }
     ensures place { progress.new.at ≤ 2 ^ 62 }
     ensures onward { IfOk result (λ given. IsSome given → progress.old.at < progress.new.at) }
+    ensures begun { IsSome progress.old.begin → progress.new.begin ≡ progress.old.begin }
     ensures no_fault { progress.new.fault ≡ None }
     ensures last { IfOk result (λ given. IsNone given ↔ IsSome progress.new.last) }
     ensures room { into.new.room ≡ into.old.room }
