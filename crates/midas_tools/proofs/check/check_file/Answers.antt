@@ -1,0 +1,11 @@
+use Rattle.midas_tools.specs.Checks.{Checks}
+use Rattle.midas_tools.proofs.Ending.{writes_refused, writes_read}
+use Rattle.midas_tools.proofs.check.check_file.Goals as goal
+
+pub returns-in-Ok-clause-writes : goal.returns-in-Ok-clause-writes
+returns-in-Ok-clause-writes g c =
+    writes_read Checks (g.F.Files.seen c.args.files) c.args.name.now (g.K.Sink.written c.args.out.now) (g.K.Sink.written c.finish.new.out) _ _ _ _ c.in-Ok.ensures.opened _ _ _ _ _ (rw c.new-reader.ensures at c.read_and_check-end.ensures.reads) c.finish.ensures.finished
+
+pub returns-in-Err-clause-writes : goal.returns-in-Err-clause-writes
+returns-in-Err-clause-writes g c =
+    writes_refused Checks (g.F.Files.seen c.args.files) c.args.name.now (g.K.Sink.written c.args.out.now) (g.K.Sink.written c.refuse.new.out) _ _ _ _ _ _ c.in-Err.refused c.refuse.result c.in-Err.ensures.refused c.refuse.ensures

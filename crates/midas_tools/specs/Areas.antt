@@ -1,0 +1,53 @@
+-- The lines of events with their banks.
+use Rattle.std.specs.Prelude.{◌≡◌, ℕ, ◌⊎◌, List, [], ◌∷◌, ◌++◌}
+use Rattle.std.proofs.Common.{◌∙◌, refl, ap, sym, append_assoc}
+use Rattle.std.proofs.lemmas.List.{append-nil}
+use Rattle.daq_types.specs.declared.events.Event.{Event}
+use Rattle.bank_format.specs.BankAreas.{BankValue}
+use Rattle.bank_format.specs.Faults.{HoldsBanks, IsFirstFault}
+use Rattle.bank_format.specs.declared.faults.BankFault.{BankFault}
+use Rattle.midas_tools.specs.Texts.{event_line, bank_line, no_banks_line}
+
+-- banks, a line each
+abbrev pub bank_lines : List BankValue → List ℕ
+bank_lines [] = []
+bank_lines (b ∷ bs) = bank_line b ++ bank_lines bs
+
+-- the data are these banks, whose lines the text is
+pub record ListsBanks (body text : List ℕ) : Type 0 where
+  pub banks : List BankValue
+  pub held : HoldsBanks banks body
+  pub text_is : text ≡ bank_lines banks
+
+-- the data are no bank area, as the text says
+pub record HasNoBanks (body text : List ℕ) : Type 0 where
+  pub fault : BankFault
+  pub first : IsFirstFault body fault
+  pub text_is : text ≡ no_banks_line fault
+
+-- the lines of the banks of these data
+abbrev pub AreBankLines : (body text : List ℕ) → Type 0
+AreBankLines body text = ListsBanks body text ⊎ HasNoBanks body text
+
+-- the lines of an event: its own, and below it those of its banks
+pub record AreEventLines (e : Event) (text : List ℕ) : Type 0 where
+  pub below : List ℕ
+  pub banks : AreBankLines e.body below
+  pub text_is : text ≡ event_line e ++ below
+
+-- Such lines were added to a page.
+pub record Adds (Are : List ℕ → Type 0) (page_old page_new : List ℕ) : Type 0 where
+  pub lines : List ℕ
+  pub are : Are lines
+  pub page_is : page_new ≡ page_old ++ lines
+
+-- the lines of events, one behind the other
+abbrev pub AreLinesOf : List Event → List ℕ → Type 0
+AreLinesOf [] text = text ≡ []
+AreLinesOf (e ∷ es) text = (first : List ℕ) × (rest : List ℕ) × AreEventLines e first × AreLinesOf es rest × (text ≡ first ++ rest)
+
+-- one event more
+pub AreLinesOf-more : (es : List Event) (e : Event) (text more : List ℕ) → AreLinesOf es text → AreEventLines e more → AreLinesOf (es ++ e ∷ []) (text ++ more)
+AreLinesOf-more [] e text more none lines = (more, [], lines, refl, ap (λ (t : List ℕ). t ++ more) none ∙ sym (append-nil more))
+AreLinesOf-more (f ∷ fs) e text more p lines =
+    (p.0, p.1 ++ more, p.2, AreLinesOf-more fs e p.1 more p.3 lines, ap (λ (t : List ℕ). t ++ more) p.4 ∙ append_assoc p.0 p.1 more)

@@ -1,0 +1,164 @@
+-- What a tool finds under a name, what it prints of it, and how it ends.
+use Rattle.std.specs.Prelude.{◌≡◌, ◌≢◌, ◌≤◌, ℕ, false, List, [], ◌++◌, Option, Some, None, IsTrue, IsNone, IfSome, ◌⊎◌, ⊤}
+use Rattle.std.specs.Io.KnownBytes.{Appends, Keeps}
+use Rattle.daq_types.specs.Names.{is_compressed}
+use Rattle.daq_io.specs.Counts.{Rose}
+use Rattle.daq_io.specs.Seen.{Stored, Seen, Opens}
+use Rattle.daq_io.specs.Streams.{AppendsPart}
+use Rattle.mid_format.specs.declared.faults.MidFault.{MidFault}
+use Rattle.mid_format.specs.declared.faults.MidFault.TheVariants.{ReadFault}
+use Rattle.midas_tools.specs.Texts.{bad_line}
+use Rattle.midas_tools.specs.declared.opening.Refused.{Refused}
+use Rattle.midas_tools.specs.declared.opening.Refused.TheVariants.{NameCompressed, NameMissing, OpenFailed}
+use Rattle.midas_tools.specs.declared.ends.InputFault.TheVariants.{Mid, Compressed, Missing, ScriptTooLong}
+use Rattle.midas_tools.specs.declared.ends.ToolEnd.{ToolEnd}
+use Rattle.midas_tools.specs.declared.ends.ToolEnd.TheVariants.{Done, Input, FileFault, SinkFault, NoMemory}
+
+-- There is a file of this name, and of its bytes this is true.
+pub record IsThere (seen : Seen) (name : List ℕ) (Fact : List ℕ → Type 0) : Type 0 where
+  pub file : Stored
+  pub at_is : seen.at name ≡ Some file
+  pub fact : Fact file.bytes
+
+-- What a tool finds, and its text: `Says bytes fault text` says that the tool prints this text of a file of these bytes,
+-- which is a run file, or has this fault first. A compressed name is not looked for, and a missing one is not opened.
+abbrev pub Finds : (Says : List ℕ → Option MidFault → List ℕ → Type 0) (seen : Seen) (name text : List ℕ) → ToolEnd → Type 0
+Finds Says seen name text Done = (is_compressed name ≡ false) × (IsTrue seen.tells → IsThere seen name (λ bytes. Says bytes None text))
+Finds Says seen name text (Input (Mid fault)) = (is_compressed name ≡ false) × (fault ≢ ReadFault) × (IsTrue seen.tells → IsThere seen name (λ bytes. Says bytes (Some fault) text))
+Finds Says seen name text (Input Compressed) = IsTrue (is_compressed name) × (text ≡ bad_line Compressed)
+Finds Says seen name text (Input Missing) = (is_compressed name ≡ false) × (text ≡ bad_line Missing) × (IsTrue seen.tells → IsNone (seen.at name))
+Finds Says seen name text (Input ScriptTooLong) = ⊥
+Finds Says seen name text FileFault = ⊥
+Finds Says seen name text SinkFault = ⊥
+Finds Says seen name text NoMemory = ⊥
+
+-- All of the text was written.
+pub record WritesAll (Says : List ℕ → Option MidFault → List ℕ → Type 0) (seen : Seen) (name : List ℕ) (told_old told_new : Option (List ℕ)) (end : ToolEnd) : Type 0 where
+  pub text : List ℕ
+  pub finds : Finds Says seen name text end
+  pub written : Appends told_old told_new text
+
+-- A part of the text was written.
+pub record WritesPart (Says : List ℕ → Option MidFault → List ℕ → Type 0) (seen : Seen) (name : List ℕ) (told_old told_new : Option (List ℕ)) : Type 0 where
+  pub found : ToolEnd
+  pub text : List ℕ
+  pub finds : Finds Says seen name text found
+  pub written : AppendsPart told_old told_new text
+
+-- What a tool writes that prints when it has read all: its text, a part of it where the sink fails, and nothing where a
+-- call on the files fails or there is no memory.
+abbrev pub Writes : (Says : List ℕ → Option MidFault → List ℕ → Type 0) (seen : Seen) (name : List ℕ) (told_old told_new : Option (List ℕ)) → ToolEnd → Type 0
+Writes Says seen name told_old told_new Done = WritesAll Says seen name told_old told_new Done
+Writes Says seen name told_old told_new (Input fault) = WritesAll Says seen name told_old told_new (Input fault)
+Writes Says seen name told_old told_new FileFault = (is_compressed name ≡ false) × Keeps told_old told_new
+Writes Says seen name told_old told_new SinkFault = WritesPart Says seen name told_old told_new
+Writes Says seen name told_old told_new NoMemory = (is_compressed name ≡ false) × Keeps told_old told_new
+
+-- the sink's count of faults: it rose exactly where the sink failed; nothing is said where memory was wanting
+abbrev pub SinkCounts : ToolEnd → (old new : ℕ) → Type 0
+SinkCounts Done old new = new ≡ old
+SinkCounts (Input fault) old new = new ≡ old
+SinkCounts FileFault old new = new ≡ old
+SinkCounts SinkFault old new = Rose old new
+SinkCounts NoMemory old new = ⊤
+
+-- the files' count: it rose exactly where a call on them failed and the sink did not
+abbrev pub FileCounts : ToolEnd → (old new : ℕ) → Type 0
+FileCounts Done old new = new ≡ old
+FileCounts (Input fault) old new = new ≡ old
+FileCounts FileFault old new = Rose old new
+FileCounts SinkFault old new = ⊤
+FileCounts NoMemory old new = ⊤
+
+-- a missing name is counted as a clash
+abbrev pub ClashCounts : ToolEnd → (old new : ℕ) → Type 0
+ClashCounts Done old new = ⊤
+ClashCounts (Input (Mid fault)) old new = ⊤
+ClashCounts (Input Compressed) old new = ⊤
+ClashCounts (Input Missing) old new = Rose old new
+ClashCounts (Input ScriptTooLong) old new = ⊥
+ClashCounts FileFault old new = ⊤
+ClashCounts SinkFault old new = ⊤
+ClashCounts NoMemory old new = ⊤
+
+-- What was read of the source, by the end that it leads to.
+abbrev pub ReadsTo : (Says : List ℕ → Option MidFault → List ℕ → Type 0) (source : Option (List ℕ)) (text : List ℕ) → ToolEnd → Type 0
+ReadsTo Says source text Done = IfSome source (λ bytes. Says bytes None text)
+ReadsTo Says source text (Input (Mid fault)) = (fault ≢ ReadFault) × IfSome source (λ bytes. Says bytes (Some fault) text)
+ReadsTo Says source text (Input Compressed) = ⊥
+ReadsTo Says source text (Input Missing) = ⊥
+ReadsTo Says source text (Input ScriptTooLong) = ⊥
+ReadsTo Says source text FileFault = ⊤
+ReadsTo Says source text SinkFault = ⊥
+ReadsTo Says source text NoMemory = ⊤
+
+-- the source's count of faults by that end
+abbrev pub SourceCounts : ToolEnd → (old new : ℕ) → Type 0
+SourceCounts Done old new = new ≡ old
+SourceCounts (Input fault) old new = new ≡ old
+SourceCounts FileFault old new = Rose old new
+SourceCounts SinkFault old new = new ≡ old
+SourceCounts NoMemory old new = new ≡ old
+
+-- The name is not compressed, and its file was opened.
+pub record IsOpened (old now : Seen) (name : List ℕ) (number : ℕ) : Type 0 where
+  pub plain : is_compressed name ≡ false
+  pub opens : Opens old now name number []
+
+-- Why a file was not opened, with the counts of faults and of clashes of the files.
+abbrev pub Refuses : Seen → (name : List ℕ) (faults_old faults_new clashes_old clashes_new : ℕ) → Refused → Type 0
+Refuses seen name faults_old faults_new clashes_old clashes_new NameCompressed = IsTrue (is_compressed name) × (faults_new ≡ faults_old)
+Refuses seen name faults_old faults_new clashes_old clashes_new NameMissing =
+    (is_compressed name ≡ false) × (IsTrue seen.tells → IsNone (seen.at name)) × (faults_new ≡ faults_old) × Rose clashes_old clashes_new
+Refuses seen name faults_old faults_new clashes_old clashes_new OpenFailed = (is_compressed name ≡ false) × Rose faults_old faults_new
+
+-- A text was printed whole, and this is the end; or the sink failed at a part of it.
+abbrev pub Printed : (text : List ℕ) (told_old told_new : Option (List ℕ)) (sink_old sink_new : ℕ) (end result : ToolEnd) → Type 0
+Printed text told_old told_new sink_old sink_new end result =
+    ((result ≡ end) × Appends told_old told_new text × (sink_new ≡ sink_old)) ⊎ ((result ≡ SinkFault) × AppendsPart told_old told_new text × Rose sink_old sink_new)
+
+-- Nothing was printed, and this is the end.
+abbrev pub Unprinted : (told_old told_new : Option (List ℕ)) (sink_old sink_new : ℕ) (end result : ToolEnd) → Type 0
+Unprinted told_old told_new sink_old sink_new end result = (result ≡ end) × Keeps told_old told_new × (sink_new ≡ sink_old)
+
+-- What is printed where a file was not opened.
+abbrev pub SaysWhy : Refused → (told_old told_new : Option (List ℕ)) (sink_old sink_new : ℕ) → ToolEnd → Type 0
+SaysWhy NameCompressed told_old told_new sink_old sink_new result = Printed (bad_line Compressed) told_old told_new sink_old sink_new (Input Compressed) result
+SaysWhy NameMissing told_old told_new sink_old sink_new result = Printed (bad_line Missing) told_old told_new sink_old sink_new (Input Missing) result
+SaysWhy OpenFailed told_old told_new sink_old sink_new result = Unprinted told_old told_new sink_old sink_new FileFault result
+
+-- A file that was read to an end is closed, and then the text is printed. Nothing is printed where the reading came to
+-- no text, or the close failed.
+abbrev pub PrintsClosed : (text : List ℕ) (told_old told_new : Option (List ℕ)) (sink_old sink_new files_old files_new : ℕ) (end result : ToolEnd) → Type 0
+PrintsClosed text told_old told_new sink_old sink_new files_old files_new end result =
+    (Printed text told_old told_new sink_old sink_new end result × (files_new ≡ files_old)) ⊎ (Unprinted told_old told_new sink_old sink_new FileFault result × Rose files_old files_new)
+
+abbrev pub Finishes : (text : List ℕ) (told_old told_new : Option (List ℕ)) (sink_old sink_new files_old files_new : ℕ) (end result : ToolEnd) → Type 0
+Finishes text told_old told_new sink_old sink_new files_old files_new Done result = PrintsClosed text told_old told_new sink_old sink_new files_old files_new Done result
+Finishes text told_old told_new sink_old sink_new files_old files_new (Input fault) result = PrintsClosed text told_old told_new sink_old sink_new files_old files_new (Input fault) result
+Finishes text told_old told_new sink_old sink_new files_old files_new FileFault result = Unprinted told_old told_new sink_old sink_new FileFault result × (files_old ≤ files_new)
+Finishes text told_old told_new sink_old sink_new files_old files_new SinkFault result = Unprinted told_old told_new sink_old sink_new SinkFault result × (files_old ≤ files_new)
+Finishes text told_old told_new sink_old sink_new files_old files_new NoMemory result = Unprinted told_old told_new sink_old sink_new NoMemory result × (files_old ≤ files_new)
+
+-- How the reading of a file ends at this fault of it: its line is put on the page, unless the source failed or there is
+-- no memory.
+abbrev pub FaultEnds : MidFault → (page_old page_new : List ℕ) → ToolEnd → Type 0
+FaultEnds fault page_old page_new Done = ⊥
+FaultEnds fault page_old page_new (Input (Mid found)) = (found ≡ fault) × (found ≢ ReadFault) × (page_new ≡ page_old ++ bad_line (Mid found))
+FaultEnds fault page_old page_new (Input Compressed) = ⊥
+FaultEnds fault page_old page_new (Input Missing) = ⊥
+FaultEnds fault page_old page_new (Input ScriptTooLong) = ⊥
+FaultEnds fault page_old page_new FileFault = (fault ≡ ReadFault) × (page_new ≡ page_old)
+FaultEnds fault page_old page_new SinkFault = ⊥
+FaultEnds fault page_old page_new NoMemory = fault ≢ ReadFault
+
+-- A file that was read to this end is closed: the end stays, unless the close failed behind an end without a fault.
+abbrev pub ClosesWell : (files_old files_new : ℕ) (end result : ToolEnd) → Type 0
+ClosesWell files_old files_new end result = ((result ≡ end) × (files_new ≡ files_old)) ⊎ ((result ≡ FileFault) × Rose files_old files_new)
+
+abbrev pub Closed : (end : ToolEnd) (files_old files_new : ℕ) (result : ToolEnd) → Type 0
+Closed Done files_old files_new result = ClosesWell files_old files_new Done result
+Closed (Input fault) files_old files_new result = ClosesWell files_old files_new (Input fault) result
+Closed FileFault files_old files_new result = (result ≡ FileFault) × (files_old ≤ files_new)
+Closed SinkFault files_old files_new result = result ≡ SinkFault
+Closed NoMemory files_old files_new result = result ≡ NoMemory

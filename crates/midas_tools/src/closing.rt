@@ -1,0 +1,85 @@
+ghost use Rattle.daq_io.specs.Seen.{Ends};
+ghost use Rattle.midas_tools.specs.Findings.{Closed, FaultEnds, Finishes, Printed, SaysWhy};
+
+use crate::ends::{InputFault, ToolEnd};
+use crate::lines::add_bad;
+use crate::opening::{Refused, close};
+use crate::page::Page;
+use daq_io::{Files, Sink, write_all};
+use mid_format::{FileSource, MidFault};
+
+/// Writes a text, and answers the end that it tells of, or that the sink failed.
+pub fn print<K: Sink>(end: ToolEnd, text: &[u8], out: &mut K) -> ToolEnd
+    ensures { Printed text.now (K.written out.old) (K.written out.new) (K.faults out.old) (K.faults out.new) end result }
+{
+    match write_all(out, text) {
+        Ok(()) => end,
+        Err(_) => ToolEnd::SinkFault,
+    }
+}
+
+/// Writes why a file was not opened, unless a call on the files failed.
+pub fn refuse<K: Sink>(refused: Refused, out: &mut K) -> ToolEnd
+    ensures { SaysWhy refused (K.written out.old) (K.written out.new) (K.faults out.old) (K.faults out.new) result }
+{
+    match refused {
+        Refused::NameCompressed => {
+            let fault = InputFault::Compressed;
+            print(ToolEnd::Input { fault }, b"bad Compressed\n", out)
+        }
+        Refused::NameMissing => {
+            let fault = InputFault::Missing;
+            print(ToolEnd::Input { fault }, b"bad Missing\n", out)
+        }
+        Refused::OpenFailed => ToolEnd::FileFault,
+    }
+}
+
+/// The end at this fault of a file, whose line is put on the page.
+pub fn stop_at(fault: MidFault, page: &mut Page) -> ToolEnd
+    ensures { FaultEnds fault page.old page.new result }
+{
+    match fault {
+        MidFault::ReadFault => ToolEnd::FileFault,
+        fault => {
+            if add_bad(page, fault).is_err() {
+                return ToolEnd::NoMemory;
+            }
+            let fault = InputFault::Mid { fault };
+            ToolEnd::Input { fault }
+        }
+    }
+}
+
+/// Closes the file, whose reading came to this end, and then writes the text on the page, unless there was a fault.
+pub fn finish<F: Files, K: Sink>(
+    end: ToolEnd,
+    source: FileSource<F>,
+    page: &Page,
+    out: &mut K,
+) -> (ToolEnd, F)
+    ensures finished { Finishes page.now (K.written out.old) (K.written out.new) (K.faults out.old) (K.faults out.new) (F.faults source.files) (F.faults result.1) end result.0 }
+    ensures ended { Ends (F.seen source.first) (F.seen result.1) source.number }
+{
+    let (closed, files) = close(source);
+    match (end, closed) {
+        (ToolEnd::Done | ToolEnd::Input { .. }, Ok(())) => (
+            print(end, page.as_slice(), out),
+            files,
+        ),
+        (ToolEnd::Done | ToolEnd::Input { .. }, Err(_)) => (ToolEnd::FileFault, files),
+        _ => (end, files),
+    }
+}
+
+/// Closes the file, of which all was printed that there was to print.
+pub fn close_dump<F: Files>(end: ToolEnd, source: FileSource<F>) -> (ToolEnd, F)
+    ensures closed { Closed end (F.faults source.files) (F.faults result.1) result.0 }
+    ensures ended { Ends (F.seen source.first) (F.seen result.1) source.number }
+{
+    let (closed, files) = close(source);
+    match (end, closed) {
+        (ToolEnd::Done | ToolEnd::Input { .. }, Err(_)) => (ToolEnd::FileFault, files),
+        _ => (end, files),
+    }
+}

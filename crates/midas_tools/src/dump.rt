@@ -1,0 +1,144 @@
+ghost use Rattle.std.specs.Prelude.{◌≡◌, ◌≤◌, ◌++◌, ℕ, List, [], Option, OnOk};
+ghost use Rattle.daq_io.specs.Seen.{Same};
+ghost use Rattle.mid_format.specs.HasRead.{nothing_read};
+ghost use Rattle.midas_tools.specs.Dumps.{DumpsTo, EndsText, ListsTo, SinkHalts, SourceHalts, WritesOn, end_lines, new_begin};
+ghost use Rattle.midas_tools.specs.Findings.{ClashCounts, FileCounts, SinkCounts};
+ghost use Rattle.midas_tools.specs.Printing.{Prints};
+
+use crate::areas::add_whole_event;
+use crate::closing::{close_dump, print, refuse, stop_at};
+use crate::ends::ToolEnd;
+use crate::halts::Halt;
+use crate::lines::add_record;
+use crate::opening::open;
+use crate::page::{Page, flush_full};
+use daq_io::{Files, Sink, Source};
+use daq_types::{FileName, NoMemory};
+use event_header::{EventBuf, Header, MAX_DATA};
+use mid_format::{MidFault, MidReader};
+use std::alloc::Global;
+
+/// Adds the line of the begin record, where it was read just now.
+fn add_begin(page: &mut Page, begun: bool, begin: Option<Header>) -> Result<(), NoMemory>
+    ensures { OnOk result (page.new ≡ page.old ++ new_begin begun begin) }
+{
+    if begun {
+        return Ok(());
+    }
+    match begin {
+        Some(begin) => add_record(page, b"begin", &begin),
+        None => Ok(()),
+    }
+}
+
+/// Adds the line of the end record, where it was read.
+fn add_end(page: &mut Page, last: Option<Header>) -> Result<(), NoMemory>
+    ensures { OnOk result (page.new ≡ page.old ++ end_lines last) }
+{
+    match last {
+        Some(last) => add_record(page, b"end", &last),
+        None => Ok(()),
+    }
+}
+
+/// Prints the begin record and the events, as they are read.
+fn print_events<S: Source, K: Sink>(
+    reader: &mut MidReader<S>,
+    event: &mut EventBuf,
+    page: &mut Page,
+    out: &mut K,
+) -> Result<(), Halt>
+    requires new { reader.old.progress ≡ nothing_read }
+    requires room { 4194304 ≤ event.old.room }
+    requires blank { page.old ≡ [] }
+    ensures lists { ListsTo (S.left reader.old.source) (S.left reader.new.source) reader.new.progress (K.written out.old) (K.written out.new) page.new result }
+    ensures source { SourceHalts result (S.faults reader.old.source) (S.faults reader.new.source) }
+    ensures sink { SinkHalts result (K.faults out.old) (K.faults out.new) }
+    ensures origin { S.origin reader.new.source ≡ S.origin reader.old.source }
+{
+    loop {
+        let begun = reader.begin().is_some();
+        let given = reader.next(event);
+        add_begin(page, begun, reader.begin())?;
+        match given {
+            Ok(Some(())) => {
+                add_whole_event(page, event)?;
+                flush_full(page, out)?;
+            }
+            Ok(None) => return Ok(()),
+            Err(fault) => return Err(Halt::Bad { fault }),
+        }
+    }
+}
+
+/// Prints what is on the page, and the lines of the end record and of the fault where there are such.
+fn end_dump<K: Sink>(
+    last: Option<Header>,
+    fault: Option<MidFault>,
+    page: &mut Page,
+    out: &mut K,
+) -> ToolEnd
+    ensures text { (first : Option (List ℕ)) → (text : List ℕ) → Prints first (K.written out.old) page.old text → EndsText last fault first (K.written out.new) text result }
+    ensures sink { SinkCounts result (K.faults out.old) (K.faults out.new) }
+{
+    let Ok(()) = add_end(page, last) else {
+        return ToolEnd::NoMemory;
+    };
+    match fault {
+        None => print(ToolEnd::Done, page.as_slice(), out),
+        Some(fault) => match stop_at(fault, page) {
+            ToolEnd::NoMemory => ToolEnd::NoMemory,
+            end => print(end, page.as_slice(), out),
+        },
+    }
+}
+
+/// Reads a file and prints what `dump` prints of it.
+fn read_and_dump<S: Source, K: Sink>(
+    alloc: Global,
+    reader: &mut MidReader<S>,
+    out: &mut K,
+) -> ToolEnd
+    requires { reader.old.progress ≡ nothing_read }
+    ensures dumps { DumpsTo (S.left reader.old.source) (K.written out.old) (K.written out.new) result }
+    ensures source { FileCounts result (S.faults reader.old.source) (S.faults reader.new.source) }
+    ensures sink { SinkCounts result (K.faults out.old) (K.faults out.new) }
+    ensures origin { S.origin reader.new.source ≡ S.origin reader.old.source }
+{
+    let Ok(mut event) = EventBuf::new(alloc, MAX_DATA) else {
+        return ToolEnd::NoMemory;
+    };
+    let mut page = Page::new(alloc);
+    match print_events(reader, &mut event, &mut page, out) {
+        Ok(()) => end_dump(reader.last(), None, &mut page, out),
+        Err(Halt::Bad { fault }) => end_dump(reader.last(), Some(fault), &mut page, out),
+        Err(Halt::SinkFailed) => ToolEnd::SinkFault,
+        Err(Halt::Short) => ToolEnd::NoMemory,
+    }
+}
+
+/// Reads the file of this name and prints its records and events, with the banks of each, as they are read, and what is
+/// wrong with it where it is no run file. Hands the files back, in which every name and every byte is as it was.
+pub fn dump_file<F: Files, K: Sink>(
+    alloc: Global,
+    files: F,
+    name: &FileName,
+    out: &mut K,
+) -> (ToolEnd, F)
+    // What was found, and what was written of it.
+    ensures writes { WritesOn (F.seen files) name.now (K.written out.old) (K.written out.new) result.0 }
+    // A fault is the end exactly where its count rose and no earlier cause holds.
+    ensures sink { SinkCounts result.0 (K.faults out.old) (K.faults out.new) }
+    ensures faults { FileCounts result.0 (F.faults files) (F.faults result.1) }
+    ensures clashes { ClashCounts result.0 (F.clashes files) (F.clashes result.1) }
+    ensures same { Same (F.seen files) (F.seen result.1) }
+{
+    match open(files, name) {
+        Ok(source) => {
+            let mut reader = MidReader::new(source);
+            let end = read_and_dump(alloc, &mut reader, out);
+            close_dump(end, reader.into_source())
+        }
+        Err((refused, files)) => (refuse(refused, out), files),
+    }
+}

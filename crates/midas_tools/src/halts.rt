@@ -1,0 +1,33 @@
+ghost use Rattle.std.specs.Prelude.{◌≡◌};
+ghost use Rattle.midas_tools.specs.declared.halts.Halt.TheVariants.{Short as no_memory, SinkFailed as sink_failed};
+
+use daq_io::Failed;
+use daq_types::NoMemory;
+use mid_format::MidFault;
+
+/// Why the events of a file were not all printed.
+#[derive(Clone, Copy, Debug, PartialEq, Eq)]
+pub enum Halt {
+    /// The file has this fault, or its source failed.
+    Bad { fault: MidFault },
+    /// The sink failed.
+    SinkFailed,
+    /// There was no memory.
+    Short,
+}
+
+impl From<NoMemory> for Halt {
+    ghost from_gives = { λ _ h. h ≡ no_memory };
+
+    fn from(_e: NoMemory) -> Halt {
+        Halt::Short
+    }
+}
+
+impl From<Failed> for Halt {
+    ghost from_gives = { λ _ h. h ≡ sink_failed };
+
+    fn from(_e: Failed) -> Halt {
+        Halt::SinkFailed
+    }
+}

@@ -1,0 +1,16 @@
+//! The tools that read run files: `check`, `dump` and `analyze`.
+#![tactic(auto)]
+
+mod areas;
+mod check;
+mod closing;
+mod dump;
+mod ends;
+mod halts;
+mod lines;
+mod opening;
+mod page;
+
+pub use check::check_file;
+pub use dump::dump_file;
+pub use ends::{InputFault, ToolEnd};

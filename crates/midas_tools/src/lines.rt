@@ -1,0 +1,143 @@
+ghost use Rattle.std.specs.Prelude.{◌≡◌, ◌++◌, ◌∷◌, [], OnOk, codes, length, map};
+ghost use Rattle.bank_format.specs.BankAreas.{BankValue, bank_value};
+ghost use Rattle.midas_tools.specs.Texts.{area_fault_text, bad_line, bank_line, event_line, fault_text, no_banks_line, number_text, ok_line, record_line, shown, type_of, type_text};
+
+use crate::ends::InputFault;
+use crate::page::Page;
+use bank_format::{Bank, BankFault};
+use daq_types::{NoMemory, Tid};
+use event_header::{EventBuf, Header};
+use mid_format::MidFault;
+
+/// Adds a name and the number behind it.
+fn add_named(page: &mut Page, name: &[u8], value: u64) -> Result<(), NoMemory>
+    ensures { OnOk result (page.new ≡ page.old ++ (name.now ++ number_text value)) }
+{
+    page.text(name)?;
+    page.number(value)
+}
+
+/// Adds the name of a fault of a run file, and its numbers.
+fn add_fault(page: &mut Page, fault: MidFault) -> Result<(), NoMemory>
+    ensures { OnOk result (page.new ≡ page.old ++ fault_text fault) }
+{
+    match fault {
+        MidFault::Truncated { at } => add_named(page, b"Truncated", at),
+        MidFault::NoBegin { at } => add_named(page, b"NoBegin", at),
+        MidFault::NoEnd { at } => add_named(page, b"NoEnd", at),
+        MidFault::AfterEnd { at } => add_named(page, b"AfterEnd", at),
+        MidFault::TooBig { at, size } => {
+            add_named(page, b"TooBig", at)?;
+            page.number(size as u64)
+        }
+        MidFault::ReadFault => page.text(b"ReadFault"),
+        MidFault::BadRecord { at } => add_named(page, b"BadRecord", at),
+        MidFault::TooLong { at } => add_named(page, b"TooLong", at),
+    }
+}
+
+/// Adds the line that says what is wrong with a run file.
+pub fn add_bad(page: &mut Page, fault: MidFault) -> Result<(), NoMemory>
+    ensures { OnOk result (page.new ≡ page.old ++ bad_line (InputFault.Mid fault)) }
+{
+    page.text(b"bad ")?;
+    add_fault(page, fault)?;
+    page.end_line()
+}
+
+/// Adds the line of a run file that is good.
+pub fn add_ok(page: &mut Page, run: u32, events: u64, bytes: u64) -> Result<(), NoMemory>
+    ensures { OnOk result (page.new ≡ page.old ++ ok_line run events bytes) }
+{
+    add_named(page, b"ok run", run as u64)?;
+    add_named(page, b" events", events)?;
+    add_named(page, b" bytes", bytes)?;
+    page.end_line()
+}
+
+/// Adds the line of the begin record or the end record.
+pub fn add_record(page: &mut Page, word: &[u8], header: &Header) -> Result<(), NoMemory>
+    ensures { OnOk result (page.new ≡ page.old ++ record_line word.now header.now) }
+{
+    add_named(page, word, header.serial_number as u64)?;
+    page.number(header.time_stamp as u64)?;
+    page.number(header.data_size as u64)?;
+    page.end_line()
+}
+
+/// Adds the line of an event.
+pub fn add_event(page: &mut Page, event: &EventBuf) -> Result<(), NoMemory>
+    ensures { OnOk result (page.new ≡ page.old ++ event_line event.now.event) }
+{
+    let header = event.header();
+    add_named(page, b"event", header.event_id as u64)?;
+    page.number(header.trigger_mask as u64)?;
+    page.number(header.serial_number as u64)?;
+    page.number(header.time_stamp as u64)?;
+    page.number(header.data_size as u64)?;
+    page.end_line()
+}
+
+/// A byte of a bank's name as it is printed.
+#[tactic(auto, unfolding(crate::specs::Texts::shown))]
+fn shown(byte: u8) -> u8
+    ensures { result ≡ shown byte }
+{
+    if 33 <= byte && byte <= 126 {
+        byte
+    } else {
+        b'.'
+    }
+}
+
+/// Adds a bank's name.
+fn add_name(page: &mut Page, name: [u8; 4]) -> Result<(), NoMemory>
+    ensures { OnOk result (page.new ≡ page.old ++ map shown name) }
+{
+    let [a, b, c, d] = name;
+    page.text(&[shown(a), shown(b), shown(c), shown(d)])
+}
+
+/// Adds a type's name, or its number where it has none.
+fn add_type(page: &mut Page, code: u32) -> Result<(), NoMemory>
+    ensures { OnOk result (page.new ≡ page.old ++ (32 ∷ type_text code)) }
+{
+    match Tid::from_code(code) {
+        Some(tid) => {
+            page.text(b" ")?;
+            page.text(tid.name().as_bytes())
+        }
+        None => page.number(code as u64),
+    }
+}
+
+/// Adds the line of a bank.
+pub fn add_bank(page: &mut Page, bank: &Bank) -> Result<(), NoMemory>
+    ensures { OnOk result (page.new ≡ page.old ++ bank_line (bank_value bank.now.name bank.now.tid bank.now.body.now)) }
+{
+    page.text(b"  bank ")?;
+    add_name(page, bank.name)?;
+    add_type(page, bank.tid)?;
+    page.number(bank.body.len() as u64)?;
+    page.end_line()
+}
+
+/// Adds why the data of an event are no bank area.
+fn add_area_fault(page: &mut Page, fault: BankFault) -> Result<(), NoMemory>
+    ensures { OnOk result (page.new ≡ page.old ++ area_fault_text fault) }
+{
+    match fault {
+        BankFault::Short { at } => add_named(page, b"Short", at),
+        BankFault::BadFlags { found } => add_named(page, b"BadFlags", found as u64),
+        BankFault::BadSize { at } => add_named(page, b"BadSize", at),
+    }
+}
+
+/// Adds the line of data that are no bank area.
+pub fn add_no_banks(page: &mut Page, fault: BankFault) -> Result<(), NoMemory>
+    ensures { OnOk result (page.new ≡ page.old ++ no_banks_line fault) }
+{
+    page.text(b"  no banks ")?;
+    add_area_fault(page, fault)?;
+    page.end_line()
+}
