@@ -125,6 +125,7 @@ dump_good bytes now p text end l sound last_is = record {
     lines_are = l.lines_are;
     text_is = ap (λ (t : List ℕ). t ++ end_lines p.last) l.text_is;
   };
+  counted = omega (arith, l.read.place, l.read.within);
   ends = subst (λ (o : Option Header). EndsAt None o p.begin (length l.read.done) []) (sym last_is) refl;
   text_is = refl;
 }
@@ -147,6 +148,7 @@ dump_fault bytes now p text f l is_fault ne =
         lines_are = l.lines_are;
         text_is = ap (λ (t : List ℕ). t ++ end_lines p.last) l.text_is;
       };
+      counted = omega (arith, l.read.place, l.read.within);
       ends = here.stands;
       text_is = refl;
     }

@@ -4,3 +4,4 @@ mod Ending
 mod Paging
 mod Dumping
 mod Dumped
+mod Complete

@@ -1,5 +1,5 @@
 -- What `dump` prints of a file.
-use Rattle.std.specs.Prelude.{◌≡◌, ◌≢◌, ℕ, false, Bool, ◌⊎◌, List, [], ◌++◌, length, Option, Some, None, Result, Ok, Err, codes, IsTrue, IfSome, if◌then◌else◌, ⊤}
+use Rattle.std.specs.Prelude.{◌≡◌, ◌≢◌, ◌≤◌, ◌^◌, ℕ, false, Bool, ◌⊎◌, List, [], ◌++◌, length, Option, Some, None, Result, Ok, Err, codes, IsTrue, IfSome, if◌then◌else◌, ⊤}
 use Rattle.std.specs.Io.KnownBytes.{Appends}
 use Rattle.daq_types.specs.Names.{is_compressed}
 use Rattle.daq_types.specs.declared.events.Event.{Event}
@@ -75,6 +75,7 @@ pub record IsDump (bytes : List ℕ) (fault : Option MidFault) (text : List ℕ)
   pub rest : List ℕ
   pub shown : List ℕ
   pub lists : ListsFront bytes begin last rest shown
+  pub counted : length lists.front ≤ 2 ^ 62
   pub ends : EndsAt fault last begin (length lists.front) rest
   pub text_is : text ≡ shown ++ fault_lines fault
 

@@ -5,6 +5,8 @@ use Rattle.daq_types.specs.Names.{is_compressed}
 use Rattle.daq_io.specs.Counts.{Rose}
 use Rattle.daq_io.specs.Seen.{Stored, Seen, Opens}
 use Rattle.daq_io.specs.Streams.{AppendsPart}
+use Rattle.daq_types.specs.declared.events.Event.{Event}
+use Rattle.mid_format.specs.ReadLaws.{IsWholeFile}
 use Rattle.mid_format.specs.declared.faults.MidFault.{MidFault}
 use Rattle.mid_format.specs.declared.faults.MidFault.TheVariants.{ReadFault}
 use Rattle.midas_tools.specs.Texts.{bad_line}
@@ -19,6 +21,27 @@ pub record IsThere (seen : Seen) (name : List ℕ) (Fact : List ℕ → Type 0) 
   pub file : Stored
   pub at_is : seen.at name ≡ Some file
   pub fact : Fact file.bytes
+
+-- The bytes are a run file.
+pub record IsRun (bytes : List ℕ) : Type 0 where
+  pub run : ℕ
+  pub time0 : ℕ
+  pub dump0 : List ℕ
+  pub events : List Event
+  pub time1 : ℕ
+  pub dump1 : List ℕ
+  pub whole : IsWholeFile bytes run time0 dump0 events time1 dump1
+
+-- There is a file of this name that is a run file, and the name is not compressed.
+pub record HasRun (seen : Seen) (name : List ℕ) : Type 0 where
+  pub plain : is_compressed name ≡ false
+  pub tells : IsTrue seen.tells
+  pub there : IsThere seen name IsRun
+
+-- A run file leads to the end `Done`, unless a call failed or there was no memory.
+abbrev pub Completes : (seen : Seen) (name : List ℕ) (sink_old sink_new files_old files_new : ℕ) → ToolEnd → Type 0
+Completes seen name sink_old sink_new files_old files_new end =
+    HasRun seen name → ¬ Rose sink_old sink_new → ¬ Rose files_old files_new → (end ≡ Done) ⊎ (end ≡ NoMemory)
 
 -- What a tool finds, and its text: `Says bytes fault text` says that the tool prints this text of a file of these bytes,
 -- which is a run file, or has this fault first. A compressed name is not looked for, and a missing one is not opened.

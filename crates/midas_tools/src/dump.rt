@@ -2,7 +2,7 @@ ghost use Rattle.std.specs.Prelude.{◌≡◌, ◌≤◌, ◌++◌, ℕ, List, [
 ghost use Rattle.daq_io.specs.Seen.{Same};
 ghost use Rattle.mid_format.specs.HasRead.{nothing_read};
 ghost use Rattle.midas_tools.specs.Dumps.{DumpsTo, EndsText, ListsTo, SinkHalts, SourceHalts, WritesOn, end_lines, new_begin};
-ghost use Rattle.midas_tools.specs.Findings.{ClashCounts, FileCounts, SinkCounts};
+ghost use Rattle.midas_tools.specs.Findings.{ClashCounts, Completes, FileCounts, SinkCounts};
 ghost use Rattle.midas_tools.specs.Printing.{Prints};
 
 use crate::areas::add_whole_event;
@@ -130,6 +130,8 @@ pub fn dump_file<F: Files, K: Sink>(
     // A fault is the end exactly where its count rose and no earlier cause holds.
     ensures sink { SinkCounts result.0 (K.faults out.old) (K.faults out.new) }
     ensures faults { FileCounts result.0 (F.faults files) (F.faults result.1) }
+    // A run file leads to the end `Done`, unless a call failed or there was no memory.
+    ensures complete { Completes (F.seen files) name.now (K.faults out.old) (K.faults out.new) (F.faults files) (F.faults result.1) result.0 }
     ensures clashes { ClashCounts result.0 (F.clashes files) (F.clashes result.1) }
     ensures same { Same (F.seen files) (F.seen result.1) }
 {

@@ -10,6 +10,8 @@ mod halts;
 mod lines;
 mod opening;
 mod page;
+#[cfg(test)]
+mod tests;
 
 pub use check::check_file;
 pub use dump::dump_file;

@@ -1,3 +1,5 @@
+use Rattle.std.proofs.Common.{rules}
+use Rattle.midas_tools.proofs.Complete.{dump_completes}
 use Rattle.midas_tools.proofs.Dumped.{dump_refused, dump_read}
 use Rattle.midas_tools.proofs.dump.dump_file.Goals as goal
 
@@ -8,3 +10,11 @@ returns-in-Ok-clause-writes g c =
 pub returns-in-Err-clause-writes : goal.returns-in-Err-clause-writes
 returns-in-Err-clause-writes g c =
     dump_refused (g.F.Files.seen c.args.files) c.args.name.now (g.K.Sink.written c.args.out.now) (g.K.Sink.written c.refuse.new.out) _ _ _ _ _ _ c.in-Err.refused c.refuse.result c.in-Err.ensures.refused c.refuse.ensures
+
+pub returns-in-Ok-clause-complete : goal.returns-in-Ok-clause-complete
+returns-in-Ok-clause-complete g c =
+    dump_completes _ _ _ _ _ _ _ _ c.close_dump.result.0 (returns-in-Ok-clause-writes g c) (search rules) (search rules)
+
+pub returns-in-Err-clause-complete : goal.returns-in-Err-clause-complete
+returns-in-Err-clause-complete g c =
+    dump_completes _ _ _ _ _ _ _ _ c.refuse.result (returns-in-Err-clause-writes g c) (search rules) (search rules)

@@ -1,0 +1,68 @@
+-- A run file leads to the end `Done`.
+use Rattle.std.proofs.Common.{◌≡◌, ◌∙◌, ℕ, ◌^◌, ◌≤◌, List, [], ◌++◌, length, Option, Some, None, IsTrue, true, false, ◌⊎◌, inl, inr, refl, ap, sym, subst}
+use Rattle.std.specs.Prelude.{IsNone}
+use Rattle.daq_types.specs.declared.events.Event.{Event}
+use Rattle.daq_types.specs.Names.{is_compressed}
+use Rattle.daq_io.specs.Counts.{Rose}
+use Rattle.daq_io.specs.Seen.{Stored, Seen}
+use Rattle.event_header.specs.declared.head.Header.{Header}
+use Rattle.mid_format.specs.Faults.{fault_at}
+use Rattle.mid_format.specs.HasRead.{IsDone, StandsAt, IsMidFault}
+use Rattle.mid_format.specs.ReadLaws.{whole_no_fault}
+use Rattle.mid_format.specs.declared.faults.MidFault.{MidFault}
+use Rattle.midas_tools.specs.Checks.{Checks}
+use Rattle.midas_tools.specs.Dumps.{IsDump, WritesOn}
+use Rattle.midas_tools.specs.Findings.{IsThere, IsRun, HasRun, Completes, Finds, Writes, SinkCounts, FileCounts}
+use Rattle.midas_tools.specs.declared.ends.InputFault.{InputFault}
+use Rattle.midas_tools.specs.declared.ends.InputFault.TheVariants.{Mid, Compressed, Missing, ScriptTooLong}
+use Rattle.midas_tools.specs.declared.ends.ToolEnd.{ToolEnd}
+use Rattle.midas_tools.specs.declared.ends.ToolEnd.TheVariants.{Done, Input, FileFault, SinkFault, NoMemory}
+
+abbrev file_or : Stored → Option Stored → Stored
+file_or file None = file
+file_or file (Some other) = other
+
+-- a run file has no fault
+sound_file : (bytes : List ℕ) (f : MidFault) → IsRun bytes → IsMidFault bytes f → ⊥
+sound_file bytes f r m = whole_no_fault bytes r.run r.time0 r.dump0 r.events r.time1 r.dump1 f r.whole m
+
+no_input : (Says : List ℕ → Option MidFault → List ℕ → Type 0) → ((bytes : List ℕ) (f : MidFault) (text : List ℕ) → Says bytes (Some f) text → IsMidFault bytes f) → (seen : Seen) (name text : List ℕ) (fault : InputFault)
+    → HasRun seen name → Finds Says seen name text (Input fault) → ⊥
+no_input Says faults seen name text (Mid f) h found =
+    let t : IsThere seen name (λ bytes. Says bytes (Some f) text) = found.2 h.tells in
+    let same : h.there.file ≡ t.file = ap (file_or t.file) (sym h.there.at_is ∙ t.at_is) in
+    sound_file t.file.bytes f (subst (λ (file : Stored). IsRun file.bytes) same h.there.fact) (faults t.file.bytes f text t.fact)
+no_input Says faults seen name text Compressed h found = let clash : true ≡ false = sym found.0 ∙ h.plain in cc
+no_input Says faults seen name text Missing h found = let none : IsNone (Some h.there.file) = subst (λ (o : Option Stored). IsNone o) h.there.at_is (found.2 h.tells) in let clash : true ≡ false = none in cc
+no_input Says faults seen name text ScriptTooLong h found = absurd found
+
+check_faults : (bytes : List ℕ) (f : MidFault) (text : List ℕ) → Checks bytes (Some f) text → IsMidFault bytes f
+check_faults bytes f text c = c.0
+
+pub check_completes : (seen : Seen) (name : List ℕ) (told_old told_new : Option (List ℕ)) (sink_old sink_new files_old files_new : ℕ) (end : ToolEnd) → Writes Checks seen name told_old told_new end
+    → SinkCounts end sink_old sink_new → FileCounts end files_old files_new → Completes seen name sink_old sink_new files_old files_new end
+check_completes seen name told_old told_new sink_old sink_new files_old files_new Done w s f = λ h calm_sink calm_files. inl refl
+check_completes seen name told_old told_new sink_old sink_new files_old files_new (Input fault) w s f = λ h calm_sink calm_files. absurd (no_input Checks check_faults seen name w.text fault h w.finds)
+check_completes seen name told_old told_new sink_old sink_new files_old files_new FileFault w s f = λ h calm_sink calm_files. absurd (calm_files f)
+check_completes seen name told_old told_new sink_old sink_new files_old files_new SinkFault w s f = λ h calm_sink calm_files. absurd (calm_sink s)
+check_completes seen name told_old told_new sink_old sink_new files_old files_new NoMemory w s f = λ h calm_sink calm_files. inr refl
+
+stands_fault : (bytes front rest : List ℕ) (last begin : Option Header) (events : List Event) (f : MidFault) → bytes ≡ front ++ rest → IsDone front begin last events → length front ≤ 2 ^ 62 → StandsAt last begin (length front) rest f → IsMidFault bytes f
+stands_fault bytes front rest None None events f is d counted s =
+    inl (subst (λ (x : List ℕ). fault_at None 0 x ≡ Some f) (sym is) (subst (λ (x : List ℕ). fault_at None 0 (x ++ rest) ≡ Some f) (sym d.0) (subst (λ (x : List ℕ). fault_at None (length x) rest ≡ Some f) d.0 s)))
+stands_fault bytes front rest None (Some b) events f is d counted s =
+    inr (inl (record { front = front; rest = rest; text_is = is; run = b.serial_number; time = b.time_stamp; dump = d.dump; events = events; begun = d.begun; counted = counted; fault_is = s }))
+stands_fault bytes front rest (Some end) None events f is d counted s = absurd d
+stands_fault bytes front rest (Some end) (Some b) events f is d counted s =
+    inr (inr (record { front = front; rest = rest; text_is = is; run = b.serial_number; time0 = b.time_stamp; dump0 = d.dump0; events = events; time1 = end.time_stamp; dump1 = d.dump1; ended = d.ended; counted = counted; more = s.0; fault_is = s.1 }))
+
+dump_faults : (bytes : List ℕ) (f : MidFault) (text : List ℕ) → IsDump bytes (Some f) text → IsMidFault bytes f
+dump_faults bytes f text d = stands_fault bytes d.lists.front d.rest d.last d.begin d.lists.events f d.lists.bytes_are d.lists.is_done d.counted d.ends
+
+pub dump_completes : (seen : Seen) (name : List ℕ) (told_old told_new : Option (List ℕ)) (sink_old sink_new files_old files_new : ℕ) (end : ToolEnd) → WritesOn seen name told_old told_new end
+    → SinkCounts end sink_old sink_new → FileCounts end files_old files_new → Completes seen name sink_old sink_new files_old files_new end
+dump_completes seen name told_old told_new sink_old sink_new files_old files_new Done w s f = λ h calm_sink calm_files. inl refl
+dump_completes seen name told_old told_new sink_old sink_new files_old files_new (Input fault) w s f = λ h calm_sink calm_files. absurd (no_input IsDump dump_faults seen name w.text fault h w.finds)
+dump_completes seen name told_old told_new sink_old sink_new files_old files_new FileFault w s f = λ h calm_sink calm_files. absurd (calm_files f)
+dump_completes seen name told_old told_new sink_old sink_new files_old files_new SinkFault w s f = λ h calm_sink calm_files. absurd (calm_sink s)
+dump_completes seen name told_old told_new sink_old sink_new files_old files_new NoMemory w s f = λ h calm_sink calm_files. inr refl
