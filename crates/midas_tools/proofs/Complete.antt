@@ -1,9 +1,7 @@
 -- A run file leads to the end `Done`.
-use Rattle.std.proofs.Common.{◌≡◌, ◌∙◌, ℕ, ◌^◌, ◌≤◌, List, [], ◌++◌, length, Option, Some, None, IsTrue, true, false, ◌⊎◌, inl, inr, refl, ap, sym, subst}
+use Rattle.std.proofs.Common.{◌≡◌, ◌∙◌, ℕ, ◌^◌, ◌≤◌, List, ◌++◌, length, Option, Some, None, true, false, inl, inr, refl, ap, sym, subst}
 use Rattle.std.specs.Prelude.{IsNone}
 use Rattle.daq_types.specs.declared.events.Event.{Event}
-use Rattle.daq_types.specs.Names.{is_compressed}
-use Rattle.daq_io.specs.Counts.{Rose}
 use Rattle.daq_io.specs.Seen.{Stored, Seen}
 use Rattle.event_header.specs.declared.head.Header.{Header}
 use Rattle.mid_format.specs.Faults.{fault_at}
