@@ -4,7 +4,7 @@ use Rattle.std.specs.Io.KnownBytes.{Appends}
 use Rattle.daq_io.specs.Streams.{AppendsPart}
 use Rattle.daq_session.specs.declared.causes.Cause.{Cause}
 use Rattle.daq_session.specs.declared.causes.Cause.TheVariants.{Done, CommandRefused, BadInput, SourceFault as source_fault, SinkFault as sink_fault, FileFault as file_fault, NoMemory as no_memory}
-use Rattle.daq_session.specs.declared.causes.InputFault.TheVariants.{ScriptTooLong}
+use Rattle.midas_tools.specs.declared.ends.InputFault.TheVariants.{ScriptTooLong}
 use Rattle.daq_session.specs.declared.closing.Closed.{Closed}
 use Rattle.daq_session.specs.declared.endings.Ending.{Ending}
 use Rattle.daq_session.specs.declared.endings.Ending.TheVariants.{End, TooLong, SourceFault, Halted}

@@ -1,4 +1,5 @@
 use daq_types::FileName;
+use midas_tools::InputFault;
 
 /// Why a call of the program ended.
 #[derive(Clone, Copy, Debug, PartialEq, Eq)]
@@ -19,11 +20,4 @@ pub enum Cause {
     FileFault { name: FileName },
     /// There was no memory.
     NoMemory,
-}
-
-/// What is wrong with the input.
-#[derive(Clone, Copy, Debug, PartialEq, Eq)]
-pub enum InputFault {
-    /// The script has more than 16,777,216 bytes.
-    ScriptTooLong,
 }

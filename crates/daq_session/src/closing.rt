@@ -3,13 +3,14 @@ ghost use Rattle.daq_io.specs.Counts.{Rose};
 ghost use Rattle.daq_session.specs.Closing.{CauseBy, CountsOn, Finishes, earlier, prints};
 ghost use Rattle.daq_session.specs.Standing.{IsReady};
 
-use crate::causes::{Cause, InputFault};
+use crate::causes::Cause;
 use crate::console::print_reply;
 use crate::desk::Desk;
 use crate::endings::Ending;
 use crate::halts::Halt;
 use crate::refusals::Refusals;
 use daq_io::{Clock, Files, Sink};
+use midas_tools::InputFault;
 use std::alloc::Global;
 
 /// How a session was closed.

@@ -23,7 +23,7 @@ mod session;
 mod state;
 mod transitions;
 
-pub use causes::{Cause, InputFault};
+pub use causes::Cause;
 pub use entry_list::Entries;
 pub use generator::{EVENT_ROOM, Generator};
 pub use records::{

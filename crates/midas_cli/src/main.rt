@@ -4,6 +4,7 @@
 mod outcome;
 #[cfg(test)]
 mod tests;
+mod tools;
 mod top;
 mod words;
 

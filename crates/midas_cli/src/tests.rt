@@ -2,8 +2,9 @@
 use crate::outcome::Outcome;
 use crate::top::midas;
 use daq_io::{FileFail, FileOp, MemClock, MemFiles, MemPick, MemSink, MemSource, NoGate, Outside};
-use daq_session::{Cause, InputFault};
+use daq_session::Cause;
 use daq_types::{FileName, NoMemory, Words};
+use midas_tools::InputFault;
 use std::alloc::Global;
 use std::sync::Wait;
 use std::test::Fail;

@@ -1,13 +1,17 @@
-ghost use Rattle.std.specs.Prelude.{◌≡◌, ◌≢◌, ◌↔◌, [], None, IfSome};
+ghost use Rattle.std.specs.Prelude.{◌≡◌, ◌≢◌, ◌↔◌, ℕ, List, [], None, IfSome};
 ghost use Rattle.std.specs.Io.KnownBytes.{Appends};
 ghost use Rattle.daq_io.specs.Counts.{Rose};
 ghost use Rattle.daq_io.specs.Streams.{AppendsPart};
 ghost use Rattle.daq_session.specs.Sessions.{FaultsBy, IsSession, runs_in};
-ghost use Rattle.midas_cli.specs.CommandLine.{IsRun, usage_line};
+ghost use Rattle.midas_cli.specs.CommandLine.{HasForm, IsOnFile, IsRun, usage_line};
+ghost use Rattle.daq_io.specs.Seen.{Same};
 ghost use Rattle.midas_cli.specs.Outcomes.{status_of};
+ghost use Rattle.midas_cli.specs.Tools.{ToolRan};
+ghost use Rattle.midas_cli.specs.declared.words.Tool.{Tool};
 
 use crate::outcome::{Outcome, status};
-use crate::words::{USAGE, is_run};
+use crate::tools::run_tool;
+use crate::words::{Form, USAGE, form_of};
 use daq_io::{Clock, Files, Gate, Outside, Pick, Sink, Source, write_all};
 use daq_session::{Cause, run_script};
 use daq_types::Words;
@@ -21,6 +25,30 @@ fn write_usage<K: Sink>(out: &mut K)
     ensures part { AppendsPart (K.written out.old) (K.written out.new) usage_line }
 {
     let _ = write_all(out, USAGE.as_bytes());
+}
+
+/// What becomes of words that have no form.
+fn refuse_words<S, K: Sink, F, E, C, P>(
+    mut outside: Outside<S, K, F, E, C, P>,
+) -> (Outcome, Outside<S, K, F, E, C, P>)
+    ensures status { result.0.status ≡ 2 }
+    ensures cause { result.0.cause ≡ Cause.Usage }
+    ensures session { result.0.session ≡ None }
+    ensures line { ¬ Rose (K.faults outside.out) (K.faults result.1.out) → Appends (K.written outside.out) (K.written result.1.out) usage_line }
+    ensures part { AppendsPart (K.written outside.out) (K.written result.1.out) usage_line }
+    ensures source { result.1.src ≡ outside.src }
+    ensures files { result.1.run_files ≡ outside.run_files }
+    ensures database_files { result.1.odb_files ≡ outside.odb_files }
+    ensures clock { result.1.clock ≡ outside.clock }
+    ensures picks { result.1.pick ≡ outside.pick }
+{
+    write_usage(&mut outside.out);
+    let outcome = Outcome {
+        status: 2,
+        cause: Cause::Usage,
+        session: None,
+    };
+    (outcome, outside)
 }
 
 /// The program, over all that it touches outside itself, which it hands back.
@@ -42,13 +70,20 @@ pub fn midas<
 ) -> (Outcome, Outside<S, K, F, E, C, P>)
     ensures status { result.0.status ≡ status_of result.0.cause }
     // The words are refused exactly where they have no form. Then only the usage line is written.
-    ensures usage { (result.0.cause ≡ Cause.Usage) ↔ ¬ IsRun words.now }
-    ensures usage_line { ¬ IsRun words.now → ¬ Rose (K.faults outside.out) (K.faults result.1.out) → Appends (K.written outside.out) (K.written result.1.out) usage_line }
-    ensures usage_part { ¬ IsRun words.now → AppendsPart (K.written outside.out) (K.written result.1.out) usage_line }
-    ensures usage_session { ¬ IsRun words.now → result.0.session ≡ None }
-    ensures usage_source { ¬ IsRun words.now → result.1.src ≡ outside.src }
-    ensures usage_files { ¬ IsRun words.now → result.1.run_files ≡ outside.run_files }
-    ensures usage_clock { ¬ IsRun words.now → result.1.clock ≡ outside.clock }
+    ensures usage { (result.0.cause ≡ Cause.Usage) ↔ ¬ HasForm words.now }
+    ensures usage_line { ¬ HasForm words.now → ¬ Rose (K.faults outside.out) (K.faults result.1.out) → Appends (K.written outside.out) (K.written result.1.out) usage_line }
+    ensures usage_part { ¬ HasForm words.now → AppendsPart (K.written outside.out) (K.written result.1.out) usage_line }
+    ensures usage_session { ¬ HasForm words.now → result.0.session ≡ None }
+    ensures usage_source { ¬ HasForm words.now → result.1.src ≡ outside.src }
+    // The words of a tool: what it found and wrote, and why it ended. Every name and byte of the run files stays, and the
+    // script is not read.
+    ensures tool { (tool : Tool) → (name : List ℕ) → IsOnFile tool name words.now → ToolRan tool (F.seen outside.run_files) name (K.written outside.out) (K.written result.1.out) (record { sink_old = K.faults outside.out; sink_new = K.faults result.1.out; files_old = F.faults outside.run_files; files_new = F.faults result.1.run_files; clashes_old = F.clashes outside.run_files; clashes_new = F.clashes result.1.run_files }) (F.first result.1.run_files) result.0.cause }
+    ensures tool_files { ¬ IsRun words.now → Same (F.seen outside.run_files) (F.seen result.1.run_files) }
+    ensures tool_source { ¬ IsRun words.now → result.1.src ≡ outside.src }
+    ensures tool_session { ¬ IsRun words.now → result.0.session ≡ None }
+    ensures tool_clock { ¬ IsRun words.now → result.1.clock ≡ outside.clock }
+    ensures usage_files { ¬ HasForm words.now → result.1.run_files ≡ outside.run_files }
+    ensures usage_clock { ¬ HasForm words.now → result.1.clock ≡ outside.clock }
     // What the session made of the script: its records, the run files, the text and the cause.
     ensures session { IsRun words.now → ¬ Rose (F.faults outside.run_files) (F.faults result.1.run_files) → IsSession (record { files = F.seen outside.run_files; clock_tells = C.tells outside.clock; ahead = C.ahead outside.clock }) (record { files = F.seen result.1.run_files; clock_tells = C.tells result.1.clock; ahead = C.ahead result.1.clock }) (S.left outside.src) (K.written outside.out) (K.written result.1.out) (record { old = K.faults outside.out; new = K.faults result.1.out }) result.0.cause (runs_in result.0.session) }
     // There is no record where a call on the run files failed.
@@ -59,21 +94,17 @@ pub fn midas<
     ensures database_files { result.1.odb_files ≡ outside.odb_files }
     ensures picks { result.1.pick ≡ outside.pick }
 {
-    if !is_run(words) {
-        let mut outside = outside;
-        write_usage(&mut outside.out);
-        let outcome = Outcome {
-            status: 2,
-            cause: Cause::Usage,
-            session: None,
-        };
-        return (outcome, outside);
+    match form_of(words) {
+        None => refuse_words(outside),
+        Some(Form::OnFile { call }) => run_tool(alloc, call, outside),
+        Some(Form::Run) => {
+            let (cause, session, outside) = run_script(rt, alloc, false, outside, gate);
+            let outcome = Outcome {
+                status: status(&cause),
+                cause,
+                session,
+            };
+            (outcome, outside)
+        }
     }
-    let (cause, session, outside) = run_script(rt, alloc, false, outside, gate);
-    let outcome = Outcome {
-        status: status(&cause),
-        cause,
-        session,
-    };
-    (outcome, outside)
 }

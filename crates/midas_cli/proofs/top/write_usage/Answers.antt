@@ -1,6 +1,5 @@
 use Rattle.std.proofs.Common.{ℕ, List, subst}
 use Rattle.daq_io.specs.Streams.{AppendsPart}
-use Rattle.midas_cli.specs.CommandLine.{usage_line}
 use Rattle.midas_cli.proofs.OneWord.{part_either}
 use Rattle.midas_cli.proofs.top.write_usage.Goals as goal
 

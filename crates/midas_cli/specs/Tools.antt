@@ -1,0 +1,44 @@
+-- What a call of a tool comes to.
+use Rattle.std.specs.Prelude.{◌≡◌, ℕ, List, Option, Some}
+use Rattle.daq_io.specs.Seen.{Seen}
+use Rattle.daq_session.specs.declared.causes.Cause.{Cause}
+use Rattle.daq_session.specs.declared.causes.Cause.TheVariants as causes
+use Rattle.midas_tools.specs.Checks.{Checks}
+use Rattle.midas_tools.specs.Dumps.{WritesOn}
+use Rattle.midas_tools.specs.Findings.{Writes, Completes, SinkCounts, FileCounts, ClashCounts}
+use Rattle.midas_tools.specs.declared.ends.ToolEnd.{ToolEnd}
+use Rattle.midas_tools.specs.declared.ends.ToolEnd.TheVariants.{Done, Input, FileFault, SinkFault, NoMemory}
+use Rattle.midas_cli.specs.declared.words.Tool.{Tool}
+use Rattle.midas_cli.specs.declared.words.Tool.TheVariants.{Check, Dump}
+
+-- the cause of a tool's end; a fault of the files names the file of the first fault
+abbrev pub IsCauseOf : ToolEnd → (first : Option (List ℕ)) → Cause → Type 0
+IsCauseOf Done first cause = cause ≡ causes.Done
+IsCauseOf (Input fault) first cause = cause ≡ causes.BadInput fault
+IsCauseOf FileFault first cause = (name : List ℕ) × (cause ≡ causes.FileFault name) × (first ≡ Some name)
+IsCauseOf SinkFault first cause = cause ≡ causes.SinkFault
+IsCauseOf NoMemory first cause = cause ≡ causes.NoMemory
+
+-- what each tool writes
+abbrev pub ToolWrites : Tool → (seen : Seen) (name : List ℕ) (told_old told_new : Option (List ℕ)) → ToolEnd → Type 0
+ToolWrites Check seen name told_old told_new end = Writes Checks seen name told_old told_new end
+ToolWrites Dump seen name told_old told_new end = WritesOn seen name told_old told_new end
+
+-- The counts of faults and clashes before a call and after it.
+pub record Counts : Type 0 where
+  pub sink_old : ℕ
+  pub sink_new : ℕ
+  pub files_old : ℕ
+  pub files_new : ℕ
+  pub clashes_old : ℕ
+  pub clashes_new : ℕ
+
+-- A tool was run on the file of this name, and this is its cause.
+pub record ToolRan (tool : Tool) (seen : Seen) (name : List ℕ) (told_old told_new : Option (List ℕ)) (counts : Counts) (first : Option (List ℕ)) (cause : Cause) : Type 0 where
+  pub end : ToolEnd
+  pub cause_is : IsCauseOf end first cause
+  pub writes : ToolWrites tool seen name told_old told_new end
+  pub sink : SinkCounts end counts.sink_old counts.sink_new
+  pub files : FileCounts end counts.files_old counts.files_new
+  pub complete : Completes seen name counts.sink_old counts.sink_new counts.files_old counts.files_new end
+  pub clashes : ClashCounts end counts.clashes_old counts.clashes_new

@@ -1,0 +1,92 @@
+ghost use Rattle.std.specs.Prelude.{◌≡◌, ◌≢◌, None};
+ghost use Rattle.daq_io.specs.Seen.{Same};
+ghost use Rattle.midas_cli.specs.Outcomes.{status_of};
+ghost use Rattle.midas_cli.specs.Tools.{IsCauseOf, ToolRan, ToolWrites};
+ghost use Rattle.midas_tools.specs.Findings.{ClashCounts, Completes, FileCounts, SinkCounts};
+
+use crate::outcome::{Outcome, status};
+use crate::words::{Tool, ToolCall};
+use daq_io::{Files, Outside, Sink};
+use daq_session::Cause;
+use daq_types::FileName;
+use midas_tools::{ToolEnd, check_file, dump_file};
+use std::alloc::Global;
+
+/// The cause of a tool's end.
+fn cause_of<F: Files>(end: ToolEnd, files: &F) -> Cause
+    requires { end ≡ ToolEnd.FileFault → F.faults files.now ≢ 0 }
+    ensures { IsCauseOf end (F.first files.now) result }
+{
+    match end {
+        ToolEnd::Done => Cause::Done,
+        ToolEnd::Input { fault } => Cause::BadInput { fault },
+        ToolEnd::FileFault => match files.first_fault() {
+            Some(name) => Cause::FileFault { name },
+            None => unreachable!(),
+        },
+        ToolEnd::SinkFault => Cause::SinkFault,
+        ToolEnd::NoMemory => Cause::NoMemory,
+    }
+}
+
+/// Calls a tool on the file of this name.
+fn call_tool<F: Files, K: Sink>(
+    alloc: Global,
+    tool: Tool,
+    files: F,
+    name: &FileName,
+    out: &mut K,
+) -> (ToolEnd, F)
+    ensures writes { ToolWrites tool (F.seen files) name.now (K.written out.old) (K.written out.new) result.0 }
+    ensures sink { SinkCounts result.0 (K.faults out.old) (K.faults out.new) }
+    ensures faults { FileCounts result.0 (F.faults files) (F.faults result.1) }
+    ensures complete { Completes (F.seen files) name.now (K.faults out.old) (K.faults out.new) (F.faults files) (F.faults result.1) result.0 }
+    ensures clashes { ClashCounts result.0 (F.clashes files) (F.clashes result.1) }
+    ensures same { Same (F.seen files) (F.seen result.1) }
+{
+    match tool {
+        Tool::Check => check_file(alloc, files, name, out),
+        Tool::Dump => dump_file(alloc, files, name, out),
+    }
+}
+
+/// Runs a tool on a file.
+pub fn run_tool<S, K: Sink, F: Files, E, C, P>(
+    alloc: Global,
+    call: ToolCall,
+    outside: Outside<S, K, F, E, C, P>,
+) -> (Outcome, Outside<S, K, F, E, C, P>)
+    ensures status { result.0.status ≡ status_of result.0.cause }
+    ensures ran { ToolRan call.tool (F.seen outside.run_files) call.name (K.written outside.out) (K.written result.1.out) (record { sink_old = K.faults outside.out; sink_new = K.faults result.1.out; files_old = F.faults outside.run_files; files_new = F.faults result.1.run_files; clashes_old = F.clashes outside.run_files; clashes_new = F.clashes result.1.run_files }) (F.first result.1.run_files) result.0.cause }
+    ensures same { Same (F.seen outside.run_files) (F.seen result.1.run_files) }
+    ensures session { result.0.session ≡ None }
+    ensures source { result.1.src ≡ outside.src }
+    ensures clock { result.1.clock ≡ outside.clock }
+    ensures database_files { result.1.odb_files ≡ outside.odb_files }
+    ensures picks { result.1.pick ≡ outside.pick }
+{
+    let Outside {
+        src,
+        mut out,
+        run_files,
+        odb_files,
+        clock,
+        pick,
+    } = outside;
+    let (end, run_files) = call_tool(alloc, call.tool, run_files, &call.name, &mut out);
+    let cause = cause_of(end, &run_files);
+    let outcome = Outcome {
+        status: status(&cause),
+        cause,
+        session: None,
+    };
+    let outside = Outside {
+        src,
+        out,
+        run_files,
+        odb_files,
+        clock,
+        pick,
+    };
+    (outcome, outside)
+}
