@@ -282,3 +282,40 @@ fn script_over_the_limit(rt: HostRuntime) -> Result<(), Fail> {
     assert!(rt; after.out.bytes().is_empty());
     Ok(())
 }
+
+/// Words of a tool on the file of a run of no event, what they print, and the status.
+const TOOLS: [(&str, &str, &str, u8); 6] = [
+    ("check", "run00001.mid", "ok run 1 events 0 bytes 32\n", 0),
+    ("dump", "run00001.mid", "begin 1 1000 0\nend 1 1010 0\n", 0),
+    ("check", "run00001.mid.gz", "bad Compressed\n", 3),
+    ("check", "no.mid", "bad Missing\n", 3),
+    ("dump", "-", "bad Missing\n", 3),
+    (
+        "check",
+        "-v",
+        "usage: midas run [--cooperative] | check FILE | dump FILE | analyze FILE | gen N\n",
+        2,
+    ),
+];
+
+#[test]
+fn tools_on_a_file(rt: HostRuntime) -> Result<(), Fail> {
+    let alloc = rt.alloc();
+    for (tool, file, text, status) in TOOLS {
+        let none = Vec::new(alloc);
+        let mut outside = outside(alloc, "start\n", none, Vec::new(alloc), Vec::new(alloc))?;
+        let mut bytes = BEGIN.to_vec(alloc)?;
+        bytes.extend_from_slice(&END)?;
+        outside
+            .run_files
+            .add(FileName::new("run00001.mid")?, bytes)?;
+        let mut words = Words::new(alloc);
+        words.add(alloc, tool)?;
+        words.add(alloc, file)?;
+        let (outcome, after) = midas(&rt, alloc, &words, outside, &NoGate);
+        assert_eq!(rt; after.out.bytes(), text.as_bytes(), "{tool} {file}");
+        assert_eq!(rt; outcome.status, status, "{tool} {file}");
+        assert!(rt; outcome.session.is_none());
+    }
+    Ok(())
+}
