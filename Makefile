@@ -1,4 +1,4 @@
-.PHONY: run test
+.PHONY: run test bench
 
 # Builds the program and runs the first script in an empty folder.
 run:
@@ -7,3 +7,8 @@ run:
 # The merge gate: every proof, test, must-fail edit and program.
 test:
 	@./.ci/run
+
+# What the tools cost, beside cat and wc. Builds the program first.
+bench:
+	@(cd crates/midas_cli && rt run -- check none >/dev/null 2>&1) || true
+	@./bench/tools.sh crates/midas_cli/out/midas_cli
