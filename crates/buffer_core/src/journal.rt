@@ -49,7 +49,7 @@ impl BufferJournal {
     }
 
     /// Room for so many entries more, which hand over so many bytes of data together.
-    pub fn reserve(&mut self, entries: u32, bytes: u32) -> Result<(), NoMemory>
+    pub fn reserve(&mut self, entries: u64, bytes: u64) -> Result<(), NoMemory>
         ensures same { self.new.entries ≡ self.old.entries }
         ensures room { OnOk result (entries ≤ self.new.room) }
         ensures bytes { OnOk result (bytes ≤ self.new.bytes) }

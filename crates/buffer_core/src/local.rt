@@ -77,7 +77,7 @@ impl<B: EventBuffer> LocalPort<B> {
     }
 
     /// Room for so many calls more, which hand over so many bytes of data together.
-    pub fn reserve(&mut self, entries: u32, bytes: u32) -> Result<(), NoMemory>
+    pub fn reserve(&mut self, entries: u64, bytes: u64) -> Result<(), NoMemory>
         ensures same { KeepsPort self.old self.new }
         ensures entries { OnOk result (entries ≤ self.new.entries) }
         ensures bytes { OnOk result (bytes ≤ self.new.bytes) }

@@ -8,3 +8,4 @@ mod PlayingEnds
 mod ClosingLaws
 mod RunLaws
 mod Passing
+mod BufferLaws

@@ -1,53 +1,34 @@
--- Events through the buffer of a session.
-use Rattle.std.proofs.Common.{◌≡◌, ℕ, ◌≤◌, ◌<◌, List, Result, Ok, ap, sym, subst, ◌∙◌}
+-- Events through the buffer of a session, and the calls that are noted for them.
+use Rattle.std.specs.Prelude.{length}
+use Rattle.std.proofs.Common.{◌≡◌, ℕ, suc, ◌+◌, ◌≤◌, ◌<◌, List, [], ◌∷◌, ◌++◌, ◌^◌, Result, Ok, Err, ap, sym, subst, ◌∙◌, arith, append_assoc}
 use Rattle.daq_types.specs.declared.events.Event.{Event}
+use Rattle.daq_types.specs.declared.runs.Order.{Order}
 use Rattle.daq_types.specs.declared.runs.Kind.TheVariants.{All}
+use Rattle.daq_model.specs.Events.{slot_size}
+use Rattle.daq_model.specs.Generator.{generated_event, generated_events}
+use Rattle.daq_model.specs.GeneratorLaws.{generated_events-more, length-generated_events}
 use Rattle.event_header.specs.declared.head.Header.{Header}
 use Rattle.event_header.specs.Headers.{event_of, fields_of}
-use Rattle.std.specs.Prelude.{length}
+use Rattle.buffer_core.specs.declared.gate.RunGate.{RunGate}
 use Rattle.buffer_core.specs.declared.gate.RunGate.TheVariants.{Shut, Running}
 use Rattle.buffer_core.specs.declared.replies.SendRefusal.{SendRefusal}
 use Rattle.buffer_core.specs.declared.replies.RequestRefusal.{RequestRefusal}
 use Rattle.buffer_core.specs.declared.replies.NoSlot.{NoSlot}
 use Rattle.buffer_core.specs.declared.replies.MarkRefusal.{MarkRefusal}
 use Rattle.buffer_core.specs.declared.replies.Received.{Received}
+use Rattle.buffer_core.specs.declared.replies.Received.TheVariants.{Got}
+use Rattle.buffer_core.specs.declared.entry.BufferEntry.{BufferEntry}
 use Rattle.buffer_core.specs.declared.entry.BufferEntry.TheVariants.{Attach, Request, SendInRun, Receive, Begin, End}
-use Rattle.buffer_core.specs.Window.{Window, opening}
+use Rattle.buffer_core.specs.Window.{Window, opening, accepted_of}
 use Rattle.buffer_core.specs.Slots.{slot_at}
-use Rattle.buffer_core.specs.Calls.{IsReply, window_after, event_after, request_reply_to}
+use Rattle.buffer_core.specs.Calls.{IsReply, window_after, event_after, request_reply_to, with_gate}
 use Rattle.buffer_core.specs.WindowLaws.{IsSendable}
-use Rattle.buffer_core.specs.ReadingLaws.{IsDrained, IsFed, AfterSend, attach_opens, request_opens, opening_attach, drained_opens, drained_send, fed_reply, fed_event, fed_again, run_begins, run_ends, running_is, send_same_run, receive_same_run}
-
--- the logger's client is attached, and asks for all events
-pub system_opens : (size : ℕ) (name : List ℕ) (w0 w1 w2 : Window) (one : Result ℕ NoSlot) (two : Result ℕ RequestRefusal) → w0 ≡ opening size
-    → IsReply w0 (Attach name one) → w1 ≡ window_after w0 (Attach name one) → IsReply w1 (Request 0 65535 65535 All two) → w2 ≡ window_after w1 (Request 0 65535 65535 All two) → IsDrained w2 0
-system_opens size name w0 w1 w2 one two opens replied after asked behind =
-    let attached : one ≡ Ok 0 = subst (λ (w : Window). IsReply w (Attach name one)) opens replied ∙ attach_opens size in
-    let first : w1 ≡ window_after (opening size) (Attach name (Ok 0)) = after ∙ ap (λ (w : Window). window_after w (Attach name one)) opens ∙ ap (λ (r : Result ℕ NoSlot). window_after (opening size) (Attach name r)) attached in
-    let reply : two ≡ request_reply_to (slot_at (window_after (opening size) (Attach name (Ok 0))).clients 0) = subst (λ (w : Window). IsReply w (Request 0 65535 65535 All two)) first asked in
-    let requested : two ≡ Ok 0 = reply ∙ ap request_reply_to (opening_attach size name) ∙ request_opens name 0 in
-    subst (λ (w : Window). IsDrained w 0)
-    (sym (behind ∙ ap (λ (w : Window). window_after w (Request 0 65535 65535 All two)) first ∙ ap (λ (r : Result ℕ RequestRefusal). window_after (window_after (opening size) (Attach name (Ok 0))) (Request 0 65535 65535 All r)) requested))
-    (drained_opens size name)
-
--- a run begins
-pub begun_drained : (w w' : Window) (start : ℕ) (reply : Result ℕ MarkRefusal) → w.gate ≡ Shut → w.last < start → IsReply w (Begin start reply) → w' ≡ window_after w (Begin start reply) → IsDrained w 0 → IsDrained w' 0
-begun_drained w w' start reply shut later replied after drained =
-    subst (λ (v : Window). IsDrained v 0) (sym after) ((run_begins w 0 start reply shut later replied).2 drained)
-
-pub begun_size : (w w' : Window) (start : ℕ) (reply : Result ℕ MarkRefusal) → w.gate ≡ Shut → w.last < start → IsReply w (Begin start reply) → w' ≡ window_after w (Begin start reply) → w'.size ≡ w.size
-begun_size w w' start reply shut later replied after = ap (λ (v : Window). v.size) (after ∙ (run_begins w 0 start reply shut later replied).1)
-
--- and ends
-pub ended_drained : (w w' : Window) (start : ℕ) (reply : Result ℕ MarkRefusal) → w.gate ≡ Running start → IsReply w (End start reply) → w' ≡ window_after w (End start reply) → IsDrained w 0 → IsDrained w' 0
-ended_drained w w' start reply running replied after drained =
-    subst (λ (v : Window). IsDrained v 0) (sym after) ((run_ends w 0 start reply running replied).2 drained)
-
-pub ended_size : (w w' : Window) (start : ℕ) (reply : Result ℕ MarkRefusal) → w.gate ≡ Running start → IsReply w (End start reply) → w' ≡ window_after w (End start reply) → w'.size ≡ w.size
-ended_size w w' start reply running replied after = ap (λ (v : Window). v.size) (after ∙ (run_ends w 0 start reply running replied).1)
+use Rattle.buffer_core.specs.ReadingLaws.{IsDrained, IsFed, AfterSend, attach_opens, request_opens, opening_attach, drained_opens, drained_send, fed_reply, fed_event, fed_again, run_begins, run_ends, running_is}
+use Rattle.buffer_core.specs.Ported.{Ported, Does}
+use Rattle.daq_session.specs.BufferEntries.{opening_entries, begin_entry, passed_entries, end_entry}
 
 -- an event is sent
-pub sent_facts : (w w' : Window) (start : ℕ) (e : Event) (h : Header) (body : List ℕ) (reply : Result ℕ SendRefusal) → h ≡ fields_of e → body ≡ e.body → w.gate ≡ Running start → IsSendable w (length e.body) e
+sent_facts : (w w' : Window) (start : ℕ) (e : Event) (h : Header) (body : List ℕ) (reply : Result ℕ SendRefusal) → h ≡ fields_of e → body ≡ e.body → w.gate ≡ Running start → IsSendable w (length e.body) e
     → IsReply w (SendInRun start h.data_size (event_of h body) reply) → w' ≡ window_after w (SendInRun start h.data_size (event_of h body) reply) → IsDrained w 0 → AfterSend w w' 0 start e reply
 sent_facts w w' start e h body reply is_header is_body running may replied after drained =
     let is_event : event_of h body ≡ e = ap (λ (g : Header). event_of g body) is_header ∙ ap (λ (b : List ℕ). event_of (fields_of e) b) is_body in
@@ -56,14 +37,182 @@ sent_facts w w' start e h body reply is_header is_body running may replied after
     let window : w' ≡ window_after w (SendInRun start (length e.body) e reply) = after ∙ ap (λ (x : Event). window_after w (SendInRun start h.data_size x reply)) is_event ∙ ap (λ (n : ℕ). window_after w (SendInRun start n e reply)) stated in
     subst (λ (v : Window). AfterSend w v 0 start e reply) (sym window) (drained_send w 0 start (length e.body) e reply drained (running_is w start running) may right)
 
--- and received
-pub got_event : (w : Window) (start place room : ℕ) (e held : Event) (reply : Received) → IsFed w 0 place start e → length e.body ≤ room → IsReply w (Receive 0 room reply) → event_after held w reply ≡ e
-got_event w start place room e held reply fed fits replied = fed_event w 0 place start e held reply fed (fed_reply w 0 place start room e reply fed fits replied)
+-- A port whose caller was set.
 
-pub got_again : (w w' : Window) (start place room : ℕ) (e : Event) (reply : Received) → IsFed w 0 place start e → length e.body ≤ room → IsReply w (Receive 0 room reply) → w' ≡ window_after w (Receive 0 room reply) → IsDrained w' 0
-got_again w w' start place room e reply fed fits replied after =
-    subst (λ (v : Window). IsDrained v 0) (sym after) (fed_again w 0 place start room e reply fed (fed_reply w 0 place start room e reply fed fits replied))
+as_caller : (p p1 q : Ported) (caller : ℕ) (e : BufferEntry) → p1 ≡ record p { caller = caller } → Does p1 q e → Does (record p { caller = caller }) q e
+as_caller p p1 q caller e is does = subst (λ (x : Ported). Does x q e) is does
 
-pub passed_size : (w w1 w2 : Window) (start stated room : ℕ) (e : Event) (one : Result ℕ SendRefusal) (two : Received) → w1 ≡ window_after w (SendInRun start stated e one) → w2 ≡ window_after w1 (Receive 0 room two) → w2.size ≡ w.size
-passed_size w w1 w2 start stated room e one two after behind =
-    ap (λ (v : Window). v.size) behind ∙ (receive_same_run w1 0 room two).size ∙ ap (λ (v : Window). v.size) after ∙ (send_same_run w start stated e one).size
+-- what a mark of a run does to the port
+pub record Marked (p q : Ported) (gate : RunGate) (last : ℕ) (entry : BufferEntry) : Type 0 where
+  pub gate_is : q.window.gate ≡ gate
+  pub last_is : q.window.last ≡ last
+  pub total : q.window.total ≡ p.window.total
+  pub size : q.window.size ≡ p.window.size
+  pub accepted : accepted_of q.window ≡ accepted_of p.window
+  pub history : q.history ≡ p.history ++ (1, entry) ∷ []
+  pub start : q.start ≡ p.start
+  pub drained : IsDrained p.window 0 → IsDrained q.window 0
+  pub entries : p.entries ≤ q.entries + 1
+  pub bytes : p.bytes ≤ q.bytes
+
+pub begun : (p p1 q : Ported) (start : ℕ) (reply : Result ℕ MarkRefusal) → p.window.gate ≡ Shut → p.window.last < start → p1 ≡ record p { caller = 1 } → Does p1 q (Begin start reply)
+    → Marked p q (Running start) start (Begin start (Ok (accepted_of p.window)))
+begun p p1 q start reply shut later is did =
+    let does : Does (record p { caller = 1 }) q (Begin start reply) = as_caller p p1 q 1 (Begin start reply) is did in
+    let marks = run_begins p.window 0 start reply shut later does.reply in
+    let window : q.window ≡ with_gate p.window (Running start) start = does.window ∙ marks.1 in
+    record {
+      gate_is = ap (λ (w : Window). w.gate) window;
+      last_is = ap (λ (w : Window). w.last) window;
+      total = ap (λ (w : Window). w.total) window;
+      size = ap (λ (w : Window). w.size) window;
+      accepted = ap accepted_of window;
+      history = does.history ∙ ap (λ (r : Result ℕ MarkRefusal). p.history ++ (1, Begin start r) ∷ []) marks.0;
+      start = does.start;
+      drained = λ d. subst (λ (w : Window). IsDrained w 0) (sym does.window) (marks.2 d);
+      entries = does.entries;
+      bytes = omega (arith, does.bytes);
+    }
+
+pub ended : (p p1 q : Ported) (start : ℕ) (reply : Result ℕ MarkRefusal) → p.window.gate ≡ Running start → p1 ≡ record p { caller = 1 } → Does p1 q (End start reply)
+    → Marked p q Shut p.window.last (End start (Ok (accepted_of p.window)))
+ended p p1 q start reply running is did =
+    let does : Does (record p { caller = 1 }) q (End start reply) = as_caller p p1 q 1 (End start reply) is did in
+    let marks = run_ends p.window 0 start reply running does.reply in
+    let window : q.window ≡ with_gate p.window Shut p.window.last = does.window ∙ marks.1 in
+    record {
+      gate_is = ap (λ (w : Window). w.gate) window;
+      last_is = ap (λ (w : Window). w.last) window;
+      total = ap (λ (w : Window). w.total) window;
+      size = ap (λ (w : Window). w.size) window;
+      accepted = ap accepted_of window;
+      history = does.history ∙ ap (λ (r : Result ℕ MarkRefusal). p.history ++ (1, End start r) ∷ []) marks.0;
+      start = does.start;
+      drained = λ d. subst (λ (w : Window). IsDrained w 0) (sym does.window) (marks.2 d);
+      entries = does.entries;
+      bytes = omega (arith, does.bytes);
+    }
+
+-- what an event does to the port that is sent by the front-end and got by the logger
+pub record Passed (p q : Ported) (start room : ℕ) (e held : Event) : Type 0 where
+  pub gate : q.window.gate ≡ p.window.gate
+  pub last : q.window.last ≡ p.window.last
+  pub total : q.window.total ≡ p.window.total + slot_size e
+  pub size : q.window.size ≡ p.window.size
+  pub accepted : accepted_of q.window ≡ suc (accepted_of p.window)
+  pub history : q.history ≡ p.history ++ passed_entries start room (accepted_of p.window) (e ∷ [])
+  pub start_is : q.start ≡ p.start
+  pub drained : IsDrained q.window 0
+  pub entries : p.entries ≤ q.entries + 2
+  pub bytes : p.bytes ≤ q.bytes + length e.body
+  pub event : held ≡ e
+
+pub passed : (p p1 p2 p3 q : Ported) (start place room : ℕ) (e held held' : Event) (h : Header) (body : List ℕ) (reply : Received) → h ≡ fields_of e → body ≡ e.body → p.window.gate ≡ Running start
+    → IsSendable p.window (length e.body) e → length e.body ≤ room
+    → p1 ≡ record p { caller = 0 } → Does p1 p2 (SendInRun start h.data_size (event_of h body) (Ok place))
+    → p3 ≡ record p2 { caller = 1 } → Does p3 q (Receive 0 room reply) → held' ≡ event_after held p3.window reply
+    → IsDrained p.window 0 → Passed p q start room e held'
+passed p p1 p2 p3 q start place room e held held' h body reply is_header is_body running may fits one did two gave held_is drained =
+    let sent_entry : ℕ → Event → ℕ → BufferEntry = λ stated x n. SendInRun start stated x (Ok n) in
+    let does : Does (record p { caller = 0 }) p2 (sent_entry h.data_size (event_of h body) place) = as_caller p p1 p2 0 (sent_entry h.data_size (event_of h body) place) one did in
+    let gives : Does (record p2 { caller = 1 }) q (Receive 0 room reply) = as_caller p2 p3 q 1 (Receive 0 room reply) two gave in
+    let sent : AfterSend p.window p2.window 0 start e (Ok place) = sent_facts p.window p2.window start e h body (Ok place) is_header is_body running may does.reply does.window drained in
+    let got : reply ≡ Got place start = fed_reply p2.window 0 place start room e reply sent.1 fits gives.reply in
+    let behind : q.window ≡ window_after p2.window (Receive 0 room (Got place start)) = gives.window ∙ ap (λ (r : Received). window_after p2.window (Receive 0 room r)) got in
+    let is_event : event_of h body ≡ e = ap (λ (x : Header). event_of x body) is_header ∙ ap (λ (b : List ℕ). event_of (fields_of e) b) is_body in
+    let stated : h.data_size ≡ length e.body = ap (λ (x : Header). x.data_size) is_header in
+    let first : p2.history ≡ p.history ++ (0, sent_entry (length e.body) e (accepted_of p.window)) ∷ [] =
+    does.history
+    ∙ (ap (λ (n : ℕ). p.history ++ (0, sent_entry n (event_of h body) place) ∷ []) stated
+    ∙ (ap (λ (x : Event). p.history ++ (0, sent_entry (length e.body) x place) ∷ []) is_event
+    ∙ ap (λ (n : ℕ). p.history ++ (0, sent_entry (length e.body) e n) ∷ []) sent.0)) in
+    record {
+      gate = ap (λ (w : Window). w.gate) behind ∙ ap (λ (w : Window). w.gate) does.window;
+      last = ap (λ (w : Window). w.last) behind ∙ ap (λ (w : Window). w.last) does.window;
+      total = ap (λ (w : Window). w.total) behind ∙ sent.2;
+      size = ap (λ (w : Window). w.size) behind ∙ ap (λ (w : Window). w.size) does.window;
+      accepted = ap accepted_of behind ∙ omega (arith, sent.1.last, sent.0);
+      history = gives.history
+          ∙ (ap (λ (h' : List (ℕ × BufferEntry)). h' ++ (1, Receive 0 room reply) ∷ []) first
+          ∙ (append_assoc p.history ((0, sent_entry (length e.body) e (accepted_of p.window)) ∷ []) ((1, Receive 0 room reply) ∷ [])
+          ∙ (ap (λ (r : Received). p.history ++ (0, sent_entry (length e.body) e (accepted_of p.window)) ∷ (1, Receive 0 room r) ∷ []) got
+          ∙ ap (λ (n : ℕ). p.history ++ (0, sent_entry (length e.body) e (accepted_of p.window)) ∷ (1, Receive 0 room (Got n start)) ∷ []) sent.0)));
+      start_is = gives.start ∙ does.start;
+      drained = subst (λ (w : Window). IsDrained w 0) (sym gives.window) (fed_again p2.window 0 place start room e reply sent.1 got);
+      entries = omega (arith, does.entries, gives.entries);
+      bytes = omega (arith, does.bytes, gives.bytes, ap (λ (b : List ℕ). length b) is_body);
+      event = held_is ∙ (ap (λ (x : Ported). event_after held x.window reply) two ∙ fed_event p2.window 0 place start e held reply sent.1 got);
+    }
+
+-- events one after the other
+pub passed_entries-push : (start room place : ℕ) (es : List Event) (e : Event) → passed_entries start room place (es ++ e ∷ []) ≡ passed_entries start room place es ++ passed_entries start room (place + length es) (e ∷ [])
+passed_entries-push start room place [] e = ap (λ (n : ℕ). passed_entries start room n (e ∷ [])) (omega arith)
+passed_entries-push start room place (x ∷ xs) e =
+    let head : List (ℕ × BufferEntry) → List (ℕ × BufferEntry) = λ more. (0, SendInRun start (length x.body) x (Ok place)) ∷ (1, Receive 0 room (Got place start)) ∷ more in
+    let next : suc place + length xs ≡ place + length (x ∷ xs) = omega arith in
+    ap head (passed_entries-push start room (suc place) xs e)
+    ∙ ap (λ (n : ℕ). head (passed_entries start room (suc place) xs ++ passed_entries start room n (e ∷ []))) next
+
+-- one event more at the end of a history
+pub passed_more : (start room place n : ℕ) (h0 h1 h2 : List (ℕ × BufferEntry)) (order : Order) (id mask : ℕ) → h1 ≡ h0 ++ passed_entries start room place (generated_events order id mask n)
+    → h2 ≡ h1 ++ passed_entries start room (place + n) (generated_event order id mask (n + 1) ∷ [])
+    → h2 ≡ h0 ++ passed_entries start room place (generated_events order id mask (n + 1))
+passed_more start room place n h0 h1 h2 order id mask before here =
+    let es : List Event = generated_events order id mask n in
+    let e : Event = generated_event order id mask (n + 1) in
+    here
+    ∙ (ap (λ (h : List (ℕ × BufferEntry)). h ++ passed_entries start room (place + n) (e ∷ [])) before
+    ∙ (append_assoc h0 (passed_entries start room place es) (passed_entries start room (place + n) (e ∷ []))
+    ∙ ap (λ (h : List (ℕ × BufferEntry)). h0 ++ h)
+    (ap (λ (m : ℕ). passed_entries start room place es ++ passed_entries start room (place + m) (e ∷ [])) (sym (length-generated_events order id mask n))
+    ∙ (sym (passed_entries-push start room place es e) ∙ ap (passed_entries start room place) (sym (generated_events-more order id mask n))))))
+
+-- A port whose buffer has the logger's client.
+
+-- what holds once the logger's client has asked for all events
+pub record Opened (q : Ported) (size : ℕ) (name : List ℕ) : Type 0 where
+  pub drained : IsDrained q.window 0
+  pub shut : q.window.gate ≡ Shut
+  pub last : q.window.last ≡ 0
+  pub size_is : q.window.size ≡ size
+  pub total : q.window.total ≡ 0
+  pub accepted : accepted_of q.window ≡ 0
+  pub history : q.history ≡ opening_entries name
+  pub start : q.start ≡ opening size
+
+pub opened : (p p1 p2 p3 : Ported) (size : ℕ) (name : List ℕ) (one : Result ℕ NoSlot) (two : Result ℕ RequestRefusal) → p.start ≡ opening size → p.window ≡ opening size → p.history ≡ []
+    → p1 ≡ record p { caller = 1 } → Does p1 p2 (Attach name one) → Does p2 p3 (Request 0 65535 65535 All two) → Opened p3 size name
+opened p p1 p2 p3 size name one two starts opens none set first second =
+    let does : Does (record p { caller = 1 }) p2 (Attach name one) = as_caller p p1 p2 1 (Attach name one) set first in
+    let attached : one ≡ Ok 0 = subst (λ (w : Window). IsReply w (Attach name one)) opens does.reply ∙ attach_opens size in
+    let joined_window : p2.window ≡ window_after (opening size) (Attach name (Ok 0)) =
+    does.window ∙ (ap (λ (w : Window). window_after w (Attach name one)) opens ∙ ap (λ (r : Result ℕ NoSlot). window_after (opening size) (Attach name r)) attached) in
+    let asked : two ≡ request_reply_to (slot_at (window_after (opening size) (Attach name (Ok 0))).clients 0) = subst (λ (w : Window). IsReply w (Request 0 65535 65535 All two)) joined_window second.reply in
+    let requested : two ≡ Ok 0 = asked ∙ (ap request_reply_to (opening_attach size name) ∙ request_opens name 0) in
+    let reads : Window = window_after (window_after (opening size) (Attach name (Ok 0))) (Request 0 65535 65535 All (Ok 0)) in
+    let window : p3.window ≡ reads =
+    second.window
+    ∙ (ap (λ (w : Window). window_after w (Request 0 65535 65535 All two)) joined_window
+    ∙ ap (λ (r : Result ℕ RequestRefusal). window_after (window_after (opening size) (Attach name (Ok 0))) (Request 0 65535 65535 All r)) requested) in
+    record {
+      drained = subst (λ (w : Window). IsDrained w 0) (sym window) (drained_opens size name);
+      shut = ap (λ (w : Window). w.gate) window;
+      last = ap (λ (w : Window). w.last) window;
+      size_is = ap (λ (w : Window). w.size) window;
+      total = ap (λ (w : Window). w.total) window;
+      accepted = ap accepted_of window;
+      history = second.history
+          ∙ (ap (λ (n : ℕ). p2.history ++ (n, Request 0 65535 65535 All two) ∷ []) does.caller
+          ∙ (ap (λ (h : List (ℕ × BufferEntry)). h ++ (1, Request 0 65535 65535 All two) ∷ []) (does.history ∙ ap (λ (h : List (ℕ × BufferEntry)). h ++ (1, Attach name one) ∷ []) none)
+          ∙ (ap (λ (r : Result ℕ NoSlot). (1, Attach name r) ∷ (1, Request 0 65535 65535 All two) ∷ []) attached
+          ∙ ap (λ (r : Result ℕ RequestRefusal). (1, Attach name (Ok 0)) ∷ (1, Request 0 65535 65535 All r) ∷ []) requested)));
+      start = second.start ∙ (does.start ∙ starts);
+    }
+
+-- a send that has room, while the logger has got all, is never refused
+pub not_refused : (p p1 p2 : Ported) (start : ℕ) (e : Event) (h : Header) (body : List ℕ) (refusal : SendRefusal) → h ≡ fields_of e → body ≡ e.body → p.window.gate ≡ Running start
+    → IsSendable p.window (length e.body) e → p.window.total + slot_size e ≤ 2 ^ 62 → p1 ≡ record p { caller = 0 } → Does p1 p2 (SendInRun start h.data_size (event_of h body) (Err refusal)) → IsDrained p.window 0 → ⊥
+not_refused p p1 p2 start e h body refusal is_header is_body running may unspent one did drained =
+    let does = as_caller p p1 p2 0 (SendInRun start h.data_size (event_of h body) (Err refusal)) one did in
+    let sent : AfterSend p.window p2.window 0 start e (Err refusal) = sent_facts p.window p2.window start e h body (Err refusal) is_header is_body running may does.reply does.window drained in
+    absurd (omega (arith, sent.1, unspent))

@@ -13,3 +13,5 @@ pub mod Playing
 pub mod Endings
 pub mod Sessions
 pub mod Closing
+pub mod BufferEntries
+pub mod BufferRecords

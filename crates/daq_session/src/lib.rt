@@ -27,7 +27,7 @@ pub use causes::Cause;
 pub use entry_list::Entries;
 pub use generator::{EVENT_ROOM, Generator};
 pub use records::{
-    FileRecord, FrontEnded, FrontTally, RunRecord, SessionRecord, StartOutcome, Why,
+    BufferRecord, FileRecord, FrontEnded, FrontTally, RunRecord, SessionRecord, StartOutcome, Why,
 };
 pub use replies::Reply;
 pub use run::run_script;

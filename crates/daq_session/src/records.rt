@@ -1,11 +1,26 @@
 use crate::entry_list::Entries;
-use daq_types::{ChannelState, FileName};
+use buffer_core::BufferJournal;
+use daq_types::{ChannelState, FileName, Name};
 
 /// What is kept of a session.
 #[derive(Drop)]
 pub struct SessionRecord {
     /// One record for each start that was begun, in order.
     pub runs: Entries<RunRecord>,
+    /// One record for each buffer, in the order of their declarations.
+    pub buffers: Entries<BufferRecord>,
+}
+
+/// What is kept of a buffer.
+#[derive(Drop)]
+pub struct BufferRecord {
+    /// The name of the buffer.
+    pub name: Name,
+    /// Its size in bytes.
+    pub size: u32,
+    /// All calls on it with their replies, each with the client number of its caller: those of the front-ends, and that of
+    /// the logger.
+    pub history: BufferJournal,
 }
 
 /// What is kept of a start and of the run that it began.

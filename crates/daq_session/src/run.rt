@@ -1,5 +1,6 @@
-ghost use Rattle.std.specs.Prelude.{◌≡◌, ◌≢◌, [], None, IfSome};
+ghost use Rattle.std.specs.Prelude.{◌≡◌, ◌≢◌, [], All, None, IfSome};
 ghost use Rattle.daq_io.specs.Counts.{Rose};
+ghost use Rattle.daq_session.specs.BufferRecords.{IsOneHistory, IsSystem};
 ghost use Rattle.daq_session.specs.Sessions.{FaultsBy, IsSession, runs_in};
 
 use crate::causes::Cause;
@@ -19,6 +20,8 @@ use std::thread::Threads;
 fn record_of(session: Session) -> Option<SessionRecord>
     ensures runs { runs_in result ≡ session.state.runs.items }
     ensures opened { IfSome result (λ s. s.runs ≢ []) }
+    ensures system { IfSome result (λ s. IsSystem session.path.port.history s.buffers) }
+    ensures one_history { IfSome result (λ s. All IsOneHistory s.buffers) }
 {
     let state = session.state;
     let runs = state.runs;
@@ -27,6 +30,7 @@ fn record_of(session: Session) -> Option<SessionRecord>
     }
     Some(SessionRecord {
         runs: Entries::of(runs),
+        buffers: session.path.into_records(),
     })
 }
 
@@ -39,6 +43,7 @@ fn run<S: Source, K: Sink, F: Files, E, C: Clock, P>(
     ensures faults { FaultsBy result.0 (record { old = S.faults outside.old.src; new = S.faults outside.new.src }) (record { old = K.faults outside.old.out; new = K.faults outside.new.out }) (record { old = F.faults outside.old.run_files; new = F.faults outside.new.run_files }) (F.first outside.new.run_files) }
     ensures broken { F.faults outside.new.run_files ≢ F.faults outside.old.run_files → result.1 ≡ None }
     ensures opened { IfSome result.1 (λ s. s.runs ≢ []) }
+    ensures one_history { IfSome result.1 (λ s. All IsOneHistory s.buffers) }
     ensures database { outside.new.odb_files ≡ outside.old.odb_files }
     ensures picks { outside.new.pick ≡ outside.old.pick }
 {
@@ -92,6 +97,7 @@ pub fn run_script<
     // There is no record where a call on the run files failed, and none without a run.
     ensures broken { F.faults result.2.run_files ≢ F.faults outside.run_files → result.1 ≡ None }
     ensures opened { IfSome result.1 (λ s. s.runs ≢ []) }
+    ensures one_history { IfSome result.1 (λ s. All IsOneHistory s.buffers) }
     ensures database { result.2.odb_files ≡ outside.odb_files }
     ensures picks { result.2.pick ≡ outside.pick }
 {

@@ -1,4 +1,4 @@
-ghost use Rattle.std.specs.Prelude.{◌≡◌, ◌≤◌, ◌<◌, ◌+◌, ◌^◌, ℕ, [], None, Ok, IfOk, OnOk, IsSome, false};
+ghost use Rattle.std.specs.Prelude.{◌≡◌, ◌≤◌, ◌<◌, ◌+◌, ◌*◌, ◌^◌, ℕ, [], None, Ok, IfOk, OnOk, IsSome, false};
 ghost use Rattle.std.specs.Option.{ForNone, ForSome};
 ghost use Rattle.buffer_core.specs.declared.gate.RunGate.TheVariants.{Running, Shut};
 ghost use Rattle.daq_io.specs.Counts.{CountsFault};
@@ -26,14 +26,17 @@ pub struct Session {
     /// The way of its events.
     pub path: DataPath,
     // The buffer takes the events of the run that is on, and none where none is on.
-    ghost shut: { ForNone state.current (path.buffer.gate ≡ Shut) },
-    ghost open_gate: { ForSome state.current (λ r. path.buffer.gate ≡ Running r.order.start) },
-    ghost later: { path.buffer.last ≤ state.starts },
+    ghost shut: { ForNone state.current (path.port.window.gate ≡ Shut) },
+    ghost open_gate: { ForSome state.current (λ r. path.port.window.gate ≡ Running r.order.start) },
+    ghost later: { path.port.window.last ≤ state.starts },
     ghost few: { state.starts ≤ most_starts },
     // Each run that was begun had room for all its events, and so has the one that is on.
-    ghost spent: { path.buffer.total ≤ most_spent state.starts },
-    ghost spends: { ForSome state.current (λ r. path.buffer.total + most_spent 1 ≤ most_spent r.order.start) },
+    ghost spent: { path.port.window.total ≤ most_spent state.starts },
+    ghost spends: { ForSome state.current (λ r. path.port.window.total + most_spent 1 ≤ most_spent r.order.start) },
     ghost begun: { ForSome state.current (λ r. r.order.start ≤ state.starts) },
+    // There is room to note the calls of the run that is on, up to its end.
+    ghost entries: { ForSome state.current (λ r. 2 * r.order.quota + 1 ≤ path.port.entries) },
+    ghost bytes: { ForSome state.current (λ r. 80 * r.order.quota ≤ path.port.bytes) },
 }
 
 impl Session {

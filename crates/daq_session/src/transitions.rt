@@ -1,4 +1,4 @@
-ghost use Rattle.std.specs.Prelude.{◌≡◌, ◌≢◌, ◌≤◌, ◌<◌, ◌+◌, ◌++◌, ◌^◌, ℕ, IfOk, IsSome, OnOk, IsTrue, false, [], None, Ok, Err};
+ghost use Rattle.std.specs.Prelude.{◌≡◌, ◌≢◌, ◌≤◌, ◌<◌, ◌+◌, ◌*◌, ◌++◌, ◌^◌, ℕ, IfOk, IsSome, OnOk, IsTrue, false, [], None, Ok, Err};
 ghost use Rattle.std.specs.Option.{ForNone, ForSome};
 ghost use Rattle.buffer_core.specs.declared.gate.RunGate.TheVariants.{Running, Shut};
 ghost use Rattle.daq_model.specs.Events.{all_encoded, encoding};
@@ -58,20 +58,24 @@ pub fn start<F: Files, C: Clock>(
     clock: &mut C,
 ) -> Result<Reply, Halt>
     requires few { state.old.starts + 1 ≤ most_starts }
-    requires shut { ForNone state.old.current (path.old.buffer.gate ≡ Shut) }
-    requires open_gate { ForSome state.old.current (λ r. path.old.buffer.gate ≡ Running r.order.start) }
-    requires later { path.old.buffer.last ≤ state.old.starts }
-    requires spent { path.old.buffer.total ≤ most_spent state.old.starts }
-    requires spends { ForSome state.old.current (λ r. path.old.buffer.total + most_spent 1 ≤ most_spent r.order.start) }
+    requires shut { ForNone state.old.current (path.old.port.window.gate ≡ Shut) }
+    requires open_gate { ForSome state.old.current (λ r. path.old.port.window.gate ≡ Running r.order.start) }
+    requires later { path.old.port.window.last ≤ state.old.starts }
+    requires spent { path.old.port.window.total ≤ most_spent state.old.starts }
+    requires spends { ForSome state.old.current (λ r. path.old.port.window.total + most_spent 1 ≤ most_spent r.order.start) }
     requires begun { ForSome state.old.current (λ r. r.order.start ≤ state.old.starts) }
+    requires entries { ForSome state.old.current (λ r. 2 * r.order.quota + 1 ≤ path.old.port.entries) }
+    requires bytes { ForSome state.old.current (λ r. 80 * r.order.quota ≤ path.old.port.bytes) }
     requires ready { IsReady (F.seen files.old) state.old.current }
     ensures did { Handles (Ok Start) state.old state.new (record { files = F.seen files.old; clock_tells = C.tells clock.old; ahead = C.ahead clock.old }) (record { files = F.seen files.new; clock_tells = C.tells clock.new; ahead = C.ahead clock.new }) result }
-    ensures shut { ForNone state.new.current (path.new.buffer.gate ≡ Shut) }
-    ensures open_gate { ForSome state.new.current (λ r. path.new.buffer.gate ≡ Running r.order.start) }
-    ensures later { path.new.buffer.last ≤ state.new.starts }
-    ensures spent { path.new.buffer.total ≤ most_spent state.new.starts }
-    ensures spends { ForSome state.new.current (λ r. path.new.buffer.total + most_spent 1 ≤ most_spent r.order.start) }
+    ensures shut { ForNone state.new.current (path.new.port.window.gate ≡ Shut) }
+    ensures open_gate { ForSome state.new.current (λ r. path.new.port.window.gate ≡ Running r.order.start) }
+    ensures later { path.new.port.window.last ≤ state.new.starts }
+    ensures spent { path.new.port.window.total ≤ most_spent state.new.starts }
+    ensures spends { ForSome state.new.current (λ r. path.new.port.window.total + most_spent 1 ≤ most_spent r.order.start) }
     ensures begun { ForSome state.new.current (λ r. r.order.start ≤ state.new.starts) }
+    ensures entries { ForSome state.new.current (λ r. 2 * r.order.quota + 1 ≤ path.new.port.entries) }
+    ensures bytes { ForSome state.new.current (λ r. 80 * r.order.quota ≤ path.new.port.bytes) }
     ensures starts { state.new.starts ≤ state.old.starts + 1 }
     ensures faults { CountsHalt (F.faults files.old) (F.faults files.new) result }
 {
@@ -82,6 +86,7 @@ pub fn start<F: Files, C: Clock>(
     }
     let name = name_of_run(alloc, state.run + 1)?;
     let rooms = Rooms::new(alloc)?;
+    path.make_room(state.quota)?;
     state.runs.reserve(1)?;
     let order = Order {
         run: state.run + 1,
@@ -122,23 +127,27 @@ pub fn stop<F: Files, C: Clock>(
     files: &mut F,
     clock: &mut C,
 ) -> Result<Reply, Failed>
-    requires shut { ForNone state.old.current (path.old.buffer.gate ≡ Shut) }
-    requires open_gate { ForSome state.old.current (λ r. path.old.buffer.gate ≡ Running r.order.start) }
-    requires later { path.old.buffer.last ≤ state.old.starts }
-    requires spent { path.old.buffer.total ≤ most_spent state.old.starts }
-    requires spends { ForSome state.old.current (λ r. path.old.buffer.total + most_spent 1 ≤ most_spent r.order.start) }
+    requires shut { ForNone state.old.current (path.old.port.window.gate ≡ Shut) }
+    requires open_gate { ForSome state.old.current (λ r. path.old.port.window.gate ≡ Running r.order.start) }
+    requires later { path.old.port.window.last ≤ state.old.starts }
+    requires spent { path.old.port.window.total ≤ most_spent state.old.starts }
+    requires spends { ForSome state.old.current (λ r. path.old.port.window.total + most_spent 1 ≤ most_spent r.order.start) }
     requires begun { ForSome state.old.current (λ r. r.order.start ≤ state.old.starts) }
     requires few { state.old.starts ≤ most_starts }
+    requires entries { ForSome state.old.current (λ r. 2 * r.order.quota + 1 ≤ path.old.port.entries) }
+    requires bytes { ForSome state.old.current (λ r. 80 * r.order.quota ≤ path.old.port.bytes) }
     requires ready { IsReady (F.seen files.old) state.old.current }
     ensures did { IfOk result (λ reply. Answers (Ok Stop) reply state.old state.new (record { files = F.seen files.old; clock_tells = C.tells clock.old; ahead = C.ahead clock.old }) (record { files = F.seen files.new; clock_tells = C.tells clock.new; ahead = C.ahead clock.new })) }
     ensures idle { OnOk result (state.new.current ≡ None) }
     ensures accepted { IfOk result (λ reply. IsSome state.old.current → is_refusal reply ≡ false) }
-    ensures shut { ForNone state.new.current (path.new.buffer.gate ≡ Shut) }
-    ensures open_gate { ForSome state.new.current (λ r. path.new.buffer.gate ≡ Running r.order.start) }
-    ensures later { path.new.buffer.last ≤ state.new.starts }
-    ensures spent { path.new.buffer.total ≤ most_spent state.new.starts }
-    ensures spends { ForSome state.new.current (λ r. path.new.buffer.total + most_spent 1 ≤ most_spent r.order.start) }
+    ensures shut { ForNone state.new.current (path.new.port.window.gate ≡ Shut) }
+    ensures open_gate { ForSome state.new.current (λ r. path.new.port.window.gate ≡ Running r.order.start) }
+    ensures later { path.new.port.window.last ≤ state.new.starts }
+    ensures spent { path.new.port.window.total ≤ most_spent state.new.starts }
+    ensures spends { ForSome state.new.current (λ r. path.new.port.window.total + most_spent 1 ≤ most_spent r.order.start) }
     ensures begun { ForSome state.new.current (λ r. r.order.start ≤ state.new.starts) }
+    ensures entries { ForSome state.new.current (λ r. 2 * r.order.quota + 1 ≤ path.new.port.entries) }
+    ensures bytes { ForSome state.new.current (λ r. 80 * r.order.quota ≤ path.new.port.bytes) }
     ensures starts { state.new.starts ≡ state.old.starts }
     ensures faults { CountsFault (F.faults files.old) (F.faults files.new) result }
 {
@@ -176,16 +185,18 @@ fn end_run<F: Files>(
     time: u32,
 ) -> Result<Ended, Failed>
     requires writes { IsTrue ((F.seen files.old).writes run.file) }
-    requires open_gate { path.old.buffer.gate ≡ Running run.order.start }
+    requires open_gate { path.old.port.window.gate ≡ Running run.order.start }
     requires few { run.order.start ≤ most_starts }
-    requires spends { path.old.buffer.total + most_spent 1 ≤ most_spent run.order.start }
+    requires spends { path.old.port.window.total + most_spent 1 ≤ most_spent run.order.start }
+    requires entries { 2 * run.order.quota + 1 ≤ path.old.port.entries }
+    requires bytes { 80 * run.order.quota ≤ path.old.port.bytes }
     ensures file { IfOk result (λ e. Closes (F.seen files.old) (F.seen files.new) run.file (all_encoded (generated_events run.order 1 0 e.front.sent) ++ encoding (end_record run.order.run time []))) }
     ensures tally { IfOk result (λ e. IsTally run.order.quota e.front) }
     ensures recorded { IfOk result (λ e. e.run ≡ completed_record run.order time e.front) }
     ensures named { IfOk result (λ e. e.file ≡ file_record run.order.run) }
-    ensures shut { path.new.buffer.gate ≡ Shut }
-    ensures last { path.new.buffer.last ≡ path.old.buffer.last }
-    ensures spent { path.new.buffer.total ≤ most_spent run.order.start }
+    ensures shut { path.new.port.window.gate ≡ Shut }
+    ensures last { path.new.port.window.last ≡ path.old.port.window.last }
+    ensures spent { path.new.port.window.total ≤ most_spent run.order.start }
     ensures faults { CountsFault (F.faults files.old) (F.faults files.new) result }
 {
     let order = run.order;

@@ -1,12 +1,12 @@
-use Rattle.std.proofs.Common.{◌+◌, ◌∙◌, ap, arith, length}
+use Rattle.std.proofs.Common.{◌+◌, ◌++◌, ◌∷◌, [], ℕ, ◌∙◌, ap, arith, length}
 use Rattle.daq_types.specs.declared.events.Event.{Event}
 use Rattle.daq_model.specs.Events.{encoding, slot_size}
 use Rattle.daq_model.specs.GeneratorLaws.{generated_body_is_small, generated_slot_is_small}
+use Rattle.buffer_core.specs.Window.{accepted_of}
+use Rattle.daq_session.specs.BufferEntries.{passed_entries}
 use Rattle.daq_session.proofs.Sending.{sent_more}
+use Rattle.daq_session.proofs.Passing.{passed_more}
 use Rattle.daq_session.proofs.data_path.DataPath.send_events.Goals as goal
-
-pub pass_on-requires-clause-gate : goal.pass_on-requires-clause-gate
-pass_on-requires-clause-gate g c = c.loop-count.invariant.gate ∙ c.requires.gate
 
 pub pass_on-requires-clause-small : goal.pass_on-requires-clause-small
 pass_on-requires-clause-small g c = omega (arith, ap (λ (e : Event). length e.body) c.write.ensures.event, generated_body_is_small 1 c.args.order.now.start (c.loop-count.count + 1))
@@ -15,11 +15,24 @@ pub pass_on-requires-clause-slot : goal.pass_on-requires-clause-slot
 pass_on-requires-clause-slot g c = omega (arith, ap slot_size c.write.ensures.event, generated_slot_is_small c.args.order.now 1 0 (c.loop-count.count + 1))
 
 pub loop-count-preserved : goal.loop-count-preserved
-loop-count-preserved g c = record {
-  written = sent_more c.args.order.now 1 0 c.loop-count.count c.bytes.result.now c.loop-count.invariant.written c.in_ok-append.ensures.written
-      (c.bytes.ensures ∙ ap encoding (c.pass_on.ensures.event ∙ c.write.ensures.event));
-  gate = c.pass_on.ensures.gate ∙ c.loop-count.invariant.gate;
-  last = c.pass_on.ensures.last ∙ c.loop-count.invariant.last;
-  total = omega (arith, c.pass_on.ensures.total, c.loop-count.invariant.total);
-  faults = c.in_ok-append.ensures.faults.done ∙ c.loop-count.invariant.faults;
-}
+loop-count-preserved g c =
+    let start : ℕ = c.args.order.now.start in
+    let room : ℕ = c.args.self.now.got.room in
+    let place : ℕ = accepted_of c.args.self.now.port.window in
+    record {
+      written = sent_more c.args.order.now 1 0 c.loop-count.count c.bytes.result.now c.loop-count.invariant.written c.in_ok-append.ensures.written
+          (c.bytes.ensures ∙ ap encoding (c.pass_on.ensures.event ∙ c.write.ensures.event));
+      gate = c.pass_on.ensures.gate ∙ c.loop-count.invariant.gate;
+      last = c.pass_on.ensures.last ∙ c.loop-count.invariant.last;
+      total = omega (arith, c.pass_on.ensures.total, c.loop-count.invariant.total);
+      accepted = omega (arith, c.pass_on.ensures.accepted, c.loop-count.invariant.accepted);
+      history = passed_more start room place c.loop-count.count c.args.self.now.port.history c.loop-count.self.port.history c.pass_on.new.self.port.history c.args.order.now 1 0 c.loop-count.invariant.history
+          (c.pass_on.ensures.history
+          ∙ (ap (λ (n : ℕ). c.loop-count.self.port.history ++ passed_entries start n (accepted_of c.loop-count.self.port.window) (c.write.new.into.event ∷ [])) c.loop-count.invariant.room
+          ∙ (ap (λ (n : ℕ). c.loop-count.self.port.history ++ passed_entries start room n (c.write.new.into.event ∷ [])) c.loop-count.invariant.accepted
+          ∙ ap (λ (e : Event). c.loop-count.self.port.history ++ passed_entries start room (place + c.loop-count.count) (e ∷ [])) c.write.ensures.event)));
+      room = c.pass_on.ensures.room ∙ c.loop-count.invariant.room;
+      entries = omega (arith, c.pass_on.ensures.entries, c.loop-count.invariant.entries);
+      bytes = omega (arith, c.pass_on.ensures.bytes, c.loop-count.invariant.bytes);
+      faults = c.in_ok-append.ensures.faults.done ∙ c.loop-count.invariant.faults;
+    }

@@ -1,15 +1,22 @@
--- So far the first events are appended to the file, and no call failed.
-use Rattle.std.proofs.Common.{◌≡◌, ◌≤◌, ◌+◌, ◌*◌}
+-- So far the first events are noted and appended to the file, and no call failed.
+use Rattle.std.proofs.Common.{◌≡◌, ◌≤◌, ◌+◌, ◌*◌, ◌++◌}
 use Rattle.daq_model.specs.Events.{all_encoded}
 use Rattle.daq_model.specs.Generator.{generated_events}
 use Rattle.daq_io.specs.Seen.{Extends}
+use Rattle.buffer_core.specs.Window.{accepted_of}
+use Rattle.daq_session.specs.BufferEntries.{passed_entries}
 use Rattle.daq_session.proofs.data_path.DataPath.send_events.Given as goal
 
 abbrev pub invariant-loop-count : goal.invariant-loop-count
 invariant-loop-count g l = record {
   written : Extends (g.F.Files.seen l.fn.files) (g.F.Files.seen l.files) l.file (all_encoded (generated_events l.order 1 0 l.count));
-  gate : l.self.buffer.gate ≡ l.fn.self.buffer.gate;
-  last : l.self.buffer.last ≡ l.fn.self.buffer.last;
-  total : l.self.buffer.total ≤ l.fn.self.buffer.total + 104 * l.count;
+  gate : l.self.port.window.gate ≡ l.fn.self.port.window.gate;
+  last : l.self.port.window.last ≡ l.fn.self.port.window.last;
+  total : l.self.port.window.total ≤ l.fn.self.port.window.total + 104 * l.count;
+  accepted : accepted_of l.self.port.window ≡ accepted_of l.fn.self.port.window + l.count;
+  history : l.self.port.history ≡ l.fn.self.port.history ++ passed_entries l.order.start l.fn.self.got.room (accepted_of l.fn.self.port.window) (generated_events l.order 1 0 l.count);
+  room : l.self.got.room ≡ l.fn.self.got.room;
+  entries : l.fn.self.port.entries ≤ l.self.port.entries + 2 * l.count;
+  bytes : l.fn.self.port.bytes ≤ l.self.port.bytes + 80 * l.count;
   faults : g.F.Files.faults l.files ≡ g.F.Files.faults l.fn.files;
 }

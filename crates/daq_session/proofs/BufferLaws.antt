@@ -1,0 +1,13 @@
+-- Records of buffers.
+use Rattle.std.specs.Prelude.{◌≡◌, ℕ, zero, suc, ◌<◌, List, [], ◌∷◌, length, All, slice_index_or}
+use Rattle.std.proofs.Common.{sym, subst, arith}
+use Rattle.daq_session.specs.declared.records.BufferRecord.{BufferRecord}
+use Rattle.daq_session.specs.BufferRecords.{IsOneHistory}
+
+single : (P : BufferRecord → Type 0) (b : BufferRecord) → P b → (k : ℕ) (d : BufferRecord) → k < length (b ∷ []) → P (slice_index_or (b ∷ []) k d)
+single P b h zero d less = h
+single P b h (suc k) d less = absurd (omega (arith, less))
+
+-- what holds of the only one holds of all
+pub single_history : (bs : List BufferRecord) (b : BufferRecord) → bs ≡ b ∷ [] → IsOneHistory b → All IsOneHistory bs
+single_history bs b alone h = subst (λ (xs : List BufferRecord). All IsOneHistory xs) (sym alone) (single IsOneHistory b h)

@@ -1,0 +1,26 @@
+-- The calls that a session makes on the buffer SYSTEM, each with the number of its caller: front-end 0, logger 1.
+use Rattle.std.specs.Prelude.{ℕ, suc, List, [], ◌∷◌, ◌++◌, length, Ok}
+use Rattle.daq_types.specs.declared.events.Event.{Event}
+use Rattle.daq_types.specs.declared.runs.Kind.TheVariants.{All}
+use Rattle.buffer_core.specs.declared.replies.Received.TheVariants.{Got}
+use Rattle.buffer_core.specs.declared.entry.BufferEntry.{BufferEntry}
+use Rattle.buffer_core.specs.declared.entry.BufferEntry.TheVariants.{Attach, Request, SendInRun, Receive, Begin, End}
+
+-- the logger attaches its client, number 0, under this name, and asks for all events
+abbrev pub opening_entries : (name : List ℕ) → List (ℕ × BufferEntry)
+opening_entries name = (1, Attach name (Ok 0)) ∷ (1, Request 0 65535 65535 All (Ok 0)) ∷ []
+
+-- a run begins at this place
+abbrev pub begin_entry : (start place : ℕ) → ℕ × BufferEntry
+begin_entry start place = (1, Begin start (Ok place))
+
+-- the front-end sends these events in the run, of which the first has this place, and the logger gets each at once; so much
+-- data it has room for
+abbrev pub passed_entries : (start room place : ℕ) → List Event → List (ℕ × BufferEntry)
+passed_entries start room place [] = []
+passed_entries start room place (e ∷ es) =
+    (0, SendInRun start (length e.body) e (Ok place)) ∷ (1, Receive 0 room (Got place start)) ∷ passed_entries start room (suc place) es
+
+-- a run ends before this place
+abbrev pub end_entry : (start place : ℕ) → ℕ × BufferEntry
+end_entry start place = (1, End start (Ok place))
