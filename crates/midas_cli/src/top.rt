@@ -1,7 +1,8 @@
-ghost use Rattle.std.specs.Prelude.{◌≡◌, ◌≢◌, ◌↔◌, ℕ, List, [], None, IfSome};
+ghost use Rattle.std.specs.Prelude.{◌≡◌, ◌≢◌, ◌↔◌, ℕ, List, [], All, None, IfSome};
 ghost use Rattle.std.specs.Io.KnownBytes.{Appends};
 ghost use Rattle.daq_io.specs.Counts.{Rose};
 ghost use Rattle.daq_io.specs.Streams.{AppendsPart};
+ghost use Rattle.daq_session.specs.BufferRecords.{IsOneHistory};
 ghost use Rattle.daq_session.specs.Sessions.{FaultsBy, IsSession, runs_in};
 ghost use Rattle.midas_cli.specs.CommandLine.{HasForm, IsOnFile, IsRun, usage_line};
 ghost use Rattle.daq_io.specs.Seen.{Same};
@@ -91,6 +92,9 @@ pub fn midas<
     // A fault is the cause exactly where its count rose and no earlier cause holds.
     ensures faults { IsRun words.now → FaultsBy result.0.cause (record { old = S.faults outside.src; new = S.faults result.1.src }) (record { old = K.faults outside.out; new = K.faults result.1.out }) (record { old = F.faults outside.run_files; new = F.faults result.1.run_files }) (F.first result.1.run_files) }
     ensures opened { IfSome result.0.session (λ s. s.runs ≢ []) }
+    // The history of each buffer is that of one buffer that opened empty; its clients got what they asked for, and the
+    // events of each run stand between its marks.
+    ensures one_history { IfSome result.0.session (λ s. All IsOneHistory s.buffers) }
     ensures database_files { result.1.odb_files ≡ outside.odb_files }
     ensures picks { result.1.pick ≡ outside.pick }
 {
