@@ -423,7 +423,6 @@ fn run_port_step<R: Abort + AllocGlobal + Wait, P: BufferPort>(
 }
 
 /// A port to a new buffer of 256 bytes.
-#[tactic(auto, using(crate::specs::WindowKept::window_opens))]
 fn new_port(alloc: Global) -> Result<LocalPort<PlainBuffer>, NoMemory> {
     let mut port = LocalPort::new(alloc, PlainBuffer::new(alloc, 256)?);
     port.set_caller(3);
