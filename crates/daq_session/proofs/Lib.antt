@@ -9,3 +9,6 @@ mod ClosingLaws
 mod RunLaws
 mod Passing
 mod BufferLaws
+mod RunsTelling
+mod RunsHeld
+mod RunsKept

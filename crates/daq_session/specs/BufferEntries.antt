@@ -1,10 +1,14 @@
 -- The calls that a session makes on the buffer SYSTEM, each with the number of its caller: front-end 0, logger 1.
-use Rattle.std.specs.Prelude.{ℕ, suc, List, [], ◌∷◌, ◌++◌, length, Ok}
+use Rattle.std.specs.Prelude.{◌≡◌, ℕ, suc, ◌+◌, List, [], ◌∷◌, ◌++◌, length, Result, Ok, IfOk}
 use Rattle.daq_types.specs.declared.events.Event.{Event}
+use Rattle.daq_types.specs.declared.runs.Order.{Order}
 use Rattle.daq_types.specs.declared.runs.Kind.TheVariants.{All}
+use Rattle.daq_model.specs.Generator.{generated_events}
+use Rattle.daq_io.specs.declared.faults.Failed.{Failed}
 use Rattle.buffer_core.specs.declared.replies.Received.TheVariants.{Got}
 use Rattle.buffer_core.specs.declared.entry.BufferEntry.{BufferEntry}
 use Rattle.buffer_core.specs.declared.entry.BufferEntry.TheVariants.{Attach, Request, SendInRun, Receive, Begin, End}
+use Rattle.daq_session.specs.declared.records.FrontTally.{FrontTally}
 
 -- the logger attaches its client, number 0, under this name, and asks for all events
 abbrev pub opening_entries : (name : List ℕ) → List (ℕ × BufferEntry)
@@ -24,3 +28,10 @@ passed_entries start room place (e ∷ es) =
 -- a run ends before this place
 abbrev pub end_entry : (start place : ℕ) → ℕ × BufferEntry
 end_entry start place = (1, End start (Ok place))
+
+-- The first events of the run were sent and got, and these are all where no call on the run's file failed: so many.
+pub record PassesFirst (old new : List (ℕ × BufferEntry)) (order : Order) (room place accepted : ℕ) (result : Result FrontTally Failed) : Type 0 where
+  pub count : ℕ
+  pub history : new ≡ old ++ passed_entries order.start room place (generated_events order 1 0 count)
+  pub accepted_is : accepted ≡ place + count
+  pub all : IfOk result (λ front. front.sent ≡ count)

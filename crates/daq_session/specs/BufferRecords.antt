@@ -21,3 +21,8 @@ pub record IsSystem (history : List (ℕ × BufferEntry)) (buffers : List Buffer
   pub name : buffer.name ≡ codes "SYSTEM"
   pub size : buffer.size ≡ 1048576
   pub history_is : buffer.history.entries ≡ history
+
+-- the history of the first of these buffers, SYSTEM, through which all events go
+abbrev pub history_in : List BufferRecord → List (ℕ × BufferEntry)
+history_in [] = []
+history_in (b ∷ bs) = b.history.entries

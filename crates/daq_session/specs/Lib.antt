@@ -15,3 +15,5 @@ pub mod Sessions
 pub mod Closing
 pub mod BufferEntries
 pub mod BufferRecords
+pub mod RunHistories
+pub mod RunsTold

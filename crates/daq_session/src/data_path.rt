@@ -6,8 +6,9 @@ ghost use Rattle.daq_io.specs.Seen.{Extends};
 ghost use Rattle.buffer_core.specs.declared.gate.RunGate.TheVariants.{Shut, Running};
 ghost use Rattle.buffer_core.specs.ReadingLaws.{IsDrained};
 ghost use Rattle.buffer_core.specs.Window.{opening, accepted_of};
-ghost use Rattle.daq_session.specs.BufferEntries.{opening_entries, begin_entry, passed_entries, end_entry};
+ghost use Rattle.daq_session.specs.BufferEntries.{opening_entries, begin_entry, passed_entries, end_entry, PassesFirst};
 ghost use Rattle.daq_session.specs.BufferRecords.{IsOneHistory, IsSystem};
+ghost use Rattle.daq_session.specs.RunsTold.{IsTold};
 ghost use Rattle.daq_session.specs.Tallies.{IsTally, most_spent, most_starts};
 
 use crate::entry_list::Entries;
@@ -112,8 +113,7 @@ impl DataPath {
         ensures shut { IfOk result (λ path. path.port.window.gate ≡ Shut) }
         ensures last { IfOk result (λ path. path.port.window.last ≡ 0) }
         ensures total { IfOk result (λ path. path.port.window.total ≡ 0) }
-        ensures accepted { IfOk result (λ path. accepted_of path.port.window ≡ 0) }
-        ensures history { IfOk result (λ path. path.port.history ≡ opening_entries (codes "Logger")) }
+        ensures told { IfOk result (λ path. IsTold path.port.history (accepted_of path.port.window) 0 []) }
     {
         let generator = Generator::new(alloc)?;
         let sent = EventBuf::new(alloc, EVENT_ROOM)?;
@@ -224,8 +224,7 @@ impl DataPath {
         ensures gate { self.new.port.window.gate ≡ self.old.port.window.gate }
         ensures last { self.new.port.window.last ≡ self.old.port.window.last }
         ensures total { self.new.port.window.total ≤ self.old.port.window.total + most_spent 1 }
-        ensures accepted { IfOk result (λ front. accepted_of self.new.port.window ≡ accepted_of self.old.port.window + front.sent) }
-        ensures history { IfOk result (λ front. self.new.port.history ≡ self.old.port.history ++ passed_entries order.now.start self.old.got.room (accepted_of self.old.port.window) (generated_events order.now 1 0 front.sent)) }
+        ensures history { PassesFirst self.old.port.history self.new.port.history order.now self.old.got.room (accepted_of self.old.port.window) (accepted_of self.new.port.window) result }
         ensures room { self.new.got.room ≡ self.old.got.room }
         ensures entries { self.old.port.entries ≤ self.new.port.entries + 2 * order.now.quota }
         ensures faults { CountsFault (F.faults files.old) (F.faults files.new) result }

@@ -1,6 +1,7 @@
-ghost use Rattle.std.specs.Prelude.{◌≡◌, ◌≢◌, [], All, None, IfSome};
+ghost use Rattle.std.specs.Prelude.{◌≡◌, ◌≢◌, [], All, None, IfSome, IsTrue};
 ghost use Rattle.daq_io.specs.Counts.{Rose};
-ghost use Rattle.daq_session.specs.BufferRecords.{IsOneHistory, IsSystem};
+ghost use Rattle.daq_session.specs.BufferRecords.{IsOneHistory, IsSystem, history_in};
+ghost use Rattle.daq_session.specs.RunHistories.{IsHeldRun, HoldSegments, AreSentByFronts};
 ghost use Rattle.daq_session.specs.Sessions.{FaultsBy, IsSession, runs_in};
 
 use crate::causes::Cause;
@@ -22,6 +23,7 @@ fn record_of(session: Session) -> Option<SessionRecord>
     ensures opened { IfSome result (λ s. s.runs ≢ []) }
     ensures system { IfSome result (λ s. IsSystem session.path.port.history s.buffers) }
     ensures one_history { IfSome result (λ s. All IsOneHistory s.buffers) }
+    ensures held { IfSome result (λ s. All (IsHeldRun (history_in s.buffers)) s.runs) }
 {
     let state = session.state;
     let runs = state.runs;
@@ -44,6 +46,8 @@ fn run<S: Source, K: Sink, F: Files, E, C: Clock, P>(
     ensures broken { F.faults outside.new.run_files ≢ F.faults outside.old.run_files → result.1 ≡ None }
     ensures opened { IfSome result.1 (λ s. s.runs ≢ []) }
     ensures one_history { IfSome result.1 (λ s. All IsOneHistory s.buffers) }
+    ensures run_files { ¬ Rose (F.faults outside.old.run_files) (F.faults outside.new.run_files) → IsTrue (F.seen outside.old.run_files).tells → IfSome result.1 (λ s. All (HoldSegments s.buffers (F.seen outside.new.run_files).at) s.runs) }
+    ensures front_end_sends { IfSome result.1 (λ s. All (AreSentByFronts s.buffers) s.runs) }
     ensures database { outside.new.odb_files ≡ outside.old.odb_files }
     ensures picks { outside.new.pick ≡ outside.old.pick }
 {
@@ -98,6 +102,10 @@ pub fn run_script<
     ensures broken { F.faults result.2.run_files ≢ F.faults outside.run_files → result.1 ≡ None }
     ensures opened { IfSome result.1 (λ s. s.runs ≢ []) }
     ensures one_history { IfSome result.1 (λ s. All IsOneHistory s.buffers) }
+    // Each file of a run holds the events between the run's marks, of which the channel's client got just those that it
+    // asked for; and these are the events that the front-end sent in that run.
+    ensures run_files { ¬ Rose (F.faults outside.run_files) (F.faults result.2.run_files) → IsTrue (F.seen outside.run_files).tells → IfSome result.1 (λ s. All (HoldSegments s.buffers (F.seen result.2.run_files).at) s.runs) }
+    ensures front_end_sends { IfSome result.1 (λ s. All (AreSentByFronts s.buffers) s.runs) }
     ensures database { result.2.odb_files ≡ outside.odb_files }
     ensures picks { result.2.pick ≡ outside.pick }
 {

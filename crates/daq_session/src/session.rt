@@ -6,6 +6,8 @@ ghost use Rattle.odb_script.specs.declared.commands.Command.TheVariants.{Nothing
 ghost use Rattle.daq_session.specs.Console.{is_refusal};
 ghost use Rattle.daq_session.specs.Halts.{CountsHalt};
 ghost use Rattle.daq_session.specs.Standing.{Answers, Handles, IsReady};
+ghost use Rattle.buffer_core.specs.Window.{accepted_of};
+ghost use Rattle.daq_session.specs.RunsTold.{IsStanding};
 ghost use Rattle.daq_session.specs.Tallies.{most_spent, most_starts};
 
 use crate::data_path::DataPath;
@@ -37,6 +39,8 @@ pub struct Session {
     // There is room to note the calls of the run that is on, up to its end.
     ghost entries: { ForSome state.current (λ r. 2 * r.order.quota + 1 ≤ path.port.entries) },
     ghost bytes: { ForSome state.current (λ r. 80 * r.order.quota ≤ path.port.bytes) },
+    // The history of the buffer tells the recorded runs, and that the one that is on has no event yet.
+    ghost told: { ∥ IsStanding path.port.history (accepted_of path.port.window) state.starts state.runs.items state.current ∥₁ },
 }
 
 impl Session {

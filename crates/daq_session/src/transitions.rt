@@ -6,6 +6,8 @@ ghost use Rattle.daq_model.specs.Generator.{generated_events};
 ghost use Rattle.daq_model.specs.RunFile.{end_record};
 ghost use Rattle.daq_io.specs.Counts.{CountsFault};
 ghost use Rattle.daq_io.specs.Seen.{Closes};
+ghost use Rattle.buffer_core.specs.Window.{accepted_of};
+ghost use Rattle.daq_session.specs.RunsTold.{IsStanding, KeepsTold, EndsTold};
 ghost use Rattle.daq_session.specs.Tallies.{IsTally, most_spent, most_starts};
 ghost use Rattle.daq_session.specs.Console.{is_refusal};
 ghost use Rattle.daq_session.specs.Stages.{completed_record, file_record, refused_record};
@@ -66,6 +68,7 @@ pub fn start<F: Files, C: Clock>(
     requires begun { ForSome state.old.current (λ r. r.order.start ≤ state.old.starts) }
     requires entries { ForSome state.old.current (λ r. 2 * r.order.quota + 1 ≤ path.old.port.entries) }
     requires bytes { ForSome state.old.current (λ r. 80 * r.order.quota ≤ path.old.port.bytes) }
+    requires told { ∥ IsStanding path.old.port.history (accepted_of path.old.port.window) state.old.starts state.old.runs.items state.old.current ∥₁ }
     requires ready { IsReady (F.seen files.old) state.old.current }
     ensures did { Handles (Ok Start) state.old state.new (record { files = F.seen files.old; clock_tells = C.tells clock.old; ahead = C.ahead clock.old }) (record { files = F.seen files.new; clock_tells = C.tells clock.new; ahead = C.ahead clock.new }) result }
     ensures shut { ForNone state.new.current (path.new.port.window.gate ≡ Shut) }
@@ -76,6 +79,7 @@ pub fn start<F: Files, C: Clock>(
     ensures begun { ForSome state.new.current (λ r. r.order.start ≤ state.new.starts) }
     ensures entries { ForSome state.new.current (λ r. 2 * r.order.quota + 1 ≤ path.new.port.entries) }
     ensures bytes { ForSome state.new.current (λ r. 80 * r.order.quota ≤ path.new.port.bytes) }
+    ensures told { ∥ IsStanding path.new.port.history (accepted_of path.new.port.window) state.new.starts state.new.runs.items state.new.current ∥₁ }
     ensures starts { state.new.starts ≤ state.old.starts + 1 }
     ensures faults { CountsHalt (F.faults files.old) (F.faults files.new) result }
 {
@@ -136,6 +140,7 @@ pub fn stop<F: Files, C: Clock>(
     requires few { state.old.starts ≤ most_starts }
     requires entries { ForSome state.old.current (λ r. 2 * r.order.quota + 1 ≤ path.old.port.entries) }
     requires bytes { ForSome state.old.current (λ r. 80 * r.order.quota ≤ path.old.port.bytes) }
+    requires told { ∥ IsStanding path.old.port.history (accepted_of path.old.port.window) state.old.starts state.old.runs.items state.old.current ∥₁ }
     requires ready { IsReady (F.seen files.old) state.old.current }
     ensures did { IfOk result (λ reply. Answers (Ok Stop) reply state.old state.new (record { files = F.seen files.old; clock_tells = C.tells clock.old; ahead = C.ahead clock.old }) (record { files = F.seen files.new; clock_tells = C.tells clock.new; ahead = C.ahead clock.new })) }
     ensures idle { OnOk result (state.new.current ≡ None) }
@@ -148,6 +153,7 @@ pub fn stop<F: Files, C: Clock>(
     ensures begun { ForSome state.new.current (λ r. r.order.start ≤ state.new.starts) }
     ensures entries { ForSome state.new.current (λ r. 2 * r.order.quota + 1 ≤ path.new.port.entries) }
     ensures bytes { ForSome state.new.current (λ r. 80 * r.order.quota ≤ path.new.port.bytes) }
+    ensures told { ∥ IsStanding path.new.port.history (accepted_of path.new.port.window) state.new.starts state.new.runs.items state.new.current ∥₁ }
     ensures starts { state.new.starts ≡ state.old.starts }
     ensures faults { CountsFault (F.faults files.old) (F.faults files.new) result }
 {
@@ -197,6 +203,8 @@ fn end_run<F: Files>(
     ensures shut { path.new.port.window.gate ≡ Shut }
     ensures last { path.new.port.window.last ≡ path.old.port.window.last }
     ensures spent { path.new.port.window.total ≤ most_spent run.order.start }
+    ensures told { KeepsTold path.old.port.history path.new.port.history (accepted_of path.old.port.window) (accepted_of path.new.port.window) run.order }
+    ensures done { IfOk result (λ e. EndsTold path.old.port.history path.new.port.history (accepted_of path.old.port.window) run.order e.front.sent) }
     ensures faults { CountsFault (F.faults files.old) (F.faults files.new) result }
 {
     let order = run.order;

@@ -1,8 +1,9 @@
-ghost use Rattle.std.specs.Prelude.{◌≡◌, ◌≢◌, ◌↔◌, ℕ, List, [], All, None, IfSome};
+ghost use Rattle.std.specs.Prelude.{◌≡◌, ◌≢◌, ◌↔◌, ℕ, List, [], All, None, IfSome, IsTrue};
 ghost use Rattle.std.specs.Io.KnownBytes.{Appends};
 ghost use Rattle.daq_io.specs.Counts.{Rose};
 ghost use Rattle.daq_io.specs.Streams.{AppendsPart};
 ghost use Rattle.daq_session.specs.BufferRecords.{IsOneHistory};
+ghost use Rattle.daq_session.specs.RunHistories.{AreSentByFronts, HoldSegments};
 ghost use Rattle.daq_session.specs.Sessions.{FaultsBy, IsSession, runs_in};
 ghost use Rattle.midas_cli.specs.CommandLine.{HasForm, IsOnFile, IsRun, usage_line};
 ghost use Rattle.daq_io.specs.Seen.{Same};
@@ -95,6 +96,10 @@ pub fn midas<
     // The history of each buffer is that of one buffer that opened empty; its clients got what they asked for, and the
     // events of each run stand between its marks.
     ensures one_history { IfSome result.0.session (λ s. All IsOneHistory s.buffers) }
+    // Each file of a run holds the events between the run's marks in that history, of which the channel's client got just
+    // those that it asked for; and these are the events that the front-end sent in that run.
+    ensures run_files { ¬ Rose (F.faults outside.run_files) (F.faults result.1.run_files) → IsTrue (F.seen outside.run_files).tells → IfSome result.0.session (λ s. All (HoldSegments s.buffers (F.seen result.1.run_files).at) s.runs) }
+    ensures front_end_sends { IfSome result.0.session (λ s. All (AreSentByFronts s.buffers) s.runs) }
     ensures database_files { result.1.odb_files ≡ outside.odb_files }
     ensures picks { result.1.pick ≡ outside.pick }
 {

@@ -3,6 +3,7 @@ use Rattle.daq_session.specs.declared.endings.Ending.TheVariants.{Halted}
 use Rattle.daq_session.specs.declared.halts.Halt.TheVariants.{FileFault}
 use Rattle.daq_session.proofs.Options.{true_if}
 use Rattle.daq_session.proofs.RunLaws.{plays_played, files_stand, risen_some, session_at, faults_by, session_none}
+use Rattle.daq_session.proofs.RunsKept.{session_filed, session_sent}
 use Rattle.daq_session.proofs.run.run.Goals as goal
 
 pub returns-in_default-clause-session : goal.returns-in_default-clause-session
@@ -36,3 +37,9 @@ pub returns-clause-faults : goal.returns-clause-faults
 returns-clause-faults g c =
     faults_by c.close_run-closed.result.ending _ _ _ _ _ _ c.cause_of-cause.ensures
     (c.close_run-closed.ensures.counts (record { old = g.S.Source.faults c.args.outside.now.src; new = g.S.Source.faults c.play-ending.new.outside.src }) (g.K.Sink.faults c.args.outside.now.out) (g.F.Files.faults c.args.outside.now.run_files) c.play-ending.ensures.source c.play-ending.ensures.sink c.play-ending.ensures.files)
+
+pub returns-clause-run_files : goal.returns-clause-run_files
+returns-clause-run_files g c = λ calm tells. session_filed c.record_of.result _ ((returns-clause-session g c calm).played.kept.filed tells) c.record_of.ensures.held
+
+pub returns-clause-front_end_sends : goal.returns-clause-front_end_sends
+returns-clause-front_end_sends g c = session_sent c.record_of.result c.record_of.ensures.held

@@ -1,4 +1,9 @@
-use Rattle.std.proofs.Common.{◌≡◌, List, [], ◌∷◌, ◌++◌, Option, None, refl, sym, ap, subst, ◌∙◌}
+use Rattle.std.proofs.Common.{◌≡◌, ◌≤◌, ◌+◌, ℕ, List, [], ◌∷◌, ◌++◌, Option, None, refl, sym, ap, subst, ◌∙◌, arith}
+use Rattle.std.proofs.Math.Logic.{∥∥₁_map}
+use Rattle.buffer_core.specs.declared.entry.BufferEntry.{BufferEntry}
+use Rattle.buffer_core.specs.Window.{Window, accepted_of}
+use Rattle.daq_session.specs.BufferEntries.{begin_entry}
+use Rattle.daq_session.proofs.RunsKept.{standing_begun, standing_refused}
 use Rattle.daq_session.specs.declared.records.RunRecord.{RunRecord}
 use Rattle.daq_session.specs.declared.state.OpenRun.{OpenRun}
 use Rattle.daq_session.specs.Standing.{IsReady}
@@ -29,3 +34,27 @@ returns-in-Taken-clause-did g c =
           idle,
       subst (λ (on : Option OpenRun). IsReady (g.F.Files.seen c.begin_file.new.files) on) (sym idle) tt,
     )
+
+pub returns-in-Writing-clause-told : goal.returns-in-Writing-clause-told
+returns-in-Writing-clause-told g c =
+    let start : ℕ = c.args.state.now.starts + 1 in
+    let before : Window = c.make_room.new.self.port.window in
+    ∥∥₁_map c.requires.told
+    (standing_begun c.args.path.now.port.history c.begin.new.self.port.history (accepted_of c.args.path.now.port.window) (accepted_of c.begin.new.self.port.window) c.args.state.now.starts
+    c.args.state.now.runs.items c.reserve.new.self.items c.args.state.now.current _ refl
+    (c.begin.ensures.history
+    ∙ (ap (λ (h : List (ℕ × BufferEntry)). h ++ begin_entry start (accepted_of before) ∷ []) c.make_room.ensures.history
+    ∙ ap (λ (w : Window). c.args.path.now.port.history ++ begin_entry start (accepted_of w) ∷ []) c.make_room.ensures.window))
+    (c.begin.ensures.accepted ∙ ap accepted_of c.make_room.ensures.window)
+    c.in_ok-reserve.ensures.items)
+
+pub returns-in-Taken-clause-told : goal.returns-in-Taken-clause-told
+returns-in-Taken-clause-told g c =
+    let idle : c.args.state.now.current ≡ None = none_from c.args.state.now.current (sym c.if-is_some.false ∙ c.is_some.ensures) in
+    let later : c.args.state.now.starts ≤ c.args.state.now.starts + 1 = omega arith in
+    ∥∥₁_map c.requires.told
+    (standing_refused c.args.path.now.port.history c.make_room.new.self.port.history (accepted_of c.args.path.now.port.window) (accepted_of c.make_room.new.self.port.window) c.args.state.now.starts (c.args.state.now.starts + 1)
+    c.args.state.now.runs.items c.push_reserved.new.self.items c.args.state.now.current c.refused_run.result idle later
+    c.make_room.ensures.history (ap accepted_of c.make_room.ensures.window)
+    (c.push_reserved.ensures.items ∙ ap (λ (runs : List RunRecord). runs ++ c.refused_run.result ∷ []) c.in_ok-reserve.ensures.items)
+    (ap (λ (r : RunRecord). r.fronts) c.refused_run.ensures) (ap (λ (r : RunRecord). r.files) c.refused_run.ensures))

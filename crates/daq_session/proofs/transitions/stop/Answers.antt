@@ -1,4 +1,7 @@
-use Rattle.std.proofs.Common.{[], ◌∷◌, ◌++◌, refl, sym, ap, ◌∙◌}
+use Rattle.std.proofs.Common.{◌≡◌, ◌≤◌, [], ◌∷◌, ◌++◌, Some, refl, sym, ap, ◌∙◌}
+use Rattle.std.proofs.Math.Logic.{∥∥₁_map}
+use Rattle.buffer_core.specs.Window.{accepted_of}
+use Rattle.daq_session.proofs.RunsKept.{standing_broken, standing_ended}
 use Rattle.daq_session.specs.declared.records.RunRecord.{RunRecord}
 use Rattle.daq_session.proofs.Leading.{ended_leads}
 use Rattle.daq_session.proofs.transitions.stop.Goals as goal
@@ -9,3 +12,22 @@ returns-in_ok-ended-in-Some-clause-did g c = λ o readings replies at.
     (sym c.take.ensures.value ∙ c.in-Some.is) (record { tells = c.now-time.ensures.tells; value = c.now-time.ensures.value; later = c.now-time.ensures.later })
     c.in_ok-ended-in-Some.ensures.file c.in_ok-ended-in-Some.ensures.tally c.in_ok-ended-in-Some.ensures.named refl refl refl
     (c.push_reserved.ensures.items ∙ ap (λ (r : RunRecord). c.args.state.now.runs.items ++ r ∷ []) c.in_ok-ended-in-Some.ensures.recorded) c.take.ensures.after
+
+pub returns-in_err-ended-in-Some-clause-told : goal.returns-in_err-ended-in-Some-clause-told
+returns-in_err-ended-in-Some-clause-told g c =
+    let is_on : c.args.state.now.current ≡ Some c.in-Some.run' = sym c.take.ensures.value ∙ c.in-Some.is in
+    let early : c.in-Some.run'.order.start ≤ c.args.state.now.starts = c.requires.begun c.in-Some.run' is_on in
+    ∥∥₁_map c.requires.told
+    (standing_broken c.args.path.now.port.history c.end_run.new.path.port.history (accepted_of c.args.path.now.port.window) (accepted_of c.end_run.new.path.port.window) c.args.state.now.starts
+    c.args.state.now.runs.items c.args.state.now.current c.take.new.self c.in-Some.run' is_on c.take.ensures.after early c.end_run.ensures.told)
+
+pub returns-in_ok-ended-in-Some-clause-told : goal.returns-in_ok-ended-in-Some-clause-told
+returns-in_ok-ended-in-Some-clause-told g c =
+    let is_on : c.args.state.now.current ≡ Some c.in-Some.run' = sym c.take.ensures.value ∙ c.in-Some.is in
+    let early : c.in-Some.run'.order.start ≤ c.args.state.now.starts = c.requires.begun c.in-Some.run' is_on in
+    ∥∥₁_map c.requires.told
+    (standing_ended c.args.path.now.port.history c.end_run.new.path.port.history (accepted_of c.args.path.now.port.window) (accepted_of c.end_run.new.path.port.window) c.args.state.now.starts c.now-time.result
+    c.args.state.now.runs.items c.push_reserved.new.self.items c.args.state.now.current c.take.new.self c.in-Some.run' c.in_ok-ended-in-Some.ended.front is_on c.take.ensures.after early
+    c.in_ok-ended-in-Some.ensures.tally.client
+    (c.push_reserved.ensures.items ∙ ap (λ (r : RunRecord). c.args.state.now.runs.items ++ r ∷ []) c.in_ok-ended-in-Some.ensures.recorded)
+    c.end_run.ensures.told c.in_ok-ended-in-Some.ensures.done)

@@ -1,4 +1,4 @@
-use Rattle.std.proofs.Common.{◌+◌, ◌++◌, ◌∷◌, [], ℕ, ◌∙◌, ap, arith, length}
+use Rattle.std.proofs.Common.{rules, ◌+◌, ◌++◌, ◌∷◌, [], ℕ, ◌∙◌, ap, arith, length}
 use Rattle.daq_types.specs.declared.events.Event.{Event}
 use Rattle.daq_model.specs.Events.{encoding, slot_size}
 use Rattle.daq_model.specs.GeneratorLaws.{generated_body_is_small, generated_slot_is_small}
@@ -35,4 +35,20 @@ loop-count-preserved g c =
       entries = omega (arith, c.pass_on.ensures.entries, c.loop-count.invariant.entries);
       bytes = omega (arith, c.pass_on.ensures.bytes, c.loop-count.invariant.bytes);
       faults = c.in_ok-append.ensures.faults.done ∙ c.loop-count.invariant.faults;
+    }
+
+pub returns-in_err-append-clause-history : goal.returns-in_err-append-clause-history
+returns-in_err-append-clause-history g c =
+    let start : ℕ = c.args.order.now.start in
+    let room : ℕ = c.args.self.now.got.room in
+    let place : ℕ = accepted_of c.args.self.now.port.window in
+    record {
+      count = c.loop-count.count + 1;
+      history = passed_more start room place c.loop-count.count c.args.self.now.port.history c.loop-count.self.port.history c.pass_on.new.self.port.history c.args.order.now 1 0 c.loop-count.invariant.history
+          (c.pass_on.ensures.history
+          ∙ (ap (λ (n : ℕ). c.loop-count.self.port.history ++ passed_entries start n (accepted_of c.loop-count.self.port.window) (c.write.new.into.event ∷ [])) c.loop-count.invariant.room
+          ∙ (ap (λ (n : ℕ). c.loop-count.self.port.history ++ passed_entries start room n (c.write.new.into.event ∷ [])) c.loop-count.invariant.accepted
+          ∙ ap (λ (e : Event). c.loop-count.self.port.history ++ passed_entries start room (place + c.loop-count.count) (e ∷ [])) c.write.ensures.event)));
+      accepted_is = omega (arith, c.pass_on.ensures.accepted, c.loop-count.invariant.accepted);
+      all = search rules;
     }

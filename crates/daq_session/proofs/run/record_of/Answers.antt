@@ -1,0 +1,18 @@
+use Rattle.std.specs.Prelude.{◌≡◌, ℕ, List, All}
+use Rattle.std.proofs.Common.{ap, sym, subst, ◌∙◌}
+use Rattle.std.proofs.Math.Logic.{∥∥₁_elim}
+use Rattle.std.proofs.Props.{props}
+use Rattle.buffer_core.specs.declared.entry.BufferEntry.{BufferEntry}
+use Rattle.daq_session.specs.declared.records.RunRecord.{RunRecord}
+use Rattle.daq_session.specs.BufferRecords.{history_in}
+use Rattle.daq_session.specs.RunHistories.{IsHeldRun}
+use Rattle.daq_session.proofs.RunsKept.{held_runs}
+use Rattle.daq_session.proofs.run.record_of.Goals as goal
+
+pub returns-clause-held : goal.returns-clause-held
+returns-clause-held c =
+    let history : List (ℕ × BufferEntry) = c.args.session.path.port.history in
+    let is_history : history_in c.into_records.result ≡ history = ap history_in c.into_records.ensures.system.alone ∙ c.into_records.ensures.system.history_is in
+    ∥∥₁_elim c.args.session.told (hlevel props)
+    (λ s. subst (λ (h : List (ℕ × BufferEntry)). All (IsHeldRun h) c.of.result) (sym is_history)
+    (subst (λ (runs : List RunRecord). All (IsHeldRun history) runs) (sym c.of.ensures) (held_runs history _ _ c.args.session.state.runs.items s.told)))

@@ -1,0 +1,66 @@
+-- The completed runs of a session against the history of the buffer that their events went through.
+use Rattle.std.specs.Prelude.{◌≡◌, ℕ, ◌==◌, Bool, if◌then◌else◌, List, [], map, Option, Some, None, Ok, All}
+use Rattle.std.specs.List.{filter_map}
+use Rattle.daq_types.specs.declared.events.Event.{Event}
+use Rattle.daq_model.specs.RunFile.{run_file}
+use Rattle.daq_model.specs.Generator.{generated_events}
+use Rattle.daq_io.specs.Seen.{Stored, stored_closed}
+use Rattle.buffer_core.specs.declared.entry.BufferEntry.{BufferEntry}
+use Rattle.buffer_core.specs.declared.entry.BufferEntry.TheVariants.{SendInRun}
+use Rattle.buffer_core.specs.Window.{Sent}
+use Rattle.buffer_core.specs.Readers.{among, places_got, places_of, wanted}
+use Rattle.buffer_core.specs.Runs.{segment}
+use Rattle.daq_session.specs.declared.records.BufferRecord.{BufferRecord}
+use Rattle.daq_session.specs.declared.records.RunRecord.{RunRecord}
+use Rattle.daq_session.specs.declared.records.FrontTally.{FrontTally}
+use Rattle.daq_session.specs.declared.records.FileRecord.{FileRecord}
+use Rattle.daq_session.specs.BufferRecords.{history_in}
+use Rattle.daq_session.specs.RunRecords.{order_of, file_of}
+
+-- the event of an accepted send in the run with this start number
+abbrev pub sent_in_run : (start : ℕ) → BufferEntry → Option Event
+sent_in_run start (SendInRun s stated e (Ok place)) = if s == start then Some e else None
+sent_in_run start entry = None
+
+-- the events that this caller sent in the run, in order
+abbrev pub sent_by : (history : List (ℕ × BufferEntry)) → (caller start : ℕ) → List Event
+sent_by h caller start = filter_map (λ e. if e.0 == caller then sent_in_run start e.1 else None) h
+
+-- the events between the marks of the run that a request for this id and mask wants, each with its place
+abbrev pub wanted_of : (history : List (ℕ × BufferEntry)) → (id mask start : ℕ) → List (ℕ × Sent)
+wanted_of h id mask start = wanted id mask (segment h start)
+
+abbrev pub events_of : List (ℕ × Sent) → List Event
+events_of = map (λ e. e.1.event)
+
+-- the file that the history says of the run
+abbrev pub segment_file : List (ℕ × BufferEntry) → RunRecord → List ℕ
+segment_file h r = run_file r.run r.time0 [] (events_of (wanted_of h 65535 65535 r.start)) r.time1 []
+
+-- A file that the record names is closed and holds, between its records, the events between the run's marks that the
+-- channel's request wants; and of the places between the marks the channel's client got just those, in order. The
+-- channel asks for any id and mask, and its client has number 0.
+pub record HoldsSegment (h : List (ℕ × BufferEntry)) (at : List ℕ → Option Stored) (r : RunRecord) (f : FileRecord) : Type 0 where
+  pub file : at f.name ≡ Some (stored_closed (segment_file h r))
+  pub got : among (segment h r.start) (places_got h 0) ≡ places_of (wanted_of h 65535 65535 r.start)
+
+-- What the front-end, whose caller number is that of its client, sent in the run are events 1 to n of its generator, in
+-- order, n the record's number; and nothing else stands between the run's marks.
+pub record IsSentByFront (h : List (ℕ × BufferEntry)) (r : RunRecord) (front : FrontTally) : Type 0 where
+  pub sent : sent_by h front.client r.start ≡ generated_events (order_of r) 1 0 front.sent
+  pub only : events_of (segment h r.start) ≡ sent_by h front.client r.start
+
+-- Of a recorded run: what the front-ends sent; what the channel's client got, for each file; and that the file that the
+-- history says is the one that the record says.
+pub record IsHeldRun (h : List (ℕ × BufferEntry)) (r : RunRecord) : Type 0 where
+  pub fronts : All (IsSentByFront h r) r.fronts
+  pub got : All (λ f. among (segment h r.start) (places_got h 0) ≡ places_of (wanted_of h 65535 65535 r.start)) r.files
+  pub file : All (λ f. segment_file h r ≡ file_of r) r.files
+
+-- so of each file that the record names, with the history of the buffer SYSTEM
+abbrev pub HoldSegments : List BufferRecord → (at : List ℕ → Option Stored) → RunRecord → Type 0
+HoldSegments buffers at r = All (HoldsSegment (history_in buffers) at r) r.files
+
+-- and of each front-end
+abbrev pub AreSentByFronts : List BufferRecord → RunRecord → Type 0
+AreSentByFronts buffers r = All (IsSentByFront (history_in buffers) r) r.fronts
