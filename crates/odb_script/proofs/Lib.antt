@@ -2,3 +2,6 @@ mod Digits
 mod KeptLines
 mod Scanning
 mod LinesSoFar
+mod TypeLaws
+mod NumberLaws
+mod WordLaws

@@ -4,3 +4,9 @@ pub mod Inside
 pub mod Advances
 pub mod ReadLines
 pub mod KeptCommands
+pub mod LineWords
+pub mod WordsStored
+pub mod NextWords
+pub mod Numbers
+pub mod TypeNames
+pub mod Forms

@@ -4,9 +4,14 @@
 #[cfg(test)]
 mod checks;
 mod commands;
+pub mod forms;
+mod line_text;
+mod numbers;
 mod reading;
 mod texts;
+mod words;
 
 pub use commands::{Command, LINE_BYTES, LineRefusal};
+pub use line_text::LineText;
 pub use reading::{LineReader, NextLine, SCRIPT_BYTES};
 pub use texts::TextBuffer;

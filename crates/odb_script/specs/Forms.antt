@@ -1,0 +1,152 @@
+-- The forms of a script's commands, read word by word.
+use Rattle.std.specs.Prelude.{ℕ, nat_lt, nat_eq, if◌then◌else◌, List, length, Option, Some, None, unwrap_or, Result, Ok, Err, codes}
+use Rattle.std.specs.List.{starts_with}
+use Rattle.daq_types.specs.declared.types.Tid.{Tid}
+use Rattle.odb_script.specs.LineWords.{Words, word, ended, faulty, line_words}
+use Rattle.odb_script.specs.Numbers.{number_of}
+use Rattle.odb_script.specs.TypeNames.{is_text, type_named}
+use Rattle.odb_script.specs.declared.forms.Command.{Command}
+use Rattle.odb_script.specs.declared.forms.Command.TheVariants.{Nothing, Events, Start, Stop, Create, CreateDir, Set, Get, List as Ls, Remove, Exit}
+use Rattle.odb_script.specs.declared.commands.LineRefusal.{LineRefusal}
+use Rattle.odb_script.specs.declared.commands.LineRefusal.TheVariants.{BadCommand}
+
+-- what is read of a line, or the place at which no form goes on
+abbrev pub Read : Type 0 → Type 0
+Read A = Result A LineRefusal
+
+infixl 10 ◌>>=◌
+abbrev pub ◌>>=◌ : {A B : Type 0} → Read A → (A → Read B) → Read B
+Ok x >>= f = f x
+Err e >>= f = Err e
+
+-- the text of the next word, which has to be there
+abbrev pub next_text : Words → Read (List ℕ)
+next_text (word at text ws) = Ok text
+next_text (ended at) = Err (BadCommand at)
+next_text (faulty at) = Err (BadCommand at)
+
+-- what stands behind the next word
+abbrev pub behind : Words → Words
+behind (word at text ws) = ws
+behind (ended at) = ended at
+behind (faulty at) = faulty at
+
+-- the line ends here
+abbrev pub line_end : Words → Read (Unit {0})
+line_end (word at text ws) = Err (BadCommand at)
+line_end (ended at) = Ok tt
+line_end (faulty at) = Err (BadCommand at)
+
+-- the next word is no number
+abbrev pub number_at : ℕ → Option ℕ → Read ℕ
+number_at at None = Err (BadCommand at)
+number_at at (Some n) = Ok n
+
+-- the next word, which has to be a number
+abbrev pub next_number : Words → Read ℕ
+next_number (word at text ws) = number_at at (number_of text)
+next_number (ended at) = Err (BadCommand at)
+next_number (faulty at) = Err (BadCommand at)
+
+-- a number at the line's end, which may be left out
+abbrev pub last_number : Words → Read (Option ℕ)
+last_number (word at text ws) = do
+  n ← number_at at (number_of text)
+  _ ← line_end ws
+  Ok (Some n)
+last_number (ended at) = Ok None
+last_number (faulty at) = Err (BadCommand at)
+
+-- a command of one word
+abbrev pub only : Command → Words → Read Command
+only command ws = do
+  _ ← line_end ws
+  Ok command
+
+-- `events N`
+abbrev pub events_form : Words → Read Command
+events_form ws = do
+  count ← next_number ws
+  only (Events count) (behind ws)
+
+-- `create DIR PATH`
+abbrev pub directory_form : Words → Read Command
+directory_form ws = do
+  path ← next_text ws
+  only (CreateDir path) (behind ws)
+
+-- `create TYPE PATH` and maybe LEN, which is else 1
+abbrev pub value_form : ℕ → Option Tid → Words → Read Command
+value_form at None ws = Err (BadCommand at)
+value_form at (Some tid) ws = do
+  path ← next_text ws
+  len ← last_number (behind ws)
+  Ok (Create tid path (unwrap_or len 1))
+
+abbrev pub create_form : Words → Read Command
+create_form (word at kind ws) = if is_text kind (codes "DIR") then directory_form ws else value_form at (type_named kind) ws
+create_form (ended at) = Err (BadCommand at)
+create_form (faulty at) = Err (BadCommand at)
+
+-- What stands behind `set PATH` and one more word, which is the value where the line ends. Else it is the index, and
+-- the next word the value; no form goes on there if it is no number.
+abbrev pub set_end : List ℕ → List ℕ → Option ℕ → Words → Read Command
+set_end path first index (ended at) = Ok (Set path 0 first)
+set_end path first index (faulty at) = Err (BadCommand at)
+set_end path first None (word at value ws) = Err (BadCommand at)
+set_end path first (Some index) (word at value ws) = only (Set path index value) ws
+
+-- `set PATH VALUE` or `set PATH INDEX VALUE`
+abbrev pub set_form : Words → Read Command
+set_form ws = do
+  path ← next_text ws
+  first ← next_text (behind ws)
+  set_end path first (number_of first) (behind (behind ws))
+
+-- `get PATH` and maybe INDEX
+abbrev pub get_form : Words → Read Command
+get_form ws = do
+  path ← next_text ws
+  index ← last_number (behind ws)
+  Ok (Get path index)
+
+-- `ls PATH`
+abbrev pub list_form : Words → Read Command
+list_form ws = do
+  path ← next_text ws
+  only (Ls path) (behind ws)
+
+-- `rm PATH`
+abbrev pub remove_form : Words → Read Command
+remove_form ws = do
+  path ← next_text ws
+  only (Remove path) (behind ws)
+
+-- the form that begins with a name, which stands at a place, and what is behind it
+unfoldable pub named_form : ℕ → List ℕ → Words → Read Command
+named_form at name ws =
+    if is_text name (codes "events") then events_form ws
+    else if is_text name (codes "start") then only Start ws
+    else if is_text name (codes "stop") then only Stop ws
+    else if is_text name (codes "create") then create_form ws
+    else if is_text name (codes "set") then set_form ws
+    else if is_text name (codes "get") then get_form ws
+    else if is_text name (codes "ls") then list_form ws
+    else if is_text name (codes "rm") then remove_form ws
+    else if is_text name (codes "exit") then only Exit ws
+    else Err (BadCommand at)
+
+-- a line of no word is passed over
+abbrev pub words_form : Words → Read Command
+words_form (word at name ws) = named_form at name ws
+words_form (ended at) = Ok Nothing
+words_form (faulty at) = Err (BadCommand at)
+
+-- The command of a line, or the place of the first word with which no form goes on; that place is the line's length
+-- where the line ends too early or a quote is not closed. A line that begins with `#` is passed over. A line of more
+-- than 4,096 bytes is refused at 4096.
+unfoldable pub command_of : List ℕ → Read Command
+command_of line =
+    if nat_lt 4096 (length line) then Err (BadCommand 4096)
+    else if starts_with nat_eq line (codes "#") then Ok Nothing
+    else words_form (line_words line)
