@@ -10,3 +10,4 @@ pub mod NextWords
 pub mod Numbers
 pub mod TypeNames
 pub mod Forms
+pub mod KeptForms

@@ -1,5 +1,5 @@
 -- The words of a script's line.
-use Rattle.std.specs.Prelude.{◌≡◌, ℕ, ◌+◌, ◌==◌, Bool, not, ◌||◌, if◌then◌else◌, List, [], ◌∷◌, ◌++◌}
+use Rattle.std.specs.Prelude.{ℕ, ◌+◌, ◌==◌, Bool, ◌||◌, if◌then◌else◌, List, [], ◌∷◌, ◌++◌}
 
 -- What a line has from a place on: words, each with the place of its first byte and its text, which has no quotes round
 -- it; then its end, whose place is the line's length. In place of the end may stand what is no word, with the place at

@@ -94,7 +94,10 @@ pub record ReadsTooMuch (old new : Reading) (before after : Option (List ℕ)) :
   pub taken : new.taken ≡ old.taken + length part
   pub limit : new.taken ≡ script_limit
 
--- The source failed within a line.
+-- The source failed within a line: each byte that it gave was passed, and no line ended among those behind the last line.
 pub record ReadsPart (old new : Reading) (before after : Option (List ℕ)) : Type 0 where
   pub part : List ℕ
   pub takes : Takes old before after part new.pending
+  pub none_pending : new.pending ≡ []
+  pub taken : new.taken ≡ old.taken + length part
+  pub within : new.taken ≤ script_limit

@@ -7,7 +7,7 @@ use Rattle.std.proofs.lemmas.Bool.{cases_lt, lt-leb}
 use Rattle.std.proofs.Math.Logic.{⊎_elim}
 use Rattle.std.specs.Str.Lines.{strip_carriage_return}
 use Rattle.std.specs.Io.KnownBytes.{Consumes, IsAtEnd}
-use Rattle.odb_script.specs.Lines.{Reading, nothing_read, ended_lines, behind_lines, whole_lines, last_line, script_lines, lines_of, script_limit, ReadsLine, ReadsLast, ReadsNone, ReadsTooMuch}
+use Rattle.odb_script.specs.Lines.{Reading, nothing_read, ended_lines, behind_lines, whole_lines, last_line, script_lines, lines_of, script_limit, ReadsLine, ReadsLast, ReadsNone, ReadsTooMuch, ReadsPart}
 
 -- Lines of texts behind one another.
 
@@ -209,3 +209,28 @@ text_within_last text now after old new lines line h r =
     let is_text : text ≡ h.done ++ line = text_is text (h.done ++ line) [] after
     (passed (Some text) now after h.done old.pending r.takes.more line [] h.consumed r.takes.consumed r.takes.bytes) r.at_end refl in
     omega (arith, ap (length {A = ℕ}) is_text, length-append h.done line, r.taken, r.within, h.taken)
+
+-- A source failed.
+
+-- The text is what was given before that and what is left, and these are the lines that have an end in what was given.
+pub record AreGivenLines (text : List ℕ) (left : Option (List ℕ)) (lines : List (List ℕ)) : Type 0 where
+  pub given : List ℕ
+  pub rest : List ℕ
+  pub left_is : left ≡ Some rest
+  pub text_is : text ≡ given ++ rest
+  pub lines_are : lines ≡ whole_lines given
+  pub within : length given ≤ script_limit
+
+given_lines : (text given : List ℕ) (left : Option (List ℕ)) (lines : List (List ℕ)) → Consumes (Some text) left given → lines ≡ whole_lines given → length given ≤ script_limit
+    → AreGivenLines text left lines
+given_lines text given None lines c e w = absurd c
+given_lines text given (Some rest) lines c e w = record { given = given; rest = rest; left_is = refl; text_is = c; lines_are = e; within = w }
+
+pub lines_at_fault : (text : List ℕ) (now after : Option (List ℕ)) (old new : Reading) (lines : List (List ℕ))
+    → HasRead (Some text) now old lines → ReadsPart old new now after → AreGivenLines text after lines
+lines_at_fault text now after old new lines h r =
+    let consumed : Consumes (Some text) after (h.done ++ r.part) =
+    subst (λ bytes. Consumes (Some text) after bytes) (ap (λ rest. (h.done ++ r.part) ++ rest) r.none_pending ∙ append-nil (h.done ++ r.part))
+    (passed (Some text) now after h.done old.pending r.takes.more r.part new.pending h.consumed r.takes.consumed r.takes.bytes) in
+    given_lines text (h.done ++ r.part) after lines consumed (h.lines ∙ sym (whole_lines-plain h.done r.part h.whole r.takes.plain))
+    (omega (arith, length-append h.done r.part, h.taken, r.taken, r.within))

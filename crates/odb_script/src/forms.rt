@@ -16,7 +16,9 @@ pub enum Command<'a> {
     /// An empty line, a line of blanks or a comment, which is passed over but counted.
     Nothing,
     /// `events N`: how many events each front-end sends in the runs that are started from here on.
-    Events { count: u32 },
+    Events {
+        count: u32,
+    },
     /// `start`: begins a run.
     Start,
     /// `stop`: ends the run.
@@ -28,7 +30,9 @@ pub enum Command<'a> {
         len: u32,
     },
     /// `create DIR PATH`: makes a directory of the database.
-    CreateDir { path: LineText<'a> },
+    CreateDir {
+        path: LineText<'a>,
+    },
     /// `set PATH [INDEX] VALUE`: sets an item of a key, item 0 if not given.
     Set {
         path: LineText<'a>,
@@ -41,9 +45,13 @@ pub enum Command<'a> {
         index: Option<u32>,
     },
     /// `ls PATH`: lists a directory.
-    List { path: LineText<'a> },
+    List {
+        path: LineText<'a>,
+    },
     /// `rm PATH`: deletes a key or a directory.
-    Remove { path: LineText<'a> },
+    Remove {
+        path: LineText<'a>,
+    },
     /// `exit`: ends the script.
     Exit,
 }

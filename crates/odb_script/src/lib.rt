@@ -4,6 +4,8 @@
 #[cfg(test)]
 mod checks;
 mod commands;
+#[cfg(test)]
+mod form_checks;
 pub mod forms;
 mod line_text;
 mod numbers;

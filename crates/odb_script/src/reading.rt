@@ -148,6 +148,7 @@ impl LineReader {
     fn refill<S: Source>(&mut self, source: &mut S) -> Result<bool, Failed>
         ensures refilled { IfOk result (IsRefilled (S.left source.old) (S.left source.new) self.old self.new) }
         ensures same { OnErr result (self.new ≡ self.old) }
+        ensures drained { OnErr result (self.old.pending ≡ []) }
         ensures kept { OnErr result (Keeps (S.left source.old) (S.left source.new)) }
         ensures faults { CountsFault (S.faults source.old) (S.faults source.new) result }
     {
