@@ -11,3 +11,4 @@ pub mod Numbers
 pub mod TypeNames
 pub mod Forms
 pub mod KeptForms
+pub mod Exits
