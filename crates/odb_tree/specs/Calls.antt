@@ -1,0 +1,233 @@
+-- The calls of the database: the reply of each, and the rows after it.
+use Rattle.std.specs.Prelude.{◌≡◌, ◌≢◌, ℕ, ◌-◌, ◌==◌, Bool, true, false, not, nat_lt, nat_le, if◌then◌else◌, List, [], ◌∷◌, ◌++◌, length, map, slice_index_or, Option, Some, None, Result, Ok, Err}
+use Rattle.std.specs.Option.{option_or, option_map, is_some}
+use Rattle.daq_types.specs.declared.types.Tid.{Tid}
+use Rattle.daq_types.specs.declared.types.Tid.TheVariants as tid
+use Rattle.daq_types.specs.declared.memory.NoMemory.{NoMemory}
+use Rattle.daq_types.specs.Tids.{tid_code}
+use Rattle.odb_path.specs.Paths.{is_front}
+use Rattle.odb_value.specs.declared.items.Item.{Item}
+use Rattle.odb_value.specs.Items.{tid_of, is_kept}
+use Rattle.odb_value.specs.Values.{Held}
+use Rattle.odb_value.specs.ValueChanges.{new_held, put_in, resized}
+use Rattle.odb_tree.specs.declared.rows.Row.{Row}
+use Rattle.odb_tree.specs.declared.rows.NewKey.{NewKey}
+use Rattle.odb_tree.specs.declared.rows.NewKey.TheVariants.{Dir, Keys}
+use Rattle.odb_tree.specs.declared.children.Child.{Child}
+use Rattle.odb_tree.specs.declared.refusals.OdbRefusal.{OdbRefusal}
+use Rattle.odb_tree.specs.declared.refusals.OdbRefusal.TheVariants.{Exists, NotDir, NotValue, NotKept, TypeMismatch, BadIndex, NoMemory as no_memory}
+use Rattle.odb_tree.specs.declared.refusals.What.{What}
+use Rattle.odb_tree.specs.declared.entry.DatabaseEntry.{DatabaseEntry}
+use Rattle.odb_tree.specs.declared.entry.DatabaseEntry.TheVariants.{Create, Set, SetAll, Get, Find, ListDir, Delete, Resize, PathOf}
+use Rattle.odb_tree.specs.Rows.{Rows, row_at, row_numbered, is_key, change_at, rows_outside, keys_in, dirs_in}
+use Rattle.odb_tree.specs.Lookups.{obstacle_to_new, seek, seek_key}
+use Rattle.odb_tree.specs.Limits.{len_fault, text_fault, limit_fault}
+use Rattle.odb_tree.specs.Making.{new_number, created}
+
+-- The refusals are tested in this order: along the path; Exists; NotValue; NotKept; TypeMismatch; BadIndex; Limit. A
+-- call that is not refused answers a number.
+abbrev pub reply_or : Option OdbRefusal → (number : ℕ) → Result ℕ OdbRefusal
+reply_or None number = Ok number
+reply_or (Some refusal) number = Err refusal
+
+-- New keys and directories.
+
+-- the root is there, and so is what has a row
+abbrev pub exists_fault : List Row → List (List ℕ) → Option OdbRefusal
+exists_fault rows [] = Some Exists
+exists_fault rows (name ∷ names) = if is_some (row_at rows (name ∷ names)) then Some Exists else None
+
+abbrev pub kept_fault : NewKey → Option OdbRefusal
+kept_fault Dir = None
+kept_fault (Keys type len) = if is_kept type then None else Some (NotKept type)
+
+-- what is wrong with the number of items
+abbrev pub items_fault : NewKey → Option What
+items_fault Dir = None
+items_fault (Keys type len) = len_fault len
+
+abbrev pub new_value : NewKey → Option Held
+new_value Dir = None
+new_value (Keys type len) = Some (new_held type len)
+
+abbrev pub after_create : Rows → List (List ℕ) → NewKey → Rows
+after_create s p kind = created s p (new_value kind)
+
+abbrev pub create_fault : Rows → List (List ℕ) → NewKey → Option OdbRefusal
+create_fault s p kind =
+    option_or (obstacle_to_new s.rows p) (option_or (exists_fault s.rows p) (option_or (kept_fault kind) (limit_fault (items_fault kind) (after_create s p kind))))
+
+abbrev pub create_reply : Rows → List (List ℕ) → NewKey → Result ℕ OdbRefusal
+create_reply s p kind = reply_or (create_fault s p kind) (new_number s p)
+
+-- One item of a key.
+
+abbrev pub type_fault : (have given : Tid) → Option OdbRefusal
+type_fault have given = if tid_code have == tid_code given then None else Some (TypeMismatch have)
+
+abbrev pub index_fault : (len index : ℕ) → Option OdbRefusal
+index_fault len index = if nat_lt index len then None else Some (BadIndex len)
+
+-- the database with this item at the index
+abbrev pub after_set : Rows → List (List ℕ) → (index : ℕ) → Item → Rows
+after_set s p index item = record { rows = change_at s.rows p (λ v. put_in v index item); next = s.next }
+
+abbrev pub set_fault : Rows → List (List ℕ) → (index : ℕ) → Item → Held → Option OdbRefusal
+set_fault s p index item v =
+    option_or (type_fault v.tid (tid_of item)) (option_or (index_fault (length v.items) index) (limit_fault (text_fault item) (after_set s p index item)))
+
+abbrev pub set_reply_to : Rows → List (List ℕ) → (index : ℕ) → Item → Result (ℕ × Held) OdbRefusal → Result ℕ OdbRefusal
+set_reply_to s p index item (Err refusal) = Err refusal
+set_reply_to s p index item (Ok key) = reply_or (set_fault s p index item key.1) key.0
+
+abbrev pub set_reply : Rows → List (List ℕ) → (index : ℕ) → Item → Result ℕ OdbRefusal
+set_reply s p index item = set_reply_to s p index item (seek_key s.rows p)
+
+-- All items of a key, which is made where it is missing.
+
+abbrev pub after_set_all_at : Rows → List (List ℕ) → Held → Option Row → Rows
+after_set_all_at s p v None = created s p (Some v)
+after_set_all_at s p v (Some r) = record { rows = change_at s.rows p (λ _. v); next = s.next }
+
+abbrev pub after_set_all : Rows → List (List ℕ) → Held → Rows
+after_set_all s p v = after_set_all_at s p v (row_at s.rows p)
+
+-- a directory has no value, and a value keeps its type
+abbrev pub replace_fault : (given : Tid) → Option Held → Option OdbRefusal
+replace_fault given None = Some NotValue
+replace_fault given (Some v) = type_fault v.tid given
+
+abbrev pub there_fault : (given : Tid) → Option Row → Option OdbRefusal
+there_fault given None = None
+there_fault given (Some r) = replace_fault given r.value
+
+-- nor has the root
+abbrev pub value_fault : List Row → List (List ℕ) → (given : Tid) → Option OdbRefusal
+value_fault rows [] given = Some NotValue
+value_fault rows (name ∷ names) given = there_fault given (row_at rows (name ∷ names))
+
+abbrev pub number_at : Rows → List (List ℕ) → Option Row → ℕ
+number_at s p None = new_number s p
+number_at s p (Some r) = r.number
+
+abbrev pub set_all_fault : Rows → List (List ℕ) → Held → Option OdbRefusal
+set_all_fault s p v = option_or (obstacle_to_new s.rows p) (option_or (value_fault s.rows p v.tid) (limit_fault None (after_set_all s p v)))
+
+abbrev pub set_all_reply : Rows → List (List ℕ) → Held → Result ℕ OdbRefusal
+set_all_reply s p v = reply_or (set_all_fault s p v) (number_at s p (row_at s.rows p))
+
+-- More or fewer items of a key.
+
+abbrev pub after_resize : Rows → List (List ℕ) → (len : ℕ) → Rows
+after_resize s p len = record { rows = change_at s.rows p (λ v. resized v len); next = s.next }
+
+abbrev pub resize_reply_to : Rows → List (List ℕ) → (len : ℕ) → Result (ℕ × Held) OdbRefusal → Result ℕ OdbRefusal
+resize_reply_to s p len (Err refusal) = Err refusal
+resize_reply_to s p len (Ok key) = reply_or (limit_fault (len_fault len) (after_resize s p len)) key.0
+
+abbrev pub resize_reply : Rows → List (List ℕ) → (len : ℕ) → Result ℕ OdbRefusal
+resize_reply s p len = resize_reply_to s p len (seek_key s.rows p)
+
+-- Look-ups.
+
+abbrev pub value_reply : Result (ℕ × Held) OdbRefusal → Result Held OdbRefusal
+value_reply (Err refusal) = Err refusal
+value_reply (Ok key) = Ok key.1
+
+abbrev pub get_reply : Rows → List (List ℕ) → Result Held OdbRefusal
+get_reply s p = value_reply (seek_key s.rows p)
+
+abbrev pub number_reply : Result Row OdbRefusal → Result ℕ OdbRefusal
+number_reply (Err refusal) = Err refusal
+number_reply (Ok r) = Ok r.number
+
+-- the root has number 0
+abbrev pub find_reply : Rows → List (List ℕ) → Result ℕ OdbRefusal
+find_reply s [] = Ok 0
+find_reply s (name ∷ names) = number_reply (seek s.rows (name ∷ names))
+
+-- the last of these names, where there is one
+abbrev pub last_name : List (List ℕ) → List ℕ
+last_name p = slice_index_or p (length p - 1) []
+
+abbrev pub child_of : Row → Child
+child_of r = record { name = last_name r.path; is_dir = not (is_key r); row = r.number }
+
+-- what stands in a directory: the keys, and then the directories, each in order of making
+abbrev pub children_of : List Row → List (List ℕ) → List Child
+children_of rows p = map child_of (keys_in rows p) ++ map child_of (dirs_in rows p)
+
+abbrev pub children_reply : List Row → List (List ℕ) → Result Row OdbRefusal → Result (List Child) OdbRefusal
+children_reply rows p (Err refusal) = Err refusal
+children_reply rows p (Ok r) = if is_key r then Err NotDir else Ok (children_of rows p)
+
+abbrev pub list_reply : Rows → List (List ℕ) → Result (List Child) OdbRefusal
+list_reply s [] = Ok (children_of s.rows [])
+list_reply s (name ∷ names) = children_reply s.rows (name ∷ names) (seek s.rows (name ∷ names))
+
+-- the path of a row; the root has number 0
+abbrev pub path_with : List Row → (number : ℕ) → Option (List (List ℕ))
+path_with rows number = if number == 0 then Some [] else option_map (λ (r : Row). r.path) (row_numbered rows number)
+
+abbrev pub is_below_path : (below above : Option (List (List ℕ))) → Bool
+is_below_path None above = false
+is_below_path (Some p) None = false
+is_below_path (Some p) (Some q) = is_front q p
+
+-- both numbers are there, and the first is the second or lies below it
+abbrev pub is_row_below : Rows → (row above : ℕ) → Bool
+is_row_below s row above = is_below_path (path_with s.rows row) (path_with s.rows above)
+
+-- Removal.
+
+abbrev pub after_delete : Rows → List (List ℕ) → Rows
+after_delete s p = record { rows = rows_outside s.rows p; next = s.next }
+
+-- how many rows go
+abbrev pub count_gone : Rows → List (List ℕ) → ℕ
+count_gone s p = length s.rows - length (rows_outside s.rows p)
+
+abbrev pub count_reply : Rows → List (List ℕ) → Result Row OdbRefusal → Result ℕ OdbRefusal
+count_reply s p (Err refusal) = Err refusal
+count_reply s p (Ok r) = Ok (count_gone s p)
+
+abbrev pub delete_reply : Rows → List (List ℕ) → Result ℕ OdbRefusal
+delete_reply s [] = Ok (count_gone s [])
+delete_reply s (name ∷ names) = count_reply s (name ∷ names) (seek s.rows (name ∷ names))
+
+-- The calls.
+
+-- the reply is this one, or memory was wanting
+abbrev pub Gives : {X : Type 0} → Result X OdbRefusal → Result X OdbRefusal → Type 0
+Gives (Ok x) reply = reply ≡ Ok x
+Gives (Err refusal) reply = refusal ≢ no_memory → reply ≡ Err refusal
+
+abbrev pub GivesPath : Result (Option (List (List ℕ))) NoMemory → Option (List (List ℕ)) → Type 0
+GivesPath (Ok path) is = is ≡ path
+GivesPath (Err _) is = Unit {0}
+
+-- a text takes memory, any other item none
+abbrev pub GivesItem : Tid → Result ℕ OdbRefusal → Result ℕ OdbRefusal → Type 0
+GivesItem tid.Text given reply = Gives given reply
+GivesItem type given reply = given ≡ reply
+
+-- the entry's reply is the one that the database gives, or memory was wanting; `find` and `delete` take none
+abbrev pub IsReply : Rows → DatabaseEntry → Type 0
+IsReply s (Create p kind reply) = Gives reply (create_reply s p kind)
+IsReply s (Set p index item reply) = GivesItem (tid_of item) reply (set_reply s p index item)
+IsReply s (SetAll p v reply) = Gives reply (set_all_reply s p v)
+IsReply s (Get p reply) = Gives reply (get_reply s p)
+IsReply s (Find p reply) = reply ≡ find_reply s p
+IsReply s (ListDir p reply) = Gives reply (list_reply s p)
+IsReply s (Delete p reply) = reply ≡ delete_reply s p
+IsReply s (Resize p len reply) = Gives reply (resize_reply s p len)
+IsReply s (PathOf row reply) = GivesPath reply (path_with s.rows row)
+
+-- the rows after a call with this reply: a refusal, want of memory too, leaves them as they were
+abbrev pub rows_after : Rows → DatabaseEntry → Rows
+rows_after s (Create p kind (Ok n)) = after_create s p kind
+rows_after s (Set p index item (Ok n)) = after_set s p index item
+rows_after s (SetAll p v (Ok n)) = after_set_all s p v
+rows_after s (Delete p (Ok n)) = after_delete s p
+rows_after s (Resize p len (Ok n)) = after_resize s p len
+rows_after s entry = s

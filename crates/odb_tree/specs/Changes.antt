@@ -1,0 +1,15 @@
+-- What it takes to put an item into a value.
+use Rattle.std.specs.Prelude.{◌≡◌, ℕ, ◌<◌, length, Some}
+use Rattle.odb_value.specs.declared.items.Item.{Item}
+use Rattle.odb_value.specs.Items.{tid_of}
+use Rattle.odb_value.specs.Values.{Held, IsShorter, size_limit}
+use Rattle.odb_tree.specs.declared.rows.Row.{Row}
+
+-- the item fits in the value at the index
+pub record CanPut (v : Held) (index : ℕ) (item : Item) : Type 0 where
+  pub inside : index < length v.items
+  pub of_type : tid_of item ≡ v.tid
+  pub short : IsShorter size_limit item
+
+abbrev pub RowCanPut : Row → (index : ℕ) → Item → Type 0
+RowCanPut r index item = (v : Held) → r.value ≡ Some v → CanPut v index item

@@ -1,0 +1,31 @@
+-- Histories of a database: its calls with their replies, each with the number of its caller, in order.
+use Rattle.std.specs.Prelude.{◌≡◌, ℕ, Bool, true, false, List, [], ◌∷◌, ⊤}
+use Rattle.odb_tree.specs.declared.entry.DatabaseEntry.{DatabaseEntry}
+use Rattle.odb_tree.specs.declared.entry.DatabaseEntry.TheVariants.{Create, SetAll, Delete, Resize}
+use Rattle.odb_tree.specs.Rows.{Rows}
+use Rattle.odb_tree.specs.Calls.{IsReply, rows_after}
+
+abbrev pub History : Type 0
+History = List (ℕ × DatabaseEntry)
+
+-- the rows after all these calls
+abbrev pub replay : Rows → List (ℕ × DatabaseEntry) → Rows
+replay s [] = s
+replay s (e ∷ es) = replay (rows_after s e.1) es
+
+-- the calls that may make, remove or resize a row
+abbrev pub shapes_rows : DatabaseEntry → Bool
+shapes_rows (Create p kind reply) = true
+shapes_rows (SetAll p v reply) = true
+shapes_rows (Delete p reply) = true
+shapes_rows (Resize p len reply) = true
+shapes_rows entry = false
+
+-- the main thread alone, caller 0, makes them
+abbrev pub IsCaller : (caller : ℕ) → DatabaseEntry → Type 0
+IsCaller caller entry = shapes_rows entry ≡ true → caller ≡ 0
+
+-- each call is one that its caller may make, with the reply that the rows give at that point
+abbrev pub IsLegal : Rows → List (ℕ × DatabaseEntry) → Type 0
+IsLegal s [] = ⊤
+IsLegal s (e ∷ es) = IsCaller e.0 e.1 × IsReply s e.1 × IsLegal (rows_after s e.1) es

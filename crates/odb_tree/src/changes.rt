@@ -1,0 +1,90 @@
+ghost use Rattle.std.specs.Prelude.{◌≡◌, ◌≤◌, ◌<◌, length, position, IfSome, OnOk, OnErr, Some, None};
+ghost use Rattle.odb_path.specs.Paths.{same_path};
+ghost use Rattle.odb_value.specs.Values.{Held, items_limit};
+ghost use Rattle.odb_value.specs.ValueChanges.{put_in, resized};
+ghost use Rattle.odb_tree.specs.declared.rows.Row.{Row};
+ghost use Rattle.odb_tree.specs.Rows.{row_at, change_row, change_at};
+ghost use Rattle.odb_tree.specs.Changes.{CanPut, RowCanPut};
+
+use crate::rows::Row;
+use daq_types::{Name, NoMemory};
+use odb_path::is_same;
+use odb_value::{Item, Value};
+use std::alloc::Global;
+
+/// The place of the row at the path of these names.
+fn place_at(rows: &[Row], names: &[Name]) -> Option<usize>
+    ensures place { result ≡ position (λ (row : Row). same_path row.path names.now) rows.now }
+    ensures within { IfSome result (λ place. place < length rows.now) }
+{
+    rows.iter().position(|row| is_same(row.path.names(), names))
+}
+
+/// Puts an item into the row's value.
+fn put_row(row: &mut Row, index: u32, item: Item)
+    requires { (v : Held) → row.old.value ≡ Some v → CanPut v index item }
+    ensures { row.new ≡ change_row (λ v. put_in v index item) row.old }
+{
+    if let Some(value) = &mut row.value {
+        value.put(index, item);
+    }
+}
+
+/// Gives the row so many items.
+fn resize_row(row: &mut Row, alloc: Global, len: u32) -> Result<(), NoMemory>
+    requires some { 1 ≤ len }
+    requires many { len ≤ items_limit }
+    ensures ok { OnOk result (row.new ≡ change_row (λ v. resized v len) row.old) }
+    ensures err { OnErr result (row.new ≡ row.old) }
+{
+    if let Some(value) = &mut row.value {
+        value.resize(alloc, len)?;
+    }
+    Ok(())
+}
+
+/// Replaces the row's value.
+fn replace_row(row: &mut Row, value: Value)
+    ensures { row.new ≡ change_row (λ _. value) row.old }
+{
+    if row.value.is_some() {
+        row.value = Some(value);
+    }
+}
+
+/// Puts an item into the key at the path of these names.
+pub fn put_at(rows: &mut Vec<Row>, names: &[Name], index: u32, item: Item)
+    requires { (row : Row) → row_at rows.old.items names.now ≡ Some row → RowCanPut row index item }
+    ensures { rows.new.items ≡ change_at rows.old.items names.now (λ v. put_in v index item) }
+{
+    if let Some(place) = place_at(rows.as_slice(), names) {
+        put_row(&mut rows[place], index, item);
+    }
+}
+
+/// Gives the key at the path of these names so many items.
+pub fn resize_at(
+    rows: &mut Vec<Row>,
+    alloc: Global,
+    names: &[Name],
+    len: u32,
+) -> Result<(), NoMemory>
+    requires some { 1 ≤ len }
+    requires many { len ≤ items_limit }
+    ensures ok { OnOk result (rows.new.items ≡ change_at rows.old.items names.now (λ v. resized v len)) }
+    ensures err { OnErr result (rows.new.items ≡ rows.old.items) }
+{
+    if let Some(place) = place_at(rows.as_slice(), names) {
+        resize_row(&mut rows[place], alloc, len)?;
+    }
+    Ok(())
+}
+
+/// Replaces the value of the key at the path of these names.
+pub fn replace_at(rows: &mut Vec<Row>, names: &[Name], value: Value)
+    ensures { rows.new.items ≡ change_at rows.old.items names.now (λ _. value) }
+{
+    if let Some(place) = place_at(rows.as_slice(), names) {
+        replace_row(&mut rows[place], value);
+    }
+}

@@ -1,0 +1,78 @@
+ghost use Rattle.std.specs.Prelude.{◌≡◌, IfOk};
+ghost use Rattle.odb_tree.specs.declared.entry.DatabaseEntry.TheVariants.{Create, Set, SetAll, Get, Find, ListDir, Delete, Resize, PathOf};
+ghost use Rattle.odb_tree.specs.Calls.{IsReply, rows_after, is_row_below};
+
+use crate::children::Children;
+use crate::refusals::OdbRefusal;
+use crate::rows::NewKey;
+use daq_types::NoMemory;
+use odb_path::Path;
+use odb_value::{Item, Value};
+use std::alloc::Global;
+
+/// An online database, seen as a list of rows. Each call replies what `IsReply` says of the rows before it, and leaves
+/// `rows_after` of them. Want of memory is the one answer that no clause ties to the rows; it leaves them as they were.
+pub trait Database {
+    ghost use Rattle.odb_tree.specs.Rows.{Rows};
+
+    ghost rows: { Self → Rows };
+
+    /// Makes a key or a directory, and the missing directories of its path, and answers the number of its row.
+    fn create(&mut self, alloc: Global, path: &Path, kind: NewKey) -> Result<u32, OdbRefusal>
+        ensures reply { IsReply (rows self.old) (Create path.now kind result) }
+        ensures after { rows self.new ≡ rows_after (rows self.old) (Create path.now kind result) };
+
+    /// Writes one item of a key, and answers the number of its row. A text as long as the item size or longer raises
+    /// that to its length plus 1. Takes memory for a text alone.
+    fn set(
+        &mut self,
+        alloc: Global,
+        path: &Path,
+        index: u32,
+        item: &Item,
+    ) -> Result<u32, OdbRefusal>
+        ensures reply { IsReply (rows self.old) (Set path.now index item.now result) }
+        ensures after { rows self.new ≡ rows_after (rows self.old) (Set path.now index item.now result) };
+
+    /// Replaces the value of a key by one of the same type, or makes the key with it, and answers the number of its row.
+    fn set_all(&mut self, alloc: Global, path: &Path, value: &Value) -> Result<u32, OdbRefusal>
+        ensures reply { IsReply (rows self.old) (SetAll path.now value.now result) }
+        ensures after { rows self.new ≡ rows_after (rows self.old) (SetAll path.now value.now result) };
+
+    /// The value of a key.
+    fn get(&self, alloc: Global, path: &Path) -> Result<Value, OdbRefusal>
+        ensures { IsReply (rows self.now) (Get path.now result) };
+
+    /// The number of the row of a key or a directory; 0 for the root. Takes no memory.
+    fn find(&self, path: &Path) -> Result<u32, OdbRefusal>
+        ensures { IsReply (rows self.now) (Find path.now result) };
+
+    /// What stands in a directory: its keys, and then its directories, each in order of making.
+    fn list(&self, alloc: Global, path: &Path) -> Result<Children, OdbRefusal>
+        ensures { IsReply (rows self.now) (ListDir path.now result) };
+
+    /// Removes a row and all below it, and answers how many rows went. For the root all rows go. Takes no memory.
+    fn delete(&mut self, path: &Path) -> Result<u32, OdbRefusal>
+        ensures reply { IsReply (rows self.old) (Delete path.now result) }
+        ensures after { rows self.new ≡ rows_after (rows self.old) (Delete path.now result) };
+
+    /// Gives a key so many items: cuts at the end, or adds items of a new key. Answers the number of its row.
+    fn resize(&mut self, alloc: Global, path: &Path, len: u32) -> Result<u32, OdbRefusal>
+        ensures reply { IsReply (rows self.old) (Resize path.now len result) }
+        ensures after { rows self.new ≡ rows_after (rows self.old) (Resize path.now len result) };
+
+    /// The path of the row with this number, and of the root for 0; None exactly where there is none.
+    fn path_of(&self, alloc: Global, row: u32) -> Result<Option<Path>, NoMemory>
+        ensures { IsReply (rows self.now) (PathOf row result) };
+
+    /// Whether both numbers are those of rows that are there, or 0 for the root, and the first is the second or lies
+    /// below it. Takes no memory.
+    fn is_below(&self, row: u32, above: u32) -> bool
+        ensures { result ≡ is_row_below (rows self.now) row above };
+
+    /// A database with the same rows, of the same numbers.
+    fn copy(&self, alloc: Global) -> Result<Self, NoMemory>
+    where
+        Self: Sized,
+        ensures { IfOk result (λ copy. rows copy ≡ rows self.now) };
+}
