@@ -1,6 +1,6 @@
 -- Changing the first row at a path.
-use Rattle.std.proofs.Common.{◌≡◌, ℕ, zero, suc, ◌+◌, ◌<◌, ◌≤◌, Bool, true, false, cond, ltb, List, [], ◌∷◌, ◌++◌, length, get_or, set, Option, Some, None, position, refl, sym, ap, ◌∙◌, subst, arith}
-use Rattle.std.specs.List.{prefix_len, position_or_len, find}
+use Rattle.std.proofs.Common.{◌≡◌, ℕ, zero, suc, ◌<◌, ◌≤◌, Bool, true, false, cond, ltb, List, [], ◌∷◌, length, get_or, set, Option, Some, None, position, refl, sym, ap, ◌∙◌, subst, arith}
+use Rattle.std.specs.List.{position_or_len}
 use Rattle.std.proofs.lemmas.Option.{cond_some}
 use Rattle.std.proofs.lemmas.Bool.Decides.{nat_tests}
 use Rattle.std.proofs.lemmas.List.Sums.{fails_before_first, passes_at_first}
@@ -18,9 +18,10 @@ change_there (r ∷ rs) p f zero d l before here =
     (ap (λ (t : Bool). cond t (change_row f r ∷ rs) (r ∷ change_at rs p f)) here, ap (λ (t : Bool). cond t (Some r) (row_at rs p)) here)
 change_there (r ∷ rs) p f (suc k) d l before here =
     let rest = change_there rs p f k d (omega arith) (λ i h. before (suc i) (omega arith)) here in
-    let not_here : same_path r.path p ≡ false = before 0 (omega arith) in
-    (ap (λ (t : Bool). cond t (change_row f r ∷ rs) (r ∷ change_at rs p f)) not_here ∙ ap (λ (xs : List Row). r ∷ xs) rest.0,
-     ap (λ (t : Bool). cond t (Some r) (row_at rs p)) not_here ∙ rest.1)
+    let not_here : same_path r.path p ≡ false = before 0 (omega arith) in (
+      ap (λ (t : Bool). cond t (change_row f r ∷ rs) (r ∷ change_at rs p f)) not_here ∙ ap (λ (xs : List Row). r ∷ xs) rest.0,
+      ap (λ (t : Bool). cond t (Some r) (row_at rs p)) not_here ∙ rest.1,
+    )
 
 place_is : (rows : List Row) (p : List (List ℕ)) (k : ℕ) → position (λ (r : Row). same_path r.path p) rows ≡ Some k
     → (position_or_len (λ (r : Row). same_path r.path p) rows < length rows) × (position_or_len (λ (r : Row). same_path r.path p) rows ≡ k)
@@ -40,10 +41,10 @@ changed rows p f k r h is =
 
 not_at : (n m : ℕ) → cond (ltb n m) (Some n) None ≡ None → m ≤ n
 not_at n m h = past (ltb n m) n m refl h
- where
-  past : (t : Bool) (n m : ℕ) → ltb n m ≡ t → cond t (Some n) None ≡ None → m ≤ n
-  past true n m e h = absurd (cc)
-  past false n m e h = grind (arith, nat_tests)
+  where
+    past : (t : Bool) (n m : ℕ) → ltb n m ≡ t → cond t (Some n) None ≡ None → m ≤ n
+    past true n m e h = absurd (cc)
+    past false n m e h = grind (arith, nat_tests)
 
 unchanged_if : (rows : List Row) (p : List (List ℕ)) (f : Held → Held) (d : Row) → ((i : ℕ) → i < length rows → same_path (get_or rows i d).path p ≡ false) → change_at rows p f ≡ rows
 unchanged_if [] p f d h = refl

@@ -1,3 +1,5 @@
 pub mod Along
 pub mod Limited
 pub mod Changing
+pub mod FaultLemmas
+pub mod CallLemmas

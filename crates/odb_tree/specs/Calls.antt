@@ -1,5 +1,5 @@
 -- The calls of the database: the reply of each, and the rows after it.
-use Rattle.std.specs.Prelude.{◌≡◌, ◌≢◌, ℕ, ◌-◌, ◌==◌, Bool, true, false, not, nat_lt, nat_le, if◌then◌else◌, List, [], ◌∷◌, ◌++◌, length, map, slice_index_or, Option, Some, None, Result, Ok, Err}
+use Rattle.std.specs.Prelude.{◌≡◌, ◌≢◌, ℕ, ◌-◌, ◌==◌, Bool, false, not, nat_lt, if◌then◌else◌, List, [], ◌∷◌, ◌++◌, length, map, slice_index_or, Option, Some, None, Result, Ok, Err}
 use Rattle.std.specs.Option.{option_or, option_map, is_some}
 use Rattle.daq_types.specs.declared.types.Tid.{Tid}
 use Rattle.daq_types.specs.declared.types.Tid.TheVariants as tid
@@ -15,12 +15,12 @@ use Rattle.odb_tree.specs.declared.rows.NewKey.{NewKey}
 use Rattle.odb_tree.specs.declared.rows.NewKey.TheVariants.{Dir, Keys}
 use Rattle.odb_tree.specs.declared.children.Child.{Child}
 use Rattle.odb_tree.specs.declared.refusals.OdbRefusal.{OdbRefusal}
-use Rattle.odb_tree.specs.declared.refusals.OdbRefusal.TheVariants.{Exists, NotDir, NotValue, NotKept, TypeMismatch, BadIndex, NoMemory as no_memory}
+use Rattle.odb_tree.specs.declared.refusals.OdbRefusal.TheVariants.{Exists, NotValue, NotKept, TypeMismatch, BadIndex, NoMemory as no_memory}
 use Rattle.odb_tree.specs.declared.refusals.What.{What}
 use Rattle.odb_tree.specs.declared.entry.DatabaseEntry.{DatabaseEntry}
 use Rattle.odb_tree.specs.declared.entry.DatabaseEntry.TheVariants.{Create, Set, SetAll, Get, Find, ListDir, Delete, Resize, PathOf}
 use Rattle.odb_tree.specs.Rows.{Rows, row_at, row_numbered, is_key, change_at, rows_outside, keys_in, dirs_in}
-use Rattle.odb_tree.specs.Lookups.{obstacle_to_new, seek, seek_key}
+use Rattle.odb_tree.specs.Lookups.{obstacle_to_new, seek, seek_key, dir_fault, absent_fault}
 use Rattle.odb_tree.specs.Limits.{len_fault, text_fault, limit_fault}
 use Rattle.odb_tree.specs.Making.{new_number, created}
 
@@ -157,13 +157,12 @@ child_of r = record { name = last_name r.path; is_dir = not (is_key r); row = r.
 abbrev pub children_of : List Row → List (List ℕ) → List Child
 children_of rows p = map child_of (keys_in rows p) ++ map child_of (dirs_in rows p)
 
-abbrev pub children_reply : List Row → List (List ℕ) → Result Row OdbRefusal → Result (List Child) OdbRefusal
-children_reply rows p (Err refusal) = Err refusal
-children_reply rows p (Ok r) = if is_key r then Err NotDir else Ok (children_of rows p)
+abbrev pub children_or : List Row → List (List ℕ) → Option OdbRefusal → Result (List Child) OdbRefusal
+children_or rows p None = Ok (children_of rows p)
+children_or rows p (Some refusal) = Err refusal
 
 abbrev pub list_reply : Rows → List (List ℕ) → Result (List Child) OdbRefusal
-list_reply s [] = Ok (children_of s.rows [])
-list_reply s (name ∷ names) = children_reply s.rows (name ∷ names) (seek s.rows (name ∷ names))
+list_reply s p = children_or s.rows p (dir_fault s.rows p)
 
 -- the path of a row; the root has number 0
 abbrev pub path_with : List Row → (number : ℕ) → Option (List (List ℕ))
@@ -187,13 +186,8 @@ after_delete s p = record { rows = rows_outside s.rows p; next = s.next }
 abbrev pub count_gone : Rows → List (List ℕ) → ℕ
 count_gone s p = length s.rows - length (rows_outside s.rows p)
 
-abbrev pub count_reply : Rows → List (List ℕ) → Result Row OdbRefusal → Result ℕ OdbRefusal
-count_reply s p (Err refusal) = Err refusal
-count_reply s p (Ok r) = Ok (count_gone s p)
-
 abbrev pub delete_reply : Rows → List (List ℕ) → Result ℕ OdbRefusal
-delete_reply s [] = Ok (count_gone s [])
-delete_reply s (name ∷ names) = count_reply s (name ∷ names) (seek s.rows (name ∷ names))
+delete_reply s p = reply_or (absent_fault s.rows p) (count_gone s p)
 
 -- The calls.
 

@@ -1,5 +1,6 @@
 -- What it takes to put an item into a value.
-use Rattle.std.specs.Prelude.{◌≡◌, ℕ, ◌<◌, length, Some}
+use Rattle.std.specs.Prelude.{◌≡◌, ℕ, ◌<◌, List, length, Some}
+use Rattle.odb_tree.specs.Rows.{row_at}
 use Rattle.odb_value.specs.declared.items.Item.{Item}
 use Rattle.odb_value.specs.Items.{tid_of}
 use Rattle.odb_value.specs.Values.{Held, IsShorter, size_limit}
@@ -13,3 +14,9 @@ pub record CanPut (v : Held) (index : ℕ) (item : Item) : Type 0 where
 
 abbrev pub RowCanPut : Row → (index : ℕ) → Item → Type 0
 RowCanPut r index item = (v : Held) → r.value ≡ Some v → CanPut v index item
+
+-- a key with this value stands at the path
+pub record IsKeyAt (rows : List Row) (p : List (List ℕ)) (v : Held) : Type 0 where
+  pub row : Row
+  pub there : row_at rows p ≡ Some row
+  pub value : row.value ≡ Some v

@@ -4,5 +4,6 @@ pub mod Limits
 pub mod Making
 pub mod WayInside
 pub mod Changes
+pub mod PlainInside
 pub mod Calls
 pub mod Histories

@@ -52,3 +52,21 @@ key_found (Ok r) = key_of r.number r.value
 abbrev pub seek_key : List Row → List (List ℕ) → Result (ℕ × Held) OdbRefusal
 seek_key rows [] = Err NotValue
 seek_key rows (name ∷ names) = key_found (seek rows (name ∷ names))
+
+-- why no directory stands at a path, if so; the root is one
+abbrev pub not_dir : Result Row OdbRefusal → Option OdbRefusal
+not_dir (Err refusal) = Some refusal
+not_dir (Ok r) = if is_key r then Some NotDir else None
+
+abbrev pub dir_fault : List Row → List (List ℕ) → Option OdbRefusal
+dir_fault rows [] = None
+dir_fault rows (name ∷ names) = not_dir (seek rows (name ∷ names))
+
+-- why nothing stands at a path, if so; the root is there
+abbrev pub not_there : Result Row OdbRefusal → Option OdbRefusal
+not_there (Err refusal) = Some refusal
+not_there (Ok r) = None
+
+abbrev pub absent_fault : List Row → List (List ℕ) → Option OdbRefusal
+absent_fault rows [] = None
+absent_fault rows (name ∷ names) = not_there (seek rows (name ∷ names))

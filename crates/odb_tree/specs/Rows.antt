@@ -1,5 +1,5 @@
 -- The database as a list of rows.
-use Rattle.std.specs.Prelude.{◌≡◌, ℕ, ◌+◌, ◌*◌, Bool, true, false, not, ◌&&◌, ◌==◌, if◌then◌else◌, List, [], ◌∷◌, length, sum_by, Option, Some, None}
+use Rattle.std.specs.Prelude.{ℕ, ◌+◌, ◌*◌, Bool, true, false, not, ◌&&◌, ◌==◌, if◌then◌else◌, List, [], ◌∷◌, length, sum_by, Option, Some, None}
 use Rattle.std.specs.Option.{is_some, option_map}
 use Rattle.std.specs.List.{find, filter}
 use Rattle.odb_path.specs.Paths.{same_path, is_front}
@@ -45,13 +45,22 @@ rows_outside rows p = filter (λ (r : Row). not (is_front p r.path)) rows
 abbrev pub is_child : List (List ℕ) → List (List ℕ) → Bool
 is_child p q = (length q == length p + 1) && is_front p q
 
+-- the row is of this kind, a key or a directory
+abbrev pub is_kind : (keys : Bool) → Row → Bool
+is_kind true r = is_key r
+is_kind false r = not (is_key r)
+
+-- the row is a key, or a directory, in this directory
+abbrev pub is_listed : (keys : Bool) → List (List ℕ) → Row → Bool
+is_listed keys p r = is_kind keys r && is_child p r.path
+
 -- the keys in a directory, in order of making
 abbrev pub keys_in : List Row → List (List ℕ) → List Row
-keys_in rows p = filter (λ (r : Row). is_key r && is_child p r.path) rows
+keys_in rows p = filter (is_listed true p) rows
 
 -- the directories in a directory, in order of making
 abbrev pub dirs_in : List Row → List (List ℕ) → List Row
-dirs_in rows p = filter (λ (r : Row). not (is_key r) && is_child p r.path) rows
+dirs_in rows p = filter (is_listed false p) rows
 
 -- the bytes of a value: items times item size
 abbrev pub bytes_of : Held → ℕ

@@ -1,14 +1,14 @@
-ghost use Rattle.std.specs.Prelude.{◌≡◌, ◌≤◌, ◌<◌, length, position, IfSome, OnOk, OnErr, Some, None};
+ghost use Rattle.std.specs.Prelude.{◌≡◌, ◌≤◌, ◌<◌, length, position, ◌-◌, IfSome, IfOk, OnOk, OnErr, Some, None};
 ghost use Rattle.odb_path.specs.Paths.{same_path};
 ghost use Rattle.odb_value.specs.Values.{Held, items_limit};
 ghost use Rattle.odb_value.specs.ValueChanges.{put_in, resized};
 ghost use Rattle.odb_tree.specs.declared.rows.Row.{Row};
-ghost use Rattle.odb_tree.specs.Rows.{row_at, change_row, change_at};
+ghost use Rattle.odb_tree.specs.Rows.{row_at, change_row, change_at, rows_outside};
 ghost use Rattle.odb_tree.specs.Changes.{CanPut, RowCanPut};
 
 use crate::rows::Row;
 use daq_types::{Name, NoMemory};
-use odb_path::is_same;
+use odb_path::{is_front, is_same};
 use odb_value::{Item, Value};
 use std::alloc::Global;
 
@@ -87,4 +87,41 @@ pub fn replace_at(rows: &mut Vec<Row>, names: &[Name], value: Value)
     if let Some(place) = place_at(rows.as_slice(), names) {
         replace_row(&mut rows[place], value);
     }
+}
+
+/// Removes the row at the path of these names and all below it, and answers how many rows went.
+pub fn remove_at(rows: &mut Vec<Row>, names: &[Name]) -> usize
+    ensures rows { rows.new.items ≡ rows_outside rows.old.items names.now }
+    ensures gone { result ≡ length rows.old.items - length (rows_outside rows.old.items names.now) }
+{
+    let before = rows.len();
+    rows.retain(|row| !is_front(names, row.path.names()));
+    before - rows.len()
+}
+
+/// The same row once more.
+fn copy_row(row: &Row, alloc: Global) -> Result<Row, NoMemory>
+    ensures { IfOk result (λ copy. copy ≡ row.now) }
+{
+    let path = row.path.try_clone(alloc)?;
+    let value = match &row.value {
+        Some(value) => Some(value.try_clone(alloc)?),
+        None => None,
+    };
+    Ok(Row {
+        number: row.number,
+        path,
+        value,
+    })
+}
+
+/// The same rows once more.
+pub fn copy_rows(rows: &[Row], alloc: Global) -> Result<Vec<Row>, NoMemory>
+    ensures { IfOk result (λ copy. copy.items ≡ rows.now) }
+{
+    let mut copy = Vec::with_capacity(alloc, rows.len())?;
+    for row in rows {
+        copy.push(copy_row(row, alloc)?)?;
+    }
+    Ok(copy)
 }

@@ -6,7 +6,9 @@ mod changes;
 mod children;
 mod database;
 mod entry;
+mod faults;
 mod limits;
+mod listing;
 mod lookups;
 mod new_rows;
 mod plain;
@@ -16,7 +18,7 @@ mod rows;
 pub use children::{Child, Children};
 pub use database::Database;
 pub use entry::DatabaseEntry;
-// pub use plain::PlainTree;
+pub use plain::PlainTree;
 pub use refusals::{OdbRefusal, What};
 pub use rows::{NewKey, Row};
 

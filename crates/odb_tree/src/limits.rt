@@ -33,6 +33,14 @@ pub fn bytes_of(value: &Value) -> u64
     value.items().len() as u64 * u64::from(value.size())
 }
 
+/// The bytes of so many items of this size; the count is cut at the most items of a key.
+pub fn bytes_with(len: u32, size: u32) -> u64
+    ensures bytes { len_fault len ≡ None → result ≡ len * size }
+    ensures small { result < 2 ^ 49 }
+{
+    u64::from(len.min(MAX_ITEMS)) * u64::from(size)
+}
+
 /// The bytes of a row's value.
 fn bytes_of_row(row: &Row) -> u64
     ensures { result ≡ bytes_of_row row.now }
@@ -112,9 +120,7 @@ pub fn new_size(tid: Tid) -> u32
 
 /// The item size of a key with this item put in.
 pub fn raised_size(size: u32, item: &Item) -> u32
-    requires { size ≤ 1024 }
-    ensures size { text_fault item.now ≡ None → result ≡ raised size item.now }
-    ensures small { result ≤ 1024 }
+    ensures { text_fault item.now ≡ None → result ≡ raised size item.now }
 {
     match item {
         Item::Text(text) => size.max(text.as_slice().len().min(MAX_TEXT) as u32 + 1),

@@ -1,7 +1,8 @@
-ghost use Rattle.std.specs.Prelude.{◌≡◌, ◌<◌, ◌==◌, ◌++◌, ◌∷◌, [], ℕ, length, map, not, ◌&&◌, Some, None, Ok, Err, IfOk, IfErr, IfSome, OnOk, MatchOption, filter};
+ghost use Rattle.std.specs.Prelude.{◌≡◌, ◌<◌, ◌≤◌, ◌==◌, ◌++◌, ◌∷◌, [], ℕ, length, map, not, ◌&&◌, Some, None, Ok, Err, IfOk, IfErr, IfSome, OnOk, MatchOption, filter};
 ghost use Rattle.std.specs.Option.{option_copied};
+ghost use Rattle.odb_path.specs.Paths.{depth_limit};
 ghost use Rattle.odb_tree.specs.Rows.{row_at, row_numbered, is_key, is_child, keys_in, dirs_in, bytes_of, total_of};
-ghost use Rattle.odb_tree.specs.Lookups.{parent_of, obstacle_at, obstacle_from, obstacle_to, obstacle_to_new, seek, seek_key};
+ghost use Rattle.odb_tree.specs.Lookups.{dir_fault, absent_fault, parent_of, obstacle_at, obstacle_from, obstacle_to, obstacle_to_new, seek, seek_key};
 ghost use Rattle.odb_tree.specs.Calls.{child_of, children_of, path_with};
 
 use crate::refusals::OdbRefusal;
@@ -11,6 +12,7 @@ use odb_path::is_same;
 use odb_value::Value;
 
 /// The key at a path.
+#[derive(Drop)]
 pub struct Key<'a> {
     pub number: u32,
     pub value: &'a Value,
@@ -51,11 +53,7 @@ fn obstacle_at(row: Option<&Row>, missing: Option<OdbRefusal>) -> Option<OdbRefu
 }
 
 /// The first obstacle along these names from the root.
-pub fn obstacle(
-    rows: &[Row],
-    names: &[Name],
-    missing: Option<OdbRefusal>,
-) -> Option<OdbRefusal>
+pub fn obstacle(rows: &[Row], names: &[Name], missing: Option<OdbRefusal>) -> Option<OdbRefusal>
     ensures { result ≡ obstacle_from missing rows.now [] names.now }
 {
     for i in 0..names.len() {
@@ -97,4 +95,44 @@ pub fn seek_key<'a>(rows: &'a [Row], names: &[Name]) -> Result<Key<'a>, OdbRefus
         }),
         None => Err(OdbRefusal::NotValue),
     }
+}
+
+/// Whether a directory stands at a path, or why it is not reached.
+pub fn check_dir(rows: &[Row], names: &[Name]) -> Result<(), OdbRefusal>
+    ensures dir { OnOk result (dir_fault rows.now names.now ≡ None) }
+    ensures refused { IfErr result (λ refusal. dir_fault rows.now names.now ≡ Some refusal) }
+{
+    if names.is_empty() {
+        return Ok(());
+    }
+    match &seek(rows, names)?.value {
+        Some(_) => Err(OdbRefusal::NotDir),
+        None => Ok(()),
+    }
+}
+
+/// The names of the row with this number, and none for the root.
+pub fn path_with(rows: &[Row], number: u32) -> Option<&[Name]>
+    ensures names { option_copied result ≡ path_with rows.now number }
+    ensures depth { IfSome result (λ names. length names.now ≤ depth_limit) }
+{
+    if number == 0 {
+        return Some(&[]);
+    }
+    match row_numbered(rows, number) {
+        Some(row) => Some(row.path.names()),
+        None => None,
+    }
+}
+
+/// Whether a key or a directory stands at a path, or why it is not reached. The root is there.
+pub fn check_there(rows: &[Row], names: &[Name]) -> Result<(), OdbRefusal>
+    ensures row { OnOk result (absent_fault rows.now names.now ≡ None) }
+    ensures refused { IfErr result (λ refusal. absent_fault rows.now names.now ≡ Some refusal) }
+{
+    if names.is_empty() {
+        return Ok(());
+    }
+    let _row = seek(rows, names)?;
+    Ok(())
 }

@@ -107,7 +107,12 @@ impl Way {
     }
 
     /// The new directories, and behind them a row of this name.
-    pub fn into_rows(self, next: u64, name: Name, value: Option<Value>) -> Result<Vec<Row>, NoMemory>
+    pub fn into_rows(
+        self,
+        next: u64,
+        name: Name,
+        value: Option<Value>,
+    ) -> Result<Vec<Row>, NoMemory>
         requires depth { length self.path < depth_limit }
         requires fits { next + length self.dirs < 2 ^ 32 }
         ensures { IfOk result (λ rows. rows.items ≡ self.dirs ++ record { number = next + length self.dirs; path = self.path ++ name ∷ []; value = value } ∷ []) }

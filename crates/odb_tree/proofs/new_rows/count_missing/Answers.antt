@@ -1,6 +1,6 @@
 use Rattle.std.proofs.Common.{ap, ◌∙◌, arith}
 use Rattle.odb_tree.specs.Making.{missing_at}
-use Rattle.odb_tree.proofs.Along.{counted_more, counted_all}
+use Rattle.odb_tree.proofs.Along.{counted_more}
 use Rattle.odb_tree.proofs.new_rows.count_missing.Goals as goal
 
 pub loop-i-preserved : goal.loop-i-preserved

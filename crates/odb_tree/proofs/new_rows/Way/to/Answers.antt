@@ -1,8 +1,8 @@
-use Rattle.std.proofs.Common.{◌≤◌, ◌+◌, ◌^◌, Option, sym, subst, length, ◌∙◌, arith}
+use Rattle.std.proofs.Common.{◌≤◌, ◌+◌, ◌^◌, Option, sym, subst, length, arith}
 use Rattle.std.specs.Option.{option_copied}
 use Rattle.odb_tree.specs.declared.rows.Row.{Row}
 use Rattle.odb_tree.specs.Making.{Way, missing_at}
-use Rattle.odb_tree.proofs.Along.{IsGone, gone_fits, gone_more, gone_all}
+use Rattle.odb_tree.proofs.Along.{IsGone, gone_fits, gone_more}
 use Rattle.odb_tree.proofs.new_rows.Way.to.Goals as goal
 
 pub further-requires-clause-fits : goal.further-requires-clause-fits

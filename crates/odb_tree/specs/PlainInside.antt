@@ -1,0 +1,6 @@
+-- How a list of rows keeps the database.
+use Rattle.odb_tree.specs.Rows.{Rows}
+use Rattle.odb_tree.specs.declared.plain.PlainTree.TheInside.{Inside}
+
+abbrev pub rows_of : Inside → Rows
+rows_of t = record { rows = t.rows.items; next = t.next }

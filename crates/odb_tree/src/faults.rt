@@ -1,0 +1,104 @@
+ghost use Rattle.std.specs.Prelude.{◌≡◌, ◌≤◌, ◌<◌, ◌^◌, ◌*◌, length, None, IfOk, OnOk};
+ghost use Rattle.daq_types.specs.declared.types.Tid.{Tid};
+ghost use Rattle.odb_value.specs.Items.{is_kept};
+ghost use Rattle.odb_value.specs.Values.{items_limit};
+ghost use Rattle.odb_tree.specs.Rows.{bytes_in};
+ghost use Rattle.odb_tree.specs.Calls.{exists_fault, kept_fault, items_fault, new_value, type_fault, index_fault};
+
+use crate::limits::{bytes_with, len_fault, new_size};
+use crate::lookups::row_at;
+use crate::refusals::{OdbRefusal, What};
+use crate::rows::{NewKey, Row};
+use daq_types::{Name, NoMemory, Tid};
+use odb_value::Value;
+use std::alloc::Global;
+
+/// Whether something is there already.
+pub fn exists_fault(rows: &[Row], names: &[Name]) -> Option<OdbRefusal>
+    ensures { result ≡ exists_fault rows.now names.now }
+{
+    if names.is_empty() || row_at(rows, names).is_some() {
+        return Some(OdbRefusal::Exists);
+    }
+    None
+}
+
+/// Whether the database keeps values of this type.
+fn is_kept(tid: Tid) -> bool
+    ensures { result ≡ is_kept tid }
+{
+    !matches!(
+        tid,
+        Tid::Float | Tid::Double | Tid::BitField | Tid::Array | Tid::Struct | Tid::Key | Tid::Link
+    )
+}
+
+/// Whether the database keeps no values of the type.
+pub fn kept_fault(kind: NewKey) -> Option<OdbRefusal>
+    ensures { result ≡ kept_fault kind }
+{
+    match kind {
+        NewKey::Dir => None,
+        NewKey::Keys { tid, .. } => {
+            if is_kept(tid) {
+                None
+            } else {
+                Some(OdbRefusal::NotKept { tid })
+            }
+        }
+    }
+}
+
+/// What is wrong with the number of items.
+pub fn items_fault(kind: NewKey) -> Option<What>
+    ensures { result ≡ items_fault kind }
+{
+    match kind {
+        NewKey::Dir => None,
+        NewKey::Keys { len, .. } => len_fault(len),
+    }
+}
+
+/// The bytes of the new value.
+pub fn bytes_of_new(kind: NewKey) -> u64
+    ensures bytes { items_fault kind ≡ None → bytes_in (new_value kind) ≡ result }
+    ensures small { result < 2 ^ 49 }
+{
+    match kind {
+        NewKey::Dir => 0,
+        NewKey::Keys { tid, len } => bytes_with(len, new_size(tid)),
+    }
+}
+
+/// The new value.
+pub fn new_value(alloc: Global, kind: NewKey) -> Result<Option<Value>, NoMemory>
+    requires kept { kept_fault kind ≡ None }
+    requires items { items_fault kind ≡ None }
+    ensures { IfOk result (λ value. value ≡ new_value kind) }
+{
+    match kind {
+        NewKey::Dir => Ok(None),
+        NewKey::Keys { tid, len } => Ok(Some(Value::new(alloc, tid, len)?)),
+    }
+}
+
+/// Whether the types differ.
+pub fn type_fault(have: Tid, given: Tid) -> Option<OdbRefusal>
+    ensures { result ≡ type_fault have given }
+{
+    if have.code() == given.code() {
+        return None;
+    }
+    Some(OdbRefusal::TypeMismatch { have })
+}
+
+/// Whether there is no item of this index.
+pub fn index_fault(len: usize, index: u32) -> Option<OdbRefusal>
+    requires { len ≤ items_limit }
+    ensures { result ≡ index_fault len index }
+{
+    if (index as usize) < len {
+        return None;
+    }
+    Some(OdbRefusal::BadIndex { len: len as u32 })
+}
