@@ -7,3 +7,5 @@ pub mod Changes
 pub mod PlainInside
 pub mod Calls
 pub mod Histories
+pub mod Walks
+pub mod WalkLaws

@@ -7,6 +7,7 @@ mod children;
 mod database;
 mod entry;
 mod faults;
+pub mod laws;
 mod limits;
 mod listing;
 mod lookups;

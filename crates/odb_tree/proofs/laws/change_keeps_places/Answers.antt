@@ -1,0 +1,5 @@
+use Rattle.odb_tree.specs.WalkLaws.{walk_changed}
+use Rattle.odb_tree.proofs.laws.change_keeps_places.Goals as goal
+
+pub returns : goal.returns
+returns c = walk_changed

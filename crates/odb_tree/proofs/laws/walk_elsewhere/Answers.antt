@@ -1,0 +1,5 @@
+use Rattle.odb_tree.specs.WalkLaws.{walk_elsewhere}
+use Rattle.odb_tree.proofs.laws.walk_elsewhere.Goals as goal
+
+pub returns : goal.returns
+returns c = walk_elsewhere
