@@ -8,7 +8,7 @@ use Rattle.mid_format.specs.Faults.{fault_at}
 use Rattle.mid_format.specs.HasRead.{IsDone, StandsAt, IsMidFault}
 use Rattle.mid_format.specs.ReadLaws.{whole_no_fault}
 use Rattle.mid_format.specs.declared.faults.MidFault.{MidFault}
-use Rattle.midas_tools.specs.Checks.{Checks}
+use Rattle.midas_tools.specs.Summaries.{Tells}
 use Rattle.midas_tools.specs.Dumps.{IsDump, WritesOn}
 use Rattle.midas_tools.specs.Findings.{IsThere, IsRun, HasRun, Completes, Finds, Writes, SinkCounts, FileCounts}
 use Rattle.midas_tools.specs.declared.ends.InputFault.{InputFault}
@@ -34,16 +34,17 @@ no_input Says faults seen name text Compressed h found = let clash : true ≡ fa
 no_input Says faults seen name text Missing h found = let none : IsNone (Some h.there.file) = subst (λ (o : Option Stored). IsNone o) h.there.at_is (found.2 h.tells) in let clash : true ≡ false = none in cc
 no_input Says faults seen name text ScriptTooLong h found = absurd found
 
-check_faults : (bytes : List ℕ) (f : MidFault) (text : List ℕ) → Checks bytes (Some f) text → IsMidFault bytes f
-check_faults bytes f text c = c.0
+module _ (Text : ℕ → List Event → ℕ → List ℕ) where
+  tells_faults : (bytes : List ℕ) (f : MidFault) (text : List ℕ) → Tells Text bytes (Some f) text → IsMidFault bytes f
+  tells_faults bytes f text c = c.0
 
-pub check_completes : (seen : Seen) (name : List ℕ) (told_old told_new : Option (List ℕ)) (sink_old sink_new files_old files_new : ℕ) (end : ToolEnd) → Writes Checks seen name told_old told_new end
-    → SinkCounts end sink_old sink_new → FileCounts end files_old files_new → Completes seen name sink_old sink_new files_old files_new end
-check_completes seen name told_old told_new sink_old sink_new files_old files_new Done w s f = λ h calm_sink calm_files. inl refl
-check_completes seen name told_old told_new sink_old sink_new files_old files_new (Input fault) w s f = λ h calm_sink calm_files. absurd (no_input Checks check_faults seen name w.text fault h w.finds)
-check_completes seen name told_old told_new sink_old sink_new files_old files_new FileFault w s f = λ h calm_sink calm_files. absurd (calm_files f)
-check_completes seen name told_old told_new sink_old sink_new files_old files_new SinkFault w s f = λ h calm_sink calm_files. absurd (calm_sink s)
-check_completes seen name told_old told_new sink_old sink_new files_old files_new NoMemory w s f = λ h calm_sink calm_files. inr refl
+  pub tells_completes : (seen : Seen) (name : List ℕ) (told_old told_new : Option (List ℕ)) (sink_old sink_new files_old files_new : ℕ) (end : ToolEnd) → Writes (Tells Text) seen name told_old told_new end
+      → SinkCounts end sink_old sink_new → FileCounts end files_old files_new → Completes seen name sink_old sink_new files_old files_new end
+  tells_completes seen name told_old told_new sink_old sink_new files_old files_new Done w s f = λ h calm_sink calm_files. inl refl
+  tells_completes seen name told_old told_new sink_old sink_new files_old files_new (Input fault) w s f = λ h calm_sink calm_files. absurd (no_input (Tells Text) tells_faults seen name w.text fault h w.finds)
+  tells_completes seen name told_old told_new sink_old sink_new files_old files_new FileFault w s f = λ h calm_sink calm_files. absurd (calm_files f)
+  tells_completes seen name told_old told_new sink_old sink_new files_old files_new SinkFault w s f = λ h calm_sink calm_files. absurd (calm_sink s)
+  tells_completes seen name told_old told_new sink_old sink_new files_old files_new NoMemory w s f = λ h calm_sink calm_files. inr refl
 
 stands_fault : (bytes front rest : List ℕ) (last begin : Option Header) (events : List Event) (f : MidFault) → bytes ≡ front ++ rest → IsDone front begin last events → length front ≤ 2 ^ 62 → StandsAt last begin (length front) rest f → IsMidFault bytes f
 stands_fault bytes front rest None None events f is d counted s =

@@ -1,60 +1,39 @@
-ghost use Rattle.std.specs.Prelude.{◌≡◌, ◌≤◌, [], IfOk, IfErr};
+ghost use Rattle.std.specs.Prelude.{◌≡◌, length};
 ghost use Rattle.daq_io.specs.Seen.{Same};
-ghost use Rattle.mid_format.specs.HasRead.{nothing_read};
-ghost use Rattle.mid_format.specs.Parts.{CountsReads};
-ghost use Rattle.midas_tools.specs.Checks.{Checks, CountsAll, Meets};
-ghost use Rattle.midas_tools.specs.Findings.{ClashCounts, Completes, FileCounts, ReadsTo, SinkCounts, SourceCounts, Writes};
+ghost use Rattle.midas_tools.specs.Checks.{Checks, check_text};
+ghost use Rattle.midas_tools.specs.Findings.{ClashCounts, Completes, FileCounts, SinkCounts, Writes};
 
-use crate::closing::{finish, refuse, stop_at};
 use crate::ends::ToolEnd;
 use crate::lines::add_ok;
-use crate::opening::open;
 use crate::page::Page;
-use daq_io::{Files, Sink, Source};
-use daq_types::FileName;
-use event_header::{EventBuf, MAX_DATA};
-use mid_format::{MidFault, MidReader};
+use crate::summary::Summary;
+use crate::telling::tell_file;
+use daq_io::{Files, Sink};
+use daq_types::{FileName, NoMemory};
+use event_header::EventBuf;
 use std::alloc::Global;
 
-/// Reads all events, and answers how many there are.
-fn count_events<S: Source>(reader: &mut MidReader<S>, event: &mut EventBuf) -> Result<u64, MidFault>
-    requires new { reader.old.progress ≡ nothing_read }
-    requires room { 4194304 ≤ event.old.room }
-    ensures whole { IfOk result (λ count. CountsAll (S.left reader.old.source) (S.left reader.new.source) reader.new.progress count) }
-    ensures fault { IfErr result (λ fault. Meets (S.left reader.old.source) (S.left reader.new.source) reader.new.progress fault) }
-    ensures counted { CountsReads (S.faults reader.old.source) (S.faults reader.new.source) result }
-    ensures origin { S.origin reader.new.source ≡ S.origin reader.old.source }
-{
-    let mut count: u64 = 0;
-    loop {
-        match reader.next(event) {
-            Ok(Some(())) => count += 1,
-            Ok(None) => return Ok(count),
-            Err(fault) => return Err(fault),
-        }
-    }
+/// How many events there are.
+#[derive(Drop)]
+struct EventCount {
+    events: u64,
 }
 
-/// Reads all of a file, and puts on the page what `check` prints of it.
-fn read_and_check<S: Source>(alloc: Global, reader: &mut MidReader<S>, page: &mut Page) -> ToolEnd
-    requires new { reader.old.progress ≡ nothing_read }
-    requires blank { page.old ≡ [] }
-    ensures reads { ReadsTo Checks (S.left reader.old.source) page.new result }
-    ensures faults { SourceCounts result (S.faults reader.old.source) (S.faults reader.new.source) }
-    ensures origin { S.origin reader.new.source ≡ S.origin reader.old.source }
-{
-    let Ok(mut event) = EventBuf::new(alloc, MAX_DATA) else {
-        return ToolEnd::NoMemory;
-    };
-    match count_events(reader, &mut event) {
-        Ok(count) => {
-            let run = reader.run().unwrap_or(0);
-            if add_ok(page, run, count, reader.place()).is_err() {
-                return ToolEnd::NoMemory;
-            }
-            ToolEnd::Done
-        }
-        Err(fault) => stop_at(fault, page),
+impl Summary for EventCount {
+    ghost sums = { λ count events. count.events ≡ length events };
+
+    ghost text = { check_text };
+
+    fn empty(alloc: Global) -> Result<EventCount, NoMemory> {
+        Ok(EventCount { events: 0 })
+    }
+
+    fn add(&mut self, event: &EventBuf) {
+        self.events += 1;
+    }
+
+    fn tell(&self, alloc: Global, run: u32, bytes: u64, page: &mut Page) -> Result<(), NoMemory> {
+        add_ok(page, run, self.events, bytes)
     }
 }
 
@@ -76,13 +55,5 @@ pub fn check_file<F: Files, K: Sink>(
     ensures clashes { ClashCounts result.0 (F.clashes files) (F.clashes result.1) }
     ensures same { Same (F.seen files) (F.seen result.1) }
 {
-    match open(files, name) {
-        Ok(source) => {
-            let mut reader = MidReader::new(source);
-            let mut page = Page::new(alloc);
-            let end = read_and_check(alloc, &mut reader, &mut page);
-            finish(end, reader.into_source(), &page, out)
-        }
-        Err((refused, files)) => (refuse(refused, out), files),
-    }
+    tell_file::<_, _, EventCount>(alloc, files, name, out)
 }

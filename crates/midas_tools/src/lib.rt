@@ -1,6 +1,7 @@
 //! The tools that read run files: `check`, `dump` and `analyze`.
 #![tactic(auto)]
 
+mod analyze;
 mod areas;
 mod check;
 mod closing;
@@ -10,9 +11,12 @@ mod halts;
 mod lines;
 mod opening;
 mod page;
+mod summary;
+mod telling;
 #[cfg(test)]
 mod tests;
 
+pub use analyze::analyze_file;
 pub use check::check_file;
 pub use dump::dump_file;
 pub use ends::{InputFault, ToolEnd};

@@ -1,6 +1,6 @@
 ghost use Rattle.std.specs.Prelude.{◌≡◌, ◌++◌, ◌∷◌, [], OnOk, codes, length, map};
 ghost use Rattle.bank_format.specs.BankAreas.{BankValue, bank_value};
-ghost use Rattle.midas_tools.specs.Texts.{area_fault_text, bad_line, bank_line, event_line, fault_text, no_banks_line, number_text, ok_line, record_line, shown, type_of, type_text};
+ghost use Rattle.midas_tools.specs.Texts.{area_fault_text, bad_line, bank_line, event_line, fault_text, no_banks_line, number_text, ok_line, record_line, run_line, shown, type_of, type_text};
 
 use crate::ends::InputFault;
 use crate::page::Page;
@@ -52,6 +52,14 @@ pub fn add_ok(page: &mut Page, run: u32, events: u64, bytes: u64) -> Result<(), 
     add_named(page, b"ok run", run as u64)?;
     add_named(page, b" events", events)?;
     add_named(page, b" bytes", bytes)?;
+    page.end_line()
+}
+
+/// Adds the line that tells which run a file is of.
+pub fn add_run(page: &mut Page, run: u32) -> Result<(), NoMemory>
+    ensures { OnOk result (page.new ≡ page.old ++ run_line run) }
+{
+    add_named(page, b"run", run as u64)?;
     page.end_line()
 }
 

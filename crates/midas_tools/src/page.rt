@@ -2,11 +2,13 @@ ghost use Rattle.std.specs.Prelude.{◌≡◌, ◌++◌, ◌∷◌, [], OnOk, On
 ghost use Rattle.std.specs.Io.KnownBytes.{Appends};
 ghost use Rattle.daq_io.specs.Counts.{CountsFault};
 ghost use Rattle.daq_io.specs.Streams.{AppendsPart};
+ghost use Rattle.event_report.specs.Texts.{report_text};
 ghost use Rattle.midas_tools.specs.Printing.{Passes};
 ghost use Rattle.midas_tools.specs.Texts.{number_text};
 
 use daq_io::{Failed, Sink, write_all};
 use daq_types::NoMemory;
+use event_report::Report;
 use itoa::Buffer;
 use std::alloc::Global;
 use std::marker::Model;
@@ -70,6 +72,13 @@ impl Page {
         self.bytes
             .extend_from_slice(digits.format(value).as_bytes())?;
         Ok(())
+    }
+
+    /// The text of a report.
+    pub fn report(&mut self, alloc: Global, report: &Report) -> Result<(), NoMemory>
+        ensures { OnOk result (self.new ≡ self.old ++ report_text [] report.now) }
+    {
+        report.print(alloc, b"", &mut self.bytes)
     }
 
     /// The end of a line.

@@ -1,6 +1,6 @@
 //! The tools over files in memory: worked rows.
 use crate::ends::{InputFault, ToolEnd};
-use crate::{check_file, dump_file};
+use crate::{analyze_file, check_file, dump_file};
 use daq_io::{FileFail, FileOp, MemFiles, MemSink};
 use daq_types::{FileName, NoMemory};
 use mid_format::MidFault;
@@ -94,6 +94,34 @@ fn dump_of_a_cut_file(rt: HostRuntime) -> Result<(), Fail> {
     Ok(())
 }
 
+/// What `analyze` says of the front of the file, of so many bytes.
+const ANALYSES: [(usize, &str); 5] = [
+    (0, "bad NoBegin 0\n"),
+    (205, "bad Truncated 205\n"),
+    (229, "bad NoEnd 229\n"),
+    (
+        421,
+        "run 1\nevents 1\nid 1 count 1\nbank GEN0 UINT32 count 1 sum 1817669548 least 1817669548 greatest 1817669548\nrest ids 0 banks 0 bad 0\n",
+    ),
+    (422, "bad AfterEnd 421\n"),
+];
+
+#[test]
+fn analysis_of_a_cut_file(rt: HostRuntime) -> Result<(), Fail> {
+    let alloc = rt.alloc();
+    let name = FileName::new("run00001.mid")?;
+    let file = one_event(alloc)?;
+    for (len, text) in ANALYSES {
+        let (front, _) = file.as_slice().split_at(file.as_slice().len().min(len));
+        let files = files_with(alloc, name, front, Vec::new(alloc))?;
+        let mut out = MemSink::new(alloc, 1000, Vec::new(alloc))?;
+        let (_end, files) = analyze_file(alloc, files, &name, &mut out);
+        assert_eq!(rt; out.bytes(), text.as_bytes(), "{len} bytes");
+        assert!(rt; files.find(&name).is_some());
+    }
+    Ok(())
+}
+
 #[test]
 fn banks_that_are_wrong_or_have_odd_names(rt: HostRuntime) -> Result<(), Fail> {
     let alloc = rt.alloc();
@@ -136,7 +164,9 @@ fn names_that_are_no_file(rt: HostRuntime) -> Result<(), Fail> {
         let (end, files) = check_file(alloc, files, &name, &mut out);
         assert_eq!(rt; end, ToolEnd::Input { fault });
         assert_eq!(rt; out.bytes(), line.as_bytes());
-        let (end, _files) = dump_file(alloc, files, &name, &mut out);
+        let (end, files) = dump_file(alloc, files, &name, &mut out);
+        assert_eq!(rt; end, ToolEnd::Input { fault });
+        let (end, _files) = analyze_file(alloc, files, &name, &mut out);
         assert_eq!(rt; end, ToolEnd::Input { fault });
     }
     Ok(())
@@ -160,7 +190,9 @@ fn calls_that_fail(rt: HostRuntime) -> Result<(), Fail> {
     let mut out = MemSink::new(alloc, 1000, [0].to_vec(alloc)?)?;
     let (end, files) = check_file(alloc, files, &name, &mut out);
     assert_eq!(rt; end, ToolEnd::SinkFault);
-    let (end, _files) = dump_file(alloc, files, &name, &mut out);
+    let (end, files) = dump_file(alloc, files, &name, &mut out);
+    assert_eq!(rt; end, ToolEnd::Done);
+    let (end, _files) = analyze_file(alloc, files, &name, &mut out);
     assert_eq!(rt; end, ToolEnd::Done);
     Ok(())
 }

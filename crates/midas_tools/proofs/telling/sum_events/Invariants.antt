@@ -1,0 +1,15 @@
+-- The events that were given were taken in, and no fault was met.
+use Rattle.std.proofs.Common.{◌≡◌, ◌≤◌, ◌-◌, ◌^◌}
+use Rattle.midas_tools.specs.Summaries.{SumsSome}
+use Rattle.midas_tools.proofs.telling.sum_events.Given as goal
+
+abbrev pub invariant-loop-summary : goal.invariant-loop-summary
+invariant-loop-summary g l = record {
+  so_far : SumsSome (g.T.Summary.sums l.summary) (g.S.Source.left l.fn.reader.source) (g.S.Source.left l.reader.source) l.reader.progress;
+  room : 4194304 ≤ l.event.room;
+  origin : g.S.Source.origin l.reader.source ≡ g.S.Source.origin l.fn.reader.source;
+  faults : g.S.Source.faults l.reader.source ≡ g.S.Source.faults l.fn.reader.source;
+}
+
+abbrev pub decreases-loop-summary : goal.decreases-loop-summary
+decreases-loop-summary g l = 2 ^ 62 - l.reader.progress.at

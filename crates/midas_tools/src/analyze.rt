@@ -1,0 +1,56 @@
+ghost use Rattle.std.specs.Prelude.{◌≡◌};
+ghost use Rattle.daq_io.specs.Seen.{Same};
+ghost use Rattle.event_report.specs.Reports.{report_of};
+ghost use Rattle.midas_tools.specs.Analyses.{Analyzes, analysis_text};
+ghost use Rattle.midas_tools.specs.Findings.{ClashCounts, Completes, FileCounts, SinkCounts, Writes};
+
+use crate::ends::ToolEnd;
+use crate::lines::add_run;
+use crate::page::Page;
+use crate::summary::Summary;
+use crate::telling::tell_file;
+use daq_io::{Files, Sink};
+use daq_types::{FileName, NoMemory};
+use event_header::EventBuf;
+use event_report::Report;
+use std::alloc::Global;
+
+impl Summary for Report {
+    ghost sums = { λ report events. report ≡ report_of events };
+
+    ghost text = { analysis_text };
+
+    fn empty(alloc: Global) -> Result<Report, NoMemory> {
+        Report::new(alloc)
+    }
+
+    fn add(&mut self, event: &EventBuf) {
+        self.fold(&event.header(), event.body());
+    }
+
+    fn tell(&self, alloc: Global, run: u32, bytes: u64, page: &mut Page) -> Result<(), NoMemory> {
+        add_run(page, run)?;
+        page.report(alloc, self)
+    }
+}
+
+/// Reads the file of this name and prints the number of its run and the report over its events, or what is wrong with it
+/// where it is no run file. Hands the files back, in which every name and every byte is as it was.
+pub fn analyze_file<F: Files, K: Sink>(
+    alloc: Global,
+    files: F,
+    name: &FileName,
+    out: &mut K,
+) -> (ToolEnd, F)
+    // What was found, and what was written of it.
+    ensures writes { Writes Analyzes (F.seen files) name.now (K.written out.old) (K.written out.new) result.0 }
+    // A fault is the end exactly where its count rose and no earlier cause holds.
+    ensures sink { SinkCounts result.0 (K.faults out.old) (K.faults out.new) }
+    ensures faults { FileCounts result.0 (F.faults files) (F.faults result.1) }
+    // A run file leads to the end `Done`, unless a call failed or there was no memory.
+    ensures complete { Completes (F.seen files) name.now (K.faults out.old) (K.faults out.new) (F.faults files) (F.faults result.1) result.0 }
+    ensures clashes { ClashCounts result.0 (F.clashes files) (F.clashes result.1) }
+    ensures same { Same (F.seen files) (F.seen result.1) }
+{
+    tell_file::<_, _, Report>(alloc, files, name, out)
+}

@@ -1,0 +1,96 @@
+ghost use Rattle.std.specs.Prelude.{◌≡◌, ◌≤◌, [], OnOk, IfErr};
+ghost use Rattle.daq_io.specs.Seen.{Same};
+ghost use Rattle.mid_format.specs.HasRead.{nothing_read};
+ghost use Rattle.mid_format.specs.Parts.{CountsReads};
+ghost use Rattle.midas_tools.specs.Summaries.{Meets, SumsAll, Tells};
+ghost use Rattle.midas_tools.specs.Findings.{ClashCounts, Completes, FileCounts, ReadsTo, SinkCounts, SourceCounts, Writes};
+
+use crate::closing::{finish, refuse, stop_at};
+use crate::ends::ToolEnd;
+use crate::opening::open;
+use crate::page::Page;
+use crate::summary::Summary;
+use daq_io::{Files, Sink, Source};
+use daq_types::FileName;
+use event_header::{EventBuf, MAX_DATA};
+use mid_format::{MidFault, MidReader};
+use std::alloc::Global;
+
+/// Reads all events into a summary of none.
+fn sum_events<S: Source, T: Summary>(
+    reader: &mut MidReader<S>,
+    event: &mut EventBuf,
+    summary: &mut T,
+) -> Result<(), MidFault>
+    requires new { reader.old.progress ≡ nothing_read }
+    requires room { 4194304 ≤ event.old.room }
+    requires none { T.sums summary.old [] }
+    ensures whole { OnOk result (SumsAll (T.sums summary.new) (S.left reader.old.source) (S.left reader.new.source) reader.new.progress) }
+    ensures fault { IfErr result (λ fault. Meets (S.left reader.old.source) (S.left reader.new.source) reader.new.progress fault) }
+    ensures counted { CountsReads (S.faults reader.old.source) (S.faults reader.new.source) result }
+    ensures origin { S.origin reader.new.source ≡ S.origin reader.old.source }
+{
+    loop {
+        match reader.next(event) {
+            Ok(Some(())) => summary.add(event),
+            Ok(None) => return Ok(()),
+            Err(fault) => return Err(fault),
+        }
+    }
+}
+
+/// Reads all of a file, and puts on the page what is told of its events together.
+fn read_and_tell<S: Source, T: Summary>(
+    alloc: Global,
+    reader: &mut MidReader<S>,
+    page: &mut Page,
+) -> ToolEnd
+    requires new { reader.old.progress ≡ nothing_read }
+    requires blank { page.old ≡ [] }
+    ensures reads { ReadsTo (Tells T.text) (S.left reader.old.source) page.new result }
+    ensures faults { SourceCounts result (S.faults reader.old.source) (S.faults reader.new.source) }
+    ensures origin { S.origin reader.new.source ≡ S.origin reader.old.source }
+{
+    let Ok(mut event) = EventBuf::new(alloc, MAX_DATA) else {
+        return ToolEnd::NoMemory;
+    };
+    let Ok(mut summary) = T::empty(alloc) else {
+        return ToolEnd::NoMemory;
+    };
+    match sum_events(reader, &mut event, &mut summary) {
+        Ok(()) => {
+            let run = reader.run().unwrap_or(0);
+            if summary.tell(alloc, run, reader.place(), page).is_err() {
+                return ToolEnd::NoMemory;
+            }
+            ToolEnd::Done
+        }
+        Err(fault) => stop_at(fault, page),
+    }
+}
+
+/// Reads the file of this name and prints what is told of its events together, or what is wrong with it. Hands the files
+/// back, in which every name and every byte is as it was.
+pub fn tell_file<F: Files, K: Sink, T: Summary>(
+    alloc: Global,
+    files: F,
+    name: &FileName,
+    out: &mut K,
+) -> (ToolEnd, F)
+    ensures writes { Writes (Tells T.text) (F.seen files) name.now (K.written out.old) (K.written out.new) result.0 }
+    ensures sink { SinkCounts result.0 (K.faults out.old) (K.faults out.new) }
+    ensures faults { FileCounts result.0 (F.faults files) (F.faults result.1) }
+    ensures complete { Completes (F.seen files) name.now (K.faults out.old) (K.faults out.new) (F.faults files) (F.faults result.1) result.0 }
+    ensures clashes { ClashCounts result.0 (F.clashes files) (F.clashes result.1) }
+    ensures same { Same (F.seen files) (F.seen result.1) }
+{
+    match open(files, name) {
+        Ok(source) => {
+            let mut reader = MidReader::new(source);
+            let mut page = Page::new(alloc);
+            let end = read_and_tell::<_, T>(alloc, &mut reader, &mut page);
+            finish(end, reader.into_source(), &page, out)
+        }
+        Err((refused, files)) => (refuse(refused, out), files),
+    }
+}
