@@ -1,0 +1,13 @@
+use Rattle.std.proofs.Common.{refl, Ok, Err}
+use Rattle.std.proofs.lemmas.Bool.{false≢true}
+use Rattle.odb_tree.specs.declared.entry.DatabaseEntry.TheVariants.{Get}
+use Rattle.odb_journal.specs.HistoryLaws.{noted_next}
+use Rattle.odb_journal.proofs.local.LocalDatabase.get.Goals as goal
+
+pub invariant_of-self : goal.invariant_of-self
+invariant_of-self g c =
+    noted_next _ _ c.args.caller (Get c.args.path (Ok c.in-Ok.copy)) c.self.invariant (λ e. absurd (false≢true e)) (rw c.in-Ok.ensures.same c.in-Ok.ensures.value) refl c.push_reserved.ensures.items refl
+
+pub invariant_of-self-in-Err : goal.invariant_of-self-in-Err
+invariant_of-self-in-Err g c =
+    noted_next _ _ c.args.caller (Get c.args.path (Err c.in-Err.refusal)) c.self.invariant (λ e. absurd (false≢true e)) c.in-Err.ensures.refused refl c.push_reserved-in-Err.ensures.items refl

@@ -1,0 +1,41 @@
+-- A database with the journal of its calls.
+use Rattle.std.specs.Prelude.{◌≡◌, ℕ, ◌+◌, ◌≤◌, List, [], ◌∷◌, ◌++◌}
+use Rattle.odb_tree.specs.declared.entry.DatabaseEntry.{DatabaseEntry}
+use Rattle.odb_tree.specs.Rows.{Rows}
+use Rattle.odb_tree.specs.Calls.{IsReply, rows_after}
+use Rattle.odb_tree.specs.Histories.{IsLegal, replay}
+
+-- the rows at first, and the rows now; the calls since, each with the number of its caller; and room for so many calls
+-- more in the journal
+pub record Noted : Type 0 where
+  pub start : Rows
+  pub rows : Rows
+  pub history : List (ℕ × DatabaseEntry)
+  pub room : ℕ
+
+-- the history is one of the database, and led to its rows
+pub record IsNoted (n : Noted) : Type 0 where
+  pub legal : IsLegal n.start n.history
+  pub replayed : n.rows ≡ replay n.start n.history
+
+-- one call more, by this caller
+pub record Does (p q : Noted) (caller : ℕ) (entry : DatabaseEntry) : Type 0 where
+  pub from : IsNoted p
+  pub reply : IsReply p.rows entry
+  pub rows : q.rows ≡ rows_after p.rows entry
+  pub history : q.history ≡ p.history ++ (caller, entry) ∷ []
+  pub start : q.start ≡ p.start
+  pub room : p.room ≤ q.room + 1
+
+-- the same rows and calls, and as much room or more
+pub record KeepsCalls (p q : Noted) : Type 0 where
+  pub start : q.start ≡ p.start
+  pub rows : q.rows ≡ p.rows
+  pub history : q.history ≡ p.history
+  pub room : p.room ≤ q.room
+
+-- more calls
+pub record Grows (p q : Noted) (more : List (ℕ × DatabaseEntry)) : Type 0 where
+  pub start : q.start ≡ p.start
+  pub history : q.history ≡ p.history ++ more
+  pub rows : q.rows ≡ replay p.rows more
