@@ -1,0 +1,3 @@
+pub mod RunKeys
+pub mod RunSets
+pub mod RunNumberKept

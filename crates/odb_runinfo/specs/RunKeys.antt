@@ -1,0 +1,38 @@
+-- The keys of the run's parameters, and the database with which a session opens.
+use Rattle.std.specs.Prelude.{ℕ, List, [], ◌∷◌, codes, pos}
+use Rattle.odb_value.specs.declared.items.Item.{Item}
+use Rattle.odb_value.specs.declared.items.Item.TheVariants.{Int32, UInt32}
+use Rattle.odb_value.specs.Items.{tid_of}
+use Rattle.odb_value.specs.Values.{Held}
+use Rattle.odb_value.specs.ValueChanges.{new_held, put_in}
+use Rattle.odb_tree.specs.Rows.{Rows, no_rows}
+use Rattle.odb_tree.specs.Calls.{after_set_all}
+use Rattle.odb_runinfo.specs.declared.keys.RunKey.{RunKey}
+use Rattle.odb_runinfo.specs.declared.keys.RunKey.TheVariants.{State, RunNumber, StartTime, StopTime}
+
+-- the name of a key
+abbrev pub key_name : RunKey → List ℕ
+key_name State = codes "State"
+key_name RunNumber = codes "Run number"
+key_name StartTime = codes "Start time binary"
+key_name StopTime = codes "Stop time binary"
+
+-- its path
+abbrev pub key_path : RunKey → List (List ℕ)
+key_path key = codes "Runinfo" ∷ key_name key ∷ []
+
+-- the path of the key in which a front-end says how many events it sent
+abbrev pub sent_path : (front : List ℕ) → List (List ℕ)
+sent_path front = codes "Equipment" ∷ front ∷ codes "Events sent" ∷ []
+
+-- the value of a new key of one item, with this item in it
+abbrev pub value_of_one : Item → Held
+value_of_one item = put_in (new_held (tid_of item) 1) 0 item
+
+-- the database with one key more
+abbrev pub with_key : Rows → RunKey → Item → Rows
+with_key s key item = after_set_all s (key_path key) (value_of_one item)
+
+-- the database of a session before its first call: State is 1, the run number and both times are 0, made in this order
+abbrev pub session_rows : Rows
+session_rows = with_key (with_key (with_key (with_key no_rows State (Int32 (pos 1))) RunNumber (Int32 (pos 0))) StartTime (UInt32 0)) StopTime (UInt32 0)

@@ -1,0 +1,24 @@
+//! The run number is there throughout a session.
+ghost use Rattle.std.specs.Prelude.{◌≡◌, ℕ, List, Ok};
+ghost use Rattle.odb_tree.specs.declared.entry.DatabaseEntry.{DatabaseEntry};
+ghost use Rattle.odb_tree.specs.Rows.{Rows};
+ghost use Rattle.odb_tree.specs.Histories.{replay};
+ghost use Rattle.odb_tree.specs.Calls.{get_reply};
+ghost use Rattle.odb_runinfo.specs.declared.keys.RunKey.TheVariants.{RunNumber};
+ghost use Rattle.odb_runinfo.specs.RunKeys.{key_path, session_rows};
+ghost use Rattle.odb_runinfo.specs.RunNumberKept.{AllSpareRuninfo, HasRunNumber};
+
+/// After any calls that replace no whole value and remove nothing below `/Runinfo`, the run number is there, an INT32.
+pub fn run_number_stays()
+    ensures { (s : Rows) (h : List (ℕ × DatabaseEntry)) → AllSpareRuninfo h → HasRunNumber s.rows → HasRunNumber (replay s h).rows }
+{}
+
+/// A session opens with the run number.
+pub fn run_number_opens()
+    ensures { HasRunNumber session_rows.rows }
+{}
+
+/// Where the run number is there, a `get` of it gives its value.
+pub fn run_number_given()
+    ensures { (s : Rows) (has : HasRunNumber s.rows) → get_reply s (key_path RunNumber) ≡ Ok has.held }
+{}

@@ -1,0 +1,16 @@
+//! The run's parameters in the online database: the keys of `/Runinfo`, with which a session's database opens, the
+//! number of the next run, and what a start writes before the run begins.
+#![tactic(auto)]
+
+mod keys;
+pub mod laws;
+mod opening;
+mod paths;
+mod sets;
+#[cfg(test)]
+mod tests;
+
+pub use keys::{RunKey, sent_path};
+pub use opening::open;
+pub use paths::RunPaths;
+pub use sets::{RunNumber, next_run, set_signed, set_start, set_unsigned};

@@ -1,0 +1,50 @@
+ghost use Rattle.std.specs.Prelude.{◌≡◌, IfOk, OnOk, IsTrue};
+ghost use Rattle.odb_value.specs.Items.{is_kept, tid_of};
+ghost use Rattle.odb_value.specs.Values.{IsShorter, size_limit};
+ghost use Rattle.odb_tree.specs.Rows.{no_rows};
+ghost use Rattle.odb_runinfo.specs.RunKeys.{value_of_one, with_key, session_rows};
+
+use crate::keys::RunKey;
+use daq_types::NoMemory;
+use odb_tree::{Database, OdbRefusal};
+use odb_value::{Item, Value};
+use std::alloc::Global;
+
+/// The value with this one item.
+fn value_of_one(alloc: Global, item: Item) -> Result<Value, NoMemory>
+    requires kept { IsTrue (is_kept (tid_of item)) }
+    requires short { IsShorter size_limit item }
+    ensures { IfOk result (λ value. value ≡ value_of_one item) }
+{
+    let mut value = Value::new(alloc, item.tid(), 1)?;
+    value.put(0, item);
+    Ok(value)
+}
+
+/// Makes the key with this one item.
+fn add_key<D: Database>(
+    alloc: Global,
+    database: &mut D,
+    key: RunKey,
+    item: Item,
+) -> Result<(), OdbRefusal>
+    requires kept { IsTrue (is_kept (tid_of item)) }
+    requires short { IsShorter size_limit item }
+    ensures { OnOk result (D.rows database.new ≡ with_key (D.rows database.old) key item) }
+{
+    let path = key.path(alloc)?;
+    let value = value_of_one(alloc, item)?;
+    database.set_all(alloc, &path, &value)?;
+    Ok(())
+}
+
+/// Makes the keys of `/Runinfo` in a new database.
+pub fn open<D: Database>(alloc: Global, database: &mut D) -> Result<(), OdbRefusal>
+    requires { D.rows database.old ≡ no_rows }
+    ensures { OnOk result (D.rows database.new ≡ session_rows) }
+{
+    add_key(alloc, database, RunKey::State, Item::Int32(1))?;
+    add_key(alloc, database, RunKey::RunNumber, Item::Int32(0))?;
+    add_key(alloc, database, RunKey::StartTime, Item::UInt32(0))?;
+    add_key(alloc, database, RunKey::StopTime, Item::UInt32(0))
+}
