@@ -1,0 +1,152 @@
+-- The answers of the database's commands: the calls that a command makes, with their replies, and its own reply, both
+-- given by the rows.
+use Rattle.std.specs.Prelude.{◌≡◌, ℕ, Bool, true, false, nat_lt, if◌then◌else◌, List, [], ◌∷◌, length, map, slice_get, Option, Some, None, Result, Ok, Err, codes}
+use Rattle.std.specs.Option.{unwrap_or}
+use Rattle.daq_types.specs.declared.types.Tid.{Tid}
+use Rattle.odb_path.specs.declared.refusals.PathRefusal.{PathRefusal}
+use Rattle.odb_path.specs.Paths.{same_name}
+use Rattle.odb_path.specs.PathText.{path_reply}
+use Rattle.odb_value.specs.declared.items.Item.{Item}
+use Rattle.odb_value.specs.declared.refusals.ItemRefusal.{ItemRefusal}
+use Rattle.odb_value.specs.ItemTexts.{item_read}
+use Rattle.odb_value.specs.Values.{Held}
+use Rattle.odb_tree.specs.declared.children.Child.{Child}
+use Rattle.odb_tree.specs.declared.entry.DatabaseEntry.{DatabaseEntry}
+use Rattle.odb_tree.specs.declared.entry.DatabaseEntry.TheVariants as call
+use Rattle.odb_tree.specs.declared.refusals.OdbRefusal.{OdbRefusal}
+use Rattle.odb_tree.specs.declared.refusals.OdbRefusal.TheVariants.{BadIndex}
+use Rattle.odb_tree.specs.declared.rows.NewKey.{NewKey}
+use Rattle.odb_tree.specs.declared.rows.NewKey.TheVariants.{Dir, Keys}
+use Rattle.odb_tree.specs.Rows.{Rows}
+use Rattle.odb_tree.specs.Calls.{create_reply, set_reply, get_reply, find_reply, list_reply, delete_reply, path_with}
+use Rattle.odb_journal.specs.Noted.{Noted, Grows}
+use Rattle.odb_script.specs.declared.forms.Command.{Command}
+use Rattle.odb_script.specs.declared.forms.Command.TheVariants as command
+use Rattle.odb_commands.specs.declared.replies.CommandRefusal.{CommandRefusal}
+use Rattle.odb_commands.specs.declared.replies.CommandRefusal.TheVariants.{Path, Protected, Item as BadItem, Database}
+use Rattle.odb_commands.specs.declared.replies.CommandReply.{CommandReply}
+use Rattle.odb_commands.specs.declared.replies.CommandReply.TheVariants.{Done, Key, One, Listed, Refused}
+
+-- the calls that a command makes, in order, and what it is answered
+pub record Answer : Type 0 where
+  pub calls : List DatabaseEntry
+  pub reply : CommandReply
+
+-- without any call
+abbrev pub refused : CommandRefusal → Answer
+refused why = record { calls = []; reply = Refused why }
+
+-- with this call in front
+abbrev pub behind : DatabaseEntry → Answer → Answer
+behind entry answer = record { calls = entry ∷ answer.calls; reply = answer.reply }
+
+-- a call that is accepted prints nothing
+abbrev pub done_or : Result ℕ OdbRefusal → CommandReply
+done_or (Ok n) = Done
+done_or (Err why) = Refused (Database why)
+
+-- a text that is no path is refused before any call
+abbrev pub at_path : Result (List (List ℕ)) PathRefusal → (List (List ℕ) → Answer) → Answer
+at_path (Err why) answer = refused (Path why)
+at_path (Ok p) answer = answer p
+
+-- `create`: one call.
+abbrev pub create_at : Rows → NewKey → List (List ℕ) → Answer
+create_at s kind p = record { calls = call.Create p kind (create_reply s p kind) ∷ []; reply = done_or (create_reply s p kind) }
+
+-- `set`: the key is got; then the index is tested, and the text; then the item is set.
+
+abbrev pub item_or : Result Item ItemRefusal → Result Item CommandRefusal
+item_or (Err why) = Err (BadItem why)
+item_or (Ok item) = Ok item
+
+-- the item that a text gives a key with this value, at this index
+abbrev pub item_for : Held → (index : ℕ) → (text : List ℕ) → Result Item CommandRefusal
+item_for v index text = if nat_lt index (length v.items) then item_or (item_read v.tid text) else Err (Database (BadIndex (length v.items)))
+
+abbrev pub set_item : Rows → List (List ℕ) → (index : ℕ) → Result Item CommandRefusal → Answer
+set_item s p index (Err why) = refused why
+set_item s p index (Ok item) = record { calls = call.Set p index item (set_reply s p index item) ∷ []; reply = done_or (set_reply s p index item) }
+
+abbrev pub set_in : Rows → List (List ℕ) → (index : ℕ) → (text : List ℕ) → Result Held OdbRefusal → Answer
+set_in s p index text (Err why) = refused (Database why)
+set_in s p index text (Ok v) = set_item s p index (item_for v index text)
+
+abbrev pub set_at : Rows → (index : ℕ) → (text : List ℕ) → List (List ℕ) → Answer
+set_at s index text p = behind (call.Get p (get_reply s p)) (set_in s p index text (get_reply s p))
+
+-- `get`: the key is got; for its lines it is also found, and the path of its row gives the name as it is spelled in the
+-- database.
+
+abbrev pub key_named : Rows → Held → (row : ℕ) → Answer
+key_named s v row = record { calls = call.PathOf row (Ok (path_with s.rows row)) ∷ []; reply = Key (unwrap_or (path_with s.rows row) []) v }
+
+abbrev pub key_found : Rows → Held → Result ℕ OdbRefusal → Answer
+key_found s v (Err why) = refused (Database why)
+key_found s v (Ok row) = key_named s v row
+
+abbrev pub one_or : (len : ℕ) → Option Item → CommandReply
+one_or len None = Refused (Database (BadIndex len))
+one_or len (Some item) = One item
+
+abbrev pub shown : Rows → List (List ℕ) → Option ℕ → Held → Answer
+shown s p None v = behind (call.Find p (find_reply s p)) (key_found s v (find_reply s p))
+shown s p (Some index) v = record { calls = []; reply = one_or (length v.items) (slice_get v.items index) }
+
+abbrev pub get_in : Rows → List (List ℕ) → Option ℕ → Result Held OdbRefusal → Answer
+get_in s p index (Err why) = refused (Database why)
+get_in s p index (Ok v) = shown s p index v
+
+abbrev pub get_at : Rows → Option ℕ → List (List ℕ) → Answer
+get_at s index p = behind (call.Get p (get_reply s p)) (get_in s p index (get_reply s p))
+
+-- `ls`: one call.
+
+abbrev pub listed_or : Result (List Child) OdbRefusal → CommandReply
+listed_or (Err why) = Refused (Database why)
+listed_or (Ok children) = Listed children
+
+abbrev pub list_at : Rows → List (List ℕ) → Answer
+list_at s p = record { calls = call.ListDir p (list_reply s p) ∷ []; reply = listed_or (list_reply s p) }
+
+-- `rm`: one call, and none for what is protected.
+
+-- the root, and whatever has `Runinfo` as its first name
+abbrev pub is_protected : List (List ℕ) → Bool
+is_protected [] = true
+is_protected (name ∷ names) = same_name name (codes "Runinfo")
+
+abbrev pub removed : Rows → List (List ℕ) → Answer
+removed s p = record { calls = call.Delete p (delete_reply s p) ∷ []; reply = done_or (delete_reply s p) }
+
+abbrev pub remove_at : Rows → List (List ℕ) → Answer
+remove_at s p = if is_protected p then refused Protected else removed s p
+
+-- The answer of a command, where it is one of the database's.
+abbrev pub answer_of : Rows → Command → Option Answer
+answer_of s command.Nothing = None
+answer_of s (command.Events count) = None
+answer_of s command.Start = None
+answer_of s command.Stop = None
+answer_of s (command.Create tid path len) = Some (at_path (path_reply path) (create_at s (Keys tid len)))
+answer_of s (command.CreateDir path) = Some (at_path (path_reply path) (create_at s Dir))
+answer_of s (command.Set path index value) = Some (at_path (path_reply path) (set_at s index value))
+answer_of s (command.Get path index) = Some (at_path (path_reply path) (get_at s index))
+answer_of s (command.List path) = Some (at_path (path_reply path) (list_at s))
+answer_of s (command.Remove path) = Some (at_path (path_reply path) (remove_at s))
+answer_of s command.Exit = None
+
+-- calls of the main thread
+abbrev pub by_main : List DatabaseEntry → List (ℕ × DatabaseEntry)
+by_main calls = map (λ (entry : DatabaseEntry). (0, entry)) calls
+
+-- the command made these calls, and this is its reply
+pub record Answers (p q : Noted) (answer : Answer) (reply : CommandReply) : Type 0 where
+  pub calls : Grows p q (by_main answer.calls)
+  pub answered : reply ≡ answer.reply
+
+-- the same for a command that may be another's, which makes no call
+abbrev pub AnswersIf : (p q : Noted) → Option Answer → Option CommandReply → Type 0
+AnswersIf p q None None = q ≡ p
+AnswersIf p q (Some answer) (Some reply) = Answers p q answer reply
+AnswersIf p q answer reply = ⊥

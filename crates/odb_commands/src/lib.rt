@@ -1,0 +1,14 @@
+//! The script's commands of the online database: which calls on it each command makes, what it is answered, and the
+//! text that the console shows.
+#![tactic(auto)]
+
+mod commands;
+pub mod laws;
+mod reading;
+mod replies;
+#[cfg(test)]
+mod tests;
+mod texts;
+
+pub use commands::{create, get, list, remove, run_command, set};
+pub use replies::{CommandRefusal, CommandReply};

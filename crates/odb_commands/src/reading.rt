@@ -1,0 +1,96 @@
+ghost use Rattle.std.specs.Prelude.{◌≡◌, IfOk, Result, codes, length, slice_get};
+ghost use Rattle.odb_path.specs.Paths.{same_name};
+ghost use Rattle.odb_path.specs.PathText.{path_reply};
+ghost use Rattle.odb_tree.specs.declared.refusals.OdbRefusal.{OdbRefusal};
+ghost use Rattle.odb_tree.specs.Calls.{Gives};
+ghost use Rattle.odb_commands.specs.Answers.{is_protected, item_for, one_or};
+
+use crate::replies::{CommandRefusal, CommandReply};
+use daq_types::{Name, NoMemory};
+use odb_path::{Path, PathRefusal};
+use odb_tree::OdbRefusal;
+use odb_value::{Item, ItemRefusal, Value, parse_item};
+use std::alloc::Global;
+
+/// What the database answered, where memory was not wanting.
+pub(crate) fn settled<T: Drop>(
+    reply: Result<T, OdbRefusal>,
+) -> Result<Result<T, OdbRefusal>, NoMemory>
+    ensures same { IfOk result (λ settled. settled ≡ reply) }
+    ensures exact { IfOk result (λ settled. (is : Result T OdbRefusal) → Gives settled is → is ≡ settled) }
+{
+    match reply {
+        Ok(value) => Ok(Ok(value)),
+        Err(OdbRefusal::NoMemory) => Err(NoMemory),
+        Err(refusal) => Ok(Err(refusal)),
+    }
+}
+
+/// The path of a text, or why it is none.
+pub(crate) fn read_path(alloc: Global, text: &[u8]) -> Result<Result<Path, PathRefusal>, NoMemory>
+    ensures { IfOk result (λ path. path ≡ path_reply text.now) }
+{
+    match Path::read(alloc, text) {
+        Ok(path) => Ok(Ok(path)),
+        Err(PathRefusal::NoMemory) => Err(NoMemory),
+        Err(why) => Ok(Err(why)),
+    }
+}
+
+/// The item that a text gives a key with this value, at this index, or why it gives none.
+pub(crate) fn item_for(
+    alloc: Global,
+    value: &Value,
+    index: u32,
+    text: &[u8],
+) -> Result<Result<Item, CommandRefusal>, NoMemory>
+    ensures { IfOk result (λ item. item ≡ item_for value.now index text.now) }
+{
+    let len = value.items().len();
+    if index as usize >= len {
+        let why = OdbRefusal::BadIndex { len: len as u32 };
+        return Ok(Err(CommandRefusal::Database { why }));
+    }
+    match parse_item(alloc, value.tid(), text) {
+        Ok(item) => Ok(Ok(item)),
+        Err(ItemRefusal::NoMemory) => Err(NoMemory),
+        Err(why) => Ok(Err(CommandRefusal::Item { why })),
+    }
+}
+
+/// The reply with one item of this value.
+pub(crate) fn one_of(alloc: Global, value: &Value, index: u32) -> Result<CommandReply, NoMemory>
+    ensures { IfOk result (λ reply. reply ≡ one_or (length value.now.items) (slice_get value.now.items index)) }
+{
+    let items = value.items();
+    match items.get(index as usize) {
+        Some(item) => {
+            let item = item.try_clone(alloc)?;
+            Ok(CommandReply::One { item })
+        }
+        None => {
+            let why = OdbRefusal::BadIndex {
+                len: items.len() as u32,
+            };
+            let why = CommandRefusal::Database { why };
+            Ok(CommandReply::Refused { why })
+        }
+    }
+}
+
+/// Whether this is the name of the directory of the run's parameters.
+fn is_runinfo(name: &Name) -> bool
+    ensures { result ≡ same_name name.now (codes "Runinfo") }
+{
+    name.as_slice().eq_ignore_ascii_case(b"Runinfo".as_slice())
+}
+
+/// Whether the row at a path is not to be removed: the root, `/Runinfo`, and all below it.
+pub(crate) fn is_protected(names: &[Name]) -> bool
+    ensures { result ≡ is_protected names.now }
+{
+    match names {
+        [] => true,
+        [name, ..] => is_runinfo(name),
+    }
+}
