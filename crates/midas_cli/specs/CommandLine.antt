@@ -2,7 +2,7 @@
 use Rattle.std.specs.Prelude.{◌≡◌, ℕ, ◌==◌, Bool, false, ◌&&◌, ◌⊎◌, nat_lt, List, [], ◌∷◌, ◌++◌, length, slice_index, codes, Option, Some, None}
 use Rattle.daq_types.specs.Names.{IsFileName}
 use Rattle.midas_cli.specs.declared.words.Tool.{Tool}
-use Rattle.midas_cli.specs.declared.words.Tool.TheVariants.{Check, Dump}
+use Rattle.midas_cli.specs.declared.words.Tool.TheVariants.{Check, Dump, Analyze}
 use Rattle.midas_cli.specs.declared.words.Form.{Form}
 use Rattle.midas_cli.specs.declared.words.Form.TheVariants.{Run, OnFile}
 
@@ -14,6 +14,7 @@ IsRun words = words ≡ codes "run" ∷ []
 abbrev pub tool_word : Tool → List ℕ
 tool_word Check = codes "check"
 tool_word Dump = codes "dump"
+tool_word Analyze = codes "analyze"
 
 -- a word that begins with `-` and is longer
 abbrev pub is_flag : List ℕ → Bool

@@ -3,13 +3,14 @@ use Rattle.std.specs.Prelude.{◌≡◌, ℕ, List, Option, Some}
 use Rattle.daq_io.specs.Seen.{Seen}
 use Rattle.daq_session.specs.declared.causes.Cause.{Cause}
 use Rattle.daq_session.specs.declared.causes.Cause.TheVariants as causes
+use Rattle.midas_tools.specs.Analyses.{Analyzes}
 use Rattle.midas_tools.specs.Checks.{Checks}
 use Rattle.midas_tools.specs.Dumps.{WritesOn}
 use Rattle.midas_tools.specs.Findings.{Writes, Completes, SinkCounts, FileCounts, ClashCounts}
 use Rattle.midas_tools.specs.declared.ends.ToolEnd.{ToolEnd}
 use Rattle.midas_tools.specs.declared.ends.ToolEnd.TheVariants.{Done, Input, FileFault, SinkFault, NoMemory}
 use Rattle.midas_cli.specs.declared.words.Tool.{Tool}
-use Rattle.midas_cli.specs.declared.words.Tool.TheVariants.{Check, Dump}
+use Rattle.midas_cli.specs.declared.words.Tool.TheVariants.{Check, Dump, Analyze}
 
 -- the cause of a tool's end; a fault of the files names the file of the first fault
 abbrev pub IsCauseOf : ToolEnd → (first : Option (List ℕ)) → Cause → Type 0
@@ -23,6 +24,7 @@ IsCauseOf NoMemory first cause = cause ≡ causes.NoMemory
 abbrev pub ToolWrites : Tool → (seen : Seen) (name : List ℕ) (told_old told_new : Option (List ℕ)) → ToolEnd → Type 0
 ToolWrites Check seen name told_old told_new end = Writes Checks seen name told_old told_new end
 ToolWrites Dump seen name told_old told_new end = WritesOn seen name told_old told_new end
+ToolWrites Analyze seen name told_old told_new end = Writes Analyzes seen name told_old told_new end
 
 -- The counts of faults and clashes before a call and after it.
 pub record Counts : Type 0 where

@@ -284,12 +284,19 @@ fn script_over_the_limit(rt: HostRuntime) -> Result<(), Fail> {
 }
 
 /// Words of a tool on the file of a run of no event, what they print, and the status.
-const TOOLS: [(&str, &str, &str, u8); 6] = [
+const TOOLS: [(&str, &str, &str, u8); 8] = [
     ("check", "run00001.mid", "ok run 1 events 0 bytes 32\n", 0),
     ("dump", "run00001.mid", "begin 1 1000 0\nend 1 1010 0\n", 0),
+    (
+        "analyze",
+        "run00001.mid",
+        "run 1\nevents 0\nrest ids 0 banks 0 bad 0\n",
+        0,
+    ),
     ("check", "run00001.mid.gz", "bad Compressed\n", 3),
     ("check", "no.mid", "bad Missing\n", 3),
     ("dump", "-", "bad Missing\n", 3),
+    ("analyze", "no.mid", "bad Missing\n", 3),
     (
         "check",
         "-v",

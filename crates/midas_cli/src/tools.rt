@@ -9,7 +9,7 @@ use crate::words::{Tool, ToolCall};
 use daq_io::{Files, Outside, Sink};
 use daq_session::Cause;
 use daq_types::FileName;
-use midas_tools::{ToolEnd, check_file, dump_file};
+use midas_tools::{ToolEnd, analyze_file, check_file, dump_file};
 use std::alloc::Global;
 
 /// The cause of a tool's end.
@@ -47,6 +47,7 @@ fn call_tool<F: Files, K: Sink>(
     match tool {
         Tool::Check => check_file(alloc, files, name, out),
         Tool::Dump => dump_file(alloc, files, name, out),
+        Tool::Analyze => analyze_file(alloc, files, name, out),
     }
 }
 

@@ -13,6 +13,7 @@ pub const USAGE: &str =
 pub enum Tool {
     Check,
     Dump,
+    Analyze,
 }
 
 /// A call of a tool on the file of this name.
@@ -72,6 +73,7 @@ fn tool_of(word: &[u8]) -> Option<Tool>
     match word {
         b"check" => Some(Tool::Check),
         b"dump" => Some(Tool::Dump),
+        b"analyze" => Some(Tool::Analyze),
         _ => None,
     }
 }
