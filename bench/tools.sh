@@ -1,6 +1,6 @@
 #!/bin/sh
-# Measures `check` and `dump` on run files of some 100 MB and of twice and four times as much, beside `cat` of the same
-# file and `wc -l` of dump's text. Prints seconds (the best of three), ratios, growth and the peak memory.
+# Measures `check`, `dump` and `analyze` on run files of some 100 MB and of twice and four times as much, beside `cat` of
+# the same file and `wc -l` of dump's text. Prints seconds (the best of three), ratios, growth and the peak memory.
 # usage: bench/tools.sh PROGRAM [MEGABYTES]
 set -e
 program=$(realpath "$1")
@@ -64,6 +64,7 @@ for times in (1, 2, 4):
         "check": "exec %s check %s > /dev/null" % (program, name),
         "dump": "exec %s dump %s > dump.txt" % (program, name),
         "wc -l": "wc -l dump.txt > /dev/null",
+        "analyze": "exec %s analyze %s > /dev/null" % (program, name),
     }
     print("%.0f MB" % megabytes)
     for what, command in commands.items():
@@ -72,7 +73,7 @@ for times in (1, 2, 4):
         base.setdefault("cat now", 0)
         if what == "cat":
             base["cat now"] = took
-        print("  %-6s %7.3f s  %6.1f times cat  growth %4.2f of %d  peak %d kB"
+        print("  %-7s %7.3f s  %6.1f times cat  growth %4.2f of %d  peak %d kB"
               % (what, took, took / base["cat now"], took / base[what], times, peak))
     os.remove(name)
 PYTHON
