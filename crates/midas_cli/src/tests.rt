@@ -1,7 +1,9 @@
 //! The program over objects in memory: run files byte for byte, console text and status.
 use crate::outcome::Outcome;
 use crate::top::midas;
-use daq_io::{FileFail, FileOp, MemClock, MemFiles, MemPick, MemSink, MemSource, NoGate, Outside};
+use daq_io::{
+    FileFail, FileOp, MemClock, MemFiles, MemPick, MemSink, MemSource, NoGate, Outside, StdFiles,
+};
 use daq_session::Cause;
 use daq_types::{FileName, NoMemory, Words};
 use midas_tools::InputFault;
@@ -323,6 +325,28 @@ fn tools_on_a_file(rt: HostRuntime) -> Result<(), Fail> {
         assert_eq!(rt; after.out.bytes(), text.as_bytes(), "{tool} {file}");
         assert_eq!(rt; outcome.status, status, "{tool} {file}");
         assert!(rt; outcome.session.is_none());
+    }
+    Ok(())
+}
+
+#[test]
+fn directory_in_place_of_a_file(rt: HostRuntime) -> Result<(), Fail> {
+    let alloc = rt.alloc();
+    for tool in ["check", "dump", "analyze"] {
+        let outside = Outside {
+            src: MemSource::new(Vec::new(alloc), Vec::new(alloc)),
+            out: MemSink::new(alloc, 1000, Vec::new(alloc))?,
+            run_files: StdFiles::new(alloc, rt, ".")?,
+            odb_files: MemFiles::new(alloc, 1, 0, Vec::new(alloc))?,
+            clock: MemClock::new(Vec::new(alloc)),
+            pick: MemPick::new(Vec::new(alloc)),
+        };
+        let mut words = Words::new(alloc);
+        words.add(alloc, tool)?;
+        words.add(alloc, ".")?;
+        let (outcome, after) = midas(&rt, alloc, &words, outside, &NoGate);
+        assert!(rt; after.out.bytes().is_empty(), "{tool}");
+        assert_eq!(rt; outcome.status, 4, "{tool}");
     }
     Ok(())
 }
