@@ -60,7 +60,7 @@ pub record Does (p q : Ported) (entry : BufferEntry) : Type 0 where
   pub entries : p.entries ≤ q.entries + 1
   pub bytes : p.bytes ≤ q.bytes + data_of entry
 
--- the same calls, and as much room or more
+-- the same calls, whatever the room
 pub record KeepsPort (p q : Ported) : Type 0 where
   pub start : q.start ≡ p.start
   pub window : q.window ≡ p.window

@@ -58,6 +58,11 @@ abbrev pub GivesSound : Received → Event → Type 0
 GivesSound (Got place start) e = IsGiven e
 GivesSound reply e = ⊤
 
+-- where the receive gave no event, the receiver holds what it held
+abbrev pub KeepsUnlessGot : Received → (before after : Event) → Type 0
+KeepsUnlessGot (Got place start) before after = ⊤
+KeepsUnlessGot reply before after = after ≡ before
+
 -- the receive found an event that had too much data
 abbrev pub IsSmallBuf : Received → Type 0
 IsSmallBuf (SmallBuf need) = ⊤

@@ -2,7 +2,7 @@ ghost use Rattle.std.specs.Prelude.{◌≡◌, ◌-◌, ◌^◌, ◌≤◌, ℕ,
 ghost use Rattle.daq_model.specs.Events.{event_limit};
 ghost use Rattle.event_header.specs.Headers.{event_of};
 ghost use Rattle.buffer_core.specs.declared.entry.BufferEntry.TheVariants.{Attach, Detach, Request, Cancel, Send, SendInRun, Receive, Begin, Pause, Resume, End, Level, Accepted};
-ghost use Rattle.buffer_core.specs.Ports.{Calls, Receives, GivesSound, IsSmallBuf, IsSendFault, slots_got};
+ghost use Rattle.buffer_core.specs.Ports.{Calls, Receives, KeepsUnlessGot, GivesSound, IsSmallBuf, IsSendFault, slots_got};
 
 use crate::buffer::EventBuffer;
 use crate::local::LocalPort;
@@ -70,6 +70,7 @@ pub trait BufferPort {
         requires room { 1 ≤ (access self.old).entries }
         ensures called { Receives (access self.old) (access self.new) client into.old.room result into.new.event }
         ensures room { into.new.room ≡ into.old.room }
+        ensures kept { KeepsUnlessGot result into.old.event into.new.event }
         ensures whole { min event_limit ((access self.old).size - 24) ≤ into.old.room → ¬ (IsSmallBuf result) }
         ensures sound { GivesSound result into.new.event }
         ensures few { (number : ℕ) → slots_got number (access self.new).got ≤ 2 ^ 62 };

@@ -21,7 +21,7 @@ use std::thread::Threads;
 fn record_of(session: Session) -> Option<SessionRecord>
     ensures runs { runs_in result ≡ session.state.runs.items }
     ensures opened { IfSome result (λ s. s.runs ≢ []) }
-    ensures system { IfSome result (λ s. IsSystem session.path.port.history s.buffers) }
+    ensures buffers { IfSome result (λ s. IsSystem (history_in s.buffers) s.buffers) }
     ensures one_history { IfSome result (λ s. All IsOneHistory s.buffers) }
     ensures held { IfSome result (λ s. All (IsHeldRun (history_in s.buffers)) s.runs) }
 {
@@ -45,6 +45,7 @@ fn run<S: Source, K: Sink, F: Files, E, C: Clock, P>(
     ensures faults { FaultsBy result.0 (record { old = S.faults outside.old.src; new = S.faults outside.new.src }) (record { old = K.faults outside.old.out; new = K.faults outside.new.out }) (record { old = F.faults outside.old.run_files; new = F.faults outside.new.run_files }) (F.first outside.new.run_files) }
     ensures broken { F.faults outside.new.run_files ≢ F.faults outside.old.run_files → result.1 ≡ None }
     ensures opened { IfSome result.1 (λ s. s.runs ≢ []) }
+    ensures buffers { IfSome result.1 (λ s. IsSystem (history_in s.buffers) s.buffers) }
     ensures one_history { IfSome result.1 (λ s. All IsOneHistory s.buffers) }
     ensures run_files { ¬ Rose (F.faults outside.old.run_files) (F.faults outside.new.run_files) → IsTrue (F.seen outside.old.run_files).tells → IfSome result.1 (λ s. All (HoldSegments s.buffers (F.seen outside.new.run_files).at) s.runs) }
     ensures front_end_sends { IfSome result.1 (λ s. All (AreSentByFronts s.buffers) s.runs) }
@@ -101,6 +102,8 @@ pub fn run_script<
     // There is no record where a call on the run files failed, and none without a run.
     ensures broken { F.faults result.2.run_files ≢ F.faults outside.run_files → result.1 ≡ None }
     ensures opened { IfSome result.1 (λ s. s.runs ≢ []) }
+    // There is one buffer, SYSTEM, and its history is that of one buffer.
+    ensures buffers { IfSome result.1 (λ s. IsSystem (history_in s.buffers) s.buffers) }
     ensures one_history { IfSome result.1 (λ s. All IsOneHistory s.buffers) }
     // Each file of a run holds the events between the run's marks, of which the channel's client got just those that it
     // asked for; and these are the events that the front-end sent in that run.

@@ -2,7 +2,7 @@ ghost use Rattle.std.specs.Prelude.{◌≡◌, ◌≢◌, ◌↔◌, ℕ, List, 
 ghost use Rattle.std.specs.Io.KnownBytes.{Appends};
 ghost use Rattle.daq_io.specs.Counts.{Rose};
 ghost use Rattle.daq_io.specs.Streams.{AppendsPart};
-ghost use Rattle.daq_session.specs.BufferRecords.{IsOneHistory};
+ghost use Rattle.daq_session.specs.BufferRecords.{IsOneHistory, IsSystem, history_in};
 ghost use Rattle.daq_session.specs.RunHistories.{AreSentByFronts, HoldSegments};
 ghost use Rattle.daq_session.specs.Sessions.{FaultsBy, IsSession, runs_in};
 ghost use Rattle.midas_cli.specs.CommandLine.{HasForm, IsOnFile, IsRun, usage_line};
@@ -93,8 +93,9 @@ pub fn midas<
     // A fault is the cause exactly where its count rose and no earlier cause holds.
     ensures faults { IsRun words.now → FaultsBy result.0.cause (record { old = S.faults outside.src; new = S.faults result.1.src }) (record { old = K.faults outside.out; new = K.faults result.1.out }) (record { old = F.faults outside.run_files; new = F.faults result.1.run_files }) (F.first result.1.run_files) }
     ensures opened { IfSome result.0.session (λ s. s.runs ≢ []) }
-    // The history of each buffer is that of one buffer that opened empty; its clients got what they asked for, and the
+    // There is one buffer, SYSTEM. Its history is that of one buffer that opened empty; its clients got what they asked for, and the
     // events of each run stand between its marks.
+    ensures buffers { IfSome result.0.session (λ s. IsSystem (history_in s.buffers) s.buffers) }
     ensures one_history { IfSome result.0.session (λ s. All IsOneHistory s.buffers) }
     // Each file of a run holds the events between the run's marks in that history, of which the channel's client got just
     // those that it asked for; and these are the events that the front-end sent in that run.

@@ -14,8 +14,7 @@ use Rattle.midas_tools.specs.declared.opening.Refused.TheVariants.{NameCompresse
 use Rattle.midas_tools.specs.declared.ends.InputFault.TheVariants.{Mid, Compressed, Missing, ScriptTooLong}
 use Rattle.midas_tools.specs.declared.ends.ToolEnd.{ToolEnd}
 use Rattle.midas_tools.specs.declared.ends.ToolEnd.TheVariants.{Done, Input, FileFault, SinkFault, NoMemory}
-use Rattle.midas_tools.proofs.Dumping.{nothing_listed}
-use Rattle.midas_tools.proofs.Ending.{there, told_if}
+use Rattle.midas_tools.proofs.Ending.{there}
 
 whole_part : (old new : Option (List ℕ)) (text : List ℕ) → Appends old new text → AppendsPart old new text
 whole_part old new text w = record { count = length text; appends = subst (λ (t : List ℕ). Appends old new t) (sym (take_all (length text) text (omega arith))) w }
@@ -38,13 +37,13 @@ module _ (seen : Seen) (name : List ℕ) (told_old told_new : Option (List ℕ))
       subst (λ (e : ToolEnd). WritesOn seen name told_old told_new e) (sym part.0) (inl (record { found = Input Missing; text = _; finds = (r.0, refl, r.1); written = part.1 }))
   dump_refused faults_old faults_new clashes_old clashes_new sink_old sink_new OpenFailed result r s =
       subst (λ (e : ToolEnd). WritesOn seen name told_old told_new e) (sym s.0)
-      (r.0, inr (record { text = []; lists = λ told file at. nothing_listed file.bytes [] refl; written = record { count = 0; appends = no_part told_old told_new s.1 } }))
+      (r.0, inr (record { text = []; lists = inl refl; written = record { count = 0; appends = no_part told_old told_new s.1 } }))
 
   module _ (opened : Seen) (number : ℕ) (o : IsOpened seen opened name number) where
     some_written : PrintsSome (told_left opened number) told_old told_new → WritesSome seen name told_old told_new
     some_written p = record {
       text = p.text;
-      lists = λ told file at. subst (λ (bytes : List ℕ). IsPart bytes p.text) (sym (o.opens.holds told file at)) (told_if opened.tells (opened.left number) (λ bytes. IsPart bytes p.text) (o.opens.files.tells ∙ told) p.part);
+      lists = inr (λ told. there seen opened name number (λ bytes. IsPart bytes p.text) o p.part told);
       written = p.written;
     }
 
@@ -73,6 +72,6 @@ module _ (seen : Seen) (name : List ℕ) (told_old told_new : Option (List ℕ))
     dump_read files_old files_new (Input Missing) result d c = absurd d
     dump_read files_old files_new (Input ScriptTooLong) result d c = absurd d
     dump_read files_old files_new FileFault result d c = subst (λ (e : ToolEnd). WritesOn seen name told_old told_new e) (sym c.0) (o.plain, inr (some_written d))
-    dump_read files_old files_new SinkFault result (inl d) c = subst (λ (e : ToolEnd). WritesOn seen name told_old told_new e) (sym c) (inr (some_written d))
+    dump_read files_old files_new SinkFault result (inl d) c = subst (λ (e : ToolEnd). WritesOn seen name told_old told_new e) (sym c) (inr (o.plain, some_written d))
     dump_read files_old files_new SinkFault result (inr d) c = subst (λ (e : ToolEnd). WritesOn seen name told_old told_new e) (sym c) (inl (part_written d))
     dump_read files_old files_new NoMemory result d c = subst (λ (e : ToolEnd). WritesOn seen name told_old told_new e) (sym c) (o.plain, some_written d)

@@ -15,7 +15,7 @@ use Rattle.mid_format.specs.declared.progress.Progress.{Progress}
 use Rattle.midas_tools.specs.Texts.{record_line, bad_line}
 use Rattle.midas_tools.specs.Areas.{AreLinesOf}
 use Rattle.midas_tools.specs.Printing.{Prints}
-use Rattle.midas_tools.specs.Findings.{WritesAll, WritesPart}
+use Rattle.midas_tools.specs.Findings.{IsThere, WritesAll, WritesPart}
 use Rattle.midas_tools.specs.declared.halts.Halt.{Halt}
 use Rattle.midas_tools.specs.declared.halts.Halt.TheVariants.{Bad, SinkFailed, Short}
 use Rattle.midas_tools.specs.declared.ends.InputFault.TheVariants.{Mid, Compressed, Missing, ScriptTooLong}
@@ -79,10 +79,10 @@ pub record IsDump (bytes : List ℕ) (fault : Option MidFault) (text : List ℕ)
   pub ends : EndsAt fault last begin (length lists.front) rest
   pub text_is : text ≡ shown ++ fault_lines fault
 
--- The lines of some records and events of a file were written, or a part of them.
+-- The lines of some records and events of the file were written, or a part of them; nothing, where there is no file.
 pub record WritesSome (seen : Seen) (name : List ℕ) (told_old told_new : Option (List ℕ)) : Type 0 where
   pub text : List ℕ
-  pub lists : IsTrue seen.tells → (file : Stored) → seen.at name ≡ Some file → IsPart file.bytes text
+  pub lists : (text ≡ []) ⊎ (IsTrue seen.tells → IsThere seen name (λ bytes. IsPart bytes text))
   pub written : AppendsPart told_old told_new text
 
 -- What `dump` writes, which prints as it reads: its text; and where a call on the files or the sink fails, or memory is
@@ -91,7 +91,7 @@ abbrev pub WritesOn : (seen : Seen) (name : List ℕ) (told_old told_new : Optio
 WritesOn seen name told_old told_new Done = WritesAll IsDump seen name told_old told_new Done
 WritesOn seen name told_old told_new (Input fault) = WritesAll IsDump seen name told_old told_new (Input fault)
 WritesOn seen name told_old told_new FileFault = (is_compressed name ≡ false) × (WritesPart IsDump seen name told_old told_new ⊎ WritesSome seen name told_old told_new)
-WritesOn seen name told_old told_new SinkFault = WritesPart IsDump seen name told_old told_new ⊎ WritesSome seen name told_old told_new
+WritesOn seen name told_old told_new SinkFault = WritesPart IsDump seen name told_old told_new ⊎ ((is_compressed name ≡ false) × WritesSome seen name told_old told_new)
 WritesOn seen name told_old told_new NoMemory = (is_compressed name ≡ false) × WritesSome seen name told_old told_new
 
 -- The text so far: the lines of the begin record and of the events that were read.

@@ -6,6 +6,7 @@ use Rattle.buffer_core.specs.declared.entry.BufferEntry.{BufferEntry}
 use Rattle.daq_session.specs.declared.records.RunRecord.{RunRecord}
 use Rattle.daq_session.specs.BufferRecords.{history_in}
 use Rattle.daq_session.specs.RunHistories.{IsHeldRun}
+use Rattle.daq_session.proofs.BufferLaws.{system_again}
 use Rattle.daq_session.proofs.RunsKept.{held_runs}
 use Rattle.daq_session.proofs.run.record_of.Goals as goal
 
@@ -16,3 +17,6 @@ returns-clause-held c =
     ∥∥₁_elim c.args.session.told (hlevel props)
     (λ s. subst (λ (h : List (ℕ × BufferEntry)). All (IsHeldRun h) c.of.result) (sym is_history)
     (subst (λ (runs : List RunRecord). All (IsHeldRun history) runs) (sym c.of.ensures) (held_runs history _ _ c.args.session.state.runs.items s.told)))
+
+pub returns-clause-buffers : goal.returns-clause-buffers
+returns-clause-buffers c = system_again c.args.session.path.port.history c.into_records.result c.into_records.ensures.system
