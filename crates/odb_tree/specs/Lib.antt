@@ -9,3 +9,5 @@ pub mod Calls
 pub mod Histories
 pub mod Walks
 pub mod WalkLaws
+pub mod Trees
+pub mod Places

@@ -1,36 +1,35 @@
 -- Laws of the walk: where new rows stand, and that all other rows keep their places.
-use Rattle.std.specs.Prelude.{◌≡◌, ℕ, zero, suc, ◌+◌, ◌<◌, ◌≤◌, Bool, true, false, not, ◌&&◌, ◌==◌, cond, List, [], ◌∷◌, ◌++◌, length, map, Option, Some, None, nat_eq, All}
-use Rattle.std.proofs.Common.{refl, sym, ap, ◌∙◌, subst, arith, Decides}
+use Rattle.std.specs.Prelude.{◌≡◌, ℕ, zero, suc, ◌+◌, Bool, true, false, not, ◌&&◌, ◌==◌, cond, List, [], ◌∷◌, ◌++◌, length, map, Option, Some, None}
+use Rattle.std.proofs.Common.{refl, sym, ap, ◌∙◌, Decides}
 use Rattle.std.specs.List.{filter, flat_map}
 use Rattle.std.specs.Option.{is_some, option_map}
 use Rattle.std.specs.Char.{to_ascii_lowercase}
-use Rattle.std.specs.Cmp.Lexicographic.{pointwise}
 use Rattle.std.proofs.lemmas.List.{append_assoc, append-nil}
 use Rattle.std.proofs.lemmas.Slice.Eq.{slice_eq-Decides}
 use Rattle.std.proofs.lemmas.Bool.Decides.{Decides-eqb}
 use Rattle.odb_path.specs.Paths.{same_name, is_front, same_path}
 use Rattle.odb_value.specs.Values.{Held}
 use Rattle.odb_tree.specs.declared.rows.Row.{Row}
-use Rattle.odb_tree.specs.Rows.{Rows, is_key, is_kind, is_child, is_listed, keys_in, dirs_in, rows_outside, change_row, change_at}
+use Rattle.odb_tree.specs.Rows.{is_key, is_kind, is_child, is_listed, keys_in, dirs_in, rows_outside, change_row, change_at}
 use Rattle.odb_tree.specs.Walks.{walk_below, changed_at}
 
 -- paths
 
-and_left : (a b : Bool) → a && b ≡ true → a ≡ true
+pub and_left : (a b : Bool) → a && b ≡ true → a ≡ true
 and_left true b h = refl
 and_left false b h = h
 
-and_right : (a b : Bool) → a && b ≡ true → b ≡ true
+pub and_right : (a b : Bool) → a && b ≡ true → b ≡ true
 and_right true b h = h
 and_right false b h = absurd (cc)
 
-both : (a b : Bool) → a ≡ true → b ≡ true → a && b ≡ true
+pub both : (a b : Bool) → a ≡ true → b ≡ true → a && b ≡ true
 both a b h k = ap (λ (t : Bool). t && b) h ∙ k
 
-names_decide : (a b : List ℕ) → Decides (same_name a b) (map to_ascii_lowercase a ≡ map to_ascii_lowercase b)
+pub names_decide : (a b : List ℕ) → Decides (same_name a b) (map to_ascii_lowercase a ≡ map to_ascii_lowercase b)
 names_decide a b = slice_eq-Decides Decides-eqb (map to_ascii_lowercase a) (map to_ascii_lowercase b) (same_name a b) refl
 
-name_trans : (a b c : List ℕ) → same_name a b ≡ true → same_name b c ≡ true → same_name a c ≡ true
+pub name_trans : (a b c : List ℕ) → same_name a b ≡ true → same_name b c ≡ true → same_name a c ≡ true
 name_trans a b c h k = let ab = names_decide a b in let bc = names_decide b c in let ac = names_decide a c in ac.1 (ab.0 h ∙ bc.0 k)
 
 -- a directory above one above a path is above the path
@@ -46,7 +45,7 @@ front_trans (a ∷ p) (b ∷ q) (c ∷ r) h k =
 listed_below : (keys : Bool) (p : List (List ℕ)) (r : Row) → is_listed keys p r ≡ true → is_front p r.path ≡ true
 listed_below keys p r h = and_right (length r.path == length p + 1) (is_front p r.path) (and_right (is_kind keys r) (is_child p r.path) h)
 
-and_false : (a : Bool) → a && false ≡ false
+pub and_false : (a : Bool) → a && false ≡ false
 and_false true = refl
 and_false false = refl
 
@@ -58,7 +57,7 @@ not_listed keys p r h =
 
 -- lists
 
-filter_append : {X : Type 0} (t : X → Bool) (xs ys : List X) → filter t (xs ++ ys) ≡ filter t xs ++ filter t ys
+pub filter_append : {X : Type 0} (t : X → Bool) (xs ys : List X) → filter t (xs ++ ys) ≡ filter t xs ++ filter t ys
 filter_append t [] ys = refl
 filter_append t (x ∷ xs) ys = added (t x) x (filter t xs) (filter t ys) (filter t (xs ++ ys)) (filter_append t xs ys)
   where
@@ -66,10 +65,10 @@ filter_append t (x ∷ xs) ys = added (t x) x (filter t xs) (filter t ys) (filte
     added true x us vs ws e = ap (λ l. x ∷ l) e
     added false x us vs ws e = e
 
-filter_one : {X : Type 0} (t : X → Bool) (x : X) → t x ≡ true → filter t (x ∷ []) ≡ x ∷ []
+pub filter_one : {X : Type 0} (t : X → Bool) (x : X) → t x ≡ true → filter t (x ∷ []) ≡ x ∷ []
 filter_one t x h = ap (λ (b : Bool). cond b (x ∷ []) []) h
 
-filter_none : {X : Type 0} (t : X → Bool) (x : X) → t x ≡ false → filter t (x ∷ []) ≡ []
+pub filter_none : {X : Type 0} (t : X → Bool) (x : X) → t x ≡ false → filter t (x ∷ []) ≡ []
 filter_none t x h = ap (λ (b : Bool). cond b (x ∷ []) []) h
 
 filter_swap : {X : Type 0} (a b : X → Bool) (xs : List X) → filter a (filter b xs) ≡ filter b (filter a xs)
@@ -86,11 +85,11 @@ filter_swap a b (x ∷ xs) = swapped a b x xs (a x) (b x) refl refl (filter_swap
     swapped a b x xs false false e f h = h
 
 -- rows that all lie below a directory
-AllBelow : List (List ℕ) → List Row → Type 0
+unfoldable pub AllBelow : List (List ℕ) → List Row → Type 0
 AllBelow p [] = Unit {0}
 AllBelow p (r ∷ rs) = (is_front p r.path ≡ true) × AllBelow p rs
 
-all_listed : (keys : Bool) (p : List (List ℕ)) (rows : List Row) → AllBelow p (filter (is_listed keys p) rows)
+pub all_listed : (keys : Bool) (p : List (List ℕ)) (rows : List Row) → AllBelow p (filter (is_listed keys p) rows)
 unfolding AllBelow
 all_listed keys p [] = tt
 all_listed keys p (r ∷ rs) = taken (is_listed keys p r) p r (filter (is_listed keys p) rs) (listed_below keys p r) (all_listed keys p rs)
@@ -99,11 +98,11 @@ all_listed keys p (r ∷ rs) = taken (is_listed keys p r) p r (filter (is_listed
     taken true p r rs h k = (h refl, k)
     taken false p r rs h k = k
 
-not_true : (t : Bool) → (t ≡ true → ⊥) → t ≡ false
+pub not_true : (t : Bool) → (t ≡ true → ⊥) → t ≡ false
 not_true true h = absurd (h refl)
 not_true false h = refl
 
-true_false : (t : Bool) → t ≡ true → t ≡ false → ⊥
+pub true_false : (t : Bool) → t ≡ true → t ≡ false → ⊥
 true_false true h k = cc
 true_false false h k = cc
 
@@ -113,7 +112,7 @@ apart p q r h k = not_true (is_front q r) (λ e. true_false (is_front p r) (fron
 
 -- new rows
 
-same_listed : (keys : Bool) (rows : List Row) (new : Row) (p : List (List ℕ)) → is_front p new.path ≡ false
+pub same_listed : (keys : Bool) (rows : List Row) (new : Row) (p : List (List ℕ)) → is_front p new.path ≡ false
     → filter (is_listed keys p) (rows ++ new ∷ []) ≡ filter (is_listed keys p) rows
 same_listed keys rows new p h =
     filter_append (is_listed keys p) rows (new ∷ [])
@@ -142,11 +141,11 @@ walk_elsewhere (suc depth) rows new p h =
     (same_below after before new p (filter (is_listed false p) rows) h (all_listed false p rows) (λ d k. ap (λ (l : List Row). d ∷ l) (walk_elsewhere depth rows new d.path k))))
 
 -- rows none of which is above a path
-pub NoneAbove : List (List ℕ) → List Row → Type 0
+unfoldable pub NoneAbove : List (List ℕ) → List Row → Type 0
 NoneAbove q [] = Unit {0}
 NoneAbove q (r ∷ rs) = (is_front r.path q ≡ false) × NoneAbove q rs
 
-same_beside : (f g : Row → List Row) (new : Row) (ds : List Row) → NoneAbove new.path ds → ((d : Row) → is_front d.path new.path ≡ false → f d ≡ g d) → flat_map f ds ≡ flat_map g ds
+pub same_beside : (f g : Row → List Row) (new : Row) (ds : List Row) → NoneAbove new.path ds → ((d : Row) → is_front d.path new.path ≡ false → f d ≡ g d) → flat_map f ds ≡ flat_map g ds
 unfolding NoneAbove
 same_beside f g new [] none ih = refl
 same_beside f g new (d ∷ ds) none ih =
@@ -171,13 +170,13 @@ listed_more : (keys : Bool) (rows : List Row) (new : Row) (p : List (List ℕ)) 
     → filter (is_listed keys p) (rows ++ new ∷ []) ≡ filter (is_listed keys p) rows ++ new ∷ []
 listed_more keys rows new p h = filter_append (is_listed keys p) rows (new ∷ []) ∙ ap (λ (l : List Row). filter (is_listed keys p) rows ++ l) (filter_one (is_listed keys p) new h)
 
-listed_same : (keys : Bool) (rows : List Row) (new : Row) (p : List (List ℕ)) → is_listed keys p new ≡ false
+pub listed_same : (keys : Bool) (rows : List Row) (new : Row) (p : List (List ℕ)) → is_listed keys p new ≡ false
     → filter (is_listed keys p) (rows ++ new ∷ []) ≡ filter (is_listed keys p) rows
 listed_same keys rows new p h =
     filter_append (is_listed keys p) rows (new ∷ []) ∙ (ap (λ (l : List Row). filter (is_listed keys p) rows ++ l) (filter_none (is_listed keys p) new h) ∙ append-nil (filter (is_listed keys p) rows))
 
 -- everything below the directories of a directory
-pub below_dirs : (depth : ℕ) → List Row → List (List ℕ) → List Row
+unfoldable pub below_dirs : (depth : ℕ) → List Row → List (List ℕ) → List Row
 below_dirs depth rows p = flat_map (λ (d : Row). d ∷ walk_below depth rows d.path) (dirs_in rows p)
 
 -- a directory is its keys and what its directories have
@@ -198,7 +197,7 @@ walk_new_key depth rows new p h none =
     (same_beside after before new (filter (is_listed false p) rows) none (λ d k. ap (λ (l : List Row). d ∷ l) (walk_elsewhere depth rows new d.path k)))
     ∙ append_assoc (filter (is_listed true p) rows) (new ∷ []) (flat_map before (filter (is_listed false p) rows))))
 
-flat_map_append : (f : Row → List Row) (xs ys : List Row) → flat_map f (xs ++ ys) ≡ flat_map f xs ++ flat_map f ys
+pub flat_map_append : (f : Row → List Row) (xs ys : List Row) → flat_map f (xs ++ ys) ≡ flat_map f xs ++ flat_map f ys
 flat_map_append f [] ys = refl
 flat_map_append f (x ∷ xs) ys = ap (λ (l : List Row). f x ++ l) (flat_map_append f xs ys) ∙ sym (append_assoc (f x) (flat_map f xs) (flat_map f ys))
 
@@ -305,7 +304,7 @@ walk_outside (suc depth) rows q p =
 
 -- changed rows
 
-map_append : (h : Row → Row) (xs ys : List Row) → map h (xs ++ ys) ≡ map h xs ++ map h ys
+pub map_append : (h : Row → Row) (xs ys : List Row) → map h (xs ++ ys) ≡ map h xs ++ map h ys
 map_append h [] ys = refl
 map_append h (x ∷ xs) ys = ap (λ (l : List Row). h x ∷ l) (map_append h xs ys)
 
@@ -319,9 +318,9 @@ filter_map t h (x ∷ xs) e =
     mapped false h x us vs k = k
 
 -- a change that keeps the path and the kind of each row
-record KeepsKind (h : Row → Row) : Type 0 where
-  path : (r : Row) → (h r).path ≡ r.path
-  kind : (r : Row) → is_key (h r) ≡ is_key r
+pub record KeepsKind (h : Row → Row) : Type 0 where
+  pub path : (r : Row) → (h r).path ≡ r.path
+  pub kind : (r : Row) → is_key (h r) ≡ is_key r
 
 same_kind : (h : Row → Row) → KeepsKind h → (keys : Bool) (p : List (List ℕ)) (r : Row) → is_listed keys p (h r) ≡ is_listed keys p r
 same_kind h k true p r = ap (λ (t : Bool). t && is_child p (h r).path) (k.kind r) ∙ ap (λ (q : List (List ℕ)). is_key r && is_child p q) (k.path r)
@@ -332,7 +331,7 @@ dirs_mapped f g h [] e = refl
 dirs_mapped f g h (d ∷ ds) e =
     ap (λ (l : List Row). l ++ flat_map f (map h ds)) (e d) ∙ (ap (λ (l : List Row). map h (g d) ++ l) (dirs_mapped f g h ds e) ∙ sym (map_append h (g d) (flat_map g ds)))
 
-walk_mapped : (h : Row → Row) → KeepsKind h → (depth : ℕ) (rows : List Row) (p : List (List ℕ)) → walk_below depth (map h rows) p ≡ map h (walk_below depth rows p)
+pub walk_mapped : (h : Row → Row) → KeepsKind h → (depth : ℕ) (rows : List Row) (p : List (List ℕ)) → walk_below depth (map h rows) p ≡ map h (walk_below depth rows p)
 unfolding walk_below
 walk_mapped h k zero rows p = refl
 walk_mapped h k (suc depth) rows p =
@@ -345,11 +344,11 @@ walk_mapped h k (suc depth) rows p =
     ∙ sym (map_append h (filter (is_listed true p) rows) (flat_map before (filter (is_listed false p) rows)))))
 
 -- rows none of which is at a path, and rows of which one is at the most
-pub NoneAt : List (List ℕ) → List Row → Type 0
+unfoldable pub NoneAt : List (List ℕ) → List Row → Type 0
 NoneAt p [] = Unit {0}
 NoneAt p (r ∷ rs) = (same_path r.path p ≡ false) × NoneAt p rs
 
-pub OneAt : List (List ℕ) → List Row → Type 0
+unfoldable pub OneAt : List (List ℕ) → List Row → Type 0
 OneAt p [] = Unit {0}
 OneAt p (r ∷ rs) = (same_path r.path p ≡ true → NoneAt p rs) × OneAt p rs
 
@@ -364,16 +363,16 @@ one_changed : (p : List (List ℕ)) (f : Held → Held) (r : Row) (rs : List Row
 one_changed p f r rs true e h k = ap (λ (l : List Row). change_row f r ∷ l) (sym (stays_none p f rs (h e)))
 one_changed p f r rs false e h k = ap (λ (l : List Row). r ∷ l) k
 
-change_is_map : (p : List (List ℕ)) (f : Held → Held) (rows : List Row) → OneAt p rows → change_at rows p f ≡ map (changed_at p f) rows
+pub change_is_map : (p : List (List ℕ)) (f : Held → Held) (rows : List Row) → OneAt p rows → change_at rows p f ≡ map (changed_at p f) rows
 unfolding OneAt
 change_is_map p f [] h = refl
 change_is_map p f (r ∷ rs) h = one_changed p f r rs (same_path r.path p) refl h.0 (change_is_map p f rs h.1)
 
-value_kept : (f : Held → Held) (o : Option Held) → is_some (option_map f o) ≡ is_some o
+pub value_kept : (f : Held → Held) (o : Option Held) → is_some (option_map f o) ≡ is_some o
 value_kept f None = refl
 value_kept f (Some v) = refl
 
-changed_keeps : (p : List (List ℕ)) (f : Held → Held) → KeepsKind (changed_at p f)
+pub changed_keeps : (p : List (List ℕ)) (f : Held → Held) → KeepsKind (changed_at p f)
 changed_keeps p f = record { path = (λ r. kept_path (same_path r.path p) r); kind = (λ r. kept_kind (same_path r.path p) r) }
   where
     kept_path : (t : Bool) (r : Row) → (cond t (change_row f r) r).path ≡ r.path

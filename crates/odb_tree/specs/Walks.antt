@@ -1,6 +1,6 @@
 -- The walk through the database from the root: in each directory the keys first and then the directories, each kind in
 -- order of making, and behind each directory what is below it.
-use Rattle.std.specs.Prelude.{ℕ, zero, suc, ◌<◌, Bool, not, if◌then◌else◌, List, [], ◌∷◌, ◌++◌}
+use Rattle.std.specs.Prelude.{ℕ, zero, suc, if◌then◌else◌, List, [], ◌∷◌, ◌++◌}
 use Rattle.std.specs.List.{flat_map}
 use Rattle.odb_path.specs.Paths.{depth_limit, same_path}
 use Rattle.odb_value.specs.Values.{Held}

@@ -1,10 +1,16 @@
 //! Laws of the walk through the database, over its definitions alone.
-ghost use Rattle.std.specs.Prelude.{◌≡◌, ℕ, suc, List, [], ◌∷◌, ◌++◌, map, true, false};
+ghost use Rattle.std.specs.Prelude.{◌≡◌, ◌≢◌, ℕ, suc, None, List, [], ◌∷◌, ◌++◌, map, true, false};
 ghost use Rattle.odb_path.specs.Paths.{is_front};
 ghost use Rattle.odb_tree.specs.declared.rows.Row.{Row};
-ghost use Rattle.odb_tree.specs.Rows.{is_listed, keys_in, dirs_in, rows_outside, change_at};
+ghost use Rattle.odb_tree.specs.Trees.{IsTree};
+ghost use Rattle.odb_tree.specs.declared.entry.DatabaseEntry.{DatabaseEntry};
+ghost use Rattle.odb_tree.specs.Calls.{IsReply, rows_after, after_delete, after_set, after_set_all, after_resize};
+ghost use Rattle.odb_tree.specs.Histories.{IsLegal, replay};
+ghost use Rattle.odb_tree.specs.Rows.{Rows, no_rows, is_listed, keys_in, dirs_in, rows_outside, change_at, row_at};
+ghost use Rattle.odb_value.specs.declared.items.Item.{Item};
 ghost use Rattle.odb_value.specs.Values.{Held};
-ghost use Rattle.odb_tree.specs.Walks.{walk_below, changed_at};
+ghost use Rattle.odb_value.specs.ValueChanges.{put_in, resized};
+ghost use Rattle.odb_tree.specs.Walks.{walk_below, walk, changed_at};
 ghost use Rattle.odb_tree.specs.WalkLaws.{NoneAbove, OneAt, below_dirs};
 
 /// In a directory that is not above a new row the walk stays as it was.
@@ -30,4 +36,24 @@ pub fn removal_keeps_places()
 /// Where the value of a row is changed, that row and all others keep their places.
 pub fn change_keeps_places()
     ensures { (depth : ℕ) (rows : List Row) (p : List (List ℕ)) (f : Held → Held) (q : List (List ℕ)) → OneAt p rows → walk_below depth (change_at rows p f) q ≡ map (changed_at p f) (walk_below depth rows q) }
+{}
+
+/// The new database is a tree, and each legal history keeps a tree.
+pub fn trees_stay()
+    ensures begins { IsTree no_rows }
+    ensures after { (s : Rows) (entry : DatabaseEntry) → IsTree s → IsReply s entry → IsTree (rows_after s entry) }
+    ensures stays { (s : Rows) (history : List (ℕ × DatabaseEntry)) → IsTree s → IsLegal s history → IsTree (replay s history) }
+{}
+
+/// After `delete` the walk is as it was, but without the row and what is below it.
+pub fn walk_after_delete()
+    ensures { (s : Rows) (p : List (List ℕ)) → walk (after_delete s p) ≡ rows_outside (walk s) p }
+{}
+
+/// After a change of values in a tree the walk is as it was, but for the value of the one row at the path.
+pub fn walk_after_change()
+    ensures apart { (s : Rows) (p : List (List ℕ)) → IsTree s → OneAt p s.rows }
+    ensures set { (s : Rows) (p : List (List ℕ)) (index : ℕ) (item : Item) → IsTree s → walk (after_set s p index item) ≡ map (changed_at p (λ v. put_in v index item)) (walk s) }
+    ensures set_all { (s : Rows) (p : List (List ℕ)) (v : Held) → IsTree s → row_at s.rows p ≢ None → walk (after_set_all s p v) ≡ map (changed_at p (λ _. v)) (walk s) }
+    ensures resize { (s : Rows) (p : List (List ℕ)) (len : ℕ) → IsTree s → walk (after_resize s p len) ≡ map (changed_at p (λ v. resized v len)) (walk s) }
 {}
