@@ -33,7 +33,7 @@ unfolding AreShort
 short_push n [] new h k = (k, tt)
 short_push n (r ∷ rs) new h k = (h.0, short_push n rs new h.1 k)
 
-short_more : (n m : ℕ) (rows : List Row) → n ≤ m → AreShort n rows → AreShort m rows
+pub short_more : (n m : ℕ) (rows : List Row) → n ≤ m → AreShort n rows → AreShort m rows
 unfolding AreShort
 short_more n m [] l h = tt
 short_more n m (r ∷ rs) l h = (omega (arith, l, h.0), short_more n m rs l h.1)

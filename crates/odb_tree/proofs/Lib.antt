@@ -6,3 +6,4 @@ pub mod CallLemmas
 pub mod Trees
 pub mod Kept
 pub mod Changed
+pub mod Placed

@@ -13,7 +13,7 @@ use Rattle.odb_tree.specs.Trees.{HasDir, IsDir, IsPlaced, ArePlaced, AreApart, A
 
 -- paths
 
-name_sym : (a b : List ℕ) → same_name a b ≡ true → same_name b a ≡ true
+pub name_sym : (a b : List ℕ) → same_name a b ≡ true → same_name b a ≡ true
 name_sym a b h = let ab = names_decide a b in let ba = names_decide b a in ba.1 (sym (ab.0 h))
 
 name_refl : (a : List ℕ) → same_name a a ≡ true
@@ -188,7 +188,7 @@ placed_more before [] new h k = (subst (λ (l : List Row). IsPlaced l new.path) 
 placed_more before (r ∷ rs) new h k =
     (h.0, placed_more (before ++ r ∷ []) rs new h.1 (subst (λ (l : List Row). IsPlaced l new.path) (sym (append_assoc before (r ∷ []) rs)) k))
 
-filter_at : (test : Row → Bool) (front : List Row) (d : Row) (back : List Row) → test d ≡ true → filter test (front ++ d ∷ back) ≡ filter test front ++ d ∷ filter test back
+pub filter_at : (test : Row → Bool) (front : List Row) (d : Row) (back : List Row) → test d ≡ true → filter test (front ++ d ∷ back) ≡ filter test front ++ d ∷ filter test back
 filter_at test front d back h =
     filter_append test front (d ∷ back) ∙ ap (λ (t : Bool). filter test front ++ cond t (d ∷ filter test back) (filter test back)) h
 

@@ -50,7 +50,7 @@ and_false true = refl
 and_false false = refl
 
 -- a row that is not below a directory is not listed there
-not_listed : (keys : Bool) (p : List (List ℕ)) (r : Row) → is_front p r.path ≡ false → is_listed keys p r ≡ false
+pub not_listed : (keys : Bool) (p : List (List ℕ)) (r : Row) → is_front p r.path ≡ false → is_listed keys p r ≡ false
 not_listed keys p r h =
     ap (λ (t : Bool). is_kind keys r && ((length r.path == length p + 1) && t)) h
     ∙ (ap (λ (t : Bool). is_kind keys r && t) (and_false (length r.path == length p + 1)) ∙ and_false (is_kind keys r))

@@ -1,10 +1,13 @@
 //! Laws of the walk through the database, over its definitions alone.
-ghost use Rattle.std.specs.Prelude.{◌≡◌, ◌≢◌, ℕ, suc, None, List, [], ◌∷◌, ◌++◌, map, true, false};
-ghost use Rattle.odb_path.specs.Paths.{is_front};
+ghost use Rattle.std.specs.Prelude.{◌≡◌, ◌≢◌, ℕ, suc, None, List, [], ◌∷◌, ◌++◌, map, true, false, ◌≤◌, length, Some, Ok};
+ghost use Rattle.odb_path.specs.Paths.{is_front, depth_limit};
 ghost use Rattle.odb_tree.specs.declared.rows.Row.{Row};
-ghost use Rattle.odb_tree.specs.Trees.{IsTree};
+ghost use Rattle.odb_tree.specs.Trees.{IsTree, with_rows};
 ghost use Rattle.odb_tree.specs.declared.entry.DatabaseEntry.{DatabaseEntry};
-ghost use Rattle.odb_tree.specs.Calls.{IsReply, rows_after, after_delete, after_set, after_set_all, after_resize};
+ghost use Rattle.odb_tree.specs.declared.entry.DatabaseEntry.TheVariants.{Create, SetAll};
+ghost use Rattle.odb_tree.specs.declared.rows.NewKey.{NewKey};
+ghost use Rattle.odb_tree.specs.Places.{AreInserted, made_for};
+ghost use Rattle.odb_tree.specs.Calls.{IsReply, rows_after, after_delete, after_set, after_set_all, after_resize, after_create, new_value};
 ghost use Rattle.odb_tree.specs.Histories.{IsLegal, replay};
 ghost use Rattle.odb_tree.specs.Rows.{Rows, no_rows, is_listed, keys_in, dirs_in, rows_outside, change_at, row_at};
 ghost use Rattle.odb_value.specs.declared.items.Item.{Item};
@@ -56,4 +59,18 @@ pub fn walk_after_change()
     ensures set { (s : Rows) (p : List (List ℕ)) (index : ℕ) (item : Item) → IsTree s → walk (after_set s p index item) ≡ map (changed_at p (λ v. put_in v index item)) (walk s) }
     ensures set_all { (s : Rows) (p : List (List ℕ)) (v : Held) → IsTree s → row_at s.rows p ≢ None → walk (after_set_all s p v) ≡ map (changed_at p (λ _. v)) (walk s) }
     ensures resize { (s : Rows) (p : List (List ℕ)) (len : ℕ) → IsTree s → walk (after_resize s p len) ≡ map (changed_at p (λ v. resized v len)) (walk s) }
+{}
+
+/// In a tree the rows that `create` makes, the missing directories from the top and then the row, come into the walk
+/// one after the other: a key right behind the keys of its directory, a directory right behind everything below its
+/// parent. All other rows keep their places. A path has at most 32 names.
+pub fn walk_after_create()
+    ensures inserted { (s : Rows) (p : List (List ℕ)) (kind : NewKey) (number : ℕ) → IsTree s → length p ≤ depth_limit → IsReply s (Create p kind (Ok number)) → AreInserted s (made_for s p (new_value kind)) }
+    ensures rows { (s : Rows) (p : List (List ℕ)) (kind : NewKey) → after_create s p kind ≡ with_rows s (made_for s p (new_value kind)) }
+{}
+
+/// In a tree the rows that `set_all` makes where there is no row come into the walk just like those of `create`.
+pub fn walk_after_set_all()
+    ensures inserted { (s : Rows) (p : List (List ℕ)) (v : Held) (number : ℕ) → IsTree s → length p ≤ depth_limit → IsReply s (SetAll p v (Ok number)) → row_at s.rows p ≡ None → AreInserted s (made_for s p (Some v)) }
+    ensures rows { (s : Rows) (p : List (List ℕ)) (v : Held) → row_at s.rows p ≡ None → after_set_all s p v ≡ with_rows s (made_for s p (Some v)) }
 {}
