@@ -18,28 +18,21 @@ use Rattle.odb_tree.specs.Limits.{limit_fault}
 use Rattle.odb_tree.specs.Calls.{IsReply, rows_after, reply_or, exists_fault, kept_fault, items_fault, create_fault, create_reply, after_create, value_fault, set_all_fault, set_all_reply, after_set_all, after_set_all_at, number_at, new_value}
 use Rattle.odb_tree.specs.Histories.{IsLegal, replay}
 use Rattle.odb_tree.specs.WalkLaws.{not_true, NoneAt}
-use Rattle.odb_tree.specs.Trees.{HasDir, IsDir, IsTree, with_rows, IsNew, AreNew}
+use Rattle.odb_tree.specs.Trees.{HasDir, IsDir, IsTree, with_rows, IsNew, AreNew, AreShort}
 use Rattle.odb_tree.specs.Places.{made_for}
 use Rattle.odb_tree.proofs.Limited.{or_none_left, or_none_right}
 use Rattle.odb_tree.proofs.Trees.{same_long, same_sym, same_add, none_append, none_same, none_there, is_dir_append, tree_with, tree_outside, tree_changed, with_more, same_rows}
 
--- rows that have no more names than so many
-unfoldable pub AreShort : ℕ → List Row → Type 0
-AreShort n [] = Unit {0}
-AreShort n (r ∷ rs) = (length r.path ≤ n) × AreShort n rs
-
 short_push : (n : ℕ) (rows : List Row) (new : Row) → AreShort n rows → length new.path ≤ n → AreShort n (rows ++ new ∷ [])
-unfolding AreShort
 short_push n [] new h k = (k, tt)
 short_push n (r ∷ rs) new h k = (h.0, short_push n rs new h.1 k)
 
 pub short_more : (n m : ℕ) (rows : List Row) → n ≤ m → AreShort n rows → AreShort m rows
-unfolding AreShort
 short_more n m [] l h = tt
 short_more n m (r ∷ rs) l h = (omega (arith, l, h.0), short_more n m rs l h.1)
 
 short_none : (n : ℕ) (p : List (List ℕ)) (rows : List Row) → AreShort n rows → n < length p → NoneAt p rows
-unfolding AreShort NoneAt
+unfolding NoneAt
 short_none n p [] h l = tt
 short_none n p (r ∷ rs) h l =
     (not_true (same_path r.path p) (λ e. absurd (omega (arith, same_long r.path p e, h.0, l))), short_none n p rs h.1 l)
@@ -120,7 +113,6 @@ way_on s reached (name ∷ names) way clear h =
     (way_further s reached name way o refl (or_none_left (obstacle_at None o) (obstacle_from None s.rows (reached ++ name ∷ []) names) clear) h))
 
 on_no_way : (s : Rows) → IsOnWay s [] no_way
-unfolding AreShort
 on_no_way s = record { made = tt; there = inl refl; same = refl; short = tt }
 
 on_way : (s : Rows) (p : List (List ℕ)) → obstacle_to_new s.rows p ≡ None → IsOnWay s (parent_of p) (way_to s p)

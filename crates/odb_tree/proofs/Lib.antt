@@ -7,3 +7,5 @@ pub mod Trees
 pub mod Kept
 pub mod Changed
 pub mod Placed
+pub mod Whole
+pub mod Short

@@ -10,10 +10,10 @@ use Rattle.odb_tree.specs.Calls.{create_reply, after_create, new_value, set_all_
 use Rattle.odb_tree.specs.Rows.{Rows, row_at, is_key, is_kind, is_child, is_listed, keys_in, dirs_in}
 use Rattle.odb_tree.specs.Walks.{walk_below, walk}
 use Rattle.odb_tree.specs.WalkLaws.{and_left, and_right, both, name_trans, front_trans, not_true, true_false, not_listed, listed_same, walk_elsewhere, same_beside, flat_map_append, walk_is, walk_new_key, walk_new_dir, below_dirs, NoneAt, NoneAbove}
-use Rattle.odb_tree.specs.Trees.{HasDir, IsDir, IsPlaced, ArePlaced, AreApart, IsTree, with_rows, IsNew, AreNew}
+use Rattle.odb_tree.specs.Trees.{HasDir, IsDir, IsPlaced, ArePlaced, AreApart, IsTree, with_rows, IsNew, AreNew, AreShort}
 use Rattle.odb_tree.specs.Places.{BeginsAt, stands_behind, IsInserted, AreInserted, made_for}
 use Rattle.odb_tree.proofs.Trees.{front_more, front_short, front_within, long_same, same_front, same_refl, other_sym, is_dir_append, filter_at, tree_more, name_sym}
-use Rattle.odb_tree.proofs.Kept.{AreShort, short_more, create_makes, set_all_makes, created_with}
+use Rattle.odb_tree.proofs.Kept.{short_more, create_makes, set_all_makes, created_with}
 
 -- two paths of one length that are both above a path are the same
 fronts_agree : (p q r : List (List ℕ)) → length p ≡ length q → is_front p r ≡ true → is_front q r ≡ true → is_front p q ≡ true
@@ -50,7 +50,7 @@ none_above keys q d new (r ∷ rs) none front long =
     kept false xs e h = h
 
 -- rows on both sides of one
-none_around : (front : List Row) (d : Row) (back : List Row) → AreApart (front ++ d ∷ back) → NoneAt d.path front × NoneAt d.path back
+pub none_around : (front : List Row) (d : Row) (back : List Row) → AreApart (front ++ d ∷ back) → NoneAt d.path front × NoneAt d.path back
 unfolding NoneAt
 none_around [] d back h = (tt, h.0)
 none_around (r ∷ rs) d back h = let rest = none_around rs d back h.1 in ((other_sym d.path r.path (at rs d back h.0), rest.0), rest.1)
@@ -248,7 +248,7 @@ none_new s new p name path free =
 some_names : (q p : List (List ℕ)) (name : List ℕ) → q ≡ p ++ name ∷ [] → 0 < length q
 some_names q p name path = omega (arith, ap (λ (t : List (List ℕ)). length t) path, length-append p (name ∷ []))
 
-insert_at : (k : Bool) (s : Rows) (new : Row) (left : ℕ) (at : IsPlaced s.rows new.path) → is_key new ≡ k → IsTree s → NoneAt new.path s.rows → suc left ≡ depth_limit - length at.parent
+insert_at : (k : Bool) (s : Rows) (new : Row) (left : ℕ) (at : IsPlaced s.rows new.path) → is_key new ≡ k → ArePlaced [] s.rows → NoneAt new.path s.rows → suc left ≡ depth_limit - length at.parent
     → IsPart depth_limit (suc left) s.rows (s.rows ++ new ∷ []) at.parent → IsInserted s new
 unfolding walk below_dirs NoneBelow
 insert_at true s new left at kind tree free total part =
@@ -269,7 +269,7 @@ insert_at true s new left at kind tree free total part =
 insert_at false s new left at kind tree free total part =
     let listed : is_listed false at.parent new ≡ true = listed_new false new at.parent at.name at.path (ap not kind) in
     let empty : walk_below left (s.rows ++ new ∷ []) new.path ≡ [] =
-    empty_below left s.rows new (none_below new.path [] s.rows (some_names new.path at.parent at.name at.path) tt tree.placed free) in record {
+    empty_below left s.rows new (none_below new.path [] s.rows (some_names new.path at.parent at.name at.path) tt tree free) in record {
       parent = at.parent;
       name = at.name;
       path = at.path;
@@ -284,19 +284,20 @@ insert_at false s new left at kind tree free total part =
           ∙ ap (λ (t : Bool). part.front ++ (stands_behind t s.rows at.parent ++ new ∷ part.rest)) (sym kind))));
     }
 
--- a row that may be made next is inserted in its place
-pub inserted : (s : Rows) (new : Row) → IsTree s → IsNew s new → length new.path ≤ depth_limit → IsInserted s new
-inserted s new tree h deep =
-    let at : IsPlaced s.rows new.path = h.placed in
+pub inserted_in : (s : Rows) (new : Row) → ArePlaced [] s.rows → AreApart s.rows → IsPlaced s.rows new.path → NoneAt new.path s.rows → length new.path ≤ depth_limit → IsInserted s new
+inserted_in s new placed apart at free deep =
     let long : length new.path ≡ length at.parent + 1 = ap (λ (t : List (List ℕ)). length t) at.path ∙ omega (arith, length-append at.parent (at.name ∷ [])) in
     let left : ℕ = 31 - length at.parent in
     let total : suc left + length at.parent ≡ depth_limit = omega (arith, long, deep) in
-    insert_at (is_key new) s new left at refl tree h.free (omega (arith, total))
-    (part_of (length at.parent) (suc left) depth_limit s.rows new at.parent tree.placed tree.apart at.there refl total
+    insert_at (is_key new) s new left at refl placed free (omega (arith, total))
+    (part_of (length at.parent) (suc left) depth_limit s.rows new at.parent placed apart at.there refl total
     (subst (λ (t : List (List ℕ)). is_front at.parent t ≡ true) (sym at.path) (front_more at.parent (at.name ∷ []))) (omega (arith, long)))
 
+-- a row that may be made next is inserted in its place
+pub inserted : (s : Rows) (new : Row) → IsTree s → IsNew s new → length new.path ≤ depth_limit → IsInserted s new
+inserted s new tree h deep = inserted_in s new tree.placed tree.apart h.placed h.free deep
+
 pub all_inserted : (s : Rows) (made : List Row) → IsTree s → AreNew s made → AreShort depth_limit made → AreInserted s made
-unfolding AreShort
 all_inserted s [] tree h short = tt
 all_inserted s (new ∷ made) tree h short =
     (inserted s new tree h.0 short.0, all_inserted (with_rows s (new ∷ [])) made (tree_more s new tree h.0) h.1 short.1)

@@ -121,7 +121,7 @@ unfolding OneAt
 one_at [] p h = tt
 one_at (r ∷ rs) p h = (λ e. none_same r.path p rs e h.0, one_at rs p h.1)
 
-apart_more : (rows : List Row) (new : Row) → AreApart rows → NoneAt new.path rows → AreApart (rows ++ new ∷ [])
+pub apart_more : (rows : List Row) (new : Row) → AreApart rows → NoneAt new.path rows → AreApart (rows ++ new ∷ [])
 unfolding NoneAt
 apart_more [] new h free = (tt, tt)
 apart_more (r ∷ rs) new h free = (none_append r.path rs (new ∷ []) h.0 (other_sym r.path new.path free.0, tt), apart_more rs new h.1 free.1)
@@ -183,7 +183,7 @@ pub is_dir_append : (xs ys : List Row) (p : List (List ℕ)) → IsDir xs p → 
 is_dir_append xs ys p (inl root) = inl root
 is_dir_append xs ys p (inr has) = inr (dir_append xs ys p has)
 
-placed_more : (before rows : List Row) (new : Row) → ArePlaced before rows → IsPlaced (before ++ rows) new.path → ArePlaced before (rows ++ new ∷ [])
+pub placed_more : (before rows : List Row) (new : Row) → ArePlaced before rows → IsPlaced (before ++ rows) new.path → ArePlaced before (rows ++ new ∷ [])
 placed_more before [] new h k = (subst (λ (l : List Row). IsPlaced l new.path) (append-nil before) k, tt)
 placed_more before (r ∷ rs) new h k =
     (h.0, placed_more (before ++ r ∷ []) rs new h.1 (subst (λ (l : List Row). IsPlaced l new.path) (sym (append_assoc before (r ∷ []) rs)) k))

@@ -11,3 +11,4 @@ pub mod Walks
 pub mod WalkLaws
 pub mod Trees
 pub mod Places
+pub mod ShortPaths

@@ -62,3 +62,8 @@ pub record IsNew (s : Rows) (new : Row) : Type 0 where
 abbrev pub AreNew : Rows → (made : List Row) → Type 0
 AreNew s [] = Unit {0}
 AreNew s (new ∷ made) = IsNew s new × AreNew (with_rows s (new ∷ [])) made
+
+-- no path of these rows has more names than so many
+abbrev pub AreShort : ℕ → List Row → Type 0
+AreShort most [] = Unit {0}
+AreShort most (r ∷ rs) = (length r.path ≤ most) × AreShort most rs

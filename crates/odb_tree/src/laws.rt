@@ -1,13 +1,14 @@
 //! Laws of the walk through the database, over its definitions alone.
-ghost use Rattle.std.specs.Prelude.{◌≡◌, ◌≢◌, ℕ, suc, None, List, [], ◌∷◌, ◌++◌, map, true, false, ◌≤◌, length, Some, Ok};
+ghost use Rattle.std.specs.Prelude.{◌≡◌, ◌≢◌, ℕ, suc, None, List, [], ◌∷◌, ◌++◌, map, true, false, ◌≤◌, length, Some, Ok, IsPermutation};
 ghost use Rattle.odb_path.specs.Paths.{is_front, depth_limit};
 ghost use Rattle.odb_tree.specs.declared.rows.Row.{Row};
-ghost use Rattle.odb_tree.specs.Trees.{IsTree, with_rows};
+ghost use Rattle.odb_tree.specs.Trees.{IsTree, AreShort, with_rows};
 ghost use Rattle.odb_tree.specs.declared.entry.DatabaseEntry.{DatabaseEntry};
 ghost use Rattle.odb_tree.specs.declared.entry.DatabaseEntry.TheVariants.{Create, SetAll};
 ghost use Rattle.odb_tree.specs.declared.rows.NewKey.{NewKey};
 ghost use Rattle.odb_tree.specs.Places.{AreInserted, made_for};
 ghost use Rattle.odb_tree.specs.Calls.{IsReply, rows_after, after_delete, after_set, after_set_all, after_resize, after_create, new_value};
+ghost use Rattle.odb_tree.specs.ShortPaths.{HasShortPath, HaveShortPaths};
 ghost use Rattle.odb_tree.specs.Histories.{IsLegal, replay};
 ghost use Rattle.odb_tree.specs.Rows.{Rows, no_rows, is_listed, keys_in, dirs_in, rows_outside, change_at, row_at};
 ghost use Rattle.odb_value.specs.declared.items.Item.{Item};
@@ -73,4 +74,17 @@ pub fn walk_after_create()
 pub fn walk_after_set_all()
     ensures inserted { (s : Rows) (p : List (List ℕ)) (v : Held) (number : ℕ) → IsTree s → length p ≤ depth_limit → IsReply s (SetAll p v (Ok number)) → row_at s.rows p ≡ None → AreInserted s (made_for s p (Some v)) }
     ensures rows { (s : Rows) (p : List (List ℕ)) (v : Held) → row_at s.rows p ≡ None → after_set_all s p v ≡ with_rows s (made_for s p (Some v)) }
+{}
+
+/// The walk through a tree whose paths have at most 32 names has the rows of the database, each once, and so at most
+/// one row at a path.
+pub fn walk_has_all_rows()
+    ensures rows { (s : Rows) → IsTree s → AreShort depth_limit s.rows → IsPermutation (walk s) s.rows }
+    ensures one { (s : Rows) (p : List (List ℕ)) → IsTree s → AreShort depth_limit s.rows → OneAt p (walk s) }
+{}
+
+/// Paths of at most 32 names stay so with calls that have such paths.
+pub fn paths_stay_short()
+    ensures after { (s : Rows) (entry : DatabaseEntry) → AreShort depth_limit s.rows → HasShortPath entry → IsReply s entry → AreShort depth_limit (rows_after s entry).rows }
+    ensures stays { (s : Rows) (history : List (ℕ × DatabaseEntry)) → AreShort depth_limit s.rows → HaveShortPaths history → IsLegal s history → AreShort depth_limit (replay s history).rows }
 {}
