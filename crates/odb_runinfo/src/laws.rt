@@ -1,8 +1,9 @@
-//! The run number is there throughout a session.
+//! The run number is there throughout a session, and its database stays a tree.
+ghost use Rattle.odb_tree.specs.Trees.{IsTree};
 ghost use Rattle.std.specs.Prelude.{◌≡◌, ℕ, List, Ok};
 ghost use Rattle.odb_tree.specs.declared.entry.DatabaseEntry.{DatabaseEntry};
 ghost use Rattle.odb_tree.specs.Rows.{Rows};
-ghost use Rattle.odb_tree.specs.Histories.{replay};
+ghost use Rattle.odb_tree.specs.Histories.{IsLegal, replay};
 ghost use Rattle.odb_tree.specs.Calls.{get_reply};
 ghost use Rattle.odb_runinfo.specs.declared.keys.RunKey.TheVariants.{RunNumber};
 ghost use Rattle.odb_runinfo.specs.RunKeys.{key_path, session_rows};
@@ -21,4 +22,10 @@ pub fn run_number_opens()
 /// Where the run number is there, a `get` of it gives its value.
 pub fn run_number_given()
     ensures { (s : Rows) (has : HasRunNumber s.rows) → get_reply s (key_path RunNumber) ≡ Ok has.held }
+{}
+
+/// The database with which a session opens is a tree, and each legal history of calls keeps a tree.
+pub fn tree_opens()
+    ensures opens { IsTree session_rows }
+    ensures stays { (history : List (ℕ × DatabaseEntry)) → IsLegal session_rows history → IsTree (replay session_rows history) }
 {}
