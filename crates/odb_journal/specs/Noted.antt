@@ -1,5 +1,5 @@
 -- A database with the journal of its calls.
-use Rattle.std.specs.Prelude.{◌≡◌, ℕ, ◌+◌, ◌≤◌, List, [], ◌∷◌, ◌++◌}
+use Rattle.std.specs.Prelude.{◌≡◌, ℕ, ◌+◌, ◌≤◌, List, [], ◌∷◌, ◌++◌, map}
 use Rattle.odb_tree.specs.declared.entry.DatabaseEntry.{DatabaseEntry}
 use Rattle.odb_tree.specs.Rows.{Rows}
 use Rattle.odb_tree.specs.Calls.{IsReply, rows_after}
@@ -39,3 +39,12 @@ pub record Grows (p q : Noted) (more : List (ℕ × DatabaseEntry)) : Type 0 whe
   pub start : q.start ≡ p.start
   pub history : q.history ≡ p.history ++ more
   pub rows : q.rows ≡ replay p.rows more
+
+-- calls of the main thread, caller 0
+abbrev pub by_main : List DatabaseEntry → List (ℕ × DatabaseEntry)
+by_main calls = map (λ (entry : DatabaseEntry). (0, entry)) calls
+
+-- the main thread made some calls more, and nobody else
+pub record GoesOn (p q : Noted) : Type 0 where
+  pub calls : List DatabaseEntry
+  pub grows : Grows p q (by_main calls)
