@@ -1,3 +1,4 @@
 pub mod RunKeys
 pub mod RunSets
 pub mod RunNumberKept
+pub mod RunSetLaws

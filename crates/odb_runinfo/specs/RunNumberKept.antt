@@ -6,7 +6,6 @@ use Rattle.std.proofs.Common.{ap, ◌∙◌, sym, inl, inr, Decides}
 use Rattle.std.proofs.lemmas.Bool.{false≢true}
 use Rattle.std.proofs.lemmas.Slice.Eq.{slice_eq-Decides}
 use Rattle.std.proofs.lemmas.Bool.Decides.{Decides-eqb}
-use Rattle.daq_types.specs.declared.types.Tid.{Tid}
 use Rattle.daq_types.specs.declared.types.Tid.TheVariants as tid
 use Rattle.odb_path.specs.Paths.{same_name, is_front, same_path}
 use Rattle.odb_value.specs.declared.items.Item.TheVariants.{Int32}

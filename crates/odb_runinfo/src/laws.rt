@@ -1,6 +1,6 @@
 //! The run number is there throughout a session, and its database stays a tree.
 ghost use Rattle.odb_tree.specs.Trees.{IsTree};
-ghost use Rattle.std.specs.Prelude.{◌≡◌, ℕ, List, Ok};
+ghost use Rattle.std.specs.Prelude.{◌≡◌, ℕ, List, ◌++◌, Ok};
 ghost use Rattle.odb_tree.specs.declared.entry.DatabaseEntry.{DatabaseEntry};
 ghost use Rattle.odb_tree.specs.Rows.{Rows};
 ghost use Rattle.odb_tree.specs.Histories.{IsLegal, replay};
@@ -8,6 +8,7 @@ ghost use Rattle.odb_tree.specs.Calls.{get_reply};
 ghost use Rattle.odb_runinfo.specs.declared.keys.RunKey.TheVariants.{RunNumber};
 ghost use Rattle.odb_runinfo.specs.RunKeys.{key_path, session_rows};
 ghost use Rattle.odb_runinfo.specs.RunNumberKept.{AllSpareRuninfo, HasRunNumber};
+ghost use Rattle.odb_runinfo.specs.RunSets.{Assignment, assignments, front_made, number_got};
 
 /// After any calls that replace no whole value and remove nothing below `/Runinfo`, the run number is there, an INT32.
 pub fn run_number_stays()
@@ -28,4 +29,16 @@ pub fn run_number_given()
 pub fn tree_opens()
     ensures opens { IsTree session_rows }
     ensures stays { (history : List (ℕ × DatabaseEntry)) → IsLegal session_rows history → IsTree (replay session_rows history) }
+{}
+
+/// The session's own calls replace no whole value and remove nothing below `/Runinfo`.
+pub fn own_calls_spare()
+    ensures sets { (s : Rows) (sets : List Assignment) → AllSpareRuninfo (assignments s sets) }
+    ensures front { (s : Rows) (front : List ℕ) → AllSpareRuninfo (front_made s front) }
+    ensures number { (s : Rows) → AllSpareRuninfo (number_got s) }
+{}
+
+/// Assignments in two parts are those of the first part, and then those of the second.
+pub fn assignments_follow()
+    ensures { (s : Rows) (some more : List Assignment) → assignments s (some ++ more) ≡ assignments s some ++ assignments (replay s (assignments s some)) more }
 {}

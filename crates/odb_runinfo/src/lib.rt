@@ -1,5 +1,5 @@
 //! The run's parameters in the online database: the keys of `/Runinfo`, with which a session's database opens, the
-//! number of the next run, and what a start writes before the run begins.
+//! number of the next run, and what a start and a stop of a run set, for which no memory is taken once the run begins.
 #![tactic(auto)]
 
 mod keys;
@@ -12,5 +12,8 @@ mod tests;
 
 pub use keys::{RunKey, sent_path};
 pub use opening::open;
-pub use paths::RunPaths;
-pub use sets::{RunNumber, next_run, set_signed, set_start, set_unsigned};
+pub use paths::{RunPaths, StartPaths, StartedPaths, StoppedPaths, StoppingPaths};
+pub use sets::{
+    RunNumber, START_CALLS, STOP_CALLS, next_run, open_front, set_refused, set_start, set_started,
+    set_stopped, set_stopping,
+};

@@ -1,5 +1,5 @@
 ghost use Rattle.std.specs.Prelude.{◌≡◌, IfOk};
-ghost use Rattle.odb_runinfo.specs.declared.keys.RunKey.TheVariants.{State, RunNumber, StopTime};
+ghost use Rattle.odb_runinfo.specs.declared.keys.RunKey.TheVariants.{State, RunNumber, StartTime, StopTime};
 ghost use Rattle.odb_runinfo.specs.RunKeys.{key_path, sent_path};
 
 use crate::keys::{RunKey, sent_path};
@@ -7,33 +7,112 @@ use daq_types::{Name, NoMemory};
 use odb_path::Path;
 use std::alloc::Global;
 
-/// The paths of what is set in a run after it was begun. They are made before, so that these sets, for which the journal
-/// has room by then, take no memory.
+/// The paths of what a start sets before its run begins.
+#[derive(Drop)]
+pub struct StartPaths {
+    pub state: Path,
+    pub run_number: Path,
+    pub start_time: Path,
+    pub stop_time: Path,
+    ghost state_is: { state ≡ key_path State },
+    ghost run_number_is: { run_number ≡ key_path RunNumber },
+    ghost start_time_is: { start_time ≡ key_path StartTime },
+    ghost stop_time_is: { stop_time ≡ key_path StopTime },
+}
+
+/// The paths of what is set at the end of a start that came about.
+#[derive(Drop)]
+pub struct StartedPaths {
+    /// The front-end.
+    pub front: Name,
+    pub sent: Path,
+    pub state: Path,
+    ghost sent_is: { sent ≡ sent_path front },
+    ghost state_is: { state ≡ key_path State },
+}
+
+/// The paths of what is set at the beginning of a stop.
+#[derive(Drop)]
+pub struct StoppingPaths {
+    pub state: Path,
+    pub stop_time: Path,
+    ghost state_is: { state ≡ key_path State },
+    ghost stop_time_is: { stop_time ≡ key_path StopTime },
+}
+
+/// The paths of what is set at the end of a stop.
+#[derive(Drop)]
+pub struct StoppedPaths {
+    /// The front-end.
+    pub front: Name,
+    pub sent: Path,
+    pub state: Path,
+    ghost sent_is: { sent ≡ sent_path front },
+    ghost state_is: { state ≡ key_path State },
+}
+
+/// The paths of all that a run's start and stop set. They are made before the run begins, so that these sets, for which
+/// the journal has room by then, take no memory.
 #[derive(Drop)]
 pub struct RunPaths {
     /// The front-end.
     pub front: Name,
-    /// The state, at the end of the start.
-    pub started: Path,
-    /// The run number, at the end of a start that is refused.
+    pub start: StartPaths,
+    pub started: StartedPaths,
+    /// The run number, which is set back where the start is refused.
     pub refused: Path,
-    /// What the front-end sent, at its start.
-    pub none_sent: Path,
-    /// What the front-end sent, at its stop.
-    pub all_sent: Path,
-    /// The state, at the beginning of the stop.
-    pub stopping: Path,
-    /// The time of the stop.
-    pub stop_time: Path,
-    /// The state, at the end of the stop.
-    pub stopped: Path,
-    ghost started_is: { started ≡ key_path State },
+    pub stopping: StoppingPaths,
+    pub stopped: StoppedPaths,
+    ghost started_front: { started.front ≡ front },
     ghost refused_is: { refused ≡ key_path RunNumber },
-    ghost none_sent_is: { none_sent ≡ sent_path front },
-    ghost all_sent_is: { all_sent ≡ sent_path front },
-    ghost stopping_is: { stopping ≡ key_path State },
-    ghost stop_time_is: { stop_time ≡ key_path StopTime },
-    ghost stopped_is: { stopped ≡ key_path State },
+    ghost stopped_front: { stopped.front ≡ front },
+}
+
+impl StartPaths {
+    /// These paths.
+    pub fn new(alloc: Global) -> Result<StartPaths, NoMemory> {
+        let state = RunKey::State.path(alloc)?;
+        let run_number = RunKey::RunNumber.path(alloc)?;
+        let start_time = RunKey::StartTime.path(alloc)?;
+        let stop_time = RunKey::StopTime.path(alloc)?;
+        Ok(StartPaths {
+            state,
+            run_number,
+            start_time,
+            stop_time,
+        })
+    }
+}
+
+impl StartedPaths {
+    /// These paths, for a front-end of this name.
+    pub fn new(alloc: Global, front: Name) -> Result<StartedPaths, NoMemory>
+        ensures { IfOk result (λ paths. paths.front ≡ front) }
+    {
+        let sent = sent_path(alloc, front)?;
+        let state = RunKey::State.path(alloc)?;
+        Ok(StartedPaths { front, sent, state })
+    }
+}
+
+impl StoppingPaths {
+    /// These paths.
+    pub fn new(alloc: Global) -> Result<StoppingPaths, NoMemory> {
+        let state = RunKey::State.path(alloc)?;
+        let stop_time = RunKey::StopTime.path(alloc)?;
+        Ok(StoppingPaths { state, stop_time })
+    }
+}
+
+impl StoppedPaths {
+    /// These paths, for a front-end of this name.
+    pub fn new(alloc: Global, front: Name) -> Result<StoppedPaths, NoMemory>
+        ensures { IfOk result (λ paths. paths.front ≡ front) }
+    {
+        let sent = sent_path(alloc, front)?;
+        let state = RunKey::State.path(alloc)?;
+        Ok(StoppedPaths { front, sent, state })
+    }
 }
 
 impl RunPaths {
@@ -41,21 +120,17 @@ impl RunPaths {
     pub fn new(alloc: Global, front: Name) -> Result<RunPaths, NoMemory>
         ensures { IfOk result (λ paths. paths.front ≡ front) }
     {
-        let started = RunKey::State.path(alloc)?;
+        let start = StartPaths::new(alloc)?;
+        let started = StartedPaths::new(alloc, front)?;
         let refused = RunKey::RunNumber.path(alloc)?;
-        let none_sent = sent_path(alloc, front)?;
-        let all_sent = sent_path(alloc, front)?;
-        let stopping = RunKey::State.path(alloc)?;
-        let stop_time = RunKey::StopTime.path(alloc)?;
-        let stopped = RunKey::State.path(alloc)?;
+        let stopping = StoppingPaths::new(alloc)?;
+        let stopped = StoppedPaths::new(alloc, front)?;
         Ok(RunPaths {
             front,
+            start,
             started,
             refused,
-            none_sent,
-            all_sent,
             stopping,
-            stop_time,
             stopped,
         })
     }

@@ -1,0 +1,5 @@
+use Rattle.odb_runinfo.specs.RunSetLaws.{assignments_append}
+use Rattle.odb_runinfo.proofs.laws.assignments_follow.Goals as goal
+
+pub returns : goal.returns
+returns c = assignments_append

@@ -1,0 +1,11 @@
+use Rattle.odb_runinfo.specs.RunSetLaws.{assignments_spare, front_spares, number_spares}
+use Rattle.odb_runinfo.proofs.laws.own_calls_spare.Goals as goal
+
+pub returns-clause-sets : goal.returns-clause-sets
+returns-clause-sets c = assignments_spare
+
+pub returns-clause-front : goal.returns-clause-front
+returns-clause-front c = front_spares
+
+pub returns-clause-number : goal.returns-clause-number
+returns-clause-number c = number_spares
