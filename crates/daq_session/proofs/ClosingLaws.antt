@@ -9,29 +9,33 @@ use Rattle.std.specs.Io.KnownBytes.{Appends}
 use Rattle.daq_types.specs.declared.runs.Order.{Order}
 use Rattle.daq_io.specs.Counts.{Rose}
 use Rattle.daq_io.specs.Streams.{AppendsPart, Appends-trans, Appends-kept}
-use Rattle.odb_script.specs.declared.commands.Command.TheVariants.{Stop}
+use Rattle.odb_commands.specs.declared.replies.CommandReply.{CommandReply}
+use Rattle.odb_commands.specs.declared.replies.CommandReply.TheVariants.{Done, Key, One, Listed, Refused}
+use Rattle.odb_commands.specs.Texts.{reply_text, is_refusal as is_refused}
+use Rattle.odb_script.specs.declared.forms.Command.TheVariants.{Stop}
 use Rattle.daq_session.specs.declared.endings.Ending.{Ending}
 use Rattle.daq_session.specs.declared.endings.Ending.TheVariants.{End, TooLong, SourceFault, Halted}
 use Rattle.daq_session.specs.declared.halts.Halt.{Halt}
 use Rattle.daq_session.specs.declared.halts.Halt.TheVariants.{NoMemory, SinkFault, FileFault}
 use Rattle.daq_session.specs.declared.refusals.Refusals.{Refusals}
 use Rattle.daq_session.specs.declared.replies.Reply.{Reply}
-use Rattle.daq_session.specs.declared.replies.Reply.TheVariants.{Silent, BadCommand, WrongState, StartRefused, Started, Stopped as run_stopped}
+use Rattle.daq_session.specs.declared.replies.Reply.TheVariants.{Silent, BadCommand, WrongState, RunNumber, StartRefused, Started, Stopped as run_stopped, Database}
 use Rattle.daq_session.specs.declared.state.State.{State}
 use Rattle.daq_session.specs.declared.state.OpenRun.{OpenRun}
 use Rattle.odb_script.specs.Lines.{lines_of}
+use Rattle.odb_script.specs.Exits.{until_exit, all_first, first_until_exit}
 use Rattle.daq_session.specs.Console.{console_text, console_text-more, text_of, is_refusal, refused_lines, refused_lines-more}
 use Rattle.daq_session.specs.Refused.{Counts}
 use Rattle.daq_session.specs.RunRecords.{IsKept}
 use Rattle.daq_session.specs.Endings.{SinkCounts}
 use Rattle.daq_session.specs.Halts.{SinkBy}
-use Rattle.daq_session.specs.Stages.{Outset, Stage, Does}
+use Rattle.daq_session.specs.Stages.{Outset, Stage, Does, Interrupts}
 use Rattle.daq_session.specs.Standing.{order_in, stage_of, Answers}
-use Rattle.daq_session.specs.Playing.{Moment, AreLines, Wrote, Played, Prints}
+use Rattle.daq_session.specs.Playing.{AreLines, CutBy, Wrote, Played, Prints}
 use Rattle.daq_session.specs.Sessions.{IsPlayed}
 use Rattle.daq_session.specs.Closing.{prints, earlier, Finished}
-use Rattle.daq_session.proofs.PlayingLaws.{wrote_whole}
-use Rattle.daq_session.proofs.PlayingEnds.{all_taken}
+use Rattle.daq_session.proofs.GivenLines.{given_first}
+use Rattle.daq_session.proofs.PlayingLaws.{interrupts_none, wrote_whole}
 
 -- What was written.
 
@@ -70,13 +74,22 @@ part_behind FileFault first old new text more before here = absurd here
 
 -- The replies.
 
+reply_same : (reply : CommandReply) (one other : ℕ) → is_refused reply ≡ false → reply_text one reply ≡ reply_text other reply
+reply_same Done one other accepted = refl
+reply_same (Key p value) one other accepted = refl
+reply_same (One item) one other accepted = refl
+reply_same (Listed children) one other accepted = refl
+reply_same (Refused why) one other accepted = absurd (cc)
+
 text_same : (reply : Reply) (one other : ℕ) → is_refusal reply ≡ false → text_of one reply ≡ text_of other reply
 text_same Silent one other accepted = refl
 text_same (BadCommand at) one other accepted = absurd (cc)
 text_same (WrongState state) one other accepted = absurd (cc)
+text_same (RunNumber have) one other accepted = absurd (cc)
 text_same (StartRefused client why) one other accepted = absurd (cc)
 text_same (Started run) one other accepted = refl
 text_same (run_stopped run front file) one other accepted = refl
+text_same (Database reply) one other accepted = reply_same reply one other accepted
 
 text_more : (replies : List Reply) (reply : Reply) → is_refusal reply ≡ false → console_text 1 replies ++ text_of 0 reply ≡ console_text 1 (replies ++ reply ∷ [])
 text_more replies reply accepted = ap (λ (text : List ℕ). console_text 1 replies ++ text) (text_same reply 0 (1 + length replies) accepted) ∙ sym (console_text-more 1 replies reply)
@@ -87,62 +100,70 @@ counts_accepted replies reply refusals accepted counts =
 
 -- The stop at the end.
 
+closes_none : (o : Outset) (on : Option OpenRun) (s : Stage) → on ≡ None → MatchOption (order_in on) (s ≡ s) (λ (order : Order). Does o s (Ok Stop) s)
+closes_none o on s idle = subst (λ (run : Option OpenRun). MatchOption (order_in run) (s ≡ s) (λ (order : Order). Does o s (Ok Stop) s)) (sym idle) refl
+
 closes_some : (o : Outset) (on : Option OpenRun) (old new : Stage) → IsSome on → Does o old (Ok Stop) new → MatchOption (order_in on) (new ≡ old) (λ (order : Order). Does o old (Ok Stop) new)
 closes_some o None old new some does = absurd (cc)
 closes_some o (Some run) old new some does = does
 
-stopped : (o : Outset) (lines : List (List ℕ)) (replies : List Reply) (reply : Reply) (old new : State) (before after : Outset) (refusals : Refusals)
-    → Moment o lines replies old before refusals → IsSome old.current → Answers (Ok Stop) reply old new before after → new.current ≡ None → IsPlayed o after lines (replies ++ reply ∷ []) new.runs.items
-stopped o lines replies reply old new before after refusals moment running answers idle =
-    let leads = answers o moment.readings replies moment.at in
-    record {
-      behind = stage_of old moment.readings replies;
-      plays = moment.plays;
-      final = stage_of new leads.readings_after (replies ++ reply ∷ []);
-      closes = closes_some o old.current (stage_of old moment.readings replies) (stage_of new leads.readings_after (replies ++ reply ∷ [])) running leads.does;
-      runs_are = refl;
-      replies_are = refl;
-      kept = subst (λ (on : Option OpenRun). IsKept o.files after.files new.runs.items on) idle leads.at.kept;
-    }
+stopped : (o : Outset) (ending : Ending) (source left told_first told : Option (List ℕ)) (reply : Reply) (old new : State) (before after : Outset) (refusals : Refusals)
+    → (played : Played o ending source left told_first told old before refusals) → IsSome old.current → Answers (Ok Stop) reply old new before after → new.current ≡ None
+    → (readings : ℕ) × IsPlayed o after (CutBy ending) played.lines (stage_of new readings (played.replies ++ reply ∷ []))
+stopped o ending source left told_first told reply old new before after refusals played running answers idle =
+    let leads = answers o played.readings played.replies played.at in (
+      leads.readings_after,
+      record {
+        behind = played.behind;
+        plays = played.plays;
+        cut = stage_of old played.readings played.replies;
+        is_cut = played.cut;
+        closes = closes_some o old.current (stage_of old played.readings played.replies) (stage_of new leads.readings_after (played.replies ++ reply ∷ [])) running leads.does;
+        kept = subst (λ (on : Option OpenRun). IsKept o.files after.files new.runs.items on) idle leads.at.kept;
+      },
+    )
 
 -- The four ways to close.
 
 -- no run was on
-pub finished_idle : (o : Outset) (ending : Ending) (source told_first told : Option (List ℕ)) (sink_first sink : ℕ) (s : State) (now : Outset) (refusals : Refusals)
-    → ending ≢ Halted FileFault → s.current ≡ None → Played o ending source told_first told s now refusals → SinkCounts ending sink_first sink
-    → Finished o ending source told_first told (record { old = sink_first; new = sink }) s now refusals
-finished_idle o ending source told_first told sink_first sink s now refusals sound idle played counts = record {
+pub finished_idle : (o : Outset) (ending : Ending) (source left told_first told : Option (List ℕ)) (sink_first sink : ℕ) (s : State) (now : Outset) (refusals : Refusals)
+    → ending ≢ Halted FileFault → s.current ≡ None → Played o ending source left told_first told s now refusals → SinkCounts ending sink_first sink
+    → Finished o ending source left told_first told (record { old = sink_first; new = sink }) s now refusals
+finished_idle o ending source left told_first told sink_first sink s now refusals sound idle played counts = record {
   lines = played.lines;
   replies = played.replies;
+  readings = played.readings;
   played = record {
-    behind = stage_of s played.moment.readings played.replies;
-    plays = played.moment.plays;
-    final = stage_of s played.moment.readings played.replies;
-    closes = subst (λ (on : Option OpenRun). MatchOption (order_in on) (stage_of s played.moment.readings played.replies ≡ stage_of s played.moment.readings played.replies) (λ (order : Order). Does o (stage_of s played.moment.readings played.replies) (Ok Stop) (stage_of s played.moment.readings played.replies))) (sym idle) refl;
-    runs_are = refl;
-    replies_are = refl;
-    kept = subst (λ (on : Option OpenRun). IsKept o.files now.files s.runs.items on) idle played.moment.at.kept;
+    behind = played.behind;
+    plays = played.plays;
+    cut = stage_of s played.readings played.replies;
+    is_cut = played.cut;
+    closes = closes_none o s.current (stage_of s played.readings played.replies) idle;
+    kept = subst (λ (on : Option OpenRun). IsKept o.files now.files s.runs.items on) idle played.at.kept;
   };
-  counts = played.moment.counts;
+  counts = played.counts;
   are_lines = played.are_lines;
   wrote = λ memory calm. whole_of ending told_first told (console_text 1 played.replies) sink_first sink sound played.wrote counts memory calm;
   wrote_part = part_of ending told_first told (console_text 1 played.replies) played.wrote;
 }
 
 -- the run was ended, and nothing was printed
-pub finished_silent : (o : Outset) (ending : Ending) (source told_first told : Option (List ℕ)) (sink_first sink : ℕ) (old new : State) (before after : Outset) (refusals : Refusals) (reply : Reply)
+pub finished_silent : (o : Outset) (ending : Ending) (source left told_first told : Option (List ℕ)) (sink_first sink : ℕ) (old new : State) (before after : Outset) (refusals : Refusals) (reply : Reply)
     → ending ≢ Halted FileFault → prints ending ≡ false → IsSome old.current → Answers (Ok Stop) reply old new before after → new.current ≡ None → is_refusal reply ≡ false
-    → Played o ending source told_first told old before refusals → SinkCounts ending sink_first sink
-    → Finished o ending source told_first told (record { old = sink_first; new = sink }) new after refusals
-finished_silent o ending source told_first told sink_first sink old new before after refusals reply sound silent running answers idle accepted played counts = record {
-  lines = played.lines;
-  replies = played.replies ++ reply ∷ [];
-  played = stopped o played.lines played.replies reply old new before after refusals played.moment running answers idle;
-  counts = counts_accepted played.replies reply refusals accepted played.moment.counts;
-  are_lines = played.are_lines;
-  wrote = λ memory calm. absurd (no_print ending sink_first sink sound silent counts memory calm);
-  wrote_part = subst (AppendsPart told_first told) (text_more played.replies reply accepted) (part_longer told_first told (console_text 1 played.replies) (text_of 0 reply) (part_of ending told_first told (console_text 1 played.replies) played.wrote));
-}
+    → Played o ending source left told_first told old before refusals → SinkCounts ending sink_first sink
+    → Finished o ending source left told_first told (record { old = sink_first; new = sink }) new after refusals
+finished_silent o ending source left told_first told sink_first sink old new before after refusals reply sound silent running answers idle accepted played counts =
+    let is_stopped = stopped o ending source left told_first told reply old new before after refusals played running answers idle in
+    record {
+      lines = played.lines;
+      replies = played.replies ++ reply ∷ [];
+      readings = is_stopped.0;
+      played = is_stopped.1;
+      counts = counts_accepted played.replies reply refusals accepted played.counts;
+      are_lines = played.are_lines;
+      wrote = λ memory calm. absurd (no_print ending sink_first sink sound silent counts memory calm);
+      wrote_part = subst (AppendsPart told_first told) (text_more played.replies reply accepted) (part_longer told_first told (console_text 1 played.replies) (text_of 0 reply) (part_of ending told_first told (console_text 1 played.replies) played.wrote));
+    }
   where
     no_print : (e : Ending) (k l : ℕ) → e ≢ Halted FileFault → prints e ≡ false → SinkCounts e k l → e ≢ Halted NoMemory → ¬ Rose k l → ⊥
     no_print End k l sound silent counts memory calm = cc
@@ -159,49 +180,77 @@ printed SourceFault first now text printing wrote = wrote
 printed (Halted halt) first now text printing wrote = absurd (cc)
 
 -- the run was ended, and that was printed
-pub finished_printed : (o : Outset) (ending : Ending) (source told_first told_old told_new : Option (List ℕ)) (sink_first sink : ℕ) (old new : State) (before after : Outset) (refusals : Refusals) (reply : Reply)
+pub finished_printed : (o : Outset) (ending : Ending) (source left told_first told_old told_new : Option (List ℕ)) (sink_first sink : ℕ) (old new : State) (before after : Outset) (refusals : Refusals) (reply : Reply)
     → prints ending ≡ true → IsSome old.current → Answers (Ok Stop) reply old new before after → new.current ≡ None → is_refusal reply ≡ false → Appends told_old told_new (text_of 0 reply)
-    → Played o ending source told_first told_old old before refusals
-    → Finished o ending source told_first told_new (record { old = sink_first; new = sink }) new after refusals
-finished_printed o ending source told_first told_old told_new sink_first sink old new before after refusals reply printing running answers idle accepted here played =
+    → Played o ending source left told_first told_old old before refusals
+    → Finished o ending source left told_first told_new (record { old = sink_first; new = sink }) new after refusals
+finished_printed o ending source left told_first told_old told_new sink_first sink old new before after refusals reply printing running answers idle accepted here played =
     let all : Appends told_first told_new (console_text 1 (played.replies ++ reply ∷ [])) =
     subst (Appends told_first told_new) (text_more played.replies reply accepted) (Appends-trans told_first told_old told_new (console_text 1 played.replies) (text_of 0 reply) (printed ending told_first told_old (console_text 1 played.replies) printing played.wrote) here) in
+    let is_stopped = stopped o ending source left told_first told_old reply old new before after refusals played running answers idle in
     record {
       lines = played.lines;
       replies = played.replies ++ reply ∷ [];
-      played = stopped o played.lines played.replies reply old new before after refusals played.moment running answers idle;
-      counts = counts_accepted played.replies reply refusals accepted played.moment.counts;
+      readings = is_stopped.0;
+      played = is_stopped.1;
+      counts = counts_accepted played.replies reply refusals accepted played.counts;
       are_lines = played.are_lines;
       wrote = λ memory calm. all;
       wrote_part = wrote_whole told_first told_new (console_text 1 (played.replies ++ reply ∷ [])) all;
     }
 
-lines_earlier : (ending : Ending) (halt : Halt) (text : List ℕ) (lines : List (List ℕ)) → AreLines ending text lines → AreLines (earlier ending halt) text lines
-lines_earlier End halt text lines are = all_taken lines (lines_of text) are.0
-lines_earlier TooLong halt text lines are = all_taken lines (lines_of text) are.0
-lines_earlier SourceFault NoMemory text lines are = are
-lines_earlier SourceFault SinkFault text lines are = are
-lines_earlier SourceFault FileFault text lines are = are
-lines_earlier (Halted NoMemory) halt text lines are = are
-lines_earlier (Halted SinkFault) NoMemory text lines are = are
-lines_earlier (Halted SinkFault) SinkFault text lines are = are
-lines_earlier (Halted SinkFault) FileFault text lines are = are
-lines_earlier (Halted FileFault) halt text lines are = are
+-- An earlier cause.
+
+lines_earlier : (ending : Ending) (halt : Halt) (text : List ℕ) (left : Option (List ℕ)) (lines : List (List ℕ)) → AreLines ending text left lines → AreLines (earlier ending halt) text left lines
+lines_earlier End halt text left lines are = all_first lines (until_exit (lines_of text)) are.lines_are
+lines_earlier TooLong halt text left lines are = all_first lines (until_exit (lines_of text)) are.lines_are
+lines_earlier SourceFault NoMemory text left lines are = first_until_exit lines (lines_of text) (given_first text left lines are.given) are.go_on
+lines_earlier SourceFault SinkFault text left lines are = are
+lines_earlier SourceFault FileFault text left lines are = are
+lines_earlier (Halted NoMemory) halt text left lines are = are
+lines_earlier (Halted SinkFault) NoMemory text left lines are = are
+lines_earlier (Halted SinkFault) SinkFault text left lines are = are
+lines_earlier (Halted SinkFault) FileFault text left lines are = are
+lines_earlier (Halted FileFault) halt text left lines are = are
+
+-- nothing was cut off: so may it be said of each halt
+cut_halted : (halt : Halt) (old new : Stage) → new ≡ old → CutBy (Halted halt) old new
+cut_halted NoMemory old new same = subst (Interrupts old) (sym same) (interrupts_none old)
+cut_halted SinkFault old new same = same
+cut_halted FileFault old new same = same
+
+cut_earlier : (ending : Ending) (halt : Halt) (old new : Stage) → CutBy ending old new → CutBy (earlier ending halt) old new
+cut_earlier End halt old new cut = cut_halted halt old new cut
+cut_earlier TooLong halt old new cut = cut_halted halt old new cut
+cut_earlier SourceFault NoMemory old new cut = cut_halted NoMemory old new cut
+cut_earlier SourceFault SinkFault old new cut = cut
+cut_earlier SourceFault FileFault old new cut = cut
+cut_earlier (Halted NoMemory) halt old new cut = cut
+cut_earlier (Halted SinkFault) NoMemory old new cut = cut_halted NoMemory old new cut
+cut_earlier (Halted SinkFault) SinkFault old new cut = cut
+cut_earlier (Halted SinkFault) FileFault old new cut = cut
+cut_earlier (Halted FileFault) halt old new cut = cut_halted halt old new cut
+
+-- with another word of what is cut off
+pub played_by : (o after : Outset) (Was Now : Stage → Stage → Type 0) (lines : List (List ℕ)) (final : Stage) → ((old new : Stage) → Was old new → Now old new) → IsPlayed o after Was lines final → IsPlayed o after Now lines final
+played_by o after Was Now lines final so played = record { behind = played.behind; plays = played.plays; cut = played.cut; is_cut = so played.behind played.cut played.is_cut; closes = played.closes; kept = played.kept }
 
 -- the run was ended, and that was not printed whole
-pub finished_cut : (o : Outset) (ending : Ending) (halt : Halt) (source told_first told_old told_new : Option (List ℕ)) (sink_first sink_old sink_new : ℕ) (old new : State) (before after : Outset) (refusals : Refusals) (reply : Reply)
+pub finished_cut : (o : Outset) (ending : Ending) (halt : Halt) (source left told_first told_old told_new : Option (List ℕ)) (sink_first sink_old sink_new : ℕ) (old new : State) (before after : Outset) (refusals : Refusals) (reply : Reply)
     → prints ending ≡ true → IsSome old.current → Answers (Ok Stop) reply old new before after → new.current ≡ None → is_refusal reply ≡ false
     → Prints told_old told_new (text_of 0 reply) (Err halt) → SinkBy halt sink_old sink_new → SinkCounts ending sink_first sink_old
-    → Played o ending source told_first told_old old before refusals
-    → Finished o (earlier ending halt) source told_first told_new (record { old = sink_first; new = sink_new }) new after refusals
-finished_cut o ending halt source told_first told_old told_new sink_first sink_old sink_new old new before after refusals reply printing running answers idle accepted here by counts played =
+    → Played o ending source left told_first told_old old before refusals
+    → Finished o (earlier ending halt) source left told_first told_new (record { old = sink_first; new = sink_new }) new after refusals
+finished_cut o ending halt source left told_first told_old told_new sink_first sink_old sink_new old new before after refusals reply printing running answers idle accepted here by counts played =
     let before_it : Appends told_first told_old (console_text 1 played.replies) = printed ending told_first told_old (console_text 1 played.replies) printing played.wrote in
+    let is_stopped = stopped o ending source left told_first told_old reply old new before after refusals played running answers idle in
     record {
       lines = played.lines;
       replies = played.replies ++ reply ∷ [];
-      played = stopped o played.lines played.replies reply old new before after refusals played.moment running answers idle;
-      counts = counts_accepted played.replies reply refusals accepted played.moment.counts;
-      are_lines = λ text told. lines_earlier ending halt text played.lines (played.are_lines text told);
+      readings = is_stopped.0;
+      played = played_by o after (CutBy ending) (CutBy (earlier ending halt)) played.lines (stage_of new is_stopped.0 (played.replies ++ reply ∷ [])) (cut_earlier ending halt) is_stopped.1;
+      counts = counts_accepted played.replies reply refusals accepted played.counts;
+      are_lines = λ text told. lines_earlier ending halt text left played.lines (played.are_lines text told);
       wrote = λ memory calm. absurd (no_calm ending halt sink_first sink_old sink_new printing by counts memory calm here);
       wrote_part = subst (AppendsPart told_first told_new) (text_more played.replies reply accepted) (part_behind halt told_first told_old told_new (console_text 1 played.replies) (text_of 0 reply) before_it here);
     }

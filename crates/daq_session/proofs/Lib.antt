@@ -1,8 +1,11 @@
 mod Words
 mod Sending
 mod Keeping
+mod Interrupting
 mod Leading
+mod Starting
 mod Options
+mod GivenLines
 mod PlayingLaws
 mod PlayingEnds
 mod ClosingLaws
@@ -12,3 +15,4 @@ mod BufferLaws
 mod RunsTelling
 mod RunsHeld
 mod RunsKept
+mod Answering

@@ -1,18 +1,18 @@
 -- A script played line by line.
 use Rattle.std.proofs.Common.{◌≡◌, ℕ, ◌+◌, ◌*◌, ◌≤◌, List, [], ◌∷◌, ◌++◌, Option, length, take, refl, ap, sym, subst, ◌∙◌, arith, length-append, zero-add, inl}
-use Rattle.std.specs.Prelude.{map, Result, Ok, Err}
+use Rattle.std.specs.Prelude.{map, Result, Err, true, false}
 use Rattle.std.specs.Str.Lines.{strip_carriage_return}
-use Rattle.std.proofs.lemmas.List.{map-append, take_all}
+use Rattle.std.proofs.lemmas.List.{append-nil, map-append, take_all}
 use Rattle.std.proofs.lemmas.List.Elements.{All-nil}
 use Rattle.std.proofs.Math.Seq.{take-append-add, take-append_seam}
 use Rattle.std.specs.Io.KnownBytes.{Appends, Keeps}
 use Rattle.daq_io.specs.Streams.{AppendsPart, Appends-nil, Appends-trans, Appends-kept}
-use Rattle.odb_script.specs.declared.commands.Command.{Command}
-use Rattle.odb_script.specs.declared.commands.Command.TheVariants.{Nothing}
-use Rattle.odb_script.specs.declared.commands.LineRefusal.{LineRefusal}
-use Rattle.odb_script.specs.Commands.{command_of}
+use Rattle.odb_script.specs.declared.forms.Command.{Command}
+use Rattle.odb_script.specs.declared.refusals.LineRefusal.{LineRefusal}
+use Rattle.odb_script.specs.Forms.{command_of}
 use Rattle.odb_script.specs.Lines.{kept}
-use Rattle.odb_script.specs.KeptCommands.{command_of-kept}
+use Rattle.odb_script.specs.KeptForms.{command_of-kept}
+use Rattle.odb_script.specs.Exits.{GoOn, GoOn-none, GoOn-more, ends_script, ends_script-kept}
 use Rattle.daq_session.specs.declared.halts.Halt.{Halt}
 use Rattle.daq_session.specs.declared.halts.Halt.TheVariants.{NoMemory, SinkFault, FileFault}
 use Rattle.daq_session.specs.declared.replies.Reply.{Reply}
@@ -21,11 +21,18 @@ use Rattle.daq_session.specs.declared.state.State.{State}
 use Rattle.daq_session.specs.Console.{text_of, console_text, console_text-more}
 use Rattle.daq_session.specs.Refused.{counts_noted}
 use Rattle.daq_session.specs.RunRecords.{IsFiled}
-use Rattle.daq_session.specs.Stages.{Outset, Stage, opening, Does, Plays}
+use Rattle.odb_tree.specs.declared.entry.DatabaseEntry.{DatabaseEntry}
+use Rattle.daq_session.specs.Stages.{Outset, Stage, opening, Does, Plays, Interrupts}
 use Rattle.daq_session.specs.Standing.{stage_of, IsReady}
 use Rattle.odb_script.specs.Lines.{Reading, nothing_read, ReadsLine}
 use Rattle.odb_script.specs.ReadLines.{HasRead, has_read_none, has_read_line}
-use Rattle.daq_session.specs.Playing.{Moment, IsNew, Replied, Untouched, DoesLine, Prints}
+use Rattle.daq_session.specs.declared.desk.Going.{Going}
+use Rattle.daq_session.specs.declared.desk.Going.TheVariants.{On, Exit}
+use Rattle.daq_session.specs.Playing.{Moment, IsNew, Replied, GoesBehind, DoesLine, Prints}
+
+-- a command that found no memory may have done nothing
+pub interrupts_none : (s : Stage) → Interrupts s s
+interrupts_none s = record { calls = []; opened = s.opened; stays_open = λ is. is; leads = ap (λ (calls : List (ℕ × DatabaseEntry)). record s { calls = calls }) (sym (append-nil s.calls)) }
 
 -- one line more
 pub Plays-more : (o : Outset) (lines : List (Result Command LineRefusal)) (line : Result Command LineRefusal) (old between new : Stage) → Plays o old lines between → Does o between line new → Plays o old (lines ++ line ∷ []) new
@@ -36,7 +43,7 @@ Plays-more o (first ∷ lines) line old between new plays does = (plays.0, plays
 pub moment_new : (o : Outset) (s : State) (refusals : Refusals) → IsNew s → refusals ≡ record { count = 0; first = 0 } → Moment o [] [] s o refusals
 moment_new o s refusals new none = record {
   readings = 0;
-  plays = rw (new.quota, new.starts, new.run, new.runs, new.current) refl;
+  plays = rw (new.quota, new.starts, new.opened, new.runs, new.current, new.rows, new.calls) refl;
   at = record {
     kept = rw (new.runs, new.current) (record { tells = refl; filed = λ told. All-nil (IsFiled o.files.at); begun = λ told. tt; others = λ told name avoids ne. refl });
     clock = record { tells = refl; ahead = λ told n. ap o.ahead (sym (zero-add n)) };
@@ -61,17 +68,6 @@ moment_more o lines line replies reply number old new before after was now momen
       counts = rw (replied.is_noted, place) (counts_noted replies reply was moment.counts);
       numbered = omega (arith, moment.numbered, length-append replies (reply ∷ []), length-append lines (line ∷ []));
     }
-
--- nothing was done
-pub moment_same : (o : Outset) (lines : List (List ℕ)) (replies : List Reply) (old new : State) (before after : Outset) (told_old told_new : Option (List ℕ)) (was now : Refusals)
-    → Moment o lines replies old before was → Untouched old new before after told_old told_new was now → Moment o lines replies new after now
-moment_same o lines replies old new before after told_old told_new was now moment untouched = record {
-  readings = moment.readings;
-  plays = rw (untouched.stays.stage moment.readings replies) moment.plays;
-  at = untouched.stays.at o moment.readings moment.at;
-  counts = rw untouched.same moment.counts;
-  numbered = moment.numbered;
-}
 
 -- the text of one reply more was written
 pub wrote_more : (first old new : Option (List ℕ)) (replies : List Reply) (reply : Reply) (number : ℕ) → number ≡ 1 + length replies
@@ -99,12 +95,13 @@ wrote_none first old new replies reply before kept_so = record {
 pub wrote_whole : (first now : Option (List ℕ)) (text : List ℕ) → Appends first now text → AppendsPart first now text
 wrote_whole first now text all = record { count = length text; appends = subst (Appends first now) (sym (take_all (length text) text (omega arith))) all }
 
--- So many lines were answered, and their text was written.
+-- So many lines were answered, none of them an `exit`, and their text was written.
 pub record SoFar (o : Outset) (source_first source_now told_first told_now : Option (List ℕ)) (reading : Reading) (s : State) (now : Outset) (refusals : Refusals) (number : ℕ) : Type 0 where
   pub lines : List (List ℕ)
   pub replies : List Reply
   pub moment : Moment o lines replies s now refusals
   pub read : HasRead source_first source_now reading lines
+  pub go_on : GoOn lines
   pub wrote : Appends told_first told_now (console_text 1 replies)
   pub ready : IsReady now.files s.current
   pub is_number : length lines ≡ number
@@ -116,30 +113,34 @@ so_far_new o source told reading s refusals new none unread = record {
   replies = [];
   moment = moment_new o s refusals new none;
   read = rw unread (has_read_none source);
+  go_on = GoOn-none;
   wrote = Appends-nil told;
   ready = rw new.current tt;
   is_number = refl;
 }
 
+-- of a line as it is kept, whether the script goes on behind it
+goes_on : (line : List ℕ) → GoesBehind On (command_of (kept line)) → ends_script line ≡ false
+goes_on line on = sym (ends_script-kept line) ∙ on
+
+pub stops : (line : List ℕ) → GoesBehind Exit (command_of (kept line)) → ends_script line ≡ true
+stops line exit = sym (ends_script-kept line) ∙ exit
+
 -- one line more
 pub so_far_more : (o : Outset) (source_first source_old source_new told_first told_old told_new : Option (List ℕ)) (reading_old reading_new : Reading) (old new : State) (before after : Outset) (was now : Refusals) (number : ℕ) (line : List ℕ) (reply : Reply)
     → SoFar o source_first source_old told_first told_old reading_old old before was number → ReadsLine reading_old reading_new source_old source_new line
-    → Replied (kept line) (number + 1) reply old new before after was now → Appends told_old told_new (text_of (number + 1) reply)
+    → Replied (kept line) (number + 1) reply old new before after was now → Appends told_old told_new (text_of (number + 1) reply) → GoesBehind On (command_of (kept line))
     → SoFar o source_first source_new told_first told_new reading_new new after now (number + 1)
-so_far_more o source_first source_old source_new told_first told_old told_new reading_old reading_new old new before after was now number line reply so_far reads replied here = record {
+so_far_more o source_first source_old source_new told_first told_old told_new reading_old reading_new old new before after was now number line reply so_far reads replied here on = record {
   lines = so_far.lines ++ line ∷ [];
   replies = so_far.replies ++ reply ∷ [];
   moment = moment_more o so_far.lines line so_far.replies reply (number + 1) old new before after was now so_far.moment replied (ap (λ (n : ℕ). n + 1) (sym so_far.is_number));
   read = has_read_line source_first source_old source_new reading_old reading_new so_far.lines line so_far.read reads;
+  go_on = GoOn-more so_far.lines line so_far.go_on (goes_on line on);
   wrote = wrote_more told_first told_old told_new so_far.replies reply (number + 1) (omega (arith, so_far.is_number, so_far.moment.numbered)) so_far.wrote here;
   ready = replied.ready;
   is_number = omega (arith, so_far.is_number, length-append so_far.lines (line ∷ []));
 }
-
--- an empty line commands nothing
-pub command_of-nil : command_of [] ≡ Ok Nothing
-unfolding command_of
-command_of-nil = refl
 
 -- an empty line starts nothing, and any other line takes two bytes or more with its end
 pub few_more : (part line had : List ℕ) (old new taken : ℕ) → line ≡ strip_carriage_return part → had ≡ kept line → new ≤ old + 1 → (had ≡ [] → new ≡ old) → 2 * old ≤ taken
@@ -147,10 +148,9 @@ pub few_more : (part line had : List ℕ) (old new taken : ℕ) → line ≡ str
 few_more [] line had old new taken stripped is_kept one empty few = omega (arith, few, empty (is_kept ∙ ap kept stripped))
 few_more (b ∷ bs) line had old new taken stripped is_kept one empty few = omega (arith, few, one)
 
--- a line was answered, and its text was printed or not
-pub prints_line : (line : List ℕ) (number : ℕ) (old new : State) (before after : Outset) (told_old told_new : Option (List ℕ)) (was now : Refusals) (reply : Reply) (result : Result (Unit {0}) Halt)
-    → Replied line number reply old new before after was now → Prints told_old told_new (text_of number reply) result → DoesLine line number old new before after told_old told_new was now result
-prints_line line number old new before after told_old told_new was now reply (Ok done) replied prints = (reply, replied, prints)
-prints_line line number old new before after told_old told_new was now reply (Err SinkFault) replied prints = (reply, replied, prints)
-prints_line line number old new before after told_old told_new was now reply (Err NoMemory) replied prints = inl (reply, replied, prints)
-prints_line line number old new before after told_old told_new was now reply (Err FileFault) replied prints = tt
+-- a line was answered, and its text was not printed whole
+pub halts_line : (line : List ℕ) (number : ℕ) (old new : State) (before after : Outset) (told_old told_new : Option (List ℕ)) (was now : Refusals) (reply : Reply) (halt : Halt)
+    → Replied line number reply old new before after was now → Prints told_old told_new (text_of number reply) (Err halt) → DoesLine line number old new before after told_old told_new was now (Err halt)
+halts_line line number old new before after told_old told_new was now reply SinkFault replied prints = (reply, replied, prints)
+halts_line line number old new before after told_old told_new was now reply NoMemory replied prints = inl (reply, replied, prints)
+halts_line line number old new before after told_old told_new was now reply FileFault replied prints = tt

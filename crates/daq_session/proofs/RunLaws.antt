@@ -1,5 +1,5 @@
 -- From how a session was closed to its cause.
-use Rattle.std.proofs.Common.{◌≡◌, ◌≢◌, ℕ, ◌<◌, List, [], ◌∷◌, Option, true, false, Bool, length, refl, sym, subst, ◌∙◌, arith, eqb-true}
+use Rattle.std.proofs.Common.{◌≡◌, ◌≢◌, ℕ, ◌<◌, List, [], ◌∷◌, Option, None, true, false, Bool, length, refl, sym, subst, ◌∙◌, arith, eqb-true}
 use Rattle.std.specs.Prelude.{◌==◌, if◌then◌else◌, zero, suc}
 use Rattle.std.proofs.lemmas.List.Elements.{All-nil}
 use Rattle.daq_io.specs.Counts.{Rose}
@@ -15,20 +15,25 @@ use Rattle.daq_session.specs.declared.state.State.{State}
 use Rattle.daq_session.specs.Console.{refused_lines}
 use Rattle.daq_session.specs.RunRecords.{IsFiled}
 use Rattle.daq_session.specs.Refused.{Counts}
-use Rattle.daq_session.specs.Stages.{Outset, opening}
+use Rattle.daq_session.specs.declared.records.SessionRecord.{SessionRecord}
+use Rattle.daq_session.specs.declared.replies.Reply.{Reply}
+use Rattle.daq_session.specs.Stages.{Outset, Stage, opening}
+use Rattle.daq_session.specs.Standing.{stage_of}
 use Rattle.daq_session.specs.Endings.{FileCounts}
-use Rattle.daq_session.specs.Playing.{AreLines, Played, PlaysTo}
-use Rattle.daq_session.specs.Sessions.{Count, ReadBy, RefusedBy, FaultsBy, IsSession}
+use Rattle.daq_session.specs.Playing.{AreLines, CutBy, Played, PlaysTo}
+use Rattle.daq_session.specs.Sessions.{Count, CutsBy, ReadBy, RefusedBy, FaultsBy, IsRecorded, IsSession}
 use Rattle.daq_session.specs.Closing.{Finished, FaultsOf, CauseBy}
+use Rattle.daq_session.proofs.PlayingLaws.{interrupts_none}
+use Rattle.daq_session.proofs.ClosingLaws.{played_by}
 
-pub plays_played : (o : Outset) (ending : Ending) (source told_first told_now : Option (List ℕ)) (s : State) (now : Outset) (refusals : Refusals) → ending ≢ Halted FileFault
-    → PlaysTo o ending source told_first told_now s now refusals → Played o ending source told_first told_now s now refusals
-plays_played o End source told_first told_now s now refusals sound plays = plays
-plays_played o TooLong source told_first told_now s now refusals sound plays = plays
-plays_played o SourceFault source told_first told_now s now refusals sound plays = plays
-plays_played o (Halted NoMemory) source told_first told_now s now refusals sound plays = plays
-plays_played o (Halted SinkFault) source told_first told_now s now refusals sound plays = plays
-plays_played o (Halted FileFault) source told_first told_now s now refusals sound plays = absurd (sound refl)
+pub plays_played : (o : Outset) (ending : Ending) (source left told_first told_now : Option (List ℕ)) (s : State) (now : Outset) (refusals : Refusals) → ending ≢ Halted FileFault
+    → PlaysTo o ending source left told_first told_now s now refusals → Played o ending source left told_first told_now s now refusals
+plays_played o End source left told_first told_now s now refusals sound plays = plays
+plays_played o TooLong source left told_first told_now s now refusals sound plays = plays
+plays_played o SourceFault source left told_first told_now s now refusals sound plays = plays
+plays_played o (Halted NoMemory) source left told_first told_now s now refusals sound plays = plays
+plays_played o (Halted SinkFault) source left told_first told_now s now refusals sound plays = plays
+plays_played o (Halted FileFault) source left told_first told_now s now refusals sound plays = absurd (sound refl)
 
 -- the run files' count stands where none of their calls halted the session
 pub files_stand : (ending : Ending) (old new : ℕ) → ending ≢ Halted FileFault → FileCounts ending old new → new ≡ old
@@ -47,45 +52,69 @@ empty_by : (lines : List ℕ) → length lines ≡ 0 → lines ≡ []
 empty_by [] e = refl
 empty_by (x ∷ xs) e = absurd (omega (arith, e))
 
--- what one cause says, of a session that was finished
-session_of : (o : Outset) (ending : Ending) (cause : Cause) (source told_first told_now : Option (List ℕ)) (sink : Count) (s : State) (after : Outset) (refusals : Refusals)
-    → ((text : List ℕ) (lines : List (List ℕ)) → AreLines ending text lines → ReadBy cause text lines)
-    → ((lines : List ℕ) → Counts lines refusals → RefusedBy cause lines)
-    → (cause ≢ no_memory → ending ≢ Halted NoMemory)
-    → Finished o ending source told_first told_now sink s after refusals → IsSession o after source told_first told_now sink cause s.runs.items
-session_of o ending cause source told_first told_now sink s after refusals reads refuses memory finished = record {
-  lines = finished.lines;
-  replies = finished.replies;
-  played = finished.played;
-  read = λ text told. reads text finished.lines (finished.are_lines text told);
-  refused = refuses (refused_lines 1 finished.replies) finished.counts;
-  wrote = λ enough calm. finished.wrote (memory enough) calm;
-  wrote_part = finished.wrote_part;
-}
+-- what is cut off by the ending, and by the cause that it is
+cut_by : (ending : Ending) (cause : Cause) (refusals : Refusals) (first : Option (List ℕ)) → CauseBy ending refusals first cause → (old new : Stage) → CutBy ending old new → CutsBy cause old new
+cut_by End cause refusals first by old new cut =
+    elim (refusals.count == 0) as (λ (b : Bool). cause ≡ (if b then Done else CommandRefused refusals.count refusals.first) → CutsBy cause old new) [
+      | true ↦ λ is. subst (λ (c : Cause). CutsBy c old new) (sym is) cut
+      | false ↦ λ is. subst (λ (c : Cause). CutsBy c old new) (sym is) cut
+    ] by
+cut_by TooLong cause refusals first by old new cut = subst (λ (c : Cause). CutsBy c old new) (sym by) cut
+cut_by SourceFault cause refusals first by old new cut = subst (λ (c : Cause). CutsBy c old new) (sym by) cut
+cut_by (Halted NoMemory) cause refusals first by old new cut = subst (λ (c : Cause). CutsBy c old new) (sym by) cut
+cut_by (Halted SinkFault) cause refusals first by old new cut = subst (λ (c : Cause). CutsBy c old new) (sym by) cut
+cut_by (Halted FileFault) cause refusals first by old new cut = subst (λ (c : Cause). CutsBy c old new) (sym by.1) cut
 
-pub session_by : (o : Outset) (ending : Ending) (cause : Cause) (first : Option (List ℕ)) (source told_first told_now : Option (List ℕ)) (sink : Count) (s : State) (after : Outset) (refusals : Refusals)
-    → CauseBy ending refusals first cause → Finished o ending source told_first told_now sink s after refusals → IsSession o after source told_first told_now sink cause s.runs.items
-session_by o End cause first source told_first told_now sink s after refusals by finished =
-    elim (refusals.count == 0) as (λ (b : Bool). b ≡ (refusals.count == 0) → cause ≡ (if b then Done else CommandRefused refusals.count refusals.first) → IsSession o after source told_first told_now sink cause s.runs.items) [
-      | true ↦ λ none is. subst (λ (c : Cause). IsSession o after source told_first told_now sink c s.runs.items) (sym is)
-          (session_of o End Done source told_first told_now sink s after refusals (λ text lines are. are) (λ lines counts. empty_by lines (sym counts.count ∙ eqb-true refusals.count 0 (sym none))) (λ enough e. cc) finished)
-      | false ↦ λ some is. subst (λ (c : Cause). IsSession o after source told_first told_now sink c s.runs.items) (sym is)
-          (session_of o End (CommandRefused refusals.count refusals.first) source told_first told_now sink s after refusals (λ text lines are. are) (λ lines counts. (positive refusals.count some, counts.count, counts.first)) (λ enough e. cc) finished)
+-- which lines were played
+read_by : (ending : Ending) (cause : Cause) (refusals : Refusals) (first : Option (List ℕ)) → CauseBy ending refusals first cause → (text : List ℕ) (left : Option (List ℕ)) (lines : List (List ℕ)) → AreLines ending text left lines → ReadBy cause text left lines
+read_by End cause refusals first by text left lines are =
+    elim (refusals.count == 0) as (λ (b : Bool). cause ≡ (if b then Done else CommandRefused refusals.count refusals.first) → ReadBy cause text left lines) [
+      | true ↦ λ is. subst (λ (c : Cause). ReadBy c text left lines) (sym is) are
+      | false ↦ λ is. subst (λ (c : Cause). ReadBy c text left lines) (sym is) are
+    ] by
+read_by TooLong cause refusals first by text left lines are = subst (λ (c : Cause). ReadBy c text left lines) (sym by) are
+read_by SourceFault cause refusals first by text left lines are = subst (λ (c : Cause). ReadBy c text left lines) (sym by) are
+read_by (Halted NoMemory) cause refusals first by text left lines are = subst (λ (c : Cause). ReadBy c text left lines) (sym by) are
+read_by (Halted SinkFault) cause refusals first by text left lines are = subst (λ (c : Cause). ReadBy c text left lines) (sym by) are
+read_by (Halted FileFault) cause refusals first by text left lines are = subst (λ (c : Cause). ReadBy c text left lines) (sym by.1) are
+
+-- which lines were refused
+refused_by : (ending : Ending) (cause : Cause) (refusals : Refusals) (first : Option (List ℕ)) → CauseBy ending refusals first cause → (lines : List ℕ) → Counts lines refusals → RefusedBy cause lines
+refused_by End cause refusals first by lines counts =
+    elim (refusals.count == 0) as (λ (b : Bool). b ≡ (refusals.count == 0) → cause ≡ (if b then Done else CommandRefused refusals.count refusals.first) → RefusedBy cause lines) [
+      | true ↦ λ none is. subst (λ (c : Cause). RefusedBy c lines) (sym is) (empty_by lines (sym counts.count ∙ eqb-true refusals.count 0 (sym none)))
+      | false ↦ λ some is. subst (λ (c : Cause). RefusedBy c lines) (sym is) (positive refusals.count some, counts.count, counts.first)
     ] refl by
   where
     positive : (n : ℕ) → false ≡ (n == 0) → 0 < n
     positive zero e = absurd (cc)
     positive (suc n) e = omega arith
-session_by o TooLong cause first source told_first told_now sink s after refusals by finished = subst (λ (c : Cause). IsSession o after source told_first told_now sink c s.runs.items) (sym by)
-    (session_of o TooLong (BadInput ScriptTooLong) source told_first told_now sink s after refusals (λ text lines are. are) (λ lines counts. tt) (λ enough e. cc) finished)
-session_by o SourceFault cause first source told_first told_now sink s after refusals by finished = subst (λ (c : Cause). IsSession o after source told_first told_now sink c s.runs.items) (sym by)
-    (session_of o SourceFault source_fault source told_first told_now sink s after refusals (λ text lines are. are) (λ lines counts. tt) (λ enough e. cc) finished)
-session_by o (Halted NoMemory) cause first source told_first told_now sink s after refusals by finished = subst (λ (c : Cause). IsSession o after source told_first told_now sink c s.runs.items) (sym by)
-    (session_of o (Halted NoMemory) no_memory source told_first told_now sink s after refusals (λ text lines are. are) (λ lines counts. tt) (λ enough. absurd (enough refl)) finished)
-session_by o (Halted SinkFault) cause first source told_first told_now sink s after refusals by finished = subst (λ (c : Cause). IsSession o after source told_first told_now sink c s.runs.items) (sym by)
-    (session_of o (Halted SinkFault) sink_fault source told_first told_now sink s after refusals (λ text lines are. are) (λ lines counts. tt) (λ enough e. cc) finished)
-session_by o (Halted FileFault) cause first source told_first told_now sink s after refusals by finished = subst (λ (c : Cause). IsSession o after source told_first told_now sink c s.runs.items) (sym by.1)
-    (session_of o (Halted FileFault) (file_fault by.0) source told_first told_now sink s after refusals (λ text lines are. are) (λ lines counts. tt) (λ enough e. cc) finished)
+refused_by TooLong cause refusals first by lines counts = subst (λ (c : Cause). RefusedBy c lines) (sym by) tt
+refused_by SourceFault cause refusals first by lines counts = subst (λ (c : Cause). RefusedBy c lines) (sym by) tt
+refused_by (Halted NoMemory) cause refusals first by lines counts = subst (λ (c : Cause). RefusedBy c lines) (sym by) tt
+refused_by (Halted SinkFault) cause refusals first by lines counts = subst (λ (c : Cause). RefusedBy c lines) (sym by) tt
+refused_by (Halted FileFault) cause refusals first by lines counts = subst (λ (c : Cause). RefusedBy c lines) (sym by.1) tt
+
+-- where the ending is that there was no memory, so is the cause
+memory_by : (ending : Ending) (cause : Cause) (refusals : Refusals) (first : Option (List ℕ)) → CauseBy ending refusals first cause → cause ≢ no_memory → ending ≢ Halted NoMemory
+memory_by ending cause refusals first by enough is = enough (subst (λ (e : Ending). CauseBy e refusals first cause) is by)
+
+-- What a session is that was finished so, with this record.
+pub session_by : (o : Outset) (ending : Ending) (cause : Cause) (first : Option (List ℕ)) (source left told_first told_now : Option (List ℕ)) (sink : Count) (s : State) (after : Outset) (refusals shown : Refusals) (session : Option SessionRecord)
+    → shown ≡ refusals → CauseBy ending shown first cause → ((readings : ℕ) (replies : List Reply) → IsRecorded (stage_of s readings replies) session)
+    → Finished o ending source left told_first told_now sink s after refusals → IsSession o after source left told_first told_now sink cause session
+session_by o ending cause first source left told_first told_now sink s after refusals shown session same is_cause recorded finished =
+    let by : CauseBy ending refusals first cause = subst (λ (r : Refusals). CauseBy ending r first cause) same is_cause in
+    record {
+      lines = finished.lines;
+      final = stage_of s finished.readings finished.replies;
+      played = played_by o after (CutBy ending) (CutsBy cause) finished.lines (stage_of s finished.readings finished.replies) (cut_by ending cause refusals first by) finished.played;
+      recorded = recorded finished.readings finished.replies;
+      read = λ text told. read_by ending cause refusals first by text left finished.lines (finished.are_lines text told);
+      refused = refused_by ending cause refusals first by (refused_lines 1 finished.replies) finished.counts;
+      wrote = λ enough calm. finished.wrote (memory_by ending cause refusals first by enough) calm;
+      wrote_part = finished.wrote_part;
+    }
 
 -- and of the counts of faults
 pub faults_by : (ending : Ending) (cause : Cause) (refusals : Refusals) (first : Option (List ℕ)) (source sink files : Count) → CauseBy ending refusals first cause → FaultsOf ending source sink files → FaultsBy cause source sink files first
@@ -101,27 +130,21 @@ faults_by (Halted SinkFault) cause refusals first source sink files by counts = 
 faults_by (Halted FileFault) cause refusals first source sink files by counts = subst (λ (c : Cause). FaultsBy c source sink files first) (sym by.1) (counts.0, counts.1, counts.2, by.2)
 
 -- the session found no memory to begin
-pub session_none : (o : Outset) (source told : Option (List ℕ)) (sink : Count) → IsSession o o source told told sink no_memory []
-session_none o source told sink = record {
+pub session_none : (o : Outset) (source left told : Option (List ℕ)) (sink : Count) → IsSession o o source left told told sink no_memory None
+session_none o source left told sink = record {
   lines = [];
-  replies = [];
+  final = opening;
   played = record {
     behind = opening;
     plays = refl;
-    final = opening;
+    cut = opening;
+    is_cut = interrupts_none opening;
     closes = refl;
-    runs_are = refl;
-    replies_are = refl;
     kept = record { tells = refl; filed = λ known. All-nil (IsFiled o.files.at); begun = λ known. tt; others = λ known name avoids ne. refl };
   };
+  recorded = refl;
   read = λ text known. refl;
   refused = tt;
   wrote = λ enough. absurd (enough refl);
   wrote_part = record { count = 0; appends = Appends-nil told };
 }
-
--- the same, where the refusals are those of the end
-pub session_at : (o : Outset) (ending : Ending) (cause : Cause) (first : Option (List ℕ)) (source told_first told_now : Option (List ℕ)) (sink : Count) (s : State) (after : Outset) (refusals shown : Refusals) → shown ≡ refusals
-    → CauseBy ending shown first cause → Finished o ending source told_first told_now sink s after refusals → IsSession o after source told_first told_now sink cause s.runs.items
-session_at o ending cause first source told_first told_now sink s after refusals shown same by finished =
-    session_by o ending cause first source told_first told_now sink s after refusals (subst (λ (r : Refusals). CauseBy ending r first cause) same by) finished

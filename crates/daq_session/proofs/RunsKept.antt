@@ -19,13 +19,13 @@ use Rattle.daq_model.specs.RunFile.{run_file}
 use Rattle.daq_session.specs.declared.records.RunRecord.{RunRecord}
 use Rattle.daq_session.specs.declared.records.SessionRecord.{SessionRecord}
 use Rattle.daq_session.specs.BufferRecords.{history_in}
-use Rattle.daq_session.specs.Sessions.{runs_in}
+use Rattle.daq_session.specs.Sessions.{IsRecorded}
 use Rattle.daq_session.specs.declared.records.FrontTally.{FrontTally}
 use Rattle.daq_session.specs.declared.records.FileRecord.{FileRecord}
 use Rattle.daq_session.specs.declared.state.OpenRun.{OpenRun}
 use Rattle.daq_session.specs.BufferEntries.{opening_entries, begin_entry, passed_entries, end_entry, PassesFirst}
 use Rattle.daq_session.specs.RunRecords.{order_of, sent_in, file_of, IsFiled, generated_events-by}
-use Rattle.daq_session.specs.Stages.{completed_record}
+use Rattle.daq_session.specs.Stages.{Stage, completed_record}
 use Rattle.daq_session.specs.RunHistories.{sent_by, wanted_of, events_of, segment_file, HoldsSegment, HoldSegments, IsSentByFront, AreSentByFronts, IsHeldRun}
 use Rattle.daq_session.specs.RunsTold.{IsRead, IsFresh, IsOn, IsDone, IsDoneRun, TellsRun, IsTold, IsOnRun, IsEnded, IsStanding, KeepsTold, EndsTold}
 use Rattle.daq_session.proofs.RunsHeld.{IsHeld, is_held}
@@ -291,9 +291,9 @@ all_filed h at runs filed held = λ k d less. filed_by h at _ (filed k d less) (
 pub all_sent : (h : List (ℕ × BufferEntry)) (runs : List RunRecord) → All (IsHeldRun h) runs → All (λ r. All (IsSentByFront h r) r.fronts) runs
 all_sent h runs held = All-weaker (IsHeldRun h) (λ r. All (IsSentByFront h r) r.fronts) (λ r is. is.fronts) runs held
 
-pub session_filed : (o : Option SessionRecord) (at : List ℕ → Option Stored) → All (IsFiled at) (runs_in o) → IfSome o (λ s. All (IsHeldRun (history_in s.buffers)) s.runs) → IfSome o (λ s. All (HoldSegments s.buffers at) s.runs)
-session_filed None at filed held = tt
-session_filed (Some s) at filed held = all_filed (history_in s.buffers) at s.runs filed held
+pub session_filed : (final : Stage) (o : Option SessionRecord) (at : List ℕ → Option Stored) → IsRecorded final o → All (IsFiled at) final.runs → IfSome o (λ s. All (IsHeldRun (history_in s.buffers)) s.runs) → IfSome o (λ s. All (HoldSegments s.buffers at) s.runs)
+session_filed final None at recorded filed held = tt
+session_filed final (Some s) at recorded filed held = all_filed (history_in s.buffers) at s.runs (subst (λ (runs : List RunRecord). All (IsFiled at) runs) (sym recorded.1) filed) held
 
 pub session_sent : (o : Option SessionRecord) → IfSome o (λ s. All (IsHeldRun (history_in s.buffers)) s.runs) → IfSome o (λ s. All (AreSentByFronts s.buffers) s.runs)
 session_sent None held = tt

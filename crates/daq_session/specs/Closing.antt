@@ -15,10 +15,11 @@ use Rattle.daq_session.specs.declared.replies.Reply.{Reply}
 use Rattle.daq_session.specs.declared.state.State.{State}
 use Rattle.daq_session.specs.Console.{console_text, refused_lines}
 use Rattle.daq_session.specs.Endings.{SourceCounts, SinkCounts, FileCounts}
-use Rattle.daq_session.specs.Playing.{AreLines, Played}
+use Rattle.daq_session.specs.Playing.{AreLines, CutBy, Played}
 use Rattle.daq_session.specs.Refused.{Counts}
 use Rattle.daq_session.specs.Sessions.{IsPlayed, Count, Rises, Stands}
 use Rattle.daq_session.specs.Stages.{Outset}
+use Rattle.daq_session.specs.Standing.{stage_of}
 
 -- whether anything more may be printed
 abbrev pub prints : Ending → Bool
@@ -42,20 +43,21 @@ earlier (Halted SinkFault) FileFault = Halted SinkFault
 earlier (Halted FileFault) halt = Halted halt
 
 -- What a session made of its script, by the ending.
-pub record Finished (o : Outset) (ending : Ending) (source told_first told_now : Option (List ℕ)) (sink : Count) (s : State) (after : Outset) (refusals : Refusals) : Type 0 where
+pub record Finished (o : Outset) (ending : Ending) (source left told_first told_now : Option (List ℕ)) (sink : Count) (s : State) (after : Outset) (refusals : Refusals) : Type 0 where
   pub lines : List (List ℕ)
   pub replies : List Reply
-  pub played : IsPlayed o after lines replies s.runs.items
+  pub readings : ℕ
+  pub played : IsPlayed o after (CutBy ending) lines (stage_of s readings replies)
   pub counts : Counts (refused_lines 1 replies) refusals
-  pub are_lines : (text : List ℕ) → source ≡ Some text → AreLines ending text lines
+  pub are_lines : (text : List ℕ) → source ≡ Some text → AreLines ending text left lines
   pub wrote : ending ≢ Halted NoMemory → ¬ Rises sink → Appends told_first told_now (console_text 1 replies)
   pub wrote_part : AppendsPart told_first told_now (console_text 1 replies)
 
 -- Whatever was played before, the session is finished so.
 abbrev pub Finishes : (ending : Ending) (old new : State) (before after : Outset) (told_old told_new : Option (List ℕ)) (refusals : Refusals) (sink_old sink_new : ℕ) → Closed → Type 0
 Finishes ending old new before after told_old told_new refusals sink_old sink_new closed =
-    IsTrue closed.whole → (o : Outset) (source told_first : Option (List ℕ)) (sink_first : ℕ) → Played o ending source told_first told_old old before refusals → SinkCounts ending sink_first sink_old
-    → Finished o closed.ending source told_first told_new (record { old = sink_first; new = sink_new }) new after refusals
+    IsTrue closed.whole → (o : Outset) (source left told_first : Option (List ℕ)) (sink_first : ℕ) → Played o ending source left told_first told_old old before refusals → SinkCounts ending sink_first sink_old
+    → Finished o closed.ending source left told_first told_new (record { old = sink_first; new = sink_new }) new after refusals
 
 -- the counts of faults by the ending of a whole call
 abbrev pub FaultsOf : Ending → (source sink files : Count) → Type 0

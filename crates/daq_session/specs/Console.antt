@@ -7,12 +7,16 @@ use Rattle.daq_types.specs.declared.runs.RunState.{RunState}
 use Rattle.daq_types.specs.declared.runs.RunState.TheVariants.{Stopped, Paused, Running}
 use Rattle.daq_types.specs.declared.runs.ChannelState.{ChannelState}
 use Rattle.daq_types.specs.declared.runs.ChannelState.TheVariants.{Idle, Writing, Broken, Ended, NoEnd, NoMark}
+use Rattle.daq_session.specs.FrontNames.{front_name}
 use Rattle.daq_session.specs.declared.records.Why.{Why}
 use Rattle.daq_session.specs.declared.records.Why.TheVariants.{Exists}
 use Rattle.daq_session.specs.declared.records.FrontTally.{FrontTally}
 use Rattle.daq_session.specs.declared.records.FileRecord.{FileRecord}
 use Rattle.daq_session.specs.declared.replies.Reply.{Reply}
-use Rattle.daq_session.specs.declared.replies.Reply.TheVariants.{Silent, BadCommand, WrongState, StartRefused, Started, Stopped as run_stopped}
+use Rattle.daq_session.specs.declared.replies.Reply.TheVariants.{Silent, BadCommand, WrongState, RunNumber, StartRefused, Started, Stopped as run_stopped, Database}
+use Rattle.odb_value.specs.declared.items.Item.TheVariants.{Int32}
+use Rattle.odb_value.specs.ItemTexts.{item_text}
+use Rattle.odb_commands.specs.Texts.{refused_line, reply_text, is_refusal as is_refused}
 
 -- a run state's number
 abbrev pub state_number : RunState → ℕ
@@ -29,17 +33,13 @@ state_name Ended = codes "Ended"
 state_name NoEnd = codes "NoEnd"
 state_name NoMark = codes "NoMark"
 
--- the name of a client: the front-end FE has number 0, the logger 1
+-- the name of a client: the front-end has number 0, the logger 1
 unfoldable pub client_name : ℕ → List ℕ
-client_name client = if client == 0 then codes "FE" else codes "Logger"
+client_name client = if client == 0 then front_name else codes "Logger"
 
 -- why a client refused a start: the name of the reason, and its field
 abbrev pub why_text : Why → List ℕ
 why_text (Exists channel) = codes "Exists " ++ decimal channel
-
--- the line of a refusal: the script line's number, and the refusal's name and fields
-abbrev pub refused_line : (line : ℕ) → List ℕ → List ℕ
-refused_line line refusal = codes "refused " ++ (decimal line ++ (codes ": " ++ (refusal ++ 10 ∷ [])))
 
 -- what a front-end sent
 abbrev pub front_line : FrontTally → List ℕ
@@ -54,9 +54,11 @@ abbrev pub text_of : (line : ℕ) → Reply → List ℕ
 text_of line Silent = []
 text_of line (BadCommand at) = refused_line line (codes "BadCommand " ++ decimal at)
 text_of line (WrongState state) = refused_line line (codes "WrongState " ++ decimal (state_number state))
+text_of line (RunNumber have) = refused_line line (codes "RunNumber " ++ item_text (Int32 have))
 text_of line (StartRefused client why) = refused_line line (codes "StartRefused " ++ (client_name client ++ (32 ∷ why_text why)))
 text_of line (Started run) = codes "run " ++ (decimal run ++ (codes " started" ++ 10 ∷ []))
 text_of line (run_stopped run front file) = codes "run " ++ (decimal run ++ (codes " stopped" ++ 10 ∷ (front_line front ++ file_line file)))
+text_of line (Database reply) = reply_text line reply
 
 -- the text of replies, of which the first is to the line of this number
 abbrev pub console_text : (line : ℕ) → List Reply → List ℕ
@@ -68,9 +70,11 @@ abbrev pub is_refusal : Reply → Bool
 is_refusal Silent = false
 is_refusal (BadCommand at) = true
 is_refusal (WrongState state) = true
+is_refusal (RunNumber have) = true
 is_refusal (StartRefused client why) = true
 is_refusal (Started run) = false
 is_refusal (run_stopped run front file) = false
+is_refusal (Database reply) = is_refused reply
 
 abbrev pub line_if : Bool → ℕ → List ℕ
 line_if true line = line ∷ []

@@ -17,3 +17,4 @@ pub mod BufferEntries
 pub mod BufferRecords
 pub mod RunHistories
 pub mod RunsTold
+pub mod FrontNames

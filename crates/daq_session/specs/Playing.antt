@@ -1,9 +1,16 @@
 -- A script played by a session: line by line, and what was written.
-use Rattle.std.specs.Prelude.{◌≡◌, ℕ, ◌<◌, ◌≤◌, List, [], length, map, take, Option, Some, None, Result, Ok, Err, ◌⊎◌, ⊤}
+use Rattle.std.specs.Prelude.{◌≡◌, ℕ, ◌<◌, ◌≤◌, Bool, true, false, List, [], length, map, take, Option, Some, None, Result, Ok, Err, ◌⊎◌, ⊤}
 use Rattle.std.specs.Io.KnownBytes.{Appends, Keeps}
 use Rattle.daq_io.specs.Streams.{AppendsPart}
-use Rattle.odb_script.specs.Commands.{command_of}
+use Rattle.odb_runinfo.specs.RunKeys.{session_rows}
+use Rattle.odb_script.specs.declared.forms.Command.{Command}
+use Rattle.odb_script.specs.declared.refusals.LineRefusal.{LineRefusal}
+use Rattle.odb_script.specs.Forms.{command_of}
 use Rattle.odb_script.specs.Lines.{lines_of, script_limit}
+use Rattle.odb_script.specs.ReadLines.{AreGivenLines}
+use Rattle.odb_script.specs.Exits.{GoOn, StopAtExit, is_exit, until_exit}
+use Rattle.daq_session.specs.declared.desk.Going.{Going}
+use Rattle.daq_session.specs.declared.desk.Going.TheVariants.{On, Exit}
 use Rattle.daq_session.specs.declared.halts.Halt.{Halt}
 use Rattle.daq_session.specs.declared.halts.Halt.TheVariants.{NoMemory, SinkFault, FileFault}
 use Rattle.daq_session.specs.declared.endings.Ending.{Ending}
@@ -13,8 +20,8 @@ use Rattle.daq_session.specs.declared.refusals.Refusals.{Refusals}
 use Rattle.daq_session.specs.declared.state.State.{State}
 use Rattle.daq_session.specs.Console.{text_of, console_text, is_refusal, refused_lines}
 use Rattle.daq_session.specs.Refused.{noted, Counts}
-use Rattle.daq_session.specs.Stages.{Outset, opening, Plays}
-use Rattle.daq_session.specs.Standing.{stage_of, IsAt, IsReady, Answers, Stays}
+use Rattle.daq_session.specs.Stages.{Outset, Stage, opening, Plays, Interrupts}
+use Rattle.daq_session.specs.Standing.{stage_of, IsAt, IsReady, Answers, Breaks}
 
 -- The session after some lines of its script: what they did, where the outside is, and which were refused.
 pub record Moment (o : Outset) (lines : List (List ℕ)) (replies : List Reply) (s : State) (now : Outset) (refusals : Refusals) : Type 0 where
@@ -28,9 +35,11 @@ pub record Moment (o : Outset) (lines : List (List ℕ)) (replies : List Reply) 
 pub record IsNew (s : State) : Type 0 where
   pub quota : s.quota ≡ 0
   pub starts : s.starts ≡ 0
-  pub run : s.run ≡ 0
+  pub opened : s.opened ≡ false
   pub runs : s.runs.items ≡ []
   pub current : s.current ≡ None
+  pub rows : s.database.rows ≡ session_rows
+  pub calls : s.database.history ≡ []
 
 -- A line was answered, and noted where it was refused.
 pub record Replied (line : List ℕ) (number : ℕ) (reply : Reply) (old new : State) (before after : Outset) (was now : Refusals) : Type 0 where
@@ -38,20 +47,25 @@ pub record Replied (line : List ℕ) (number : ℕ) (reply : Reply) (old new : S
   pub ready : IsReady after.files new.current
   pub is_noted : now ≡ noted was number (is_refusal reply)
 
--- Nothing was done, for want of memory.
-pub record Untouched (old new : State) (before after : Outset) (told_old told_new : Option (List ℕ)) (was now : Refusals) : Type 0 where
-  pub stays : Stays old new before after
+-- The line was not answered, for want of memory.
+pub record Unanswered (old new : State) (before after : Outset) (told_old told_new : Option (List ℕ)) (was now : Refusals) : Type 0 where
+  pub breaks : Breaks old new before after
   pub ready : IsReady after.files new.current
   pub same : now ≡ was
   pub kept : Keeps told_old told_new
 
+-- whether the script goes on behind a command: not behind `exit`
+abbrev pub GoesBehind : Going → Result Command LineRefusal → Type 0
+GoesBehind On command = is_exit command ≡ false
+GoesBehind Exit command = is_exit command ≡ true
+
 -- What the line of this number does to the session, the outside, the text told and the refusals: it is answered and its
--- text is written; or it is answered and its text is not written whole; or nothing is done.
-abbrev pub DoesLine : (line : List ℕ) (number : ℕ) (old new : State) (before after : Outset) (told_old told_new : Option (List ℕ)) (was now : Refusals) → Result (Unit {0}) Halt → Type 0
-DoesLine line number old new before after told_old told_new was now (Ok done) = (reply : Reply) × Replied line number reply old new before after was now × Appends told_old told_new (text_of number reply)
+-- text is written; or it is answered and its text is not written whole; or it is not answered.
+abbrev pub DoesLine : (line : List ℕ) (number : ℕ) (old new : State) (before after : Outset) (told_old told_new : Option (List ℕ)) (was now : Refusals) → Result Going Halt → Type 0
+DoesLine line number old new before after told_old told_new was now (Ok going) = (reply : Reply) × Replied line number reply old new before after was now × Appends told_old told_new (text_of number reply) × GoesBehind going (command_of line)
 DoesLine line number old new before after told_old told_new was now (Err SinkFault) = (reply : Reply) × Replied line number reply old new before after was now × AppendsPart told_old told_new (text_of number reply)
 DoesLine line number old new before after told_old told_new was now (Err NoMemory) =
-    ((reply : Reply) × Replied line number reply old new before after was now × Keeps told_old told_new) ⊎ Untouched old new before after told_old told_new was now
+    ((reply : Reply) × Replied line number reply old new before after was now × Keeps told_old told_new) ⊎ Unanswered old new before after told_old told_new was now
 DoesLine line number old new before after told_old told_new was now (Err FileFault) = ⊤
 
 -- a text was written; or a part of it, where the sink failed; or nothing, for want of memory
@@ -61,13 +75,41 @@ Prints told_old told_new text (Err SinkFault) = AppendsPart told_old told_new te
 Prints told_old told_new text (Err NoMemory) = Keeps told_old told_new
 Prints told_old told_new text (Err FileFault) = ⊥
 
--- The lines that were answered, of the script's text: all of them where it was read to its end or past its limit, and
--- else the first.
-abbrev pub AreLines : Ending → (text : List ℕ) → List (List ℕ) → Type 0
-AreLines End text lines = (lines ≡ lines_of text) × (length text ≤ script_limit)
-AreLines TooLong text lines = (lines ≡ lines_of text) × (script_limit < length text)
-AreLines SourceFault text lines = lines ≡ take (length lines) (lines_of text)
-AreLines (Halted halt) text lines = lines ≡ take (length lines) (lines_of text)
+-- The lines are the whole script: up to its first `exit`, or to the end of a text that is not too long.
+pub record AreWhole (text : List ℕ) (lines : List (List ℕ)) : Type 0 where
+  pub lines_are : lines ≡ until_exit (lines_of text)
+  pub ends : StopAtExit lines ⊎ length text ≤ script_limit
+
+-- They are those of a script that is too long, without an `exit` before its limit.
+pub record AreTooMany (text : List ℕ) (lines : List (List ℕ)) : Type 0 where
+  pub lines_are : lines ≡ until_exit (lines_of text)
+  pub go_on : GoOn lines
+  pub longer : script_limit < length text
+
+-- They are the lines that the source gave with their ends before it failed, without an `exit`.
+pub record AreGiven (text : List ℕ) (left : Option (List ℕ)) (lines : List (List ℕ)) : Type 0 where
+  pub given : AreGivenLines text left lines
+  pub go_on : GoOn lines
+
+-- they are the first lines of the script
+abbrev pub AreFirst : (text : List ℕ) → List (List ℕ) → Type 0
+AreFirst text lines = lines ≡ take (length lines) (until_exit (lines_of text))
+
+-- The lines that were answered, of the script's text, of which this was left in the source.
+abbrev pub AreLines : Ending → (text : List ℕ) → (left : Option (List ℕ)) → List (List ℕ) → Type 0
+AreLines End text left lines = AreWhole text lines
+AreLines TooLong text left lines = AreTooMany text lines
+AreLines SourceFault text left lines = AreGiven text left lines
+AreLines (Halted halt) text left lines = AreFirst text lines
+
+-- Behind the last line that was answered a command may have found no memory.
+abbrev pub CutBy : Ending → Stage → Stage → Type 0
+CutBy End old new = new ≡ old
+CutBy TooLong old new = new ≡ old
+CutBy SourceFault old new = new ≡ old
+CutBy (Halted NoMemory) old new = Interrupts old new
+CutBy (Halted SinkFault) old new = new ≡ old
+CutBy (Halted FileFault) old new = new ≡ old
 
 -- What was written of the replies' text: all of it, but for its end where the sink failed or there was no memory.
 abbrev pub Wrote : Ending → (told_first told_now : Option (List ℕ)) → List ℕ → Type 0
@@ -76,20 +118,25 @@ Wrote TooLong told_first told_now text = Appends told_first told_now text
 Wrote SourceFault told_first told_now text = Appends told_first told_now text
 Wrote (Halted halt) told_first told_now text = AppendsPart told_first told_now text
 
--- A script was played up to this ending.
-pub record Played (o : Outset) (ending : Ending) (source told_first told_now : Option (List ℕ)) (s : State) (now : Outset) (refusals : Refusals) : Type 0 where
+-- A script was played up to this ending, and this is left in the source.
+pub record Played (o : Outset) (ending : Ending) (source left told_first told_now : Option (List ℕ)) (s : State) (now : Outset) (refusals : Refusals) : Type 0 where
   pub lines : List (List ℕ)
   pub replies : List Reply
-  pub moment : Moment o lines replies s now refusals
+  pub behind : Stage
+  pub plays : Plays o opening (map command_of lines) behind
+  pub readings : ℕ
+  pub cut : CutBy ending behind (stage_of s readings replies)
+  pub at : IsAt o readings s now
+  pub counts : Counts (refused_lines 1 replies) refusals
   pub ready : IsReady now.files s.current
-  pub are_lines : (text : List ℕ) → source ≡ Some text → AreLines ending text lines
+  pub are_lines : (text : List ℕ) → source ≡ Some text → AreLines ending text left lines
   pub wrote : Wrote ending told_first told_now (console_text 1 replies)
 
 -- nothing is said where a call on the run files failed
-abbrev pub PlaysTo : (o : Outset) (ending : Ending) (source told_first told_now : Option (List ℕ)) (s : State) (now : Outset) (refusals : Refusals) → Type 0
-PlaysTo o (Halted FileFault) source told_first told_now s now refusals = ⊤
-PlaysTo o (Halted NoMemory) source told_first told_now s now refusals = Played o (Halted NoMemory) source told_first told_now s now refusals
-PlaysTo o (Halted SinkFault) source told_first told_now s now refusals = Played o (Halted SinkFault) source told_first told_now s now refusals
-PlaysTo o End source told_first told_now s now refusals = Played o End source told_first told_now s now refusals
-PlaysTo o TooLong source told_first told_now s now refusals = Played o TooLong source told_first told_now s now refusals
-PlaysTo o SourceFault source told_first told_now s now refusals = Played o SourceFault source told_first told_now s now refusals
+abbrev pub PlaysTo : (o : Outset) (ending : Ending) (source left told_first told_now : Option (List ℕ)) (s : State) (now : Outset) (refusals : Refusals) → Type 0
+PlaysTo o (Halted FileFault) source left told_first told_now s now refusals = ⊤
+PlaysTo o (Halted NoMemory) source left told_first told_now s now refusals = Played o (Halted NoMemory) source left told_first told_now s now refusals
+PlaysTo o (Halted SinkFault) source left told_first told_now s now refusals = Played o (Halted SinkFault) source left told_first told_now s now refusals
+PlaysTo o End source left told_first told_now s now refusals = Played o End source left told_first told_now s now refusals
+PlaysTo o TooLong source left told_first told_now s now refusals = Played o TooLong source left told_first told_now s now refusals
+PlaysTo o SourceFault source left told_first told_now s now refusals = Played o SourceFault source left told_first told_now s now refusals

@@ -1,5 +1,5 @@
 -- The completed runs of a session against the history of the buffer that their events went through.
-use Rattle.std.specs.Prelude.{◌≡◌, ℕ, ◌==◌, Bool, if◌then◌else◌, List, [], map, Option, Some, None, Ok, All}
+use Rattle.std.specs.Prelude.{◌≡◌, ℕ, ◌==◌, if◌then◌else◌, List, [], map, Option, Some, None, Ok, All}
 use Rattle.std.specs.List.{filter_map}
 use Rattle.daq_types.specs.declared.events.Event.{Event}
 use Rattle.daq_model.specs.RunFile.{run_file}

@@ -1,51 +1,61 @@
 -- A script and what a session made of it: the records of its runs, the run files, the text written, and the cause.
-use Rattle.std.specs.Prelude.{◌≡◌, ◌≢◌, ℕ, ◌<◌, ◌≤◌, List, [], length, map, take, Option, Some, None, Ok, MatchOption, ⊤}
+use Rattle.std.specs.Prelude.{◌≡◌, ◌≢◌, ℕ, ◌<◌, true, false, List, [], length, map, Option, Some, None, Ok, MatchOption, ⊤}
 use Rattle.std.specs.Io.KnownBytes.{Appends}
 use Rattle.daq_io.specs.Counts.{Rose}
 use Rattle.daq_io.specs.Streams.{AppendsPart}
-use Rattle.odb_script.specs.declared.commands.Command.TheVariants.{Stop}
-use Rattle.odb_script.specs.Commands.{command_of}
-use Rattle.odb_script.specs.Lines.{lines_of, script_limit}
+use Rattle.odb_script.specs.declared.forms.Command.TheVariants.{Stop}
+use Rattle.odb_script.specs.Forms.{command_of}
 use Rattle.daq_session.specs.declared.causes.Cause.{Cause}
 use Rattle.daq_session.specs.declared.causes.Cause.TheVariants.{Done, CommandRefused, Usage, BadInput, SourceFault, SinkFault, FileFault, NoMemory}
-use Rattle.daq_session.specs.declared.records.RunRecord.{RunRecord}
 use Rattle.daq_session.specs.declared.records.SessionRecord.{SessionRecord}
 use Rattle.daq_session.specs.declared.replies.Reply.{Reply}
 use Rattle.daq_session.specs.Console.{console_text, refused_lines, first_line}
+use Rattle.daq_session.specs.Playing.{AreWhole, AreTooMany, AreGiven, AreFirst}
 use Rattle.daq_session.specs.RunRecords.{IsKept}
-use Rattle.daq_session.specs.Stages.{Outset, Stage, opening, Does, Plays}
-
--- the records of a session; none where no session was opened
-abbrev pub runs_in : Option SessionRecord → List RunRecord
-runs_in None = []
-runs_in (Some session) = session.runs
+use Rattle.daq_session.specs.Stages.{Outset, Stage, opening, Does, Plays, Interrupts}
 
 -- the stop at the script's end, which is given where a run is on
 abbrev pub ClosesRun : Outset → Stage → Stage → Type 0
 ClosesRun o old new = MatchOption old.on (new ≡ old) (λ order. Does o old (Ok Stop) new)
 
--- The lines were played from the opening on, and the run was ended that was still on. The records and the replies are
--- those of that play, the last reply that of the stop at the end, and the files are as the records say.
-pub record IsPlayed (o after : Outset) (lines : List (List ℕ)) (replies : List Reply) (runs : List RunRecord) : Type 0 where
+-- The lines were played from the opening on; then maybe a command was cut off; and the run was ended that was still on.
+-- The files are as the records say.
+pub record IsPlayed (o after : Outset) (IsCut : Stage → Stage → Type 0) (lines : List (List ℕ)) (final : Stage) : Type 0 where
   pub behind : Stage
   pub plays : Plays o opening (map command_of lines) behind
-  pub final : Stage
-  pub closes : ClosesRun o behind final
-  pub runs_are : runs ≡ final.runs
-  pub replies_are : replies ≡ final.replies
-  pub kept : IsKept o.files after.files runs None
+  pub cut : Stage
+  pub is_cut : IsCut behind cut
+  pub closes : ClosesRun o cut final
+  pub kept : IsKept o.files after.files final.runs None
 
--- Which lines of the script's text were played: all of them, where the script was read to its end or is too long, and
--- else the first.
-abbrev pub ReadBy : Cause → (text : List ℕ) → List (List ℕ) → Type 0
-ReadBy Done text lines = (lines ≡ lines_of text) × (length text ≤ script_limit)
-ReadBy (CommandRefused count first) text lines = (lines ≡ lines_of text) × (length text ≤ script_limit)
-ReadBy (BadInput fault) text lines = (lines ≡ lines_of text) × (script_limit < length text)
-ReadBy Usage text lines = ⊥
-ReadBy SourceFault text lines = lines ≡ take (length lines) (lines_of text)
-ReadBy SinkFault text lines = lines ≡ take (length lines) (lines_of text)
-ReadBy (FileFault name) text lines = lines ≡ take (length lines) (lines_of text)
-ReadBy NoMemory text lines = lines ≡ take (length lines) (lines_of text)
+-- The record of a session that ended so: there is one exactly where a start opened the session, and it has the records of
+-- the runs and all calls on the database.
+abbrev pub IsRecorded : Stage → Option SessionRecord → Type 0
+IsRecorded final None = final.opened ≡ false
+IsRecorded final (Some session) = (final.opened ≡ true) × (session.runs ≡ final.runs) × (session.database ≡ final.calls)
+
+-- A command is cut off where it found no memory, and then alone.
+abbrev pub CutsBy : Cause → Stage → Stage → Type 0
+CutsBy Done old new = new ≡ old
+CutsBy (CommandRefused count first) old new = new ≡ old
+CutsBy (BadInput fault) old new = new ≡ old
+CutsBy Usage old new = ⊥
+CutsBy SourceFault old new = new ≡ old
+CutsBy SinkFault old new = new ≡ old
+CutsBy (FileFault name) old new = new ≡ old
+CutsBy NoMemory old new = Interrupts old new
+
+-- Which lines of the script's text were played, where this is left in the source: all of them, where the script was read
+-- to its end or is too long; those that were given, where the source failed; and else the first.
+abbrev pub ReadBy : Cause → (text : List ℕ) → (left : Option (List ℕ)) → List (List ℕ) → Type 0
+ReadBy Done text left lines = AreWhole text lines
+ReadBy (CommandRefused count first) text left lines = AreWhole text lines
+ReadBy (BadInput fault) text left lines = AreTooMany text lines
+ReadBy Usage text left lines = ⊥
+ReadBy SourceFault text left lines = AreGiven text left lines
+ReadBy SinkFault text left lines = AreFirst text lines
+ReadBy (FileFault name) text left lines = AreFirst text lines
+ReadBy NoMemory text left lines = AreFirst text lines
 
 -- what the cause says of the lines that were refused
 abbrev pub RefusedBy : Cause → List ℕ → Type 0
@@ -81,12 +91,14 @@ FaultsBy SinkFault source sink files first = Stands source × Rises sink
 FaultsBy (FileFault name) source sink files first = Stands source × Stands sink × Rises files × (first ≡ Some name)
 FaultsBy NoMemory source sink files first = ⊤
 
--- What a session made of its script, where no call on the run files failed.
-pub record IsSession (o after : Outset) (source told_first told_now : Option (List ℕ)) (sink : Count) (cause : Cause) (runs : List RunRecord) : Type 0 where
+-- What a session made of its script, where no call on the run files failed. The last reply is that of the stop at the
+-- end, where one was given.
+pub record IsSession (o after : Outset) (source left told_first told_now : Option (List ℕ)) (sink : Count) (cause : Cause) (session : Option SessionRecord) : Type 0 where
   pub lines : List (List ℕ)
-  pub replies : List Reply
-  pub played : IsPlayed o after lines replies runs
-  pub read : (text : List ℕ) → source ≡ Some text → ReadBy cause text lines
-  pub refused : RefusedBy cause (refused_lines 1 replies)
-  pub wrote : cause ≢ NoMemory → ¬ Rises sink → Appends told_first told_now (console_text 1 replies)
-  pub wrote_part : AppendsPart told_first told_now (console_text 1 replies)
+  pub final : Stage
+  pub played : IsPlayed o after (CutsBy cause) lines final
+  pub recorded : IsRecorded final session
+  pub read : (text : List ℕ) → source ≡ Some text → ReadBy cause text left lines
+  pub refused : RefusedBy cause (refused_lines 1 final.replies)
+  pub wrote : cause ≢ NoMemory → ¬ Rises sink → Appends told_first told_now (console_text 1 final.replies)
+  pub wrote_part : AppendsPart told_first told_now (console_text 1 final.replies)

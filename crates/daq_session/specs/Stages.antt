@@ -1,20 +1,31 @@
 -- What a script does to a session, line by line: the replies, the records of its runs, and where it stands.
-use Rattle.std.specs.Prelude.{◌≡◌, ℕ, ◌+◌, Bool, List, [], ◌∷◌, ◌++◌, Option, Some, None, Result, Ok, Err, All, IsTrue, ◌⊎◌}
+use Rattle.std.specs.Prelude.{◌≡◌, ℕ, ◌+◌, Bool, true, false, List, [], ◌∷◌, ◌++◌, Option, Some, None, Result, Ok, Err, All, IsTrue, ◌⊎◌}
 use Rattle.daq_types.specs.declared.runs.Order.{Order}
 use Rattle.daq_types.specs.declared.runs.RunState.TheVariants.{Stopped, Running}
 use Rattle.daq_types.specs.declared.runs.ChannelState.TheVariants.{Ended}
 use Rattle.daq_io.specs.Seen.{Seen}
-use Rattle.odb_script.specs.declared.commands.Command.{Command}
-use Rattle.odb_script.specs.declared.commands.Command.TheVariants.{Nothing, Events, Start, Stop}
-use Rattle.odb_script.specs.declared.commands.LineRefusal.{LineRefusal}
-use Rattle.odb_script.specs.declared.commands.LineRefusal.TheVariants.{BadCommand as no_command}
+use Rattle.odb_tree.specs.declared.entry.DatabaseEntry.{DatabaseEntry}
+use Rattle.odb_tree.specs.Rows.{Rows}
+use Rattle.odb_tree.specs.Calls.{get_reply}
+use Rattle.odb_tree.specs.Histories.{replay}
+use Rattle.odb_journal.specs.Noted.{by_main}
+use Rattle.odb_runinfo.specs.declared.keys.RunKey.TheVariants.{RunNumber as number_key}
+use Rattle.odb_runinfo.specs.declared.sets.RunNumber.{RunNumber as NoNext}
+use Rattle.odb_runinfo.specs.RunKeys.{key_path, session_rows}
+use Rattle.odb_runinfo.specs.RunSets.{Assignment, assignments, front_made, have_of, next_run, number_got, start_sets, started_sets, refused_sets, stopping_sets, stopped_sets}
+use Rattle.odb_script.specs.declared.forms.Command.{Command}
+use Rattle.odb_script.specs.declared.forms.Command.TheVariants.{Nothing, Events, Start, Stop, Create, CreateDir, Set, Get, List as Ls, Remove, Exit}
+use Rattle.odb_script.specs.declared.refusals.LineRefusal.{LineRefusal}
+use Rattle.odb_script.specs.declared.refusals.LineRefusal.TheVariants.{BadCommand as no_command}
+use Rattle.odb_commands.specs.Answers.{Answer, answer_of}
 use Rattle.daq_session.specs.declared.records.RunRecord.{RunRecord}
 use Rattle.daq_session.specs.declared.records.FrontTally.{FrontTally}
 use Rattle.daq_session.specs.declared.records.FileRecord.{FileRecord}
 use Rattle.daq_session.specs.declared.records.StartOutcome.TheVariants.{Completed, Refused}
 use Rattle.daq_session.specs.declared.records.Why.TheVariants.{Exists}
 use Rattle.daq_session.specs.declared.replies.Reply.{Reply}
-use Rattle.daq_session.specs.declared.replies.Reply.TheVariants.{Silent, BadCommand, WrongState, StartRefused, Started, Stopped as run_stopped}
+use Rattle.daq_session.specs.declared.replies.Reply.TheVariants.{Silent, BadCommand, WrongState, RunNumber, StartRefused, Started, Stopped as run_stopped, Database}
+use Rattle.daq_session.specs.FrontNames.{front_name}
 use Rattle.daq_session.specs.Tallies.{IsTally}
 use Rattle.daq_session.specs.RunNames.{run_name}
 use Rattle.daq_session.specs.RunRecords.{Avoids}
@@ -31,23 +42,35 @@ pub record Stage : Type 0 where
   pub quota : ℕ
   -- how many starts were begun
   pub starts : ℕ
-  -- the run number of the last completed start
-  pub run : ℕ
   -- how often the clock was read
   pub readings : ℕ
+  -- whether a start opened the session
+  pub opened : Bool
   -- the run that is on
   pub on : Option Order
   -- the records so far, but for that of the run that is on
   pub runs : List RunRecord
+  -- the online database
+  pub rows : Rows
+  -- all calls on it so far, each with the number of its caller: 0 is the main thread, 1 the front-end
+  pub calls : List (ℕ × DatabaseEntry)
   -- the replies so far, one for each line
   pub replies : List Reply
 
 abbrev pub opening : Stage
-opening = record { quota = 0; starts = 0; run = 0; readings = 0; on = None; runs = []; replies = [] }
+opening = record { quota = 0; starts = 0; readings = 0; opened = false; on = None; runs = []; rows = session_rows; calls = []; replies = [] }
 
 -- a line more was answered, and nothing else happened
 abbrev pub answered : Stage → Reply → Stage
 answered old reply = record old { replies = old.replies ++ reply ∷ [] }
+
+-- the database was called
+abbrev pub called : Stage → List (ℕ × DatabaseEntry) → Stage
+called old more = record old { rows = replay old.rows more; calls = old.calls ++ more }
+
+-- numbers were set in the database, one after the other
+abbrev pub assigned : Stage → List Assignment → Stage
+assigned old sets = called old (assignments old.rows sets)
 
 -- the clock gave this time at this reading
 abbrev pub IsReading : Outset → (reading time : ℕ) → Type 0
@@ -57,9 +80,9 @@ IsReading o reading time = IsTrue o.clock_tells → time ≡ o.ahead reading
 abbrev pub IsFreeName : Outset → List RunRecord → List ℕ → Type 0
 IsFreeName o runs name = (o.files.at name ≡ None) × All (Avoids name) runs
 
--- The run number is one above that of the last completed start; the start number one above that of the last start.
-abbrev pub next_order : Stage → (time : ℕ) → Order
-next_order old time = record { run = old.run + 1; start = old.starts + 1; time = time; from = Stopped; quota = old.quota }
+-- The start number is one above that of the last start.
+abbrev pub next_order : Stage → (run time : ℕ) → Order
+next_order old run time = record { run = run; start = old.starts + 1; time = time; from = Stopped; quota = old.quota }
 
 -- the record of a start that the logger, client 1, refused, since the name of the file of channel 0 was taken
 abbrev pub refused_record : Order → RunRecord
@@ -73,19 +96,24 @@ file_record run = record { channel = 0; name = run_name run; state = Ended }
 abbrev pub completed_record : Order → (time : ℕ) → FrontTally → RunRecord
 completed_record order time front = record { run = order.run; start = order.start; time0 = order.time; time1 = time; outcome = Completed; fronts = front ∷ []; files = file_record order.run ∷ [] }
 
--- a start that came about: its file's name was free
-pub record Begins (o : Outset) (old new : Stage) : Type 0 where
-  pub time : ℕ
-  pub reading : IsReading o old.readings time
-  pub free : IsTrue o.files.tells → IsFreeName o old.runs (run_name (old.run + 1))
-  pub leads : new ≡ record (answered old (Started (old.run + 1))) { starts = old.starts + 1; run = old.run + 1; readings = old.readings + 1; on = Some (next_order old time) }
+-- The first start opens the session: the key is made in which the front-end says how many events it sent.
+abbrev pub opens : Bool → Stage → Stage
+opens false old = record (called old (front_made old.rows front_name)) { opened = true }
+opens true old = old
 
--- a start that was refused: its file's name was taken. The start number stays used, the run number does not
-pub record Refuses (o : Outset) (old new : Stage) : Type 0 where
+-- a start that came about: its file's name was free
+pub record Begins (o : Outset) (run : ℕ) (old new : Stage) : Type 0 where
   pub time : ℕ
   pub reading : IsReading o old.readings time
-  pub taken : IsTrue o.files.tells → ¬ IsFreeName o old.runs (run_name (old.run + 1))
-  pub leads : new ≡ record (answered old (StartRefused 1 (Exists 0))) { starts = old.starts + 1; readings = old.readings + 1; runs = old.runs ++ refused_record (next_order old time) ∷ [] }
+  pub free : IsTrue o.files.tells → IsFreeName o old.runs (run_name run)
+  pub leads : new ≡ record (answered (assigned (assigned old (start_sets run time)) (started_sets front_name)) (Started run)) { starts = old.starts + 1; readings = old.readings + 1; on = Some (next_order old run time) }
+
+-- a start that was refused: its file's name was taken. The start number stays used, and the run number is set back
+pub record Refuses (o : Outset) (run : ℕ) (old new : Stage) : Type 0 where
+  pub time : ℕ
+  pub reading : IsReading o old.readings time
+  pub taken : IsTrue o.files.tells → ¬ IsFreeName o old.runs (run_name run)
+  pub leads : new ≡ record (answered (assigned (assigned old (start_sets run time)) (refused_sets run)) (StartRefused 1 (Exists 0))) { starts = old.starts + 1; readings = old.readings + 1; runs = old.runs ++ refused_record (next_order old run time) ∷ [] }
 
 -- a stop of a run
 pub record Ends (o : Outset) (old : Stage) (order : Order) (new : Stage) : Type 0 where
@@ -93,11 +121,20 @@ pub record Ends (o : Outset) (old : Stage) (order : Order) (new : Stage) : Type 
   pub reading : IsReading o old.readings time
   pub front : FrontTally
   pub sent : IsTally order.quota front
-  pub leads : new ≡ record (answered old (run_stopped order.run front (file_record order.run))) { readings = old.readings + 1; on = None; runs = old.runs ++ completed_record order time front ∷ [] }
+  pub leads : new ≡ record (answered (assigned (assigned old (stopping_sets time)) (stopped_sets front_name front.sent)) (run_stopped order.run front (file_record order.run))) { readings = old.readings + 1; on = None; runs = old.runs ++ completed_record order time front ∷ [] }
+
+-- a start with this next run number, or where the database's run number has no next one
+abbrev pub StartsRun : Outset → Result ℕ NoNext → Stage → Stage → Type 0
+StartsRun o (Err no_next) old new = new ≡ answered old (RunNumber no_next.have)
+StartsRun o (Ok run) old new = Begins o run old new ⊎ Refuses o run old new
+
+-- a start where no run is on: the session is opened, and the run number is got
+abbrev pub StartsFrom : Outset → Stage → Stage → Type 0
+StartsFrom o old new = StartsRun o (next_run (have_of (get_reply old.rows (key_path number_key)))) (called old (number_got old.rows)) new
 
 -- the command `start`
 abbrev pub DoesStart : Outset → Stage → Option Order → Stage → Type 0
-DoesStart o old None new = Begins o old new ⊎ Refuses o old new
+DoesStart o old None new = StartsFrom o (opens old.opened old) new
 DoesStart o old (Some order) new = new ≡ answered old (WrongState Running)
 
 -- the command `stop`
@@ -105,15 +142,34 @@ abbrev pub DoesStop : Outset → Stage → Option Order → Stage → Type 0
 DoesStop o old None new = new ≡ answered old (WrongState Stopped)
 DoesStop o old (Some order) new = Ends o old order new
 
+-- a command of the database: its calls are made by the main thread, and it has its reply
+abbrev pub DoesAnswer : Stage → Option Answer → Stage → Type 0
+DoesAnswer old None new = ⊥
+DoesAnswer old (Some answer) new = new ≡ answered (called old (by_main answer.calls)) (Database answer.reply)
+
 -- what a line does: nothing but its reply where it is no command
 abbrev pub Does : Outset → Stage → Result Command LineRefusal → Stage → Type 0
 Does o old (Err (no_command at)) new = new ≡ answered old (BadCommand at)
 Does o old (Ok Nothing) new = new ≡ answered old Silent
-Does o old (Ok (Events quota)) new = new ≡ record (answered old Silent) { quota = quota }
+Does o old (Ok (Events count)) new = new ≡ record (answered old Silent) { quota = count }
 Does o old (Ok Start) new = DoesStart o old old.on new
 Does o old (Ok Stop) new = DoesStop o old old.on new
+Does o old (Ok (Create tid path len)) new = DoesAnswer old (answer_of old.rows (Create tid path len)) new
+Does o old (Ok (CreateDir path)) new = DoesAnswer old (answer_of old.rows (CreateDir path)) new
+Does o old (Ok (Set path index value)) new = DoesAnswer old (answer_of old.rows (Set path index value)) new
+Does o old (Ok (Get path index)) new = DoesAnswer old (answer_of old.rows (Get path index)) new
+Does o old (Ok (Ls path)) new = DoesAnswer old (answer_of old.rows (Ls path)) new
+Does o old (Ok (Remove path)) new = DoesAnswer old (answer_of old.rows (Remove path)) new
+Does o old (Ok Exit) new = new ≡ answered old Silent
 
 -- what lines do, one after the other
 abbrev pub Plays : Outset → Stage → List (Result Command LineRefusal) → Stage → Type 0
 Plays o old [] new = new ≡ old
 Plays o old (line ∷ lines) new = (between : Stage) × Does o old line between × Plays o between lines new
+
+-- A command found no memory: the main thread made some calls on the database, and maybe the session was opened.
+pub record Interrupts (old new : Stage) : Type 0 where
+  pub calls : List DatabaseEntry
+  pub opened : Bool
+  pub stays_open : IsTrue old.opened → IsTrue opened
+  pub leads : new ≡ record (called old (by_main calls)) { opened = opened }

@@ -95,7 +95,7 @@ pub fn close_run<K: Sink, F: Files, C: Clock>(
             whole: true,
         };
     }
-    match desk.session.stop_run(files, clock) {
+    match desk.session.stop_run(alloc, files, clock) {
         Err(_) => Closed {
             ending: ending.earlier(Halt::FileFault),
             whole: false,

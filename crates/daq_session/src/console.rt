@@ -2,13 +2,17 @@ ghost use Rattle.std.specs.Prelude.{◌≡◌, ◌++◌, ◌∷◌, [], OnOk, co
 ghost use Rattle.std.specs.Fmt.{decimal};
 ghost use Rattle.daq_session.specs.Halts.{CountsSink};
 ghost use Rattle.daq_session.specs.Playing.{Prints};
-ghost use Rattle.daq_session.specs.Console.{client_name, file_line, front_line, refused_line, state_name, state_number, text_of, why_text};
+ghost use Rattle.daq_session.specs.Console.{client_name, file_line, front_line, state_name, state_number, text_of, why_text};
+ghost use Rattle.odb_commands.specs.Texts.{refused_line};
+ghost use Rattle.odb_value.specs.declared.items.Item.TheVariants.{Int32};
+ghost use Rattle.odb_value.specs.ItemTexts.{item_text};
 
 use crate::halts::Halt;
 use crate::records::{FileRecord, FrontTally, Why};
 use crate::replies::Reply;
 use daq_io::{Sink, write_all};
 use daq_types::{ChannelState, NoMemory, RunState};
+use itoa::Buffer;
 use odb_script::TextBuffer;
 use std::alloc::Global;
 
@@ -45,7 +49,25 @@ fn name_of_client(client: u32) -> &'static [u8]
     if client == 0 { b"FE" } else { b"Logger" }
 }
 
-/// Adds the line of a refusal: the number of the script's line, then the refusal's name and its number.
+/// Adds the line of a refusal: the number of the script's line, then the refusal's name and the digits of its number.
+fn add_refused(
+    text: &mut TextBuffer,
+    alloc: Global,
+    line: u64,
+    name: &[u8],
+    digits: &[u8],
+) -> Result<(), NoMemory>
+    ensures { OnOk result (text.new ≡ text.old ++ refused_line line (name.now ++ digits.now)) }
+{
+    text.text(b"refused ")?;
+    text.number(alloc, line)?;
+    text.text(b": ")?;
+    text.text(name)?;
+    text.text(digits)?;
+    text.text(b"\n")
+}
+
+/// Adds the line of a refusal with this number.
 fn add_refusal(
     text: &mut TextBuffer,
     alloc: Global,
@@ -55,12 +77,22 @@ fn add_refusal(
 ) -> Result<(), NoMemory>
     ensures { OnOk result (text.new ≡ text.old ++ refused_line line (name.now ++ decimal number)) }
 {
-    text.text(b"refused ")?;
-    text.number(alloc, line)?;
-    text.text(b": ")?;
-    text.text(name)?;
-    text.number(alloc, number)?;
-    text.text(b"\n")
+    let mut digits = Buffer::new();
+    add_refused(text, alloc, line, name, digits.format(number).as_bytes())
+}
+
+/// Adds the line of a start for which there is no run number.
+fn add_no_number(text: &mut TextBuffer, alloc: Global, line: u64, have: i32) -> Result<(), NoMemory>
+    ensures { OnOk result (text.new ≡ text.old ++ refused_line line (codes "RunNumber " ++ item_text (Int32 have))) }
+{
+    let mut digits = Buffer::new();
+    add_refused(
+        text,
+        alloc,
+        line,
+        b"RunNumber ",
+        digits.format(have).as_bytes(),
+    )
 }
 
 /// Adds why a client refused a start.
@@ -140,12 +172,14 @@ fn add_reply(text: &mut TextBuffer, alloc: Global, line: u64, reply: &Reply) -> 
         Reply::WrongState { state } => {
             add_refusal(text, alloc, line, b"WrongState ", number_of_state(*state))
         }
+        Reply::RunNumber { have } => add_no_number(text, alloc, line, *have),
         Reply::StartRefused { client, why } => add_start_refused(text, alloc, line, *client, why),
         Reply::Started { run } => add_run(text, alloc, *run, b" started"),
         Reply::Stopped { run, front, file } => {
             add_run(text, alloc, *run, b" stopped")?;
             add_tallies(text, alloc, front, file)
         }
+        Reply::Database { reply } => reply.print(alloc, line, text),
     }
 }
 

@@ -1,7 +1,7 @@
 ghost use Rattle.std.specs.Prelude.{◌≡◌, ◌≤◌, ◌<◌, ◌+◌, ◌^◌, ℕ, [], None, IfOk};
 ghost use Rattle.daq_session.specs.Halts.{CountsHalt, CountsSink};
 ghost use Rattle.daq_session.specs.Standing.{IsReady};
-ghost use Rattle.daq_session.specs.Playing.{DoesLine, IsNew};
+ghost use Rattle.daq_session.specs.Playing.{DoesLine, GoesBehind, IsNew};
 ghost use Rattle.daq_session.specs.Tallies.{most_starts};
 
 use crate::console::print_reply;
@@ -10,8 +10,17 @@ use crate::refusals::Refusals;
 use crate::session::Session;
 use daq_io::{Clock, Files, Sink};
 use daq_types::NoMemory;
-use odb_script::{Command, TextBuffer};
+use odb_script::{Command, LineRefusal, TextBuffer};
 use std::alloc::Global;
+
+/// Whether a script goes on behind a line.
+#[derive(Clone, Copy, Debug, PartialEq, Eq)]
+pub enum Going {
+    /// It goes on.
+    On,
+    /// The line was `exit`.
+    Exit,
+}
 
 /// A session with its console: the text that is being made, and the lines that were refused.
 #[derive(Drop)]
@@ -22,6 +31,16 @@ pub struct Desk {
     pub text: TextBuffer,
     /// The lines that were refused so far.
     pub refusals: Refusals,
+}
+
+/// Whether the script goes on behind this command.
+fn going_behind(command: &Result<Command, LineRefusal>) -> Going
+    ensures { GoesBehind result command.now }
+{
+    match command {
+        Ok(Command::Exit) => Going::Exit,
+        _ => Going::On,
+    }
 }
 
 impl Desk {
@@ -47,7 +66,7 @@ impl Desk {
         out: &mut K,
         files: &mut F,
         clock: &mut C,
-    ) -> Result<(), Halt>
+    ) -> Result<Going, Halt>
         requires few { self.old.session.state.starts + 1 ≤ most_starts }
         requires counted { self.old.refusals.count + 1 < 2 ^ 64 }
         requires ready { IsReady (F.seen files.old) self.old.session.state.current }
@@ -59,8 +78,10 @@ impl Desk {
         ensures sink { CountsSink (K.faults out.old) (K.faults out.new) result }
     {
         let command = Command::read(line);
+        let going = going_behind(&command);
         let reply = self.session.answer(alloc, command, files, clock)?;
         self.refusals.note(number, &reply);
-        print_reply(&mut self.text, alloc, number, &reply, out)
+        print_reply(&mut self.text, alloc, number, &reply, out)?;
+        Ok(going)
     }
 }

@@ -1,6 +1,7 @@
 use crate::entry_list::Entries;
 use buffer_core::BufferJournal;
-use daq_types::{ChannelState, FileName, Name};
+use daq_types::{ChannelState, FileName, Journal, Name};
+use odb_tree::DatabaseEntry;
 
 /// What is kept of a session.
 #[derive(Drop)]
@@ -9,6 +10,9 @@ pub struct SessionRecord {
     pub runs: Entries<RunRecord>,
     /// One record for each buffer, in the order of their declarations.
     pub buffers: Entries<BufferRecord>,
+    /// All calls on the online database with their replies, each with the number of its caller: 0 is the main thread, 1 the
+    /// front-end.
+    pub database: Journal<(u32, DatabaseEntry)>,
 }
 
 /// What is kept of a buffer.

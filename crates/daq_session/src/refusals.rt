@@ -19,9 +19,12 @@ impl Reply {
         ensures { result ≡ is_refusal self.now }
     {
         match self {
-            Reply::BadCommand { .. } | Reply::WrongState { .. } | Reply::StartRefused { .. } =>
-                true,
+            Reply::BadCommand { .. }
+            | Reply::WrongState { .. }
+            | Reply::RunNumber { .. }
+            | Reply::StartRefused { .. } => true,
             Reply::Silent | Reply::Started { .. } | Reply::Stopped { .. } => false,
+            Reply::Database { reply } => reply.is_refusal(),
         }
     }
 }

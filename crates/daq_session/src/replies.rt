@@ -1,8 +1,9 @@
 use crate::records::{FileRecord, FrontTally, Why};
 use daq_types::RunState;
+use odb_commands::CommandReply;
 
 /// What a line of the script is answered.
-#[derive(Clone, Copy, Debug, PartialEq, Eq)]
+#[derive(Debug, Drop)]
 pub enum Reply {
     /// Nothing is printed.
     Silent,
@@ -13,6 +14,10 @@ pub enum Reply {
     /// Refused: the command does not go with the state of the run.
     WrongState {
         state: RunState,
+    },
+    /// Refused: the database's run number has no next one.
+    RunNumber {
+        have: i32,
     },
     /// Refused: this client refused the start.
     StartRefused {
@@ -28,5 +33,9 @@ pub enum Reply {
         run: u32,
         front: FrontTally,
         file: FileRecord,
+    },
+    /// The answer of a command of the database.
+    Database {
+        reply: CommandReply,
     },
 }

@@ -1,8 +1,12 @@
-ghost use Rattle.std.specs.Prelude.{◌≡◌, ◌≢◌, [], All, None, IfSome, IsTrue};
+ghost use Rattle.std.specs.Prelude.{◌≡◌, ◌≢◌, ℕ, List, All, None, IfSome, IsTrue};
 ghost use Rattle.daq_io.specs.Counts.{Rose};
 ghost use Rattle.daq_session.specs.BufferRecords.{IsOneHistory, IsSystem, history_in};
 ghost use Rattle.daq_session.specs.RunHistories.{IsHeldRun, HoldSegments, AreSentByFronts};
-ghost use Rattle.daq_session.specs.Sessions.{FaultsBy, IsSession, runs_in};
+ghost use Rattle.daq_session.specs.Sessions.{FaultsBy, IsRecorded, IsSession};
+ghost use Rattle.daq_session.specs.Standing.{stage_of};
+ghost use Rattle.daq_session.specs.declared.replies.Reply.{Reply};
+ghost use Rattle.odb_tree.specs.Histories.{IsLegal};
+ghost use Rattle.odb_runinfo.specs.RunKeys.{session_rows};
 
 use crate::causes::Cause;
 use crate::closing::{cause_of, close_run};
@@ -19,20 +23,21 @@ use std::thread::Threads;
 
 /// The record of a session that is over; none where no start opened it.
 fn record_of(session: Session) -> Option<SessionRecord>
-    ensures runs { runs_in result ≡ session.state.runs.items }
-    ensures opened { IfSome result (λ s. s.runs ≢ []) }
+    ensures recorded { (readings : ℕ) (replies : List Reply) → IsRecorded (stage_of session.state readings replies) result }
+    ensures database { IfSome result (λ s. IsLegal session_rows s.database) }
     ensures buffers { IfSome result (λ s. IsSystem (history_in s.buffers) s.buffers) }
     ensures one_history { IfSome result (λ s. All IsOneHistory s.buffers) }
     ensures held { IfSome result (λ s. All (IsHeldRun (history_in s.buffers)) s.runs) }
 {
     let state = session.state;
-    let runs = state.runs;
-    if runs.as_slice().is_empty() {
+    if !state.opened {
         return None;
     }
+    let (_, database) = state.database.into_parts();
     Some(SessionRecord {
-        runs: Entries::of(runs),
+        runs: Entries::of(state.runs),
         buffers: session.path.into_records(),
+        database,
     })
 }
 
@@ -41,15 +46,15 @@ fn run<S: Source, K: Sink, F: Files, E, C: Clock, P>(
     alloc: Global,
     outside: &mut Outside<S, K, F, E, C, P>,
 ) -> (Cause, Option<SessionRecord>)
-    ensures session { ¬ Rose (F.faults outside.old.run_files) (F.faults outside.new.run_files) → IsSession (record { files = F.seen outside.old.run_files; clock_tells = C.tells outside.old.clock; ahead = C.ahead outside.old.clock }) (record { files = F.seen outside.new.run_files; clock_tells = C.tells outside.new.clock; ahead = C.ahead outside.new.clock }) (S.left outside.old.src) (K.written outside.old.out) (K.written outside.new.out) (record { old = K.faults outside.old.out; new = K.faults outside.new.out }) result.0 (runs_in result.1) }
+    ensures session { ¬ Rose (F.faults outside.old.run_files) (F.faults outside.new.run_files) → IsSession (record { files = F.seen outside.old.run_files; clock_tells = C.tells outside.old.clock; ahead = C.ahead outside.old.clock }) (record { files = F.seen outside.new.run_files; clock_tells = C.tells outside.new.clock; ahead = C.ahead outside.new.clock }) (S.left outside.old.src) (S.left outside.new.src) (K.written outside.old.out) (K.written outside.new.out) (record { old = K.faults outside.old.out; new = K.faults outside.new.out }) result.0 result.1 }
     ensures faults { FaultsBy result.0 (record { old = S.faults outside.old.src; new = S.faults outside.new.src }) (record { old = K.faults outside.old.out; new = K.faults outside.new.out }) (record { old = F.faults outside.old.run_files; new = F.faults outside.new.run_files }) (F.first outside.new.run_files) }
     ensures broken { F.faults outside.new.run_files ≢ F.faults outside.old.run_files → result.1 ≡ None }
-    ensures opened { IfSome result.1 (λ s. s.runs ≢ []) }
+    ensures database { IfSome result.1 (λ s. IsLegal session_rows s.database) }
     ensures buffers { IfSome result.1 (λ s. IsSystem (history_in s.buffers) s.buffers) }
     ensures one_history { IfSome result.1 (λ s. All IsOneHistory s.buffers) }
     ensures run_files { ¬ Rose (F.faults outside.old.run_files) (F.faults outside.new.run_files) → IsTrue (F.seen outside.old.run_files).tells → IfSome result.1 (λ s. All (HoldSegments s.buffers (F.seen outside.new.run_files).at) s.runs) }
     ensures front_end_sends { IfSome result.1 (λ s. All (AreSentByFronts s.buffers) s.runs) }
-    ensures database { outside.new.odb_files ≡ outside.old.odb_files }
+    ensures database_files { outside.new.odb_files ≡ outside.old.odb_files }
     ensures picks { outside.new.pick ≡ outside.old.pick }
 {
     let Ok(mut desk) = Desk::new(alloc) else {
@@ -96,12 +101,13 @@ pub fn run_script<
     _gate: &G,
 ) -> (Cause, Option<SessionRecord>, Outside<S, K, F, E, C, P>)
     // The records, the run files, the text and the cause are what the script asks for.
-    ensures session { ¬ Rose (F.faults outside.run_files) (F.faults result.2.run_files) → IsSession (record { files = F.seen outside.run_files; clock_tells = C.tells outside.clock; ahead = C.ahead outside.clock }) (record { files = F.seen result.2.run_files; clock_tells = C.tells result.2.clock; ahead = C.ahead result.2.clock }) (S.left outside.src) (K.written outside.out) (K.written result.2.out) (record { old = K.faults outside.out; new = K.faults result.2.out }) result.0 (runs_in result.1) }
+    ensures session { ¬ Rose (F.faults outside.run_files) (F.faults result.2.run_files) → IsSession (record { files = F.seen outside.run_files; clock_tells = C.tells outside.clock; ahead = C.ahead outside.clock }) (record { files = F.seen result.2.run_files; clock_tells = C.tells result.2.clock; ahead = C.ahead result.2.clock }) (S.left outside.src) (S.left result.2.src) (K.written outside.out) (K.written result.2.out) (record { old = K.faults outside.out; new = K.faults result.2.out }) result.0 result.1 }
     // A fault is the cause exactly where the count of its object rose, and no earlier cause holds.
     ensures faults { FaultsBy result.0 (record { old = S.faults outside.src; new = S.faults result.2.src }) (record { old = K.faults outside.out; new = K.faults result.2.out }) (record { old = F.faults outside.run_files; new = F.faults result.2.run_files }) (F.first result.2.run_files) }
-    // There is no record where a call on the run files failed, and none without a run.
+    // There is no record where a call on the run files failed.
     ensures broken { F.faults result.2.run_files ≢ F.faults outside.run_files → result.1 ≡ None }
-    ensures opened { IfSome result.1 (λ s. s.runs ≢ []) }
+    // The calls on the online database are those of one database that opened with the run's parameters.
+    ensures database { IfSome result.1 (λ s. IsLegal session_rows s.database) }
     // There is one buffer, SYSTEM, and its history is that of one buffer.
     ensures buffers { IfSome result.1 (λ s. IsSystem (history_in s.buffers) s.buffers) }
     ensures one_history { IfSome result.1 (λ s. All IsOneHistory s.buffers) }
@@ -109,7 +115,7 @@ pub fn run_script<
     // asked for; and these are the events that the front-end sent in that run.
     ensures run_files { ¬ Rose (F.faults outside.run_files) (F.faults result.2.run_files) → IsTrue (F.seen outside.run_files).tells → IfSome result.1 (λ s. All (HoldSegments s.buffers (F.seen result.2.run_files).at) s.runs) }
     ensures front_end_sends { IfSome result.1 (λ s. All (AreSentByFronts s.buffers) s.runs) }
-    ensures database { result.2.odb_files ≡ outside.odb_files }
+    ensures database_files { result.2.odb_files ≡ outside.odb_files }
     ensures picks { result.2.pick ≡ outside.pick }
 {
     let (cause, session) = run(alloc, &mut outside);

@@ -3,7 +3,7 @@ ghost use Rattle.odb_script.specs.Lines.{nothing_read};
 ghost use Rattle.daq_session.specs.Endings.{SourceCounts, SinkCounts, FileCounts};
 ghost use Rattle.daq_session.specs.Playing.{PlaysTo, IsNew};
 
-use crate::desk::Desk;
+use crate::desk::{Desk, Going};
 use crate::endings::Ending;
 use daq_io::{Clock, Files, Outside, Sink, Source};
 use odb_script::{LineReader, NextLine};
@@ -22,7 +22,7 @@ pub fn play<S: Source, K: Sink, F: Files, E, C: Clock, P>(
     requires new { IsNew desk.old.session.state }
     requires none { desk.old.refusals ≡ record { count = 0; first = 0 } }
     requires unread { reader.old ≡ nothing_read }
-    ensures did { PlaysTo (record { files = F.seen outside.old.run_files; clock_tells = C.tells outside.old.clock; ahead = C.ahead outside.old.clock }) result (S.left outside.old.src) (K.written outside.old.out) (K.written outside.new.out) desk.new.session.state (record { files = F.seen outside.new.run_files; clock_tells = C.tells outside.new.clock; ahead = C.ahead outside.new.clock }) desk.new.refusals }
+    ensures did { PlaysTo (record { files = F.seen outside.old.run_files; clock_tells = C.tells outside.old.clock; ahead = C.ahead outside.old.clock }) result (S.left outside.old.src) (S.left outside.new.src) (K.written outside.old.out) (K.written outside.new.out) desk.new.session.state (record { files = F.seen outside.new.run_files; clock_tells = C.tells outside.new.clock; ahead = C.ahead outside.new.clock }) desk.new.refusals }
     ensures source { SourceCounts result (S.faults outside.old.src) (S.faults outside.new.src) }
     ensures sink { SinkCounts result (K.faults outside.old.out) (K.faults outside.new.out) }
     ensures files { FileCounts result (F.faults outside.old.run_files) (F.faults outside.new.run_files) }
@@ -40,8 +40,10 @@ pub fn play<S: Source, K: Sink, F: Files, E, C: Clock, P>(
                     &mut outside.run_files,
                     &mut outside.clock,
                 );
-                if let Err(halt) = handled {
-                    return Ending::Halted { halt };
+                match handled {
+                    Ok(Going::On) => {}
+                    Ok(Going::Exit) => return Ending::End,
+                    Err(halt) => return Ending::Halted { halt },
                 }
             }
             NextLine::Last => {
@@ -54,7 +56,7 @@ pub fn play<S: Source, K: Sink, F: Files, E, C: Clock, P>(
                     &mut outside.clock,
                 );
                 return match handled {
-                    Ok(()) => Ending::End,
+                    Ok(_) => Ending::End,
                     Err(halt) => Ending::Halted { halt },
                 };
             }

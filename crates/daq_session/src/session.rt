@@ -1,11 +1,15 @@
-ghost use Rattle.std.specs.Prelude.{◌≡◌, ◌≤◌, ◌<◌, ◌+◌, ◌*◌, ◌^◌, ℕ, [], None, Ok, IfOk, OnOk, IsSome, false};
+ghost use Rattle.std.specs.Prelude.{◌≡◌, ◌≤◌, ◌<◌, ◌+◌, ◌*◌, ◌^◌, ◌++◌, ◌∷◌, ℕ, List, [], None, Ok, IfOk, IfErr, OnErr, OnOk, IsSome, false};
 ghost use Rattle.std.specs.Option.{ForNone, ForSome};
 ghost use Rattle.buffer_core.specs.declared.gate.RunGate.TheVariants.{Running, Shut};
 ghost use Rattle.daq_io.specs.Counts.{CountsFault};
-ghost use Rattle.odb_script.specs.declared.commands.Command.TheVariants.{Nothing, Stop};
+ghost use Rattle.odb_script.specs.declared.forms.Command.TheVariants.{Nothing, Stop};
 ghost use Rattle.daq_session.specs.Console.{is_refusal};
 ghost use Rattle.daq_session.specs.Halts.{CountsHalt};
-ghost use Rattle.daq_session.specs.Standing.{Answers, Handles, IsReady};
+ghost use Rattle.daq_session.specs.Standing.{Answers, Handles, IsReady, stage_of};
+ghost use Rattle.daq_session.specs.Stages.{DoesAnswer, Interrupts};
+ghost use Rattle.daq_session.specs.declared.halts.Halt.TheVariants.{NoMemory as no_memory};
+ghost use Rattle.odb_commands.specs.Answers.{answer_of};
+ghost use Rattle.odb_runinfo.specs.RunKeys.{session_rows};
 ghost use Rattle.buffer_core.specs.Window.{accepted_of};
 ghost use Rattle.daq_session.specs.RunsTold.{IsStanding};
 ghost use Rattle.daq_session.specs.Tallies.{most_spent, most_starts};
@@ -17,7 +21,11 @@ use crate::state::State;
 use crate::transitions::{start, stop};
 use daq_io::{Clock, Failed, Files};
 use daq_types::NoMemory;
+use odb_commands::{COMMAND_CALLS, run_command};
+use odb_journal::LocalDatabase;
+use odb_runinfo::{STOP_CALLS, open};
 use odb_script::{Command, LineRefusal};
+use odb_tree::PlainTree;
 use std::alloc::Global;
 
 /// A session: where it stands in its script, and the way of its events.
@@ -43,6 +51,36 @@ pub struct Session {
     ghost told: { ∥ IsStanding path.port.history (accepted_of path.port.window) state.starts state.runs.items state.current ∥₁ },
 }
 
+/// The online database of a session: the run's parameters, and no call noted.
+fn open_database(alloc: Global) -> Result<LocalDatabase<PlainTree>, NoMemory>
+    ensures start { IfOk result (λ database. database.start ≡ session_rows) }
+    ensures rows { IfOk result (λ database. database.rows ≡ session_rows) }
+    ensures calls { IfOk result (λ database. database.history ≡ []) }
+{
+    let mut tree = PlainTree::new(alloc);
+    match open(alloc, &mut tree) {
+        Ok(()) => Ok(LocalDatabase::new(alloc, tree)),
+        Err(_) => Err(NoMemory),
+    }
+}
+
+/// Answers a command of the database.
+fn call(alloc: Global, state: &mut State, command: &Command<'_>) -> Result<Reply, Halt>
+    requires is_call { IsSome (answer_of state.old.database.rows command.now) }
+    ensures answered { IfOk result (λ reply. (readings : ℕ) (replies : List Reply) → DoesAnswer (stage_of state.old readings replies) (answer_of state.old.database.rows command.now) (stage_of state.new readings (replies ++ reply ∷ []))) }
+    ensures halted { IfErr result (λ halt. halt ≡ no_memory) }
+    ensures interrupted { OnErr result ((readings : ℕ) (replies : List Reply) → Interrupts (stage_of state.old readings replies) (stage_of state.new readings replies)) }
+    ensures current { state.new.current ≡ state.old.current }
+    ensures runs { state.new.runs.items ≡ state.old.runs.items }
+    ensures starts { state.new.starts ≡ state.old.starts }
+{
+    state.database.reserve(STOP_CALLS + COMMAND_CALLS)?;
+    match run_command(alloc, &mut state.database, command)? {
+        Some(reply) => Ok(Reply::Database { reply }),
+        None => unreachable!(),
+    }
+}
+
 impl Session {
     /// A session before its first line.
     pub fn new(alloc: Global) -> Result<Session, NoMemory>
@@ -50,16 +88,20 @@ impl Session {
         ensures runs { IfOk result (λ s. s.state.runs.items ≡ []) }
         ensures quota { IfOk result (λ s. s.state.quota ≡ 0) }
         ensures starts { IfOk result (λ s. s.state.starts ≡ 0) }
-        ensures run { IfOk result (λ s. s.state.run ≡ 0) }
+        ensures opened { IfOk result (λ s. s.state.opened ≡ false) }
+        ensures rows { IfOk result (λ s. s.state.database.rows ≡ session_rows) }
+        ensures calls { IfOk result (λ s. s.state.database.history ≡ []) }
     {
         let path = DataPath::new(alloc)?;
+        let database = open_database(alloc)?;
         Ok(Session {
             state: State {
                 quota: 0,
                 starts: 0,
-                run: 0,
+                opened: false,
                 runs: Vec::new(alloc),
                 current: None,
+                database,
             },
             path,
         })
@@ -69,32 +111,34 @@ impl Session {
     pub fn answer<F: Files, C: Clock>(
         &mut self,
         alloc: Global,
-        line: Result<Command, LineRefusal>,
+        line: Result<Command<'_>, LineRefusal>,
         files: &mut F,
         clock: &mut C,
     ) -> Result<Reply, Halt>
         requires few { self.old.state.starts + 1 ≤ most_starts }
         requires ready { IsReady (F.seen files.old) self.old.state.current }
-        ensures did { Handles line self.old.state self.new.state (record { files = F.seen files.old; clock_tells = C.tells clock.old; ahead = C.ahead clock.old }) (record { files = F.seen files.new; clock_tells = C.tells clock.new; ahead = C.ahead clock.new }) result }
+        ensures did { Handles line.entry self.old.state self.new.state (record { files = F.seen files.old; clock_tells = C.tells clock.old; ahead = C.ahead clock.old }) (record { files = F.seen files.new; clock_tells = C.tells clock.new; ahead = C.ahead clock.new }) result }
         ensures starts { self.new.state.starts ≤ self.old.state.starts + 1 }
-        ensures nothing { line ≡ Ok Nothing → self.new.state.starts ≡ self.old.state.starts }
+        ensures nothing { line.entry ≡ Ok Nothing → self.new.state.starts ≡ self.old.state.starts }
         ensures faults { CountsHalt (F.faults files.old) (F.faults files.new) result }
     {
         match line {
             Err(LineRefusal::BadCommand { at }) => Ok(Reply::BadCommand { at }),
-            Ok(Command::Nothing) => Ok(Reply::Silent),
-            Ok(Command::Events { quota }) => {
-                self.state.quota = quota;
+            Ok(Command::Nothing | Command::Exit) => Ok(Reply::Silent),
+            Ok(Command::Events { count }) => {
+                self.state.quota = count;
                 Ok(Reply::Silent)
             }
             Ok(Command::Start) => start(alloc, &mut self.state, &mut self.path, files, clock),
-            Ok(Command::Stop) => Ok(stop(&mut self.state, &mut self.path, files, clock)?),
+            Ok(Command::Stop) => Ok(stop(alloc, &mut self.state, &mut self.path, files, clock)?),
+            Ok(command) => call(alloc, &mut self.state, &command),
         }
     }
 
     /// Ends the run that is on.
     pub fn stop_run<F: Files, C: Clock>(
         &mut self,
+        alloc: Global,
         files: &mut F,
         clock: &mut C,
     ) -> Result<Reply, Failed>
@@ -104,6 +148,6 @@ impl Session {
         ensures accepted { IfOk result (λ reply. IsSome self.old.state.current → is_refusal reply ≡ false) }
         ensures faults { CountsFault (F.faults files.old) (F.faults files.new) result }
     {
-        stop(&mut self.state, &mut self.path, files, clock)
+        stop(alloc, &mut self.state, &mut self.path, files, clock)
     }
 }

@@ -1,10 +1,15 @@
 ghost use Rattle.std.specs.Prelude.{◌≡◌, ◌<◌, ◌≤◌, vec_len, vec_capacity};
 ghost use Rattle.std.specs.Option.{ForSome};
+ghost use Rattle.odb_runinfo.specs.RunKeys.{session_rows};
 ghost use Rattle.daq_session.specs.RunNames.{run_name};
+ghost use Rattle.daq_session.specs.FrontNames.{front_name};
 
 use crate::records::RunRecord;
 use crate::rooms::Rooms;
 use daq_types::{FileName, Order};
+use odb_journal::LocalDatabase;
+use odb_runinfo::{StoppedPaths, StoppingPaths};
+use odb_tree::PlainTree;
 
 /// Where a session stands between two lines of its script.
 #[derive(Drop)]
@@ -13,15 +18,20 @@ pub struct State {
     pub quota: u32,
     /// How many starts were begun.
     pub starts: u32,
-    /// The run number of the last completed start; 0 before the first.
-    pub run: u32,
+    /// Whether a start opened the session.
+    pub opened: bool,
     /// The records of the starts so far, but for that of the run that is on.
     pub runs: Vec<RunRecord>,
     /// The run that is on.
     pub current: Option<OpenRun>,
+    /// The online database, with the journal of its calls.
+    pub database: LocalDatabase<PlainTree>,
     // The record of the run that is on needs no memory.
-    ghost counted: { run ≤ starts },
     ghost room: { ForSome current (λ _. vec_len runs < vec_capacity runs) },
+    // The calls are noted since the session's first rows.
+    ghost opens: { database.start ≡ session_rows },
+    // There is room to note what the stop of the run that is on sets.
+    ghost noted: { ForSome current (λ _. 4 ≤ database.room) },
 }
 
 /// A run that is on.
@@ -35,5 +45,9 @@ pub struct OpenRun {
     pub file: u32,
     /// Room for the record.
     pub rooms: Rooms,
+    /// The paths of what is set in the database as the run is stopped.
+    pub stopping: StoppingPaths,
+    pub stopped: StoppedPaths,
     ghost named: { name ≡ run_name order.run },
+    ghost front: { stopped.front ≡ front_name },
 }

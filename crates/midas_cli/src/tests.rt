@@ -180,6 +180,88 @@ fn texts_and_statuses(rt: HostRuntime) -> Result<(), Fail> {
     Ok(())
 }
 
+/// Scripts on the online database, what they print, and the status.
+const DATABASE: [(&str, &str, u8); 9] = [
+    (
+        "set \"/runinfo/RUN NUMBER\" 7\nget \"/Runinfo/Run number\"\nget /Runinfo/State 1\nset /Runinfo/State x\nget /Runinfo\nstart\n",
+        "Run number = INT32 : 7\nrefused 3: BadIndex 1\nrefused 4: BadText 0\nrefused 5: NotValue\nrun 8 started\nrun 8 stopped\nFE sent 0\nrun00008.mid Ended\n",
+        1,
+    ),
+    (
+        "create UINT8 /A/b 2\nset /A/b 1 0xff\nget /A/b\nset /A/b 2 1\nset /A/b 0 256\ncreate DIR /A\nrm /Runinfo/State\nfrob\n",
+        "b = UINT8[2] :\n[0] 0\n[1] 255\nrefused 4: BadIndex 2\nrefused 5: OutOfRange\nrefused 6: Exists\nrefused 7: Protected\nrefused 8: BadCommand 0\n",
+        1,
+    ),
+    ("frob\n", "refused 1: BadCommand 0\n", 1),
+    (
+        "events 1\nstart\nstop\nget \"/Equipment/FE/Events sent\"\n",
+        "run 1 started\nrun 1 stopped\nFE sent 1\nrun00001.mid Ended\nEvents sent = UINT64 : 1\n",
+        0,
+    ),
+    (
+        "start\nget /Runinfo/State\nget \"/Runinfo/Start time binary\"\nstop\nget /Runinfo/State\nget \"/Runinfo/Stop time binary\"\n",
+        "run 1 started\nState = INT32 : 3\nStart time binary = UINT32 : 1000\nrun 1 stopped\nFE sent 0\nrun00001.mid Ended\nState = INT32 : 1\nStop time binary = UINT32 : 1010\n",
+        0,
+    ),
+    (
+        "set \"/Runinfo/Run number\" 2147483647\nstart\nset \"/Runinfo/Run number\" -1\nstart\nls /\nls /Equipment\n",
+        "refused 2: RunNumber 2147483647\nrefused 4: RunNumber -1\nRuninfo/\nEquipment/\nFE/\n",
+        1,
+    ),
+    (
+        "create STRING /0123456789012345678901234567890\ncreate STRING /01234567890123456789012345678901\nls /A//B\nls\n",
+        "refused 2: LongName\nrefused 3: EmptyName\nrefused 4: BadCommand 2\n",
+        1,
+    ),
+    (
+        "start\nexit\nfrob\n",
+        "run 1 started\nrun 1 stopped\nFE sent 0\nrun00001.mid Ended\n",
+        0,
+    ),
+    (
+        "create UINT32 /Equipment/FE\nevents 1\nstart\nstop\nget /Equipment/FE\nrm /Equipment\nls /\n",
+        "run 1 started\nrun 1 stopped\nFE sent 1\nrun00001.mid Ended\nFE = UINT32 : 0\nRuninfo/\n",
+        0,
+    ),
+];
+
+#[test]
+fn texts_of_the_database(rt: HostRuntime) -> Result<(), Fail> {
+    for (script, text, status) in DATABASE {
+        let alloc = rt.alloc();
+        let outside = outside(
+            alloc,
+            script,
+            Vec::new(alloc),
+            Vec::new(alloc),
+            Vec::new(alloc),
+        )?;
+        let (outcome, outside) = play(&rt, alloc, outside)?;
+        assert_eq!(rt; outside.out.bytes(), text.as_bytes(), "{script}");
+        assert_eq!(rt; outcome.status, status, "{script}");
+    }
+    Ok(())
+}
+
+#[test]
+fn session_of_a_refused_start(rt: HostRuntime) -> Result<(), Fail> {
+    let alloc = rt.alloc();
+    let outside = outside(
+        alloc,
+        "set \"/Runinfo/Run number\" -1\nstart\n",
+        Vec::new(alloc),
+        Vec::new(alloc),
+        Vec::new(alloc),
+    )?;
+    let (outcome, _outside) = play(&rt, alloc, outside)?;
+    assert!(rt; outcome.cause == Cause::CommandRefused { count: 1, first: 2 });
+    let session = outcome.session.expect(&rt, "the session");
+    assert!(rt; session.runs.as_slice().is_empty());
+    // The set's two calls, that of the opening, and the one that gets the run number.
+    assert_eq!(rt; session.database.len(), 4);
+    Ok(())
+}
+
 #[test]
 fn faults_and_taken_names(rt: HostRuntime) -> Result<(), Fail> {
     let alloc = rt.alloc();

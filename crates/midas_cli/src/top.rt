@@ -1,10 +1,12 @@
-ghost use Rattle.std.specs.Prelude.{◌≡◌, ◌≢◌, ◌↔◌, ℕ, List, [], All, None, IfSome, IsTrue};
+ghost use Rattle.std.specs.Prelude.{◌≡◌, ◌≢◌, ◌↔◌, ℕ, List, All, None, IfSome, IsTrue};
 ghost use Rattle.std.specs.Io.KnownBytes.{Appends};
 ghost use Rattle.daq_io.specs.Counts.{Rose};
 ghost use Rattle.daq_io.specs.Streams.{AppendsPart};
 ghost use Rattle.daq_session.specs.BufferRecords.{IsOneHistory, IsSystem, history_in};
 ghost use Rattle.daq_session.specs.RunHistories.{AreSentByFronts, HoldSegments};
-ghost use Rattle.daq_session.specs.Sessions.{FaultsBy, IsSession, runs_in};
+ghost use Rattle.daq_session.specs.Sessions.{FaultsBy, IsSession};
+ghost use Rattle.odb_tree.specs.Histories.{IsLegal};
+ghost use Rattle.odb_runinfo.specs.RunKeys.{session_rows};
 ghost use Rattle.midas_cli.specs.CommandLine.{HasForm, IsOnFile, IsRun, usage_line};
 ghost use Rattle.daq_io.specs.Seen.{Same};
 ghost use Rattle.midas_cli.specs.Outcomes.{status_of};
@@ -87,12 +89,14 @@ pub fn midas<
     ensures usage_files { ¬ HasForm words.now → result.1.run_files ≡ outside.run_files }
     ensures usage_clock { ¬ HasForm words.now → result.1.clock ≡ outside.clock }
     // What the session made of the script: its records, the run files, the text and the cause.
-    ensures session { IsRun words.now → ¬ Rose (F.faults outside.run_files) (F.faults result.1.run_files) → IsSession (record { files = F.seen outside.run_files; clock_tells = C.tells outside.clock; ahead = C.ahead outside.clock }) (record { files = F.seen result.1.run_files; clock_tells = C.tells result.1.clock; ahead = C.ahead result.1.clock }) (S.left outside.src) (K.written outside.out) (K.written result.1.out) (record { old = K.faults outside.out; new = K.faults result.1.out }) result.0.cause (runs_in result.0.session) }
+    ensures session { IsRun words.now → ¬ Rose (F.faults outside.run_files) (F.faults result.1.run_files) → IsSession (record { files = F.seen outside.run_files; clock_tells = C.tells outside.clock; ahead = C.ahead outside.clock }) (record { files = F.seen result.1.run_files; clock_tells = C.tells result.1.clock; ahead = C.ahead result.1.clock }) (S.left outside.src) (S.left result.1.src) (K.written outside.out) (K.written result.1.out) (record { old = K.faults outside.out; new = K.faults result.1.out }) result.0.cause result.0.session }
     // There is no record where a call on the run files failed.
     ensures broken { F.faults result.1.run_files ≢ F.faults outside.run_files → result.0.session ≡ None }
     // A fault is the cause exactly where its count rose and no earlier cause holds.
     ensures faults { IsRun words.now → FaultsBy result.0.cause (record { old = S.faults outside.src; new = S.faults result.1.src }) (record { old = K.faults outside.out; new = K.faults result.1.out }) (record { old = F.faults outside.run_files; new = F.faults result.1.run_files }) (F.first result.1.run_files) }
-    ensures opened { IfSome result.0.session (λ s. s.runs ≢ []) }
+    // The calls on the online database are those of one database that opened with the run's parameters: each reply is the
+    // one that it gave there, and the main thread alone made, removed or resized a row.
+    ensures database { IfSome result.0.session (λ s. IsLegal session_rows s.database) }
     // There is one buffer, SYSTEM. Its history is that of one buffer that opened empty; its clients got what they asked for, and the
     // events of each run stand between its marks.
     ensures buffers { IfSome result.0.session (λ s. IsSystem (history_in s.buffers) s.buffers) }

@@ -1,8 +1,7 @@
 -- The answers of the database's commands: the calls that a command makes, with their replies, and its own reply, both
 -- given by the rows.
-use Rattle.std.specs.Prelude.{◌≡◌, ℕ, Bool, true, false, nat_lt, if◌then◌else◌, List, [], ◌∷◌, length, map, slice_get, Option, Some, None, Result, Ok, Err, codes}
+use Rattle.std.specs.Prelude.{◌≡◌, ℕ, Bool, true, nat_lt, if◌then◌else◌, List, [], ◌∷◌, length, slice_get, Option, Some, None, Result, Ok, Err, codes}
 use Rattle.std.specs.Option.{unwrap_or}
-use Rattle.daq_types.specs.declared.types.Tid.{Tid}
 use Rattle.odb_path.specs.declared.refusals.PathRefusal.{PathRefusal}
 use Rattle.odb_path.specs.Paths.{same_name}
 use Rattle.odb_path.specs.PathText.{path_reply}
@@ -19,7 +18,7 @@ use Rattle.odb_tree.specs.declared.rows.NewKey.{NewKey}
 use Rattle.odb_tree.specs.declared.rows.NewKey.TheVariants.{Dir, Keys}
 use Rattle.odb_tree.specs.Rows.{Rows}
 use Rattle.odb_tree.specs.Calls.{create_reply, set_reply, get_reply, find_reply, list_reply, delete_reply, path_with}
-use Rattle.odb_journal.specs.Noted.{Noted, Grows}
+use Rattle.odb_journal.specs.Noted.{Noted, Grows, by_main}
 use Rattle.odb_script.specs.declared.forms.Command.{Command}
 use Rattle.odb_script.specs.declared.forms.Command.TheVariants as command
 use Rattle.odb_commands.specs.declared.replies.CommandRefusal.{CommandRefusal}
@@ -135,10 +134,6 @@ answer_of s (command.Get path index) = Some (at_path (path_reply path) (get_at s
 answer_of s (command.List path) = Some (at_path (path_reply path) (list_at s))
 answer_of s (command.Remove path) = Some (at_path (path_reply path) (remove_at s))
 answer_of s command.Exit = None
-
--- calls of the main thread
-abbrev pub by_main : List DatabaseEntry → List (ℕ × DatabaseEntry)
-by_main calls = map (λ (entry : DatabaseEntry). (0, entry)) calls
 
 -- the command made these calls, and this is its reply
 pub record Answers (p q : Noted) (answer : Answer) (reply : CommandReply) : Type 0 where

@@ -1,6 +1,5 @@
 -- No command replaces a whole value or removes anything of `/Runinfo`.
 use Rattle.std.specs.Prelude.{◌≡◌, ℕ, Bool, true, false, if◌then◌else◌, List, [], ◌∷◌, Option, Some, None, Result, Ok, Err, codes, refl}
-use Rattle.daq_types.specs.declared.types.Tid.{Tid}
 use Rattle.odb_path.specs.declared.refusals.PathRefusal.{PathRefusal}
 use Rattle.odb_path.specs.Paths.{same_name}
 use Rattle.odb_path.specs.PathText.{path_reply}
@@ -10,12 +9,13 @@ use Rattle.odb_tree.specs.declared.refusals.OdbRefusal.{OdbRefusal}
 use Rattle.odb_tree.specs.declared.rows.NewKey.TheVariants.{Dir, Keys}
 use Rattle.odb_tree.specs.Rows.{Rows}
 use Rattle.odb_tree.specs.Calls.{get_reply, find_reply}
+use Rattle.odb_journal.specs.Noted.{by_main}
 use Rattle.odb_script.specs.declared.forms.Command.{Command}
 use Rattle.odb_script.specs.declared.forms.Command.TheVariants.{Nothing, Events, Start, Stop, Create, CreateDir, Set, Get, List as Ls, Remove, Exit}
 use Rattle.odb_runinfo.specs.RunNumberKept.{AllSpareRuninfo}
 use Rattle.odb_commands.specs.declared.replies.CommandRefusal.{CommandRefusal}
 use Rattle.odb_commands.specs.declared.replies.CommandRefusal.TheVariants.{Protected}
-use Rattle.odb_commands.specs.Answers.{Answer, refused, by_main, at_path, create_at, item_for, set_item, set_in, set_at, key_found, shown, get_in, get_at, list_at, removed, remove_at, answer_of}
+use Rattle.odb_commands.specs.Answers.{Answer, refused, at_path, create_at, item_for, set_item, set_in, set_at, key_found, shown, get_in, get_at, list_at, removed, remove_at, answer_of}
 
 abbrev pub Spares : Answer → Type 0
 Spares answer = AllSpareRuninfo (by_main answer.calls)

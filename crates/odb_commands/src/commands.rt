@@ -1,6 +1,6 @@
-ghost use Rattle.std.specs.Prelude.{◌≡◌, ◌≤◌, IfOk, OnOk, Ok, Err};
+ghost use Rattle.std.specs.Prelude.{◌≡◌, ◌≤◌, ◌+◌, IfOk, OnErr, OnOk, Ok, Err};
 ghost use Rattle.odb_path.specs.PathText.{path_reply};
-ghost use Rattle.odb_journal.specs.Noted.{KeepsCalls};
+ghost use Rattle.odb_journal.specs.Noted.{GoesOn, KeepsCalls};
 ghost use Rattle.odb_tree.specs.declared.rows.NewKey.TheVariants.{Dir, Keys};
 ghost use Rattle.odb_commands.specs.Answers.{Answers, AnswersIf, answer_of, at_path, create_at, done_or, get_at, get_in, key_found, key_named, list_at, listed_or, remove_at, set_at, set_in, set_item, shown};
 
@@ -9,10 +9,13 @@ use crate::replies::{CommandRefusal, CommandReply};
 use daq_types::NoMemory;
 use odb_journal::LocalDatabase;
 use odb_path::{Path, PathRefusal};
-use odb_script::forms::Command;
+use odb_script::Command;
 use odb_tree::{Children, Database, NewKey, OdbRefusal};
 use odb_value::{Item, Value};
 use std::alloc::Global;
+
+/// The most calls of a command.
+pub const COMMAND_CALLS: u32 = 3;
 
 /// The reply to a call that prints nothing where it is accepted.
 fn done_or(reply: Result<u32, OdbRefusal>) -> CommandReply
@@ -77,6 +80,8 @@ fn create_at<D: Database>(
     requires room { 1 ≤ database.old.room }
     ensures did { IfOk result (λ reply. Answers database.old database.new (create_at database.old.rows kind path) reply) }
     ensures start { database.new.start ≡ database.old.start }
+    ensures room { database.old.room ≤ database.new.room + 1 }
+    ensures interrupted { OnErr result (GoesOn database.old database.new) }
 {
     let reply = settled(database.create(alloc, path, kind))?;
     Ok(done_or(reply))
@@ -91,6 +96,8 @@ pub fn create<D: Database>(
 ) -> Result<CommandReply, NoMemory>
     ensures did { IfOk result (λ reply. Answers database.old database.new (at_path (path_reply path.now) (create_at database.old.rows kind)) reply) }
     ensures start { database.new.start ≡ database.old.start }
+    ensures room { database.old.room ≤ database.new.room + 3 }
+    ensures interrupted { OnErr result (GoesOn database.old database.new) }
 {
     match prepare(alloc, database, path, 1)? {
         Err(why) => Ok(no_path(why)),
@@ -109,6 +116,8 @@ fn set_item<D: Database>(
     requires room { 1 ≤ database.old.room }
     ensures did { IfOk result (λ reply. Answers database.old database.new (set_item database.old.rows path index item) reply) }
     ensures start { database.new.start ≡ database.old.start }
+    ensures room { database.old.room ≤ database.new.room + 1 }
+    ensures interrupted { OnErr result (GoesOn database.old database.new) }
 {
     match item {
         Err(why) => Ok(CommandReply::Refused { why }),
@@ -131,6 +140,8 @@ fn set_in<D: Database>(
     requires room { 1 ≤ database.old.room }
     ensures did { IfOk result (λ reply. Answers database.old database.new (set_in database.old.rows path index text.now got) reply) }
     ensures start { database.new.start ≡ database.old.start }
+    ensures room { database.old.room ≤ database.new.room + 1 }
+    ensures interrupted { OnErr result (GoesOn database.old database.new) }
 {
     match got {
         Err(why) => Ok(refused_by(why)),
@@ -152,6 +163,8 @@ fn set_at<D: Database>(
     requires room { 2 ≤ database.old.room }
     ensures did { IfOk result (λ reply. Answers database.old database.new (set_at database.old.rows index text.now path) reply) }
     ensures start { database.new.start ≡ database.old.start }
+    ensures room { database.old.room ≤ database.new.room + 2 }
+    ensures interrupted { OnErr result (GoesOn database.old database.new) }
 {
     let copy = path.try_clone(alloc)?;
     let got = settled(database.get(alloc, 0, copy))?;
@@ -168,6 +181,8 @@ pub fn set<D: Database>(
 ) -> Result<CommandReply, NoMemory>
     ensures did { IfOk result (λ reply. Answers database.old database.new (at_path (path_reply path.now) (set_at database.old.rows index text.now)) reply) }
     ensures start { database.new.start ≡ database.old.start }
+    ensures room { database.old.room ≤ database.new.room + 3 }
+    ensures interrupted { OnErr result (GoesOn database.old database.new) }
 {
     match prepare(alloc, database, path, 2)? {
         Err(why) => Ok(no_path(why)),
@@ -185,6 +200,8 @@ fn key_named<D: Database>(
     requires room { 1 ≤ database.old.room }
     ensures did { IfOk result (λ reply. Answers database.old database.new (key_named database.old.rows value row) reply) }
     ensures start { database.new.start ≡ database.old.start }
+    ensures room { database.old.room ≤ database.new.room + 1 }
+    ensures interrupted { OnErr result (GoesOn database.old database.new) }
 {
     let path = database.path_of(alloc, 0, row)?;
     let path = path.unwrap_or(Path::root(alloc));
@@ -201,6 +218,8 @@ fn key_found<D: Database>(
     requires room { 1 ≤ database.old.room }
     ensures did { IfOk result (λ reply. Answers database.old database.new (key_found database.old.rows value found) reply) }
     ensures start { database.new.start ≡ database.old.start }
+    ensures room { database.old.room ≤ database.new.room + 1 }
+    ensures interrupted { OnErr result (GoesOn database.old database.new) }
 {
     match found {
         Err(why) => Ok(refused_by(why)),
@@ -219,6 +238,8 @@ fn shown<D: Database>(
     requires room { 2 ≤ database.old.room }
     ensures did { IfOk result (λ reply. Answers database.old database.new (shown database.old.rows path index value) reply) }
     ensures start { database.new.start ≡ database.old.start }
+    ensures room { database.old.room ≤ database.new.room + 2 }
+    ensures interrupted { OnErr result (GoesOn database.old database.new) }
 {
     match index {
         Some(index) => one_of(alloc, &value, index),
@@ -240,6 +261,8 @@ fn get_in<D: Database>(
     requires room { 2 ≤ database.old.room }
     ensures did { IfOk result (λ reply. Answers database.old database.new (get_in database.old.rows path index got) reply) }
     ensures start { database.new.start ≡ database.old.start }
+    ensures room { database.old.room ≤ database.new.room + 2 }
+    ensures interrupted { OnErr result (GoesOn database.old database.new) }
 {
     match got {
         Err(why) => Ok(refused_by(why)),
@@ -257,6 +280,8 @@ fn get_at<D: Database>(
     requires room { 3 ≤ database.old.room }
     ensures did { IfOk result (λ reply. Answers database.old database.new (get_at database.old.rows index path) reply) }
     ensures start { database.new.start ≡ database.old.start }
+    ensures room { database.old.room ≤ database.new.room + 3 }
+    ensures interrupted { OnErr result (GoesOn database.old database.new) }
 {
     let copy = path.try_clone(alloc)?;
     let got = settled(database.get(alloc, 0, copy))?;
@@ -272,6 +297,8 @@ pub fn get<D: Database>(
 ) -> Result<CommandReply, NoMemory>
     ensures did { IfOk result (λ reply. Answers database.old database.new (at_path (path_reply path.now) (get_at database.old.rows index)) reply) }
     ensures start { database.new.start ≡ database.old.start }
+    ensures room { database.old.room ≤ database.new.room + 3 }
+    ensures interrupted { OnErr result (GoesOn database.old database.new) }
 {
     match prepare(alloc, database, path, 3)? {
         Err(why) => Ok(no_path(why)),
@@ -288,6 +315,8 @@ fn list_at<D: Database>(
     requires room { 1 ≤ database.old.room }
     ensures did { IfOk result (λ reply. Answers database.old database.new (list_at database.old.rows path) reply) }
     ensures start { database.new.start ≡ database.old.start }
+    ensures room { database.old.room ≤ database.new.room + 1 }
+    ensures interrupted { OnErr result (GoesOn database.old database.new) }
 {
     let children = settled(database.list(alloc, 0, path))?;
     Ok(listed_or(children))
@@ -301,6 +330,8 @@ pub fn list<D: Database>(
 ) -> Result<CommandReply, NoMemory>
     ensures did { IfOk result (λ reply. Answers database.old database.new (at_path (path_reply path.now) (list_at database.old.rows)) reply) }
     ensures start { database.new.start ≡ database.old.start }
+    ensures room { database.old.room ≤ database.new.room + 3 }
+    ensures interrupted { OnErr result (GoesOn database.old database.new) }
 {
     match prepare(alloc, database, path, 1)? {
         Err(why) => Ok(no_path(why)),
@@ -313,6 +344,7 @@ fn remove_at<D: Database>(database: &mut LocalDatabase<D>, path: Path) -> Comman
     requires room { 1 ≤ database.old.room }
     ensures did { Answers database.old database.new (remove_at database.old.rows path) result }
     ensures start { database.new.start ≡ database.old.start }
+    ensures room { database.old.room ≤ database.new.room + 1 }
 {
     if is_protected(path.names()) {
         return CommandReply::Refused {
@@ -330,6 +362,8 @@ pub fn remove<D: Database>(
 ) -> Result<CommandReply, NoMemory>
     ensures did { IfOk result (λ reply. Answers database.old database.new (at_path (path_reply path.now) (remove_at database.old.rows)) reply) }
     ensures start { database.new.start ≡ database.old.start }
+    ensures room { database.old.room ≤ database.new.room + 3 }
+    ensures interrupted { OnErr result (GoesOn database.old database.new) }
 {
     match prepare(alloc, database, path, 1)? {
         Err(why) => Ok(no_path(why)),
@@ -346,6 +380,8 @@ pub fn run_command<D: Database>(
 ) -> Result<Option<CommandReply>, NoMemory>
     ensures did { IfOk result (λ reply. AnswersIf database.old database.new (answer_of database.old.rows command.now) reply) }
     ensures start { database.new.start ≡ database.old.start }
+    ensures room { database.old.room ≤ database.new.room + 3 }
+    ensures interrupted { OnErr result (GoesOn database.old database.new) }
 {
     match command {
         Command::Create { tid, path, len } => {

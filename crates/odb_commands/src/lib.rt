@@ -10,5 +10,5 @@ mod replies;
 mod tests;
 mod texts;
 
-pub use commands::{create, get, list, remove, run_command, set};
+pub use commands::{COMMAND_CALLS, create, get, list, remove, run_command, set};
 pub use replies::{CommandRefusal, CommandReply};

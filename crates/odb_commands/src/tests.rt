@@ -1,8 +1,7 @@
 //! Worked commands: what each prints, and how many calls it makes.
 use crate::run_command;
 use odb_journal::LocalDatabase;
-use odb_script::TextBuffer;
-use odb_script::forms::Command;
+use odb_script::{Command, TextBuffer};
 use odb_tree::PlainTree;
 use std::test::Fail;
 

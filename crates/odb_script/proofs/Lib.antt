@@ -1,4 +1,3 @@
-mod Digits
 mod KeptLines
 mod Scanning
 mod LinesSoFar

@@ -7,8 +7,8 @@ use Rattle.odb_script.specs.Numbers.{number_of}
 use Rattle.odb_script.specs.TypeNames.{is_text, type_named}
 use Rattle.odb_script.specs.declared.forms.Command.{Command}
 use Rattle.odb_script.specs.declared.forms.Command.TheVariants.{Nothing, Events, Start, Stop, Create, CreateDir, Set, Get, List as Ls, Remove, Exit}
-use Rattle.odb_script.specs.declared.commands.LineRefusal.{LineRefusal}
-use Rattle.odb_script.specs.declared.commands.LineRefusal.TheVariants.{BadCommand}
+use Rattle.odb_script.specs.declared.refusals.LineRefusal.{LineRefusal}
+use Rattle.odb_script.specs.declared.refusals.LineRefusal.TheVariants.{BadCommand}
 
 -- what is read of a line, or the place at which no form goes on
 abbrev pub Read : Type 0 → Type 0

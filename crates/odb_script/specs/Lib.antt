@@ -1,9 +1,7 @@
-pub mod Commands
 pub mod Lines
 pub mod Inside
 pub mod Advances
 pub mod ReadLines
-pub mod KeptCommands
 pub mod LineWords
 pub mod WordsStored
 pub mod NextWords

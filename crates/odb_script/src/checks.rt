@@ -1,32 +1,7 @@
-//! Worked rows of commands and lines.
-use crate::{Command, LineReader, LineRefusal, NextLine, TextBuffer};
+//! Worked rows of lines and texts.
+use crate::{LineReader, NextLine, TextBuffer};
 use daq_io::MemSource;
 use std::test::Fail;
-
-#[test]
-fn commands_of_lines(rt: HostRuntime) {
-    let refused = Err(LineRefusal::BadCommand { at: 0 });
-    for (line, command) in [
-        ("", Ok(Command::Nothing)),
-        ("start", Ok(Command::Start)),
-        ("stop", Ok(Command::Stop)),
-        ("events 3", Ok(Command::Events { quota: 3 })),
-        ("events 007", Ok(Command::Events { quota: 7 })),
-        (
-            "events 4294967295",
-            Ok(Command::Events { quota: 4294967295 }),
-        ),
-        ("events 4294967296", refused),
-        ("events ", refused),
-        ("events  3", refused),
-        ("events 3 ", refused),
-        ("Start", refused),
-        ("stop\r", refused),
-        ("frob", refused),
-    ] {
-        assert_eq!(rt; Command::read(line.as_bytes()), command, "{line}");
-    }
-}
 
 #[test]
 fn lines_of_a_script(rt: HostRuntime) -> Result<(), Fail> {

@@ -1,6 +1,5 @@
 //! Worked lines of the script with their commands, and the places at which lines are refused.
-use crate::forms::Command;
-use crate::{LineRefusal, TextBuffer};
+use crate::{Command, LineRefusal, TextBuffer};
 use daq_types::NoMemory;
 use std::alloc::Global;
 use std::test::Fail;
@@ -112,6 +111,22 @@ fn lines_that_are_commands(rt: HostRuntime) -> Result<(), Fail> {
         assert_eq!(rt; text.as_slice(), wanted.as_bytes(), "{line}");
     }
     Ok(())
+}
+
+#[test]
+fn the_line_that_ends_a_script(rt: HostRuntime) {
+    for (line, ends) in [
+        ("exit", true),
+        (" \"exit\"\t", true),
+        ("stop", false),
+        ("exit 0", false),
+    ] {
+        let exit = match Command::read(line.as_bytes()) {
+            Ok(command) => command.is_exit(),
+            Err(_) => false,
+        };
+        assert_eq!(rt; exit, ends, "{line}");
+    }
 }
 
 #[test]

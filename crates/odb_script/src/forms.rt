@@ -1,11 +1,12 @@
-ghost use Rattle.std.specs.Prelude.{◌≡◌, OnOk};
+ghost use Rattle.std.specs.Prelude.{◌≡◌, OnOk, Ok};
+ghost use Rattle.odb_script.specs.Exits.{is_exit};
 ghost use Rattle.odb_script.specs.Numbers.{number_of};
 ghost use Rattle.odb_script.specs.TypeNames.{type_named};
 ghost use Rattle.odb_script.specs.Forms.{next_text, behind, line_end, number_at, next_number as number_next, last_number as number_last, only, events_form, directory_form, value_form, create_form, set_end, set_form, get_form, list_form, remove_form, named_form, command_of};
 
-use crate::commands::{LINE_BYTES, LineRefusal};
 use crate::line_text::LineText;
 use crate::numbers::number;
+use crate::refusals::{LINE_BYTES, LineRefusal};
 use crate::words::{NextWord, WordReader};
 use daq_types::Tid;
 
@@ -288,6 +289,13 @@ fn read_form<'a>(
 }
 
 impl<'a> Command<'a> {
+    /// Whether the command ends the script: it is `exit`.
+    pub fn is_exit(&self) -> bool
+        ensures { result ≡ is_exit (Ok self.now) }
+    {
+        matches!(self, Command::Exit)
+    }
+
     /// The command of a line, given without its end; else the place of the first word with which no form goes on, or
     /// the line's length where the line ends too early or a quote is not closed. A line of more than 4,096 bytes is
     /// refused at 4096.

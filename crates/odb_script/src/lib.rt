@@ -3,17 +3,18 @@
 
 #[cfg(test)]
 mod checks;
-mod commands;
 #[cfg(test)]
 mod form_checks;
-pub mod forms;
+mod forms;
 mod line_text;
 mod numbers;
 mod reading;
+mod refusals;
 mod texts;
 mod words;
 
-pub use commands::{Command, LINE_BYTES, LineRefusal};
+pub use forms::Command;
 pub use line_text::LineText;
 pub use reading::{LineReader, NextLine, SCRIPT_BYTES};
+pub use refusals::{LINE_BYTES, LineRefusal};
 pub use texts::TextBuffer;

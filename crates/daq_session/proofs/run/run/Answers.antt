@@ -2,15 +2,15 @@ use Rattle.std.proofs.Common.{◌≡◌, ◌≢◌, true, false, sym, ◌∙◌}
 use Rattle.daq_session.specs.declared.endings.Ending.TheVariants.{Halted}
 use Rattle.daq_session.specs.declared.halts.Halt.TheVariants.{FileFault}
 use Rattle.daq_session.proofs.Options.{true_if}
-use Rattle.daq_session.proofs.RunLaws.{plays_played, files_stand, risen_some, session_at, faults_by, session_none}
+use Rattle.daq_session.proofs.RunLaws.{plays_played, files_stand, risen_some, session_by, faults_by, session_none}
 use Rattle.daq_session.proofs.RunsKept.{session_filed, session_sent}
 use Rattle.daq_session.proofs.run.run.Goals as goal
 
 pub returns-in_default-clause-session : goal.returns-in_default-clause-session
-returns-in_default-clause-session g c = λ calm. session_none _ _ _ _
+returns-in_default-clause-session g c = λ calm. session_none _ _ _ _ _
 
 pub returns-in_default-new-clause-session : goal.returns-in_default-new-clause-session
-returns-in_default-new-clause-session g c = λ calm. session_none _ _ _ _
+returns-in_default-new-clause-session g c = λ calm. session_none _ _ _ _ _
 
 pub cause_of-cause-requires : goal.cause_of-cause-requires
 cause_of-cause-requires g c = λ e. risen_some (g.F.Files.faults c.args.outside.now.run_files) _ (rw e at (c.close_run-closed.ensures.counts (record { old = g.S.Source.faults c.args.outside.now.src; new = g.S.Source.faults c.play-ending.new.outside.src }) (g.K.Sink.faults c.args.outside.now.out) (g.F.Files.faults c.args.outside.now.run_files) c.play-ending.ensures.source c.play-ending.ensures.sink c.play-ending.ensures.files)).2
@@ -23,10 +23,9 @@ returns-then-not-closed-clause-faults g c =
 pub returns-clause-session : goal.returns-clause-session
 returns-clause-session g c = λ calm.
     let sound : c.play-ending.result ≢ Halted FileFault = λ e. let clash : true ≡ false = sym (c.is_file_fault.ensures.1 e) ∙ c.if-is_file_fault.false in cc in
-    let played = plays_played _ c.play-ending.result _ _ _ _ _ _ sound c.play-ending.ensures.did in
-    rw c.record_of.ensures.runs
-    (session_at _ c.close_run-closed.result.ending _ _ _ _ _ _ _ _ _ _ c.close_run-closed.ensures.refusals c.cause_of-cause.ensures
-    (c.close_run-closed.ensures.finishes (true_if c.close_run-closed.result.whole c.if-not-closed.false) _ _ _ _ played c.play-ending.ensures.sink))
+    let played = plays_played _ c.play-ending.result _ _ _ _ _ _ _ sound c.play-ending.ensures.did in
+    session_by _ c.close_run-closed.result.ending _ _ _ _ _ _ _ _ _ _ _ _ c.close_run-closed.ensures.refusals c.cause_of-cause.ensures c.record_of.ensures.recorded
+    (c.close_run-closed.ensures.finishes (true_if c.close_run-closed.result.whole c.if-not-closed.false) _ _ _ _ _ played c.play-ending.ensures.sink)
 
 pub returns-clause-broken : goal.returns-clause-broken
 returns-clause-broken g c = λ fell.
@@ -39,7 +38,9 @@ returns-clause-faults g c =
     (c.close_run-closed.ensures.counts (record { old = g.S.Source.faults c.args.outside.now.src; new = g.S.Source.faults c.play-ending.new.outside.src }) (g.K.Sink.faults c.args.outside.now.out) (g.F.Files.faults c.args.outside.now.run_files) c.play-ending.ensures.source c.play-ending.ensures.sink c.play-ending.ensures.files)
 
 pub returns-clause-run_files : goal.returns-clause-run_files
-returns-clause-run_files g c = λ calm tells. session_filed c.record_of.result _ ((returns-clause-session g c calm).played.kept.filed tells) c.record_of.ensures.held
+returns-clause-run_files g c = λ calm tells.
+    let session = returns-clause-session g c calm in
+    session_filed session.final c.record_of.result _ session.recorded (session.played.kept.filed tells) c.record_of.ensures.held
 
 pub returns-clause-front_end_sends : goal.returns-clause-front_end_sends
 returns-clause-front_end_sends g c = session_sent c.record_of.result c.record_of.ensures.held

@@ -1,0 +1,80 @@
+-- A line was answered, or was broken off, and neither the files nor the clock nor the records changed.
+use Rattle.std.proofs.Common.{◌≡◌, ℕ, List, [], ◌∷◌, ◌++◌, Ok, Err, Result, refl, arith}
+use Rattle.std.specs.Prelude.{IfOk, IfErr, OnErr}
+use Rattle.std.proofs.lemmas.List.{append-nil}
+use Rattle.odb_journal.specs.Noted.{Noted, KeepsCalls}
+use Rattle.odb_script.specs.declared.forms.Command.{Command}
+use Rattle.odb_script.specs.declared.forms.Command.TheVariants.{Nothing, Events, Start, Stop, Create, CreateDir, Set, Get, List as Ls, Remove, Exit}
+use Rattle.odb_script.specs.declared.refusals.LineRefusal.{LineRefusal}
+use Rattle.odb_commands.specs.Answers.{answer_of}
+use Rattle.daq_session.specs.declared.halts.Halt.{Halt}
+use Rattle.daq_session.specs.declared.halts.Halt.TheVariants.{NoMemory}
+use Rattle.daq_session.specs.declared.replies.Reply.{Reply}
+use Rattle.daq_session.specs.declared.state.State.{State}
+use Rattle.daq_session.specs.Stages.{Outset, Stage, Does, DoesAnswer, Interrupts}
+use Rattle.daq_session.specs.Standing.{stage_of, IsAt, IsReady, AnswersBy, LineDoes, Breaks, Handles}
+use Rattle.daq_session.specs.Halts.{CountsHalt}
+
+-- no call was made on the database
+pub interrupted_none : {T E : Type 0} (result : Result T E) (old : State) (q : Noted) → KeepsCalls old.database q
+    → OnErr result ((readings : ℕ) (replies : List Reply) → Interrupts (stage_of old readings replies) (record (stage_of old readings replies) { rows = q.rows; calls = q.history }))
+interrupted_none (Ok t) old q same = tt
+interrupted_none (Err why) old q same = λ readings replies. record {
+  calls = [];
+  opened = old.opened;
+  stays_open = λ was. was;
+  leads = rw (same.rows, same.history, append-nil old.database.history) refl;
+}
+
+-- the outside stands to the records as it did
+stands : (o : Outset) (readings : ℕ) (old new : State) (outside : Outset) → new.runs.items ≡ old.runs.items → new.current ≡ old.current → IsAt o readings old outside → IsAt o readings new outside
+stands o readings old new outside runs current at = record { kept = rw (runs, current) at.kept; clock = at.clock }
+
+-- the line was answered in this way
+pub answers_inside : (Way : Outset → Stage → Stage → Type 0) (reply : Reply) (old new : State) (outside : Outset) → new.runs.items ≡ old.runs.items → new.current ≡ old.current
+    → ((o : Outset) (readings : ℕ) (replies : List Reply) → Way o (stage_of old readings replies) (stage_of new readings (replies ++ reply ∷ [])))
+    → AnswersBy Way reply old new outside outside
+answers_inside Way reply old new outside runs current does = λ o readings replies at. record {
+  readings_after = readings;
+  does = does o readings replies;
+  at = stands o readings old new outside runs current at;
+}
+
+-- the line was broken off
+pub breaks_inside : (old new : State) (outside : Outset) → new.runs.items ≡ old.runs.items → new.current ≡ old.current
+    → ((readings : ℕ) (replies : List Reply) → Interrupts (stage_of old readings replies) (stage_of new readings replies))
+    → Breaks old new outside outside
+breaks_inside old new outside runs current stage = record { stage = stage; at = λ o readings. stands o readings old new outside runs current }
+
+-- a command of the database does what its answer says
+call_does : (o : Outset) (old new : Stage) (command : Command) → DoesAnswer old (answer_of old.rows command) new → Does o old (Ok command) new
+call_does o old new Nothing does = absurd does
+call_does o old new (Events count) does = absurd does
+call_does o old new Start does = absurd does
+call_does o old new Stop does = absurd does
+call_does o old new (Create tid path len) does = does
+call_does o old new (CreateDir path) does = does
+call_does o old new (Set path index value) does = does
+call_does o old new (Get path index) does = does
+call_does o old new (Ls path) does = does
+call_does o old new (Remove path) does = does
+call_does o old new Exit does = absurd does
+
+-- a command of the database was answered, or found no memory
+pub handles_call : (line : Result Command LineRefusal) (command : Command) (old new : State) (outside : Outset) (result : Result Reply Halt) → line ≡ Ok command
+    → new.runs.items ≡ old.runs.items → new.current ≡ old.current → IsReady outside.files old.current
+    → IfOk result (λ reply. (readings : ℕ) (replies : List Reply) → DoesAnswer (stage_of old readings replies) (answer_of old.database.rows command) (stage_of new readings (replies ++ reply ∷ [])))
+    → IfErr result (λ halt. halt ≡ NoMemory)
+    → OnErr result ((readings : ℕ) (replies : List Reply) → Interrupts (stage_of old readings replies) (stage_of new readings replies))
+    → Handles line old new outside outside result
+handles_call line command old new outside (Ok reply) is runs current ready answered halted interrupted = (
+  answers_inside (LineDoes line) reply old new outside runs current
+      (λ o readings replies. rw is (call_does o (stage_of old readings replies) (stage_of new readings (replies ++ reply ∷ [])) command (answered readings replies))),
+  rw current ready,
+)
+handles_call line command old new outside (Err halt) is runs current ready answered halted interrupted = rw halted (breaks_inside old new outside runs current interrupted, rw current ready)
+
+-- the files were not called
+pub counts_outside : {T : Type 0} (faults : ℕ) (result : Result T Halt) → IfErr result (λ halt. halt ≡ NoMemory) → CountsHalt faults faults result
+counts_outside faults (Ok t) halted = record { later = omega arith; done = refl; halted = tt }
+counts_outside faults (Err halt) halted = record { later = omega arith; done = tt; halted = rw halted refl }
