@@ -1,13 +1,12 @@
 -- How the lines of a script end.
-use Rattle.std.proofs.Common.{◌≡◌, ℕ, ◌+◌, List, [], ◌∷◌, ◌++◌, Option, Some, length, refl, ap, sym, subst, arith, inl, inr}
-use Rattle.std.specs.Prelude.{Ok, Err, map}
+use Rattle.std.proofs.Common.{◌≡◌, ℕ, ◌+◌, List, [], ◌∷◌, ◌++◌, Option, Some, refl, ap, sym, subst, arith, inl, inr}
+use Rattle.std.specs.Prelude.{Ok, Err}
 use Rattle.std.proofs.Math.Logic.{⊎_elim}
 use Rattle.std.specs.Io.KnownBytes.{Appends}
 use Rattle.daq_io.specs.Streams.{Appends-kept}
-use Rattle.odb_script.specs.Lines.{Reading, kept, script_limit, ReadsLine, ReadsLast, ReadsNone, ReadsTooMuch, ReadsPart}
+use Rattle.odb_script.specs.Lines.{Reading, kept, ReadsLine, ReadsLast, ReadsNone, ReadsTooMuch, ReadsPart}
 use Rattle.odb_script.specs.ReadLines.{HasRead, lines_at_fault, text_within_end, text_within_last}
 use Rattle.odb_script.specs.Exits.{GoOn, stop_at_exit, lines_first, lines_first_line, lines_first_last, lines_at_exit, lines_until_end, lines_until_last, lines_until_limit}
-use Rattle.odb_script.specs.Forms.{command_of}
 use Rattle.daq_session.specs.declared.desk.Going.{Going}
 use Rattle.daq_session.specs.declared.desk.Going.TheVariants.{Exit}
 use Rattle.daq_session.specs.declared.halts.Halt.{Halt}
@@ -20,7 +19,7 @@ use Rattle.daq_session.specs.declared.state.State.{State}
 use Rattle.daq_session.specs.Console.{text_of, console_text}
 use Rattle.daq_session.specs.Stages.{Outset, Stage}
 use Rattle.daq_session.specs.Standing.{stage_of, IsReady}
-use Rattle.daq_session.specs.Playing.{Moment, Replied, Unanswered, GoesBehind, DoesLine, AreFirst, AreLines, CutBy, Wrote, Played, PlaysTo}
+use Rattle.daq_session.specs.Playing.{Moment, Replied, Unanswered, DoesLine, AreFirst, AreLines, CutBy, Wrote, Played, PlaysTo}
 use Rattle.daq_session.proofs.PlayingLaws.{SoFar, interrupts_none, moment_more, stops, wrote_more, wrote_part, wrote_none, wrote_whole}
 
 -- what was read of a source that told this text

@@ -26,7 +26,6 @@ use Rattle.daq_session.specs.Stages.{Outset, Stage, opening, Does, Plays, Interr
 use Rattle.daq_session.specs.Standing.{stage_of, IsReady}
 use Rattle.odb_script.specs.Lines.{Reading, nothing_read, ReadsLine}
 use Rattle.odb_script.specs.ReadLines.{HasRead, has_read_none, has_read_line}
-use Rattle.daq_session.specs.declared.desk.Going.{Going}
 use Rattle.daq_session.specs.declared.desk.Going.TheVariants.{On, Exit}
 use Rattle.daq_session.specs.Playing.{Moment, IsNew, Replied, GoesBehind, DoesLine, Prints}
 

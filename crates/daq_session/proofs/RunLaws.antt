@@ -5,8 +5,7 @@ use Rattle.std.proofs.lemmas.List.Elements.{All-nil}
 use Rattle.daq_io.specs.Counts.{Rose}
 use Rattle.daq_io.specs.Streams.{Appends-nil}
 use Rattle.daq_session.specs.declared.causes.Cause.{Cause}
-use Rattle.daq_session.specs.declared.causes.Cause.TheVariants.{Done, CommandRefused, BadInput, SourceFault as source_fault, SinkFault as sink_fault, FileFault as file_fault, NoMemory as no_memory}
-use Rattle.midas_tools.specs.declared.ends.InputFault.TheVariants.{ScriptTooLong}
+use Rattle.daq_session.specs.declared.causes.Cause.TheVariants.{Done, CommandRefused, NoMemory as no_memory}
 use Rattle.daq_session.specs.declared.endings.Ending.{Ending}
 use Rattle.daq_session.specs.declared.endings.Ending.TheVariants.{End, TooLong, SourceFault, Halted}
 use Rattle.daq_session.specs.declared.halts.Halt.TheVariants.{NoMemory, SinkFault, FileFault}
