@@ -14,8 +14,8 @@ use Rattle.odb_runinfo.specs.RunKeys.{key_path, sent_path}
 use Rattle.odb_runinfo.specs.RunSets.{number_got}
 use Rattle.daq_session.specs.FrontNames.{front_name}
 use Rattle.odb_tree.specs.Histories.{replay}
-use Rattle.odb_journal.specs.Noted.{Noted, KeepsCalls, Grows, GoesOn, by_main}
-use Rattle.odb_journal.specs.HistoryLaws.{by_main-append, goes_on_none, replay-append}
+use Rattle.odb_journal.specs.Noted.{GoesOn, by_main}
+use Rattle.odb_journal.specs.HistoryLaws.{by_main-append, replay-append}
 use Rattle.daq_session.specs.declared.halts.Halt.{Halt}
 use Rattle.daq_session.specs.declared.halts.Halt.TheVariants.{NoMemory}
 use Rattle.daq_session.specs.declared.replies.Reply.{Reply}

@@ -6,12 +6,10 @@ use Rattle.daq_model.specs.Events.{encoding, all_encoded}
 use Rattle.daq_model.specs.RunFile.{end_record, begun_file}
 use Rattle.daq_model.specs.Generator.{generated_events}
 use Rattle.daq_io.specs.Seen.{Same, Creates, Closes}
-use Rattle.odb_script.specs.declared.forms.Command.TheVariants.{Start, Stop}
-use Rattle.odb_tree.specs.declared.entry.DatabaseEntry.{DatabaseEntry}
-use Rattle.odb_tree.specs.Rows.{Rows}
+use Rattle.odb_script.specs.declared.forms.Command.TheVariants.{Stop}
 use Rattle.odb_tree.specs.Histories.{replay}
-use Rattle.odb_journal.specs.Noted.{Noted, KeepsCalls, Grows, GoesOn, by_main}
-use Rattle.odb_runinfo.specs.RunSets.{Assignment, assignments, start_sets, started_sets, refused_sets, stopping_sets, stopped_sets, number_got, front_made}
+use Rattle.odb_journal.specs.Noted.{Noted, KeepsCalls, Grows}
+use Rattle.odb_runinfo.specs.RunSets.{Assignment, assignments, start_sets, started_sets, refused_sets, stopping_sets, stopped_sets}
 use Rattle.daq_session.specs.FrontNames.{front_name}
 use Rattle.daq_session.specs.declared.records.FrontTally.{FrontTally}
 use Rattle.daq_session.specs.declared.records.FileRecord.{FileRecord}
@@ -23,8 +21,8 @@ use Rattle.daq_session.specs.declared.state.OpenRun.{OpenRun}
 use Rattle.daq_session.specs.RunNames.{run_name}
 use Rattle.daq_session.specs.RunRecords.{IsKept}
 use Rattle.daq_session.specs.Tallies.{IsTally}
-use Rattle.daq_session.specs.Stages.{Outset, Stage, IsReading, IsFreeName, DoesStop, Interrupts, assigned, next_order, opens, called, refused_record, completed_record, file_record}
-use Rattle.daq_session.specs.Standing.{order_in, stage_of, IsClock, IsAt, IsReady, Leads, LineDoes, RunStarts, Breaks}
+use Rattle.daq_session.specs.Stages.{Outset, IsReading, IsFreeName, DoesStop, assigned, next_order, refused_record, completed_record, file_record}
+use Rattle.daq_session.specs.Standing.{order_in, stage_of, IsClock, IsAt, Leads, LineDoes, RunStarts}
 use Rattle.daq_session.proofs.Keeping.{kept_begun, kept_same, kept_refused, kept_ended, kept_free, kept_taken}
 
 -- What one reading of the clock does.

@@ -23,9 +23,9 @@ use Rattle.buffer_core.specs.Window.{Window, opening, accepted_of}
 use Rattle.buffer_core.specs.Slots.{slot_at}
 use Rattle.buffer_core.specs.Calls.{IsReply, window_after, event_after, request_reply_to, with_gate}
 use Rattle.buffer_core.specs.WindowLaws.{IsSendable}
-use Rattle.buffer_core.specs.ReadingLaws.{IsDrained, IsFed, AfterSend, attach_opens, request_opens, opening_attach, drained_opens, drained_send, fed_reply, fed_event, fed_again, run_begins, run_ends, running_is}
+use Rattle.buffer_core.specs.ReadingLaws.{IsDrained, AfterSend, attach_opens, request_opens, opening_attach, drained_opens, drained_send, fed_reply, fed_event, fed_again, run_begins, run_ends, running_is}
 use Rattle.buffer_core.specs.Ported.{Ported, Does}
-use Rattle.daq_session.specs.BufferEntries.{opening_entries, begin_entry, passed_entries, end_entry}
+use Rattle.daq_session.specs.BufferEntries.{opening_entries, passed_entries}
 
 -- an event is sent
 sent_facts : (w w' : Window) (start : ℕ) (e : Event) (h : Header) (body : List ℕ) (reply : Result ℕ SendRefusal) → h ≡ fields_of e → body ≡ e.body → w.gate ≡ Running start → IsSendable w (length e.body) e

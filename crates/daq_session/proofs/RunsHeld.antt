@@ -1,7 +1,7 @@
 -- What a client that got every event has of a run that was ended, and what stands between the run's marks.
-use Rattle.std.specs.Prelude.{◌≡◌, ℕ, zero, suc, ◌+◌, ◌-◌, ◌<◌, ◌≤◌, ◌==◌, Bool, true, false, ◌||◌, if◌then◌else◌, List, [], ◌∷◌, ◌++◌, length, map, reverse, filter, take, drop, Option, Some, None, refl}
+use Rattle.std.specs.Prelude.{◌≡◌, ℕ, zero, suc, ◌+◌, ◌-◌, ◌<◌, ◌≤◌, ◌==◌, Bool, true, false, ◌||◌, if◌then◌else◌, List, [], ◌∷◌, ◌++◌, length, map, reverse, filter, Option, Some, refl}
 use Rattle.std.specs.List.{list_any, enumerate_from}
-use Rattle.std.proofs.Common.{ap, sym, ◌∙◌, subst, arith, eq-eqb, ne_eqb}
+use Rattle.std.proofs.Common.{ap, sym, ◌∙◌, arith, eq-eqb, ne_eqb}
 use Rattle.std.proofs.lemmas.List.{reverse-append, length-map, append-nil}
 use Rattle.std.proofs.lemmas.Bool.{eqb-false}
 use Rattle.std.proofs.lemmas.List.Elements.{filter-append}
@@ -9,7 +9,7 @@ use Rattle.daq_types.specs.declared.events.Event.{Event}
 use Rattle.daq_model.specs.Events.{matches}
 use Rattle.buffer_core.specs.declared.entry.BufferEntry.{BufferEntry}
 use Rattle.buffer_core.specs.Window.{Sent}
-use Rattle.buffer_core.specs.Points.{Life, life_at, sent, count_at, past_of}
+use Rattle.buffer_core.specs.Points.{Life, sent, past_of}
 use Rattle.buffer_core.specs.SlotLaws.{split}
 use Rattle.buffer_core.specs.Runs.{ended_at, events_between, segment, segment_at}
 use Rattle.buffer_core.specs.Readers.{among, places_in, places_got, places_of}

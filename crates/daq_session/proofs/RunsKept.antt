@@ -27,7 +27,7 @@ use Rattle.daq_session.specs.BufferEntries.{opening_entries, begin_entry, passed
 use Rattle.daq_session.specs.RunRecords.{order_of, sent_in, file_of, IsFiled, generated_events-by}
 use Rattle.daq_session.specs.Stages.{Stage, completed_record}
 use Rattle.daq_session.specs.RunHistories.{sent_by, wanted_of, events_of, segment_file, HoldsSegment, HoldSegments, IsSentByFront, AreSentByFronts, IsHeldRun}
-use Rattle.daq_session.specs.RunsTold.{IsRead, IsFresh, IsOn, IsDone, IsDoneRun, TellsRun, IsTold, IsOnRun, IsEnded, IsStanding, KeepsTold, EndsTold}
+use Rattle.daq_session.specs.RunsTold.{IsRead, IsFresh, IsOn, IsDone, TellsRun, IsTold, IsOnRun, IsEnded, IsStanding, KeepsTold, EndsTold}
 use Rattle.daq_session.proofs.RunsHeld.{IsHeld, is_held}
 use Rattle.daq_session.proofs.RunsTelling.{past_of-push, SentMore, sent_by-push, read_begun, fresh_begun, on_begun, done_begun, read_passed, fresh_passed, on_passed, done_passed, read_ended, fresh_ended, done_on, done_ended}
 

@@ -1,6 +1,6 @@
 -- How the history of the buffer tells the runs of a session: what its entries, one after the other, make of what was
 -- told before.
-use Rattle.std.specs.Prelude.{◌≡◌, ◌≢◌, ℕ, zero, suc, ◌+◌, ◌<◌, ◌≤◌, ◌==◌, Bool, if◌then◌else◌, List, [], ◌∷◌, ◌++◌, length, map, take, drop, Option, Some, None, Ok, refl}
+use Rattle.std.specs.Prelude.{◌≡◌, ◌≢◌, ℕ, suc, ◌+◌, ◌<◌, ◌≤◌, ◌==◌, Bool, if◌then◌else◌, List, [], ◌∷◌, ◌++◌, length, drop, Option, Some, None, Ok, refl}
 use Rattle.std.specs.Option.{option_map}
 use Rattle.std.specs.List.{filter_map}
 use Rattle.std.proofs.Common.{ap, sym, ◌∙◌, arith, eq-eqb, ne_eqb, length-append}
@@ -11,7 +11,7 @@ use Rattle.buffer_core.specs.declared.entry.BufferEntry.{BufferEntry}
 use Rattle.buffer_core.specs.declared.entry.BufferEntry.TheVariants.{SendInRun, Receive, Begin, End}
 use Rattle.buffer_core.specs.declared.replies.Received.TheVariants.{Got}
 use Rattle.buffer_core.specs.Window.{Sent}
-use Rattle.buffer_core.specs.Points.{Life, life_at, life_got, sent, count_at, past_after, past_of}
+use Rattle.buffer_core.specs.Points.{Life, life_got, sent, count_at, past_after, past_of}
 use Rattle.buffer_core.specs.Runs.{begun_at, ended_at}
 use Rattle.daq_session.specs.RunHistories.{sent_by, sent_in_run}
 use Rattle.daq_session.specs.RunsTold.{in_run, downwards, IsRead, IsFresh, IsOn, IsDone}

@@ -17,7 +17,7 @@ use Rattle.daq_session.specs.declared.replies.Reply.TheVariants.{RunNumber}
 use Rattle.daq_session.specs.declared.state.State.{State}
 use Rattle.daq_session.specs.declared.state.OpenRun.{OpenRun}
 use Rattle.daq_session.specs.Stages.{Outset, Stage, Does, DoesStart, StartsFrom, StartsRun, Interrupts, called, opens}
-use Rattle.daq_session.specs.Standing.{stage_of, order_in, IsAt, IsReady, Breaks, HandlesBy, LineDoes, RunStarts}
+use Rattle.daq_session.specs.Standing.{stage_of, order_in, IsReady, Breaks, HandlesBy, LineDoes, RunStarts}
 use Rattle.daq_session.proofs.Interrupting.{interrupts_trans, interrupts_opens, interrupts_asked, interrupts_state, breaks_trans, breaks_by, memory_handled, at_same}
 
 -- a start is that of a run, or none for want of a number, behind the opening and the number that was got
@@ -44,9 +44,9 @@ start_broken old opened new now result err is idle is_opened is_runs is_current 
     memory_handled (LineDoes (Ok Start)) old new now now result err is
     (breaks_by old new now
     (λ readings replies.
-        interrupts_trans (stage_of old readings replies) (stage_of opened readings replies) (stage_of new readings replies)
-        (subst (λ (s : Stage). Interrupts (stage_of old readings replies) s) (sym (is_opened readings replies)) (interrupts_opens old.opened (stage_of old readings replies)))
-        (interrupts_state opened new new_quota new_starts new_opened new_runs new_current goes readings replies))
+    interrupts_trans (stage_of old readings replies) (stage_of opened readings replies) (stage_of new readings replies)
+    (subst (λ (s : Stage). Interrupts (stage_of old readings replies) s) (sym (is_opened readings replies)) (interrupts_opens old.opened (stage_of old readings replies)))
+    (interrupts_state opened new new_quota new_starts new_opened new_runs new_current goes readings replies))
     (new_runs ∙ is_runs) (new_current ∙ is_current))
     (subst (λ (on : Option OpenRun). IsReady now.files on) (sym (new_current ∙ (is_current ∙ idle))) tt)
 

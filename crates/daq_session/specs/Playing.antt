@@ -1,5 +1,5 @@
 -- A script played by a session: line by line, and what was written.
-use Rattle.std.specs.Prelude.{◌≡◌, ℕ, ◌<◌, ◌≤◌, Bool, true, false, List, [], length, map, take, Option, Some, None, Result, Ok, Err, ◌⊎◌, ⊤}
+use Rattle.std.specs.Prelude.{◌≡◌, ℕ, ◌<◌, ◌≤◌, true, false, List, [], length, map, take, Option, Some, None, Result, Ok, Err, ◌⊎◌, ⊤}
 use Rattle.std.specs.Io.KnownBytes.{Appends, Keeps}
 use Rattle.daq_io.specs.Streams.{AppendsPart}
 use Rattle.odb_runinfo.specs.RunKeys.{session_rows}

@@ -1,4 +1,4 @@
-use Rattle.std.proofs.Common.{◌∙◌, arith}
+use Rattle.std.proofs.Common.{◌∙◌}
 use Rattle.std.proofs.Math.Logic.{∥∥₁_map}
 use Rattle.daq_session.proofs.Passing.{begun}
 use Rattle.daq_session.proofs.data_path.DataPath.begin.Goals as goal
