@@ -12,8 +12,9 @@ use Rattle.daq_session.specs.declared.halts.Halt.TheVariants.{NoMemory}
 use Rattle.daq_session.specs.declared.replies.Reply.{Reply}
 use Rattle.daq_session.specs.declared.state.State.{State}
 use Rattle.daq_session.specs.Stages.{Outset, Stage, Does, DoesAnswer, Interrupts}
-use Rattle.daq_session.specs.Standing.{stage_of, IsAt, IsReady, AnswersBy, LineDoes, Breaks, Handles}
+use Rattle.daq_session.specs.Standing.{stage_of, IsReady, AnswersBy, LineDoes, Handles}
 use Rattle.daq_session.specs.Halts.{CountsHalt}
+use Rattle.daq_session.proofs.Interrupting.{at_same, breaks_by}
 
 -- no call was made on the database
 pub interrupted_none : {T E : Type 0} (result : Result T E) (old : State) (q : Noted) → KeepsCalls old.database q
@@ -26,10 +27,6 @@ interrupted_none (Err why) old q same = λ readings replies. record {
   leads = rw (same.rows, same.history, append-nil old.database.history) refl;
 }
 
--- the outside stands to the records as it did
-stands : (o : Outset) (readings : ℕ) (old new : State) (outside : Outset) → new.runs.items ≡ old.runs.items → new.current ≡ old.current → IsAt o readings old outside → IsAt o readings new outside
-stands o readings old new outside runs current at = record { kept = rw (runs, current) at.kept; clock = at.clock }
-
 -- the line was answered in this way
 pub answers_inside : (Way : Outset → Stage → Stage → Type 0) (reply : Reply) (old new : State) (outside : Outset) → new.runs.items ≡ old.runs.items → new.current ≡ old.current
     → ((o : Outset) (readings : ℕ) (replies : List Reply) → Way o (stage_of old readings replies) (stage_of new readings (replies ++ reply ∷ [])))
@@ -37,14 +34,8 @@ pub answers_inside : (Way : Outset → Stage → Stage → Type 0) (reply : Repl
 answers_inside Way reply old new outside runs current does = λ o readings replies at. record {
   readings_after = readings;
   does = does o readings replies;
-  at = stands o readings old new outside runs current at;
+  at = at_same old new outside runs current o readings at;
 }
-
--- the line was broken off
-pub breaks_inside : (old new : State) (outside : Outset) → new.runs.items ≡ old.runs.items → new.current ≡ old.current
-    → ((readings : ℕ) (replies : List Reply) → Interrupts (stage_of old readings replies) (stage_of new readings replies))
-    → Breaks old new outside outside
-breaks_inside old new outside runs current stage = record { stage = stage; at = λ o readings. stands o readings old new outside runs current }
 
 -- a command of the database does what its answer says
 call_does : (o : Outset) (old new : Stage) (command : Command) → DoesAnswer old (answer_of old.rows command) new → Does o old (Ok command) new
@@ -72,7 +63,7 @@ handles_call line command old new outside (Ok reply) is runs current ready answe
       (λ o readings replies. rw is (call_does o (stage_of old readings replies) (stage_of new readings (replies ++ reply ∷ [])) command (answered readings replies))),
   rw current ready,
 )
-handles_call line command old new outside (Err halt) is runs current ready answered halted interrupted = rw halted (breaks_inside old new outside runs current interrupted, rw current ready)
+handles_call line command old new outside (Err halt) is runs current ready answered halted interrupted = rw halted (breaks_by old new outside interrupted runs current, rw current ready)
 
 -- the files were not called
 pub counts_outside : {T : Type 0} (faults : ℕ) (result : Result T Halt) → IfErr result (λ halt. halt ≡ NoMemory) → CountsHalt faults faults result

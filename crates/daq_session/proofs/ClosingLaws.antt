@@ -35,7 +35,8 @@ use Rattle.daq_session.specs.Playing.{AreLines, CutBy, Wrote, Played, Prints}
 use Rattle.daq_session.specs.Sessions.{IsPlayed}
 use Rattle.daq_session.specs.Closing.{prints, earlier, Finished}
 use Rattle.daq_session.proofs.GivenLines.{given_first}
-use Rattle.daq_session.proofs.PlayingLaws.{interrupts_none, wrote_whole}
+use Rattle.daq_session.proofs.Interrupting.{interrupts_none}
+use Rattle.daq_session.proofs.PlayingLaws.{wrote_whole}
 
 -- What was written.
 

@@ -20,7 +20,8 @@ use Rattle.daq_session.specs.Console.{text_of, console_text}
 use Rattle.daq_session.specs.Stages.{Outset, Stage}
 use Rattle.daq_session.specs.Standing.{stage_of, IsReady}
 use Rattle.daq_session.specs.Playing.{Moment, Replied, Unanswered, DoesLine, AreFirst, AreLines, CutBy, Wrote, Played, PlaysTo}
-use Rattle.daq_session.proofs.PlayingLaws.{SoFar, interrupts_none, moment_more, stops, wrote_more, wrote_part, wrote_none, wrote_whole}
+use Rattle.daq_session.proofs.Interrupting.{interrupts_none}
+use Rattle.daq_session.proofs.PlayingLaws.{SoFar, moment_more, stops, wrote_more, wrote_part, wrote_none, wrote_whole}
 
 -- what was read of a source that told this text
 told_read : (first now : Option (List ℕ)) (reading : Reading) (lines : List (List ℕ)) (text : List ℕ) → first ≡ Some text → HasRead first now reading lines → HasRead (Some text) now reading lines

@@ -2,7 +2,7 @@
 use Rattle.std.proofs.Common.{◌≡◌, ℕ, ◌+◌, ◌*◌, ◌≤◌, List, [], ◌∷◌, ◌++◌, Option, length, take, refl, ap, sym, subst, ◌∙◌, arith, length-append, zero-add, inl}
 use Rattle.std.specs.Prelude.{map, Result, Err, true, false}
 use Rattle.std.specs.Str.Lines.{strip_carriage_return}
-use Rattle.std.proofs.lemmas.List.{append-nil, map-append, take_all}
+use Rattle.std.proofs.lemmas.List.{map-append, take_all}
 use Rattle.std.proofs.lemmas.List.Elements.{All-nil}
 use Rattle.std.proofs.Math.Seq.{take-append-add, take-append_seam}
 use Rattle.std.specs.Io.KnownBytes.{Appends, Keeps}
@@ -21,17 +21,12 @@ use Rattle.daq_session.specs.declared.state.State.{State}
 use Rattle.daq_session.specs.Console.{text_of, console_text, console_text-more}
 use Rattle.daq_session.specs.Refused.{counts_noted}
 use Rattle.daq_session.specs.RunRecords.{IsFiled}
-use Rattle.odb_tree.specs.declared.entry.DatabaseEntry.{DatabaseEntry}
-use Rattle.daq_session.specs.Stages.{Outset, Stage, opening, Does, Plays, Interrupts}
+use Rattle.daq_session.specs.Stages.{Outset, Stage, opening, Does, Plays}
 use Rattle.daq_session.specs.Standing.{stage_of, IsReady}
 use Rattle.odb_script.specs.Lines.{Reading, nothing_read, ReadsLine}
 use Rattle.odb_script.specs.ReadLines.{HasRead, has_read_none, has_read_line}
 use Rattle.daq_session.specs.declared.desk.Going.TheVariants.{On, Exit}
 use Rattle.daq_session.specs.Playing.{Moment, IsNew, Replied, GoesBehind, DoesLine, Prints}
-
--- a command that found no memory may have done nothing
-pub interrupts_none : (s : Stage) → Interrupts s s
-interrupts_none s = record { calls = []; opened = s.opened; stays_open = λ is. is; leads = ap (λ (calls : List (ℕ × DatabaseEntry)). record s { calls = calls }) (sym (append-nil s.calls)) }
 
 -- one line more
 pub Plays-more : (o : Outset) (lines : List (Result Command LineRefusal)) (line : Result Command LineRefusal) (old between new : Stage) → Plays o old lines between → Does o between line new → Plays o old (lines ++ line ∷ []) new

@@ -22,7 +22,7 @@ use Rattle.daq_session.specs.Endings.{FileCounts}
 use Rattle.daq_session.specs.Playing.{AreLines, CutBy, Played, PlaysTo}
 use Rattle.daq_session.specs.Sessions.{Count, CutsBy, ReadBy, RefusedBy, FaultsBy, IsRecorded, IsSession}
 use Rattle.daq_session.specs.Closing.{Finished, FaultsOf, CauseBy}
-use Rattle.daq_session.proofs.PlayingLaws.{interrupts_none}
+use Rattle.daq_session.proofs.Interrupting.{interrupts_none}
 use Rattle.daq_session.proofs.ClosingLaws.{played_by}
 
 pub plays_played : (o : Outset) (ending : Ending) (source left told_first told_now : Option (List ℕ)) (s : State) (now : Outset) (refusals : Refusals) → ending ≢ Halted FileFault
