@@ -1,5 +1,5 @@
 -- A line was answered, or was broken off, and neither the files nor the clock nor the records changed.
-use Rattle.std.proofs.Common.{◌≡◌, ℕ, List, [], ◌∷◌, ◌++◌, Ok, Err, Result, refl, arith}
+use Rattle.std.proofs.Common.{◌≡◌, ℕ, inl, List, [], ◌∷◌, ◌++◌, Ok, Err, Result, refl, arith}
 use Rattle.std.specs.Prelude.{IfOk, IfErr, OnErr}
 use Rattle.std.proofs.lemmas.List.{append-nil}
 use Rattle.odb_journal.specs.Noted.{Noted, KeepsCalls}
@@ -23,7 +23,7 @@ interrupted_none (Ok t) old q same = tt
 interrupted_none (Err why) old q same = λ readings replies. record {
   calls = [];
   opened = old.opened;
-  stays_open = λ was. was;
+  opened_by = inl refl;
   leads = rw (same.rows, same.history, append-nil old.database.history) refl;
 }
 

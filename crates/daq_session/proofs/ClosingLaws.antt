@@ -121,6 +121,7 @@ stopped o ending source left told_first told reply old new before after refusals
         is_cut = played.cut;
         closes = closes_some o old.current (stage_of old played.readings played.replies) (stage_of new leads.readings_after (played.replies ++ reply ∷ [])) running leads.does;
         kept = subst (λ (on : Option OpenRun). IsKept o.files after.files new.runs.items on) idle leads.at.kept;
+        clock = leads.at.clock;
       },
     )
 
@@ -141,6 +142,7 @@ finished_idle o ending source left told_first told sink_first sink s now refusal
     is_cut = played.cut;
     closes = closes_none o s.current (stage_of s played.readings played.replies) idle;
     kept = subst (λ (on : Option OpenRun). IsKept o.files now.files s.runs.items on) idle played.at.kept;
+    clock = played.at.clock;
   };
   counts = played.counts;
   are_lines = played.are_lines;
@@ -234,7 +236,7 @@ cut_earlier (Halted FileFault) halt old new cut = cut_halted halt old new cut
 
 -- with another word of what is cut off
 pub played_by : (o after : Outset) (Was Now : Stage → Stage → Type 0) (lines : List (List ℕ)) (final : Stage) → ((old new : Stage) → Was old new → Now old new) → IsPlayed o after Was lines final → IsPlayed o after Now lines final
-played_by o after Was Now lines final so played = record { behind = played.behind; plays = played.plays; cut = played.cut; is_cut = so played.behind played.cut played.is_cut; closes = played.closes; kept = played.kept }
+played_by o after Was Now lines final so played = record { behind = played.behind; plays = played.plays; cut = played.cut; is_cut = so played.behind played.cut played.is_cut; closes = played.closes; kept = played.kept; clock = played.clock }
 
 -- the run was ended, and that was not printed whole
 pub finished_cut : (o : Outset) (ending : Ending) (halt : Halt) (source left told_first told_old told_new : Option (List ℕ)) (sink_first sink_old sink_new : ℕ) (old new : State) (before after : Outset) (refusals : Refusals) (reply : Reply)

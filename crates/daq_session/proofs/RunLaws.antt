@@ -1,5 +1,5 @@
 -- From how a session was closed to its cause.
-use Rattle.std.proofs.Common.{◌≡◌, ◌≢◌, ℕ, ◌<◌, List, [], ◌∷◌, Option, None, true, false, Bool, length, refl, sym, subst, ◌∙◌, arith, eqb-true}
+use Rattle.std.proofs.Common.{◌≡◌, ◌≢◌, ℕ, ◌<◌, List, [], ◌∷◌, Option, None, true, false, Bool, length, refl, ap, sym, subst, ◌∙◌, arith, eqb-true, zero-add}
 use Rattle.std.specs.Prelude.{◌==◌, if◌then◌else◌, zero, suc}
 use Rattle.std.proofs.lemmas.List.Elements.{All-nil}
 use Rattle.daq_io.specs.Counts.{Rose}
@@ -71,7 +71,7 @@ read_by End cause refusals first by text left lines are =
       | true ↦ λ is. subst (λ (c : Cause). ReadBy c text left lines) (sym is) are
       | false ↦ λ is. subst (λ (c : Cause). ReadBy c text left lines) (sym is) are
     ] by
-read_by TooLong cause refusals first by text left lines are = subst (λ (c : Cause). ReadBy c text left lines) (sym by) are
+read_by TooLong cause refusals first by text left lines are = subst (λ (c : Cause). ReadBy c text left lines) (sym by) (refl, are)
 read_by SourceFault cause refusals first by text left lines are = subst (λ (c : Cause). ReadBy c text left lines) (sym by) are
 read_by (Halted NoMemory) cause refusals first by text left lines are = subst (λ (c : Cause). ReadBy c text left lines) (sym by) are
 read_by (Halted SinkFault) cause refusals first by text left lines are = subst (λ (c : Cause). ReadBy c text left lines) (sym by) are
@@ -140,6 +140,7 @@ session_none o source left told sink = record {
     is_cut = interrupts_none opening;
     closes = refl;
     kept = record { tells = refl; filed = λ known. All-nil (IsFiled o.files.at); begun = λ known. tt; others = λ known name avoids ne. refl };
+    clock = record { tells = refl; ahead = λ told n. ap o.ahead (sym (zero-add n)) };
   };
   recorded = refl;
   read = λ text known. refl;

@@ -1,5 +1,5 @@
 -- From the parts of a start to the command.
-use Rattle.std.proofs.Common.{◌≡◌, ℕ, List, [], ◌∷◌, ◌++◌, Option, None, refl, ap, sym, subst, ◌∙◌}
+use Rattle.std.proofs.Common.{◌≡◌, ℕ, List, [], ◌∷◌, ◌++◌, Option, None, true, refl, ap, sym, subst, ◌∙◌}
 use Rattle.std.specs.Prelude.{Result, Ok, Err}
 use Rattle.std.specs.Result.{IsErr, IsErrAnd}
 use Rattle.odb_journal.specs.Noted.{Grows, GoesOn}
@@ -18,7 +18,7 @@ use Rattle.daq_session.specs.declared.state.State.{State}
 use Rattle.daq_session.specs.declared.state.OpenRun.{OpenRun}
 use Rattle.daq_session.specs.Stages.{Outset, Stage, Does, DoesStart, StartsFrom, StartsRun, Interrupts, called, opens}
 use Rattle.daq_session.specs.Standing.{stage_of, order_in, IsReady, Breaks, HandlesBy, LineDoes, RunStarts}
-use Rattle.daq_session.proofs.Interrupting.{interrupts_trans, interrupts_opens, interrupts_asked, interrupts_state, breaks_trans, breaks_by, memory_handled, at_same}
+use Rattle.daq_session.proofs.Interrupting.{interrupts_trans, interrupts_opens, opens_open, interrupts_asked, interrupts_state, breaks_trans, breaks_by, memory_handled, at_same}
 
 -- a start is that of a run, or none for want of a number, behind the opening and the number that was got
 pub starts_from : (o : Outset) (old opened asked new : Stage) (next : Result ℕ NoNext) → old.on ≡ None → opened ≡ opens old.opened old → next_run (have_of (get_reply opened.rows (key_path number_key))) ≡ next
@@ -28,6 +28,10 @@ starts_from o old opened asked new next idle is_opened is_next is_asked starts =
     (subst (λ (s : Stage). StartsFrom o s new) is_opened
     (subst (λ (n : Result ℕ NoNext). StartsRun o n (called opened (number_got opened.rows)) new) (sym is_next)
     (subst (λ (s : Stage). StartsRun o next s new) is_asked starts)))
+
+-- the session is open
+open_by : (old opened : State) → ((readings : ℕ) (replies : List Reply) → stage_of opened readings replies ≡ opens old.opened (stage_of old readings replies)) → opened.opened ≡ true
+open_by old opened is_opened = ap (λ (s : Stage). s.opened) (is_opened 0 []) ∙ opens_open (stage_of old 0 [])
 
 -- the number was got
 pub asked_stage : (opened asked : State) → asked.quota ≡ opened.quota → asked.starts ≡ opened.starts → asked.opened ≡ opened.opened → asked.runs.items ≡ opened.runs.items → asked.current ≡ opened.current
@@ -44,7 +48,7 @@ start_broken old opened new now result err is idle is_opened is_runs is_current 
     memory_handled (LineDoes (Ok Start)) old new now now result err is
     (breaks_by old new now
     (λ readings replies.
-    interrupts_trans (stage_of old readings replies) (stage_of opened readings replies) (stage_of new readings replies)
+    interrupts_trans (stage_of old readings replies) (stage_of opened readings replies) (stage_of new readings replies) (open_by old opened is_opened)
     (subst (λ (s : Stage). Interrupts (stage_of old readings replies) s) (sym (is_opened readings replies)) (interrupts_opens old.opened (stage_of old readings replies)))
     (interrupts_state opened new new_quota new_starts new_opened new_runs new_current goes readings replies))
     (new_runs ∙ is_runs) (new_current ∙ is_current))
@@ -56,7 +60,7 @@ pub breaks_asked : (old opened asked : State) (now : Outset) → ((readings : �
     → asked.runs.items ≡ old.runs.items → asked.current ≡ old.current → Breaks old asked now now
 breaks_asked old opened asked now is_opened is_asked is_runs is_current = record {
   stage = λ readings replies.
-      interrupts_trans (stage_of old readings replies) (stage_of opened readings replies) (stage_of asked readings replies)
+      interrupts_trans (stage_of old readings replies) (stage_of opened readings replies) (stage_of asked readings replies) (open_by old opened is_opened)
       (subst (λ (s : Stage). Interrupts (stage_of old readings replies) s) (sym (is_opened readings replies)) (interrupts_opens old.opened (stage_of old readings replies)))
       (subst (λ (s : Stage). Interrupts (stage_of opened readings replies) s) (sym (is_asked readings replies)) (interrupts_asked (stage_of opened readings replies)));
   at = at_same old asked now is_runs is_current;
@@ -79,7 +83,7 @@ start_handled old opened asked new run before after (Ok reply) idle is_opened is
       },
   handles.1,
 )
-start_handled old opened asked new run before after (Err NoMemory) idle is_opened is_asked is_next breaks handles = (breaks_trans old asked new before before after breaks handles.0, handles.1)
+start_handled old opened asked new run before after (Err NoMemory) idle is_opened is_asked is_next breaks handles = (breaks_trans old asked new before before after (ap (λ (s : Stage). s.opened) (is_asked 0 []) ∙ open_by old opened is_opened) breaks handles.0, handles.1)
 start_handled old opened asked new run before after (Err SinkFault) idle is_opened is_asked is_next breaks handles = handles
 start_handled old opened asked new run before after (Err FileFault) idle is_opened is_asked is_next breaks handles = tt
 

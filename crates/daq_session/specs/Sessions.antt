@@ -11,6 +11,8 @@ use Rattle.daq_session.specs.declared.records.SessionRecord.{SessionRecord}
 use Rattle.daq_session.specs.Console.{console_text, refused_lines, first_line}
 use Rattle.daq_session.specs.Playing.{AreWhole, AreTooMany, AreGiven, AreFirst}
 use Rattle.daq_session.specs.RunRecords.{IsKept}
+use Rattle.midas_tools.specs.declared.ends.InputFault.TheVariants.{ScriptTooLong}
+use Rattle.daq_session.specs.Standing.{IsClock}
 use Rattle.daq_session.specs.Stages.{Outset, Stage, opening, Does, Plays, Interrupts}
 
 -- the stop at the script's end, which is given where a run is on
@@ -18,7 +20,7 @@ abbrev pub ClosesRun : Outset → Stage → Stage → Type 0
 ClosesRun o old new = MatchOption old.on (new ≡ old) (λ order. Does o old (Ok Stop) new)
 
 -- The lines were played from the opening on; then maybe a command was cut off; and the run was ended that was still on.
--- The files are as the records say.
+-- The files are as the records say, and the clock was read as often as the lines ask for.
 pub record IsPlayed (o after : Outset) (IsCut : Stage → Stage → Type 0) (lines : List (List ℕ)) (final : Stage) : Type 0 where
   pub behind : Stage
   pub plays : Plays o opening (map command_of lines) behind
@@ -26,6 +28,7 @@ pub record IsPlayed (o after : Outset) (IsCut : Stage → Stage → Type 0) (lin
   pub is_cut : IsCut behind cut
   pub closes : ClosesRun o cut final
   pub kept : IsKept o.files after.files final.runs None
+  pub clock : IsClock o final.readings after
 
 -- The record of a session that ended so: there is one exactly where a start opened the session, and it has the records of
 -- the runs and all calls on the database.
@@ -49,7 +52,7 @@ CutsBy NoMemory old new = Interrupts old new
 abbrev pub ReadBy : Cause → (text : List ℕ) → (left : Option (List ℕ)) → List (List ℕ) → Type 0
 ReadBy Done text left lines = AreWhole text lines
 ReadBy (CommandRefused count first) text left lines = AreWhole text lines
-ReadBy (BadInput fault) text left lines = AreTooMany text lines
+ReadBy (BadInput fault) text left lines = fault ≡ ScriptTooLong × AreTooMany text lines
 ReadBy Usage text left lines = ⊥
 ReadBy SourceFault text left lines = AreGiven text left lines
 ReadBy SinkFault text left lines = AreFirst text lines

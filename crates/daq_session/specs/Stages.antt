@@ -167,9 +167,15 @@ abbrev pub Plays : Outset → Stage → List (Result Command LineRefusal) → St
 Plays o old [] new = new ≡ old
 Plays o old (line ∷ lines) new = (between : Stage) × Does o old line between × Plays o between lines new
 
--- A command found no memory: the main thread made some calls on the database, and maybe the session was opened.
+-- These calls opened the session: the first of them is the one that does, and was not refused for want of memory.
+pub record OpenedBy (old : Stage) (opened : Bool) (calls : List DatabaseEntry) : Type 0 where
+  pub behind : List DatabaseEntry
+  pub calls_are : by_main calls ≡ front_made old.rows front_name ++ by_main behind
+  pub is_open : opened ≡ true
+
+-- A command found no memory: the main thread made some calls on the database, which maybe opened the session.
 pub record Interrupts (old new : Stage) : Type 0 where
   pub calls : List DatabaseEntry
   pub opened : Bool
-  pub stays_open : IsTrue old.opened → IsTrue opened
+  pub opened_by : (opened ≡ old.opened) ⊎ OpenedBy old opened calls
   pub leads : new ≡ record (called old (by_main calls)) { opened = opened }
