@@ -16,3 +16,4 @@ mod RunsTelling
 mod RunsHeld
 mod RunsKept
 mod Answering
+mod FrontLaws

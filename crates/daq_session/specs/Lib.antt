@@ -18,3 +18,4 @@ pub mod BufferRecords
 pub mod RunHistories
 pub mod RunsTold
 pub mod FrontNames
+pub mod FrontSets

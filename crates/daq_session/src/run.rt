@@ -1,6 +1,7 @@
 ghost use Rattle.std.specs.Prelude.{◌≡◌, ◌≢◌, ℕ, List, All, None, IfSome, IsTrue};
 ghost use Rattle.daq_io.specs.Counts.{Rose};
 ghost use Rattle.daq_session.specs.BufferRecords.{IsOneHistory, IsSystem, history_in};
+ghost use Rattle.daq_session.specs.FrontSets.{AreCallers, IsFrontsPass};
 ghost use Rattle.daq_session.specs.RunHistories.{IsHeldRun, HoldSegments, AreSentByFronts};
 ghost use Rattle.daq_session.specs.Sessions.{FaultsBy, IsRecorded, IsSession};
 ghost use Rattle.daq_session.specs.Standing.{stage_of};
@@ -54,6 +55,8 @@ fn run<S: Source, K: Sink, F: Files, E, C: Clock, P>(
     ensures one_history { IfSome result.1 (λ s. All IsOneHistory s.buffers) }
     ensures run_files { ¬ Rose (F.faults outside.old.run_files) (F.faults outside.new.run_files) → IsTrue (F.seen outside.old.run_files).tells → IfSome result.1 (λ s. All (HoldSegments s.buffers (F.seen outside.new.run_files).at) s.runs) }
     ensures front_end_sends { IfSome result.1 (λ s. All (AreSentByFronts s.buffers) s.runs) }
+    ensures front_end_sets { IfSome result.1 (λ s. IsFrontsPass s.database s.runs) }
+    ensures callers { IfSome result.1 (λ s. AreCallers s.database) }
     ensures database_files { outside.new.odb_files ≡ outside.old.odb_files }
     ensures picks { outside.new.pick ≡ outside.old.pick }
 {
@@ -115,6 +118,10 @@ pub fn run_script<
     // asked for; and these are the events that the front-end sent in that run.
     ensures run_files { ¬ Rose (F.faults outside.run_files) (F.faults result.2.run_files) → IsTrue (F.seen outside.run_files).tells → IfSome result.1 (λ s. All (HoldSegments s.buffers (F.seen result.2.run_files).at) s.runs) }
     ensures front_end_sends { IfSome result.1 (λ s. All (AreSentByFronts s.buffers) s.runs) }
+    // The front-end's calls on the database: it sets the number of its events sent to 0 as each run begins, and to the
+    // number that it sent as the run ends, and nothing else; all other calls are the main thread's.
+    ensures front_end_sets { IfSome result.1 (λ s. IsFrontsPass s.database s.runs) }
+    ensures callers { IfSome result.1 (λ s. AreCallers s.database) }
     ensures database_files { result.2.odb_files ≡ outside.odb_files }
     ensures picks { result.2.pick ≡ outside.pick }
 {

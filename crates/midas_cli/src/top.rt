@@ -3,6 +3,7 @@ ghost use Rattle.std.specs.Io.KnownBytes.{Appends};
 ghost use Rattle.daq_io.specs.Counts.{Rose};
 ghost use Rattle.daq_io.specs.Streams.{AppendsPart};
 ghost use Rattle.daq_session.specs.BufferRecords.{IsOneHistory, IsSystem, history_in};
+ghost use Rattle.daq_session.specs.FrontSets.{AreCallers, IsFrontsPass};
 ghost use Rattle.daq_session.specs.RunHistories.{AreSentByFronts, HoldSegments};
 ghost use Rattle.daq_session.specs.Sessions.{FaultsBy, IsSession};
 ghost use Rattle.odb_tree.specs.Histories.{IsLegal};
@@ -105,6 +106,10 @@ pub fn midas<
     // those that it asked for; and these are the events that the front-end sent in that run.
     ensures run_files { ¬ Rose (F.faults outside.run_files) (F.faults result.1.run_files) → IsTrue (F.seen outside.run_files).tells → IfSome result.0.session (λ s. All (HoldSegments s.buffers (F.seen result.1.run_files).at) s.runs) }
     ensures front_end_sends { IfSome result.0.session (λ s. All (AreSentByFronts s.buffers) s.runs) }
+    // The front-end's calls on the database: it sets the number of its events sent to 0 as each run begins, and to the
+    // number that it sent as the run ends, and nothing else; all other calls are the main thread's.
+    ensures front_end_sets { IfSome result.0.session (λ s. IsFrontsPass s.database s.runs) }
+    ensures callers { IfSome result.0.session (λ s. AreCallers s.database) }
     ensures database_files { result.1.odb_files ≡ outside.odb_files }
     ensures picks { result.1.pick ≡ outside.pick }
 {

@@ -1,0 +1,44 @@
+-- What the front-end's pass does to the online database.
+use Rattle.std.specs.Prelude.{◌≡◌, ℕ, ◌==◌, ◌≤◌, if◌then◌else◌, List, [], ◌∷◌, Some, None, Result, All, ⊤}
+use Rattle.std.specs.List.{filter_map, flat_map}
+use Rattle.odb_value.specs.declared.items.Item.TheVariants.{UInt64}
+use Rattle.odb_tree.specs.declared.entry.DatabaseEntry.{DatabaseEntry}
+use Rattle.odb_tree.specs.declared.entry.DatabaseEntry.TheVariants.{Set}
+use Rattle.odb_tree.specs.declared.refusals.OdbRefusal.{OdbRefusal}
+use Rattle.odb_runinfo.specs.RunKeys.{sent_path}
+use Rattle.daq_session.specs.declared.records.RunRecord.{RunRecord}
+use Rattle.daq_session.specs.declared.records.FrontTally.{FrontTally}
+use Rattle.daq_session.specs.FrontNames.{front_name}
+
+-- the calls that this caller made, in order
+abbrev pub made_by : (caller : ℕ) → (calls : List (ℕ × DatabaseEntry)) → List DatabaseEntry
+made_by caller calls = filter_map (λ e. if e.0 == caller then Some e.1 else None) calls
+
+-- the call that sets how many events the front-end sent to this number, whatever the reply
+pub record IsSentSet (number : ℕ) (entry : DatabaseEntry) : Type 0 where
+  pub reply : Result ℕ OdbRefusal
+  pub is : entry ≡ Set (sent_path front_name) 0 (UInt64 number) reply
+
+-- one such call for each of these numbers, in order, and no other call
+abbrev pub AreSentSets : List ℕ → List DatabaseEntry → Type 0
+AreSentSets [] [] = ⊤
+AreSentSets [] (entry ∷ entries) = ⊥
+AreSentSets (number ∷ numbers) [] = ⊥
+AreSentSets (number ∷ numbers) (entry ∷ entries) = IsSentSet number entry × AreSentSets numbers entries
+
+-- what it is set to in a run with this front-end: 0 as the run begins, and what the front-end sent as it ends
+abbrev pub numbers_of : List FrontTally → List ℕ
+numbers_of [] = []
+numbers_of (front ∷ fronts) = 0 ∷ front.sent ∷ []
+
+-- so in a recorded run; a refused start has no front-end
+abbrev pub set_numbers : RunRecord → List ℕ
+set_numbers r = numbers_of r.fronts
+
+-- the calls of the front-end, caller 1, are those that set these numbers, run by run
+abbrev pub IsFrontsPass : (calls : List (ℕ × DatabaseEntry)) → (runs : List RunRecord) → Type 0
+IsFrontsPass calls runs = AreSentSets (flat_map set_numbers runs) (made_by 1 calls)
+
+-- every caller is the main thread, 0, or the front-end, 1
+abbrev pub AreCallers : List (ℕ × DatabaseEntry) → Type 0
+AreCallers calls = All (λ e. e.0 ≤ 1) calls
