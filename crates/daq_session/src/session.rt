@@ -58,10 +58,8 @@ fn open_database(alloc: Global) -> Result<LocalDatabase<PlainTree>, NoMemory>
     ensures calls { IfOk result (λ database. database.history ≡ []) }
 {
     let mut tree = PlainTree::new(alloc);
-    match open(alloc, &mut tree) {
-        Ok(()) => Ok(LocalDatabase::new(alloc, tree)),
-        Err(_) => Err(NoMemory),
-    }
+    open(alloc, &mut tree)?;
+    Ok(LocalDatabase::new(alloc, tree))
 }
 
 /// Answers a command of the database.

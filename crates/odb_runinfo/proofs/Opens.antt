@@ -1,20 +1,16 @@
 -- A session opens with a tree.
-use Rattle.std.proofs.Common.{ℕ, List, [], ◌∷◌, Some, None, inl, inr, refl, arith, pos}
-use Rattle.odb_value.specs.declared.items.Item.{Item}
+use Rattle.std.proofs.Common.{ℕ, List, [], ◌∷◌, None, inl, inr, refl, arith, pos}
 use Rattle.odb_value.specs.declared.items.Item.TheVariants.{Int32, UInt32}
 use Rattle.odb_tree.specs.declared.rows.Row.{Row}
 use Rattle.odb_tree.specs.WalkLaws.{NoneAt}
 use Rattle.odb_tree.specs.Trees.{IsTree, IsPlaced}
 use Rattle.odb_runinfo.specs.declared.keys.RunKey.{RunKey}
 use Rattle.odb_runinfo.specs.declared.keys.RunKey.TheVariants.{State, RunNumber, StartTime, StopTime}
-use Rattle.odb_runinfo.specs.RunKeys.{key_name, key_path, session_rows, value_of_one}
+use Rattle.odb_runinfo.specs.RunKeys.{key_name, key_path, key_row, session_rows}
 use Rattle.odb_runinfo.specs.RunNumberKept.{run_directory}
 
 abbrev directory : Row
 directory = record { number = 1; path = run_directory; value = None }
-
-abbrev row : ℕ → RunKey → Item → Row
-row number key item = record { number = number; path = key_path key; value = Some (value_of_one item) }
 
 in_directory : (back : List Row) (key : RunKey) → IsPlaced (directory ∷ back) (key_path key)
 in_directory back key = record {
@@ -32,11 +28,11 @@ tree_opens = record {
     (
       in_directory [] State,
       (
-        in_directory (row 2 State (Int32 (pos 1)) ∷ []) RunNumber,
+        in_directory (key_row 2 State (Int32 (pos 1)) ∷ []) RunNumber,
         (
-          in_directory (row 2 State (Int32 (pos 1)) ∷ row 3 RunNumber (Int32 (pos 0)) ∷ []) StartTime,
+          in_directory (key_row 2 State (Int32 (pos 1)) ∷ key_row 3 RunNumber (Int32 (pos 0)) ∷ []) StartTime,
           (
-            in_directory (row 2 State (Int32 (pos 1)) ∷ row 3 RunNumber (Int32 (pos 0)) ∷ row 4 StartTime (UInt32 0) ∷ []) StopTime,
+            in_directory (key_row 2 State (Int32 (pos 1)) ∷ key_row 3 RunNumber (Int32 (pos 0)) ∷ key_row 4 StartTime (UInt32 0) ∷ []) StopTime,
             tt,
           ),
         ),

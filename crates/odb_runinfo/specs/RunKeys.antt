@@ -1,11 +1,12 @@
 -- The keys of the run's parameters, and the database with which a session opens.
-use Rattle.std.specs.Prelude.{ℕ, List, [], ◌∷◌, codes, pos}
+use Rattle.std.specs.Prelude.{ℕ, List, [], ◌∷◌, Some, None, codes, pos}
 use Rattle.odb_value.specs.declared.items.Item.{Item}
 use Rattle.odb_value.specs.declared.items.Item.TheVariants.{Int32, UInt32}
 use Rattle.odb_value.specs.Items.{tid_of}
 use Rattle.odb_value.specs.Values.{Held}
 use Rattle.odb_value.specs.ValueChanges.{new_held, put_in}
-use Rattle.odb_tree.specs.Rows.{Rows, no_rows}
+use Rattle.odb_tree.specs.declared.rows.Row.{Row}
+use Rattle.odb_tree.specs.Rows.{Rows}
 use Rattle.odb_tree.specs.Calls.{after_set_all}
 use Rattle.odb_runinfo.specs.declared.keys.RunKey.{RunKey}
 use Rattle.odb_runinfo.specs.declared.keys.RunKey.TheVariants.{State, RunNumber, StartTime, StopTime}
@@ -33,6 +34,20 @@ value_of_one item = put_in (new_held (tid_of item) 1) 0 item
 abbrev pub with_key : Rows → RunKey → Item → Rows
 with_key s key item = after_set_all s (key_path key) (value_of_one item)
 
--- the database of a session before its first call: State is 1, the run number and both times are 0, made in this order
+-- the row of a key with one number of 4 bytes
+abbrev pub key_row : (number : ℕ) → RunKey → Item → Row
+key_row number key item = record { number = number; path = key_path key; value = Some (record { tid = tid_of item; size = 4; items = item ∷ [] }) }
+
+-- the database of a session before its first call: the directory, and in it the state, 1, and 0 for the run number and
+-- for the times of the start and the stop
 abbrev pub session_rows : Rows
-session_rows = with_key (with_key (with_key (with_key no_rows State (Int32 (pos 1))) RunNumber (Int32 (pos 0))) StartTime (UInt32 0)) StopTime (UInt32 0)
+session_rows = record {
+  rows =
+      record { number = 1; path = codes "Runinfo" ∷ []; value = None }
+      ∷ key_row 2 State (Int32 (pos 1))
+      ∷ key_row 3 RunNumber (Int32 (pos 0))
+      ∷ key_row 4 StartTime (UInt32 0)
+      ∷ key_row 5 StopTime (UInt32 0)
+      ∷ [];
+  next = 6;
+}

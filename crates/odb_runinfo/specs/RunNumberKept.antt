@@ -18,7 +18,7 @@ use Rattle.odb_tree.specs.Rows.{Rows, row_at, change_row, change_at, rows_outsid
 use Rattle.odb_tree.specs.Calls.{get_reply, rows_after}
 use Rattle.odb_tree.specs.Histories.{replay}
 use Rattle.odb_runinfo.specs.declared.keys.RunKey.TheVariants.{RunNumber}
-use Rattle.odb_runinfo.specs.RunKeys.{key_path, session_rows, value_of_one}
+use Rattle.odb_runinfo.specs.RunKeys.{key_path, key_row, session_rows}
 
 abbrev pub run_directory : List (List ℕ)
 run_directory = codes "Runinfo" ∷ []
@@ -190,9 +190,9 @@ number_opens = record {
   dir = record { number = 1; path = run_directory; value = None };
   dir_at = refl;
   no_value = refl;
-  key = record { number = 3; path = key_path RunNumber; value = Some (value_of_one (Int32 (pos 0))) };
+  key = key_row 3 RunNumber (Int32 (pos 0));
   key_at = refl;
-  held = value_of_one (Int32 (pos 0));
+  held = record { tid = tid.Int32; size = 4; items = Int32 (pos 0) ∷ [] };
   value = refl;
   type = refl;
 }

@@ -1,4 +1,5 @@
 ghost use Rattle.std.specs.Prelude.{◌≡◌, IfOk};
+ghost use Rattle.daq_types.specs.Names.{IsName};
 ghost use Rattle.odb_runinfo.specs.RunKeys.{key_name, key_path, sent_path};
 
 use daq_types::{Name, NoMemory};
@@ -18,17 +19,22 @@ pub enum RunKey {
     StopTime,
 }
 
-/// A name that is known to be one.
-fn name_of(text: &[u8]) -> Result<Name, NoMemory>
-    ensures { IfOk result (λ name. name ≡ text.now) }
+/// The name with this text, which is one.
+fn name_of(text: &[u8]) -> Name
+    requires { IsName text.now }
+    ensures { result ≡ text.now }
 {
-    Name::new(text).map_err(|_| NoMemory)
+    match Name::new(text) {
+        Ok(name) => name,
+        Err(_) => unreachable!(),
+    }
 }
 
 impl RunKey {
     /// The name of the key.
     pub fn name(&self) -> &'static [u8]
-        ensures { result.now ≡ key_name self.now }
+        ensures name { result.now ≡ key_name self.now }
+        ensures is_name { IsName result.now }
     {
         match self {
             RunKey::State => b"State",
@@ -42,8 +48,8 @@ impl RunKey {
     pub fn path(&self, alloc: Global) -> Result<Path, NoMemory>
         ensures { IfOk result (λ path. path ≡ key_path self.now) }
     {
-        let directory = name_of(b"Runinfo")?;
-        let name = name_of(self.name())?;
+        let directory = name_of(b"Runinfo");
+        let name = name_of(self.name());
         let mut path = Path::root(alloc);
         path.push(directory)?;
         path.push(name)?;
@@ -55,8 +61,8 @@ impl RunKey {
 pub fn sent_path(alloc: Global, front: Name) -> Result<Path, NoMemory>
     ensures { IfOk result (λ path. path ≡ sent_path front) }
 {
-    let directory = name_of(b"Equipment")?;
-    let name = name_of(b"Events sent")?;
+    let directory = name_of(b"Equipment");
+    let name = name_of(b"Events sent");
     let mut path = Path::root(alloc);
     path.push(directory)?;
     path.push(front)?;

@@ -1,8 +1,9 @@
-ghost use Rattle.std.specs.Prelude.{◌≡◌, IfOk, OnOk, IsTrue};
+ghost use Rattle.std.specs.Prelude.{◌≡◌, IfOk, OnOk, IsTrue, None};
 ghost use Rattle.odb_value.specs.Items.{is_kept, tid_of};
 ghost use Rattle.odb_value.specs.Values.{IsShorter, size_limit};
 ghost use Rattle.odb_tree.specs.Rows.{no_rows};
-ghost use Rattle.odb_runinfo.specs.RunKeys.{value_of_one, with_key, session_rows};
+ghost use Rattle.odb_tree.specs.Calls.{set_all_fault};
+ghost use Rattle.odb_runinfo.specs.RunKeys.{key_path, value_of_one, with_key, session_rows};
 
 use crate::keys::RunKey;
 use daq_types::NoMemory;
@@ -21,25 +22,29 @@ fn value_of_one(alloc: Global, item: Item) -> Result<Value, NoMemory>
     Ok(value)
 }
 
-/// Makes the key with this one item.
+/// Makes the key with this one item, where nothing refuses it.
 fn add_key<D: Database>(
     alloc: Global,
     database: &mut D,
     key: RunKey,
     item: Item,
-) -> Result<(), OdbRefusal>
+) -> Result<(), NoMemory>
     requires kept { IsTrue (is_kept (tid_of item)) }
     requires short { IsShorter size_limit item }
+    requires free { set_all_fault (D.rows database.old) (key_path key) (value_of_one item) ≡ None }
     ensures { OnOk result (D.rows database.new ≡ with_key (D.rows database.old) key item) }
 {
     let path = key.path(alloc)?;
     let value = value_of_one(alloc, item)?;
-    database.set_all(alloc, &path, &value)?;
-    Ok(())
+    match database.set_all(alloc, &path, &value) {
+        Ok(_) => Ok(()),
+        Err(OdbRefusal::NoMemory) => Err(NoMemory),
+        Err(_) => unreachable!(),
+    }
 }
 
-/// Makes the keys of `/Runinfo` in a new database.
-pub fn open<D: Database>(alloc: Global, database: &mut D) -> Result<(), OdbRefusal>
+/// Makes the keys of `/Runinfo` in a new database, which may have some of them where memory is wanting.
+pub fn open<D: Database>(alloc: Global, database: &mut D) -> Result<(), NoMemory>
     requires { D.rows database.old ≡ no_rows }
     ensures { OnOk result (D.rows database.new ≡ session_rows) }
 {
