@@ -17,3 +17,4 @@ mod RunsHeld
 mod RunsKept
 mod Answering
 mod FrontLaws
+mod FitLaws

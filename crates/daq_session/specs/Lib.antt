@@ -19,3 +19,4 @@ pub mod RunHistories
 pub mod RunsTold
 pub mod FrontNames
 pub mod FrontSets
+pub mod RunRecordFits

@@ -3,6 +3,7 @@ ghost use Rattle.daq_io.specs.Counts.{Rose};
 ghost use Rattle.daq_session.specs.BufferRecords.{IsOneHistory, IsSystem, history_in};
 ghost use Rattle.daq_session.specs.FrontSets.{AreCallers, IsFrontsPass};
 ghost use Rattle.daq_session.specs.RunHistories.{IsHeldRun, HoldSegments, AreSentByFronts};
+ghost use Rattle.daq_session.specs.RunRecordFits.{RunRecordFits};
 ghost use Rattle.daq_session.specs.Sessions.{FaultsBy, IsRecorded, IsSession};
 ghost use Rattle.daq_session.specs.Standing.{stage_of};
 ghost use Rattle.daq_session.specs.declared.replies.Reply.{Reply};
@@ -57,6 +58,7 @@ fn run<S: Source, K: Sink, F: Files, E, C: Clock, P>(
     ensures front_end_sends { IfSome result.1 (λ s. All (AreSentByFronts s.buffers) s.runs) }
     ensures front_end_sets { IfSome result.1 (λ s. IsFrontsPass s.database s.runs) }
     ensures callers { IfSome result.1 (λ s. AreCallers s.database) }
+    ensures record_fits { IfSome result.1 (λ s. All (RunRecordFits s.database) s.runs) }
     ensures database_files { outside.new.odb_files ≡ outside.old.odb_files }
     ensures picks { outside.new.pick ≡ outside.old.pick }
 {
@@ -122,6 +124,9 @@ pub fn run_script<
     // number that it sent as the run ends, and nothing else; all other calls are the main thread's.
     ensures front_end_sets { IfSome result.1 (λ s. IsFrontsPass s.database s.runs) }
     ensures callers { IfSome result.1 (λ s. AreCallers s.database) }
+    // Each run's record stands to that history of the online database: its start got the run number before it and set the
+    // run's keys, its stop set them, in order and with nothing between.
+    ensures record_fits { IfSome result.1 (λ s. All (RunRecordFits s.database) s.runs) }
     ensures database_files { result.2.odb_files ≡ outside.odb_files }
     ensures picks { result.2.pick ≡ outside.pick }
 {

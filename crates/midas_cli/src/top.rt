@@ -5,6 +5,7 @@ ghost use Rattle.daq_io.specs.Streams.{AppendsPart};
 ghost use Rattle.daq_session.specs.BufferRecords.{IsOneHistory, IsSystem, history_in};
 ghost use Rattle.daq_session.specs.FrontSets.{AreCallers, IsFrontsPass};
 ghost use Rattle.daq_session.specs.RunHistories.{AreSentByFronts, HoldSegments};
+ghost use Rattle.daq_session.specs.RunRecordFits.{RunRecordFits};
 ghost use Rattle.daq_session.specs.Sessions.{FaultsBy, IsSession};
 ghost use Rattle.odb_tree.specs.Histories.{IsLegal};
 ghost use Rattle.odb_runinfo.specs.RunKeys.{session_rows};
@@ -110,6 +111,9 @@ pub fn midas<
     // number that it sent as the run ends, and nothing else; all other calls are the main thread's.
     ensures front_end_sets { IfSome result.0.session (λ s. IsFrontsPass s.database s.runs) }
     ensures callers { IfSome result.0.session (λ s. AreCallers s.database) }
+    // Each run's record stands to that history of the online database: its start got the run number before it and set the
+    // run's keys, its stop set them, in order and with nothing between.
+    ensures record_fits { IfSome result.0.session (λ s. All (RunRecordFits s.database) s.runs) }
     ensures database_files { result.1.odb_files ≡ outside.odb_files }
     ensures picks { result.1.pick ≡ outside.pick }
 {

@@ -1,8 +1,10 @@
 use Rattle.std.proofs.Common.{◌≡◌, ◌≢◌, true, false, sym, ◌∙◌}
-use Rattle.std.specs.Prelude.{IfSome}
+use Rattle.std.specs.Prelude.{All, IfSome}
 use Rattle.daq_session.specs.declared.endings.Ending.TheVariants.{Halted}
 use Rattle.daq_session.specs.declared.halts.Halt.TheVariants.{FileFault}
 use Rattle.daq_session.specs.FrontSets.{AreCallers, IsFrontsPass}
+use Rattle.daq_session.specs.RunRecordFits.{RunRecordFits}
+use Rattle.daq_session.proofs.FitLaws.{session_fits}
 use Rattle.daq_session.proofs.Options.{true_if}
 use Rattle.daq_session.proofs.FrontLaws.{session_fronts}
 use Rattle.daq_session.proofs.RunLaws.{plays_played, files_stand, risen_some, session_by, faults_by, session_none}
@@ -49,17 +51,22 @@ returns-clause-run_files g c = λ calm tells.
 pub returns-clause-front_end_sends : goal.returns-clause-front_end_sends
 returns-clause-front_end_sends g c = session_sent c.record_of.result c.record_of.ensures.held
 
--- what the front-end's pass did to the database, as the records say
-fronts : (g : Over) (c : goal.After-drop-desk-2 g) → IfSome c.record_of.result (λ s. IsFrontsPass s.database s.runs) × IfSome c.record_of.result (λ s. AreCallers s.database)
-fronts g c =
+-- what the records say of the calls on the database
+database : (g : Over) (c : goal.After-drop-desk-2 g)
+    → IfSome c.record_of.result (λ s. IsFrontsPass s.database s.runs) × IfSome c.record_of.result (λ s. AreCallers s.database) × IfSome c.record_of.result (λ s. All (RunRecordFits s.database) s.runs)
+database g c =
     let sound : c.play-ending.result ≢ Halted FileFault = λ e. let clash : true ≡ false = sym (c.is_file_fault.ensures.1 e) ∙ c.if-is_file_fault.false in cc in
     let played = plays_played _ c.play-ending.result _ _ _ _ _ _ _ sound c.play-ending.ensures.did in
-    session_fronts _ _ _ _ _ _ _ _ _
-    (session_by _ c.close_run-closed.result.ending _ _ _ _ _ _ _ _ _ _ _ _ c.close_run-closed.ensures.refusals c.cause_of-cause.ensures c.record_of.ensures.recorded
-    (c.close_run-closed.ensures.finishes (true_if c.close_run-closed.result.whole c.if-not-closed.false) _ _ _ _ _ played c.play-ending.ensures.sink))
+    let session = session_by _ c.close_run-closed.result.ending _ _ _ _ _ _ _ _ _ _ _ _ c.close_run-closed.ensures.refusals c.cause_of-cause.ensures c.record_of.ensures.recorded
+    (c.close_run-closed.ensures.finishes (true_if c.close_run-closed.result.whole c.if-not-closed.false) _ _ _ _ _ played c.play-ending.ensures.sink) in
+    let fronts = session_fronts _ _ _ _ _ _ _ _ _ session in
+    (fronts.0, fronts.1, session_fits _ _ _ _ _ _ _ _ _ session)
 
 pub returns-clause-front_end_sets : goal.returns-clause-front_end_sets
-returns-clause-front_end_sets g c = (fronts g c).0
+returns-clause-front_end_sets g c = (database g c).0
 
 pub returns-clause-callers : goal.returns-clause-callers
-returns-clause-callers g c = (fronts g c).1
+returns-clause-callers g c = (database g c).1
+
+pub returns-clause-record_fits : goal.returns-clause-record_fits
+returns-clause-record_fits g c = (database g c).2
