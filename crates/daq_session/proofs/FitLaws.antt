@@ -1,6 +1,6 @@
 -- How the records of runs stand to the history of the online database, from stage to stage.
 use Rattle.std.proofs.Common.{◌≡◌, ℕ, List, [], ◌∷◌, ◌++◌, Option, Some, None, true, false, Bool, refl, ap, sym, subst, ◌∙◌, append_assoc}
-use Rattle.std.specs.Prelude.{map, MatchOption, Result, Ok, Err, All, IfSome, ◌⊎◌, ⊤}
+use Rattle.std.specs.Prelude.{map, MatchOption, Result, Ok, Err, All, IfSome, ⊤}
 use Rattle.std.proofs.Math.Logic.{⊎_elim}
 use Rattle.std.proofs.lemmas.List.{append-nil}
 use Rattle.std.proofs.lemmas.List.Elements.{All-nil, All-push, All-weaker}
@@ -14,8 +14,8 @@ use Rattle.odb_journal.specs.HistoryLaws.{replay-append}
 use Rattle.odb_runinfo.specs.declared.keys.RunKey.TheVariants.{RunNumber as number_key}
 use Rattle.odb_runinfo.specs.declared.sets.RunNumber.{RunNumber as NoNext}
 use Rattle.odb_runinfo.specs.RunKeys.{key_path, session_rows}
-use Rattle.odb_runinfo.specs.RunNumberKept.{HasRunNumber, AllSpareRuninfo, number_stays, number_given, number_opens}
-use Rattle.odb_runinfo.specs.RunSetLaws.{assignments_append, assignments_spare, front_spares, number_spares}
+use Rattle.odb_runinfo.specs.RunNumberKept.{HasRunNumber, number_stays, number_given, number_opens}
+use Rattle.odb_runinfo.specs.RunSetLaws.{assignments_append, assignments_spare, front_spares}
 use Rattle.odb_runinfo.specs.RunSets.{Assignment, assignments, front_made, have_of, next_run, number_got, start_sets, started_sets, refused_sets, stopping_sets, stopped_sets}
 use Rattle.odb_script.specs.declared.forms.Command.{Command}
 use Rattle.odb_script.specs.declared.forms.Command.TheVariants.{Nothing, Events, Start, Stop, Create, CreateDir, Set, Get, List as Ls, Remove, Exit}
@@ -30,7 +30,7 @@ use Rattle.daq_session.specs.declared.records.RunRecord.{RunRecord}
 use Rattle.daq_session.specs.declared.records.FrontTally.{FrontTally}
 use Rattle.daq_session.specs.declared.records.SessionRecord.{SessionRecord}
 use Rattle.daq_session.specs.FrontNames.{front_name}
-use Rattle.daq_session.specs.RunRecordFits.{rows_behind, start_calls, stop_calls, StartsIn, StopsIn, StopsBy, RunRecordFits}
+use Rattle.daq_session.specs.RunRecordFits.{rows_behind, start_calls, stop_calls, StartsIn, StopsBy, RunRecordFits}
 use Rattle.daq_session.specs.Sessions.{Count, CutsBy, IsPlayed, IsRecorded, IsSession}
 use Rattle.daq_session.specs.Stages.{Outset, Stage, opening, called, opens, Begins, Refuses, Ends, StartsRun, DoesStart, DoesStop, DoesAnswer, Does, Plays, Interrupts, completed_record, refused_record, next_order}
 

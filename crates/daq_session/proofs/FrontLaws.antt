@@ -1,6 +1,6 @@
 -- What the front-end's pass does to the online database, from stage to stage.
 use Rattle.std.proofs.Common.{◌≡◌, ℕ, ◌≤◌, List, [], ◌∷◌, ◌++◌, Option, Some, None, true, false, Bool, refl, ap, sym, subst, ◌∙◌, append_assoc, arith}
-use Rattle.std.specs.Prelude.{◌==◌, if◌then◌else◌, map, MatchOption, Result, Ok, Err, IfSome, ◌⊎◌}
+use Rattle.std.specs.Prelude.{◌==◌, if◌then◌else◌, map, MatchOption, Result, Ok, Err, IfSome}
 use Rattle.std.specs.List.{flat_map}
 use Rattle.std.proofs.Math.Logic.{⊎_elim}
 use Rattle.std.proofs.lemmas.List.{append-nil}
