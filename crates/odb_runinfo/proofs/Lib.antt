@@ -1,1 +1,2 @@
+pub mod NumberKept
 pub mod Opens

@@ -8,11 +8,12 @@ ghost use Rattle.odb_tree.specs.Calls.{get_reply};
 ghost use Rattle.odb_runinfo.specs.declared.keys.RunKey.TheVariants.{RunNumber};
 ghost use Rattle.odb_runinfo.specs.RunKeys.{key_path, session_rows};
 ghost use Rattle.odb_runinfo.specs.RunNumberKept.{AllSpareRuninfo, HasRunNumber};
-ghost use Rattle.odb_runinfo.specs.RunSets.{Assignment, assignments, front_made, number_got};
+ghost use Rattle.odb_runinfo.specs.RunSets.{Assignment, assignments, front_made, have_of, number_got};
 
-/// After any calls that replace no whole value and remove nothing below `/Runinfo`, the run number is there, an INT32.
+/// After any legal calls that replace no whole value and remove nothing below `/Runinfo`, the run number is there, an
+/// INT32 with an item 0.
 pub fn run_number_stays()
-    ensures { (s : Rows) (h : List (ℕ × DatabaseEntry)) → AllSpareRuninfo h → HasRunNumber s.rows → HasRunNumber (replay s h).rows }
+    ensures { (s : Rows) (h : List (ℕ × DatabaseEntry)) → IsLegal s h → AllSpareRuninfo h → HasRunNumber s.rows → HasRunNumber (replay s h).rows }
 {}
 
 /// A session opens with the run number.
@@ -20,9 +21,10 @@ pub fn run_number_opens()
     ensures { HasRunNumber session_rows.rows }
 {}
 
-/// Where the run number is there, a `get` of it gives its value.
+/// Where the run number is there, a `get` of it gives its value, and a start takes the number in its item 0.
 pub fn run_number_given()
-    ensures { (s : Rows) (has : HasRunNumber s.rows) → get_reply s (key_path RunNumber) ≡ Ok has.held }
+    ensures read { (s : Rows) (has : HasRunNumber s.rows) → have_of (get_reply s (key_path RunNumber)) ≡ has.number.first }
+    ensures value { (s : Rows) (has : HasRunNumber s.rows) → get_reply s (key_path RunNumber) ≡ Ok has.held }
 {}
 
 /// The database with which a session opens is a tree, and each legal history of calls keeps a tree.

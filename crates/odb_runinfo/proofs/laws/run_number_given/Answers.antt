@@ -1,5 +1,8 @@
-use Rattle.odb_runinfo.specs.RunNumberKept.{number_given}
+use Rattle.odb_runinfo.proofs.NumberKept.{number_given, number_read}
 use Rattle.odb_runinfo.proofs.laws.run_number_given.Goals as goal
 
-pub returns : goal.returns
-returns c = number_given
+pub returns-clause-read : goal.returns-clause-read
+returns-clause-read c = number_read
+
+pub returns-clause-value : goal.returns-clause-value
+returns-clause-value c = number_given
