@@ -1,14 +1,16 @@
 -- How the record of a run stands to the history of the online database.
-use Rattle.std.specs.Prelude.{◌≡◌, ℕ, List, [], ◌∷◌, ◌++◌, Ok, ⊤}
-use Rattle.daq_types.specs.declared.types.Tid.TheVariants as tid
+use Rattle.std.specs.Prelude.{◌≡◌, ℕ, ◌-◌, ℤ, pos, List, [], ◌∷◌, ◌++◌, Result, Ok, ⊤}
+use Rattle.odb_value.specs.declared.items.Item.{Item}
+use Rattle.odb_value.specs.declared.items.Item.TheVariants.{Int32}
 use Rattle.odb_value.specs.Values.{Held}
 use Rattle.odb_tree.specs.declared.entry.DatabaseEntry.{DatabaseEntry}
+use Rattle.odb_tree.specs.declared.refusals.OdbRefusal.{OdbRefusal}
 use Rattle.odb_tree.specs.Rows.{Rows}
 use Rattle.odb_tree.specs.Calls.{get_reply}
 use Rattle.odb_tree.specs.Histories.{replay}
 use Rattle.odb_runinfo.specs.declared.keys.RunKey.TheVariants.{RunNumber}
 use Rattle.odb_runinfo.specs.RunKeys.{key_path, session_rows}
-use Rattle.odb_runinfo.specs.RunSets.{Assignment, assignments, next_run, number_in, number_got, start_sets, started_sets, refused_sets, stopping_sets, stopped_sets}
+use Rattle.odb_runinfo.specs.RunSets.{Assignment, assignments, have_of, next_run, number_got, start_sets, started_sets, refused_sets, stopping_sets, stopped_sets}
 use Rattle.daq_session.specs.declared.records.RunRecord.{RunRecord}
 use Rattle.daq_session.specs.declared.records.FrontTally.{FrontTally}
 use Rattle.daq_session.specs.FrontNames.{front_name}
@@ -27,16 +29,23 @@ start_calls s run time sets = number_got s ++ assignments s (start_sets run time
 abbrev pub stop_calls : Rows → (time sent : ℕ) → List (ℕ × DatabaseEntry)
 stop_calls s time sent = assignments s (stopping_sets time ++ stopped_sets front_name sent)
 
--- A start of this run at this time stands in the history: it got the run number before this one.
+-- the reply of a `get` is a value with this number in item 0
+pub record GivesNumber (reply : Result Held OdbRefusal) (number : ℤ) : Type 0 where
+  pub held : Held
+  pub others : List Item
+  pub is : reply ≡ Ok held
+  pub items : held.items ≡ Int32 number ∷ others
+
+-- the reply of a `get` of the run number behind the first calls of a session
+abbrev pub number_behind : (calls : List (ℕ × DatabaseEntry)) → Result Held OdbRefusal
+number_behind calls = get_reply (rows_behind calls) (key_path RunNumber)
+
+-- A start of this run at this time stands in the history. It got the number before the run's, and the run's is the next.
 pub record StartsIn (h : List (ℕ × DatabaseEntry)) (run time : ℕ) (sets : List Assignment) : Type 0 where
   pub before : List (ℕ × DatabaseEntry)
   pub after : List (ℕ × DatabaseEntry)
-  -- what the key of the run number held
-  pub held : Held
-  pub got : get_reply (rows_behind before) (key_path RunNumber) ≡ Ok held
-  pub type : held.tid ≡ tid.Int32
-  -- the run's number is one more
-  pub number : next_run (number_in held.items) ≡ Ok run
+  pub held : GivesNumber (number_behind before) (pos (run - 1))
+  pub number : next_run (have_of (number_behind before)) ≡ Ok run
   pub calls : h ≡ before ++ (start_calls (rows_behind before) run time sets ++ after)
 
 -- A stop of the recorded run stands in the history, and the start of the run in the calls before it.

@@ -1,2 +1,1 @@
-pub mod NumberKept
 pub mod Opens

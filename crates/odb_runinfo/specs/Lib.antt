@@ -2,3 +2,4 @@ pub mod RunKeys
 pub mod RunSets
 pub mod RunNumberKept
 pub mod RunSetLaws
+pub mod NumberKept

@@ -60,7 +60,7 @@ database g c =
     let session = session_by _ c.close_run-closed.result.ending _ _ _ _ _ _ _ _ _ _ _ _ c.close_run-closed.ensures.refusals c.cause_of-cause.ensures c.record_of.ensures.recorded
     (c.close_run-closed.ensures.finishes (true_if c.close_run-closed.result.whole c.if-not-closed.false) _ _ _ _ _ played c.play-ending.ensures.sink) in
     let fronts = session_fronts _ _ _ _ _ _ _ _ _ session in
-    (fronts.0, fronts.1, session_fits _ _ _ _ _ _ _ _ _ session)
+    (fronts.0, fronts.1, session_fits _ _ _ _ _ _ _ _ _ session c.record_of.ensures.database)
 
 pub returns-clause-front_end_sets : goal.returns-clause-front_end_sets
 returns-clause-front_end_sets g c = (database g c).0
