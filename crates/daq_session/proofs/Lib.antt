@@ -1,4 +1,3 @@
-mod Words
 mod Sending
 mod Keeping
 mod Interrupting

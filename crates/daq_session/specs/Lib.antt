@@ -1,4 +1,3 @@
-pub mod BankHeads
 pub mod RunNames
 pub mod RunRecords
 pub mod Stages

@@ -9,7 +9,6 @@ mod data_path;
 mod desk;
 mod endings;
 mod entry_list;
-mod generator;
 mod halts;
 mod records;
 mod refusals;
@@ -25,7 +24,6 @@ mod transitions;
 
 pub use causes::Cause;
 pub use entry_list::Entries;
-pub use generator::{EVENT_ROOM, Generator};
 pub use records::{
     BufferRecord, FileRecord, FrontEnded, FrontTally, RunRecord, SessionRecord, StartOutcome, Why,
 };

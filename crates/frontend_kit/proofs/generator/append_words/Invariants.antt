@@ -1,7 +1,7 @@
 -- So far the words of so many steps are appended, and the state is that after them.
 use Rattle.std.proofs.Common.{◌≡◌, ◌≤◌, ◌+◌, ◌*◌, ◌++◌, vec_len, vec_capacity}
 use Rattle.daq_model.specs.Generator.{state_after, words_from, words_encoded}
-use Rattle.daq_session.proofs.generator.append_words.Given as goal
+use Rattle.frontend_kit.proofs.generator.append_words.Given as goal
 
 abbrev pub invariant-loop-made : goal.invariant-loop-made
 invariant-loop-made l = record {

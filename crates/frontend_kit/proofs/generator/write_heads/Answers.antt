@@ -1,6 +1,6 @@
 use Rattle.std.proofs.Common.{refl}
-use Rattle.daq_session.specs.BankHeads.{heads}
-use Rattle.daq_session.proofs.generator.write_heads.Goals as goal
+use Rattle.frontend_kit.specs.BankHeads.{heads}
+use Rattle.frontend_kit.proofs.generator.write_heads.Goals as goal
 
 pub returns-clause-bytes : goal.returns-clause-bytes
 unfolding heads

@@ -1,7 +1,7 @@
 use Rattle.std.proofs.Common.{◌≡◌, ℕ, arith, add-one, ap, length, length-append, ◌∙◌}
 use Rattle.daq_model.specs.Generator.{next_state, state_after}
-use Rattle.daq_session.proofs.Words.{appended_word}
-use Rattle.daq_session.proofs.generator.append_words.Goals as goal
+use Rattle.frontend_kit.proofs.Words.{appended_word}
+use Rattle.frontend_kit.proofs.generator.append_words.Goals as goal
 
 pub loop-made-preserved : goal.loop-made-preserved
 loop-made-preserved c =

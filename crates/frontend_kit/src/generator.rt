@@ -1,6 +1,6 @@
 ghost use Rattle.std.specs.Prelude.{◌≡◌, ◌≤◌, ◌+◌, ◌*◌, ◌-◌, ◌++◌, ℕ, length, vec_len, vec_capacity};
 ghost use Rattle.daq_model.specs.Generator.{generated_body, generated_event, next_state, words_from, words_encoded};
-ghost use Rattle.daq_session.specs.BankHeads.{heads};
+ghost use Rattle.frontend_kit.specs.BankHeads.{heads};
 
 use daq_types::{NoMemory, Order};
 use event_header::{EventBuf, Header, append_within};

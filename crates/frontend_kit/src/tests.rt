@@ -1,0 +1,24 @@
+use crate::{EVENT_ROOM, Generator};
+use daq_types::{Order, RunState};
+use event_header::EventBuf;
+use std::test::Fail;
+
+#[test]
+fn first_events_of_two_front_ends(rt: HostRuntime) -> Result<(), Fail> {
+    let order = Order {
+        run: 1,
+        start: 1,
+        time: 1000,
+        from: RunState::Stopped,
+        quota: 3,
+    };
+    let mut generator = Generator::new(rt.alloc())?;
+    for (id, word) in [(1, 1817669548u32), (2, 3102535385)] {
+        let mut event = EventBuf::new(rt.alloc(), EVENT_ROOM)?;
+        generator.write(&order, id, 0, 1, &mut event);
+        let body = event.body();
+        assert_eq!(rt; body.len(), 24);
+        assert_eq!(rt; &body[16..20], word.to_le_bytes().as_slice());
+    }
+    Ok(())
+}
