@@ -9,7 +9,7 @@ use Rattle.odb_script.specs.declared.refusals.LineRefusal.{LineRefusal}
 use Rattle.odb_commands.specs.Answers.{answer_of}
 use Rattle.daq_session.specs.declared.halts.Halt.{Halt}
 use Rattle.daq_session.specs.declared.halts.Halt.TheVariants.{NoMemory}
-use Rattle.daq_session.specs.declared.replies.Reply.{Reply}
+use Rattle.session_console.specs.declared.replies.Reply.{Reply}
 use Rattle.daq_session.specs.declared.state.State.{State}
 use Rattle.daq_session.specs.Stages.{Outset, Stage, Does, DoesAnswer, Interrupts}
 use Rattle.daq_session.specs.Standing.{stage_of, IsReady, AnswersBy, LineDoes, Handles}

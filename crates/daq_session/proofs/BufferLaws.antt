@@ -2,7 +2,7 @@
 use Rattle.std.specs.Prelude.{◌≡◌, ℕ, zero, suc, ◌<◌, List, [], ◌∷◌, length, All, slice_index_or}
 use Rattle.std.proofs.Common.{ap, sym, subst, arith}
 use Rattle.buffer_core.specs.declared.entry.BufferEntry.{BufferEntry}
-use Rattle.daq_session.specs.declared.records.BufferRecord.{BufferRecord}
+use Rattle.session_console.specs.declared.records.BufferRecord.{BufferRecord}
 use Rattle.daq_session.specs.BufferRecords.{IsOneHistory, IsSystem, history_in}
 
 single : (P : BufferRecord → Type 0) (b : BufferRecord) → P b → (k : ℕ) (d : BufferRecord) → k < length (b ∷ []) → P (slice_index_or (b ∷ []) k d)

@@ -17,15 +17,15 @@ use Rattle.daq_session.specs.declared.endings.Ending.{Ending}
 use Rattle.daq_session.specs.declared.endings.Ending.TheVariants.{End, TooLong, SourceFault, Halted}
 use Rattle.daq_session.specs.declared.halts.Halt.{Halt}
 use Rattle.daq_session.specs.declared.halts.Halt.TheVariants.{NoMemory, SinkFault, FileFault}
-use Rattle.daq_session.specs.declared.refusals.Refusals.{Refusals}
-use Rattle.daq_session.specs.declared.replies.Reply.{Reply}
-use Rattle.daq_session.specs.declared.replies.Reply.TheVariants.{Silent, BadCommand, WrongState, RunNumber, StartRefused, Started, Stopped as run_stopped, Database}
+use Rattle.session_console.specs.declared.refusals.Refusals.{Refusals}
+use Rattle.session_console.specs.declared.replies.Reply.{Reply}
+use Rattle.session_console.specs.declared.replies.Reply.TheVariants.{Silent, BadCommand, WrongState, RunNumber, StartRefused, Started, Stopped as run_stopped, Database}
 use Rattle.daq_session.specs.declared.state.State.{State}
 use Rattle.daq_session.specs.declared.state.OpenRun.{OpenRun}
 use Rattle.odb_script.specs.Lines.{lines_of}
 use Rattle.odb_script.specs.Exits.{until_exit, all_first, first_until_exit}
-use Rattle.daq_session.specs.Console.{console_text, console_text-more, text_of, is_refusal, refused_lines, refused_lines-more}
-use Rattle.daq_session.specs.Refused.{Counts}
+use Rattle.session_console.specs.Console.{console_text, console_text-more, text_of, is_refusal, refused_lines, refused_lines-more}
+use Rattle.session_console.specs.Refused.{Counts}
 use Rattle.daq_session.specs.RunRecords.{IsKept}
 use Rattle.daq_session.specs.Endings.{SinkCounts}
 use Rattle.daq_session.specs.Halts.{SinkBy}

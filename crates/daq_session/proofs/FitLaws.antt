@@ -29,10 +29,10 @@ use Rattle.odb_commands.specs.Answers.{Answer, answer_of}
 use Rattle.odb_commands.specs.CommandLaws.{SparesIf, command_spares}
 use Rattle.daq_session.specs.declared.causes.Cause.{Cause}
 use Rattle.daq_session.specs.declared.causes.Cause.TheVariants.{Done, CommandRefused, Usage, BadInput, SourceFault, SinkFault, FileFault, NoMemory}
-use Rattle.daq_session.specs.declared.records.RunRecord.{RunRecord}
-use Rattle.daq_session.specs.declared.records.FrontTally.{FrontTally}
-use Rattle.daq_session.specs.declared.records.SessionRecord.{SessionRecord}
-use Rattle.daq_session.specs.FrontNames.{front_name}
+use Rattle.session_console.specs.declared.records.RunRecord.{RunRecord}
+use Rattle.session_console.specs.declared.records.FrontTally.{FrontTally}
+use Rattle.session_console.specs.declared.records.SessionRecord.{SessionRecord}
+use Rattle.session_console.specs.FrontNames.{front_name}
 use Rattle.daq_session.specs.RunRecordFits.{rows_behind, number_behind, start_calls, stop_calls, GivesNumber, StartsIn, StopsBy, RunRecordFits}
 use Rattle.daq_session.specs.Sessions.{Count, CutsBy, IsPlayed, IsRecorded, IsSession}
 use Rattle.daq_session.specs.Stages.{Outset, Stage, opening, called, opens, Begins, Refuses, Ends, StartsRun, DoesStart, DoesStop, DoesAnswer, Does, Plays, Interrupts, completed_record, refused_record, next_order}

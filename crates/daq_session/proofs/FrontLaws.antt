@@ -24,8 +24,8 @@ use Rattle.odb_script.specs.Forms.{command_of}
 use Rattle.odb_commands.specs.Answers.{Answer, answer_of}
 use Rattle.daq_session.specs.declared.causes.Cause.{Cause}
 use Rattle.daq_session.specs.declared.causes.Cause.TheVariants.{Done, CommandRefused, Usage, BadInput, SourceFault, SinkFault, FileFault, NoMemory}
-use Rattle.daq_session.specs.declared.records.SessionRecord.{SessionRecord}
-use Rattle.daq_session.specs.FrontNames.{front_name}
+use Rattle.session_console.specs.declared.records.SessionRecord.{SessionRecord}
+use Rattle.session_console.specs.FrontNames.{front_name}
 use Rattle.daq_session.specs.FrontSets.{made_by, IsSentSet, AreSentSets, set_numbers, IsFrontsPass, AreCallers}
 use Rattle.daq_session.specs.Sessions.{Count, CutsBy, IsPlayed, IsRecorded, IsSession}
 use Rattle.daq_session.specs.Stages.{Outset, Stage, opening, called, opens, Begins, Refuses, Ends, StartsRun, DoesStart, DoesStop, DoesAnswer, Does, Plays, Interrupts, completed_record, refused_record, next_order}

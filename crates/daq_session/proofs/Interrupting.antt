@@ -12,13 +12,13 @@ use Rattle.odb_tree.specs.Calls.{create_reply, get_reply}
 use Rattle.odb_runinfo.specs.declared.keys.RunKey.TheVariants.{RunNumber}
 use Rattle.odb_runinfo.specs.RunKeys.{key_path, sent_path}
 use Rattle.odb_runinfo.specs.RunSets.{front_made, number_got}
-use Rattle.daq_session.specs.FrontNames.{front_name}
+use Rattle.session_console.specs.FrontNames.{front_name}
 use Rattle.odb_tree.specs.Histories.{replay}
 use Rattle.odb_journal.specs.Noted.{GoesOn, by_main}
 use Rattle.odb_journal.specs.HistoryLaws.{by_main-append, replay-append}
 use Rattle.daq_session.specs.declared.halts.Halt.{Halt}
 use Rattle.daq_session.specs.declared.halts.Halt.TheVariants.{NoMemory}
-use Rattle.daq_session.specs.declared.replies.Reply.{Reply}
+use Rattle.session_console.specs.declared.replies.Reply.{Reply}
 use Rattle.daq_session.specs.declared.state.State.{State}
 use Rattle.daq_session.specs.Stages.{Outset, Stage, Interrupts, OpenedBy, called, opens}
 use Rattle.daq_session.specs.Standing.{stage_of, IsAt, IsReady, Breaks, HandlesBy}

@@ -8,9 +8,9 @@ use Rattle.daq_model.specs.Events.{encoding, all_encoded}
 use Rattle.daq_model.specs.RunFile.{begin_record, end_record, begun_file}
 use Rattle.daq_model.specs.Generator.{generated_events}
 use Rattle.daq_io.specs.Seen.{Seen, Stored, stored_open, stored_closed, Same, Creates, Closes, Touches}
-use Rattle.daq_session.specs.declared.records.RunRecord.{RunRecord}
-use Rattle.daq_session.specs.declared.records.FrontTally.{FrontTally}
-use Rattle.daq_session.specs.declared.records.FileRecord.{FileRecord}
+use Rattle.session_console.specs.declared.records.RunRecord.{RunRecord}
+use Rattle.session_console.specs.declared.records.FrontTally.{FrontTally}
+use Rattle.session_console.specs.declared.records.FileRecord.{FileRecord}
 use Rattle.daq_session.specs.declared.state.OpenRun.{OpenRun}
 use Rattle.daq_session.specs.RunRecords.{file_of, IsFiled, Avoids, IsKept, order_of, generated_events-by}
 use Rattle.daq_session.specs.Stages.{refused_record, file_record, completed_record}

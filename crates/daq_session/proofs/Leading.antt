@@ -10,12 +10,12 @@ use Rattle.odb_script.specs.declared.forms.Command.TheVariants.{Stop}
 use Rattle.odb_tree.specs.Histories.{replay}
 use Rattle.odb_journal.specs.Noted.{Noted, KeepsCalls, Grows}
 use Rattle.odb_runinfo.specs.RunSets.{Assignment, assignments, start_sets, started_sets, refused_sets, stopping_sets, stopped_sets}
-use Rattle.daq_session.specs.FrontNames.{front_name}
-use Rattle.daq_session.specs.declared.records.FrontTally.{FrontTally}
-use Rattle.daq_session.specs.declared.records.FileRecord.{FileRecord}
-use Rattle.daq_session.specs.declared.records.Why.TheVariants.{Exists}
-use Rattle.daq_session.specs.declared.replies.Reply.{Reply}
-use Rattle.daq_session.specs.declared.replies.Reply.TheVariants.{StartRefused, Started, Stopped as run_stopped}
+use Rattle.session_console.specs.FrontNames.{front_name}
+use Rattle.session_console.specs.declared.records.FrontTally.{FrontTally}
+use Rattle.session_console.specs.declared.records.FileRecord.{FileRecord}
+use Rattle.session_console.specs.declared.records.Why.TheVariants.{Exists}
+use Rattle.session_console.specs.declared.replies.Reply.{Reply}
+use Rattle.session_console.specs.declared.replies.Reply.TheVariants.{StartRefused, Started, Stopped as run_stopped}
 use Rattle.daq_session.specs.declared.state.State.{State}
 use Rattle.daq_session.specs.declared.state.OpenRun.{OpenRun}
 use Rattle.daq_session.specs.RunNames.{run_name}

@@ -13,10 +13,10 @@ use Rattle.daq_session.specs.declared.halts.Halt.{Halt}
 use Rattle.daq_session.specs.declared.halts.Halt.TheVariants.{NoMemory, SinkFault, FileFault}
 use Rattle.daq_session.specs.declared.endings.Ending.{Ending}
 use Rattle.daq_session.specs.declared.endings.Ending.TheVariants.{End, TooLong, SourceFault, Halted}
-use Rattle.daq_session.specs.declared.replies.Reply.{Reply}
-use Rattle.daq_session.specs.declared.refusals.Refusals.{Refusals}
+use Rattle.session_console.specs.declared.replies.Reply.{Reply}
+use Rattle.session_console.specs.declared.refusals.Refusals.{Refusals}
 use Rattle.daq_session.specs.declared.state.State.{State}
-use Rattle.daq_session.specs.Console.{text_of, console_text}
+use Rattle.session_console.specs.Console.{text_of, console_text}
 use Rattle.daq_session.specs.Stages.{Outset, Stage}
 use Rattle.daq_session.specs.Standing.{stage_of, IsReady}
 use Rattle.daq_session.specs.Playing.{Moment, Replied, Unanswered, DoesLine, AreFirst, AreLines, CutBy, Wrote, Played, PlaysTo}

@@ -15,11 +15,11 @@ use Rattle.odb_script.specs.KeptForms.{command_of-kept}
 use Rattle.odb_script.specs.Exits.{GoOn, GoOn-none, GoOn-more, ends_script, ends_script-kept}
 use Rattle.daq_session.specs.declared.halts.Halt.{Halt}
 use Rattle.daq_session.specs.declared.halts.Halt.TheVariants.{NoMemory, SinkFault, FileFault}
-use Rattle.daq_session.specs.declared.replies.Reply.{Reply}
-use Rattle.daq_session.specs.declared.refusals.Refusals.{Refusals}
+use Rattle.session_console.specs.declared.replies.Reply.{Reply}
+use Rattle.session_console.specs.declared.refusals.Refusals.{Refusals}
 use Rattle.daq_session.specs.declared.state.State.{State}
-use Rattle.daq_session.specs.Console.{text_of, console_text, console_text-more}
-use Rattle.daq_session.specs.Refused.{counts_noted}
+use Rattle.session_console.specs.Console.{text_of, console_text, console_text-more}
+use Rattle.session_console.specs.Refused.{counts_noted}
 use Rattle.daq_session.specs.RunRecords.{IsFiled}
 use Rattle.daq_session.specs.Stages.{Outset, Stage, opening, Does, Plays}
 use Rattle.daq_session.specs.Standing.{stage_of, IsReady}

@@ -9,13 +9,13 @@ use Rattle.daq_session.specs.declared.causes.Cause.TheVariants.{Done, CommandRef
 use Rattle.daq_session.specs.declared.endings.Ending.{Ending}
 use Rattle.daq_session.specs.declared.endings.Ending.TheVariants.{End, TooLong, SourceFault, Halted}
 use Rattle.daq_session.specs.declared.halts.Halt.TheVariants.{NoMemory, SinkFault, FileFault}
-use Rattle.daq_session.specs.declared.refusals.Refusals.{Refusals}
+use Rattle.session_console.specs.declared.refusals.Refusals.{Refusals}
 use Rattle.daq_session.specs.declared.state.State.{State}
-use Rattle.daq_session.specs.Console.{refused_lines}
+use Rattle.session_console.specs.Console.{refused_lines}
 use Rattle.daq_session.specs.RunRecords.{IsFiled}
-use Rattle.daq_session.specs.Refused.{Counts}
-use Rattle.daq_session.specs.declared.records.SessionRecord.{SessionRecord}
-use Rattle.daq_session.specs.declared.replies.Reply.{Reply}
+use Rattle.session_console.specs.Refused.{Counts}
+use Rattle.session_console.specs.declared.records.SessionRecord.{SessionRecord}
+use Rattle.session_console.specs.declared.replies.Reply.{Reply}
 use Rattle.daq_session.specs.Stages.{Outset, Stage, opening}
 use Rattle.daq_session.specs.Standing.{stage_of}
 use Rattle.daq_session.specs.Endings.{FileCounts}

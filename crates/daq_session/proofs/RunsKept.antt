@@ -16,12 +16,12 @@ use Rattle.buffer_core.specs.Points.{past_of}
 use Rattle.buffer_core.specs.Readers.{among, places_got, places_of}
 use Rattle.buffer_core.specs.Runs.{begun_at, ended_at, segment}
 use Rattle.daq_model.specs.RunFile.{run_file}
-use Rattle.daq_session.specs.declared.records.RunRecord.{RunRecord}
-use Rattle.daq_session.specs.declared.records.SessionRecord.{SessionRecord}
+use Rattle.session_console.specs.declared.records.RunRecord.{RunRecord}
+use Rattle.session_console.specs.declared.records.SessionRecord.{SessionRecord}
 use Rattle.daq_session.specs.BufferRecords.{history_in}
 use Rattle.daq_session.specs.Sessions.{IsRecorded}
-use Rattle.daq_session.specs.declared.records.FrontTally.{FrontTally}
-use Rattle.daq_session.specs.declared.records.FileRecord.{FileRecord}
+use Rattle.session_console.specs.declared.records.FrontTally.{FrontTally}
+use Rattle.session_console.specs.declared.records.FileRecord.{FileRecord}
 use Rattle.daq_session.specs.declared.state.OpenRun.{OpenRun}
 use Rattle.daq_session.specs.BufferEntries.{opening_entries, begin_entry, passed_entries, end_entry, PassesFirst}
 use Rattle.daq_session.specs.RunRecords.{order_of, sent_in, file_of, IsFiled, generated_events-by}

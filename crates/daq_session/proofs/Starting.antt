@@ -12,8 +12,8 @@ use Rattle.odb_runinfo.specs.RunSets.{have_of, next_run, number_got}
 use Rattle.odb_script.specs.declared.forms.Command.TheVariants.{Start}
 use Rattle.daq_session.specs.declared.halts.Halt.{Halt}
 use Rattle.daq_session.specs.declared.halts.Halt.TheVariants.{NoMemory, SinkFault, FileFault}
-use Rattle.daq_session.specs.declared.replies.Reply.{Reply}
-use Rattle.daq_session.specs.declared.replies.Reply.TheVariants.{RunNumber}
+use Rattle.session_console.specs.declared.replies.Reply.{Reply}
+use Rattle.session_console.specs.declared.replies.Reply.TheVariants.{RunNumber}
 use Rattle.daq_session.specs.declared.state.State.{State}
 use Rattle.daq_session.specs.declared.state.OpenRun.{OpenRun}
 use Rattle.daq_session.specs.Stages.{Outset, Stage, Does, DoesStart, StartsFrom, StartsRun, Interrupts, called, opens}

@@ -8,7 +8,7 @@ use Rattle.daq_io.specs.declared.faults.Failed.{Failed}
 use Rattle.buffer_core.specs.declared.replies.Received.TheVariants.{Got}
 use Rattle.buffer_core.specs.declared.entry.BufferEntry.{BufferEntry}
 use Rattle.buffer_core.specs.declared.entry.BufferEntry.TheVariants.{Attach, Request, SendInRun, Receive, Begin, End}
-use Rattle.daq_session.specs.declared.records.FrontTally.{FrontTally}
+use Rattle.session_console.specs.declared.records.FrontTally.{FrontTally}
 
 -- the logger attaches its client, number 0, under this name, and asks for all events
 abbrev pub opening_entries : (name : List ℕ) → List (ℕ × BufferEntry)

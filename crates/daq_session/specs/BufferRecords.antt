@@ -5,7 +5,7 @@ use Rattle.buffer_core.specs.Window.{opening}
 use Rattle.buffer_core.specs.Histories.{IsLegal}
 use Rattle.buffer_core.specs.Delivered.{Delivers}
 use Rattle.buffer_core.specs.Runs.{KeepsRuns}
-use Rattle.daq_session.specs.declared.records.BufferRecord.{BufferRecord}
+use Rattle.session_console.specs.declared.records.BufferRecord.{BufferRecord}
 
 -- The history is that of one buffer, which opened empty with the recorded size: each reply is the one that it gave there.
 -- Each client got what its requests ask for, and the events of each run stand between its marks.

@@ -10,13 +10,13 @@ use Rattle.daq_session.specs.declared.endings.Ending.{Ending}
 use Rattle.daq_session.specs.declared.endings.Ending.TheVariants.{End, TooLong, SourceFault, Halted}
 use Rattle.daq_session.specs.declared.halts.Halt.{Halt}
 use Rattle.daq_session.specs.declared.halts.Halt.TheVariants.{NoMemory, SinkFault, FileFault}
-use Rattle.daq_session.specs.declared.refusals.Refusals.{Refusals}
-use Rattle.daq_session.specs.declared.replies.Reply.{Reply}
+use Rattle.session_console.specs.declared.refusals.Refusals.{Refusals}
+use Rattle.session_console.specs.declared.replies.Reply.{Reply}
 use Rattle.daq_session.specs.declared.state.State.{State}
-use Rattle.daq_session.specs.Console.{console_text, refused_lines}
+use Rattle.session_console.specs.Console.{console_text, refused_lines}
 use Rattle.daq_session.specs.Endings.{SourceCounts, SinkCounts, FileCounts}
 use Rattle.daq_session.specs.Playing.{AreLines, CutBy, Played}
-use Rattle.daq_session.specs.Refused.{Counts}
+use Rattle.session_console.specs.Refused.{Counts}
 use Rattle.daq_session.specs.Sessions.{IsPlayed, Count, Rises, Stands}
 use Rattle.daq_session.specs.Stages.{Outset}
 use Rattle.daq_session.specs.Standing.{stage_of}

@@ -6,9 +6,9 @@ use Rattle.odb_tree.specs.declared.entry.DatabaseEntry.{DatabaseEntry}
 use Rattle.odb_tree.specs.declared.entry.DatabaseEntry.TheVariants.{Set}
 use Rattle.odb_tree.specs.declared.refusals.OdbRefusal.{OdbRefusal}
 use Rattle.odb_runinfo.specs.RunKeys.{sent_path}
-use Rattle.daq_session.specs.declared.records.RunRecord.{RunRecord}
-use Rattle.daq_session.specs.declared.records.FrontTally.{FrontTally}
-use Rattle.daq_session.specs.FrontNames.{front_name}
+use Rattle.session_console.specs.declared.records.RunRecord.{RunRecord}
+use Rattle.session_console.specs.declared.records.FrontTally.{FrontTally}
+use Rattle.session_console.specs.FrontNames.{front_name}
 
 -- the calls that this caller made, in order
 abbrev pub made_by : (caller : ℕ) → (calls : List (ℕ × DatabaseEntry)) → List DatabaseEntry

@@ -6,8 +6,6 @@ pub mod Tallies
 pub mod Halts
 pub mod Standing
 pub mod BegunFiles
-pub mod Console
-pub mod Refused
 pub mod Playing
 pub mod Endings
 pub mod Sessions
@@ -16,6 +14,5 @@ pub mod BufferEntries
 pub mod BufferRecords
 pub mod RunHistories
 pub mod RunsTold
-pub mod FrontNames
 pub mod FrontSets
 pub mod RunRecordFits

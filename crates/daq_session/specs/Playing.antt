@@ -15,11 +15,11 @@ use Rattle.daq_session.specs.declared.halts.Halt.{Halt}
 use Rattle.daq_session.specs.declared.halts.Halt.TheVariants.{NoMemory, SinkFault, FileFault}
 use Rattle.daq_session.specs.declared.endings.Ending.{Ending}
 use Rattle.daq_session.specs.declared.endings.Ending.TheVariants.{End, TooLong, SourceFault, Halted}
-use Rattle.daq_session.specs.declared.replies.Reply.{Reply}
-use Rattle.daq_session.specs.declared.refusals.Refusals.{Refusals}
+use Rattle.session_console.specs.declared.replies.Reply.{Reply}
+use Rattle.session_console.specs.declared.refusals.Refusals.{Refusals}
 use Rattle.daq_session.specs.declared.state.State.{State}
-use Rattle.daq_session.specs.Console.{text_of, console_text, is_refusal, refused_lines}
-use Rattle.daq_session.specs.Refused.{noted, Counts}
+use Rattle.session_console.specs.Console.{text_of, console_text, is_refusal, refused_lines}
+use Rattle.session_console.specs.Refused.{noted, Counts}
 use Rattle.daq_session.specs.Stages.{Outset, Stage, opening, Plays, Interrupts}
 use Rattle.daq_session.specs.Standing.{stage_of, IsAt, IsReady, Answers, Breaks}
 

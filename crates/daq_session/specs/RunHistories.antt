@@ -10,10 +10,10 @@ use Rattle.buffer_core.specs.declared.entry.BufferEntry.TheVariants.{SendInRun}
 use Rattle.buffer_core.specs.Window.{Sent}
 use Rattle.buffer_core.specs.Readers.{among, places_got, places_of, wanted}
 use Rattle.buffer_core.specs.Runs.{segment}
-use Rattle.daq_session.specs.declared.records.BufferRecord.{BufferRecord}
-use Rattle.daq_session.specs.declared.records.RunRecord.{RunRecord}
-use Rattle.daq_session.specs.declared.records.FrontTally.{FrontTally}
-use Rattle.daq_session.specs.declared.records.FileRecord.{FileRecord}
+use Rattle.session_console.specs.declared.records.BufferRecord.{BufferRecord}
+use Rattle.session_console.specs.declared.records.RunRecord.{RunRecord}
+use Rattle.session_console.specs.declared.records.FrontTally.{FrontTally}
+use Rattle.session_console.specs.declared.records.FileRecord.{FileRecord}
 use Rattle.daq_session.specs.BufferRecords.{history_in}
 use Rattle.daq_session.specs.RunRecords.{order_of, file_of}
 

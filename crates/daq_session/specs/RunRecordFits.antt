@@ -11,9 +11,9 @@ use Rattle.odb_tree.specs.Histories.{replay}
 use Rattle.odb_runinfo.specs.declared.keys.RunKey.TheVariants.{RunNumber}
 use Rattle.odb_runinfo.specs.RunKeys.{key_path, session_rows}
 use Rattle.odb_runinfo.specs.RunSets.{Assignment, assignments, have_of, next_run, number_got, start_sets, started_sets, refused_sets, stopping_sets, stopped_sets}
-use Rattle.daq_session.specs.declared.records.RunRecord.{RunRecord}
-use Rattle.daq_session.specs.declared.records.FrontTally.{FrontTally}
-use Rattle.daq_session.specs.FrontNames.{front_name}
+use Rattle.session_console.specs.declared.records.RunRecord.{RunRecord}
+use Rattle.session_console.specs.declared.records.FrontTally.{FrontTally}
+use Rattle.session_console.specs.FrontNames.{front_name}
 
 -- the rows behind the first calls of a session
 abbrev pub rows_behind : (calls : List (ℕ × DatabaseEntry)) → Rows

@@ -5,8 +5,8 @@ use Rattle.daq_types.specs.declared.runs.RunState.TheVariants.{Stopped}
 use Rattle.daq_model.specs.RunFile.{begun_file, run_file}
 use Rattle.daq_model.specs.Generator.{generated_events}
 use Rattle.daq_io.specs.Seen.{Seen, Stored, stored_open, stored_closed}
-use Rattle.daq_session.specs.declared.records.RunRecord.{RunRecord}
-use Rattle.daq_session.specs.declared.records.FrontTally.{FrontTally}
+use Rattle.session_console.specs.declared.records.RunRecord.{RunRecord}
+use Rattle.session_console.specs.declared.records.FrontTally.{FrontTally}
 use Rattle.daq_session.specs.declared.state.OpenRun.{OpenRun}
 
 -- how many events the front-end sent

@@ -7,8 +7,8 @@ use Rattle.buffer_core.specs.declared.entry.BufferEntry.{BufferEntry}
 use Rattle.buffer_core.specs.Window.{Sent}
 use Rattle.buffer_core.specs.Points.{life_at, sent, count_at, past_of}
 use Rattle.buffer_core.specs.Runs.{begun_at, ended_at}
-use Rattle.daq_session.specs.declared.records.RunRecord.{RunRecord}
-use Rattle.daq_session.specs.declared.records.FrontTally.{FrontTally}
+use Rattle.session_console.specs.declared.records.RunRecord.{RunRecord}
+use Rattle.session_console.specs.declared.records.FrontTally.{FrontTally}
 use Rattle.daq_session.specs.declared.state.OpenRun.{OpenRun}
 use Rattle.daq_session.specs.RunRecords.{order_of}
 use Rattle.daq_session.specs.RunHistories.{sent_by}

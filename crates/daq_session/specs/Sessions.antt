@@ -7,8 +7,8 @@ use Rattle.odb_script.specs.declared.forms.Command.TheVariants.{Stop}
 use Rattle.odb_script.specs.Forms.{command_of}
 use Rattle.daq_session.specs.declared.causes.Cause.{Cause}
 use Rattle.daq_session.specs.declared.causes.Cause.TheVariants.{Done, CommandRefused, Usage, BadInput, SourceFault, SinkFault, FileFault, NoMemory}
-use Rattle.daq_session.specs.declared.records.SessionRecord.{SessionRecord}
-use Rattle.daq_session.specs.Console.{console_text, refused_lines, first_line}
+use Rattle.session_console.specs.declared.records.SessionRecord.{SessionRecord}
+use Rattle.session_console.specs.Console.{console_text, refused_lines, first_line}
 use Rattle.daq_session.specs.Playing.{AreWhole, AreTooMany, AreGiven, AreFirst}
 use Rattle.daq_session.specs.RunRecords.{IsKept}
 use Rattle.midas_tools.specs.declared.ends.InputFault.TheVariants.{ScriptTooLong}

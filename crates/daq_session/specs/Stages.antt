@@ -18,14 +18,14 @@ use Rattle.odb_script.specs.declared.forms.Command.TheVariants.{Nothing, Events,
 use Rattle.odb_script.specs.declared.refusals.LineRefusal.{LineRefusal}
 use Rattle.odb_script.specs.declared.refusals.LineRefusal.TheVariants.{BadCommand as no_command}
 use Rattle.odb_commands.specs.Answers.{Answer, answer_of}
-use Rattle.daq_session.specs.declared.records.RunRecord.{RunRecord}
-use Rattle.daq_session.specs.declared.records.FrontTally.{FrontTally}
-use Rattle.daq_session.specs.declared.records.FileRecord.{FileRecord}
-use Rattle.daq_session.specs.declared.records.StartOutcome.TheVariants.{Completed, Refused}
-use Rattle.daq_session.specs.declared.records.Why.TheVariants.{Exists}
-use Rattle.daq_session.specs.declared.replies.Reply.{Reply}
-use Rattle.daq_session.specs.declared.replies.Reply.TheVariants.{Silent, BadCommand, WrongState, RunNumber, StartRefused, Started, Stopped as run_stopped, Database}
-use Rattle.daq_session.specs.FrontNames.{front_name}
+use Rattle.session_console.specs.declared.records.RunRecord.{RunRecord}
+use Rattle.session_console.specs.declared.records.FrontTally.{FrontTally}
+use Rattle.session_console.specs.declared.records.FileRecord.{FileRecord}
+use Rattle.session_console.specs.declared.records.StartOutcome.TheVariants.{Completed, Refused}
+use Rattle.session_console.specs.declared.records.Why.TheVariants.{Exists}
+use Rattle.session_console.specs.declared.replies.Reply.{Reply}
+use Rattle.session_console.specs.declared.replies.Reply.TheVariants.{Silent, BadCommand, WrongState, RunNumber, StartRefused, Started, Stopped as run_stopped, Database}
+use Rattle.session_console.specs.FrontNames.{front_name}
 use Rattle.daq_session.specs.Tallies.{IsTally}
 use Rattle.daq_session.specs.RunNames.{run_name}
 use Rattle.daq_session.specs.RunRecords.{Avoids}

@@ -8,9 +8,9 @@ use crate::console::print_reply;
 use crate::desk::Desk;
 use crate::endings::Ending;
 use crate::halts::Halt;
-use crate::refusals::Refusals;
 use daq_io::{Clock, Files, Sink};
 use midas_tools::InputFault;
+use session_console::Refusals;
 use std::alloc::Global;
 
 /// How a session was closed.

@@ -1,187 +1,12 @@
-ghost use Rattle.std.specs.Prelude.{◌≡◌, ◌++◌, ◌∷◌, [], OnOk, codes};
-ghost use Rattle.std.specs.Fmt.{decimal};
 ghost use Rattle.daq_session.specs.Halts.{CountsSink};
 ghost use Rattle.daq_session.specs.Playing.{Prints};
-ghost use Rattle.daq_session.specs.Console.{client_name, file_line, front_line, state_name, state_number, text_of, why_text};
-ghost use Rattle.odb_commands.specs.Texts.{refused_line};
-ghost use Rattle.odb_value.specs.declared.items.Item.TheVariants.{Int32};
-ghost use Rattle.odb_value.specs.ItemTexts.{item_text};
+ghost use Rattle.session_console.specs.Console.{text_of};
 
 use crate::halts::Halt;
-use crate::records::{FileRecord, FrontTally, Why};
-use crate::replies::Reply;
 use daq_io::{Sink, write_all};
-use daq_types::{ChannelState, NoMemory, RunState};
-use itoa::Buffer;
 use odb_script::TextBuffer;
+use session_console::Reply;
 use std::alloc::Global;
-
-/// The number of a run state.
-fn number_of_state(state: RunState) -> u64
-    ensures { result ≡ state_number state }
-{
-    match state {
-        RunState::Stopped => 1,
-        RunState::Paused => 2,
-        RunState::Running => 3,
-    }
-}
-
-/// The name of a channel's state.
-fn name_of_state(state: ChannelState) -> &'static [u8]
-    ensures { result.now ≡ state_name state }
-{
-    match state {
-        ChannelState::Idle => b"Idle",
-        ChannelState::Writing => b"Writing",
-        ChannelState::Broken => b"Broken",
-        ChannelState::Ended => b"Ended",
-        ChannelState::NoEnd => b"NoEnd",
-        ChannelState::NoMark => b"NoMark",
-    }
-}
-
-/// The name of a client.
-#[tactic(auto, unfolding(crate::specs::Console::client_name))]
-fn name_of_client(client: u32) -> &'static [u8]
-    ensures { result.now ≡ client_name client }
-{
-    if client == 0 { b"FE" } else { b"Logger" }
-}
-
-/// Adds the line of a refusal: the number of the script's line, then the refusal's name and the digits of its number.
-fn add_refused(
-    text: &mut TextBuffer,
-    alloc: Global,
-    line: u64,
-    name: &[u8],
-    digits: &[u8],
-) -> Result<(), NoMemory>
-    ensures { OnOk result (text.new ≡ text.old ++ refused_line line (name.now ++ digits.now)) }
-{
-    text.text(b"refused ")?;
-    text.number(alloc, line)?;
-    text.text(b": ")?;
-    text.text(name)?;
-    text.text(digits)?;
-    text.text(b"\n")
-}
-
-/// Adds the line of a refusal with this number.
-fn add_refusal(
-    text: &mut TextBuffer,
-    alloc: Global,
-    line: u64,
-    name: &[u8],
-    number: u64,
-) -> Result<(), NoMemory>
-    ensures { OnOk result (text.new ≡ text.old ++ refused_line line (name.now ++ decimal number)) }
-{
-    let mut digits = Buffer::new();
-    add_refused(text, alloc, line, name, digits.format(number).as_bytes())
-}
-
-/// Adds the line of a start for which there is no run number.
-fn add_no_number(text: &mut TextBuffer, alloc: Global, line: u64, have: i32) -> Result<(), NoMemory>
-    ensures { OnOk result (text.new ≡ text.old ++ refused_line line (codes "RunNumber " ++ item_text (Int32 have))) }
-{
-    let mut digits = Buffer::new();
-    add_refused(
-        text,
-        alloc,
-        line,
-        b"RunNumber ",
-        digits.format(have).as_bytes(),
-    )
-}
-
-/// Adds why a client refused a start.
-fn add_why(text: &mut TextBuffer, alloc: Global, why: &Why) -> Result<(), NoMemory>
-    ensures { OnOk result (text.new ≡ text.old ++ why_text why.now) }
-{
-    match why {
-        Why::Exists { channel } => {
-            text.text(b"Exists ")?;
-            text.number(alloc, *channel as u64)
-        }
-    }
-}
-
-/// Adds the line of a start that a client refused.
-fn add_start_refused(
-    text: &mut TextBuffer,
-    alloc: Global,
-    line: u64,
-    client: u32,
-    why: &Why,
-) -> Result<(), NoMemory>
-    ensures { OnOk result (text.new ≡ text.old ++ refused_line line (codes "StartRefused " ++ (client_name client ++ (32 ∷ why_text why.now)))) }
-{
-    text.text(b"refused ")?;
-    text.number(alloc, line)?;
-    text.text(b": StartRefused ")?;
-    add_refuser(text, alloc, client, why)?;
-    text.text(b"\n")
-}
-
-/// Adds which client refused a start, and why.
-fn add_refuser(text: &mut TextBuffer, alloc: Global, client: u32, why: &Why) -> Result<(), NoMemory>
-    ensures { OnOk result (text.new ≡ text.old ++ (client_name client ++ (32 ∷ why_text why.now))) }
-{
-    text.text(name_of_client(client))?;
-    text.text(b" ")?;
-    add_why(text, alloc, why)
-}
-
-/// Adds the line of a run's state: `run`, its number, and the word.
-fn add_run(text: &mut TextBuffer, alloc: Global, run: u32, word: &[u8]) -> Result<(), NoMemory>
-    ensures { OnOk result (text.new ≡ text.old ++ (codes "run " ++ (decimal run ++ (word.now ++ 10 ∷ [])))) }
-{
-    text.text(b"run ")?;
-    text.number(alloc, run as u64)?;
-    text.text(word)?;
-    text.text(b"\n")
-}
-
-/// Adds the lines of what a front-end sent and a channel wrote.
-fn add_tallies(
-    text: &mut TextBuffer,
-    alloc: Global,
-    front: &FrontTally,
-    file: &FileRecord,
-) -> Result<(), NoMemory>
-    ensures { OnOk result (text.new ≡ text.old ++ (front_line front.now ++ file_line file.now)) }
-{
-    text.text(name_of_client(front.client))?;
-    text.text(b" sent ")?;
-    text.number(alloc, front.sent as u64)?;
-    text.text(b"\n")?;
-    text.text(file.name.as_slice())?;
-    text.text(b" ")?;
-    text.text(name_of_state(file.state))?;
-    text.text(b"\n")
-}
-
-/// Adds what the script's line of this number prints.
-fn add_reply(text: &mut TextBuffer, alloc: Global, line: u64, reply: &Reply) -> Result<(), NoMemory>
-    ensures { OnOk result (text.new ≡ text.old ++ text_of line reply.now) }
-{
-    match reply {
-        Reply::Silent => Ok(()),
-        Reply::BadCommand { at } => add_refusal(text, alloc, line, b"BadCommand ", *at as u64),
-        Reply::WrongState { state } => {
-            add_refusal(text, alloc, line, b"WrongState ", number_of_state(*state))
-        }
-        Reply::RunNumber { have } => add_no_number(text, alloc, line, *have),
-        Reply::StartRefused { client, why } => add_start_refused(text, alloc, line, *client, why),
-        Reply::Started { run } => add_run(text, alloc, *run, b" started"),
-        Reply::Stopped { run, front, file } => {
-            add_run(text, alloc, *run, b" stopped")?;
-            add_tallies(text, alloc, front, file)
-        }
-        Reply::Database { reply } => reply.print(alloc, line, text),
-    }
-}
 
 /// Writes what the script's line of this number prints for this reply.
 pub fn print_reply<K: Sink>(
@@ -195,7 +20,7 @@ pub fn print_reply<K: Sink>(
     ensures sink { CountsSink (K.faults out.old) (K.faults out.new) result }
 {
     text.clear();
-    if add_reply(text, alloc, line, reply).is_err() {
+    if reply.print(alloc, line, text).is_err() {
         return Err(Halt::NoMemory);
     }
     match write_all(out, text.as_slice()) {

@@ -11,13 +11,12 @@ ghost use Rattle.daq_session.specs.BufferRecords.{IsOneHistory, IsSystem};
 ghost use Rattle.daq_session.specs.RunsTold.{IsTold};
 ghost use Rattle.daq_session.specs.Tallies.{IsTally, most_spent, most_starts};
 
-use crate::entry_list::Entries;
-use crate::records::{BufferRecord, FrontEnded, FrontTally};
 use buffer_core::{LocalPort, PlainBuffer, laws};
 use daq_io::{Failed, Files};
 use daq_types::{Kind, Name, NoMemory, Order};
 use event_header::EventBuf;
 use frontend_kit::{EVENT_ROOM, Generator};
+use session_console::{BufferRecord, Entries, FrontEnded, FrontTally};
 use std::alloc::Global;
 
 /// The front-end FE: its client number, by which its calls on the buffer are noted too, its event id and its trigger

@@ -6,11 +6,11 @@ ghost use Rattle.daq_session.specs.Tallies.{most_starts};
 
 use crate::console::print_reply;
 use crate::halts::Halt;
-use crate::refusals::Refusals;
 use crate::session::Session;
 use daq_io::{Clock, Files, Sink};
 use daq_types::NoMemory;
 use odb_script::{Command, LineRefusal, TextBuffer};
+use session_console::Refusals;
 use std::alloc::Global;
 
 /// Whether a script goes on behind a line.

@@ -8,11 +8,7 @@ mod console;
 mod data_path;
 mod desk;
 mod endings;
-mod entry_list;
 mod halts;
-mod records;
-mod refusals;
-mod replies;
 mod rooms;
 mod run;
 mod run_files;
@@ -23,13 +19,12 @@ mod state;
 mod transitions;
 
 pub use causes::Cause;
-pub use entry_list::Entries;
-pub use records::{
-    BufferRecord, FileRecord, FrontEnded, FrontTally, RunRecord, SessionRecord, StartOutcome, Why,
-};
-pub use replies::Reply;
 pub use run::run_script;
 pub use run_names::name_of_run;
+pub use session_console::{
+    BufferRecord, Entries, FileRecord, FrontEnded, FrontTally, Reply, RunRecord, SessionRecord,
+    StartOutcome, Why,
+};
 
 #[cfg(test)]
 mod tests;

@@ -1,8 +1,7 @@
 ghost use Rattle.std.specs.Prelude.{◌≡◌, ◌≤◌, [], ◌∷◌, vec_len, vec_capacity};
 
-use crate::entry_list::Entries;
-use crate::records::{FileRecord, FrontTally};
 use daq_types::NoMemory;
+use session_console::{Entries, FileRecord, FrontTally};
 use std::alloc::Global;
 
 /// Room for the lists of a run's record, taken before the run begins.

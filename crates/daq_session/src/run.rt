@@ -6,19 +6,18 @@ ghost use Rattle.daq_session.specs.RunHistories.{IsHeldRun, HoldSegments, AreSen
 ghost use Rattle.daq_session.specs.RunRecordFits.{RunRecordFits};
 ghost use Rattle.daq_session.specs.Sessions.{FaultsBy, IsRecorded, IsSession};
 ghost use Rattle.daq_session.specs.Standing.{stage_of};
-ghost use Rattle.daq_session.specs.declared.replies.Reply.{Reply};
+ghost use Rattle.session_console.specs.declared.replies.Reply.{Reply};
 ghost use Rattle.odb_tree.specs.Histories.{IsLegal};
 ghost use Rattle.odb_runinfo.specs.RunKeys.{session_rows};
 
 use crate::causes::Cause;
 use crate::closing::{cause_of, close_run};
 use crate::desk::Desk;
-use crate::entry_list::Entries;
-use crate::records::SessionRecord;
 use crate::script::play;
 use crate::session::Session;
 use daq_io::{Clock, Files, Gate, Outside, Pick, Sink, Source};
 use odb_script::LineReader;
+use session_console::{Entries, SessionRecord};
 use std::alloc::Global;
 use std::sync::Wait;
 use std::thread::Threads;

@@ -3,7 +3,7 @@ ghost use Rattle.std.specs.Option.{ForNone, ForSome};
 ghost use Rattle.buffer_core.specs.declared.gate.RunGate.TheVariants.{Running, Shut};
 ghost use Rattle.daq_io.specs.Counts.{CountsFault};
 ghost use Rattle.odb_script.specs.declared.forms.Command.TheVariants.{Nothing, Stop};
-ghost use Rattle.daq_session.specs.Console.{is_refusal};
+ghost use Rattle.session_console.specs.Console.{is_refusal};
 ghost use Rattle.daq_session.specs.Halts.{CountsHalt};
 ghost use Rattle.daq_session.specs.Standing.{Answers, Handles, IsReady, stage_of};
 ghost use Rattle.daq_session.specs.Stages.{DoesAnswer, Interrupts};
@@ -16,7 +16,6 @@ ghost use Rattle.daq_session.specs.Tallies.{most_spent, most_starts};
 
 use crate::data_path::DataPath;
 use crate::halts::Halt;
-use crate::replies::Reply;
 use crate::state::State;
 use crate::transitions::{start, stop};
 use daq_io::{Clock, Failed, Files};
@@ -26,6 +25,7 @@ use odb_journal::LocalDatabase;
 use odb_runinfo::{STOP_CALLS, open};
 use odb_script::{Command, LineRefusal};
 use odb_tree::PlainTree;
+use session_console::Reply;
 use std::alloc::Global;
 
 /// A session: where it stands in its script, and the way of its events.

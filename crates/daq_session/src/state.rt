@@ -2,14 +2,14 @@ ghost use Rattle.std.specs.Prelude.{◌≡◌, ◌<◌, ◌≤◌, vec_len, vec_
 ghost use Rattle.std.specs.Option.{ForSome};
 ghost use Rattle.odb_runinfo.specs.RunKeys.{session_rows};
 ghost use Rattle.daq_session.specs.RunNames.{run_name};
-ghost use Rattle.daq_session.specs.FrontNames.{front_name};
+ghost use Rattle.session_console.specs.FrontNames.{front_name};
 
-use crate::records::RunRecord;
 use crate::rooms::Rooms;
 use daq_types::{FileName, Order};
 use odb_journal::LocalDatabase;
 use odb_runinfo::{StoppedPaths, StoppingPaths};
 use odb_tree::PlainTree;
+use session_console::RunRecord;
 
 /// Where a session stands between two lines of its script.
 #[derive(Drop)]

@@ -9,9 +9,9 @@ ghost use Rattle.daq_io.specs.Seen.{Closes};
 ghost use Rattle.buffer_core.specs.Window.{accepted_of};
 ghost use Rattle.daq_session.specs.RunsTold.{IsStanding, KeepsTold, EndsTold};
 ghost use Rattle.daq_session.specs.Tallies.{IsTally, most_spent, most_starts};
-ghost use Rattle.daq_session.specs.Console.{is_refusal};
+ghost use Rattle.session_console.specs.Console.{is_refusal};
 ghost use Rattle.odb_journal.specs.Noted.{KeepsCalls};
-ghost use Rattle.daq_session.specs.FrontNames.{front_name};
+ghost use Rattle.session_console.specs.FrontNames.{front_name};
 ghost use Rattle.daq_session.specs.RunNames.{run_name};
 ghost use Rattle.daq_session.specs.Stages.{Interrupts, completed_record, file_record, opens, refused_record};
 ghost use Rattle.daq_session.specs.Standing.{Answers, Handles, HandlesBy, IsReady, RunStarts, stage_of};
@@ -19,10 +19,7 @@ ghost use Rattle.odb_script.specs.declared.forms.Command.TheVariants.{Start, Sto
 ghost use Rattle.daq_session.specs.Halts.{CountsHalt};
 
 use crate::data_path::DataPath;
-use crate::entry_list::Entries;
 use crate::halts::Halt;
-use crate::records::{FileRecord, FrontTally, RunRecord, StartOutcome, Why};
-use crate::replies::Reply;
 use crate::rooms::Rooms;
 use crate::run_files::{Begun, begin_file, end_file};
 use crate::run_names::name_of_run;
@@ -33,6 +30,7 @@ use odb_runinfo::{
     RunNumber, RunPaths, START_CALLS, STOP_CALLS, next_run, open_front, set_refused, set_start,
     set_started, set_stopped, set_stopping,
 };
+use session_console::{Entries, FileRecord, FrontTally, Reply, RunRecord, StartOutcome, Why};
 use std::alloc::Global;
 
 /// The client number of the logger, and the number of its channel.

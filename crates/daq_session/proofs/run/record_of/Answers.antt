@@ -3,7 +3,7 @@ use Rattle.std.proofs.Common.{ap, sym, subst, ◌∙◌}
 use Rattle.std.proofs.Math.Logic.{∥∥₁_elim}
 use Rattle.std.proofs.Props.{props}
 use Rattle.buffer_core.specs.declared.entry.BufferEntry.{BufferEntry}
-use Rattle.daq_session.specs.declared.records.RunRecord.{RunRecord}
+use Rattle.session_console.specs.declared.records.RunRecord.{RunRecord}
 use Rattle.daq_session.specs.BufferRecords.{history_in}
 use Rattle.daq_session.specs.RunHistories.{IsHeldRun}
 use Rattle.daq_session.proofs.BufferLaws.{system_again}

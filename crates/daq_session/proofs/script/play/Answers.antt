@@ -2,7 +2,7 @@ use Rattle.std.proofs.Common.{◌≡◌, arith, ap, refl, ◌∙◌}
 use Rattle.std.specs.Prelude.{Ok}
 use Rattle.odb_script.specs.Lines.{Reading}
 use Rattle.daq_session.specs.declared.desk.Going.TheVariants.{On, Exit}
-use Rattle.daq_session.specs.declared.refusals.Refusals.{Refusals}
+use Rattle.session_console.specs.declared.refusals.Refusals.{Refusals}
 use Rattle.daq_session.proofs.PlayingLaws.{so_far_new, so_far_more, few_more}
 use Rattle.daq_session.proofs.PlayingEnds.{ended_played, exit_played, too_long_played, fault_played, last_played, halted_at, first_by_line, first_by_last}
 use Rattle.daq_session.proofs.script.play.Goals as goal

@@ -7,10 +7,10 @@ use Rattle.buffer_core.specs.Window.{Window, accepted_of}
 use Rattle.odb_runinfo.specs.RunSets.{start_sets, started_sets, refused_sets}
 use Rattle.odb_journal.specs.HistoryLaws.{goes_on_none}
 use Rattle.daq_session.specs.RunsTold.{IsStanding}
-use Rattle.daq_session.specs.FrontNames.{front_name}
+use Rattle.session_console.specs.FrontNames.{front_name}
 use Rattle.daq_session.specs.BufferEntries.{begin_entry}
 use Rattle.daq_session.proofs.RunsKept.{standing_begun, standing_refused}
-use Rattle.daq_session.specs.declared.records.RunRecord.{RunRecord}
+use Rattle.session_console.specs.declared.records.RunRecord.{RunRecord}
 use Rattle.daq_session.specs.declared.state.OpenRun.{OpenRun}
 use Rattle.daq_session.specs.Standing.{IsReady, RunStarts}
 use Rattle.daq_session.proofs.Interrupting.{memory_handled, breaks_state}

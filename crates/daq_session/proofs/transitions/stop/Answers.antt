@@ -2,9 +2,9 @@ use Rattle.std.proofs.Common.{◌≡◌, ◌≤◌, ℕ, List, [], ◌∷◌, �
 use Rattle.std.proofs.Math.Logic.{∥∥₁_map}
 use Rattle.buffer_core.specs.Window.{accepted_of}
 use Rattle.daq_session.proofs.RunsKept.{standing_broken, standing_ended}
-use Rattle.daq_session.specs.declared.records.RunRecord.{RunRecord}
+use Rattle.session_console.specs.declared.records.RunRecord.{RunRecord}
 use Rattle.odb_runinfo.specs.RunSets.{stopping_sets, stopped_sets}
-use Rattle.daq_session.specs.FrontNames.{front_name}
+use Rattle.session_console.specs.FrontNames.{front_name}
 use Rattle.daq_session.proofs.Leading.{ended_leads, rows_after_two, calls_after_two, keeps_itself}
 use Rattle.daq_session.proofs.transitions.stop.Goals as goal
 

@@ -2,7 +2,7 @@ use Rattle.std.proofs.Common.{◌≡◌, [], ◌∷◌, ◌++◌, List, ap, sym,
 use Rattle.std.proofs.lemmas.List.{nil_from_length}
 use Rattle.buffer_core.specs.Window.{Window, opening}
 use Rattle.buffer_core.specs.Histories.{IsLegal}
-use Rattle.daq_session.specs.declared.records.BufferRecord.{BufferRecord}
+use Rattle.session_console.specs.declared.records.BufferRecord.{BufferRecord}
 use Rattle.daq_session.proofs.BufferLaws.{single_history}
 use Rattle.daq_session.proofs.data_path.DataPath.into_records.Goals as goal
 

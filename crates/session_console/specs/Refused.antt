@@ -2,9 +2,9 @@
 use Rattle.std.specs.Prelude.{◌≡◌, ℕ, ◌+◌, ◌==◌, Bool, true, false, if◌then◌else◌, List, [], ◌∷◌, ◌++◌, length, refl}
 use Rattle.std.proofs.Common.{ap, ◌∙◌, sym, arith, length-append, ne_eqb}
 use Rattle.std.proofs.lemmas.List.{append-nil}
-use Rattle.daq_session.specs.declared.replies.Reply.{Reply}
-use Rattle.daq_session.specs.declared.refusals.Refusals.{Refusals}
-use Rattle.daq_session.specs.Console.{is_refusal, refused_lines, refused_lines-more, first_line, line_if}
+use Rattle.session_console.specs.declared.replies.Reply.{Reply}
+use Rattle.session_console.specs.declared.refusals.Refusals.{Refusals}
+use Rattle.session_console.specs.Console.{is_refusal, refused_lines, refused_lines-more, first_line, line_if}
 
 -- the count and the first with one line more, if that was refused
 abbrev pub noted : Refusals → (line : ℕ) → Bool → Refusals

@@ -1,6 +1,6 @@
 ghost use Rattle.std.specs.Prelude.{◌≡◌, ◌<◌, ◌+◌, ◌^◌};
-ghost use Rattle.daq_session.specs.Console.{is_refusal};
-ghost use Rattle.daq_session.specs.Refused.{noted};
+ghost use Rattle.session_console.specs.Console.{is_refusal};
+ghost use Rattle.session_console.specs.Refused.{noted};
 
 use crate::replies::Reply;
 

@@ -7,13 +7,13 @@ use Rattle.daq_types.specs.declared.runs.RunState.{RunState}
 use Rattle.daq_types.specs.declared.runs.RunState.TheVariants.{Stopped, Paused, Running}
 use Rattle.daq_types.specs.declared.runs.ChannelState.{ChannelState}
 use Rattle.daq_types.specs.declared.runs.ChannelState.TheVariants.{Idle, Writing, Broken, Ended, NoEnd, NoMark}
-use Rattle.daq_session.specs.FrontNames.{front_name}
-use Rattle.daq_session.specs.declared.records.Why.{Why}
-use Rattle.daq_session.specs.declared.records.Why.TheVariants.{Exists}
-use Rattle.daq_session.specs.declared.records.FrontTally.{FrontTally}
-use Rattle.daq_session.specs.declared.records.FileRecord.{FileRecord}
-use Rattle.daq_session.specs.declared.replies.Reply.{Reply}
-use Rattle.daq_session.specs.declared.replies.Reply.TheVariants.{Silent, BadCommand, WrongState, RunNumber, StartRefused, Started, Stopped as run_stopped, Database}
+use Rattle.session_console.specs.FrontNames.{front_name}
+use Rattle.session_console.specs.declared.records.Why.{Why}
+use Rattle.session_console.specs.declared.records.Why.TheVariants.{Exists}
+use Rattle.session_console.specs.declared.records.FrontTally.{FrontTally}
+use Rattle.session_console.specs.declared.records.FileRecord.{FileRecord}
+use Rattle.session_console.specs.declared.replies.Reply.{Reply}
+use Rattle.session_console.specs.declared.replies.Reply.TheVariants.{Silent, BadCommand, WrongState, RunNumber, StartRefused, Started, Stopped as run_stopped, Database}
 use Rattle.odb_value.specs.declared.items.Item.TheVariants.{Int32}
 use Rattle.odb_value.specs.ItemTexts.{item_text}
 use Rattle.odb_commands.specs.Texts.{refused_line, reply_text, is_refusal as is_refused}

@@ -1,0 +1,3 @@
+pub mod FrontNames
+pub mod Console
+pub mod Refused
