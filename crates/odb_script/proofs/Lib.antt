@@ -4,3 +4,4 @@ mod LinesSoFar
 mod TypeLaws
 mod NumberLaws
 mod WordLaws
+mod TableLaws

@@ -8,5 +8,6 @@ pub mod NextWords
 pub mod Numbers
 pub mod TypeNames
 pub mod Forms
+pub mod FormTable
 pub mod KeptForms
 pub mod Exits

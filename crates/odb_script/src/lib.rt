@@ -6,6 +6,7 @@ mod checks;
 #[cfg(test)]
 mod form_checks;
 mod forms;
+pub mod laws;
 mod line_text;
 mod numbers;
 mod reading;

@@ -1,0 +1,73 @@
+-- The forms of a script's commands as a table. A line is refused at the first word with which none of them goes on.
+use Rattle.std.specs.Prelude.{ℕ, Bool, true, false, if◌then◌else◌, List, [], ◌∷◌, Option, Some, None, is_some, Ok, Err, codes}
+use Rattle.odb_script.specs.LineWords.{Words, word, ended, faulty}
+use Rattle.odb_script.specs.Numbers.{number_of}
+use Rattle.odb_script.specs.TypeNames.{is_text, type_named}
+use Rattle.odb_script.specs.Forms.{Read}
+use Rattle.odb_script.specs.declared.forms.Command.{Command}
+use Rattle.odb_script.specs.declared.refusals.LineRefusal.TheVariants.{BadCommand}
+
+-- what a word of a form may be: one text alone, any text, a number or the name of a type
+pub data Piece : Type 0 where
+  exactly : (text : List ℕ) → Piece
+  any_text : Piece
+  a_number : Piece
+  a_type : Piece
+
+abbrev pub fits : Piece → List ℕ → Bool
+fits (exactly name) text = is_text text name
+fits any_text text = true
+fits a_number text = is_some (number_of text)
+fits a_type text = is_some (type_named text)
+
+-- a form, word by word
+abbrev pub Form : Type 0
+Form = List Piece
+
+-- The table. A form with a word that may be left out has two lines. The first is that of a line of no word.
+abbrev pub forms : List Form
+forms =
+    []
+    ∷ (exactly (codes "events") ∷ a_number ∷ [])
+    ∷ (exactly (codes "start") ∷ [])
+    ∷ (exactly (codes "stop") ∷ [])
+    ∷ (exactly (codes "create") ∷ exactly (codes "DIR") ∷ any_text ∷ [])
+    ∷ (exactly (codes "create") ∷ a_type ∷ any_text ∷ [])
+    ∷ (exactly (codes "create") ∷ a_type ∷ any_text ∷ a_number ∷ [])
+    ∷ (exactly (codes "set") ∷ any_text ∷ any_text ∷ [])
+    ∷ (exactly (codes "set") ∷ any_text ∷ a_number ∷ any_text ∷ [])
+    ∷ (exactly (codes "get") ∷ any_text ∷ [])
+    ∷ (exactly (codes "get") ∷ any_text ∷ a_number ∷ [])
+    ∷ (exactly (codes "ls") ∷ any_text ∷ [])
+    ∷ (exactly (codes "rm") ∷ any_text ∷ [])
+    ∷ (exactly (codes "exit") ∷ [])
+    ∷ []
+
+-- the forms that go on with a word, each without the piece that the word fits
+abbrev pub going_on : List ℕ → List Form → List Form
+going_on text [] = []
+going_on text ([] ∷ fs) = going_on text fs
+going_on text ((piece ∷ pieces) ∷ fs) = if fits piece text then pieces ∷ going_on text fs else going_on text fs
+
+-- there is no form
+abbrev pub no_form : List Form → Bool
+no_form [] = true
+no_form (form ∷ fs) = false
+
+-- one of the forms has ended
+abbrev pub form_ended : List Form → Bool
+form_ended [] = false
+form_ended ([] ∷ fs) = true
+form_ended ((piece ∷ pieces) ∷ fs) = form_ended fs
+
+-- The place of the first word with which none of the forms goes on. It is the place of the line's end where none of
+-- them has ended there, and that of what is no word. There is none where the words are those of a form.
+abbrev pub first_misfit : List Form → Words → Option ℕ
+first_misfit fs (word at text rest) = if no_form (going_on text fs) then Some at else first_misfit (going_on text fs) rest
+first_misfit fs (ended at) = if form_ended fs then None else Some at
+first_misfit fs (faulty at) = Some at
+
+-- where a line is refused
+abbrev pub place_of : Read Command → Option ℕ
+place_of (Ok command) = None
+place_of (Err (BadCommand at)) = Some at
