@@ -5,3 +5,4 @@ mod TypeLaws
 mod NumberLaws
 mod WordLaws
 mod TableLaws
+mod SpelledLaws

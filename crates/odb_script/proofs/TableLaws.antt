@@ -16,15 +16,15 @@ use Rattle.odb_script.specs.FormTable.{Form, exactly, any_text, a_number, a_type
 
 -- What is known of a text: whether it is a number, the name of a type, or one text alone.
 
-number_cases : {A : Type 0} (text : List ℕ) → (number_of text ≡ None → A) → ((n : ℕ) → number_of text ≡ Some n → A) → A
+pub number_cases : {A : Type 0} (text : List ℕ) → (number_of text ≡ None → A) → ((n : ℕ) → number_of text ≡ Some n → A) → A
 number_cases {A} text none some =
     elim (number_of text) as (λ found. number_of text ≡ found → A) [ None ↦ none | Some n ↦ some n ] refl
 
-type_cases : {A : Type 0} (text : List ℕ) → (type_named text ≡ None → A) → ((t : Tid) → type_named text ≡ Some t → A) → A
+pub type_cases : {A : Type 0} (text : List ℕ) → (type_named text ≡ None → A) → ((t : Tid) → type_named text ≡ Some t → A) → A
 type_cases {A} text none some =
     elim (type_named text) as (λ found. type_named text ≡ found → A) [ None ↦ none | Some t ↦ some t ] refl
 
-text_cases : {A : Type 0} (text name : List ℕ) → (name ≡ text → A) → (is_text text name ≡ false → A) → A
+pub text_cases : {A : Type 0} (text name : List ℕ) → (name ≡ text → A) → (is_text text name ≡ false → A) → A
 text_cases {A} text name same other =
     elim (is_text text name) as (λ b. is_text text name ≡ b → A) [ true ↦ (λ e. same (sym ((bytes_eq-Decides text name).0 e))) | false ↦ other ] refl
 
@@ -63,7 +63,7 @@ events (word at text ws) = number_cases text (λ e. rw e refl) (λ n e. rw e (en
 events (ended at) = refl
 events (faulty at) = refl
 
-no_directory_type : type_named (codes "DIR") ≡ None
+pub no_directory_type : type_named (codes "DIR") ≡ None
 unfolding type_named
 no_directory_type = refl
 

@@ -9,5 +9,6 @@ pub mod Numbers
 pub mod TypeNames
 pub mod Forms
 pub mod FormTable
+pub mod Spelled
 pub mod KeptForms
 pub mod Exits

@@ -1,0 +1,219 @@
+-- A line is a command exactly where its words are those of the command.
+use Rattle.std.specs.Prelude.{◌≡◌, ◌↔◌, ◌≤◌, ℕ, nat_eq, false, List, [], ◌∷◌, ◌++◌, length, Option, Some, None, option_map, Ok, Err, unwrap_or, codes, refl}
+use Rattle.std.proofs.Common.{ap, sym, ◌∙◌, subst, append_assoc, le-ltb, inl, inr}
+use Rattle.std.specs.List.{starts_with}
+use Rattle.std.proofs.lemmas.List.{append-nil}
+use Rattle.daq_types.specs.declared.types.Tid.{Tid}
+use Rattle.odb_script.specs.LineWords.{Words, word, ended, faulty, line_words}
+use Rattle.odb_script.specs.Numbers.{number_of}
+use Rattle.odb_script.specs.TypeNames.{is_text, type_named}
+use Rattle.odb_script.specs.declared.forms.Command.{Command}
+use Rattle.odb_script.specs.declared.forms.Command.TheVariants.{Nothing, Events, Start, Stop, Create, CreateDir, Set, Get, List as Ls, Remove, Exit}
+use Rattle.odb_script.specs.Forms.{Read, ◌>>=◌, next_text, behind, line_end, last_number, only, events_form, value_form, create_form, set_end, set_form, get_form, list_form, remove_form, named_form, words_form, command_of}
+use Rattle.odb_script.specs.Spelled.{texts_of, Spells, Spelled}
+use Rattle.odb_script.proofs.TableLaws.{number_cases, type_cases, text_cases, no_directory_type}
+
+-- From the words to the command.
+
+-- Words are read behind texts: if that gives a command, they have no more than the rest of its texts.
+abbrev Reads : List (List ℕ) → Words → Read Command → Type 0
+Reads front ws (Ok command) = (texts : List (List ℕ)) × (texts_of ws ≡ Some texts) × Spells (front ++ texts) command
+Reads front ws (Err refusal) = Unit {0}
+
+-- the first word is one of the texts in front
+step : (front : List (List ℕ)) (at : ℕ) (text : List ℕ) (ws : Words) (read : Read Command) → Reads (front ++ text ∷ []) ws read → Reads front (word at text ws) read
+step front at text ws (Err refusal) h = tt
+step front at text ws (Ok command) h =
+    (text ∷ h.0, ap (option_map (λ texts. text ∷ texts)) h.1, subst (λ texts. Spells texts command) (append_assoc front (text ∷ []) h.0) h.2)
+
+ends : (front : List (List ℕ)) (command : Command) (ws : Words) → Spells front command → Reads front ws (only command ws)
+ends front command (word at text ws) h = tt
+ends front command (ended at) h = ([], refl, subst (λ texts. Spells texts command) (sym (append-nil front)) h)
+ends front command (faulty at) h = tt
+
+path_ends : (front : List (List ℕ)) (make : List ℕ → Command) (ws : Words) → ((path : List ℕ) → Spells (front ++ path ∷ []) (make path))
+    → Reads front ws (next_text ws >>= (λ path. only (make path) (behind ws)))
+path_ends front make (word at text ws) h = step front at text ws (only (make text) ws) (ends (front ++ text ∷ []) (make text) ws (h text))
+path_ends front make (ended at) h = tt
+path_ends front make (faulty at) h = tt
+
+-- a number is given
+given : (front : List (List ℕ)) (make : Option ℕ → Command) (n : ℕ) (ws : Words) → Spells front (make (Some n))
+    → Reads front ws ((line_end ws >>= (λ end. Ok (Some n))) >>= (λ found. Ok (make found)))
+given front make n (word at text ws) h = tt
+given front make n (ended at) h = ([], refl, subst (λ texts. Spells texts (make (Some n))) (sym (append-nil front)) h)
+given front make n (faulty at) h = tt
+
+number_ends : (front : List (List ℕ)) (make : Option ℕ → Command) (ws : Words) → Spells front (make None)
+    → ((text : List ℕ) (n : ℕ) → number_of text ≡ Some n → Spells (front ++ text ∷ []) (make (Some n)))
+    → Reads front ws (last_number ws >>= (λ n. Ok (make n)))
+number_ends front make (word at text ws) none some = number_cases text
+    (λ e. rw e tt)
+    (λ n e. rw e (step front at text ws ((line_end ws >>= (λ end. Ok (Some n))) >>= (λ found. Ok (make found))) (given (front ++ text ∷ []) make n ws (some text n e))))
+number_ends front make (ended at) none some = ([], refl, subst (λ texts. Spells texts (make None)) (sym (append-nil front)) none)
+number_ends front make (faulty at) none some = tt
+
+path_number_ends : (front : List (List ℕ)) (make : List ℕ → Option ℕ → Command) (ws : Words) → ((path : List ℕ) → Spells (front ++ path ∷ []) (make path None))
+    → ((path text : List ℕ) (n : ℕ) → number_of text ≡ Some n → Spells ((front ++ path ∷ []) ++ text ∷ []) (make path (Some n)))
+    → Reads front ws (next_text ws >>= (λ path. last_number (behind ws) >>= (λ n. Ok (make path n))))
+path_number_ends front make (word at path ws) none some =
+    step front at path ws (last_number ws >>= (λ n. Ok (make path n))) (number_ends (front ++ path ∷ []) (make path) ws (none path) (some path))
+path_number_ends front make (ended at) none some = tt
+path_number_ends front make (faulty at) none some = tt
+
+events : (ws : Words) → Reads (codes "events" ∷ []) ws (events_form ws)
+events (word at text ws) = number_cases text
+    (λ e. rw e tt)
+    (λ n e. rw e (step (codes "events" ∷ []) at text ws (only (Events n) ws) (ends (codes "events" ∷ text ∷ []) (Events n) ws (text, refl, e))))
+events (ended at) = tt
+events (faulty at) = tt
+
+create : (ws : Words) → Reads (codes "create" ∷ []) ws (create_form ws)
+create (word at kind ws) = text_cases kind (codes "DIR")
+    (λ same. subst (λ text. Reads (codes "create" ∷ []) (word at text ws) (create_form (word at text ws))) same
+    (step (codes "create" ∷ []) at (codes "DIR") ws (next_text ws >>= (λ path. only (CreateDir path) (behind ws)))
+    (path_ends (codes "create" ∷ codes "DIR" ∷ []) CreateDir ws (λ path. refl))))
+    (λ other. type_cases kind
+    (λ e. rw (other, e) tt)
+    (λ t e. rw (other, e) (step (codes "create" ∷ []) at kind ws (value_form at (Some t) ws)
+    (path_number_ends (codes "create" ∷ kind ∷ []) (λ path len. Create t path (unwrap_or len 1)) ws
+    (λ path. (kind, e, inl (refl, refl)))
+    (λ path text n number. (kind, e, inr (text, refl, number)))))))
+create (ended at) = tt
+create (faulty at) = tt
+
+set_without_index : (path first : List ℕ) (ws : Words) → Reads (codes "set" ∷ path ∷ first ∷ []) ws (set_end path first None ws)
+set_without_index path first (word at value ws) = tt
+set_without_index path first (ended at) = ([], refl, inl (refl, refl))
+set_without_index path first (faulty at) = tt
+
+set_with_index : (path first : List ℕ) (n : ℕ) → number_of first ≡ Some n → (ws : Words) → Reads (codes "set" ∷ path ∷ first ∷ []) ws (set_end path first (Some n) ws)
+set_with_index path first n number (word at value ws) =
+    step (codes "set" ∷ path ∷ first ∷ []) at value ws (only (Set path n value) ws)
+    (ends (codes "set" ∷ path ∷ first ∷ value ∷ []) (Set path n value) ws (inr (first, refl, number)))
+set_with_index path first n number (ended at) = ([], refl, inl (refl, refl))
+set_with_index path first n number (faulty at) = tt
+
+set_value : (path first : List ℕ) (ws : Words) → Reads (codes "set" ∷ path ∷ first ∷ []) ws (set_end path first (number_of first) ws)
+set_value path first ws = number_cases first (λ e. rw e (set_without_index path first ws)) (λ n e. rw e (set_with_index path first n e ws))
+
+set : (ws : Words) → Reads (codes "set" ∷ []) ws (set_form ws)
+set (word at path (word next first ws)) =
+    step (codes "set" ∷ []) at path (word next first ws) (set_end path first (number_of first) ws)
+    (step (codes "set" ∷ path ∷ []) next first ws (set_end path first (number_of first) ws) (set_value path first ws))
+set (word at path (ended next)) = tt
+set (word at path (faulty next)) = tt
+set (ended at) = tt
+set (faulty at) = tt
+
+get : (ws : Words) → Reads (codes "get" ∷ []) ws (get_form ws)
+get ws = path_number_ends (codes "get" ∷ []) Get ws (λ path. refl) (λ path text n number. (text, refl, number))
+
+-- the forms that begin with a name
+abbrev Named : ℕ → Words → List ℕ → Type 0
+Named at ws name = Reads [] (word at name ws) (named_form at name ws)
+
+-- a form behind its name
+form : (at : ℕ) (name : List ℕ) (ws : Words) (read : Read Command) → Reads (name ∷ []) ws read → Reads [] (word at name ws) read
+form at name ws read h = step [] at name ws read h
+
+named : (at : ℕ) (name : List ℕ) (ws : Words) → Named at ws name
+unfolding named_form
+named at name ws =
+    text_cases name (codes "events") (λ e. subst (Named at ws) e (form at (codes "events") ws (events_form ws) (events ws))) (λ no_events.
+    text_cases name (codes "start") (λ e. subst (Named at ws) e (form at (codes "start") ws (only Start ws) (ends (codes "start" ∷ []) Start ws refl))) (λ no_start.
+    text_cases name (codes "stop") (λ e. subst (Named at ws) e (form at (codes "stop") ws (only Stop ws) (ends (codes "stop" ∷ []) Stop ws refl))) (λ no_stop.
+    text_cases name (codes "create") (λ e. subst (Named at ws) e (form at (codes "create") ws (create_form ws) (create ws))) (λ no_create.
+    text_cases name (codes "set") (λ e. subst (Named at ws) e (form at (codes "set") ws (set_form ws) (set ws))) (λ no_set.
+    text_cases name (codes "get") (λ e. subst (Named at ws) e (form at (codes "get") ws (get_form ws) (get ws))) (λ no_get.
+    text_cases name (codes "ls") (λ e. subst (Named at ws) e (form at (codes "ls") ws (list_form ws) (path_ends (codes "ls" ∷ []) Ls ws (λ path. refl)))) (λ no_ls.
+    text_cases name (codes "rm") (λ e. subst (Named at ws) e (form at (codes "rm") ws (remove_form ws) (path_ends (codes "rm" ∷ []) Remove ws (λ path. refl)))) (λ no_rm.
+    text_cases name (codes "exit") (λ e. subst (Named at ws) e (form at (codes "exit") ws (only Exit ws) (ends (codes "exit" ∷ []) Exit ws refl))) (λ no_exit.
+    rw (no_events, no_start, no_stop, no_create, no_set, no_get, no_ls, no_rm, no_exit) tt)))))))))
+
+reads : (ws : Words) → Reads [] ws (words_form ws)
+reads (word at name ws) = named at name ws
+reads (ended at) = ([], refl, refl)
+reads (faulty at) = tt
+
+-- From the command to the words.
+
+-- words that begin with a text
+on_word : (P : Words → Type 0) (ws : Words) (text : List ℕ) (texts : List (List ℕ)) → texts_of ws ≡ Some (text ∷ texts)
+    → ((at : ℕ) (rest : Words) → texts_of rest ≡ Some texts → P (word at text rest)) → P ws
+on_word P (word at first rest) text texts h f =
+    elim (texts_of rest) as (λ found. texts_of rest ≡ found → option_map (λ more. first ∷ more) found ≡ Some (text ∷ texts) → P (word at first rest)) [
+      | None ↦ (λ is e. cc)
+      | Some more ↦ (λ is e. let same : first ≡ text = cc in let others : more ≡ texts = cc in subst (λ t. P (word at t rest)) (sym same) (f at rest (is ∙ ap Some others)))
+    ]
+    refl h
+on_word P (ended at) text texts h f = cc
+on_word P (faulty at) text texts h f = cc
+
+on_none : (P : Words → Type 0) (ws : Words) → texts_of ws ≡ Some [] → ((at : ℕ) → P (ended at)) → P ws
+on_none P (word at first rest) h f =
+    elim (texts_of rest) as (λ found. option_map (λ more. first ∷ more) found ≡ Some [] → P (word at first rest)) [ None ↦ (λ e. cc) | Some more ↦ (λ e. cc) ] h
+on_none P (ended at) h f = f at
+on_none P (faulty at) h f = cc
+
+on_one : (P : Words → Type 0) (ws : Words) (a : List ℕ) → texts_of ws ≡ Some (a ∷ []) → ((i j : ℕ) → P (word i a (ended j))) → P ws
+on_one P ws a h f = on_word P ws a [] h (λ i rest r. on_none (λ w. P (word i a w)) rest r (f i))
+
+on_two : (P : Words → Type 0) (ws : Words) (a b : List ℕ) → texts_of ws ≡ Some (a ∷ b ∷ []) → ((i j k : ℕ) → P (word i a (word j b (ended k)))) → P ws
+on_two P ws a b h f = on_word P ws a (b ∷ []) h (λ i rest r. on_one (λ w. P (word i a w)) rest b r (f i))
+
+on_three : (P : Words → Type 0) (ws : Words) (a b c : List ℕ) → texts_of ws ≡ Some (a ∷ b ∷ c ∷ [])
+    → ((i j k l : ℕ) → P (word i a (word j b (word k c (ended l))))) → P ws
+on_three P ws a b c h f = on_word P ws a (b ∷ c ∷ []) h (λ i rest r. on_two (λ w. P (word i a w)) rest b c r (f i))
+
+on_four : (P : Words → Type 0) (ws : Words) (a b c d : List ℕ) → texts_of ws ≡ Some (a ∷ b ∷ c ∷ d ∷ [])
+    → ((i j k l m : ℕ) → P (word i a (word j b (word k c (word l d (ended m)))))) → P ws
+on_four P ws a b c d h f = on_word P ws a (b ∷ c ∷ d ∷ []) h (λ i rest r. on_three (λ w. P (word i a w)) rest b c d r (f i))
+
+-- the words are read as a command
+abbrev AreOf : Command → Words → Type 0
+AreOf command ws = words_form ws ≡ Ok command
+
+-- `DIR` names no type
+no_type : (type : List ℕ) (t : Tid) → type_named type ≡ Some t → is_text type (codes "DIR") ≡ false
+no_type type t named = text_cases type (codes "DIR")
+    (λ same. let nothing : type_named type ≡ None = ap type_named (sym same) ∙ no_directory_type in cc)
+    (λ other. other)
+
+spelled : (ws : Words) (texts : List (List ℕ)) (command : Command) → texts_of ws ≡ Some texts → Spells texts command → AreOf command ws
+unfolding named_form
+spelled ws texts Nothing h is = on_none (AreOf Nothing) ws (h ∙ ap Some is) (λ i. refl)
+spelled ws texts (Events count) h is = on_two (AreOf (Events count)) ws (codes "events") is.0 (h ∙ ap Some is.1) (λ i j k. rw is.2 refl)
+spelled ws texts Start h is = on_one (AreOf Start) ws (codes "start") (h ∙ ap Some is) (λ i j. refl)
+spelled ws texts Stop h is = on_one (AreOf Stop) ws (codes "stop") (h ∙ ap Some is) (λ i j. refl)
+spelled ws texts (Create tid path len) h is = elim is.2 [
+  | inl whole ↦ on_three (AreOf (Create tid path len)) ws (codes "create") is.0 path (h ∙ ap Some whole.0)
+      (λ i j k l. rw (no_type is.0 tid is.1, is.1) (ap (λ n. Ok (Create tid path n)) (sym whole.1)))
+  | inr whole ↦ on_four (AreOf (Create tid path len)) ws (codes "create") is.0 path whole.0 (h ∙ ap Some whole.1)
+      (λ i j k l m. rw (no_type is.0 tid is.1, is.1, whole.2) refl)
+]
+spelled ws texts (CreateDir path) h is = on_three (AreOf (CreateDir path)) ws (codes "create") (codes "DIR") path (h ∙ ap Some is) (λ i j k l. refl)
+spelled ws texts (Set path index value) h is = elim is [
+  | inl whole ↦ on_three (AreOf (Set path index value)) ws (codes "set") path value (h ∙ ap Some whole.0)
+      (λ i j k l. ap (λ n. Ok (Set path n value)) (sym whole.1))
+  | inr whole ↦ on_four (AreOf (Set path index value)) ws (codes "set") path whole.0 value (h ∙ ap Some whole.1) (λ i j k l m. rw whole.2 refl)
+]
+spelled ws texts (Get path None) h is = on_two (AreOf (Get path None)) ws (codes "get") path (h ∙ ap Some is) (λ i j k. refl)
+spelled ws texts (Get path (Some index)) h is = on_three (AreOf (Get path (Some index))) ws (codes "get") path is.0 (h ∙ ap Some is.1) (λ i j k l. rw is.2 refl)
+spelled ws texts (Ls path) h is = on_two (AreOf (Ls path)) ws (codes "ls") path (h ∙ ap Some is) (λ i j k. refl)
+spelled ws texts (Remove path) h is = on_two (AreOf (Remove path)) ws (codes "rm") path (h ∙ ap Some is) (λ i j k. refl)
+spelled ws texts Exit h is = on_one (AreOf Exit) ws (codes "exit") (h ∙ ap Some is) (λ i j. refl)
+
+-- Whole lines.
+
+words_read : (line : List ℕ) → length line ≤ 4096 → starts_with nat_eq line (codes "#") ≡ false → command_of line ≡ words_form (line_words line)
+unfolding command_of
+words_read line fits plain = rw (le-ltb 4096 (length line) fits, plain) refl
+
+pub command_spelled : (line : List ℕ) (command : Command) → length line ≤ 4096 → starts_with nat_eq line (codes "#") ≡ false
+    → (command_of line ≡ Ok command) ↔ Spelled (line_words line) command
+command_spelled line command fits plain =
+    let whole : command_of line ≡ words_form (line_words line) = words_read line fits plain in (
+      (λ read. subst (Reads [] (line_words line)) (sym whole ∙ read) (reads (line_words line))),
+      (λ words. whole ∙ spelled (line_words line) words.0 command words.1 words.2),
+    )
