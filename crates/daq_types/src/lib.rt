@@ -11,6 +11,7 @@ mod memory;
 mod names;
 mod padding;
 mod runs;
+mod steps;
 mod types;
 mod word_list;
 
@@ -21,5 +22,6 @@ pub use journal::Journal;
 pub use memory::NoMemory;
 pub use names::{Name, NameRefusal};
 pub use runs::{ChannelState, Kind, Order, RunState, Transition};
+pub use steps::Steps;
 pub use types::Tid;
 pub use word_list::Words;
