@@ -4,3 +4,4 @@ pub mod NameBack
 pub mod NameFaults
 pub mod Tids
 pub mod Transitions
+pub mod Callers

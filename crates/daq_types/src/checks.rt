@@ -1,5 +1,7 @@
 //! Worked rows of the names, types and lists.
-use crate::{BadFileName, Bytes, FileName, Journal, Name, NameRefusal, Tid, Transition, Words};
+use crate::{
+    BadFileName, Bytes, Caller, FileName, Journal, Name, NameRefusal, Tid, Transition, Words,
+};
 use std::test::Fail;
 
 /// The refusal of a text, if it is no name.
@@ -51,6 +53,13 @@ fn bits_of_transitions(rt: HostRuntime) {
     ] {
         assert_eq!(rt; transition.bit(), bit);
     }
+}
+
+#[test]
+fn numbers_of_callers(rt: HostRuntime) {
+    assert_eq!(rt; Caller::MAIN.number(), 0);
+    assert_eq!(rt; Caller::of_client(0).number(), 1);
+    assert!(rt; Caller::of_client(4) != Caller::of_client(5));
 }
 
 #[test]

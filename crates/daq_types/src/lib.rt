@@ -2,6 +2,7 @@
 #![tactic(auto)]
 
 mod byte_list;
+mod callers;
 #[cfg(test)]
 mod checks;
 mod events;
@@ -16,12 +17,13 @@ mod types;
 mod word_list;
 
 pub use byte_list::Bytes;
+pub use callers::Caller;
 pub use events::Event;
 pub use file_names::{BadFileName, FileName};
 pub use journal::Journal;
 pub use memory::NoMemory;
 pub use names::{Name, NameRefusal};
-pub use runs::{ChannelState, Kind, Order, RunState, Transition};
+pub use runs::{ChannelState, FrontEnded, Kind, Order, RunState, StartOutcome, Transition, Why};
 pub use steps::Steps;
 pub use types::Tid;
 pub use word_list::Words;

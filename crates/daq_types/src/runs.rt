@@ -74,3 +74,36 @@ pub enum ChannelState {
     /// The file was closed without an end record, since the end of the run could not be marked.
     NoMark,
 }
+
+/// How a start ended. Every other transition is completed.
+#[derive(Clone, Copy, Debug, PartialEq, Eq)]
+pub enum StartOutcome {
+    /// Every client took part.
+    Completed,
+    /// This client refused.
+    Refused { client: u32, why: Why },
+}
+
+/// Why a client refused a start.
+#[derive(Clone, Copy, Debug, PartialEq, Eq)]
+pub enum Why {
+    /// It is not made for a run of this order.
+    NotReady,
+    /// The name of this channel's run file was taken.
+    Exists { channel: u32 },
+    /// A call on the run file of this channel failed.
+    Fault { channel: u32 },
+    /// A buffer refused what it was asked for.
+    BufferRefused,
+}
+
+/// Why a front-end sent no more events in a run.
+#[derive(Clone, Copy, Debug, PartialEq, Eq)]
+pub enum FrontEnded {
+    /// It had sent its quota.
+    Quota,
+    /// The run was stopped while it was paused.
+    Paused,
+    /// The buffer takes no more events; `total` is the sum of the slots of all that it ever took.
+    Spent { total: u64 },
+}
