@@ -39,7 +39,7 @@ fn increment<R: Wait>(rt: &R, lock: &Turns<Counter>, pass: &mut Pass<Counter>) -
     ensures own { IsOf lock.now pass.new }
     ensures idle { held_by pass.new ≡ None }
     ensures number { number_of pass.new ≡ number_of pass.old }
-    ensures mine { own_entries pass.new ≡ own_entries pass.old ++ (number_of pass.old, result) ∷ [] }
+    ensures mine { own_entries pass.new ≡ own_entries pass.old ++ result ∷ [] }
 {
     let mut held = lock.take(rt, pass);
     let found = held.value.count;

@@ -68,7 +68,7 @@ module _ {M D E : Type 0} {g : _} where
     pub items : all ≡ left ++ done
     pub absorbed : All (Absorbs zero_pass) done
 
-  Absorbs-later : (before after : Pass M D E g) (more : List (ℕ × List (ℕ × E))) → IsPrefix (seen_by before) (seen_by after) → after.seat.me.0.pairs ≡ before.seat.me.0.pairs ++ more → (pass : Pass M D E g) → Absorbs before pass → Absorbs after pass
+  Absorbs-later : (before after : Pass M D E g) (more : List (ℕ × List E)) → IsPrefix (seen_by before) (seen_by after) → after.seat.me.0.pairs ≡ before.seat.me.0.pairs ++ more → (pass : Pass M D E g) → Absorbs before pass → Absorbs after pass
   Absorbs-later before after more seen pairs pass a = record {
     begins = prefix_through (seen_by pass) (seen_by before) (seen_by after) a.begins seen;
     pair = (a.pair.0, rw pairs (at_longer before.seat.me.0.pairs more a.pair.0 (number_of pass, own_entries pass) a.pair.1));
@@ -78,7 +78,7 @@ module _ {M D E : Type 0} {g : _} where
       → IsOf lock after → number_of after ≡ number_of before → held_by after ≡ held_by before → IsPrefix (seen_by before) (seen_by after) → IsPrefix (seen_by pass) (seen_by after) → own_entries after ≡ own_entries before
       → after.seat.me.0.pairs ≡ before.seat.me.0.pairs ++ pair_of pass.seat.me.0.number pass.seat.me.0.seen → Absorbing lock start after all left
   Absorbing-join lock start before after pass all left a own number held seen met mine pairs =
-      let more : List (ℕ × List (ℕ × E)) = pair_of pass.seat.me.0.number pass.seat.me.0.seen in
+      let more : List (ℕ × List E) = pair_of pass.seat.me.0.number pass.seat.me.0.seen in
       let mine_pass : Absorbs after pass = record { begins = met; pair = (length before.seat.me.0.pairs, rw pairs (pair_stands before.seat.me.0.pairs pass.seat.me.0.number pass.seat.me.0.seen pass.number pass.is)) } in record {
         own = own;
         number = number ∙ a.number;

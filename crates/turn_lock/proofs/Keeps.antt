@@ -14,12 +14,13 @@ use Rattle.atomic_table.specs.Table.{State, Me, keeps, takes, gives, stepped, Al
 use Rattle.atomic_table.specs.Table as table
 use Rattle.atomic_table.proofs.Lists.{at_set, set_here, set_else, at_longer}
 use Rattle.turn_lock.specs.declared.rule.View.{View}
-use Rattle.turn_lock.specs.History.{entries_of, Leads}
+use Rattle.daq_types.specs.Callers.{entries_by}
+use Rattle.turn_lock.specs.History.{Leads}
 use Rattle.turn_lock.specs.Views.{first_view, holding_view, idle_view, missed_view, counted_view, giver_view, given_view, note_view, joined_view, spent_view, pair_of, longer, takes_turn, counts, Counted, frees, looks, Agrees, Settles}
 use Rattle.turn_lock.specs.Protocol.{IsPaired, Fits, IsLaid, Holds, IsLock}
 use Rattle.turn_lock.specs.Laws.{prefix_self, prefix_more, longer_along, longer_first, longer_second, at_within, at_end, entries_added, rest_none, entries_between, none_before, whole_history, leads_further, pair_stands}
 
-module _ {S D E : Type 0} (state_of : S → D) (step : D → ℕ → E → D → Type 0) (first : D) where
+module _ {S D E : Type 0} (state_of : S → D) (step : D → ℕ → E → D → Type 0) (first : D) (passes : ℕ) where
   abbrev V : Type 0
   V = View D E
 
@@ -33,10 +34,10 @@ module _ {S D E : Type 0} (state_of : S → D) (step : D → ℕ → E → D →
   History = List (ℕ × E)
 
   abbrev Rule : St → Type 0
-  Rule = IsLock state_of step first
+  Rule = IsLock state_of step first passes
 
   abbrev Fit : History → ℕ → (ℕ → ℕ) → ℕ → ℕ → V → Type 0
-  Fit = Fits step first
+  Fit = Fits step first passes
 
   abbrev turn : St → ℕ
   turn s = get_or s.words 0 0
@@ -73,6 +74,7 @@ module _ {S D E : Type 0} (state_of : S → D) (step : D → ℕ → E → D →
       → ((d : D) → kept ≡ Some d → (v.number ≡ Some t') × Leads step first h d) → Fit h g o t' j (record v { kept = kept; found = found })
   refit h g o t t' j v kept found f holding = record {
     start = f.start;
+    passes = f.passes;
     seen = f.seen;
     met = f.met;
     numbered = f.numbered;
@@ -89,6 +91,7 @@ module _ {S D E : Type 0} (state_of : S → D) (step : D → ℕ → E → D →
       → (v.number ≡ Some 0 → next ≡ g') → Fit h g o t j v → Fit h g' o' t j (record v { next = next })
   renumbered h g g' o o' t j v next to back up f = record {
     start = f.start;
+    passes = f.passes;
     seen = f.seen;
     met = f.met;
     numbered = λ n e. let m = f.numbered n e in to n m.0 m.1;
@@ -107,6 +110,7 @@ module _ {S D E : Type 0} (state_of : S → D) (step : D → ℕ → E → D →
     history = r.history;
     given = r.given;
     some_given = r.some_given;
+    within = r.within;
     few = r.few;
     owner = r.owner;
     owned = λ n l. subst (λ z. r.owner n < z) (sym (length-set s.views id w)) (r.owned n l);
@@ -129,6 +133,7 @@ module _ {S D E : Type 0} (state_of : S → D) (step : D → ℕ → E → D →
         history = r.history;
         given = r.given;
         some_given = r.some_given;
+        within = r.within;
         few = r.few;
         owner = r.owner;
         owned = λ n l. subst (λ z. r.owner n < z) (sym (length-set s.views id w)) (r.owned n l);
@@ -164,6 +169,7 @@ module _ {S D E : Type 0} (state_of : S → D) (step : D → ℕ → E → D →
           λ _. (
             omega arith,
             (λ own. none-some h.1.1 (sym idle ∙ (ap (λ (z : V). z.kept) (same_seat s.views id h.0 v h.1.0 (one_seat s r x id h.0 v h.1.0 at h.1.2 own h.1.3.0) at h.1.2) ∙ h.1.3.1))),
+            (λ n n_is. let all = (r.each id v at).passes n n_is in let within = r.within in omega arith),
             refl,
           ),
         ),
@@ -171,8 +177,9 @@ module _ {S D E : Type 0} (state_of : S → D) (step : D → ℕ → E → D →
 
   -- count
   counts_fit : (h : History) (g : ℕ) (o : ℕ → ℕ) (t n j : ℕ) (e : E) (v : V) → (o n ≢ j) → (v.number ≢ Some t) → Fit h g o t j v → Fit (h ++ (n, e) ∷ []) g o t j v
-  counts_fit h g o t n j e v apart not_mine f = let same : (m : ℕ) → o m ≡ j → entries_of m h ≡ entries_of m (h ++ (n, e) ∷ []) = λ m is. sym (entries_added n m e h (λ q. apart (ap o (sym q) ∙ is))) in record {
+  counts_fit h g o t n j e v apart not_mine f = let same : (m : ℕ) → o m ≡ j → entries_by m h ≡ entries_by m (h ++ (n, e) ∷ []) = λ m is. sym (entries_added n m e h (λ q. apart (ap o (sym q) ∙ is))) in record {
     start = f.start;
+    passes = f.passes;
     seen = prefix_more v.seen h ((n, e) ∷ []) f.seen;
     met = λ k l at. prefix_more l h ((n, e) ∷ []) (f.met k l at);
     numbered = f.numbered;
@@ -187,6 +194,7 @@ module _ {S D E : Type 0} (state_of : S → D) (step : D → ℕ → E → D →
   counts_mine : (h : History) (g : ℕ) (o : ℕ → ℕ) (n id : ℕ) (e : E) (v : V) (d : D) → v.number ≡ Some n → Leads step first (h ++ (n, e) ∷ []) d → Fit h g o n id v → Fit (h ++ (n, e) ∷ []) g o n id (counted_view v (h ++ (n, e) ∷ []) d)
   counts_mine h g o n id e v d number leads f = record {
     start = f.start;
+    passes = f.passes;
     seen = prefix_self (h ++ (n, e) ∷ []);
     met = λ k l at. prefix_more l h ((n, e) ∷ []) (f.met k l at);
     numbered = f.numbered;
@@ -210,10 +218,11 @@ module _ {S D E : Type 0} (state_of : S → D) (step : D → ℕ → E → D →
         history = h';
         given = r.given;
         some_given = r.some_given;
+        within = r.within;
         few = r.few;
         owner = r.owner;
         owned = λ m l. subst (λ z. r.owner m < z) (sym (length-set s.views id w)) (r.owned m l);
-        known = λ m l. entries_added n m e h (λ q. omega arith) ∙ subst (λ (z : History). entries_of m z ≡ []) is (r.known m l);
+        known = λ m l. entries_added n m e h (λ q. omega arith) ∙ subst (λ (z : History). entries_by m z ≡ []) is (r.known m l);
         two = length-set s.words 1 x ∙ two;
         count = get_or-set_same s.words 1 x 0 (omega arith) ∙ (ap (λ (z : ℕ). (z + 1) % 2 ^ 64) (r.count ∙ ap (λ (z : History). length z % 2 ^ 64) is) ∙ (mod-add-mod (length h) (2 ^ 64) 1 ∙ ap (λ (z : ℕ). z % 2 ^ 64) (sym (length-append h ((n, e) ∷ [])))));
         each = subst (λ (z : ℕ). (j : ℕ) (y : V) → get_elem? (set s.views id w) j ≡ some y → Fit h' r.given r.owner z j y) (sym (still ∙ mine))
@@ -230,9 +239,12 @@ module _ {S D E : Type 0} (state_of : S → D) (step : D → ℕ → E → D →
       let is : r.history ≡ h = sym fit.seen.1 in let w : V = counted_view v (h ++ (n, e) ∷ []) d in let own = fit.numbered n number in
       let told : Counted step n e d v w = record {
         others = others;
-        foreign = rest_none n v.seen others (ap (entries_of n) fit.seen.1 ∙ fit.silent n own.0 own.1);
+        foreign = rest_none n v.seen others (ap (entries_by n) fit.seen.1 ∙ fit.silent n own.0 own.1);
         view = refl;
-        legal = λ x x_is. leads_further step x c d h n e (subst (λ (z : D × History). Leads step z.0 z.1 c) (λ i. (sym (fit.start x x_is) i, is i)) (fit.holding c kept).1) go;
+        led = λ x y x_is y_is. let held : c ≡ y = same_Some _ _ (sym kept ∙ y_is) in (
+          subst (λ (z : D × (History × D)). Leads step z.0 z.1.0 z.1.1) (λ i. (sym (fit.start x x_is) i, (is i, held i))) (fit.holding c kept).1,
+          subst (λ z. step z n e d) held go,
+        );
       } in (
         w,
         keeps,
@@ -257,6 +269,7 @@ module _ {S D E : Type 0} (state_of : S → D) (step : D → ℕ → E → D →
           history = r.history;
           given = r.given;
           some_given = r.some_given;
+          within = r.within;
           few = r.few;
           owner = r.owner;
           owned = λ n l. subst (λ z. r.owner n < z) (sym (length-set s.views id w)) (r.owned n l);
@@ -290,9 +303,10 @@ module _ {S D E : Type 0} (state_of : S → D) (step : D → ℕ → E → D →
   no_more : {A : Type 0} (k : ℕ) (a : A) → get_elem? [] k ≡ some a → ⊥
   no_more k a e = some-ne-none a (sym e)
 
-  opens_fit : (v : V) → v ≡ first_view first → Fit [] 1 (λ _. 0) 256 0 v
+  opens_fit : (v : V) → v ≡ first_view first passes → Fit [] 1 (λ _. 0) 256 0 v
   opens_fit v is = subst (Fit [] 1 (λ _. 0) 256 0) (sym is) record {
     start = λ x e. sym (same_Some _ _ e);
+    passes = λ n e. sym (same_Some _ _ e);
     seen = ([], refl);
     met = λ k l at. absurd (no_more k l at);
     numbered = λ n e. let z : 0 ≡ n = same_Some _ _ e in (omega arith, refl);
@@ -304,15 +318,16 @@ module _ {S D E : Type 0} (state_of : S → D) (step : D → ℕ → E → D →
     pairs = λ k p at. absurd (no_more k p at);
   }
 
-  opens_each : (j : ℕ) (v : V) → get_elem? (first_view first ∷ []) j ≡ some v → Fit [] 1 (λ _. 0) 256 j v
-  opens_each zero v e = opens_fit v (sym (some-injective (first_view first) v e))
+  opens_each : (j : ℕ) (v : V) → get_elem? (first_view first passes ∷ []) j ≡ some v → Fit [] 1 (λ _. 0) 256 j v
+  opens_each zero v e = opens_fit v (sym (some-injective (first_view first passes) v e))
   opens_each (suc j) v e = absurd (no_more j v e)
 
-  pub opens : (y : S) → state_of y ≡ first → Rule (table.opening (256 ∷ 0 ∷ []) (Some y ∷ []) (first_view first))
-  opens y is = record {
+  pub opens : (y : S) → state_of y ≡ first → 0 < passes → Rule (table.opening (256 ∷ 0 ∷ []) (Some y ∷ []) (first_view first passes))
+  opens y is some_passes = record {
     history = [];
     given = 1;
     some_given = omega arith;
+    within = omega arith;
     few = omega arith;
     owner = λ _. 0;
     owned = λ n l. omega arith;
@@ -331,14 +346,15 @@ module _ {S D E : Type 0} (state_of : S → D) (step : D → ℕ → E → D →
       (λ (a : (j ≡ length vs) × (w ≡ v)). subst (λ (x : ℕ × V). Fit h g o t x.0 x.1) (λ i. (sym a.0 i, a.1 i)) new) (at_end vs w v j e)
 
   -- one seat more, which holds nothing
-  grown : (s : St) (r : Rule s) (id : ℕ) (v left right : V) (g : ℕ) (o : ℕ → ℕ) → get_elem? s.views id ≡ some v → left.number ≡ v.number → left.kept ≡ v.kept → 0 < g → g ≤ 256
-      → ((n : ℕ) → n < g → o n < length s.views + 1) → ((n : ℕ) → g ≤ n → entries_of n r.history ≡ [])
+  grown : (s : St) (r : Rule s) (id : ℕ) (v left right : V) (g : ℕ) (o : ℕ → ℕ) → get_elem? s.views id ≡ some v → left.number ≡ v.number → left.kept ≡ v.kept → 0 < g → g ≤ passes → g ≤ 256
+      → ((n : ℕ) → n < g → o n < length s.views + 1) → ((n : ℕ) → g ≤ n → entries_by n r.history ≡ [])
       → ((j : ℕ) (x : V) → get_elem? (set s.views id left) j ≡ some x → Fit r.history g o (turn s) j x) → Fit r.history g o (turn s) (length (set s.views id left)) right
       → Rule record { words = s.words; homes = s.homes; views = set s.views id left ++ right ∷ [] }
-  grown s r id v left right g o at number kept some_given few owned known old new = record {
+  grown s r id v left right g o at number kept some_given within few owned known old new = record {
     history = r.history;
     given = g;
     some_given = some_given;
+    within = within;
     few = few;
     owner = o;
     owned = λ n l. subst (λ z. o n < z) (sym (length-append (set s.views id left) (right ∷ []) ∙ ap (λ z. z + 1) (length-set s.views id left))) (owned n l);
@@ -353,10 +369,11 @@ module _ {S D E : Type 0} (state_of : S → D) (step : D → ℕ → E → D →
 
   pub splits_note : (id : ℕ) (v : V) → Splits Rule id v v (note_view v)
   splits_note id v s r at = let fit = r.each id v at in let size = length-set s.views id v in
-      grown s r id v v (note_view v) r.given r.owner at refl refl r.some_given r.few (λ n l. let m = r.owned n l in omega arith) r.known
+      grown s r id v v (note_view v) r.given r.owner at refl refl r.some_given r.within r.few (λ n l. let m = r.owned n l in omega arith) r.known
       (seats_stay (Fit r.history r.given r.owner (turn s)) s.views id v fit (λ j x _ e. r.each j x e))
       record {
         start = fit.start;
+        passes = fit.passes;
         seen = fit.seen;
         met = λ k l e. absurd (no_more k l e);
         numbered = λ n e. absurd (none-some n e);
@@ -382,11 +399,12 @@ module _ {S D E : Type 0} (state_of : S → D) (step : D → ℕ → E → D →
   splits_given s r id v k new at next = let g = r.given in let o = r.owner in let fit = r.each id v at in let last : (n : ℕ) → n < g + 1 → with_owner o g k n ≡ k → n ≡ g = λ n l e. dite (ℕ_discrete n g) (λ is. is)
       (λ other. absurd (let m = r.owned n (omega arith) in let q = owner_else o g k n other in omega arith)) in let known = r.known g (omega arith) in record {
         start = fit.start;
+        passes = fit.passes;
         seen = fit.seen;
         met = λ k l e. absurd (no_more k l e);
         numbered = λ n e. let is : v.next ≡ n = same_Some _ _ e in (omega arith, subst (λ z. with_owner o g k z ≡ k) (sym next ∙ is) (owner_here o g k));
         answers = λ n l e. inl (ap (λ z. Some z) (next ∙ sym (last n l e)));
-        silent = λ n l e. subst (λ z. entries_of z r.history ≡ entries_of z v.seen) (sym (last n l e)) (known ∙ sym (none_before g v.seen r.history fit.seen known));
+        silent = λ n l e. subst (λ z. entries_by z r.history ≡ entries_by z v.seen) (sym (last n l e)) (known ∙ sym (none_before g v.seen r.history fit.seen known));
         whole = λ n l e w. absurd (none-some l w);
         holding = λ d e. absurd (none-some d e);
         next = λ e. absurd (let is : v.next ≡ 0 = same_Some _ _ e in let some_given = r.some_given in omega arith);
@@ -401,10 +419,10 @@ module _ {S D E : Type 0} (state_of : S → D) (step : D → ℕ → E → D →
       (λ other. (omega arith, sym (owner_else o g k n other) ∙ e)))
       up (r.each j x there)
 
-  pub splits_pass : (id : ℕ) (v : V) → v.number ≡ Some 0 → v.next < 256 → Splits Rule id v (giver_view v) (given_view v)
-  splits_pass id v zero_is room s r at = let fit = r.each id v at in let next : v.next ≡ r.given = fit.next zero_is in let size = length-set s.views id (giver_view v) in let k : ℕ = length (set s.views id (giver_view v)) in
+  pub splits_pass : (id : ℕ) (v : V) → v.number ≡ Some 0 → v.passes ≡ Some passes → v.next < passes → passes ≤ 256 → Splits Rule id v (giver_view v) (given_view v)
+  splits_pass id v zero_is all room few s r at = let fit = r.each id v at in let next : v.next ≡ r.given = fit.next zero_is in let size = length-set s.views id (giver_view v) in let k : ℕ = length (set s.views id (giver_view v)) in
       let g = r.given in let o' = with_owner r.owner g k in
-      grown s r id v (giver_view v) (given_view v) (g + 1) o' at refl refl (omega arith) (omega arith)
+      grown s r id v (giver_view v) (given_view v) (g + 1) o' at refl refl (omega arith) (omega arith) (omega arith)
       (λ n l. dite (ℕ_discrete n g) (λ is. let q : o' n ≡ k = subst (λ z. o' z ≡ k) (sym is) (owner_here r.owner g k) in omega arith)
       (λ other. let q = owner_else r.owner g k n other in let m = r.owned n (omega arith) in omega arith))
       (λ n l. r.known n (omega arith))
@@ -431,10 +449,10 @@ module _ {S D E : Type 0} (state_of : S → D) (step : D → ℕ → E → D →
   met_joined P a b l pa pb pl (suc zero) x e = subst P (some-injective b x e) pb
   met_joined P a b l pa pb pl (suc (suc k)) x e = pl k x e
 
-  pairs_joined : (P : ℕ × History → Type 0) (l : List (ℕ × History)) (number : Option ℕ) (seen : History) → ((k : ℕ) (p : ℕ × History) → get_elem? l k ≡ some p → P p) → ((n : ℕ) → number ≡ Some n → P (n, entries_of n seen))
-      → (k : ℕ) (p : ℕ × History) → get_elem? (l ++ pair_of number seen) k ≡ some p → P p
-  pairs_joined P l None seen old new k p e = old k p (subst (λ (z : List (ℕ × History)). get_elem? z k ≡ some p) (append-nil l) e)
-  pairs_joined P l (Some n) seen old new k p e = ⊎_elim (λ (a : get_elem? l k ≡ some p). old k p a) (λ (a : (k ≡ length l) × ((n, entries_of n seen) ≡ p)). subst P a.1 (new n refl)) (at_end l (n, entries_of n seen) p k e)
+  pairs_joined : (P : ℕ × List E → Type 0) (l : List (ℕ × List E)) (number : Option ℕ) (seen : History) → ((k : ℕ) (p : ℕ × List E) → get_elem? l k ≡ some p → P p) → ((n : ℕ) → number ≡ Some n → P (n, entries_by n seen))
+      → (k : ℕ) (p : ℕ × List E) → get_elem? (l ++ pair_of number seen) k ≡ some p → P p
+  pairs_joined P l None seen old new k p e = old k p (subst (λ (z : List (ℕ × List E)). get_elem? z k ≡ some p) (append-nil l) e)
+  pairs_joined P l (Some n) seen old new k p e = ⊎_elim (λ (a : get_elem? l k ≡ some p). old k p a) (λ (a : (k ≡ length l) × ((n, entries_by n seen) ≡ p)). subst P a.1 (new n refl)) (at_end l (n, entries_by n seen) p k e)
 
   module _ (s : St) (r : Rule s) (id other : ℕ) (v w : V) (at : get_elem? s.views id ≡ some v) (apart : other ≢ id) (there : get_elem? s.views other ≡ some w) (asked : (w.number ≡ None) ⊎ (v.number ≡ Some 0)) where
     abbrev o' : ℕ → ℕ
@@ -449,11 +467,12 @@ module _ {S D E : Type 0} (state_of : S → D) (step : D → ℕ → E → D →
     joined_fit : Fit r.history r.given o' (turn s) id (joined_view v w)
     joined_fit = let fv = r.each id v at in let fw = r.each other w there in let h = r.history in record {
       start = fv.start;
+      passes = fv.passes;
       seen = joined_seen;
       met = met_joined (λ z. IsPrefix z h) v.seen w.seen v.met fv.seen fw.seen fv.met;
       numbered = λ n e. let m = fv.numbered n e in (m.0, owner_stays r.owner id other n (λ q. apart (sym q ∙ m.1)) ∙ m.1);
       answers = λ n l e. ⊎_elim
-          (λ (a : (r.owner n ≡ other) × (id ≡ id)). ⊎_elim (λ (is : w.number ≡ Some n). inr (length v.pairs, (n, entries_of n w.seen), pair_stands v.pairs w.number w.seen n is, refl))
+          (λ (a : (r.owner n ≡ other) × (id ≡ id)). ⊎_elim (λ (is : w.number ≡ Some n). inr (length v.pairs, (n, entries_by n w.seen), pair_stands v.pairs w.number w.seen n is, refl))
           (λ (p : IsPaired n w.pairs). absurd (not_zero (fw.pairs p.0 p.1 p.2).0)) (fw.answers n l a.0))
           (λ (a : (r.owner n ≢ other) × (r.owner n ≡ id)). ⊎_elim (λ (is : v.number ≡ Some n). inl is)
           (λ (p : IsPaired n v.pairs). inr (p.0, p.1, at_longer v.pairs (pair_of w.number w.seen) p.0 p.1 p.2, p.3)) (fv.answers n l a.1))
@@ -462,10 +481,10 @@ module _ {S D E : Type 0} (state_of : S → D) (step : D → ℕ → E → D →
           (λ (a : (r.owner n ≡ other) × (id ≡ id)). entries_between n w.seen (longer v.seen w.seen) h (longer_second v.seen w.seen h fv.seen fw.seen) joined_seen (fw.silent n l a.0))
           (λ (a : (r.owner n ≢ other) × (r.owner n ≡ id)). entries_between n v.seen (longer v.seen w.seen) h (longer_first v.seen w.seen h fv.seen fw.seen) joined_seen (fv.silent n l a.1))
           (owner_cases r.owner id other n id e);
-      whole = λ n l is w_is. let m = fv.numbered n is in fv.silent n m.0 m.1 ∙ ap (entries_of n) (same_Some v.seen l w_is);
+      whole = λ n l is w_is. let m = fv.numbered n is in fv.silent n m.0 m.1 ∙ ap (entries_by n) (same_Some v.seen l w_is);
       holding = fv.holding;
       next = fv.next;
-      pairs = pairs_joined (λ p. (v.number ≡ Some 0) × ((0 < p.0) × ((p.0 < r.given) × ((o' p.0 ≡ id) × (p.1 ≡ entries_of p.0 h))))) v.pairs w.number w.seen
+      pairs = pairs_joined (λ p. (v.number ≡ Some 0) × ((0 < p.0) × ((p.0 < r.given) × ((o' p.0 ≡ id) × (p.1 ≡ entries_by p.0 h))))) v.pairs w.number w.seen
           (λ k p e. let m = fv.pairs k p e in let own = m.1.1.1.0 in (m.0, (m.1.0, (m.1.1.0, (owner_stays r.owner id other p.0 (λ q. apart (sym q ∙ own)) ∙ own, m.1.1.1.1)))))
           (λ n is. let m = fw.numbered n is in (
             ⊎_elim (λ (none : w.number ≡ None). absurd (none-some n (sym none ∙ is))) (λ (zero_is : v.number ≡ Some 0). zero_is) asked,
@@ -476,6 +495,7 @@ module _ {S D E : Type 0} (state_of : S → D) (step : D → ℕ → E → D →
     spent_fit : Fit r.history r.given o' (turn s) other spent_view
     spent_fit = let never : (n : ℕ) → o' n ≡ other → ⊥ = λ n e. ⊎_elim (λ (a : (r.owner n ≡ other) × (other ≡ id)). apart a.1) (λ (a : (r.owner n ≢ other) × (r.owner n ≡ other)). a.0 a.1) (owner_cases r.owner id other n other e) in record {
       start = λ x e. absurd (none-some x e);
+      passes = λ n e. absurd (none-some n e);
       seen = (r.history, refl);
       met = λ k l e. absurd (no_more k l e);
       numbered = λ n e. absurd (none-some n e);
@@ -498,6 +518,7 @@ module _ {S D E : Type 0} (state_of : S → D) (step : D → ℕ → E → D →
       history = r.history;
       given = r.given;
       some_given = r.some_given;
+      within = r.within;
       few = r.few;
       owner = o';
       owned = λ n l. subst (λ z. o' n < z) (sym (length-set vs other spent_view ∙ length-set s.views id both))
@@ -540,13 +561,13 @@ module _ {S D E : Type 0} (state_of : S → D) (step : D → ℕ → E → D →
       f.1,
       record {
         legal = subst (λ (z : History). Leads step first z (state_of f.0)) (sym seen_all) f.2;
-        pairs = λ k p e. (fit.pairs k p e).1.1.1.1 ∙ ap (entries_of p.0) (sym seen_all);
-        known = λ n l. ap (entries_of n) seen_all ∙ r.known n (let e = all_given in omega arith);
+        pairs = λ k p e. (fit.pairs k p e).1.1.1.1 ∙ ap (entries_by p.0) (sym seen_all);
+        known = λ n l. ap (entries_by n) seen_all ∙ r.known n (let e = all_given in omega arith);
       },
     )
 
 -- what a join and the look behind it tell
 pub joined_tells : {D E : Type 0} (v w : View D E) (n : ℕ) → v.number ≡ Some n → Agrees (joined_view v w)
-    → IsPrefix v.seen (longer v.seen w.seen) × (IsPrefix w.seen (longer v.seen w.seen) × (entries_of n (longer v.seen w.seen) ≡ entries_of n v.seen))
+    → IsPrefix v.seen (longer v.seen w.seen) × (IsPrefix w.seen (longer v.seen w.seen) × (entries_by n (longer v.seen w.seen) ≡ entries_by n v.seen))
 joined_tells v w n number a = let first = a.met 0 v.seen refl in let second = a.met 1 w.seen refl in
     (longer_first v.seen w.seen a.history first second, (longer_second v.seen w.seen a.history first second, sym (a.own n number) ∙ a.whole n v.seen number refl))

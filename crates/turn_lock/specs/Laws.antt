@@ -2,7 +2,7 @@
 use Rattle.std.proofs.Common.{◌≡◌, ◌≢◌, ◌⊎◌, ℕ, zero, suc, ◌+◌, ◌<◌, ◌≤◌, List, [], ◌∷◌, ◌++◌, length, get_or, drop, sym, refl, ap, ◌∙◌, subst, inl, inr, ⊎_elim, arith, Option, Some, eq-eqb, ne_eqb}
 use Rattle.std.proofs.lemmas.List.{append-nil, append_assoc, append_cancel_left}
 use Rattle.std.proofs.lemmas.Bool.{le-leb, lt-leb}
-use Rattle.std.proofs.lemmas.List.Elements.{filter-append, All-nil, All-cons, All-head, All-tail}
+use Rattle.std.proofs.lemmas.List.Elements.{All-nil, All-cons, All-head, All-tail}
 use Rattle.std.specs.Prelude.{All, ◌==◌}
 use mathlib.Core.List.{IsPrefix}
 use mathlib.Core.Logic.{dite}
@@ -10,7 +10,8 @@ use mathlib.Core.Option.{none, some, some-ne-none}
 use native.Mathlib.Decide.{ℕ_discrete, dec_le}
 use lib.ListN.{get_elem?}
 use Rattle.atomic_table.proofs.Lists.{at_last}
-use Rattle.turn_lock.specs.History.{entries_of, entries_below, Leads}
+use Rattle.daq_types.specs.Callers.{entries_by, entries_by-append, entries_by-own, entries_by-other}
+use Rattle.turn_lock.specs.History.{entries_below, Leads, EndsInStep}
 use Rattle.turn_lock.specs.Views.{longer, pair_of}
 
 module _ {A : Type 0} where
@@ -82,69 +83,60 @@ below_nil E zero = refl
 below_nil E (suc n) = let r = below_nil E n in omega arith
 
 module _ {E : Type 0} where
-  pub entries-append : (n : ℕ) (xs ys : List (ℕ × E)) → entries_of n (xs ++ ys) ≡ entries_of n xs ++ entries_of n ys
-  entries-append n xs ys = filter-append (λ e. e.0 == n) xs ys
-
-  pub entries_here : (n : ℕ) (e : E) → entries_of n ((n, e) ∷ []) ≡ (n, e) ∷ []
-  entries_here n e = rw (eq-eqb n n refl) refl
-
-  pub entries_else : (n m : ℕ) (e : E) → m ≢ n → entries_of m ((n, e) ∷ []) ≡ []
-  entries_else n m e other = rw (ne_eqb n m (λ (z : n ≡ m). other (sym z))) refl
-
   -- where the longer list has no more entries of a number, the rest has none
-  pub rest_none : (n : ℕ) (xs ys : List (ℕ × E)) → entries_of n (xs ++ ys) ≡ entries_of n xs → entries_of n ys ≡ []
-  rest_none n xs ys e = append_cancel_left (entries_of n xs) (entries_of n ys) [] (sym (entries-append n xs ys) ∙ (e ∙ sym (append-nil (entries_of n xs))))
+  pub rest_none : (n : ℕ) (xs ys : List (ℕ × E)) → entries_by n (xs ++ ys) ≡ entries_by n xs → entries_by n ys ≡ []
+  rest_none n xs ys e = append_cancel_left (entries_by n xs) (entries_by n ys) [] (sym (entries_by-append n xs ys) ∙ (e ∙ sym (append-nil (entries_by n xs))))
 
   -- nor has a list between the two
-  pub entries_between : (n : ℕ) (xs ys history : List (ℕ × E)) → IsPrefix xs ys → IsPrefix ys history → entries_of n history ≡ entries_of n xs → entries_of n history ≡ entries_of n ys
+  pub entries_between : (n : ℕ) (xs ys history : List (ℕ × E)) → IsPrefix xs ys → IsPrefix ys history → entries_by n history ≡ entries_by n xs → entries_by n history ≡ entries_by n ys
   unfolding prefix_through
   entries_between n xs ys history a b e = let all = prefix_through xs ys history a b in
-      let none : entries_of n (a.0 ++ b.0) ≡ [] = rest_none n xs (a.0 ++ b.0) (ap (entries_of n) all.1 ∙ e) in
-      let behind : entries_of n b.0 ≡ [] = nil_right (entries_of n a.0) (entries_of n b.0) (sym (entries-append n a.0 b.0) ∙ none) in
-      ap (entries_of n) (sym b.1) ∙ (entries-append n ys b.0 ∙ (ap (λ z. entries_of n ys ++ z) behind ∙ append-nil (entries_of n ys)))
+      let none : entries_by n (a.0 ++ b.0) ≡ [] = rest_none n xs (a.0 ++ b.0) (ap (entries_by n) all.1 ∙ e) in
+      let behind : entries_by n b.0 ≡ [] = nil_right (entries_by n a.0) (entries_by n b.0) (sym (entries_by-append n a.0 b.0) ∙ none) in
+      ap (entries_by n) (sym b.1) ∙ (entries_by-append n ys b.0 ∙ (ap (λ z. entries_by n ys ++ z) behind ∙ append-nil (entries_by n ys)))
 
   -- an entry of another number changes nothing for a number
-  pub entries_added : (n m : ℕ) (e : E) (xs : List (ℕ × E)) → m ≢ n → entries_of m (xs ++ (n, e) ∷ []) ≡ entries_of m xs
-  entries_added n m e xs other = entries-append m xs ((n, e) ∷ []) ∙ (ap (λ z. entries_of m xs ++ z) (entries_else n m e other) ∙ append-nil (entries_of m xs))
+  pub entries_added : (n m : ℕ) (e : E) (xs : List (ℕ × E)) → m ≢ n → entries_by m (xs ++ (n, e) ∷ []) ≡ entries_by m xs
+  entries_added n m e xs other = entries_by-other m n xs e (λ z. other (sym z))
 
   -- a number that has no entry in the history has none in a beginning of it
-  pub none_before : (n : ℕ) (xs history : List (ℕ × E)) → IsPrefix xs history → entries_of n history ≡ [] → entries_of n xs ≡ []
-  none_before n xs history a e = nil_left (entries_of n xs) (entries_of n a.0) (sym (entries-append n xs a.0) ∙ (ap (entries_of n) a.1 ∙ e))
+  pub none_before : (n : ℕ) (xs history : List (ℕ × E)) → IsPrefix xs history → entries_by n history ≡ [] → entries_by n xs ≡ []
+  none_before n xs history a e = nil_left (entries_by n xs) (entries_by n a.0) (sym (entries_by-append n xs a.0) ∙ (ap (entries_by n) a.1 ∙ e))
 
-  some_entry : (x : ℕ × E) (xs : List (ℕ × E)) → entries_of x.0 (x ∷ xs) ≡ [] → ⊥
-  some_entry x xs h = let l : length (entries_of x.0 (x ∷ xs)) ≡ 0 = ap length h in
-      let b : entries_of x.0 (x ∷ xs) ≡ x ∷ entries_of x.0 xs = rw (eq-eqb x.0 x.0 refl) refl in
-      let m : length (x ∷ entries_of x.0 xs) ≡ 0 = ap length (sym b) ∙ l in omega arith
+  some_entry : (x : ℕ × E) (xs : List (ℕ × E)) → entries_by x.0 (x ∷ xs) ≡ [] → ⊥
+  some_entry x xs h = let l : length (entries_by x.0 (x ∷ xs)) ≡ 0 = ap length h in
+      let b : entries_by x.0 (x ∷ xs) ≡ x.1 ∷ entries_by x.0 xs = rw (eq-eqb x.0 x.0 refl) refl in
+      let m : length (x.1 ∷ entries_by x.0 xs) ≡ 0 = ap length (sym b) ∙ l in omega arith
 
-  no_entries : (xs : List (ℕ × E)) → ((n : ℕ) → entries_of n xs ≡ []) → xs ≡ []
+  no_entries : (xs : List (ℕ × E)) → ((n : ℕ) → entries_by n xs ≡ []) → xs ≡ []
   no_entries [] h = refl
   no_entries (x ∷ xs) h = absurd (some_entry x xs (h x.0))
 
   -- a beginning with all entries of all numbers is the whole
-  pub whole_history : (seen history : List (ℕ × E)) → IsPrefix seen history → ((n : ℕ) → entries_of n history ≡ entries_of n seen) → seen ≡ history
-  whole_history seen history a h = let none = no_entries a.0 (λ n. rest_none n seen a.0 (ap (entries_of n) a.1 ∙ h n)) in
+  pub whole_history : (seen history : List (ℕ × E)) → IsPrefix seen history → ((n : ℕ) → entries_by n history ≡ entries_by n seen) → seen ≡ history
+  whole_history seen history a h = let none = no_entries a.0 (λ n. rest_none n seen a.0 (ap (entries_by n) a.1 ∙ h n)) in
       sym (append-nil seen) ∙ (ap (λ z. seen ++ z) (sym none) ∙ a.1)
 
   below_same : (n : ℕ) (x : ℕ × E) (xs : List (ℕ × E)) → n ≤ x.0 → entries_below n (x ∷ xs) ≡ entries_below n xs
   below_same zero x xs l = refl
-  below_same (suc n) x xs l = rw (ne_eqb x.0 n (λ e. omega arith)) (ap (λ (k : ℕ). k + length (entries_of n xs)) (below_same n x xs (omega arith)))
+  below_same (suc n) x xs l = rw (ne_eqb x.0 n (λ e. omega arith)) (ap (λ (k : ℕ). k + length (entries_by n xs)) (below_same n x xs (omega arith)))
 
   below_more : (n : ℕ) (x : ℕ × E) (xs : List (ℕ × E)) → x.0 < n → entries_below n (x ∷ xs) ≡ entries_below n xs + 1
   below_more zero x xs l = absurd (omega arith)
   below_more (suc n) x xs l = dite (ℕ_discrete x.0 n)
-      (λ e. let r = below_same n x xs (omega arith) in rw (eq-eqb x.0 n e) (let k : ℕ = length (entries_of n xs) in let a : entries_below n (x ∷ xs) ≡ entries_below n xs = r in omega arith))
-      (λ other. let r = below_more n x xs (omega arith) in rw (ne_eqb x.0 n other) (let k : ℕ = length (entries_of n xs) in omega arith))
+      (λ e. let r = below_same n x xs (omega arith) in rw (eq-eqb x.0 n e) (let k : ℕ = length (entries_by n xs) in let a : entries_below n (x ∷ xs) ≡ entries_below n xs = r in omega arith))
+      (λ other. let r = below_more n x xs (omega arith) in rw (ne_eqb x.0 n other) (let k : ℕ = length (entries_by n xs) in omega arith))
 
   -- a history in which only numbers below n have entries has as many entries as they have together
-  pub length_history : (n : ℕ) (history : List (ℕ × E)) → ((k : ℕ) → n ≤ k → entries_of k history ≡ []) → length history ≡ entries_below n history
+  pub length_history : (n : ℕ) (history : List (ℕ × E)) → ((k : ℕ) → n ≤ k → entries_by k history ≡ []) → length history ≡ entries_below n history
   length_history n [] known = sym (below_nil E n)
   length_history n (x ∷ xs) known = dite (dec_le n x.0) (λ l. absurd (some_entry x xs (known x.0 l)))
       (λ below. let r = length_history n xs (λ k l. let other : x.0 ≢ k = λ e. below (omega arith) in rw (ne_eqb x.0 k other) at (known k l)) in
       let m = below_more n x xs (omega arith) in omega arith)
 
   -- the pair of a joined pass stands behind the others
-  pub pair_stands : (l : List (ℕ × List (ℕ × E))) (number : Option ℕ) (seen : List (ℕ × E)) (n : ℕ) → number ≡ Some n → get_elem? (l ++ pair_of number seen) (length l) ≡ some (n, entries_of n seen)
-  pair_stands l number seen n e = subst (λ (z : Option ℕ). get_elem? (l ++ pair_of z seen) (length l) ≡ some (n, entries_of n seen)) (sym e) (at_last l (n, entries_of n seen) (length l) refl)
+  pub pair_stands : (l : List (ℕ × List E)) (number : Option ℕ) (seen : List (ℕ × E)) (n : ℕ) → number ≡ Some n → get_elem? (l ++ pair_of number seen) (length l) ≡ some (n, entries_by n seen)
+  pair_stands l number seen n e = subst (λ (z : Option ℕ). get_elem? (l ++ pair_of z seen) (length l) ≡ some (n, entries_by n seen)) (sym e) (at_last l (n, entries_by n seen) (length l) refl)
 
 module _ {D E : Type 0} (step : D → ℕ → E → D → Type 0) where
   pub leads_further : (x y z : D) (history : List (ℕ × E)) (n : ℕ) (e : E) → Leads step x history y → step y n e z → Leads step x (history ++ (n, e) ∷ []) z
@@ -155,3 +147,21 @@ module _ {D E : Type 0} (step : D → ℕ → E → D → Type 0) where
   pub leads_parts : (x z : D) (xs ys : List (ℕ × E)) → Leads step x (xs ++ ys) z → (y : D) × Leads step x xs y × Leads step y ys z
   leads_parts x z [] ys l = (x, refl, l)
   leads_parts x z (e ∷ xs) ys l = let r = leads_parts l.0 z xs ys l.2 in (r.0, (l.0, l.1, r.1), r.2)
+
+  -- one step more than a history that leads to what was held
+  pub leads_in_step : (first held last : D) (n : ℕ) (e : E) (history : List (ℕ × E)) → EndsInStep step first held n e last history → Leads step first history last
+  leads_in_step first held last n e history ends = subst (λ (h : List (ℕ × E)). Leads step first h last) (sym ends.list) (leads_further first held last ends.earlier n e ends.to_held ends.onward)
+
+  -- Where an entry leads from given data to one data at most, so does a history.
+  module _ (one : (before : D) (n : ℕ) (e : E) (x y : D) → step before n e x → step before n e y → x ≡ y) where
+    pub leads_once : (history : List (ℕ × E)) (first x y : D) → Leads step first history x → Leads step first history y → x ≡ y
+    leads_once [] first x y a b = sym a ∙ b
+    leads_once (e ∷ es) first x y a b = leads_once es b.0 x y (subst (λ d. Leads step d es x) (one first e.0 e.1 a.0 b.0 a.1 b.1) a.2) b.2
+
+    -- so the closed history led over the data that a pass held to those that it laid back, and from these to the last
+    pub led_on : (first held last end : D) (n : ℕ) (e : E) (seen history : List (ℕ × E)) → EndsInStep step first held n e last seen → IsPrefix seen history → Leads step first history end
+        → (rest : List (ℕ × E)) × (history ≡ seen ++ rest) × Leads step last rest end
+    led_on first held last end n e seen history ends begins leads = let rest = begins.0 in
+        let parts = leads_parts first end seen rest (subst (λ (h : List (ℕ × E)). Leads step first h end) (sym begins.1) leads) in
+        let same : parts.0 ≡ last = leads_once seen first parts.0 last parts.1 (leads_in_step first held last n e seen ends) in
+        (rest, sym begins.1, subst (λ d. Leads step d rest end) same parts.2)

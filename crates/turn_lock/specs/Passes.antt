@@ -4,12 +4,12 @@ use mathlib.Core.List.{IsPrefix}
 use Rattle.turn_lock.specs.declared.lock.Turns.{Turns}
 use Rattle.turn_lock.specs.declared.lock.Pass.{Pass}
 use Rattle.turn_lock.specs.declared.lock.Note.{Note}
-use Rattle.turn_lock.specs.History.{entries_of}
+use Rattle.daq_types.specs.Callers.{entries_by}
 
 module _ {M D E : Type 0} where
   -- the value that the lock was made with
   abbrev pub first_value : Turns M D E → M
-  first_value lock = lock.table.shared.key.value
+  first_value lock = lock.table.shared.key.first.value
 
   -- how many passes the lock was made with: their numbers are those below it
   abbrev pub passes_of : Turns M D E → ℕ
@@ -23,9 +23,9 @@ module _ {M D E : Type 0} {g : _} where
   abbrev pub seen_by : Pass M D E g → List (ℕ × E)
   seen_by pass = pass.seat.me.0.seen
 
-  -- the pass's own entries: those of what it has seen with its number
-  abbrev pub own_entries : Pass M D E g → List (ℕ × E)
-  own_entries pass = entries_of pass.number pass.seat.me.0.seen
+  -- the pass's own calls: the entries of what it has seen with its number
+  abbrev pub own_entries : Pass M D E g → List E
+  own_entries pass = entries_by pass.number pass.seat.me.0.seen
 
   -- the numbers that its failed tries found
   abbrev pub found_by : Pass M D E g → List ℕ
@@ -43,7 +43,8 @@ module _ {M D E : Type 0} {g : _} where
   pub record IsOf (lock : Turns M D E) (pass : Pass M D E g) : Type 0 where
     pub table : pass.seat.table_id ≡ lock.table.shared.table_id
     pub count : pass.count ≡ lock.count
-    pub start : pass.seat.me.0.start ≡ Some (g.state lock.table.shared.key.value)
+    pub start : pass.seat.me.0.start ≡ Some (g.state lock.table.shared.key.first.value)
+    pub passes : pass.seat.me.0.passes ≡ Some lock.count
 
   -- the pass as before: the same number, and nothing seen, found or taken since
   pub record IsUnchanged (before after : Pass M D E g) : Type 0 where

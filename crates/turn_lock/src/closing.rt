@@ -74,7 +74,8 @@ impl<M: Machine> Pass<M> {
 
 impl<M: Machine> Turns<M> {
     ghost use mathlib.Core.List.{IsPrefix};
-    ghost use Rattle.turn_lock.specs.History.{Leads, IsPartOf, entries_of, entries_below};
+    ghost use Rattle.turn_lock.specs.History.{Leads, IsPartOf, entries_below};
+    ghost use Rattle.daq_types.specs.Callers.{entries_by};
     ghost use Rattle.turn_lock.specs.Protocol.{IsPaired};
     ghost use Rattle.turn_lock.specs.Views.{Settles};
     ghost use Rattle.turn_lock.specs.Passes.{first_value, passes_of, number_of, seen_by, own_entries, held_by, IsOf};
@@ -128,7 +129,7 @@ impl<M: Machine> Turns<M> {
 
         // What each pass has seen is a beginning of it, and the entries with a pass's number are its own.
         ensures parts { IfOk result (λ closed. All (λ pass. IsPartOf (history_of closed) (number_of pass) (seen_by pass)) (items_of passes)) }
-        ensures known { IfOk result (λ closed. (n : ℕ) → passes_of self ≤ n → entries_of n (history_of closed) ≡ []) }
+        ensures known { IfOk result (λ closed. (n : ℕ) → passes_of self ≤ n → entries_by n (history_of closed) ≡ []) }
         ensures length { IfOk result (λ closed. length (history_of closed) ≡ entries_below (passes_of self) (history_of closed)) }
 
         ensures complete { IfOk result (λ closed. AreComplete (numbers_of passes) (passes_of self)) }

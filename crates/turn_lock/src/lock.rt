@@ -3,13 +3,12 @@ ghost use Rattle.std.specs.Prelude.{◌≡◌, ℕ, ◌+◌, ◌<◌, ◌≤◌,
 ghost use Rattle.turn_lock.specs.Views.{carried};
 
 use crate::object::{Call, Machine};
-use crate::rule::{LockRule, View};
+use crate::rule::{LockKey, LockRule, View};
 use crate::steps::{Counts, Frees, Joins, Looks, Says, SplitsNote, TakesTurn};
 use atomic_table::{Seat, Table};
 use std::alloc::Global;
 use std::hint::spin_loop;
 use std::marker::Brand;
-use std::snapshot::Snapshot;
 use std::sync::Wait;
 use std::thread::yield_now;
 
@@ -31,10 +30,11 @@ const TRIES: u32 = 64;
 /// A lock round a value of type `M`, at which its passes take turns.
 #[derive(Drop)]
 pub struct Turns<M: Machine> {
-    pub(crate) table: Table<Option<M>, View<M::State, M::Entry>, Snapshot<M>, LockRule<M>, Global>,
+    pub(crate) table: Table<Option<M>, View<M::State, M::Entry>, LockKey<M>, LockRule<M>, Global>,
     pub(crate) count: u32,
     ghost some: { 0 < count },
     ghost few: { count ≤ 256 },
+    ghost told: { table.shared.key.passes ≡ count },
     ghost two_words: { table.shared.table_id.words ≡ 2 },
     ghost one_slot: { table.shared.table_id.slots ≡ 1 },
 }
@@ -88,9 +88,9 @@ impl<M: Machine> Pass<M> {
 
 impl<M: Machine> Turns<M> {
     ghost use mathlib.Core.List.{IsPrefix};
-    ghost use Rattle.turn_lock.specs.History.{Leads, Appends};
+    ghost use Rattle.turn_lock.specs.History.{Leads, EndsInStep, Appends};
     ghost use Rattle.turn_lock.specs.Views.{longer, pair_of};
-    ghost use Rattle.turn_lock.specs.Passes.{first_value, number_of, seen_by, own_entries, found_by, held_by, noted, IsOf, IsNoteOf, IsUnchanged};
+    ghost use Rattle.turn_lock.specs.Passes.{first_value, passes_of, number_of, seen_by, own_entries, found_by, held_by, noted, IsOf, IsNoteOf, IsUnchanged};
 
     /// Takes the turn if it is free, in one try.
     pub fn try_take(&self, pass: &mut Pass<M>) -> Result<Held<M>, Taken>
@@ -103,9 +103,9 @@ impl<M: Machine> Turns<M> {
         ensures held { IfOk result (λ held. held_by pass.new ≡ Some (M.state held.value)) }
         ensures found { OnOk result (found_by pass.new ≡ found_by pass.old) }
 
-        // The number that this try found, which is put behind those found before, is another pass's.
+        // The number that this try found, which is put behind those found before, is that of another of the lock's passes.
         ensures taken { IfErr result (λ taken. found_by pass.new ≡ found_by pass.old ++ taken.holder ∷ []) }
-        ensures another { IfErr result (λ taken. (taken.holder < 256) × (taken.holder ≢ number_of pass.old)) }
+        ensures another { IfErr result (λ taken. (taken.holder < passes_of self.now) × (taken.holder ≢ number_of pass.old)) }
         ensures idle { OnErr result (held_by pass.new ≡ None) }
     {
         let number = u64::from(pass.number);
@@ -184,6 +184,7 @@ impl<M: Machine> Turns<M> {
         ensures held { held_by pass.new ≡ Some (M.state value.now) }
         ensures found { found_by pass.new ≡ found_by pass.old }
         ensures appends { Appends (number_of pass.old) (C.entry call.now) (seen_by pass.old) (seen_by pass.new) }
+        ensures led { (before : _) × (held_by pass.old ≡ Some before) × EndsInStep M.step (M.state (first_value self.now)) before (number_of pass.old) (C.entry call.now) (M.state value.now) (seen_by pass.new) }
         ensures legal { Leads M.step (M.state (first_value self.now)) (seen_by pass.new) (M.state value.now) }
     {
         self.table
@@ -203,7 +204,10 @@ impl<M: Machine> Turns<M> {
 
         // What was seen ends with the new entry; before it come other passes' entries alone.
         ensures appends { Appends (number_of pass.old) (C.entry call.now) (seen_by pass.old) (seen_by pass.new) }
-        ensures mine { own_entries pass.new ≡ own_entries pass.old ++ (number_of pass.old, C.entry call.now) ∷ [] }
+        ensures mine { own_entries pass.new ≡ own_entries pass.old ++ C.entry call.now ∷ [] }
+
+        // All that came before it leads to what was held, and the entry leads from there to what is laid back.
+        ensures led { (before : _) × (held_by pass.old ≡ Some before) × EndsInStep M.step (M.state (first_value self.now)) before (number_of pass.old) (C.entry call.now) (M.state held.value) (seen_by pass.new) }
         ensures legal { Leads M.step (M.state (first_value self.now)) (seen_by pass.new) (M.state held.value) }
     {
         let Held { value, owed: Owed } = held;

@@ -5,7 +5,7 @@ ghost use Rattle.turn_lock.specs.Views.{dealt_view};
 use crate::lock::{FREE, Pass, Turns};
 use crate::object::Machine;
 use crate::roster::Passes;
-use crate::rule::View;
+use crate::rule::{LockKey, View};
 use crate::steps::SplitsPass;
 use atomic_table::{Seat, Table};
 use std::alloc::{AllocError, Global};
@@ -18,12 +18,12 @@ impl<M: Machine> Turns<M> {
     /// Splits the pass with the next number from number 0.
     fn split(&self, zero: &mut Seat<Option<M>, View<M::State, M::Entry>>, number: u32) -> Pass<M>
         requires seat { zero.old.table_id ≡ self.now.table.shared.table_id }
-        requires view { zero.old.me ≡ (dealt_view (M.state (first_value self.now)) number, []) }
+        requires view { zero.old.me ≡ (dealt_view (M.state (first_value self.now)) (passes_of self.now) number, []) }
         requires some { 0 < number }
         requires room { number < passes_of self.now }
 
         ensures seat { zero.new.table_id ≡ zero.old.table_id }
-        ensures view { zero.new.me ≡ (dealt_view (M.state (first_value self.now)) (number + 1), []) }
+        ensures view { zero.new.me ≡ (dealt_view (M.state (first_value self.now)) (passes_of self.now) (number + 1), []) }
         ensures own { IsOf self.now result }
         ensures number { number_of result ≡ number }
         ensures fresh { IsFresh result }
@@ -38,12 +38,12 @@ impl<M: Machine> Turns<M> {
     /// Splits all numbers but 0, in order, and puts the passes behind one another.
     fn deal(&self, zero: &mut Seat<Option<M>, View<M::State, M::Entry>>, items: &mut Vec<Pass<M>>)
         requires seat { zero.old.table_id ≡ self.now.table.shared.table_id }
-        requires view { zero.old.me ≡ (dealt_view (M.state (first_value self.now)) 1, []) }
+        requires view { zero.old.me ≡ (dealt_view (M.state (first_value self.now)) (passes_of self.now) 1, []) }
         requires empty { items.old.items ≡ [] }
         requires room { passes_of self.now ≤ vec_capacity items.old }
 
         ensures seat { zero.new.table_id ≡ zero.old.table_id }
-        ensures view { zero.new.me ≡ (dealt_view (M.state (first_value self.now)) (passes_of self.now), []) }
+        ensures view { zero.new.me ≡ (dealt_view (M.state (first_value self.now)) (passes_of self.now) (passes_of self.now), []) }
         ensures own { All (IsOf self.now) items.new.items }
         ensures fresh { All IsFresh items.new.items }
         ensures count { length items.new.items + 1 ≡ passes_of self.now }
@@ -75,13 +75,16 @@ impl<M: Machine + Drop> Turns<M> {
         ensures numbers { IfOk result (λ made. numbers_of made.1 ≡ numbers_below passes) }
         ensures fresh { IfOk result (λ made. AreFresh made.1) }
     {
-        let first = Snapshot::of(&value);
+        let key = LockKey {
+            first: Snapshot::of(&value),
+            passes,
+        };
         let mut items = Vec::with_capacity(alloc, passes as usize)?;
         let mut slots = Vec::with_capacity(alloc, 1)?;
         let Ok(()) = slots.push(Some(value)) else {
             unreachable!()
         };
-        let Ok((table, mut zero)) = Table::new(alloc, &[FREE, 0], slots, &first) else {
+        let Ok((table, mut zero)) = Table::new(alloc, &[FREE, 0], slots, &key) else {
             return Err(AllocError);
         };
         let lock = Turns {
@@ -102,7 +105,7 @@ impl<M: Machine + Drop> Turns<M> {
             Passes {
                 items,
                 room: passes,
-                first,
+                first: key.first,
             },
         ))
     }

@@ -9,6 +9,8 @@ use std::snapshot::Snapshot;
 pub struct View<D, E> {
     /// The first data of the lock; none once the seat is spent.
     pub start: Option<D>,
+    /// How many passes the lock has; none once the seat is spent.
+    pub passes: Option<u64>,
     /// The number of the pass; a note and a spent seat have none.
     pub number: Option<u64>,
     /// Of number 0 alone: the next number that it gives.
@@ -24,19 +26,26 @@ pub struct View<D, E> {
     /// The numbers that failed tries found.
     pub found: LinkedList<u64>,
     /// Of number 0 alone: the numbers of the passes joined into it, each with that pass's own entries.
-    pub pairs: LinkedList<(u64, LinkedList<(u64, E)>)>,
+    pub pairs: LinkedList<(u64, LinkedList<E>)>,
 }
 
-/// The rule on the lock's table, whose key is the first value.
+/// What the rule reads of the lock: the first value, and how many passes there are.
+#[derive(Drop)]
+pub struct LockKey<M> {
+    pub first: Snapshot<M>,
+    pub passes: u32,
+}
+
+/// The rule on the lock's table.
 pub struct LockRule<M> {
     machine: PhantomData<M>,
 }
 
-impl<M: Machine> TableRule<Option<M>, View<M::State, M::Entry>, Snapshot<M>> for LockRule<M> {
+impl<M: Machine> TableRule<Option<M>, View<M::State, M::Entry>, LockKey<M>> for LockRule<M> {
     ghost use Rattle.turn_lock.specs.Views.{first_view};
     ghost use Rattle.turn_lock.specs.Protocol.{IsLock};
 
-    ghost holds = { λ key. IsLock M.state M.step (M.state key.value) };
+    ghost holds = { λ key. IsLock M.state M.step (M.state key.first.value) key.passes };
 
-    ghost first = { λ key. first_view (M.state key.value) };
+    ghost first = { λ key. first_view (M.state key.first.value) key.passes };
 }

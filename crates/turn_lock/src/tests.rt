@@ -122,7 +122,7 @@ impl Turns<Counter> {
     }
 }
 
-ghost use Rattle.turn_lock.specs.History.{entries_of};
+ghost use Rattle.daq_types.specs.Callers.{entries_by};
 ghost use Rattle.turn_lock.specs.Closing.{history_of};
 
 fn count_in_two_threads<R: Threads + Wait + Sync>(
@@ -131,8 +131,8 @@ fn count_in_two_threads<R: Threads + Wait + Sync>(
     times: u32,
 ) -> Result<Closed<Counter>, AllocError>
     ensures all { IfOk result (λ closed. length (history_of closed) ≡ times + times) }
-    ensures first { IfOk result (λ closed. length (entries_of 0 (history_of closed)) ≡ times) }
-    ensures second { IfOk result (λ closed. length (entries_of 1 (history_of closed)) ≡ times) }
+    ensures first { IfOk result (λ closed. length (entries_by 0 (history_of closed)) ≡ times) }
+    ensures second { IfOk result (λ closed. length (entries_by 1 (history_of closed)) ≡ times) }
 {
     let (lock, mut passes) = Turns::new(alloc, Counter { count: 0 }, 2)?;
     let (first, second) = lock.two_passes(&mut passes);

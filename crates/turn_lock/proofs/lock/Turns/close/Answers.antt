@@ -2,7 +2,8 @@ use Rattle.std.proofs.Common.{◌≡◌, ◌++◌, ◌<◌, refl, sym, ap, ◌�
 use Rattle.std.specs.Prelude.{All}
 use Rattle.std.proofs.lemmas.List.Elements.{All-same, All-map, All-contains, All-weaker}
 use Rattle.turn_lock.specs.declared.lock.Pass.{Pass}
-use Rattle.turn_lock.specs.History.{IsPartOf, entries_of}
+use Rattle.daq_types.specs.Callers.{entries_by}
+use Rattle.turn_lock.specs.History.{IsPartOf}
 use Rattle.turn_lock.specs.Laws.{length_history}
 use Rattle.turn_lock.specs.Protocol.{IsPaired}
 use Rattle.turn_lock.specs.Passes.{number_of, seen_by, own_entries, held_by, IsOf}
@@ -41,7 +42,7 @@ pub returns-clause-parts : goal.returns-clause-parts
 returns-clause-parts g c = let out = c.take_zero-zero.ensures.out in let zero = c.absorb.new.zero in let settled = c.finish-value.ensures in
     let P : Pass g.row.M.Denot g.row.M-State.Denot g.row.M-Entry.Denot g.M.Machine → Type 0 = λ p. IsPartOf (seen_by zero) (number_of p) (seen_by p) in
     let same : number_of c.take_zero-zero.result ≡ number_of zero = c.take_zero-zero.ensures.zero ∙ sym c.absorb.ensures.zero in
-    let here : P c.take_zero-zero.result = record { begins = c.absorb.ensures.seen; own = ap (λ n. entries_of n (seen_by zero)) same ∙ c.absorb.ensures.mine } in
+    let here : P c.take_zero-zero.result = record { begins = c.absorb.ensures.seen; own = ap (λ n. entries_by n (seen_by zero)) same ∙ c.absorb.ensures.mine } in
     let others : All P (out.0 ++ out.1) = All-weaker (Absorbs zero) P (λ p a. record { begins = a.begins; own = sym (settled.pairs a.pair.0 (number_of p, own_entries p) a.pair.1) }) _ (All-same (Absorbs zero) _ _ (sym out.3) c.absorb.ensures.absorbed) in
     rw c.of-last.ensures (All-same P _ _ out.2 (All_with P out.0 c.take_zero-zero.result out.1 here others))
 

@@ -9,13 +9,13 @@ join_seat-requires g c = let pass = c.args.pass.now in (
   search rules,
   c.requires.idle.1,
   search rules,
-  joins_kept _ _ _ _ _ _ _
+  joins_kept _ _ _ _ _ _ _ _
       (⊎_elim (λ (none : c.args.other.me.0.number ≡ None). inl none) (λ (zero_is : pass.number ≡ 0). inr (pass.is ∙ ap (λ (n : ℕ). Some n) zero_is)) c.requires.asked)
       c.requires.idle.0,
 )
 
 pub load-requires : goal.load-requires
-load-requires g c = (search rules, search rules, looks_kept _ _ _ _ _ _)
+load-requires g c = (search rules, search rules, looks_kept _ _ _ _ _ _ _)
 
 pub returns-clause-seen : goal.returns-clause-seen
 returns-clause-seen g c = let joined = c.join_seat.ensures.2 in let agrees = subst (λ m. Agrees m.0) joined c.load.ensures.2.1 in

@@ -3,4 +3,4 @@ use Rattle.turn_lock.proofs.Keeps.{splits_note}
 use Rattle.turn_lock.proofs.lock.Turns.note.Goals as goal
 
 pub split_seat-requires : goal.split_seat-requires
-split_seat-requires g c = (search rules, search rules, splits_note _ _ _ _ _)
+split_seat-requires g c = (search rules, search rules, splits_note _ _ _ _ _ _)

@@ -6,7 +6,7 @@ pub compare_exchange-found-requires : goal.compare_exchange-found-requires
 compare_exchange-found-requires g c = (
   search rules,
   search rules,
-  takes_kept _ _ _ _ _ _ c.from-number.result (c.args.pass.now.is ∙ ap (λ n. Some n) (sym c.from-number.ensures)) c.requires.idle,
+  takes_kept _ _ _ _ _ _ _ c.from-number.result (c.args.pass.now.is ∙ ap (λ n. Some n) (sym c.from-number.ensures)) c.requires.idle,
 )
 
 pub exchange-requires : goal.exchange-requires
