@@ -1,7 +1,3 @@
-pub mod RowLaws
-pub mod Kept
-pub mod Room
-pub mod Admit
 pub mod Places
 pub mod Numbered
 pub mod Found

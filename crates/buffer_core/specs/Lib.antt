@@ -2,8 +2,6 @@ pub mod Slots
 pub mod Window
 pub mod Calls
 pub mod Histories
-pub mod Rows
-pub mod Plain
 pub mod SlotLaws
 pub mod WindowLaws
 pub mod ReadingLaws
@@ -15,10 +13,4 @@ pub mod Runs
 pub mod Continued
 pub mod Readers
 pub mod Samples
-pub mod Journals
-pub mod JournalViews
-pub mod JournalLaws
 pub mod Ports
-pub mod Ported
-pub mod PortLaws
-pub mod GotLaws

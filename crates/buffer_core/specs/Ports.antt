@@ -7,8 +7,13 @@ use Rattle.buffer_core.specs.declared.replies.SendRefusal.TheVariants.{NotRunnin
 use Rattle.buffer_core.specs.declared.replies.Received.{Received}
 use Rattle.buffer_core.specs.declared.replies.Received.TheVariants.{Got, Empty, NoClient, SmallBuf}
 use Rattle.buffer_core.specs.declared.entry.BufferEntry.{BufferEntry}
-use Rattle.buffer_core.specs.declared.entry.BufferEntry.TheVariants.{Receive}
-use Rattle.buffer_core.specs.Journals.{data_of}
+use Rattle.buffer_core.specs.declared.entry.BufferEntry.TheVariants.{Send, SendInRun, Receive}
+
+-- how many bytes of data the call hands over
+abbrev pub data_of : BufferEntry → ℕ
+data_of (Send stated e reply) = length e.body
+data_of (SendInRun start stated e reply) = length e.body
+data_of entry = 0
 
 -- one caller's access to a buffer: the caller's number; the buffer's size; the caller's own calls with their replies, in
 -- order; the events that its clients got by them, each with the client's number, in order; and room for so many calls more,

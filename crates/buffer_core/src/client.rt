@@ -1,8 +1,12 @@
-ghost use Rattle.std.specs.Prelude.{◌≡◌};
-ghost use Rattle.buffer_core.specs.Slots.{slot_at};
+ghost use Rattle.std.specs.Prelude.{◌≡◌, ◌<◌, ◌^◌, [], length, IfSome};
+ghost use Rattle.event_header.specs.Headers.{event_of};
+ghost use Rattle.buffer_core.specs.Slots.{slot_at, free_slot, some_slot};
+ghost use Rattle.buffer_core.specs.Window.{covers, holds_back, wants, owes};
 ghost use Rattle.buffer_core.specs.Calls.{with_request, going_on};
 
 use daq_types::{Kind, Name};
+use event_header::Header;
+use request_match::matches;
 
 /// How many clients a buffer has room for.
 pub const CLIENTS: usize = 64;
@@ -60,5 +64,73 @@ impl Client {
             return None;
         }
         self.requests[number as usize]
+    }
+}
+
+/// The least free number.
+pub fn free_number<T>(slots: &[Option<T>]) -> Option<u32>
+    requires { length slots.now < 2 ^ 32 }
+    ensures { result ≡ free_slot slots.now }
+{
+    match free_place(slots) {
+        Some(place) => Some(place as u32),
+        None => None,
+    }
+}
+
+fn free_place<T>(slots: &[Option<T>]) -> Option<usize>
+    ensures first { result ≡ free_slot slots.now }
+    ensures within { IfSome result (λ place. place < length slots.now) }
+{
+    slots.iter().position(|slot| slot.is_none())
+}
+
+impl Request {
+    /// Whether the request wants the event of this header and place.
+    pub fn covers(&self, place: u64, header: &Header) -> bool
+        ensures { result ≡ covers place (event_of header.now []) self.now }
+    {
+        self.since <= place && matches(self.id, self.mask, header.event_id, header.trigger_mask)
+    }
+
+    /// Whether the event of this header and place has to be kept for the request.
+    pub fn holds_back(&self, place: u64, header: &Header) -> bool
+        ensures { result ≡ holds_back place (event_of header.now []) self.now }
+    {
+        matches!(self.kind, Kind::All) && self.covers(place, header)
+    }
+}
+
+impl Client {
+    /// Whether the client has yet to be given the event of this header and place.
+    pub fn wants(&self, place: u64, header: &Header) -> bool
+        ensures { result ≡ wants place (event_of header.now []) self.now }
+    {
+        self.next <= place && self.has_cover(place, header)
+    }
+
+    fn has_cover(&self, place: u64, header: &Header) -> bool
+        ensures { result ≡ some_slot (covers place (event_of header.now [])) self.now.requests }
+    {
+        self.requests.iter().any(|slot| match slot {
+            Some(request) => request.covers(place, header),
+            None => false,
+        })
+    }
+
+    /// Whether the client has yet to get the event of this header and place before it may go.
+    pub fn owes(&self, place: u64, header: &Header) -> bool
+        ensures { result ≡ owes place (event_of header.now []) self.now }
+    {
+        self.next <= place && self.is_held_back(place, header)
+    }
+
+    fn is_held_back(&self, place: u64, header: &Header) -> bool
+        ensures { result ≡ some_slot (holds_back place (event_of header.now [])) self.now.requests }
+    {
+        self.requests.iter().any(|slot| match slot {
+            Some(request) => request.holds_back(place, header),
+            None => false,
+        })
     }
 }

@@ -24,7 +24,7 @@ use Rattle.buffer_core.specs.Slots.{slot_at}
 use Rattle.buffer_core.specs.Calls.{IsReply, window_after, event_after, request_reply_to, with_gate}
 use Rattle.buffer_core.specs.WindowLaws.{IsSendable}
 use Rattle.buffer_core.specs.ReadingLaws.{IsDrained, AfterSend, attach_opens, request_opens, opening_attach, drained_opens, drained_send, fed_reply, fed_event, fed_again, run_begins, run_ends, running_is}
-use Rattle.buffer_core.specs.Ported.{Ported, Does}
+use Rattle.local_port.specs.Ported.{Ported, Does}
 use Rattle.daq_session.specs.BufferEntries.{opening_entries, passed_entries}
 
 -- an event is sent

@@ -11,11 +11,13 @@ ghost use Rattle.daq_session.specs.BufferRecords.{IsOneHistory, IsSystem};
 ghost use Rattle.daq_session.specs.RunsTold.{IsTold};
 ghost use Rattle.daq_session.specs.Tallies.{IsTally, most_spent, most_starts};
 
-use buffer_core::{LocalPort, PlainBuffer, laws};
+use buffer_core::laws;
 use daq_io::{Failed, Files};
 use daq_types::{Kind, Name, NoMemory, Order};
 use event_header::EventBuf;
 use frontend_kit::{EVENT_ROOM, Generator};
+use local_port::LocalPort;
+use plain_buffer::PlainBuffer;
 use session_console::{BufferRecord, Entries, FrontEnded, FrontTally};
 use std::alloc::Global;
 

@@ -1,6 +1,6 @@
 use crate::entry_list::Entries;
-use buffer_core::BufferJournal;
 use daq_types::{ChannelState, FileName, Journal, Name};
+use local_port::BufferJournal;
 use odb_tree::DatabaseEntry;
 
 /// What is kept of a session.

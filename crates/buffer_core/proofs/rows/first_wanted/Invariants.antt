@@ -1,5 +1,0 @@
-use Rattle.buffer_core.proofs.RowLaws.{IsSearched}
-use Rattle.buffer_core.proofs.rows.first_wanted.Given as goal
-
-abbrev pub invariant-loop-index : goal.invariant-loop-index
-invariant-loop-index l = IsSearched l.client l.first l.rows l.bytes l.index l.rest

@@ -1,0 +1,3 @@
+pub mod JournalLaws
+pub mod GotLaws
+pub mod PortLaws

@@ -1,0 +1,31 @@
+-- A journal of a buffer's calls, kept as lines, with the data of all events that were sent one after the other.
+use Rattle.std.specs.Prelude.{ℕ, List, [], ◌∷◌, take, drop}
+use Rattle.daq_types.specs.declared.events.Event.{Event}
+use Rattle.buffer_core.specs.declared.entry.BufferEntry.{BufferEntry}
+use Rattle.buffer_core.specs.declared.entry.BufferEntry.TheVariants.{Send, SendInRun}
+use Rattle.local_port.specs.declared.journal.Line.{Line}
+
+-- the event with these data
+abbrev pub event_with : List ℕ → Event → Event
+event_with body e = record { id = e.id; mask = e.mask; serial = e.serial; time = e.time; body = body }
+
+-- the call, whose event has these data if it sends one
+abbrev pub entry_with : List ℕ → BufferEntry → BufferEntry
+entry_with body (Send stated e reply) = Send stated (event_with body e) reply
+entry_with body (SendInRun start stated e reply) = SendInRun start stated (event_with body e) reply
+entry_with body entry = entry
+
+abbrev pub size_of_line : Line → ℕ
+size_of_line l = l.size
+
+-- the calls of the lines, whose data are these bytes
+abbrev pub entries_of : List Line → List ℕ → List (ℕ × BufferEntry)
+entries_of [] bytes = []
+entries_of (l ∷ ls) bytes = (l.caller, entry_with (take l.size bytes) l.entry) ∷ entries_of ls (drop l.size bytes)
+
+-- a journal: its entries, each with the number of its caller; how many more it has room for; and for how many more bytes
+-- of data
+pub record Journaled : Type 0 where
+  pub entries : List (ℕ × BufferEntry)
+  pub room : ℕ
+  pub bytes : ℕ

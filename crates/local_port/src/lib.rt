@@ -1,0 +1,12 @@
+//! Ports to a buffer of one thread, which note each call with its caller and its reply in a journal.
+#![tactic(auto)]
+
+mod journal;
+mod local;
+mod port;
+
+pub use journal::BufferJournal;
+pub use local::LocalPort;
+
+#[cfg(test)]
+mod tests;

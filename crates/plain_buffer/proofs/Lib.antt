@@ -1,0 +1,4 @@
+pub mod RowLaws
+pub mod Kept
+pub mod Room
+pub mod Admit

@@ -1,0 +1,75 @@
+-- The reply of a send, over the fields of a plain buffer.
+use Rattle.std.proofs.Common.{◌≡◌, ℕ, ◌+◌, ◌^◌, ◌≤◌, false, List, length, take, sum_by, Option, sym, ap, subst, ◌∙◌, arith}
+use Rattle.daq_model.specs.Events.{slot_size, slot_of_length, is_reserved, event_limit}
+use Rattle.event_header.specs.Headers.{event_of}
+use Rattle.event_header.specs.declared.head.Header.{Header}
+use Rattle.plain_buffer.specs.declared.plain.PlainBuffer.TheInside.{Inside}
+use Rattle.plain_buffer.specs.declared.rows.Row.{Row}
+use Rattle.buffer_core.specs.Window.{Window, accepted_of}
+use Rattle.buffer_core.specs.Calls.{send_reply, full_reply, gone_of, to_drop, owed_in}
+use Rattle.plain_buffer.specs.Rows.{slot_of_row, size_of_row, kept_of, bare}
+use Rattle.plain_buffer.specs.Plain.{window_of, IsPlain}
+use Rattle.buffer_core.specs.WindowLaws.{IsSendable, room_reply_is}
+use Rattle.plain_buffer.proofs.Kept.{to_drop-kept_of, take-kept_of, owed_in-kept_of}
+
+-- rows and data of the same length
+pub whole_is : (b : Inside) → IsPlain b → sum_by size_of_row b.rows.items ≤ length b.bytes.items
+whole_is b plain = omega (arith, plain.whole)
+
+-- what the tests in front of the room found
+pub record IsTested (b : Inside) (h : Header) (body : List ℕ) (slot size : ℕ) : Type 0 where
+  pub stated : h.data_size ≡ length body
+  pub small : h.data_size ≤ event_limit
+  pub free : is_reserved h.event_id ≡ false
+  pub slot_is : slot ≡ slot_of_length h.data_size
+  pub size_is : size ≡ b.size
+  pub fits : slot ≤ size
+  pub unspent : b.total + slot ≤ 2 ^ 62
+
+slot_right : (b : Inside) (h : Header) (body : List ℕ) (slot size : ℕ) → IsTested b h body slot size → slot ≡ slot_of_length (length body)
+slot_right b h body slot size tested = tested.slot_is ∙ ap slot_of_length tested.stated
+
+sendable : (b : Inside) (h : Header) (body : List ℕ) (slot size : ℕ) → IsTested b h body slot size → IsSendable (window_of b) h.data_size (event_of h body)
+sendable b h body slot size tested =
+    let right : slot ≡ slot_of_length (length body) = slot_right b h body slot size tested in
+    record {
+      stated_right = tested.stated;
+      small = omega (arith, tested.stated, tested.small);
+      free = tested.free;
+      fits = omega (arith, right, tested.size_is, tested.fits);
+    }
+
+unspent : (b : Inside) (h : Header) (body : List ℕ) (slot size : ℕ) → IsTested b h body slot size → (window_of b).total + slot_size (event_of h body) ≤ 2 ^ 62
+unspent b h body slot size tested = omega (arith, slot_right b h body slot size tested, tested.unspent)
+
+-- so many events have to go for this one
+pub gone_is : (b : Inside) (h : Header) (body : List ℕ) (gone slot size : ℕ) → IsPlain b → IsTested b h body slot size
+    → gone ≡ to_drop slot_of_row size slot b.rows.items → gone ≡ gone_of (window_of b) (event_of h body)
+gone_is b h body gone slot size plain tested counted =
+    counted
+    ∙ (ap (λ (n : ℕ). to_drop slot_of_row n slot b.rows.items) tested.size_is
+    ∙ (ap (λ (n : ℕ). to_drop slot_of_row b.size n b.rows.items) (slot_right b h body slot size tested)
+    ∙ sym (to_drop-kept_of b.size (slot_of_length (length body)) b.rows.items b.bytes.items (whole_is b plain))))
+
+-- what is owed of the events that would go
+owed_is : (b : Inside) (gone : ℕ) (front : List Row) → front ≡ take gone b.rows.items
+    → owed_in b.clients b.first (take gone (kept_of b.rows.items b.bytes.items)) ≡ owed_in b.clients b.first (bare front)
+owed_is b gone front is_front =
+    ap (owed_in b.clients b.first) (take-kept_of gone b.rows.items b.bytes.items)
+    ∙ (owed_in-kept_of b.clients b.first (take gone b.rows.items) b.bytes.items
+    ∙ ap (λ (rows : List Row). owed_in b.clients b.first (bare rows)) (sym is_front))
+
+-- the reply, where nothing but room is in question
+pub room_is : (b : Inside) (w : Window) (h : Header) (body : List ℕ) (gone slot size : ℕ) (front : List Row) (owed : Option (ℕ × ℕ)) → window_of b ≡ w → IsPlain b
+    → IsTested b h body slot size
+    → gone ≡ to_drop slot_of_row size slot b.rows.items → front ≡ take gone b.rows.items → owed_in b.clients b.first (bare front) ≡ owed
+    → send_reply w h.data_size (event_of h body) ≡ full_reply owed (accepted_of w)
+room_is b w h body gone slot size front owed view plain tested counted is_front is_owed =
+    let found : Window = window_of b in
+    let goes : gone ≡ gone_of found (event_of h body) = gone_is b h body gone slot size plain tested counted in
+    let here : send_reply found h.data_size (event_of h body) ≡ full_reply owed (accepted_of found) =
+    room_reply_is found h.data_size (event_of h body) (sendable b h body slot size tested) (unspent b h body slot size tested)
+    ∙ (ap (λ (n : ℕ). full_reply (owed_in b.clients b.first (take n found.kept)) (accepted_of found)) (sym goes)
+    ∙ (ap (λ (o : Option (ℕ × ℕ)). full_reply o (accepted_of found)) (owed_is b gone front is_front)
+    ∙ ap (λ (o : Option (ℕ × ℕ)). full_reply o (accepted_of found)) is_owed)) in
+    subst (λ (x : Window). send_reply x h.data_size (event_of h body) ≡ full_reply owed (accepted_of x)) view here

@@ -1,0 +1,22 @@
+use Rattle.std.proofs.Common.{◌≡◌, ℕ, List, Some, subst, sym, ap, ◌∙◌}
+use Rattle.event_header.specs.Held.{Held}
+use Rattle.plain_buffer.specs.declared.rows.Row.{Row}
+use Rattle.buffer_core.specs.declared.replies.Received.TheVariants.{Got}
+use Rattle.buffer_core.specs.Window.{Window, Sent}
+use Rattle.buffer_core.specs.Calls.{found_in, event_after}
+use Rattle.plain_buffer.specs.Rows.{sent_of, kept_of}
+use Rattle.plain_buffer.specs.Plain.{window_of}
+use Rattle.buffer_core.specs.WindowLaws.{event_got}
+use Rattle.plain_buffer.proofs.plain.PlainBufferEventBuffer.receive.Goals as goal
+
+pub returns-in-Ok-clause-event : goal.returns-in-Ok-clause-event
+returns-in-Ok-clause-event c =
+    let s : Sent = sent_of c.in-Some-first_wanted.found.row c.in-Some-first_wanted.found.body.now in
+    let found : found_in c.in-Some.reader c.self.inside.first (kept_of c.self.inside.rows.items c.self.inside.bytes.items) ≡ Some (c.in-Some-first_wanted.found.place, s) =
+    ap (λ (rows : List Row). found_in c.in-Some.reader c.self.inside.first (kept_of rows c.self.inside.bytes.items)) (sym c.as_slice.ensures.value)
+    ∙ (ap (λ (bytes : List ℕ). found_in c.in-Some.reader c.self.inside.first (kept_of c.as_slice.result.now bytes)) (sym c.as_slice-2.ensures.value)
+    ∙ c.in-Some-first_wanted.ensures.some) in
+    let got : event_after c.args.into.now.event (window_of c.self.inside) (Got c.in-Some-first_wanted.found.place c.in-Some-first_wanted.found.row.start) ≡ s.event =
+    event_got (window_of c.self.inside) c.in-Some.reader c.in-Some-first_wanted.found.place c.in-Some-first_wanted.found.row.start s c.args.into.now.event found in
+    ap (λ (h : Held). h.event) c.in-Ok.ensures.ok
+    ∙ subst (λ (w : Window). s.event ≡ event_after c.args.into.now.event w (Got c.in-Some-first_wanted.found.place c.in-Some-first_wanted.found.row.start)) c.self.view_is (sym got)

@@ -1,0 +1,11 @@
+//! An event buffer over a list of rows: the plain implementation of `EventBuffer`.
+#![tactic(auto)]
+
+mod clients;
+mod plain;
+mod rows;
+
+pub use plain::PlainBuffer;
+
+#[cfg(test)]
+mod tests;
