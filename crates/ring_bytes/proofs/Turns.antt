@@ -7,6 +7,7 @@ use Rattle.std.proofs.lemmas.Nat.{mod-mul-add}
 use Rattle.std.proofs.lemmas.List.{take_at, drop_at, get_or-drop, get_or-take, get_or_append_left, get_or-append_right, length-take-le, length-append, length-drop, take-append-drop}
 use Rattle.std.proofs.lemmas.Slice.{drop-append-drop}
 use Rattle.ring_bytes.specs.Rings.{byte_at, bytes_at, KeepsOthers}
+use Rattle.ring_bytes.specs.RingLaws.{bytes_at-add}
 
 -- the byte of an offset, after so many turns
 byte_turned : (ring : List ℕ) (q s : ℕ) → s < length ring → byte_at ring (q * length ring + s) ≡ get_or ring s 0
@@ -25,24 +26,6 @@ bytes_straight ring q s (suc m) h =
     let cut : drop s ring ≡ get_or ring s 0 ∷ drop (suc s) ring = drop-cons ring s 0 within in
     ap (λ (x : ℕ). x ∷ bytes_at ring (suc (q * length ring + s)) m) here
     ∙ (ap (λ (xs : List ℕ). get_or ring s 0 ∷ xs) rest ∙ ap (λ (xs : List ℕ). take (suc m) xs) (sym cut))
-
-pub bytes_at-add : (ring : List ℕ) (o m n : ℕ) → bytes_at ring o (m + n) ≡ bytes_at ring o m ++ bytes_at ring (o + m) n
-unfolding bytes_at
-bytes_at-add ring o zero n =
-    let left : zero + n ≡ n = omega arith in
-    let right : o ≡ o + zero = omega arith in
-    ap (λ (k : ℕ). bytes_at ring o k) left ∙ ap (λ (k : ℕ). bytes_at ring k n) right
-bytes_at-add ring o (suc m) n =
-    let left : suc m + n ≡ suc (m + n) = omega arith in
-    let right : suc o + m ≡ o + suc m = omega arith in
-    ap (λ (k : ℕ). bytes_at ring o k) left
-    ∙ ap (λ (xs : List ℕ). byte_at ring o ∷ xs)
-    (bytes_at-add ring (suc o) m n ∙ ap (λ (k : ℕ). bytes_at ring (suc o) m ++ bytes_at ring k n) right)
-
-pub length-bytes_at : (ring : List ℕ) (o n : ℕ) → length (bytes_at ring o n) ≡ n
-unfolding bytes_at
-length-bytes_at ring o zero = refl
-length-bytes_at ring o (suc n) = ap (λ (k : ℕ). suc k) (length-bytes_at ring (suc o) n)
 
 -- so many bytes lie from the start on, and so many more, if any, from the beginning of the ring
 pub record IsTurn (size off start first rest : ℕ) : Type 0 where
