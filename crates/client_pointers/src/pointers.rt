@@ -7,7 +7,7 @@ ghost use Rattle.buffer_core.specs.Calls.{no_slot, joined, with_request, detach_
 ghost use Rattle.client_pointers.specs.Pointers.{no_pointers, clients_of, changed, moved, raised, position_of};
 
 use crate::pointer::{Pointer, is_behind, raised_slot};
-use buffer_core::{Client, NoClient, NoSlot, Request, RequestRefusal};
+use buffer_core::{Client, NoClient, NoSlot, Request, RequestRefusal, free_number};
 use daq_types::{Kind, Name};
 use event_header::Header;
 use std::marker::Model;
@@ -25,24 +25,6 @@ impl Model for Pointers {
     ghost Value = { List (Option Pointer) };
 
     ghost view = { λ p. p.slots };
-}
-
-/// The least free number.
-fn free_number<T>(slots: &[Option<T>]) -> Option<u32>
-    requires { length slots.now < 2 ^ 32 }
-    ensures { result ≡ free_slot slots.now }
-{
-    match free_place(slots) {
-        Some(place) => Some(place as u32),
-        None => None,
-    }
-}
-
-fn free_place<T>(slots: &[Option<T>]) -> Option<usize>
-    ensures first { result ≡ free_slot slots.now }
-    ensures within { IfSome result (λ place. place < length slots.now) }
-{
-    slots.iter().position(|slot| slot.is_none())
 }
 
 /// The client of this number, and where it goes on.
