@@ -1,0 +1,89 @@
+ghost use Rattle.std.specs.Prelude.{◌≡◌, ◌<◌, ◌++◌, ◌∷◌, [], length, IfOk};
+ghost use Rattle.transitions.specs.Limits.{most_tallies};
+
+use daq_types::{ChannelState, FrontEnded, NoMemory, Why};
+use event_report::Report;
+use std::alloc::Global;
+use std::marker::Model;
+
+/// How many tallies a transition has at most: a refused start has turns of start and of start-abort.
+pub const TALLIES: usize = 128;
+
+/// What a client answers to its turn.
+#[derive(Debug, Drop)]
+pub enum Answer {
+    Yes(Tally),
+    /// The client refuses. Only a start can be refused.
+    No(Why),
+}
+
+/// What a client has to tell of a transition.
+#[derive(Debug, Drop)]
+pub enum Tally {
+    Plain,
+    /// What a front-end sent, and why it sends no more.
+    Front { sent: u64, ended: FrontEnded },
+    /// What became of the files of the logger's channels.
+    Channels([ChannelState; 16]),
+    /// What an analyzer counted.
+    Report(Report),
+}
+
+/// What this client told.
+#[derive(Debug, Drop)]
+pub struct ClientTally {
+    pub client: u32,
+    pub tally: Tally,
+}
+
+/// What clients told, in the order of their answers, in room that was taken once.
+#[derive(Debug, Drop)]
+pub struct Tallies {
+    tallies: Vec<ClientTally>,
+}
+
+impl Model for Tallies {
+    ghost use Rattle.std.specs.Prelude.{List};
+    ghost use Rattle.transitions.specs.declared.answers.ClientTally.{ClientTally};
+
+    ghost Value = { List ClientTally };
+
+    ghost use Rattle.transitions.specs.Rooms.{HasRoom};
+    ghost use Rattle.transitions.specs.Limits.{most_tallies};
+
+    ghost view = { λ t. t.tallies.items };
+
+    ghost invariant = { λ t. HasRoom most_tallies t.tallies };
+}
+
+impl Tallies {
+    /// No tallies, and room for all of a transition.
+    pub fn new(alloc: Global) -> Result<Tallies, NoMemory>
+        ensures { IfOk result (λ tallies. tallies ≡ []) }
+    {
+        let tallies = Vec::with_capacity(alloc, TALLIES)?;
+        Ok(Tallies { tallies })
+    }
+
+    /// One more, behind the others. Takes no memory.
+    pub fn push(&mut self, tally: ClientTally)
+        requires { length self.old < most_tallies }
+        ensures { self.new ≡ self.old ++ tally ∷ [] }
+    {
+        self.tallies.push_reserved(tally);
+    }
+
+    /// No tallies any more.
+    pub fn clear(&mut self)
+        ensures { self.new ≡ [] }
+    {
+        self.tallies.clear();
+    }
+
+    /// The tallies.
+    pub fn as_slice(&self) -> &[ClientTally]
+        ensures { result.now ≡ self.now }
+    {
+        self.tallies.as_slice()
+    }
+}

@@ -1,0 +1,39 @@
+use crate::answers::{Answer, Tallies};
+use crate::replies::{BeginRefusal, InProgress, NotYourTurn, Polled, Progress, RegisterRefusal};
+use crate::sheet::Sheet;
+use daq_types::{Name, Transition};
+use run_states::Sequences;
+
+/// A call on the engine, with its arguments and its reply.
+#[derive(Debug, Drop)]
+pub enum EngineEntry {
+    Register {
+        name: Name,
+        sequences: Sequences,
+        wants_dump: bool,
+        wants_report: bool,
+        reply: Result<u32, RegisterRefusal>,
+    },
+    Begin {
+        transition: Transition,
+        sheet: Sheet,
+        reply: Result<u32, BeginRefusal>,
+    },
+    Poll {
+        client: u32,
+        reply: Polled,
+    },
+    Answer {
+        client: u32,
+        answer: Answer,
+        reply: Result<(), NotYourTurn>,
+    },
+    /// `tallies` are those that the call moved out.
+    Check {
+        reply: Progress,
+        tallies: Tallies,
+    },
+    Close {
+        reply: Result<(), InProgress>,
+    },
+}

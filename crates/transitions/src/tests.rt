@@ -1,0 +1,285 @@
+//! Worked rows of the engine, as tables of calls with what they answer.
+ghost use Rattle.std.specs.Prelude.{IfOk};
+ghost use Rattle.transitions.specs.EngineHistories.{IsSheet};
+
+use crate::{
+    Answer, BeginRefusal, Engine, Polled, Progress, RegisterRefusal, Reports, Sheet, Tallies, Tally,
+};
+use daq_types::{Bytes, Name, NoMemory, RunState, StartOutcome, Transition, Why};
+use event_report::Report;
+use run_states::Sequences;
+use std::alloc::Global;
+use std::process::Abort;
+use std::test::Fail;
+
+/// What a poll found; of a turn whether it has the dump and whether it has a blank report.
+#[derive(Clone, Copy, Debug, PartialEq, Eq)]
+enum Found {
+    Turn(Transition, bool, bool),
+    Idle(RunState),
+    Closed,
+    NoClient,
+}
+
+/// A call and what it answers.
+#[derive(Clone, Copy)]
+enum Call {
+    Register(Result<u32, RegisterRefusal>),
+    Begin(Transition, Result<u32, BeginRefusal>),
+    Poll(u32, Found),
+    /// Whether the answer is accepted.
+    Yes(u32, bool),
+    No(u32, bool),
+    /// And how many tallies move out.
+    Check(Progress, usize),
+    /// Whether the engine is closed.
+    Close(bool),
+}
+
+use Call::{Begin, Check, Close, No, Poll, Register, Yes};
+use Transition::{Pause, Start, StartAbort, Stop};
+
+const DONE: Progress = Progress::Done {
+    outcome: StartOutcome::Completed,
+};
+
+/// A sheet with a dump and one blank report.
+fn new_sheet(alloc: Global) -> Result<Sheet, NoMemory>
+    ensures { IfOk result IsSheet }
+{
+    let mut reports = Vec::new(alloc);
+    reports.push(Report::new(alloc)?)?;
+    let mut dump = Vec::new(alloc);
+    dump.push(7)?;
+    Ok(Sheet {
+        run: 1,
+        time: 1000,
+        quota: 0,
+        dump: Some(Bytes::of(dump)),
+        blanks: Reports::of(reports),
+    })
+}
+
+/// A client that is called by this number, and by that one for start-abort.
+fn add_client(
+    engine: &mut Engine,
+    sequence: u32,
+    start_abort: u32,
+    wants: bool,
+) -> Result<u32, RegisterRefusal> {
+    let Ok(name) = Name::new(b"FE") else {
+        return Err(RegisterRefusal::NoSlot);
+    };
+    let sequences = Sequences {
+        start: Some(sequence),
+        stop: Some(sequence),
+        pause: None,
+        resume: None,
+        start_abort: Some(start_abort),
+    };
+    engine.register(name, sequences, wants, wants)
+}
+
+fn find_turn(polled: &Polled) -> Found {
+    match polled {
+        Polled::Turn {
+            transition,
+            dump,
+            blank,
+            ..
+        } => Found::Turn(*transition, dump.is_some(), blank.is_some()),
+        Polled::Idle { state } => Found::Idle(*state),
+        Polled::Closed => Found::Closed,
+        Polled::NoClient => Found::NoClient,
+    }
+}
+
+fn begin(
+    alloc: Global,
+    engine: &mut Engine,
+    transition: Transition,
+) -> Result<Result<u32, BeginRefusal>, NoMemory> {
+    let sheet = new_sheet(alloc)?;
+    match engine.begin(transition, sheet) {
+        Ok(start) => Ok(Ok(start)),
+        Err((refusal, _)) => Ok(Err(refusal)),
+    }
+}
+
+fn check(alloc: Global, engine: &mut Engine) -> Result<(Progress, usize), NoMemory> {
+    let mut tallies = Tallies::new(alloc)?;
+    let progress = engine.check(&mut tallies);
+    Ok((progress, tallies.as_slice().len()))
+}
+
+/// Makes a call, and answers whether it answered as it is to.
+fn is_right(alloc: Global, engine: &mut Engine, call: Call) -> Result<bool, NoMemory> {
+    match call {
+        Register(reply) => Ok(add_client(engine, 500, 500, false) == reply),
+        Begin(transition, reply) => Ok(begin(alloc, engine, transition)? == reply),
+        Poll(client, found) => Ok(find_turn(&engine.poll(client)) == found),
+        Yes(client, accepted) => Ok(
+            engine.answer(client, Answer::Yes(Tally::Plain)).is_ok() == accepted,
+        ),
+        No(client, accepted) => Ok(
+            engine.answer(client, Answer::No(Why::NotReady)).is_ok() == accepted,
+        ),
+        Check(progress, count) => {
+            let (told, moved) = check(alloc, engine)?;
+            Ok(told == progress && moved == count)
+        }
+        Close(closed) => Ok(engine.close().is_ok() == closed),
+    }
+}
+
+fn make_calls(
+    rt: &impl Abort,
+    alloc: Global,
+    engine: &mut Engine,
+    calls: &[Call],
+) -> Result<(), Fail> {
+    for call in calls {
+        assert!(rt; is_right(alloc, engine, *call)?);
+    }
+    Ok(())
+}
+
+/// Clients 0 and 1 have start 500; client 2 has start 200, start-abort 800, and wants the dump and a report.
+fn three_clients(alloc: Global) -> Result<Engine, Fail> {
+    let mut engine = Engine::new(alloc)?;
+    let _first = add_client(&mut engine, 500, 500, false);
+    let _second = add_client(&mut engine, 500, 500, false);
+    let _third = add_client(&mut engine, 200, 800, true);
+    Ok(engine)
+}
+
+#[test]
+fn turns_by_sequence(rt: HostRuntime) -> Result<(), Fail> {
+    let mut engine = three_clients(rt.alloc())?;
+    make_calls(
+        &rt,
+        rt.alloc(),
+        &mut engine,
+        &[
+            Poll(9, Found::NoClient),
+            Begin(
+                Pause,
+                Err(BeginRefusal::WrongState {
+                    state: RunState::Stopped,
+                }),
+            ),
+            Begin(Start, Ok(1)),
+            Yes(1, false),
+            Yes(2, false),
+            Poll(0, Found::Idle(RunState::Stopped)),
+            Poll(2, Found::Turn(Start, true, true)),
+            Poll(2, Found::Turn(Start, false, false)),
+            Yes(2, true),
+            Poll(1, Found::Idle(RunState::Stopped)),
+            Poll(0, Found::Turn(Start, false, false)),
+            Yes(0, true),
+            Check(Progress::Going, 0),
+            Poll(1, Found::Turn(Start, false, false)),
+            Close(false),
+            Yes(1, true),
+            Poll(0, Found::Idle(RunState::Running)),
+            Check(DONE, 3),
+            Check(Progress::None, 0),
+        ],
+    )
+}
+
+#[test]
+fn no_client(rt: HostRuntime) -> Result<(), Fail> {
+    let mut engine = Engine::new(rt.alloc())?;
+    make_calls(
+        &rt,
+        rt.alloc(),
+        &mut engine,
+        &[
+            Begin(Start, Ok(1)),
+            Register(Err(RegisterRefusal::InProgress { transition: Start })),
+            Begin(Stop, Err(BeginRefusal::InProgress { transition: Start })),
+            Check(DONE, 0),
+            Check(Progress::None, 0),
+            Begin(
+                Start,
+                Err(BeginRefusal::WrongState {
+                    state: RunState::Running,
+                }),
+            ),
+            Close(true),
+            Register(Err(RegisterRefusal::Closed)),
+            Begin(Stop, Err(BeginRefusal::Closed)),
+        ],
+    )
+}
+
+#[test]
+fn start_refused(rt: HostRuntime) -> Result<(), Fail> {
+    let mut engine = three_clients(rt.alloc())?;
+    let outcome = StartOutcome::Refused {
+        client: 0,
+        why: Why::NotReady,
+    };
+    make_calls(
+        &rt,
+        rt.alloc(),
+        &mut engine,
+        &[
+            Begin(Start, Ok(1)),
+            Poll(2, Found::Turn(Start, true, true)),
+            Yes(2, true),
+            Poll(0, Found::Turn(Start, false, false)),
+            No(0, true),
+            Poll(1, Found::Idle(RunState::Stopped)),
+            Poll(0, Found::Turn(StartAbort, false, false)),
+            Yes(0, true),
+            Poll(1, Found::Turn(StartAbort, false, false)),
+            No(1, true),
+            Poll(2, Found::Turn(StartAbort, false, false)),
+            Yes(2, true),
+            Check(Progress::Done { outcome }, 4),
+            Begin(Start, Ok(2)),
+        ],
+    )
+}
+
+#[test]
+fn stop_not_refused(rt: HostRuntime) -> Result<(), Fail> {
+    let mut engine = Engine::new(rt.alloc())?;
+    let _client = add_client(&mut engine, 500, 500, true);
+    make_calls(
+        &rt,
+        rt.alloc(),
+        &mut engine,
+        &[
+            Begin(Start, Ok(1)),
+            Poll(0, Found::Turn(Start, true, true)),
+            Yes(0, true),
+            Check(DONE, 1),
+            Begin(Stop, Ok(1)),
+            Poll(0, Found::Turn(Stop, true, false)),
+            No(0, true),
+            Poll(0, Found::Idle(RunState::Stopped)),
+            Check(DONE, 1),
+        ],
+    )
+}
+
+#[test]
+fn most_clients(rt: HostRuntime) -> Result<(), Fail> {
+    let mut engine = Engine::new(rt.alloc())?;
+    for number in 0..64u32 {
+        assert_eq!(rt; add_client(&mut engine, 500, 500, false), Ok(number));
+    }
+    make_calls(
+        &rt,
+        rt.alloc(),
+        &mut engine,
+        &[
+            Register(Err(RegisterRefusal::NoSlot)),
+            Poll(63, Found::Idle(RunState::Stopped)),
+        ],
+    )
+}
