@@ -5,3 +5,6 @@ pub mod Engines
 pub mod EngineCalls
 pub mod EngineInside
 pub mod EngineHistories
+pub mod EnginePoints
+pub mod TurnOrder
+pub mod EngineSamples

@@ -7,6 +7,7 @@ mod called;
 mod client;
 mod engine;
 mod entry;
+pub mod laws;
 mod replies;
 mod sheet;
 

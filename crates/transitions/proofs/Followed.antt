@@ -1,0 +1,379 @@
+-- Every legal history of an engine is in order.
+use Rattle.std.proofs.Common.{◌≡◌, ℕ, suc, ◌+◌, ◌≤◌, Bool, true, false, ltb, List, [], ◌∷◌, ◌++◌, length, drop, Option, Some, None, refl, ap, sym, subst, ◌∙◌, arith, append_assoc}
+use Rattle.std.specs.Prelude.{◌&&◌, not, if◌then◌else◌, slice_get, Ok, Err, ⊤}
+use Rattle.std.specs.Option.{option_map}
+use Rattle.std.proofs.lemmas.Bool.{and_parts}
+use Rattle.std.proofs.lemmas.List.{append-nil}
+use Rattle.daq_types.specs.declared.runs.RunState.{RunState}
+use Rattle.daq_types.specs.declared.runs.Transition.{Transition}
+use Rattle.daq_types.specs.declared.runs.Transition.TheVariants.{Start, Stop, Pause, Resume, StartAbort}
+use Rattle.daq_types.specs.declared.runs.Order.{Order}
+use Rattle.daq_types.specs.declared.runs.StartOutcome.{StartOutcome}
+use Rattle.run_states.specs.States.{is_allowed}
+use Rattle.event_report.specs.Reports.{Totals}
+use Rattle.transitions.specs.declared.client.Registered.{Registered}
+use Rattle.transitions.specs.declared.called.Called.{Called}
+use Rattle.transitions.specs.declared.answers.Answer.{Answer as ClientAnswer}
+use Rattle.transitions.specs.declared.answers.Answer.TheVariants.{Yes, No}
+use Rattle.transitions.specs.declared.answers.Tally.TheVariants.{Plain}
+use Rattle.transitions.specs.declared.engine.Refusal.{Refusal}
+use Rattle.transitions.specs.declared.replies.BeginRefusal.TheVariants.{Closed as BeginClosed, InProgress as BeginInProgress, WrongState, LastStart}
+use Rattle.transitions.specs.declared.replies.RegisterRefusal.TheVariants.{Closed as RegisterClosed}
+use Rattle.transitions.specs.declared.replies.Polled.{Polled}
+use Rattle.transitions.specs.declared.replies.Polled.TheVariants.{Turn, Idle, Closed as PollClosed, NoClient}
+use Rattle.transitions.specs.declared.replies.Progress.{Progress}
+use Rattle.transitions.specs.declared.replies.Progress.TheVariants.{Going, Done, None as NoneGoing}
+use Rattle.transitions.specs.declared.entry.EngineEntry.{EngineEntry}
+use Rattle.transitions.specs.declared.entry.EngineEntry.TheVariants.{Register, Begin, Poll, Answer, Check, Close}
+use Rattle.transitions.specs.Limits.{last_start_number}
+use Rattle.transitions.specs.Engines.{Underway, EngineState, engine_opening}
+use Rattle.transitions.specs.EngineCalls.{turn_kind, turn_of, is_start, is_front, gets_dump, gets_blank, turn_reply, polled_by, told, refused_by, answered_by, outcome_of, register_reply, register_reply_in, begin_reply, begin_reply_in, start_reply, poll_reply, poll_reply_to, poll_reply_in, owes_answer, answer_reply, not_your_turn, check_reply, check_reply_in, progress_of, tallies_in, after_poll_by, after_answer_in, with_underway, IsEngineReply, engine_after}
+use Rattle.transitions.specs.EngineHistories.{IsLegalEngine}
+use Rattle.transitions.specs.EnginePoints.{engine_past_after, engine_past, Joined, Begun, GaveTurn, Answered, Ended, transition_at, callable_at, refusal_at, turned_at, answered_at, dump_at, blanks_at, calls_off, wants_dump, wants_report, is_among}
+use Rattle.transitions.specs.TurnOrder.{IsInOrder, IsRightTurn, IsRightCall, number_with, TurnsInOrder}
+use Rattle.transitions.proofs.Apart.{split, clients_of, IsApart}
+use Rattle.transitions.proofs.Fronts.{waiting, front_cut, front_waits, front_turned, dump_told, given_front}
+use Rattle.transitions.proofs.Tracked.{TracksUnderway, TracksNone, TracksTransition, Tracks, state_tracks, called_from, tracks_silent, none_joined, clients_joined, clients_kept, starts_kept, underway_begun, starts_begun, dump_wish, report_wish, underway_polled, underway_told, underway_refused, none_ended}
+
+-- What a reply says of the engine.
+
+register_free_in : (o : Option Underway) (count n : ℕ) → Ok n ≡ register_reply_in o count → o ≡ None
+register_free_in None count n e = refl
+register_free_in (Some u) count n e = absurd cc
+
+register_free : (s : EngineState) (n : ℕ) → Ok n ≡ register_reply s → s.underway ≡ None
+register_free s n e =
+    split s.closed (λ b. Ok n ≡ (if b then Err RegisterClosed else register_reply_in s.underway (length s.clients)) → s.underway ≡ None)
+    (λ h e'. absurd cc) (λ h e'. register_free_in s.underway (length s.clients) n e') e
+
+record Begins (s : EngineState) (t : Transition) (n : ℕ) : Type 0 where
+  free : s.underway ≡ None
+  allowed : is_allowed s.state t ≡ true
+  number : n ≡ number_with t s.start
+
+start_number : (t : Transition) (start n : ℕ) → Ok n ≡ start_reply t start → n ≡ number_with t start
+start_number Start start n e =
+    split (ltb start last_start_number) (λ b. Ok n ≡ (if b then Ok (start + 1) else Err LastStart) → n ≡ suc start)
+    (λ h e'. let same : n ≡ start + 1 = cc in omega (arith, same)) (λ h e'. absurd cc) e
+start_number Stop start n e = cc
+start_number Pause start n e = cc
+start_number Resume start n e = cc
+start_number StartAbort start n e = cc
+
+begins_in : (s : EngineState) (t : Transition) (n : ℕ) (o : Option Underway) → s.underway ≡ o → Ok n ≡ begin_reply_in o s.state t s.start → Begins s t n
+begins_in s t n (Some u) is e = absurd cc
+begins_in s t n None is e =
+    split (is_allowed s.state t) (λ b. is_allowed s.state t ≡ b → Ok n ≡ (if b then start_reply t s.start else Err (WrongState s.state)) → Begins s t n)
+    (λ h g e'. record { free = is; allowed = g; number = start_number t s.start n e' }) (λ h g e'. absurd cc) refl e
+
+begins : (s : EngineState) (t : Transition) (n : ℕ) → Ok n ≡ begin_reply s t → Begins s t n
+begins s t n e =
+    split s.closed (λ b. Ok n ≡ (if b then Err BeginClosed else begin_reply_in s.underway s.state t s.start) → Begins s t n)
+    (λ h e'. absurd cc) (λ h e'. begins_in s t n s.underway refl e') e
+
+start_right : (t : Transition) (start : ℕ) (state : RunState) → Err (WrongState state) ≡ start_reply t start → ⊥
+start_right Start start state e =
+    split (ltb start last_start_number) (λ b. Err (WrongState state) ≡ (if b then Ok (start + 1) else Err LastStart) → ⊥) (λ h e'. absurd cc) (λ h e'. absurd cc) e
+start_right Stop start state e = absurd cc
+start_right Pause start state e = absurd cc
+start_right Resume start state e = absurd cc
+start_right StartAbort start state e = absurd cc
+
+wrong_in : (o : Option Underway) (now : RunState) (t : Transition) (start : ℕ) (state : RunState) → Err (WrongState state) ≡ begin_reply_in o now t start → state ≡ now
+wrong_in (Some u) now t start state e = absurd cc
+wrong_in None now t start state e =
+    split (is_allowed now t) (λ b. Err (WrongState state) ≡ (if b then start_reply t start else Err (WrongState now)) → state ≡ now)
+    (λ h e'. absurd (start_right t start state e')) (λ h e'. cc) e
+
+wrong_state : (s : EngineState) (t : Transition) (state : RunState) → Err (WrongState state) ≡ begin_reply s t → state ≡ s.state
+wrong_state s t state e =
+    split s.closed (λ b. Err (WrongState state) ≡ (if b then Err BeginClosed else begin_reply_in s.underway s.state t s.start) → state ≡ s.state)
+    (λ h e'. absurd cc) (λ h e'. wrong_in s.underway s.state t s.start state e') e
+
+record GivesTurn (s : EngineState) (client : ℕ) (reply : Polled) : Type 0 where
+  c : Registered
+  u : Underway
+  client_is : slice_get s.clients client ≡ Some c
+  underway_is : s.underway ≡ Some u
+  front : is_front u.called client ≡ true
+  reply_is : reply ≡ turn_reply c u
+
+gives_in : (s : EngineState) (client : ℕ) (c : Registered) (o : Option Underway) (turn : Transition) (order : Order) (dump : Option (List ℕ)) (blank : Option Totals)
+    → slice_get s.clients client ≡ Some c → s.underway ≡ o → Turn turn order dump blank ≡ poll_reply_in s.state client c o → GivesTurn s client (Turn turn order dump blank)
+gives_in s client c None turn order dump blank is at e = absurd cc
+gives_in s client c (Some u) turn order dump blank is at e =
+    split (is_front u.called client) (λ b. is_front u.called client ≡ b → Turn turn order dump blank ≡ (if b then turn_reply c u else Idle s.state) → GivesTurn s client (Turn turn order dump blank))
+    (λ h g e'. record { c = c; u = u; client_is = is; underway_is = at; front = g; reply_is = e' }) (λ h g e'. absurd cc) refl e
+
+gives_to : (s : EngineState) (client : ℕ) (o : Option Registered) (turn : Transition) (order : Order) (dump : Option (List ℕ)) (blank : Option Totals)
+    → slice_get s.clients client ≡ o → Turn turn order dump blank ≡ poll_reply_to s client o → GivesTurn s client (Turn turn order dump blank)
+gives_to s client None turn order dump blank is e = absurd cc
+gives_to s client (Some c) turn order dump blank is e =
+    split s.closed (λ b. Turn turn order dump blank ≡ (if b then PollClosed else poll_reply_in s.state client c s.underway) → GivesTurn s client (Turn turn order dump blank))
+    (λ h e'. absurd cc) (λ h e'. gives_in s client c s.underway turn order dump blank is refl e') e
+
+gives_turn : (s : EngineState) (client : ℕ) (turn : Transition) (order : Order) (dump : Option (List ℕ)) (blank : Option Totals) → Turn turn order dump blank ≡ poll_reply s client → GivesTurn s client (Turn turn order dump blank)
+gives_turn s client turn order dump blank e = gives_to s client (slice_get s.clients client) turn order dump blank refl e
+
+idle_in : (now : RunState) (client : ℕ) (c : Registered) (o : Option Underway) (state : RunState) → Idle state ≡ poll_reply_in now client c o → state ≡ now
+idle_in now client c None state e = cc
+idle_in now client c (Some u) state e =
+    split (is_front u.called client) (λ b. Idle state ≡ (if b then turn_reply c u else Idle now) → state ≡ now) (λ h e'. absurd cc) (λ h e'. cc) e
+
+idle_to : (s : EngineState) (client : ℕ) (o : Option Registered) (state : RunState) → Idle state ≡ poll_reply_to s client o → state ≡ s.state
+idle_to s client None state e = absurd cc
+idle_to s client (Some c) state e =
+    split s.closed (λ b. Idle state ≡ (if b then PollClosed else poll_reply_in s.state client c s.underway) → state ≡ s.state)
+    (λ h e'. absurd cc) (λ h e'. idle_in s.state client c s.underway state e') e
+
+record Owes (s : EngineState) (client : ℕ) : Type 0 where
+  u : Underway
+  underway_is : s.underway ≡ Some u
+  polled : u.has_polled ≡ true
+  front : is_front u.called client ≡ true
+
+owes_in : (s : EngineState) (client : ℕ) (o : Option Underway) → s.underway ≡ o → owes_answer o client ≡ true → Owes s client
+owes_in s client None is e = absurd cc
+owes_in s client (Some u) is e =
+    let parts = and_parts u.has_polled (is_front u.called client) e in
+    record { u = u; underway_is = is; polled = parts.0; front = parts.1 }
+
+owes : (s : EngineState) (client : ℕ) (done : ⊤) → Ok done ≡ answer_reply s client → Owes s client
+owes s client done e =
+    split (owes_answer s.underway client) (λ b. owes_answer s.underway client ≡ b → Ok done ≡ (if b then Ok tt else Err not_your_turn) → Owes s client)
+    (λ h g e'. owes_in s client s.underway refl g) (λ h g e'. absurd cc) refl e
+
+record Finishes (s : EngineState) (outcome : StartOutcome) : Type 0 where
+  u : Underway
+  underway_is : s.underway ≡ Some u
+  done : u.called ≡ []
+  outcome_is : outcome ≡ outcome_of u.refusal
+
+finishes_at : (called : List Called) (r : Option Refusal) (outcome : StartOutcome) → Done outcome ≡ progress_of called r → (called ≡ []) × (outcome ≡ outcome_of r)
+finishes_at [] r outcome e = (refl, cc)
+finishes_at (c ∷ cs) r outcome e = absurd cc
+
+finishes_in : (s : EngineState) (o : Option Underway) (outcome : StartOutcome) → s.underway ≡ o → Done outcome ≡ check_reply_in o → Finishes s outcome
+finishes_in s None outcome is e = absurd cc
+finishes_in s (Some u) outcome is e =
+    let parts = finishes_at u.called u.refusal outcome e in
+    record { u = u; underway_is = is; done = parts.0; outcome_is = parts.1 }
+
+finishes : (s : EngineState) (outcome : StartOutcome) → Done outcome ≡ check_reply s → Finishes s outcome
+finishes s outcome e = finishes_in s s.underway outcome refl e
+
+-- One call.
+
+off_is : (past : List (ℕ × EngineEntry)) (state : RunState) (clients : List Registered) (u : Underway) (answer : ClientAnswer) → TracksUnderway past state clients u → calls_off answer (transition_at past) (refusal_at past) ≡ calls_off answer (Some u.transition) u.refusal
+off_is past state clients u answer t =
+    ap (λ (o : Option Transition). calls_off answer o (refusal_at past)) t.transition ∙ ap (calls_off answer (Some u.transition)) t.refusal
+
+tracks_answer : (past : List (ℕ × EngineEntry)) (s : EngineState) (by client : ℕ) (answer : ClientAnswer) (done : ⊤) (u : Underway) → Tracks past s → TracksUnderway past s.state s.clients u → u.has_polled ≡ true → is_front u.called client ≡ true
+    → Tracks ((by, Answer client answer (Ok done)) ∷ past) (with_underway s (answered_by s.clients client answer u))
+tracks_answer past s by client (Yes tally) done u t tu polled front =
+    let e : ℕ × EngineEntry = (by, Answer client (Yes tally) (Ok done)) in
+    record {
+      clients = clients_kept past e (Answered client (Yes tally)) refl refl ∙ t.clients;
+      starts = starts_kept past e (Answered client (Yes tally)) refl refl ∙ t.starts;
+      transition = underway_told past e s.state s.clients u client (Yes tally) refl tu polled front refl;
+    }
+tracks_answer past s by client (No why) done u t tu polled front =
+    let e : ℕ × EngineEntry = (by, Answer client (No why) (Ok done)) in
+    let off = off_is past s.state s.clients u (No why) tu in
+    split (is_start (turn_of u)) (λ b. is_start (turn_of u) ≡ b → Tracks (e ∷ past) (with_underway s (if b then refused_by s.clients client why u else told client Plain u)))
+    (λ h g. record {
+      clients = clients_kept past e (Answered client (No why)) refl refl ∙ t.clients;
+      starts = starts_kept past e (Answered client (No why)) refl refl ∙ t.starts;
+      transition = underway_refused past e s.state s.clients u client why refl tu front (off ∙ g);
+    })
+    (λ h g. record {
+      clients = clients_kept past e (Answered client (No why)) refl refl ∙ t.clients;
+      starts = starts_kept past e (Answered client (No why)) refl refl ∙ t.starts;
+      transition = underway_told past e s.state s.clients u client (No why) refl tu polled front (off ∙ g);
+    })
+    refl
+
+tracks_step : (past : List (ℕ × EngineEntry)) (s : EngineState) (by : ℕ) (entry : EngineEntry) → Tracks past s → IsEngineReply s entry → Tracks ((by, entry) ∷ past) (engine_after s entry)
+tracks_step past s by (Register name sequences dump report (Ok n)) t reply =
+    let e : ℕ × EngineEntry = (by, Register name sequences dump report (Ok n)) in
+    let c : Registered = record { name = name; sequences = sequences; wants_dump = dump; wants_report = report } in
+    let free = register_free s n reply in
+    record {
+      clients = clients_joined past e c refl ∙ ap (λ (cs : List Registered). cs ++ c ∷ []) t.clients;
+      starts = starts_kept past e (Joined c) refl refl ∙ t.starts;
+      transition = subst (TracksTransition (e ∷ past) s.state (s.clients ++ c ∷ [])) (sym free) (none_joined past e s.state c refl (subst (TracksTransition past s.state s.clients) free t.transition));
+    }
+tracks_step past s by (Register name sequences dump report (Err r)) t reply = tracks_silent past s (by, Register name sequences dump report (Err r)) refl t
+tracks_step past s by (Begin transition sheet (Ok n)) t reply =
+    let e : ℕ × EngineEntry = (by, Begin transition sheet (Ok n)) in
+    let b = begins s transition n reply in
+    record {
+      clients = clients_kept past e (Begun transition sheet n) refl refl ∙ t.clients;
+      starts = starts_begun past e transition sheet n refl ∙ (ap (number_with transition) t.starts ∙ sym b.number);
+      transition = underway_begun past e s transition sheet n refl t.clients (subst (TracksTransition past s.state s.clients) b.free t.transition);
+    }
+tracks_step past s by (Begin transition sheet (Err r)) t reply = tracks_silent past s (by, Begin transition sheet (Err r)) refl t
+tracks_step past s by (Poll client (Turn turn order dump blank)) t reply =
+    let e : ℕ × EngineEntry = (by, Poll client (Turn turn order dump blank)) in
+    let g = gives_turn s client turn order dump blank reply in
+    let same = g.reply_is in
+    let blank_is : blank ≡ (if gets_blank g.c g.u then slice_get g.u.blanks 0 else None) = cc in
+    let tu : TracksUnderway past s.state s.clients g.u = subst (TracksTransition past s.state s.clients) g.underway_is t.transition in
+    subst (λ (o : Option Registered). Tracks (e ∷ past) (after_poll_by s o)) (sym g.client_is) (record {
+      clients = clients_kept past e (GaveTurn client blank) refl refl ∙ t.clients;
+      starts = starts_kept past e (GaveTurn client blank) refl refl ∙ t.starts;
+      transition = subst (λ (o : Option Underway). TracksTransition (e ∷ past) s.state s.clients (option_map (polled_by g.c) o)) (sym g.underway_is)
+          (underway_polled past e s.state s.clients g.u client g.c blank refl tu g.client_is g.front blank_is);
+    })
+tracks_step past s by (Poll client (Idle state)) t reply = tracks_silent past s (by, Poll client (Idle state)) refl t
+tracks_step past s by (Poll client PollClosed) t reply = tracks_silent past s (by, Poll client PollClosed) refl t
+tracks_step past s by (Poll client NoClient) t reply = tracks_silent past s (by, Poll client NoClient) refl t
+tracks_step past s by (Answer client answer (Ok done)) t reply =
+    let e : ℕ × EngineEntry = (by, Answer client answer (Ok done)) in
+    let o = owes s client done reply in
+    let tu : TracksUnderway past s.state s.clients o.u = subst (TracksTransition past s.state s.clients) o.underway_is t.transition in
+    subst (λ (x : Option Underway). Tracks (e ∷ past) (after_answer_in s client answer x)) (sym o.underway_is) (tracks_answer past s by client answer done o.u t tu o.polled o.front)
+tracks_step past s by (Answer client answer (Err r)) t reply = tracks_silent past s (by, Answer client answer (Err r)) refl t
+tracks_step past s by (Check (Done outcome) tallies) t reply =
+    let e : ℕ × EngineEntry = (by, Check (Done outcome) tallies) in
+    let f = finishes s outcome reply.0 in
+    let tu : TracksUnderway past s.state s.clients f.u = subst (TracksTransition past s.state s.clients) f.underway_is t.transition in
+    record {
+      clients = clients_kept past e (Ended outcome) refl refl ∙ t.clients;
+      starts = starts_kept past e (Ended outcome) refl refl ∙ t.starts;
+      transition = none_ended past e s.state s.clients f.u outcome refl tu f.done f.outcome_is;
+    }
+tracks_step past s by (Check Going tallies) t reply = tracks_silent past s (by, Check Going tallies) refl t
+tracks_step past s by (Check NoneGoing tallies) t reply = tracks_silent past s (by, Check NoneGoing tallies) refl t
+tracks_step past s by (Close (Ok done)) t reply =
+    let kept = tracks_silent past s (by, Close (Ok done)) refl t in
+    record { clients = kept.clients; starts = kept.starts; transition = kept.transition }
+tracks_step past s by (Close (Err r)) t reply = tracks_silent past s (by, Close (Err r)) refl t
+
+-- Each point is in order.
+
+later_of : (polled : Bool) → List Called → List ℕ
+later_of true [] = []
+later_of true (c ∷ cs) = clients_of cs
+later_of false cs = clients_of cs
+
+later_cut : (polled : Bool) (called : List Called) (answered : List ℕ) → answered ++ clients_of called ≡ (answered ++ waiting polled called) ++ later_of polled called
+unfolding later_of
+later_cut true [] answered = sym (append-nil (answered ++ []))
+later_cut true (c ∷ cs) answered = sym (append_assoc answered (c.client ∷ []) (clients_of cs))
+later_cut false cs answered = ap (λ (xs : List ℕ). xs ++ clients_of cs) (sym (append-nil answered))
+
+waiting_one : (polled : Bool) (called : List Called) → length (waiting polled called) ≤ 1
+waiting_one true [] = omega arith
+waiting_one true (c ∷ cs) = omega arith
+waiting_one false called = omega arith
+
+point_in_order : (past : List (ℕ × EngineEntry)) (state : RunState) (clients : List Registered) (o : Option Underway) → TracksTransition past state clients o → IsInOrder past
+point_in_order past state clients None t = record {
+  later = [];
+  waiting = [];
+  turned = called_from past None (refusal_at past) (callable_at past) t.transition refl refl ∙ sym (append-nil (turned_at past) ∙ t.turned);
+  answered = t.turned ∙ sym (append-nil (answered_at past) ∙ t.answered);
+  one = omega arith;
+}
+point_in_order past state clients (Some u) t = record {
+  later = later_of u.has_polled u.called;
+  waiting = waiting u.has_polled u.called;
+  turned = t.called ∙ (later_cut u.has_polled u.called (answered_at past) ∙ ap (λ (xs : List ℕ). xs ++ later_of u.has_polled u.called) (sym t.turned));
+  answered = t.turned;
+  one = waiting_one u.has_polled u.called;
+}
+
+-- Each call is right.
+
+right_turn : (past : List (ℕ × EngineEntry)) (s : EngineState) (client : ℕ) (turn : Transition) (order : Order) (dump : Option (List ℕ)) (blank : Option Totals) (g : GivesTurn s client (Turn turn order dump blank))
+    → TracksUnderway past s.state s.clients g.u → IsRightTurn past client turn order dump blank
+right_turn past s client turn order dump blank g t =
+    let u : Underway = g.u in
+    let c : Registered = g.c in
+    let same = g.reply_is in
+    let turn_same : turn ≡ turn_of u = cc in
+    let order_same : order ≡ u.order = cc in
+    let dump_same : dump ≡ (if gets_dump c u then u.dump else None) = cc in
+    let blank_same : blank ≡ (if gets_blank c u then slice_get u.blanks 0 else None) = cc in
+    let dump_wanted : wants_dump (callable_at past) client ≡ c.wants_dump = ap (λ (cs : List Registered). wants_dump cs client) t.callable ∙ dump_wish s.clients client c g.client_is in
+    let report_wanted : wants_report (callable_at past) client ≡ c.wants_report = ap (λ (cs : List Registered). wants_report cs client) t.callable ∙ report_wish s.clients client c g.client_is in
+    let given : u.has_polled ≡ true → c.wants_dump ≡ true → u.dump ≡ None = λ polled wants. given_front u.has_polled s.clients client u.called u.dump g.front t.given polled (dump_wish s.clients client c g.client_is ∙ wants) in
+    let apart : IsApart (answered_at past ++ clients_of u.called) = subst IsApart t.called t.apart in
+    let polled : is_among client (turned_at past) ≡ u.has_polled = ap (is_among client) t.turned ∙ front_turned u.has_polled client u.called (answered_at past) g.front apart in
+    record {
+      later = clients_of (drop 1 u.called);
+      turn_is = ap (λ (o : Option Transition). option_map (λ x. turn_kind x (refusal_at past)) o) t.transition ∙ (ap (λ (r : Option Refusal). Some (turn_kind u.transition r)) t.refusal ∙ ap (λ (x : Transition). Some x) (sym turn_same));
+      order_is = t.order ∙ ap (λ (x : Order). Some x) (sym order_same);
+      next = t.called ∙ ap (λ (xs : List ℕ). answered_at past ++ xs) (front_cut client u.called g.front);
+      dump_is = dump_same ∙ (dump_told c.wants_dump u.has_polled u.dump given
+          ∙ sym (ap (λ (b : Bool). if b then dump_at past else None) dump_wanted ∙ ap (λ (d : Option (List ℕ)). if c.wants_dump then d else None) t.dump));
+      blank_is = blank_same
+          ∙ sym (ap (λ (b : Bool). if b && (not (is_among client (turned_at past)) && is_start turn) then slice_get (blanks_at past) 0 else None) report_wanted
+          ∙ (ap (λ (b : Bool). if c.wants_report && (not b && is_start turn) then slice_get (blanks_at past) 0 else None) polled
+          ∙ (ap (λ (x : Transition). if c.wants_report && (not u.has_polled && is_start x) then slice_get (blanks_at past) 0 else None) turn_same
+          ∙ ap (λ (xs : List Totals). if gets_blank c u then slice_get xs 0 else None) t.blanks)));
+    }
+
+right_call : (past : List (ℕ × EngineEntry)) (s : EngineState) (entry : EngineEntry) → Tracks past s → IsEngineReply s entry → IsRightCall past entry
+right_call past s (Register name sequences dump report reply) t e = tt
+right_call past s (Begin transition sheet (Ok n)) t e =
+    let b = begins s transition n e in
+    let none : TracksNone past s.state = subst (TracksTransition past s.state s.clients) b.free t.transition in
+    record {
+      free = none.transition;
+      allowed = ap (λ (state : RunState). is_allowed state transition) (state_tracks past s.state s.clients s.underway t.transition) ∙ b.allowed;
+      number = b.number ∙ ap (number_with transition) (sym t.starts);
+    }
+right_call past s (Begin transition sheet (Err (WrongState state))) t e = wrong_state s transition state e ∙ sym (state_tracks past s.state s.clients s.underway t.transition)
+right_call past s (Begin transition sheet (Err BeginClosed)) t e = tt
+right_call past s (Begin transition sheet (Err (BeginInProgress u))) t e = tt
+right_call past s (Begin transition sheet (Err LastStart)) t e = tt
+right_call past s (Poll client (Turn turn order dump blank)) t e =
+    let g = gives_turn s client turn order dump blank e in
+    right_turn past s client turn order dump blank g (subst (TracksTransition past s.state s.clients) g.underway_is t.transition)
+right_call past s (Poll client (Idle state)) t e = idle_to s client (slice_get s.clients client) state e ∙ sym (state_tracks past s.state s.clients s.underway t.transition)
+right_call past s (Poll client PollClosed) t e = tt
+right_call past s (Poll client NoClient) t e = tt
+right_call past s (Answer client answer (Ok done)) t e =
+    let o = owes s client done e in
+    let tu : TracksUnderway past s.state s.clients o.u = subst (TracksTransition past s.state s.clients) o.underway_is t.transition in
+    tu.turned ∙ ap (λ (xs : List ℕ). answered_at past ++ xs) (ap (λ (b : Bool). waiting b o.u.called) o.polled ∙ front_waits client o.u.called o.front)
+right_call past s (Answer client answer (Err r)) t e = tt
+right_call past s (Check (Done outcome) tallies) t e =
+    let f = finishes s outcome e.0 in
+    let tu : TracksUnderway past s.state s.clients f.u = subst (TracksTransition past s.state s.clients) f.underway_is t.transition in
+    record {
+      transition = f.u.transition;
+      in_progress = tu.transition;
+      all = sym (tu.called ∙ (ap (λ (cs : List Called). answered_at past ++ clients_of cs) f.done ∙ append-nil (answered_at past)));
+      outcome_is = f.outcome_is ∙ ap outcome_of (sym tu.refusal);
+      tallies_is = e.1 ∙ (ap (λ (p : Progress). tallies_in p s.underway) (sym e.0) ∙ (ap (tallies_in (Done outcome)) f.underway_is ∙ sym tu.tallies));
+    }
+right_call past s (Check Going tallies) t e = tt
+right_call past s (Check NoneGoing tallies) t e = tt
+right_call past s (Close reply) t e = tt
+
+-- Along a history.
+
+pub record Reached (past after : List (ℕ × EngineEntry)) : Type 0 where
+  pub state : EngineState
+  pub tracks : Tracks past state
+  pub legal : IsLegalEngine state after
+
+pub reach : (past : List (ℕ × EngineEntry)) (s : EngineState) (before after : List (ℕ × EngineEntry)) → Tracks past s → IsLegalEngine s (before ++ after) → Reached (engine_past_after past before) after
+reach past s [] after t legal = record { state = s; tracks = t; legal = legal }
+reach past s (e ∷ es) after t legal = reach (e ∷ past) (engine_after s e.1) es after (tracks_step past s e.0 e.1 t legal.1) legal.2
+
+pub opens : Tracks [] engine_opening
+opens = record { clients = refl; starts = refl; transition = record { transition = refl; refusal = refl; turned = refl; answered = refl; state_is = refl } }
+
+pub history_in_order : (history : List (ℕ × EngineEntry)) → IsLegalEngine engine_opening history → TurnsInOrder history
+history_in_order history legal = record {
+  in_order = λ before after e.
+      let r = reach [] engine_opening before after opens (subst (IsLegalEngine engine_opening) e legal) in
+      point_in_order (engine_past before) r.state.state r.state.clients r.state.underway r.tracks.transition;
+  right = λ before after caller entry e.
+      let r = reach [] engine_opening before ((caller, entry) ∷ after) opens (subst (IsLegalEngine engine_opening) e legal) in
+      right_call (engine_past before) r.state entry r.tracks r.legal.1;
+}

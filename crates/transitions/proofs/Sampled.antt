@@ -1,0 +1,81 @@
+-- What the law of turns rules out.
+use Rattle.std.proofs.Common.{◌≡◌, ℕ, List, [], ◌∷◌, ◌++◌, Some, None, refl, ap, arith}
+use Rattle.std.specs.Prelude.{Ok}
+use Rattle.daq_types.specs.declared.runs.RunState.TheVariants.{Stopped}
+use Rattle.daq_types.specs.declared.runs.Transition.TheVariants.{Start, StartAbort}
+use Rattle.daq_types.specs.declared.runs.StartOutcome.TheVariants.{Completed}
+use Rattle.transitions.specs.declared.replies.Polled.TheVariants.{Idle}
+use Rattle.transitions.specs.declared.replies.Progress.TheVariants.{Done}
+use Rattle.transitions.specs.declared.answers.ClientTally.{ClientTally}
+use Rattle.transitions.specs.declared.entry.EngineEntry.TheVariants.{Begin, Poll, Check}
+use Rattle.transitions.specs.Called.{called_list}
+use Rattle.transitions.specs.Engines.{engine_opening}
+use Rattle.transitions.specs.EngineHistories.{IsLegalEngine, IsSheet}
+use Rattle.transitions.specs.TurnOrder.{TurnsInOrder}
+use Rattle.transitions.specs.EngineSamples.{sheet_with, turn_for, plain, with_dump, refused_by_second, out_of_order, before_the_answer, after_the_refusal, dump_given, both_answered, started}
+
+bare : IsSheet (sheet_with None)
+bare = record { short = λ bytes e. absurd cc; blank = tt }
+
+pub refused_is_legal : IsLegalEngine engine_opening refused_by_second
+unfolding called_list
+refused_is_legal =
+    (refl, refl, (refl, refl, ((refl, bare), refl, (tt, refl, (tt, refl, (tt, refl, (tt, refl, (tt, refl, (tt, refl, (tt, refl, (tt, refl, (refl, (refl, refl), tt))))))))))))
+
+heads : (a b : ℕ) (xs ys : List ℕ) → a ∷ xs ≡ b ∷ ys → a ≡ b
+heads a b xs ys e = cc
+
+first_client : List ClientTally → ℕ
+first_client [] = 9
+first_client (t ∷ ts) = t.client
+
+pub never_out_of_order : TurnsInOrder (out_of_order ++ turn_for 1 Start ∷ []) → ⊥
+unfolding called_list
+never_out_of_order law =
+    let right = law.right out_of_order [] 1 (turn_for 1 Start).1 refl in
+    let same : 0 ≡ 1 = heads 0 1 _ _ right.next in
+    absurd (omega (arith, same))
+
+pub never_before_the_answer : TurnsInOrder (before_the_answer ++ turn_for 1 Start ∷ []) → ⊥
+unfolding called_list
+never_before_the_answer law =
+    let right = law.right before_the_answer [] 1 (turn_for 1 Start).1 refl in
+    let same : 0 ≡ 1 = heads 0 1 _ _ right.next in
+    absurd (omega (arith, same))
+
+pub never_after_the_refusal : TurnsInOrder (after_the_refusal ++ turn_for 1 Start ∷ []) → ⊥
+never_after_the_refusal law =
+    let right = law.right after_the_refusal [] 1 (turn_for 1 Start).1 refl in
+    let same : Some StartAbort ≡ Some Start = right.turn_is in
+    absurd cc
+
+pub never_dump_twice : TurnsInOrder (dump_given ++ with_dump 1 ∷ []) → ⊥
+never_dump_twice law =
+    let right = law.right dump_given [] 1 (with_dump 1).1 refl in
+    let same : Some (7 ∷ []) ≡ None = right.dump_is in
+    absurd cc
+
+pub never_done_before_all : TurnsInOrder (before_the_answer ++ (0, Check (Done Completed) []) ∷ []) → ⊥
+unfolding called_list
+never_done_before_all law =
+    let right = law.right before_the_answer [] 0 (Check (Done Completed) []) refl in
+    absurd (cc right.all)
+
+pub never_tallies_out_of_order : TurnsInOrder (both_answered ++ (0, Check (Done Completed) (plain 1 ∷ plain 0 ∷ [])) ∷ []) → ⊥
+unfolding first_client
+never_tallies_out_of_order law =
+    let right = law.right both_answered [] 0 (Check (Done Completed) (plain 1 ∷ plain 0 ∷ [])) refl in
+    let same : 1 ≡ 0 = ap first_client right.tallies_is in
+    absurd (omega (arith, same))
+
+pub never_state_kept : TurnsInOrder (started ++ (1, Poll 0 (Idle Stopped)) ∷ []) → ⊥
+unfolding called_list
+never_state_kept law =
+    let same = law.right started [] 1 (Poll 0 (Idle Stopped)) refl in
+    absurd (cc same)
+
+pub never_number_twice : TurnsInOrder (started ++ (0, Begin Start (sheet_with None) (Ok 1)) ∷ []) → ⊥
+never_number_twice law =
+    let right = law.right started [] 0 (Begin Start (sheet_with None) (Ok 1)) refl in
+    let same : 1 ≡ 2 = right.number in
+    absurd (omega (arith, same))

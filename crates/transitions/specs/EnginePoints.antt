@@ -1,0 +1,244 @@
+-- What the calls of an engine and their replies tell, by themselves: nothing here looks into the engine.
+-- A point of a history is the list of the entries before it, the latest first.
+use Rattle.std.specs.Prelude.{ℕ, suc, ◌==◌, Bool, true, false, ◌||◌, if◌then◌else◌, List, [], ◌∷◌, ◌++◌, length, map, drop, fold, slice_get, Option, Some, None, Ok}
+use Rattle.std.specs.Option.{option_map, option_map_or}
+use Rattle.daq_types.specs.declared.runs.RunState.{RunState}
+use Rattle.daq_types.specs.declared.runs.RunState.TheVariants.{Stopped}
+use Rattle.daq_types.specs.declared.runs.Transition.{Transition}
+use Rattle.daq_types.specs.declared.runs.Order.{Order}
+use Rattle.daq_types.specs.declared.runs.StartOutcome.{StartOutcome}
+use Rattle.daq_types.specs.declared.runs.StartOutcome.TheVariants.{Completed}
+use Rattle.run_states.specs.States.{state_after}
+use Rattle.event_report.specs.Reports.{Totals}
+use Rattle.transitions.specs.declared.client.Registered.{Registered}
+use Rattle.transitions.specs.declared.called.Called.{Called}
+use Rattle.transitions.specs.declared.sheet.Sheet.{Sheet}
+use Rattle.transitions.specs.declared.answers.Answer.{Answer as ClientAnswer}
+use Rattle.transitions.specs.declared.answers.Answer.TheVariants.{Yes, No}
+use Rattle.transitions.specs.declared.answers.Tally.{Tally}
+use Rattle.transitions.specs.declared.answers.Tally.TheVariants.{Plain}
+use Rattle.transitions.specs.declared.answers.ClientTally.{ClientTally}
+use Rattle.transitions.specs.declared.engine.Refusal.{Refusal}
+use Rattle.transitions.specs.declared.replies.Polled.TheVariants.{Turn}
+use Rattle.transitions.specs.declared.replies.Progress.TheVariants.{Done}
+use Rattle.transitions.specs.declared.entry.EngineEntry.{EngineEntry}
+use Rattle.transitions.specs.declared.entry.EngineEntry.TheVariants.{Register, Begin, Poll, Answer, Check}
+use Rattle.transitions.specs.Called.{called_list}
+use Rattle.transitions.specs.EngineCalls.{turn_kind, is_start, order_of}
+
+-- the point behind these entries, which follow this point
+abbrev pub engine_past_after : List (ℕ × EngineEntry) → (entries : List (ℕ × EngineEntry)) → List (ℕ × EngineEntry)
+engine_past_after past [] = past
+engine_past_after past (e ∷ es) = engine_past_after (e ∷ past) es
+
+-- the end of a history
+abbrev pub engine_past : (history : List (ℕ × EngineEntry)) → List (ℕ × EngineEntry)
+engine_past h = engine_past_after [] h
+
+-- what an entry tells of clients, transitions, turns and answers
+pub data EngineNews : Type 0 where
+  Silence : EngineNews
+  Joined : (client : Registered) → EngineNews
+  Begun : (transition : Transition) (sheet : Sheet) (start : ℕ) → EngineNews
+  GaveTurn : (client : ℕ) (blank : Option Totals) → EngineNews
+  Answered : (client : ℕ) (answer : ClientAnswer) → EngineNews
+  Ended : (outcome : StartOutcome) → EngineNews
+
+-- a refusal tells nothing
+abbrev pub engine_news : EngineEntry → EngineNews
+engine_news (Register name sequences dump report (Ok n)) = Joined (record { name = name; sequences = sequences; wants_dump = dump; wants_report = report })
+engine_news (Begin t sheet (Ok n)) = Begun t sheet n
+engine_news (Poll client (Turn turn order dump blank)) = GaveTurn client blank
+engine_news (Answer client answer (Ok u)) = Answered client answer
+engine_news (Check (Done outcome) tallies) = Ended outcome
+engine_news entry = Silence
+
+-- Clients and transitions.
+
+abbrev pub joined_after : EngineNews → List Registered → List Registered
+joined_after (Joined c) cs = cs ++ c ∷ []
+joined_after news cs = cs
+
+-- the registered clients, in order of registration
+abbrev pub clients_at : List (ℕ × EngineEntry) → List Registered
+clients_at [] = []
+clients_at (e ∷ past) = joined_after (engine_news e.1) (clients_at past)
+
+abbrev pub starts_after : EngineNews → ℕ → ℕ
+starts_after (Begun t sheet n) count = if is_start t then suc count else count
+starts_after news count = count
+
+-- how many starts were accepted
+abbrev pub starts_at : List (ℕ × EngineEntry) → ℕ
+starts_at [] = 0
+starts_at (e ∷ past) = starts_after (engine_news e.1) (starts_at past)
+
+abbrev pub transition_after : EngineNews → Option Transition → Option Transition
+transition_after (Begun t sheet n) before = Some t
+transition_after (Ended outcome) before = None
+transition_after news before = before
+
+-- the transition in progress: one that was begun, and whose Done was not told
+abbrev pub transition_at : List (ℕ × EngineEntry) → Option Transition
+transition_at [] = None
+transition_at (e ∷ past) = transition_after (engine_news e.1) (transition_at past)
+
+abbrev pub callable_after : EngineNews → List Registered → List Registered → List Registered
+callable_after (Begun t sheet n) clients before = clients
+callable_after news clients before = before
+
+-- the clients that were registered before the last transition was begun
+abbrev pub callable_at : List (ℕ × EngineEntry) → List Registered
+callable_at [] = []
+callable_at (e ∷ past) = callable_after (engine_news e.1) (clients_at past) (callable_at past)
+
+-- Refusals.
+
+-- a No to a turn of a start calls the start off
+abbrev pub calls_off : ClientAnswer → Option Transition → Option Refusal → Bool
+calls_off (Yes tally) transition refusal = false
+calls_off (No why) None refusal = false
+calls_off (No why) (Some t) refusal = is_start (turn_kind t refusal)
+
+abbrev pub refusal_from : Bool → (client : ℕ) → ClientAnswer → Option Refusal → Option Refusal
+refusal_from true client (No why) before = Some (record { client = client; why = why })
+refusal_from off client answer before = before
+
+abbrev pub refusal_after : EngineNews → Option Transition → Option Refusal → Option Refusal
+refusal_after (Begun t sheet n) transition before = None
+refusal_after (Answered client answer) transition before = refusal_from (calls_off answer transition before) client answer before
+refusal_after (Ended outcome) transition before = None
+refusal_after news transition before = before
+
+-- the refusal of the start in progress
+abbrev pub refusal_at : List (ℕ × EngineEntry) → Option Refusal
+refusal_at [] = None
+refusal_at (e ∷ past) = refusal_after (engine_news e.1) (transition_at past) (refusal_at past)
+
+-- whether the entry calls a start off
+abbrev pub is_call_off : EngineNews → List (ℕ × EngineEntry) → Bool
+is_call_off (Answered client answer) past = calls_off answer (transition_at past) (refusal_at past)
+is_call_off news past = false
+
+-- Turns and answers, since the transition was begun or, of a start that was refused, since its refusal.
+
+-- the transition whose turns are given
+abbrev pub turn_at : List (ℕ × EngineEntry) → Option Transition
+turn_at past = option_map (λ t. turn_kind t (refusal_at past)) (transition_at past)
+
+abbrev pub list_for : Option Transition → List Registered → List ℕ
+list_for None clients = []
+list_for (Some t) clients = map (λ (c : Called). c.client) (called_list t clients)
+
+-- the clients that are called, in their order
+abbrev pub called_at : List (ℕ × EngineEntry) → List ℕ
+called_at past = list_for (turn_at past) (callable_at past)
+
+abbrev pub is_among : (client : ℕ) → List ℕ → Bool
+is_among client [] = false
+is_among client (c ∷ cs) = (c == client) || is_among client cs
+
+abbrev pub turned_after : EngineNews → (off : Bool) → List ℕ → List ℕ
+turned_after (Begun t sheet n) off before = []
+turned_after (GaveTurn client blank) off before = if is_among client before then before else before ++ client ∷ []
+turned_after (Ended outcome) off before = []
+turned_after news off before = if off then [] else before
+
+-- the clients that were given a turn, in the order of the first replies that gave it
+abbrev pub turned_at : List (ℕ × EngineEntry) → List ℕ
+turned_at [] = []
+turned_at (e ∷ past) = turned_after (engine_news e.1) (is_call_off (engine_news e.1) past) (turned_at past)
+
+abbrev pub answered_after : EngineNews → (off : Bool) → List ℕ → List ℕ
+answered_after (Begun t sheet n) off before = []
+answered_after (Answered client answer) off before = if off then [] else before ++ client ∷ []
+answered_after (Ended outcome) off before = []
+answered_after news off before = before
+
+-- the clients that answered, in order
+abbrev pub answered_at : List (ℕ × EngineEntry) → List ℕ
+answered_at [] = []
+answered_at (e ∷ past) = answered_after (engine_news e.1) (is_call_off (engine_news e.1) past) (answered_at past)
+
+-- What is given and told since the transition was begun.
+
+abbrev pub tally_of : ClientAnswer → Tally
+tally_of (Yes tally) = tally
+tally_of (No why) = Plain
+
+abbrev pub tallies_after : EngineNews → (off : Bool) → List ClientTally → List ClientTally
+tallies_after (Begun t sheet n) off before = []
+tallies_after (Answered client answer) off before = if off then before else before ++ record { client = client; tally = tally_of answer } ∷ []
+tallies_after (Ended outcome) off before = []
+tallies_after news off before = before
+
+-- the answers, in order, without a No to a start, and with a No to anything else as Yes without a tally
+abbrev pub tallies_at : List (ℕ × EngineEntry) → List ClientTally
+tallies_at [] = []
+tallies_at (e ∷ past) = tallies_after (engine_news e.1) (is_call_off (engine_news e.1) past) (tallies_at past)
+
+abbrev pub wants_dump : List Registered → (client : ℕ) → Bool
+wants_dump clients client = option_map_or (λ (c : Registered). c.wants_dump) (slice_get clients client) false
+
+abbrev pub wants_report : List Registered → (client : ℕ) → Bool
+wants_report clients client = option_map_or (λ (c : Registered). c.wants_report) (slice_get clients client) false
+
+abbrev pub dump_after : EngineNews → List Registered → Option (List ℕ) → Option (List ℕ)
+dump_after (Begun t sheet n) clients before = sheet.dump
+dump_after (GaveTurn client blank) clients before = if wants_dump clients client then None else before
+dump_after news clients before = before
+
+-- the dump of the sheet, until a client that wants it was given a turn
+abbrev pub dump_at : List (ℕ × EngineEntry) → Option (List ℕ)
+dump_at [] = None
+dump_at (e ∷ past) = dump_after (engine_news e.1) (callable_at past) (dump_at past)
+
+abbrev pub blanks_after : EngineNews → List Totals → List Totals
+blanks_after (Begun t sheet n) before = sheet.blanks
+blanks_after (GaveTurn client (Some blank)) before = drop 1 before
+blanks_after news before = before
+
+-- the blank reports of the sheet that were in no turn
+abbrev pub blanks_at : List (ℕ × EngineEntry) → List Totals
+blanks_at [] = []
+blanks_at (e ∷ past) = blanks_after (engine_news e.1) (blanks_at past)
+
+-- The state.
+
+abbrev pub ended_with : StartOutcome → Option Transition → List Transition → List Transition
+ended_with Completed (Some t) ended = ended ++ t ∷ []
+ended_with outcome transition ended = ended
+
+abbrev pub ended_after : EngineNews → Option Transition → List Transition → List Transition
+ended_after (Ended outcome) transition ended = ended_with outcome transition ended
+ended_after news transition ended = ended
+
+-- the transitions that were told to have ended and were not refused, in order
+abbrev pub ended_at : List (ℕ × EngineEntry) → List Transition
+ended_at [] = []
+ended_at (e ∷ past) = ended_after (engine_news e.1) (transition_at past) (ended_at past)
+
+abbrev pub answered_to_the_end : Option Transition → Option Refusal → (called answered : ℕ) → List Transition
+answered_to_the_end (Some t) None called answered = if called == answered then t ∷ [] else []
+answered_to_the_end transition refusal called answered = []
+
+-- the transition in progress, if each client that is called has answered and none refused it
+abbrev pub ending_at : List (ℕ × EngineEntry) → List Transition
+ending_at past = answered_to_the_end (transition_at past) (refusal_at past) (length (called_at past)) (length (answered_at past))
+
+-- the walk over transitions from stopped
+abbrev pub state_by : List Transition → RunState
+state_by ts = fold state_after Stopped ts
+
+-- the state to which the transitions lead that were answered to the end and not refused
+abbrev pub state_at : List (ℕ × EngineEntry) → RunState
+state_at past = state_by (ended_at past ++ ending_at past)
+
+abbrev pub order_after : EngineNews → RunState → Option Order → Option Order
+order_after (Begun t sheet n) state before = Some (order_of sheet n state)
+order_after news state before = before
+
+-- the order of the last transition that was begun
+abbrev pub order_at : List (ℕ × EngineEntry) → Option Order
+order_at [] = None
+order_at (e ∷ past) = order_after (engine_news e.1) (state_at past) (order_at past)

@@ -1,0 +1,75 @@
+-- A history that an engine has, and some that none has, each wrong in one way.
+use Rattle.std.specs.Prelude.{ℕ, List, [], ◌∷◌, ◌++◌, Option, Some, None, Ok, true}
+use Rattle.daq_types.specs.declared.runs.RunState.TheVariants.{Stopped}
+use Rattle.daq_types.specs.declared.runs.Transition.{Transition}
+use Rattle.daq_types.specs.declared.runs.Transition.TheVariants.{Start, StartAbort}
+use Rattle.daq_types.specs.declared.runs.StartOutcome.TheVariants.{Completed, Refused}
+use Rattle.daq_types.specs.declared.runs.Why.TheVariants.{NotReady}
+use Rattle.run_states.specs.declared.sequences.Sequences.{Sequences}
+use Rattle.transitions.specs.declared.sheet.Sheet.{Sheet}
+use Rattle.transitions.specs.declared.answers.Answer.TheVariants.{Yes, No}
+use Rattle.transitions.specs.declared.answers.Tally.TheVariants.{Plain}
+use Rattle.transitions.specs.declared.answers.ClientTally.{ClientTally}
+use Rattle.transitions.specs.declared.replies.Polled.TheVariants.{Turn}
+use Rattle.transitions.specs.declared.replies.Progress.TheVariants.{Done}
+use Rattle.transitions.specs.declared.entry.EngineEntry.{EngineEntry}
+use Rattle.transitions.specs.declared.entry.EngineEntry.TheVariants.{Register, Begin, Poll, Answer, Check}
+use Rattle.transitions.specs.EngineCalls.{order_of}
+
+abbrev pub at_all : ℕ → Sequences
+at_all q = record { start = Some q; stop = Some q; pause = None; resume = None; start_abort = Some q }
+
+abbrev pub sheet_with : Option (List ℕ) → Sheet
+sheet_with dump = record { run = 1; time = 1000; quota = 0; dump = dump; blanks = [] }
+
+-- two clients that want the dump, of which the first is called first, and a start
+abbrev pub with_start_of : (dump : Option (List ℕ)) → List (ℕ × EngineEntry) → List (ℕ × EngineEntry)
+with_start_of dump es =
+    (0, Register [] (at_all 1) true true (Ok 0)) ∷ (0, Register [] (at_all 2) true true (Ok 1)) ∷ (0, Begin Start (sheet_with dump) (Ok 1)) ∷ es
+
+-- the client is given its turn, without anything
+abbrev pub turn_for : (client : ℕ) → Transition → ℕ × EngineEntry
+turn_for client t = (client, Poll client (Turn t (order_of (sheet_with None) 1 Stopped) None None))
+
+abbrev pub yes_by : (client : ℕ) → ℕ × EngineEntry
+yes_by client = (client, Answer client (Yes Plain) (Ok tt))
+
+abbrev pub no_by : (client : ℕ) → ℕ × EngineEntry
+no_by client = (client, Answer client (No NotReady) (Ok tt))
+
+abbrev pub plain : (client : ℕ) → ClientTally
+plain client = record { client = client; tally = Plain }
+
+-- the second client refuses the start, and both are called for start-abort
+abbrev pub refused_by_second : List (ℕ × EngineEntry)
+refused_by_second =
+    with_start_of None
+    (turn_for 0 Start ∷ yes_by 0 ∷ turn_for 1 Start ∷ no_by 1 ∷ turn_for 0 StartAbort ∷ yes_by 0 ∷ turn_for 1 StartAbort ∷ yes_by 1
+    ∷ (0, Check (Done (Refused 1 NotReady)) (plain 0 ∷ plain 0 ∷ plain 1 ∷ [])) ∷ [])
+
+-- the second client has its turn before the first one
+abbrev pub out_of_order : List (ℕ × EngineEntry)
+out_of_order = with_start_of None []
+
+-- the second client has its turn before the first one answered
+abbrev pub before_the_answer : List (ℕ × EngineEntry)
+before_the_answer = with_start_of None (turn_for 0 Start ∷ [])
+
+-- the second client has its turn of a start that the first one refused
+abbrev pub after_the_refusal : List (ℕ × EngineEntry)
+after_the_refusal = with_start_of None (turn_for 0 Start ∷ no_by 0 ∷ [])
+
+-- both clients are given the dump
+abbrev pub with_dump : (client : ℕ) → ℕ × EngineEntry
+with_dump client = (client, Poll client (Turn Start (order_of (sheet_with (Some (7 ∷ []))) 1 Stopped) (Some (7 ∷ [])) None))
+
+abbrev pub dump_given : List (ℕ × EngineEntry)
+dump_given = with_start_of (Some (7 ∷ [])) (with_dump 0 ∷ yes_by 0 ∷ [])
+
+-- both clients answered
+abbrev pub both_answered : List (ℕ × EngineEntry)
+both_answered = with_start_of None (turn_for 0 Start ∷ yes_by 0 ∷ turn_for 1 Start ∷ yes_by 1 ∷ [])
+
+-- and so the start is done
+abbrev pub started : List (ℕ × EngineEntry)
+started = both_answered ++ (0, Check (Done Completed) (plain 0 ∷ plain 1 ∷ [])) ∷ []
