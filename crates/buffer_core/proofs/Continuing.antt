@@ -4,23 +4,25 @@ use Rattle.std.specs.List.{enumerate_from}
 use Rattle.std.proofs.Common.{ap, sym, ◌∙◌, subst, arith, append_assoc}
 use Rattle.std.proofs.lemmas.Bool.{eqb-true}
 use Rattle.std.proofs.lemmas.List.{append-nil, take-append-le}
+use Rattle.buffer_core.specs.declared.client.Request.{Request as EventRequest}
 use Rattle.buffer_core.specs.declared.client.Client.{Client}
 use Rattle.buffer_core.specs.declared.replies.Received.TheVariants.{Got}
 use Rattle.buffer_core.specs.declared.entry.BufferEntry.{BufferEntry}
-use Rattle.buffer_core.specs.declared.entry.BufferEntry.TheVariants.{Send, SendInRun, Receive, Begin, Pause, Resume, End, Accepted}
-use Rattle.buffer_core.specs.Slots.{slot_at}
+use Rattle.buffer_core.specs.declared.entry.BufferEntry.TheVariants.{Attach, Send, SendInRun, Receive, Begin, Pause, Resume, End, Accepted}
+use Rattle.buffer_core.specs.Slots.{slot_at, free_slot}
 use Rattle.buffer_core.specs.Window.{Sent, Window, opening, accepted_of}
-use Rattle.buffer_core.specs.Calls.{IsReply, found_in, receive_reply_to, is_running, is_paused, is_open}
+use Rattle.buffer_core.specs.Calls.{IsReply, no_slot, found_in, receive_reply_to, is_running, is_paused, is_open}
 use Rattle.buffer_core.specs.Histories.{replay, IsLegal}
 use Rattle.buffer_core.specs.SlotLaws.{split}
 use Rattle.buffer_core.specs.WindowLaws.{event_got}
-use Rattle.buffer_core.specs.Points.{News, Taken, news_of, sent, sent_after, count_at, past_after, past_of}
+use Rattle.buffer_core.specs.Points.{News, Taken, news_of, Life, life_at, request_at, sent, sent_after, count_at, past_after, past_of}
 use Rattle.buffer_core.specs.Runs.{Mark, NoMark, Begun, Paused, Resumed, Ended, mark_of, begun_after, ended_after, begun_at, ended_at, is_paused_at, segment, segment_at, events_between, OnBegun}
 use Rattle.buffer_core.specs.Continued.{added_by, sent_in, RepliesCount, GivesSent}
 use Rattle.buffer_core.proofs.Places.{get_drop}
+use Rattle.buffer_core.proofs.Numbered.{free_within}
 use Rattle.buffer_core.proofs.Found.{IsFound, found}
-use Rattle.buffer_core.proofs.Replied.{got_reply, admitted, run_admitted, run_begun, mark_set}
-use Rattle.buffer_core.proofs.Linked.{window_at, WasLegal, legal_after, replay_after, IsLinked, linked}
+use Rattle.buffer_core.proofs.Replied.{number_given, got_reply, admitted, run_admitted, run_begun, mark_set}
+use Rattle.buffer_core.proofs.Linked.{window_at, WasLegal, legal_after, replay_after, Agrees, IsLinked, linked}
 use Rattle.buffer_core.proofs.Ordering.{OnEnded, RunStep, RunsFitAt, counted_at, runs_fit, run_step_at}
 
 -- Points behind points.
@@ -91,6 +93,22 @@ history_gives size before after caller client room place start legal =
     let k : IsLinked size (past_of before) = linked size (past_of before) was.1 in
     subst (λ (w : Window). GivesSent w (sent (past_of before)) place start) (sym (replay_after size [] before))
     (gives_sent (window_at size (past_of before)) (sent (past_of before)) room place start (slot_at (window_at size (past_of before)).clients client) k.kept was.0)
+
+-- The numbers of clients.
+
+no_life : (first : ℕ) (ss : List Sent) (asked : ℕ → Option EventRequest) (o : Option Client) (l : Option Life) → Agrees first ss asked o l → o ≡ None → l ≡ None
+no_life first ss asked o None k free = refl
+no_life first ss asked None (Some l) k free = absurd k
+no_life first ss asked (Some c) (Some l) k free = absurd (cc)
+
+pub history_numbers : (size : ℕ) (before after : List (ℕ × BufferEntry)) (caller : ℕ) (name : List ℕ) (n : ℕ) → IsLegal (opening size) (before ++ (caller, Attach name (Ok n)) ∷ after) →
+    life_at (past_of before) n ≡ None
+history_numbers size before after caller name n legal =
+    let was : WasLegal size ((caller, Attach name (Ok n)) ∷ past_of before) = was_at size before (caller, Attach name (Ok n)) after legal in
+    let w : Window = window_at size (past_of before) in
+    let k : IsLinked size (past_of before) = linked size (past_of before) was.1 in
+    let free = free_within w.clients n (number_given (free_slot w.clients) no_slot n was.0) in
+    no_life w.first (sent (past_of before)) (request_at (past_of before) n) (slot_at w.clients n) (life_at (past_of before) n) (k.clients n) free.1
 
 -- The segment of a run that ended.
 

@@ -19,7 +19,7 @@ use Rattle.buffer_core.specs.Window.{Sent, Window, opening, slot_of_sent, covers
 use Rattle.buffer_core.specs.Calls.{IsReply, found_in, receive_reply_to, gone_of}
 use Rattle.buffer_core.specs.Histories.{IsLegal}
 use Rattle.buffer_core.specs.Points.{Life, got_end, sent, count_at, life_at, request_at, IsDue, past_of}
-use Rattle.buffer_core.specs.Delivered.{IsIn, IsRightGot, HasAllBelow, IsTooMuch, HasWay, IsInTheWay, IsBounded, IsRight, IsDelivered, Delivers}
+use Rattle.buffer_core.specs.Delivered.{IsIn, IsRightGot, HasAllBelow, IsTooMuch, HasWay, IsInTheWay, IsBounded, IsInOrder, IsComplete, IsHeldBack, Throughout, StaysBounded, Delivers}
 use Rattle.buffer_core.proofs.Places.{get_drop, get_take, get_taken, goes, goes_much}
 use Rattle.buffer_core.proofs.Numbered.{some_found, IsFirst, first_found, none_found}
 use Rattle.buffer_core.proofs.Found.{IsFound, found, not_found, IsFirstOwed, owed, not_owed}
@@ -227,18 +227,38 @@ bounded size past was client life lives =
     let alive = followed w.first (sent past) (request_at past client) (slot_at w.clients client) (life_at past client) life (k.clients client) lives in
     omega (arith, alive.2.paid, sum_by-take-le slot_of_sent (sent past) (got_end life.places), k.total, (is_window_at size past was).spent)
 
-right : (size : ℕ) (past : List (ℕ × BufferEntry)) → WasLegal size past → (e : BufferEntry) → IsReply (window_at size past) e → IsRight size past e
-right size past was (Receive client room (Got place start)) reply = right_got size past was client room place start reply
-right size past was (Receive client room (Empty gate last)) reply = right_empty size past was client room gate last reply
-right size past was (Send stated e (Ok n)) reply = has_way size past was stated e n (admitted (window_at size past) stated e n (sym reply))
-right size past was (Send stated e (Err (Full client place))) reply = in_the_way size past was e client place (held_up (window_at size past) stated e client place (sym reply))
-right size past was (SendInRun start stated e (Ok n)) reply = has_way size past was stated e n (run_admitted (window_at size past) start stated e n (sym reply)).1
-right size past was (SendInRun start stated e (Err (Full client place))) reply = in_the_way size past was e client place (run_held_up (window_at size past) start stated e client place (sym reply))
-right size past was entry reply = tt
+in_order : (size : ℕ) (past : List (ℕ × BufferEntry)) → WasLegal size past → (e : BufferEntry) → IsReply (window_at size past) e → IsInOrder past e
+in_order size past was (Receive client room (Got place start)) reply = (right_got size past was client room place start reply).0
+in_order size past was entry reply = tt
 
-pub delivered : (size : ℕ) (past : List (ℕ × BufferEntry)) → WasLegal size past → IsDelivered size past
-delivered size [] was = tt
-delivered size (e ∷ past) was = (right size past was.1 e.1 was.0, bounded size (e ∷ past) was, delivered size past was.1)
+complete : (size : ℕ) (past : List (ℕ × BufferEntry)) → WasLegal size past → (e : BufferEntry) → IsReply (window_at size past) e → IsComplete past e
+complete size past was (Receive client room (Got place start)) reply = (right_got size past was client room place start reply).1
+complete size past was (Receive client room (Empty gate last)) reply = right_empty size past was client room gate last reply
+complete size past was entry reply = tt
+
+held_back : (size : ℕ) (past : List (ℕ × BufferEntry)) → WasLegal size past → (e : BufferEntry) → IsReply (window_at size past) e → IsHeldBack size past e
+held_back size past was (Send stated e (Ok n)) reply = has_way size past was stated e n (admitted (window_at size past) stated e n (sym reply))
+held_back size past was (Send stated e (Err (Full client place))) reply = in_the_way size past was e client place (held_up (window_at size past) stated e client place (sym reply))
+held_back size past was (SendInRun start stated e (Ok n)) reply = has_way size past was stated e n (run_admitted (window_at size past) start stated e n (sym reply)).1
+held_back size past was (SendInRun start stated e (Err (Full client place))) reply = in_the_way size past was e client place (run_held_up (window_at size past) start stated e client place (sym reply))
+held_back size past was entry reply = tt
+
+throughout : (size : ℕ) (P : List (ℕ × BufferEntry) → BufferEntry → Type 0)
+    → ((past : List (ℕ × BufferEntry)) → WasLegal size past → (e : BufferEntry) → IsReply (window_at size past) e → P past e)
+    → (past : List (ℕ × BufferEntry)) → WasLegal size past → Throughout P past
+throughout size P each [] was = tt
+throughout size P each (e ∷ past) was = (each past was.1 e.1 was.0, throughout size P each past was.1)
+
+stays_bounded : (size : ℕ) (past : List (ℕ × BufferEntry)) → WasLegal size past → StaysBounded past
+stays_bounded size [] was = tt
+stays_bounded size (e ∷ past) was = (bounded size (e ∷ past) was, stays_bounded size past was.1)
 
 pub history_delivers : (size : ℕ) (h : List (ℕ × BufferEntry)) → IsLegal (opening size) h → Delivers size h
-history_delivers size h legal = delivered size (past_of h) (legal_after size [] h tt legal)
+history_delivers size h legal =
+    let was : WasLegal size (past_of h) = legal_after size [] h tt legal in
+    record {
+      in_order = throughout size IsInOrder (in_order size) (past_of h) was;
+      complete = throughout size IsComplete (complete size) (past_of h) was;
+      held_back = throughout size (IsHeldBack size) (held_back size) (past_of h) was;
+      bounded = stays_bounded size (past_of h) was;
+    }

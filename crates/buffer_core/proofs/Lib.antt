@@ -11,3 +11,4 @@ pub mod Continuing
 pub mod Rising
 pub mod Reading
 pub mod Sampled
+pub mod Searching

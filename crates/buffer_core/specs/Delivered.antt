@@ -1,6 +1,6 @@
 -- What clients get of a buffer, and when a send is refused because an event is still to be got: read off the calls and
 -- their replies alone.
-use Rattle.std.specs.Prelude.{◌≡◌, ℕ, ◌+◌, ◌^◌, ◌<◌, ◌≤◌, IsTrue, List, [], ◌∷◌, drop, sum_by, slice_get, Option, Some, None, Result, Ok, Err, ⊤, ◌⊎◌}
+use Rattle.std.specs.Prelude.{◌≡◌, ◌≢◌, ℕ, ◌+◌, ◌^◌, ◌<◌, ◌≤◌, IsTrue, List, [], ◌∷◌, drop, sum_by, slice_get, Option, Some, None, Result, Ok, Err, ⊤, ◌⊎◌}
 use Rattle.daq_types.specs.declared.events.Event.{Event}
 use Rattle.daq_model.specs.Events.{slot_size}
 use Rattle.buffer_core.specs.declared.client.Request.{Request as EventRequest}
@@ -75,25 +75,60 @@ slots_of_places ss (p ∷ ps) = slot_of_place (slice_get ss p) + slots_of_places
 abbrev pub IsBounded : List (ℕ × BufferEntry) → Type 0
 IsBounded past = (client : ℕ) (life : Life) → life_at past client ≡ Some life → slots_of_places (sent past) life.places ≤ 2 ^ 62
 
--- The whole history.
+-- The whole history, by its four parts.
 
--- the reply of this entry is right at this point
-abbrev pub IsRight : (size : ℕ) → List (ℕ × BufferEntry) → BufferEntry → Type 0
-IsRight size past (Receive client room (Got place start)) = IsRightGot past client place start × HasAllBelow past client place
-IsRight size past (Receive client room (Empty gate last)) = HasAllBelow past client (count_at past)
-IsRight size past (Send stated e reply) = IsRightSend size past e reply
-IsRight size past (SendInRun start stated e reply) = IsRightSend size past e reply
-IsRight size past entry = ⊤
+-- the client may get what it got by this entry
+abbrev pub IsInOrder : List (ℕ × BufferEntry) → BufferEntry → Type 0
+IsInOrder past (Receive client room (Got place start)) = IsRightGot past client place start
+IsInOrder past entry = ⊤
 
--- each entry up to this point was right where it came, and no client got too much by then
-abbrev pub IsDelivered : (size : ℕ) → List (ℕ × BufferEntry) → Type 0
-IsDelivered size [] = ⊤
-IsDelivered size (e ∷ past) = IsRight size past e.1 × IsBounded (e ∷ past) × IsDelivered size past
+-- the client got before this entry all that it had to get
+abbrev pub IsComplete : List (ℕ × BufferEntry) → BufferEntry → Type 0
+IsComplete past (Receive client room (Got place start)) = HasAllBelow past client place
+IsComplete past (Receive client room (Empty gate last)) = HasAllBelow past client (count_at past)
+IsComplete past entry = ⊤
+
+-- the send is refused as full where it has to be
+abbrev pub IsHeldBack : (size : ℕ) → List (ℕ × BufferEntry) → BufferEntry → Type 0
+IsHeldBack size past (Send stated e reply) = IsRightSend size past e reply
+IsHeldBack size past (SendInRun start stated e reply) = IsRightSend size past e reply
+IsHeldBack size past entry = ⊤
+
+-- each entry up to this point meets this where it came
+abbrev pub Throughout : (List (ℕ × BufferEntry) → BufferEntry → Type 0) → List (ℕ × BufferEntry) → Type 0
+Throughout P [] = ⊤
+Throughout P (e ∷ past) = P past e.1 × Throughout P past
+
+-- no client got too much at any point up to this one
+abbrev pub StaysBounded : List (ℕ × BufferEntry) → Type 0
+StaysBounded [] = ⊤
+StaysBounded (e ∷ past) = IsBounded (e ∷ past) × StaysBounded past
+
+-- the four parts of what a buffer delivers
+pub data DeliveryPart : Type 0 where
+  InOrder : DeliveryPart
+  Complete : DeliveryPart
+  HeldBack : DeliveryPart
+  Bounded : DeliveryPart
+
+abbrev pub MeetsPart : DeliveryPart → (size : ℕ) → (history : List (ℕ × BufferEntry)) → Type 0
+MeetsPart InOrder size h = Throughout IsInOrder (past_of h)
+MeetsPart Complete size h = Throughout IsComplete (past_of h)
+MeetsPart HeldBack size h = Throughout (IsHeldBack size) (past_of h)
+MeetsPart Bounded size h = StaysBounded (past_of h)
 
 -- In each life of a client: the places that it gets rise, and each is of an event that was sent before, with the start
 -- number replied, and that one of its living requests wants. When it gets a place or finds none, it has got before all
 -- events below that place, or all that were sent, that one of its living requests for all events wants. A send is
 -- refused as full exactly where an event is due to a client from which on the events do not fit, and names the first
 -- such place and the least such client. What a client gets takes at most 2^62 bytes.
-abbrev pub Delivers : (size : ℕ) → (history : List (ℕ × BufferEntry)) → Type 0
-Delivers size h = IsDelivered size (past_of h)
+pub record Delivers (size : ℕ) (history : List (ℕ × BufferEntry)) : Type 0 where
+  pub in_order : MeetsPart InOrder size history
+  pub complete : MeetsPart Complete size history
+  pub held_back : MeetsPart HeldBack size history
+  pub bounded : MeetsPart Bounded size history
+
+-- the history fails this part, and meets the other three
+pub record FailsAlone (part : DeliveryPart) (size : ℕ) (history : List (ℕ × BufferEntry)) : Type 0 where
+  pub fails : MeetsPart part size history → ⊥
+  pub others : (other : DeliveryPart) → other ≢ part → MeetsPart other size history

@@ -10,11 +10,11 @@ use Rattle.buffer_core.specs.declared.entry.BufferEntry.{BufferEntry}
 use Rattle.buffer_core.specs.declared.entry.BufferEntry.TheVariants.{Receive}
 use Rattle.daq_model.specs.Events.{event_limit}
 use Rattle.buffer_core.specs.Slots.{slot_at}
-use Rattle.buffer_core.specs.Window.{Window, Sent, opening, slot_of_sent, IsWindow}
+use Rattle.buffer_core.specs.Window.{Window, Sent, opening, slot_of_sent, IsWindow, StandsAt}
 use Rattle.buffer_core.specs.Calls.{IsReply, window_after, found_in, found_reply, receive_reply_to}
 use Rattle.buffer_core.specs.Histories.{replay, IsLegal}
 use Rattle.buffer_core.specs.SlotLaws.{split}
-use Rattle.buffer_core.specs.WindowLaws.{slot_cover, StandsAt, found_stands}
+use Rattle.buffer_core.specs.WindowLaws.{slot_cover, found_stands}
 use Rattle.buffer_core.specs.WindowKept.{window_opens, window_stays}
 
 -- one call more at the end

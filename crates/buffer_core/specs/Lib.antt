@@ -13,4 +13,5 @@ pub mod Runs
 pub mod Continued
 pub mod Readers
 pub mod Samples
+pub mod Searches
 pub mod Ports

@@ -1,5 +1,5 @@
 -- A history that a buffer has, and some that none has, each wrong in one way.
-use Rattle.std.specs.Prelude.{ℕ, List, [], ◌∷◌, Ok, Err}
+use Rattle.std.specs.Prelude.{ℕ, List, [], ◌∷◌, length, Ok, Err}
 use Rattle.daq_types.specs.declared.events.Event.{Event}
 use Rattle.daq_types.specs.declared.runs.Kind.TheVariants.{All}
 use Rattle.buffer_core.specs.declared.replies.SendRefusal.TheVariants.{Full}
@@ -8,8 +8,8 @@ use Rattle.buffer_core.specs.declared.entry.BufferEntry.{BufferEntry}
 use Rattle.buffer_core.specs.declared.entry.BufferEntry.TheVariants.{Attach, Request, Send, SendInRun, Receive, Begin, Pause, End}
 
 -- an event without data
-abbrev pub bare_event : Event
-bare_event = record { id = 1; mask = 1; serial = 1; time = 0; body = [] }
+abbrev pub sample_event : Event
+sample_event = record { id = 1; mask = 1; serial = 1; time = 0; body = [] }
 
 -- a client that asks for all events
 abbrev pub with_reader : List (ℕ × BufferEntry) → List (ℕ × BufferEntry)
@@ -19,33 +19,37 @@ with_reader es = (0, Attach [] (Ok 0)) ∷ (0, Request 0 65535 65535 All (Ok 0))
 abbrev pub refused_once : List (ℕ × BufferEntry)
 refused_once =
     with_reader
-    ((1, Send 0 bare_event (Ok 0)) ∷ (1, Send 0 bare_event (Ok 1)) ∷ (1, Send 0 bare_event (Err (Full 0 0)))
-    ∷ (0, Receive 0 0 (Got 0 0)) ∷ (1, Send 0 bare_event (Ok 2)) ∷ [])
+    ((1, Send 0 sample_event (Ok 0)) ∷ (1, Send 0 sample_event (Ok 1)) ∷ (1, Send 0 sample_event (Err (Full 0 0)))
+    ∷ (0, Receive 0 0 (Got 0 0)) ∷ (1, Send 0 sample_event (Ok 2)) ∷ [])
 
 -- an event is got twice
 abbrev pub got_twice : List (ℕ × BufferEntry)
-got_twice = with_reader ((1, Send 0 bare_event (Ok 0)) ∷ (0, Receive 0 0 (Got 0 0)) ∷ (0, Receive 0 0 (Got 0 0)) ∷ [])
+got_twice = with_reader ((1, Send 0 sample_event (Ok 0)) ∷ (0, Receive 0 0 (Got 0 0)) ∷ (0, Receive 0 0 (Got 0 0)) ∷ [])
 
 -- an event is left out
 abbrev pub left_out : List (ℕ × BufferEntry)
-left_out = with_reader ((1, Send 0 bare_event (Ok 0)) ∷ (1, Send 0 bare_event (Ok 1)) ∷ (0, Receive 0 0 (Got 1 0)) ∷ [])
+left_out = with_reader ((1, Send 0 sample_event (Ok 0)) ∷ (1, Send 0 sample_event (Ok 1)) ∷ (0, Receive 0 0 (Got 1 0)) ∷ [])
 
 -- an event is got that was sent before the request
 abbrev pub reached_back : List (ℕ × BufferEntry)
-reached_back = (1, Send 0 bare_event (Ok 0)) ∷ with_reader ((0, Receive 0 0 (Got 0 0)) ∷ [])
+reached_back = (1, Send 0 sample_event (Ok 0)) ∷ with_reader ((0, Receive 0 0 (Got 0 0)) ∷ [])
 
 -- a send is refused as full where nobody is to get an event
 abbrev pub refused_for_nobody : List (ℕ × BufferEntry)
-refused_for_nobody = (1, Send 0 bare_event (Ok 0)) ∷ (1, Send 0 bare_event (Err (Full 0 0))) ∷ []
+refused_for_nobody = (1, Send 0 sample_event (Ok 0)) ∷ (1, Send 0 sample_event (Err (Full 0 0))) ∷ []
 
 -- an event is accepted in 24 bytes though the one before it is still to be got
 abbrev pub dropped : List (ℕ × BufferEntry)
-dropped = with_reader ((1, Send 0 bare_event (Ok 0)) ∷ (1, Send 0 bare_event (Ok 1)) ∷ [])
+dropped = with_reader ((1, Send 0 sample_event (Ok 0)) ∷ (1, Send 0 sample_event (Ok 1)) ∷ [])
+
+-- an event is got that takes more than any client may get
+abbrev pub got_too_much : Event → List (ℕ × BufferEntry)
+got_too_much e = with_reader ((1, Send (length e.body) e (Ok 0)) ∷ (0, Receive 0 (length e.body) (Got 0 0)) ∷ [])
 
 -- an event of a run is sent behind its end
 abbrev pub sent_behind : List (ℕ × BufferEntry)
-sent_behind = (1, Begin 1 (Ok 0)) ∷ (1, End 1 (Ok 0)) ∷ (1, SendInRun 1 0 bare_event (Ok 0)) ∷ []
+sent_behind = (1, Begin 1 (Ok 0)) ∷ (1, End 1 (Ok 0)) ∷ (1, SendInRun 1 0 sample_event (Ok 0)) ∷ []
 
 -- an event of a run is sent in a pause
 abbrev pub sent_in_pause : List (ℕ × BufferEntry)
-sent_in_pause = (1, Begin 1 (Ok 0)) ∷ (1, Pause 1 (Ok 0)) ∷ (1, SendInRun 1 0 bare_event (Ok 0)) ∷ []
+sent_in_pause = (1, Begin 1 (Ok 0)) ∷ (1, Pause 1 (Ok 0)) ∷ (1, SendInRun 1 0 sample_event (Ok 0)) ∷ []

@@ -1,5 +1,5 @@
 -- What a buffer is: a window on the list of all events that were ever accepted. The places of events count them from 0.
-use Rattle.std.specs.Prelude.{◌≡◌, ℕ, ◌+◌, ◌-◌, ◌*◌, ◌^◌, ◌≤◌, Bool, true, false, ◌&&◌, nat_le, if◌then◌else◌, IsTrue, List, [], length, replicate, sum_by, slice_get, Option, Some, None}
+use Rattle.std.specs.Prelude.{◌≡◌, ℕ, ◌+◌, ◌-◌, ◌*◌, ◌^◌, ◌≤◌, Bool, true, false, ◌&&◌, nat_le, if◌then◌else◌, List, [], length, replicate, sum_by, slice_get, Option, Some, None}
 use Rattle.daq_types.specs.declared.events.Event.{Event}
 use Rattle.daq_types.specs.declared.runs.Kind.{Kind}
 use Rattle.daq_types.specs.declared.runs.Kind.TheVariants.{All, NonBlocking}
@@ -54,6 +54,12 @@ accepted_of w = w.first + length w.kept
 abbrev pub kept_at : Window → (place : ℕ) → Option Sent
 kept_at w place = if nat_le w.first place then slice_get w.kept (place - w.first) else None
 
+-- the event stands among these, the first of which has this place, at that place
+pub record StandsAt (ss : List Sent) (first place : ℕ) (s : Sent) : Type 0 where
+  pub index : ℕ
+  pub place_is : place ≡ first + index
+  pub is : slice_get ss index ≡ Some s
+
 -- What clients want.
 
 -- the request wants this event, which was sent after it
@@ -75,14 +81,6 @@ holds_back place e q = is_all q.kind && covers place e q
 -- the client has not come to this place yet, and has to get the event
 abbrev pub owes : (place : ℕ) → Event → Client → Bool
 owes place e c = nat_le c.next place && some_slot (holds_back place e) c.requests
-
--- the event of this place is kept and owed to the client of this number
-pub record IsOwed (w : Window) (place client : ℕ) : Type 0 where
-  pub sent : Sent
-  pub reader : Client
-  pub kept : kept_at w place ≡ Some sent
-  pub lives : slot_at w.clients client ≡ Some reader
-  pub owed : IsTrue (owes place sent.event reader)
 
 -- What holds in every window.
 

@@ -17,10 +17,10 @@ use Rattle.buffer_core.specs.declared.replies.Received.TheVariants.{Got, Empty, 
 use Rattle.buffer_core.specs.declared.entry.BufferEntry.{BufferEntry}
 use Rattle.buffer_core.specs.declared.entry.BufferEntry.TheVariants.{Attach, Detach, Request, Cancel, Send, SendInRun, Receive, Begin, Pause, Resume, End, Level, Accepted}
 use Rattle.buffer_core.specs.Slots.{slot_at, change_slot, change_all}
-use Rattle.buffer_core.specs.Window.{Sent, Window, opening, slot_of_sent, accepted_of, IsLast, IsKeepable, IsClient, IsWindow}
+use Rattle.buffer_core.specs.Window.{Sent, Window, opening, slot_of_sent, accepted_of, IsLast, IsKeepable, IsClient, IsWindow, StandsAt}
 use Rattle.buffer_core.specs.Calls.{IsReply, window_after, joined, with_request, going_on, pushed, send_reply, id_reply, size_reply, spent_reply, room_reply, is_running, is_paused, mark_reply, begin_reply_at, gone_of, after_send, found_in, found_reply, receive_reply_to, with_clients, with_gate}
 use Rattle.buffer_core.specs.SlotLaws.{split, slot_set_same, slot_set_other, slot_within, slot_change_all}
-use Rattle.buffer_core.specs.WindowLaws.{to_drop_fits, to_drop_within, slot_cover, IsSendable, StandsAt, found_stands}
+use Rattle.buffer_core.specs.WindowLaws.{to_drop_fits, to_drop_within, slot_cover, IsSendable, found_stands}
 use Rattle.buffer_core.specs.ReadingLaws.{no_client_at, length-no_clients, length-no_requests, no_request_at}
 
 -- Facts of all members of a list of numbered places.
@@ -115,12 +115,12 @@ sent_taken w stated e n ok =
       unspent = ltb-false (2 ^ 62) (w.total + slot_size e) unspent.0;
     }
 
-running_last : (gate : RunGate) (last start : ℕ) → IsLast gate last → is_running gate start ≡ true → start ≡ last
+pub running_last : (gate : RunGate) (last start : ℕ) → IsLast gate last → is_running gate start ≡ true → start ≡ last
 running_last Shut last start fits e = absurd (cc)
 running_last (Running s) last start fits e = omega (arith, fits, eqb-true s start e)
 running_last (Paused s) last start fits e = absurd (cc)
 
-paused_last : (gate : RunGate) (last start : ℕ) → IsLast gate last → is_paused gate start ≡ true → start ≡ last
+pub paused_last : (gate : RunGate) (last start : ℕ) → IsLast gate last → is_paused gate start ≡ true → start ≡ last
 paused_last Shut last start fits e = absurd (cc)
 paused_last (Running s) last start fits e = absurd (cc)
 paused_last (Paused s) last start fits e = omega (arith, fits, eqb-true s start e)
@@ -211,7 +211,7 @@ joined_kept w name =
       since = λ n q e. absurd (cc (no_request_at n, e));
     }
 
-gate_kept : (w : Window) (gate : RunGate) (last : ℕ) → IsWindow w → w.last ≤ last → IsLast gate last → IsWindow (with_gate w gate last)
+pub gate_kept : (w : Window) (gate : RunGate) (last : ℕ) → IsWindow w → w.last ≤ last → IsLast gate last → IsWindow (with_gate w gate last)
 gate_kept w gate last is later fits =
     record {
       keepable = is.keepable;
@@ -225,7 +225,7 @@ gate_kept w gate last is later fits =
       gate = fits;
     }
 
-send_kept : (w : Window) (start stated : ℕ) (e : Event) → IsWindow w → IsTaken w stated e → start ≤ w.last → IsWindow (after_send w start e)
+pub send_kept : (w : Window) (start stated : ℕ) (e : Event) → IsWindow w → IsTaken w stated e → start ≤ w.last → IsWindow (after_send w start e)
 send_kept w start stated e is taken early =
     let gone : ℕ = gone_of w e in
     let rest : List Sent = drop gone w.kept in

@@ -8,7 +8,7 @@ use Rattle.buffer_core.specs.declared.replies.SendRefusal.TheVariants.{BadSize, 
 use Rattle.buffer_core.specs.declared.client.Client.{Client}
 use Rattle.buffer_core.specs.declared.replies.Received.TheVariants.{Got}
 use Rattle.buffer_core.specs.SlotLaws.{split}
-use Rattle.buffer_core.specs.Window.{Window, Sent, wants, kept_at}
+use Rattle.buffer_core.specs.Window.{Window, Sent, StandsAt, wants, kept_at}
 use Rattle.buffer_core.specs.Calls.{found_in, event_after, to_drop, send_reply, id_reply, size_reply, spent_reply, room_reply}
 
 -- Room for an event.
@@ -59,12 +59,6 @@ room_reply_is w stated e may unspent =
     spent_reply_is w stated e may ∙ ap (λ (b : Bool). if b then Err (Spent w.total) else room_reply w e) (le-ltb (2 ^ 62) (w.total + slot_size e) unspent)
 
 -- What a client finds.
-
--- the event stands among these, the first of which has this place, at that place
-pub record StandsAt (ss : List Sent) (first place : ℕ) (s : Sent) : Type 0 where
-  pub index : ℕ
-  pub place_is : place ≡ first + index
-  pub is : slice_get ss index ≡ Some s
 
 pub found_stands : (c : Client) (first : ℕ) (ss : List Sent) (place : ℕ) (s : Sent) → found_in c first ss ≡ Some (place, s) → StandsAt ss first place s
 found_stands c first [] place s e = absurd (cc)

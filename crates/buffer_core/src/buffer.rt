@@ -1,6 +1,7 @@
 ghost use Rattle.std.specs.Prelude.{◌≡◌};
 ghost use Rattle.event_header.specs.Headers.{event_of};
 ghost use Rattle.buffer_core.specs.declared.entry.BufferEntry.TheVariants.{Attach, Detach, Request, Cancel, Send, SendInRun, Receive, Begin, Pause, Resume, End, Level, Accepted};
+ghost use Rattle.buffer_core.specs.Window.{IsWindow};
 ghost use Rattle.buffer_core.specs.Calls.{IsReply, window_after, event_after};
 
 use crate::replies::{MarkRefusal, NoClient, NoSlot, Received, RequestRefusal, SendRefusal};
@@ -84,7 +85,8 @@ pub trait EventBuffer {
     fn level(&self) -> u64
         ensures reply { IsReply (window self.now) (Level result) };
 
-    /// How many events were ever accepted.
+    /// How many events were ever accepted. The window meets what every window meets.
     fn accepted(&self) -> u64
-        ensures reply { IsReply (window self.now) (Accepted result) };
+        ensures reply { IsReply (window self.now) (Accepted result) }
+        ensures window { IsWindow (window self.now) };
 }

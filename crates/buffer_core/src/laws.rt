@@ -1,19 +1,22 @@
 //! Laws of the histories of a buffer: each function does nothing, and its contract is the law. They hold of every list
 //! of calls, whoever made them, whose replies are those of a buffer that opened empty.
 
-ghost use Rattle.std.specs.Prelude.{◌≡◌, ◌+◌, ◌++◌, ◌∷◌, ℕ, Some};
+ghost use Rattle.std.specs.Prelude.{◌≡◌, ◌+◌, ◌^◌, ◌<◌, ◌++◌, ◌∷◌, ℕ, List, Some, None, Ok};
+ghost use Rattle.daq_types.specs.declared.events.Event.{Event};
+ghost use Rattle.daq_model.specs.Events.{slot_size};
 ghost use Rattle.buffer_core.specs.declared.gate.RunGate.{RunGate};
 ghost use Rattle.buffer_core.specs.declared.replies.Received.TheVariants.{Got, Empty};
 ghost use Rattle.buffer_core.specs.declared.entry.BufferEntry.{BufferEntry};
-ghost use Rattle.buffer_core.specs.declared.entry.BufferEntry.TheVariants.{Receive};
+ghost use Rattle.buffer_core.specs.declared.entry.BufferEntry.TheVariants.{Attach, Receive};
 ghost use Rattle.buffer_core.specs.Window.{opening};
 ghost use Rattle.buffer_core.specs.Histories.{History, IsLegal, replay};
-ghost use Rattle.buffer_core.specs.Points.{sent, count_at, past_of};
-ghost use Rattle.buffer_core.specs.Delivered.{Delivers};
+ghost use Rattle.buffer_core.specs.Points.{sent, count_at, life_at, past_of};
+ghost use Rattle.buffer_core.specs.Delivered.{Delivers, FailsAlone, InOrder, Complete, HeldBack, Bounded};
 ghost use Rattle.buffer_core.specs.Runs.{KeepsRuns, begun_at, ended_at, segment, events_between};
 ghost use Rattle.buffer_core.specs.Continued.{sent_in, RepliesCount, GivesSent};
 ghost use Rattle.buffer_core.specs.Readers.{KeepsLife, HasRead, ReadsAll, places_got, places_of, among, wanted};
-ghost use Rattle.buffer_core.specs.Samples.{refused_once, got_twice, left_out, reached_back, refused_for_nobody, dropped, sent_behind, sent_in_pause};
+ghost use Rattle.buffer_core.specs.Searches.{FoundIsFirst, FirstIsFound, NotFoundIsNone, NoneIsNotFound, OwedIsLeast, LeastIsOwed, NotOwedIsNone, NoneIsNotOwed, DropIsLeast, LeastIsDrop};
+ghost use Rattle.buffer_core.specs.Samples.{refused_once, got_twice, left_out, reached_back, refused_for_nobody, got_too_much, dropped, sent_behind, sent_in_pause};
 
 /// Each client gets only what its requests want, in order and once, and all of what its requests for all events want;
 /// a send is refused as full exactly where such an event is still to be got.
@@ -34,6 +37,14 @@ pub fn goes_on()
         IsLegal (opening size) (history ++ more) →
         ended_at (past_of history) start ≡ Some place →
         segment (history ++ more) start ≡ segment history start }
+{}
+
+/// The number that an attach gives is none of a client that lives: none that an attach gave and no detach took back since,
+/// of whichever caller.
+pub fn numbers_free()
+    ensures { (size : ℕ) → (before after : History) → (caller : ℕ) → (name : List ℕ) → (client : ℕ) →
+        IsLegal (opening size) (before ++ (caller, Attach name (Ok client)) ∷ after) →
+        life_at (past_of before) client ≡ None }
 {}
 
 /// Where a reply tells how many events were accepted, so many were sent before.
@@ -78,14 +89,39 @@ pub fn reads_all()
         among (segment history start) (places_got history client) ≡ places_of (wanted id mask (segment history start)) }
 {}
 
-/// What the laws ask is more than nothing: a history in which a send is refused as full, and one of each kind that they
-/// rule out.
+/// A receive finds the event of the least kept place, from the one on at which the client goes on, that a living request of
+/// the client asks for, of whichever kind; and where it finds none, there is none.
+pub fn finds_first()
+    ensures found { FoundIsFirst }
+    ensures first { FirstIsFound }
+    ensures none { NotFoundIsNone }
+    ensures empty { NoneIsNotFound }
+{}
+
+/// What stands in the way of a send is the least place that is owed, of those that would have to go, and there the least
+/// client that it is owed to.
+pub fn owes_least()
+    ensures owed { OwedIsLeast }
+    ensures least { LeastIsOwed }
+    ensures none { NotOwedIsNone }
+    ensures empty { NoneIsNotOwed }
+{}
+
+/// As few events go for a new one as have to, so that its slot fits.
+pub fn drops_least()
+    ensures dropped { DropIsLeast }
+    ensures least { LeastIsDrop }
+{}
+
+/// What the laws ask is more than nothing: a history in which a send is refused as full; of each part of what a buffer
+/// delivers a history that fails that part alone; and others that they rule out.
 pub fn tells_apart()
     ensures refusal { IsLegal (opening 48) refused_once }
-    ensures twice { (size : ℕ) → Delivers size got_twice → ⊥ }
-    ensures less { (size : ℕ) → Delivers size left_out → ⊥ }
+    ensures twice { (size : ℕ) → FailsAlone InOrder size got_twice }
+    ensures less { FailsAlone Complete 48 left_out }
+    ensures nobody { (size : ℕ) → FailsAlone HeldBack size refused_for_nobody }
+    ensures much { (size : ℕ) → (event : Event) → 2 ^ 62 < slot_size event → FailsAlone Bounded size (got_too_much event) }
     ensures before { (size : ℕ) → Delivers size reached_back → ⊥ }
-    ensures nobody { (size : ℕ) → Delivers size refused_for_nobody → ⊥ }
     ensures owed { Delivers 24 dropped → ⊥ }
     ensures behind { KeepsRuns sent_behind → ⊥ }
     ensures pause { KeepsRuns sent_in_pause → ⊥ }

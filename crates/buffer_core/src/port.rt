@@ -1,8 +1,8 @@
-ghost use Rattle.std.specs.Prelude.{◌≡◌, ◌-◌, ◌^◌, ◌≤◌, ℕ, length, min, IfErr};
+ghost use Rattle.std.specs.Prelude.{◌≡◌, ◌-◌, ◌^◌, ◌≤◌, ℕ, [], length, min, IfOk, IfErr};
 ghost use Rattle.daq_model.specs.Events.{event_limit};
 ghost use Rattle.event_header.specs.Headers.{event_of};
 ghost use Rattle.buffer_core.specs.declared.entry.BufferEntry.TheVariants.{Attach, Detach, Request, Cancel, Send, SendInRun, Receive, Begin, Pause, Resume, End, Level, Accepted};
-ghost use Rattle.buffer_core.specs.Ports.{Calls, Receives, KeepsUnlessGot, GivesSound, IsSmallBuf, IsSendFault, slots_got};
+ghost use Rattle.buffer_core.specs.Ports.{Calls, Receives, KeepsUnlessGot, GivesSound, IsSmallBuf, IsSendFault, IsNewNumber, slots_got};
 
 use crate::replies::{MarkRefusal, NoClient, NoSlot, Received, RequestRefusal, SendRefusal};
 use daq_types::{Kind, Name};
@@ -19,7 +19,8 @@ pub trait BufferPort {
     /// As `EventBuffer::attach`.
     fn attach<R: Wait>(&mut self, rt: &R, name: Name) -> Result<u32, NoSlot>
         requires room { 1 ≤ (access self.old).entries }
-        ensures { Calls (access self.old) (access self.new) (Attach name result) };
+        ensures called { Calls (access self.old) (access self.new) (Attach name result) }
+        ensures number { IfOk result (IsNewNumber (access self.old)) };
 
     /// As `EventBuffer::detach`.
     fn detach<R: Wait>(&mut self, rt: &R, client: u32) -> Result<(), NoClient>
@@ -102,4 +103,7 @@ pub trait BufferPort {
     fn accepted<R: Wait>(&mut self, rt: &R) -> u64
         requires room { 1 ≤ (access self.old).entries }
         ensures { Calls (access self.old) (access self.new) (Accepted result) };
+
+    // Who called nothing got nothing.
+    ghost silent: { (port : Self) → (access port).own ≡ [] → (access port).got ≡ [] };
 }

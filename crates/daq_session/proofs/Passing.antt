@@ -25,7 +25,7 @@ use Rattle.buffer_core.specs.Calls.{IsReply, window_after, event_after, request_
 use Rattle.buffer_core.specs.WindowLaws.{IsSendable}
 use Rattle.buffer_core.specs.ReadingLaws.{IsDrained, AfterSend, attach_opens, request_opens, opening_attach, drained_opens, drained_send, fed_reply, fed_event, fed_again, run_begins, run_ends, running_is}
 use Rattle.local_port.specs.Ported.{Ported, Does}
-use Rattle.daq_session.specs.BufferEntries.{opening_entries, passed_entries}
+use Rattle.daq_session.specs.BufferEntries.{front_caller, logger_caller, opening_entries, passed_entries}
 
 -- an event is sent
 sent_facts : (w w' : Window) (start : ℕ) (e : Event) (h : Header) (body : List ℕ) (reply : Result ℕ SendRefusal) → h ≡ fields_of e → body ≡ e.body → w.gate ≡ Running start → IsSendable w (length e.body) e
@@ -49,16 +49,16 @@ pub record Marked (p q : Ported) (gate : RunGate) (last : ℕ) (entry : BufferEn
   pub total : q.window.total ≡ p.window.total
   pub size : q.window.size ≡ p.window.size
   pub accepted : accepted_of q.window ≡ accepted_of p.window
-  pub history : q.history ≡ p.history ++ (1, entry) ∷ []
+  pub history : q.history ≡ p.history ++ (logger_caller, entry) ∷ []
   pub start : q.start ≡ p.start
   pub drained : IsDrained p.window 0 → IsDrained q.window 0
   pub entries : p.entries ≤ q.entries + 1
   pub bytes : p.bytes ≤ q.bytes
 
-pub begun : (p p1 q : Ported) (start : ℕ) (reply : Result ℕ MarkRefusal) → p.window.gate ≡ Shut → p.window.last < start → p1 ≡ record p { caller = 1 } → Does p1 q (Begin start reply)
+pub begun : (p p1 q : Ported) (start : ℕ) (reply : Result ℕ MarkRefusal) → p.window.gate ≡ Shut → p.window.last < start → p1 ≡ record p { caller = logger_caller } → Does p1 q (Begin start reply)
     → Marked p q (Running start) start (Begin start (Ok (accepted_of p.window)))
 begun p p1 q start reply shut later is did =
-    let does : Does (record p { caller = 1 }) q (Begin start reply) = as_caller p p1 q 1 (Begin start reply) is did in
+    let does : Does (record p { caller = logger_caller }) q (Begin start reply) = as_caller p p1 q logger_caller (Begin start reply) is did in
     let marks = run_begins p.window 0 start reply shut later does.reply in
     let window : q.window ≡ with_gate p.window (Running start) start = does.window ∙ marks.1 in
     record {
@@ -67,17 +67,17 @@ begun p p1 q start reply shut later is did =
       total = ap (λ (w : Window). w.total) window;
       size = ap (λ (w : Window). w.size) window;
       accepted = ap accepted_of window;
-      history = does.history ∙ ap (λ (r : Result ℕ MarkRefusal). p.history ++ (1, Begin start r) ∷ []) marks.0;
+      history = does.history ∙ ap (λ (r : Result ℕ MarkRefusal). p.history ++ (logger_caller, Begin start r) ∷ []) marks.0;
       start = does.start;
       drained = λ d. subst (λ (w : Window). IsDrained w 0) (sym does.window) (marks.2 d);
       entries = does.entries;
       bytes = omega (arith, does.bytes);
     }
 
-pub ended : (p p1 q : Ported) (start : ℕ) (reply : Result ℕ MarkRefusal) → p.window.gate ≡ Running start → p1 ≡ record p { caller = 1 } → Does p1 q (End start reply)
+pub ended : (p p1 q : Ported) (start : ℕ) (reply : Result ℕ MarkRefusal) → p.window.gate ≡ Running start → p1 ≡ record p { caller = logger_caller } → Does p1 q (End start reply)
     → Marked p q Shut p.window.last (End start (Ok (accepted_of p.window)))
 ended p p1 q start reply running is did =
-    let does : Does (record p { caller = 1 }) q (End start reply) = as_caller p p1 q 1 (End start reply) is did in
+    let does : Does (record p { caller = logger_caller }) q (End start reply) = as_caller p p1 q logger_caller (End start reply) is did in
     let marks = run_ends p.window 0 start reply running does.reply in
     let window : q.window ≡ with_gate p.window Shut p.window.last = does.window ∙ marks.1 in
     record {
@@ -86,7 +86,7 @@ ended p p1 q start reply running is did =
       total = ap (λ (w : Window). w.total) window;
       size = ap (λ (w : Window). w.size) window;
       accepted = ap accepted_of window;
-      history = does.history ∙ ap (λ (r : Result ℕ MarkRefusal). p.history ++ (1, End start r) ∷ []) marks.0;
+      history = does.history ∙ ap (λ (r : Result ℕ MarkRefusal). p.history ++ (logger_caller, End start r) ∷ []) marks.0;
       start = does.start;
       drained = λ d. subst (λ (w : Window). IsDrained w 0) (sym does.window) (marks.2 d);
       entries = does.entries;
@@ -109,23 +109,23 @@ pub record Passed (p q : Ported) (start room : ℕ) (e held : Event) : Type 0 wh
 
 pub passed : (p p1 p2 p3 q : Ported) (start place room : ℕ) (e held held' : Event) (h : Header) (body : List ℕ) (reply : Received) → h ≡ fields_of e → body ≡ e.body → p.window.gate ≡ Running start
     → IsSendable p.window (length e.body) e → length e.body ≤ room
-    → p1 ≡ record p { caller = 0 } → Does p1 p2 (SendInRun start h.data_size (event_of h body) (Ok place))
-    → p3 ≡ record p2 { caller = 1 } → Does p3 q (Receive 0 room reply) → held' ≡ event_after held p3.window reply
+    → p1 ≡ record p { caller = front_caller } → Does p1 p2 (SendInRun start h.data_size (event_of h body) (Ok place))
+    → p3 ≡ record p2 { caller = logger_caller } → Does p3 q (Receive 0 room reply) → held' ≡ event_after held p3.window reply
     → IsDrained p.window 0 → Passed p q start room e held'
 passed p p1 p2 p3 q start place room e held held' h body reply is_header is_body running may fits one did two gave held_is drained =
     let sent_entry : ℕ → Event → ℕ → BufferEntry = λ stated x n. SendInRun start stated x (Ok n) in
-    let does : Does (record p { caller = 0 }) p2 (sent_entry h.data_size (event_of h body) place) = as_caller p p1 p2 0 (sent_entry h.data_size (event_of h body) place) one did in
-    let gives : Does (record p2 { caller = 1 }) q (Receive 0 room reply) = as_caller p2 p3 q 1 (Receive 0 room reply) two gave in
+    let does : Does (record p { caller = front_caller }) p2 (sent_entry h.data_size (event_of h body) place) = as_caller p p1 p2 front_caller (sent_entry h.data_size (event_of h body) place) one did in
+    let gives : Does (record p2 { caller = logger_caller }) q (Receive 0 room reply) = as_caller p2 p3 q logger_caller (Receive 0 room reply) two gave in
     let sent : AfterSend p.window p2.window 0 start e (Ok place) = sent_facts p.window p2.window start e h body (Ok place) is_header is_body running may does.reply does.window drained in
     let got : reply ≡ Got place start = fed_reply p2.window 0 place start room e reply sent.1 fits gives.reply in
     let behind : q.window ≡ window_after p2.window (Receive 0 room (Got place start)) = gives.window ∙ ap (λ (r : Received). window_after p2.window (Receive 0 room r)) got in
     let is_event : event_of h body ≡ e = ap (λ (x : Header). event_of x body) is_header ∙ ap (λ (b : List ℕ). event_of (fields_of e) b) is_body in
     let stated : h.data_size ≡ length e.body = ap (λ (x : Header). x.data_size) is_header in
-    let first : p2.history ≡ p.history ++ (0, sent_entry (length e.body) e (accepted_of p.window)) ∷ [] =
+    let first : p2.history ≡ p.history ++ (front_caller, sent_entry (length e.body) e (accepted_of p.window)) ∷ [] =
     does.history
-    ∙ (ap (λ (n : ℕ). p.history ++ (0, sent_entry n (event_of h body) place) ∷ []) stated
-    ∙ (ap (λ (x : Event). p.history ++ (0, sent_entry (length e.body) x place) ∷ []) is_event
-    ∙ ap (λ (n : ℕ). p.history ++ (0, sent_entry (length e.body) e n) ∷ []) sent.0)) in
+    ∙ (ap (λ (n : ℕ). p.history ++ (front_caller, sent_entry n (event_of h body) place) ∷ []) stated
+    ∙ (ap (λ (x : Event). p.history ++ (front_caller, sent_entry (length e.body) x place) ∷ []) is_event
+    ∙ ap (λ (n : ℕ). p.history ++ (front_caller, sent_entry (length e.body) e n) ∷ []) sent.0)) in
     record {
       gate = ap (λ (w : Window). w.gate) behind ∙ ap (λ (w : Window). w.gate) does.window;
       last = ap (λ (w : Window). w.last) behind ∙ ap (λ (w : Window). w.last) does.window;
@@ -133,10 +133,10 @@ passed p p1 p2 p3 q start place room e held held' h body reply is_header is_body
       size = ap (λ (w : Window). w.size) behind ∙ ap (λ (w : Window). w.size) does.window;
       accepted = ap accepted_of behind ∙ omega (arith, sent.1.last, sent.0);
       history = gives.history
-          ∙ (ap (λ (h' : List (ℕ × BufferEntry)). h' ++ (1, Receive 0 room reply) ∷ []) first
-          ∙ (append_assoc p.history ((0, sent_entry (length e.body) e (accepted_of p.window)) ∷ []) ((1, Receive 0 room reply) ∷ [])
-          ∙ (ap (λ (r : Received). p.history ++ (0, sent_entry (length e.body) e (accepted_of p.window)) ∷ (1, Receive 0 room r) ∷ []) got
-          ∙ ap (λ (n : ℕ). p.history ++ (0, sent_entry (length e.body) e (accepted_of p.window)) ∷ (1, Receive 0 room (Got n start)) ∷ []) sent.0)));
+          ∙ (ap (λ (h' : List (ℕ × BufferEntry)). h' ++ (logger_caller, Receive 0 room reply) ∷ []) first
+          ∙ (append_assoc p.history ((front_caller, sent_entry (length e.body) e (accepted_of p.window)) ∷ []) ((logger_caller, Receive 0 room reply) ∷ [])
+          ∙ (ap (λ (r : Received). p.history ++ (front_caller, sent_entry (length e.body) e (accepted_of p.window)) ∷ (logger_caller, Receive 0 room r) ∷ []) got
+          ∙ ap (λ (n : ℕ). p.history ++ (front_caller, sent_entry (length e.body) e (accepted_of p.window)) ∷ (logger_caller, Receive 0 room (Got n start)) ∷ []) sent.0)));
       start_is = gives.start ∙ does.start;
       drained = subst (λ (w : Window). IsDrained w 0) (sym gives.window) (fed_again p2.window 0 place start room e reply sent.1 got);
       entries = omega (arith, does.entries, gives.entries);
@@ -148,7 +148,7 @@ passed p p1 p2 p3 q start place room e held held' h body reply is_header is_body
 pub passed_entries-push : (start room place : ℕ) (es : List Event) (e : Event) → passed_entries start room place (es ++ e ∷ []) ≡ passed_entries start room place es ++ passed_entries start room (place + length es) (e ∷ [])
 passed_entries-push start room place [] e = ap (λ (n : ℕ). passed_entries start room n (e ∷ [])) (omega arith)
 passed_entries-push start room place (x ∷ xs) e =
-    let head : List (ℕ × BufferEntry) → List (ℕ × BufferEntry) = λ more. (0, SendInRun start (length x.body) x (Ok place)) ∷ (1, Receive 0 room (Got place start)) ∷ more in
+    let head : List (ℕ × BufferEntry) → List (ℕ × BufferEntry) = λ more. (front_caller, SendInRun start (length x.body) x (Ok place)) ∷ (logger_caller, Receive 0 room (Got place start)) ∷ more in
     let next : suc place + length xs ≡ place + length (x ∷ xs) = omega arith in
     ap head (passed_entries-push start room (suc place) xs e)
     ∙ ap (λ (n : ℕ). head (passed_entries start room (suc place) xs ++ passed_entries start room n (e ∷ []))) next
@@ -181,9 +181,9 @@ pub record Opened (q : Ported) (size : ℕ) (name : List ℕ) : Type 0 where
   pub start : q.start ≡ opening size
 
 pub opened : (p p1 p2 p3 : Ported) (size : ℕ) (name : List ℕ) (one : Result ℕ NoSlot) (two : Result ℕ RequestRefusal) → p.start ≡ opening size → p.window ≡ opening size → p.history ≡ []
-    → p1 ≡ record p { caller = 1 } → Does p1 p2 (Attach name one) → Does p2 p3 (Request 0 65535 65535 All two) → Opened p3 size name
+    → p1 ≡ record p { caller = logger_caller } → Does p1 p2 (Attach name one) → Does p2 p3 (Request 0 65535 65535 All two) → Opened p3 size name
 opened p p1 p2 p3 size name one two starts opens none set first second =
-    let does : Does (record p { caller = 1 }) p2 (Attach name one) = as_caller p p1 p2 1 (Attach name one) set first in
+    let does : Does (record p { caller = logger_caller }) p2 (Attach name one) = as_caller p p1 p2 logger_caller (Attach name one) set first in
     let attached : one ≡ Ok 0 = subst (λ (w : Window). IsReply w (Attach name one)) opens does.reply ∙ attach_opens size in
     let joined_window : p2.window ≡ window_after (opening size) (Attach name (Ok 0)) =
     does.window ∙ (ap (λ (w : Window). window_after w (Attach name one)) opens ∙ ap (λ (r : Result ℕ NoSlot). window_after (opening size) (Attach name r)) attached) in
@@ -203,16 +203,16 @@ opened p p1 p2 p3 size name one two starts opens none set first second =
       accepted = ap accepted_of window;
       history = second.history
           ∙ (ap (λ (n : ℕ). p2.history ++ (n, Request 0 65535 65535 All two) ∷ []) does.caller
-          ∙ (ap (λ (h : List (ℕ × BufferEntry)). h ++ (1, Request 0 65535 65535 All two) ∷ []) (does.history ∙ ap (λ (h : List (ℕ × BufferEntry)). h ++ (1, Attach name one) ∷ []) none)
-          ∙ (ap (λ (r : Result ℕ NoSlot). (1, Attach name r) ∷ (1, Request 0 65535 65535 All two) ∷ []) attached
-          ∙ ap (λ (r : Result ℕ RequestRefusal). (1, Attach name (Ok 0)) ∷ (1, Request 0 65535 65535 All r) ∷ []) requested)));
+          ∙ (ap (λ (h : List (ℕ × BufferEntry)). h ++ (logger_caller, Request 0 65535 65535 All two) ∷ []) (does.history ∙ ap (λ (h : List (ℕ × BufferEntry)). h ++ (logger_caller, Attach name one) ∷ []) none)
+          ∙ (ap (λ (r : Result ℕ NoSlot). (logger_caller, Attach name r) ∷ (logger_caller, Request 0 65535 65535 All two) ∷ []) attached
+          ∙ ap (λ (r : Result ℕ RequestRefusal). (logger_caller, Attach name (Ok 0)) ∷ (logger_caller, Request 0 65535 65535 All r) ∷ []) requested)));
       start = second.start ∙ (does.start ∙ starts);
     }
 
 -- a send that has room, while the logger has got all, is never refused
 pub not_refused : (p p1 p2 : Ported) (start : ℕ) (e : Event) (h : Header) (body : List ℕ) (refusal : SendRefusal) → h ≡ fields_of e → body ≡ e.body → p.window.gate ≡ Running start
-    → IsSendable p.window (length e.body) e → p.window.total + slot_size e ≤ 2 ^ 62 → p1 ≡ record p { caller = 0 } → Does p1 p2 (SendInRun start h.data_size (event_of h body) (Err refusal)) → IsDrained p.window 0 → ⊥
+    → IsSendable p.window (length e.body) e → p.window.total + slot_size e ≤ 2 ^ 62 → p1 ≡ record p { caller = front_caller } → Does p1 p2 (SendInRun start h.data_size (event_of h body) (Err refusal)) → IsDrained p.window 0 → ⊥
 not_refused p p1 p2 start e h body refusal is_header is_body running may unspent one did drained =
-    let does = as_caller p p1 p2 0 (SendInRun start h.data_size (event_of h body) (Err refusal)) one did in
+    let does = as_caller p p1 p2 front_caller (SendInRun start h.data_size (event_of h body) (Err refusal)) one did in
     let sent : AfterSend p.window p2.window 0 start e (Err refusal) = sent_facts p.window p2.window start e h body (Err refusal) is_header is_body running may does.reply does.window drained in
     absurd (omega (arith, sent.1, unspent))

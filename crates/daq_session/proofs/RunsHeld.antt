@@ -13,6 +13,7 @@ use Rattle.buffer_core.specs.Points.{Life, sent, past_of}
 use Rattle.buffer_core.specs.SlotLaws.{split}
 use Rattle.buffer_core.specs.Runs.{ended_at, events_between, segment, segment_at}
 use Rattle.buffer_core.specs.Readers.{among, places_in, places_got, places_of}
+use Rattle.daq_session.specs.BufferEntries.{front_caller}
 use Rattle.daq_session.specs.RunHistories.{sent_by, wanted_of, events_of}
 use Rattle.daq_session.specs.RunsTold.{in_run, downwards, IsRead, IsDone}
 
@@ -141,13 +142,13 @@ segment_done past sends start from events d =
 pub record IsHeld (h : List (ℕ × BufferEntry)) (start : ℕ) (events : List Event) : Type 0 where
   pub wanted : events_of (wanted_of h 65535 65535 start) ≡ events
   pub got : among (segment h start) (places_got h 0) ≡ places_of (wanted_of h 65535 65535 start)
-  pub sent : sent_by h 0 start ≡ events
-  pub only : events_of (segment h start) ≡ sent_by h 0 start
+  pub sent : sent_by h front_caller start ≡ events
+  pub only : events_of (segment h start) ≡ sent_by h front_caller start
 
-pub is_held : (h : List (ℕ × BufferEntry)) (count start from : ℕ) (events : List Event) → IsRead (past_of h) count → IsDone (past_of h) (sent_by h 0) start from events → IsHeld h start events
+pub is_held : (h : List (ℕ × BufferEntry)) (count start from : ℕ) (events : List Event) → IsRead (past_of h) count → IsDone (past_of h) (sent_by h front_caller) start from events → IsHeld h start events
 is_held h count start from events r d =
     let ss : List Sent = map (in_run start) events in
-    let is_segment : segment h start ≡ enumerate_from from ss = segment_done (past_of h) (sent_by h 0) start from events d in
+    let is_segment : segment h start ≡ enumerate_from from ss = segment_done (past_of h) (sent_by h front_caller) start from events d in
     let is_wanted : wanted_of h 65535 65535 start ≡ enumerate_from from ss = all_wanted (segment h start) ∙ is_segment in
     let places : places_of (wanted_of h 65535 65535 start) ≡ upwards from (length ss) = ap (λ (es : List (ℕ × Sent)). places_of es) is_wanted ∙ places-enumerated from ss in
     let below : from + length ss ≤ count = omega (arith, d.within, r.counted, length-map events (in_run start)) in

@@ -5,6 +5,7 @@ use Rattle.std.proofs.lemmas.List.{append-nil}
 use Rattle.std.proofs.lemmas.List.Elements.{All-nil, All-cons, All-push, All-weaker}
 use Rattle.daq_types.specs.declared.events.Event.{Event}
 use Rattle.daq_types.specs.declared.runs.Order.{Order}
+use Rattle.daq_types.specs.Callers.{caller_of_client}
 use Rattle.daq_model.specs.Generator.{generated_events}
 use Rattle.daq_model.specs.GeneratorLaws.{length-generated_events}
 use Rattle.daq_io.specs.declared.faults.Failed.{Failed}
@@ -23,7 +24,7 @@ use Rattle.daq_session.specs.Sessions.{IsRecorded}
 use Rattle.session_console.specs.declared.records.FrontTally.{FrontTally}
 use Rattle.session_console.specs.declared.records.FileRecord.{FileRecord}
 use Rattle.daq_session.specs.declared.state.OpenRun.{OpenRun}
-use Rattle.daq_session.specs.BufferEntries.{opening_entries, begin_entry, passed_entries, end_entry, PassesFirst}
+use Rattle.daq_session.specs.BufferEntries.{front_caller, logger_caller, opening_entries, begin_entry, passed_entries, end_entry, PassesFirst}
 use Rattle.daq_session.specs.RunRecords.{order_of, sent_in, file_of, IsFiled, generated_events-by}
 use Rattle.daq_session.specs.Stages.{Stage, completed_record}
 use Rattle.daq_session.specs.RunHistories.{sent_by, wanted_of, events_of, segment_file, HoldsSegment, HoldSegments, IsSentByFront, AreSentByFronts, IsHeldRun}
@@ -32,12 +33,12 @@ use Rattle.daq_session.proofs.RunsHeld.{IsHeld, is_held}
 use Rattle.daq_session.proofs.RunsTelling.{past_of-push, SentMore, sent_by-push, read_begun, fresh_begun, on_begun, done_begun, read_passed, fresh_passed, on_passed, done_passed, read_ended, fresh_ended, done_on, done_ended}
 
 -- what holds of the runs told, whichever they are, goes on with the history
-still_told : (h more : List (ℕ × BufferEntry)) → ((start from : ℕ) (events : List Event) → IsDone (past_of h) (sent_by h 0) start from events → IsDone (past_of more) (sent_by more 0) start from events)
+still_told : (h more : List (ℕ × BufferEntry)) → ((start from : ℕ) (events : List Event) → IsDone (past_of h) (sent_by h front_caller) start from events → IsDone (past_of more) (sent_by more front_caller) start from events)
     → (r : RunRecord) (fronts : List FrontTally) → TellsRun h r fronts → TellsRun more r fronts
 still_told h more goes_on r [] none = none
 still_told h more goes_on r (front ∷ fronts) told = (record { from = told.0.from; client = told.0.client; done = goes_on r.start told.0.from (generated_events (order_of r) 1 0 front.sent) told.0.done }, told.1)
 
-all_still : (h more : List (ℕ × BufferEntry)) (runs : List RunRecord) → ((start from : ℕ) (events : List Event) → IsDone (past_of h) (sent_by h 0) start from events → IsDone (past_of more) (sent_by more 0) start from events)
+all_still : (h more : List (ℕ × BufferEntry)) (runs : List RunRecord) → ((start from : ℕ) (events : List Event) → IsDone (past_of h) (sent_by h front_caller) start from events → IsDone (past_of more) (sent_by more front_caller) start from events)
     → All (λ r. TellsRun h r r.fronts) runs → All (λ r. TellsRun more r r.fronts) runs
 all_still h more runs goes_on told = λ k d less. still_told h more goes_on _ _ (told k d less)
 
@@ -55,7 +56,7 @@ at_push h e P holds = subst P (sym (past_of-push h e)) holds
 -- A run begins.
 
 -- a run that is told has another start number than one of which nothing is
-differs_fresh : (h : List (ℕ × BufferEntry)) (last start other from : ℕ) (events : List Event) → last < start → IsFresh (past_of h) (sent_by h 0) last → IsDone (past_of h) (sent_by h 0) other from events → start ≢ other
+differs_fresh : (h : List (ℕ × BufferEntry)) (last start other from : ℕ) (events : List Event) → last < start → IsFresh (past_of h) (sent_by h front_caller) last → IsDone (past_of h) (sent_by h front_caller) other from events → start ≢ other
 differs_fresh h last start other from events later f d = λ same.
     let told : begun_at (past_of h) start ≡ Some from = subst (λ (n : ℕ). begun_at (past_of h) n ≡ Some from) (sym same) d.begun in
     let untold : begun_at (past_of h) start ≡ None = f.begun start later in
@@ -67,21 +68,21 @@ told_begun h count last start place runs later t =
     let more : List (ℕ × BufferEntry) = h ++ e ∷ [] in
     record {
       read = at_push h e (λ p. IsRead p count) (read_begun (past_of h) count start place t.read);
-      fresh = at_push h e (λ p. IsFresh p (sent_by more 0) start) (fresh_begun (past_of h) (sent_by h 0) (sent_by more 0) last start place later t.fresh (sent_by-push h e));
-      done = all_still h more runs (λ other from events d. at_push h e (λ p. IsDone p (sent_by more 0) other from events)
-          (done_begun (past_of h) (sent_by h 0) (sent_by more 0) start place other from events (differs_fresh h last start other from events later t.fresh d) (sent_by-push h e) d)) t.done;
+      fresh = at_push h e (λ p. IsFresh p (sent_by more front_caller) start) (fresh_begun (past_of h) (sent_by h front_caller) (sent_by more front_caller) last start place later t.fresh (sent_by-push h e));
+      done = all_still h more runs (λ other from events d. at_push h e (λ p. IsDone p (sent_by more front_caller) other from events)
+          (done_begun (past_of h) (sent_by h front_caller) (sent_by more front_caller) start place other from events (differs_fresh h last start other from events later t.fresh d) (sent_by-push h e) d)) t.done;
     }
 
 pub on_run_begun : (h : List (ℕ × BufferEntry)) (count last start place : ℕ) (runs : List RunRecord) → last < start → place ≡ count → IsTold h count last runs → IsOnRun (h ++ begin_entry start place ∷ []) start place []
 on_run_begun h count last start place runs later is t =
     let e : ℕ × BufferEntry = begin_entry start place in
     let more : List (ℕ × BufferEntry) = h ++ e ∷ [] in
-    at_push h e (λ p. IsOn p (sent_by more 0) start place []) (on_begun (past_of h) (sent_by h 0) (sent_by more 0) last start place later t.fresh (is ∙ sym t.read.counted) (sent_by-push h e))
+    at_push h e (λ p. IsOn p (sent_by more front_caller) start place []) (on_begun (past_of h) (sent_by h front_caller) (sent_by more front_caller) last start place later t.fresh (is ∙ sym t.read.counted) (sent_by-push h e))
 
 -- Events pass.
 
 -- a run that is told to be over is another than the one that is on
-differs_on : (h : List (ℕ × BufferEntry)) (start at other from : ℕ) (events done : List Event) → IsOnRun h start at events → IsDone (past_of h) (sent_by h 0) other from done → start ≢ other
+differs_on : (h : List (ℕ × BufferEntry)) (start at other from : ℕ) (events done : List Event) → IsOnRun h start at events → IsDone (past_of h) (sent_by h front_caller) other from done → start ≢ other
 differs_on h start at other from events done o d = λ same.
     let told : ended_at (past_of h) start ≡ Some (from + length done) = subst (λ (n : ℕ). ended_at (past_of h) n ≡ Some (from + length done)) (sym same) d.ended in
     let untold : ended_at (past_of h) start ≡ None = o.unended in
@@ -94,25 +95,25 @@ pub record IsPassing (h : List (ℕ × BufferEntry)) (count last : ℕ) (runs : 
   pub early : start ≤ last
 
 abbrev pub with_event : List (ℕ × BufferEntry) → (start room place : ℕ) → Event → List (ℕ × BufferEntry)
-with_event h start room place e = (h ++ (0, SendInRun start (length e.body) e (Ok place)) ∷ []) ++ (1, Receive 0 room (Got place start)) ∷ []
+with_event h start room place e = (h ++ (front_caller, SendInRun start (length e.body) e (Ok place)) ∷ []) ++ (logger_caller, Receive 0 room (Got place start)) ∷ []
 
 passes_one : (h : List (ℕ × BufferEntry)) (count last : ℕ) (runs : List RunRecord) (start from room : ℕ) (events : List Event) (e : Event) → IsPassing h count last runs start from events → IsPassing (with_event h start room count e) (suc count) last runs start from (events ++ e ∷ [])
 passes_one h count last runs start from room events e p =
-    let sends : ℕ × BufferEntry = (0, SendInRun start (length e.body) e (Ok count)) in
-    let gets : ℕ × BufferEntry = (1, Receive 0 room (Got count start)) in
+    let sends : ℕ × BufferEntry = (front_caller, SendInRun start (length e.body) e (Ok count)) in
+    let gets : ℕ × BufferEntry = (logger_caller, Receive 0 room (Got count start)) in
     let between : List (ℕ × BufferEntry) = h ++ sends ∷ [] in
     let more : List (ℕ × BufferEntry) = between ++ gets ∷ [] in
-    let one : SentMore sends (sent_by h 0) (sent_by between 0) = sent_by-push h sends in
-    let two : SentMore gets (sent_by between 0) (sent_by more 0) = sent_by-push between gets in
+    let one : SentMore sends (sent_by h front_caller) (sent_by between front_caller) = sent_by-push h sends in
+    let two : SentMore gets (sent_by between front_caller) (sent_by more front_caller) = sent_by-push between gets in
     let lay : (P : List (ℕ × BufferEntry) → Type 0) → P (gets ∷ sends ∷ past_of h) → P (past_of more) = λ P holds. at_push between gets P (subst (λ (past : List (ℕ × BufferEntry)). P (gets ∷ past)) (sym (past_of-push h sends)) holds) in
     record {
       told = record {
         read = lay (λ past. IsRead past (suc count)) (read_passed (past_of h) count start (length e.body) room count e refl p.told.read);
-        fresh = lay (λ past. IsFresh past (sent_by more 0) last) (fresh_passed (past_of h) (sent_by h 0) (sent_by between 0) (sent_by more 0) last start (length e.body) room count e p.early one two p.told.fresh);
-        done = all_still h more runs (λ other at done d. lay (λ past. IsDone past (sent_by more 0) other at done)
-            (done_passed (past_of h) (sent_by h 0) (sent_by between 0) (sent_by more 0) start (length e.body) room count other at e done (differs_on h start from other at events done p.on d) one two d)) p.told.done;
+        fresh = lay (λ past. IsFresh past (sent_by more front_caller) last) (fresh_passed (past_of h) (sent_by h front_caller) (sent_by between front_caller) (sent_by more front_caller) last start (length e.body) room count e p.early one two p.told.fresh);
+        done = all_still h more runs (λ other at done d. lay (λ past. IsDone past (sent_by more front_caller) other at done)
+            (done_passed (past_of h) (sent_by h front_caller) (sent_by between front_caller) (sent_by more front_caller) start (length e.body) room count other at e done (differs_on h start from other at events done p.on d) one two d)) p.told.done;
       };
-      on = lay (λ past. IsOn past (sent_by more 0) start from (events ++ e ∷ [])) (on_passed (past_of h) (sent_by h 0) (sent_by between 0) (sent_by more 0) start (length e.body) room count from e events one two p.on);
+      on = lay (λ past. IsOn past (sent_by more front_caller) start from (events ++ e ∷ [])) (on_passed (past_of h) (sent_by h front_caller) (sent_by between front_caller) (sent_by more front_caller) start (length e.body) room count from e events one two p.on);
       early = p.early;
     }
 
@@ -127,8 +128,8 @@ passes [] h more count after last runs start from room events all is_more is_aft
     (subst (λ (n : ℕ). IsPassing h n last runs start from all) (sym still)
     (subst (λ (xs : List Event). IsPassing h count last runs start from xs) (sym same) p))
 passes (e ∷ es) h more count after last runs start from room events all is_more is_after is_all p =
-    let sends : ℕ × BufferEntry = (0, SendInRun start (length e.body) e (Ok count)) in
-    let gets : ℕ × BufferEntry = (1, Receive 0 room (Got count start)) in
+    let sends : ℕ × BufferEntry = (front_caller, SendInRun start (length e.body) e (Ok count)) in
+    let gets : ℕ × BufferEntry = (logger_caller, Receive 0 room (Got count start)) in
     let rest : List (ℕ × BufferEntry) = passed_entries start room (suc count) es in
     let joined : h ++ (sends ∷ gets ∷ rest) ≡ ((h ++ sends ∷ []) ++ gets ∷ []) ++ rest =
     sym (append_assoc (h ++ sends ∷ []) (gets ∷ []) rest ∙ append_assoc h (sends ∷ []) (gets ∷ rest)) in
@@ -144,20 +145,20 @@ told_ended h count last start from place runs events p =
     let more : List (ℕ × BufferEntry) = h ++ e ∷ [] in
     record {
       read = at_push h e (λ past. IsRead past count) (read_ended (past_of h) count start place p.told.read);
-      fresh = at_push h e (λ past. IsFresh past (sent_by more 0) last) (fresh_ended (past_of h) (sent_by h 0) (sent_by more 0) last start place p.early (sent_by-push h e) p.told.fresh);
-      done = all_still h more runs (λ other at done d. at_push h e (λ past. IsDone past (sent_by more 0) other at done)
-          (done_ended (past_of h) (sent_by h 0) (sent_by more 0) start place other at done (differs_on h start from other at events done p.on d) (sent_by-push h e) d)) p.told.done;
+      fresh = at_push h e (λ past. IsFresh past (sent_by more front_caller) last) (fresh_ended (past_of h) (sent_by h front_caller) (sent_by more front_caller) last start place p.early (sent_by-push h e) p.told.fresh);
+      done = all_still h more runs (λ other at done d. at_push h e (λ past. IsDone past (sent_by more front_caller) other at done)
+          (done_ended (past_of h) (sent_by h front_caller) (sent_by more front_caller) start place other at done (differs_on h start from other at events done p.on d) (sent_by-push h e) d)) p.told.done;
     }
 
-pub done_run : (h : List (ℕ × BufferEntry)) (count last start from place : ℕ) (runs : List RunRecord) (events : List Event) → place ≡ count → IsPassing h count last runs start from events → IsDone (past_of (h ++ end_entry start place ∷ [])) (sent_by (h ++ end_entry start place ∷ []) 0) start from events
+pub done_run : (h : List (ℕ × BufferEntry)) (count last start from place : ℕ) (runs : List RunRecord) (events : List Event) → place ≡ count → IsPassing h count last runs start from events → IsDone (past_of (h ++ end_entry start place ∷ [])) (sent_by (h ++ end_entry start place ∷ []) front_caller) start from events
 done_run h count last start from place runs events is p =
     let e : ℕ × BufferEntry = end_entry start place in
     let more : List (ℕ × BufferEntry) = h ++ e ∷ [] in
-    at_push h e (λ past. IsDone past (sent_by more 0) start from events) (done_on (past_of h) (sent_by h 0) (sent_by more 0) start place from events (is ∙ sym p.told.read.counted) (sent_by-push h e) p.on)
+    at_push h e (λ past. IsDone past (sent_by more front_caller) start from events) (done_on (past_of h) (sent_by h front_caller) (sent_by more front_caller) start place from events (is ∙ sym p.told.read.counted) (sent_by-push h e) p.on)
 
 -- Records.
 
-pub told_completed : (h : List (ℕ × BufferEntry)) (count last from time : ℕ) (runs : List RunRecord) (order : Order) (front : FrontTally) → front.client ≡ 0 → IsDone (past_of h) (sent_by h 0) order.start from (generated_events order 1 0 front.sent)
+pub told_completed : (h : List (ℕ × BufferEntry)) (count last from time : ℕ) (runs : List RunRecord) (order : Order) (front : FrontTally) → front.client ≡ 0 → IsDone (past_of h) (sent_by h front_caller) order.start from (generated_events order 1 0 front.sent)
     → IsTold h count last runs → IsTold h count last (runs ++ completed_record order time front ∷ [])
 told_completed h count last from time runs order front client done t =
     let r : RunRecord = completed_record order time front in
@@ -166,7 +167,7 @@ told_completed h count last from time runs order front client done t =
       read = t.read;
       fresh = t.fresh;
       done = All-push (λ x. TellsRun h x x.fronts) runs r t.done
-          (record { from = from; client = client; done = subst (λ (es : List Event). IsDone (past_of h) (sent_by h 0) order.start from es) same done }, refl);
+          (record { from = from; client = client; done = subst (λ (es : List Event). IsDone (past_of h) (sent_by h front_caller) order.start from es) same done }, refl);
     }
 
 pub told_refused : (h : List (ℕ × BufferEntry)) (count last after : ℕ) (runs : List RunRecord) (r : RunRecord) → last ≤ after → r.fronts ≡ [] → r.files ≡ [] → IsTold h count last runs → IsTold h count after (runs ++ r ∷ [])
@@ -201,8 +202,8 @@ held_by h count r (front ∷ fronts) same read told =
     let said : events_of (wanted_of h 65535 65535 r.start) ≡ generated_events (order_of r) 1 0 (sent_in r.fronts) = held.wanted ∙ ap (λ (n : ℕ). generated_events (order_of r) 1 0 n) (sym sent) in
     record {
       fronts = subst (λ (xs : List FrontTally). All (IsSentByFront h r) xs) (sym alone) (All-cons (IsSentByFront h r) front [] (record {
-        sent = ap (λ (n : ℕ). sent_by h n r.start) told.0.client ∙ held.sent;
-        only = held.only ∙ ap (λ (n : ℕ). sent_by h n r.start) (sym told.0.client);
+        sent = ap (λ (n : ℕ). sent_by h (caller_of_client n) r.start) told.0.client ∙ held.sent;
+        only = held.only ∙ ap (λ (n : ℕ). sent_by h (caller_of_client n) r.start) (sym told.0.client);
       }) (All-nil (IsSentByFront h r)));
       got = λ k d less. held.got;
       file = λ k d less. ap (λ (es : List Event). run_file r.run r.time0 [] es r.time1 []) said;
@@ -230,12 +231,12 @@ pub end_done : (old between new : List (ℕ × BufferEntry)) (order : Order) (ro
     → new ≡ between ++ end_entry order.start middle ∷ [] → EndsTold old new place order front.sent
 end_done old between new order room place middle front p is_new = λ starts runs early t o.
     let closed : List (ℕ × BufferEntry) = between ++ end_entry order.start middle ∷ [] in
-    let done : IsDone (past_of closed) (sent_by closed 0) order.start place (generated_events order 1 0 p.count) =
+    let done : IsDone (past_of closed) (sent_by closed front_caller) order.start place (generated_events order 1 0 p.count) =
     done_run between middle starts order.start place middle runs (generated_events order 1 0 p.count) refl (on_the_way old between order room place middle starts runs (Ok front) p early t o) in
     record {
       from = place;
-      done = subst (λ (h : List (ℕ × BufferEntry)). IsDone (past_of h) (sent_by h 0) order.start place (generated_events order 1 0 front.sent)) (sym is_new)
-          (subst (λ (n : ℕ). IsDone (past_of closed) (sent_by closed 0) order.start place (generated_events order 1 0 n)) (sym p.all) done);
+      done = subst (λ (h : List (ℕ × BufferEntry)). IsDone (past_of h) (sent_by h front_caller) order.start place (generated_events order 1 0 front.sent)) (sym is_new)
+          (subst (λ (n : ℕ). IsDone (past_of closed) (sent_by closed front_caller) order.start place (generated_events order 1 0 n)) (sym p.all) done);
     }
 
 -- What stands at the begin of a run and at its end.

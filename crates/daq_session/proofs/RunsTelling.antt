@@ -13,6 +13,7 @@ use Rattle.buffer_core.specs.declared.replies.Received.TheVariants.{Got}
 use Rattle.buffer_core.specs.Window.{Sent}
 use Rattle.buffer_core.specs.Points.{Life, life_got, sent, count_at, past_after, past_of}
 use Rattle.buffer_core.specs.Runs.{begun_at, ended_at}
+use Rattle.daq_session.specs.BufferEntries.{front_caller, logger_caller}
 use Rattle.daq_session.specs.RunHistories.{sent_by, sent_in_run}
 use Rattle.daq_session.specs.RunsTold.{in_run, downwards, IsRead, IsFresh, IsOn, IsDone}
 
@@ -27,18 +28,18 @@ past_of-push h e = past_after-append [] h (e ∷ [])
 
 -- what was sent in each run with this entry more
 pub record SentMore (e : ℕ × BufferEntry) (sends more : ℕ → List Event) : Type 0 where
-  pub sent : (start : ℕ) → more start ≡ sends start ++ sent_by (e ∷ []) 0 start
+  pub sent : (start : ℕ) → more start ≡ sends start ++ sent_by (e ∷ []) front_caller start
 
-pub sent_by-push : (h : List (ℕ × BufferEntry)) (e : ℕ × BufferEntry) → SentMore e (sent_by h 0) (sent_by (h ++ e ∷ []) 0)
-sent_by-push h e = record { sent = λ start. filter_map-append (λ (x : ℕ × BufferEntry). if x.0 == 0 then sent_in_run start x.1 else None) h (e ∷ []) }
+pub sent_by-push : (h : List (ℕ × BufferEntry)) (e : ℕ × BufferEntry) → SentMore e (sent_by h front_caller) (sent_by (h ++ e ∷ []) front_caller)
+sent_by-push h e = record { sent = λ start. filter_map-append (λ (x : ℕ × BufferEntry). if x.0 == front_caller then sent_in_run start x.1 else None) h (e ∷ []) }
 
-none_more : {sends more : ℕ → List Event} (e : ℕ × BufferEntry) → SentMore e sends more → (start : ℕ) → sent_by (e ∷ []) 0 start ≡ [] → more start ≡ sends start
+none_more : {sends more : ℕ → List Event} (e : ℕ × BufferEntry) → SentMore e sends more → (start : ℕ) → sent_by (e ∷ []) front_caller start ≡ [] → more start ≡ sends start
 none_more {sends} {more} e m start none = m.sent start ∙ (ap (λ (es : List Event). sends start ++ es) none ∙ append-nil (sends start))
 
 -- A run begins.
 
 abbrev pub begins : (start place : ℕ) → ℕ × BufferEntry
-begins start place = (1, Begin start (Ok place))
+begins start place = (logger_caller, Begin start (Ok place))
 
 pub read_begun : (past : List (ℕ × BufferEntry)) (count start place : ℕ) → IsRead past count → IsRead (begins start place ∷ past) count
 read_begun past count start place r = record { counted = r.counted; got = r.got }
@@ -77,10 +78,10 @@ done_begun past sends more start place other from events differs m d = record {
 -- An event is sent in the run, and the client gets it.
 
 abbrev pub sends_it : (start stated : ℕ) → Event → (place : ℕ) → ℕ × BufferEntry
-sends_it start stated e place = (0, SendInRun start stated e (Ok place))
+sends_it start stated e place = (front_caller, SendInRun start stated e (Ok place))
 
 abbrev pub gets_it : (room place start : ℕ) → ℕ × BufferEntry
-gets_it room place start = (1, Receive 0 room (Got place start))
+gets_it room place start = (logger_caller, Receive 0 room (Got place start))
 
 pub read_passed : (past : List (ℕ × BufferEntry)) (count start stated room place : ℕ) (e : Event) → place ≡ count → IsRead past count → IsRead (gets_it room place start ∷ sends_it start stated e place ∷ past) (suc count)
 read_passed past count start stated room place e is r = record {
@@ -126,7 +127,7 @@ done_passed past sends between more start stated room place other from e events 
 -- The run ends.
 
 abbrev pub ends_it : (start place : ℕ) → ℕ × BufferEntry
-ends_it start place = (1, End start (Ok place))
+ends_it start place = (logger_caller, End start (Ok place))
 
 pub read_ended : (past : List (ℕ × BufferEntry)) (count start place : ℕ) → IsRead past count → IsRead (ends_it start place ∷ past) count
 read_ended past count start place r = record { counted = r.counted; got = r.got }

@@ -2,6 +2,7 @@
 use Rattle.std.specs.Prelude.{◌≡◌, ℕ, ◌==◌, if◌then◌else◌, List, [], map, Option, Some, None, Ok, All}
 use Rattle.std.specs.List.{filter_map}
 use Rattle.daq_types.specs.declared.events.Event.{Event}
+use Rattle.daq_types.specs.Callers.{caller_of_client}
 use Rattle.daq_model.specs.RunFile.{run_file}
 use Rattle.daq_model.specs.Generator.{generated_events}
 use Rattle.daq_io.specs.Seen.{Stored, stored_closed}
@@ -44,11 +45,11 @@ pub record HoldsSegment (h : List (ℕ × BufferEntry)) (at : List ℕ → Optio
   pub file : at f.name ≡ Some (stored_closed (segment_file h r))
   pub got : among (segment h r.start) (places_got h 0) ≡ places_of (wanted_of h 65535 65535 r.start)
 
--- What the front-end, whose caller number is that of its client, sent in the run are events 1 to n of its generator, in
+-- What the front-end sent in the run are events 1 to n of its generator, in
 -- order, n the record's number; and nothing else stands between the run's marks.
 pub record IsSentByFront (h : List (ℕ × BufferEntry)) (r : RunRecord) (front : FrontTally) : Type 0 where
-  pub sent : sent_by h front.client r.start ≡ generated_events (order_of r) 1 0 front.sent
-  pub only : events_of (segment h r.start) ≡ sent_by h front.client r.start
+  pub sent : sent_by h (caller_of_client front.client) r.start ≡ generated_events (order_of r) 1 0 front.sent
+  pub only : events_of (segment h r.start) ≡ sent_by h (caller_of_client front.client) r.start
 
 -- Of a recorded run: what the front-ends sent; what the channel's client got, for each file; and that the file that the
 -- history says is the one that the record says.

@@ -9,6 +9,7 @@ use Rattle.buffer_core.specs.Points.{life_at, sent, count_at, past_of}
 use Rattle.buffer_core.specs.Runs.{begun_at, ended_at}
 use Rattle.session_console.specs.declared.records.RunRecord.{RunRecord}
 use Rattle.session_console.specs.declared.records.FrontTally.{FrontTally}
+use Rattle.daq_session.specs.BufferEntries.{front_caller}
 use Rattle.daq_session.specs.declared.state.OpenRun.{OpenRun}
 use Rattle.daq_session.specs.RunRecords.{order_of}
 use Rattle.daq_session.specs.RunHistories.{sent_by}
@@ -55,7 +56,7 @@ pub record IsDone (past : List (ℕ × BufferEntry)) (sends : ℕ → List Event
 pub record IsDoneRun (h : List (ℕ × BufferEntry)) (r : RunRecord) (front : FrontTally) : Type 0 where
   pub from : ℕ
   pub client : front.client ≡ 0
-  pub done : IsDone (past_of h) (sent_by h 0) r.start from (generated_events (order_of r) 1 0 front.sent)
+  pub done : IsDone (past_of h) (sent_by h front_caller) r.start from (generated_events (order_of r) 1 0 front.sent)
 
 -- the record has the one front-end, or is that of a refused start
 abbrev pub TellsRun : List (ℕ × BufferEntry) → RunRecord → List FrontTally → Type 0
@@ -65,17 +66,17 @@ TellsRun h r (front ∷ fronts) = IsDoneRun h r front × (fronts ≡ [])
 -- the history with so many events tells the recorded runs, and of no other run with a higher start number
 pub record IsTold (h : List (ℕ × BufferEntry)) (count starts : ℕ) (runs : List RunRecord) : Type 0 where
   pub read : IsRead (past_of h) count
-  pub fresh : IsFresh (past_of h) (sent_by h 0) starts
+  pub fresh : IsFresh (past_of h) (sent_by h front_caller) starts
   pub done : All (λ r. TellsRun h r r.fronts) runs
 
 -- the run of this start number is on, and these events were sent in it since this place
 abbrev pub IsOnRun : List (ℕ × BufferEntry) → (start from : ℕ) → List Event → Type 0
-IsOnRun h start from events = IsOn (past_of h) (sent_by h 0) start from events
+IsOnRun h start from events = IsOn (past_of h) (sent_by h front_caller) start from events
 
 -- of a completed run: in which record its events are told as ended
 pub record IsEnded (h : List (ℕ × BufferEntry)) (order : Order) (sent : ℕ) : Type 0 where
   pub from : ℕ
-  pub done : IsDone (past_of h) (sent_by h 0) order.start from (generated_events order 1 0 sent)
+  pub done : IsDone (past_of h) (sent_by h front_caller) order.start from (generated_events order 1 0 sent)
 
 -- Whatever runs the history told when the run of this order was on and no event of it was sent yet, it tells them still.
 abbrev pub KeepsTold : (old new : List (ℕ × BufferEntry)) (before after : ℕ) (order : Order) → Type 0

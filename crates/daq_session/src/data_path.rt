@@ -6,14 +6,14 @@ ghost use Rattle.daq_io.specs.Seen.{Extends};
 ghost use Rattle.buffer_core.specs.declared.gate.RunGate.TheVariants.{Shut, Running};
 ghost use Rattle.buffer_core.specs.ReadingLaws.{IsDrained};
 ghost use Rattle.buffer_core.specs.Window.{opening, accepted_of};
-ghost use Rattle.daq_session.specs.BufferEntries.{opening_entries, begin_entry, passed_entries, end_entry, PassesFirst};
+ghost use Rattle.daq_session.specs.BufferEntries.{front_caller, logger_caller, opening_entries, begin_entry, passed_entries, end_entry, PassesFirst};
 ghost use Rattle.daq_session.specs.BufferRecords.{IsOneHistory, IsSystem};
 ghost use Rattle.daq_session.specs.RunsTold.{IsTold};
 ghost use Rattle.daq_session.specs.Tallies.{IsTally, most_spent, most_starts};
 
 use buffer_core::laws;
 use daq_io::{Failed, Files};
-use daq_types::{Kind, Name, NoMemory, Order};
+use daq_types::{Caller, Kind, Name, NoMemory, Order};
 use event_header::EventBuf;
 use frontend_kit::{EVENT_ROOM, Generator};
 use local_port::LocalPort;
@@ -21,8 +21,7 @@ use plain_buffer::PlainBuffer;
 use session_console::{BufferRecord, Entries, FrontEnded, FrontTally};
 use std::alloc::Global;
 
-/// The front-end FE: its client number, by which its calls on the buffer are noted too, its event id and its trigger
-/// mask.
+/// The front-end FE: its client number, its event id and its trigger mask.
 const FRONT_CLIENT: u32 = 0;
 
 const FRONT_ID: u16 = 1;
@@ -32,7 +31,7 @@ const FRONT_MASK: u16 = 0;
 /// The size of the buffer SYSTEM, in bytes.
 const SYSTEM_BYTES: u32 = 1_048_576;
 
-/// The logger's client number, by which its calls on the buffer are noted.
+/// The logger's client number.
 const LOGGER_CLIENT: u32 = 1;
 
 /// The logger's client of that buffer.
@@ -69,6 +68,20 @@ pub struct DataPath {
     ghost drained: { ∥ IsDrained port.window 0 ∥₁ },
 }
 
+/// The front-end's calls come next.
+fn front_calls(port: &mut LocalPort<PlainBuffer>)
+    ensures { port.new ≡ record port.old { caller = front_caller } }
+{
+    port.set_caller(Caller::of_client(FRONT_CLIENT));
+}
+
+/// The logger's calls come next.
+fn logger_calls(port: &mut LocalPort<PlainBuffer>)
+    ensures { port.new ≡ record port.old { caller = logger_caller } }
+{
+    port.set_caller(Caller::of_client(LOGGER_CLIENT));
+}
+
 /// A port to the buffer SYSTEM, with the logger's client, which asks for all events.
 fn system_port(alloc: Global) -> Result<LocalPort<PlainBuffer>, NoMemory>
     ensures opens { IfOk result (λ port. port.start ≡ opening 1048576) }
@@ -82,7 +95,7 @@ fn system_port(alloc: Global) -> Result<LocalPort<PlainBuffer>, NoMemory>
 {
     let mut port = LocalPort::new(alloc, PlainBuffer::new(alloc, SYSTEM_BYTES)?);
     port.reserve(2, 0)?;
-    port.set_caller(LOGGER_CLIENT);
+    logger_calls(&mut port);
     let _ = port.attach(logger_name());
     let _ = port.request(READER, ANY, ANY, Kind::All);
     Ok(port)
@@ -157,7 +170,7 @@ impl DataPath {
         ensures entries { self.old.port.entries ≤ self.new.port.entries + 1 }
         ensures bytes { self.old.port.bytes ≤ self.new.port.bytes }
     {
-        self.port.set_caller(LOGGER_CLIENT);
+        logger_calls(&mut self.port);
         let _ = self.port.begin(start);
     }
 
@@ -172,7 +185,7 @@ impl DataPath {
         ensures history { self.new.port.history ≡ self.old.port.history ++ end_entry start (accepted_of self.old.port.window) ∷ [] }
         ensures got { self.new.got ≡ self.old.got }
     {
-        self.port.set_caller(LOGGER_CLIENT);
+        logger_calls(&mut self.port);
         let _ = self.port.end(start);
     }
 
@@ -197,10 +210,10 @@ impl DataPath {
         ensures bytes { self.old.port.bytes ≤ self.new.port.bytes + 80 }
     {
         let header = self.sent.header();
-        self.port.set_caller(FRONT_CLIENT);
+        front_calls(&mut self.port);
         match self.port.send_in_run(start, &header, self.sent.body()) {
             Ok(_) => {
-                self.port.set_caller(LOGGER_CLIENT);
+                logger_calls(&mut self.port);
                 let _ = self.port.receive(READER, &mut self.got);
             }
             Err(_) => unreachable!(),

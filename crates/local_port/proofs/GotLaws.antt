@@ -14,13 +14,13 @@ use Rattle.buffer_core.specs.declared.entry.BufferEntry.{BufferEntry}
 use Rattle.buffer_core.specs.declared.entry.BufferEntry.TheVariants.{Attach, Detach, Request, Cancel, Send, SendInRun, Receive, Begin, Pause, Resume, End, Level, Accepted}
 use Rattle.buffer_core.specs.Slots.{slot_at, change_slot, change_all, some_slot}
 use Rattle.buffer_core.specs.SlotLaws.{split, slot_change_all, slot_change_same, slot_change_other}
-use Rattle.buffer_core.specs.Window.{Sent, Window, slot_of_sent, accepted_of, kept_at, wants, covers, level_of, IsWindow}
+use Rattle.buffer_core.specs.Window.{Sent, Window, slot_of_sent, accepted_of, kept_at, wants, covers, level_of, IsWindow, StandsAt}
 use Rattle.buffer_core.specs.Calls.{IsReply, window_after, with_request, going_on, pushed, joined, after_send, gone_of, found_in, receive_reply_to}
 use Rattle.buffer_core.specs.Histories.{IsLegal, replay}
-use Rattle.buffer_core.specs.WindowLaws.{StandsAt, found_stands, found_kept}
+use Rattle.buffer_core.specs.WindowLaws.{found_stands, found_kept}
 use Rattle.buffer_core.specs.WindowKept.{found_got}
-use Rattle.buffer_core.specs.Ports.{slots_got}
-use Rattle.local_port.specs.Ported.{given_to, given_by, given_in}
+use Rattle.buffer_core.specs.Ports.{GotEvent, slots_got}
+use Rattle.local_port.specs.Ported.{event_given, given_by, given_in}
 
 -- Sums of the rest of a list.
 
@@ -59,7 +59,7 @@ abbrev pub ahead : Window → (client : ℕ) → ℕ
 ahead w client = ahead_of w.first w.kept (slot_at w.clients client)
 
 -- one place gets another member
-set_either : {X : Type 0} (P : Option X → Type 0) (xs : List (Option X)) (n m : ℕ) (o : Option X) → (m ≡ n → P o) → P (slot_at xs m) → P (slot_at (slice_set xs n o) m)
+pub set_either : {X : Type 0} (P : Option X → Type 0) (xs : List (Option X)) (n m : ℕ) (o : Option X) → (m ≡ n → P o) → P (slot_at xs m) → P (slot_at (slice_set xs n o) m)
 set_either P [] zero m o here there = there
 set_either P [] (suc n) m o here there = there
 set_either P (x ∷ xs) zero zero o here there = here refl
@@ -161,7 +161,7 @@ pays_got : (w : Window) (client by room place start : ℕ) → Got place start �
 pays_got w client by room place start reply =
     let got : IsGot w place (slot_at w.clients by) = got_is w room (slot_at w.clients by) place start reply in
     let slot : ℕ = slot_of_sent got.sent in
-    let given : given_by w (Receive by room (Got place start)) ≡ (by, got.sent.event) ∷ [] = ap (given_to by) got.kept in
+    let given : given_by w (Receive by room (Got place start)) ≡ record { client = by; place = place; start = start; event = got.sent.event } ∷ [] = ap (event_given by place start) got.kept in
     let slots : slots_got client (given_by w (Receive by room (Got place start))) ≡ (if by == client then slot else 0) + 0 = ap (slots_got client) given in
     let rest : ℕ = sum_by slot_of_sent (drop (place + 1 - w.first) w.kept) in
     let next_is : place + 1 - w.first ≡ suc got.index = omega (arith, got.place_is) in
@@ -224,11 +224,11 @@ pays w client (Accepted reply) is = omega arith
 
 -- Whole histories.
 
-slots_got-append : (client : ℕ) (xs ys : List (ℕ × Event)) → slots_got client (xs ++ ys) ≡ slots_got client xs + slots_got client ys
+slots_got-append : (client : ℕ) (xs ys : List GotEvent) → slots_got client (xs ++ ys) ≡ slots_got client xs + slots_got client ys
 slots_got-append client [] ys = omega arith
 slots_got-append client (x ∷ xs) ys = omega (arith, slots_got-append client xs ys)
 
-slots_own : (client : ℕ) (b : Bool) (xs : List (ℕ × Event)) → slots_got client (if b then xs else []) ≤ slots_got client xs
+slots_own : (client : ℕ) (b : Bool) (xs : List GotEvent) → slots_got client (if b then xs else []) ≤ slots_got client xs
 slots_own client true xs = omega arith
 slots_own client false xs = omega arith
 
@@ -236,7 +236,7 @@ paid_in : (by client : ℕ) (w : Window) (h : List (ℕ × BufferEntry)) → IsL
 paid_in by client w [] legal = omega arith
 paid_in by client w (e ∷ es) legal =
     let w' : Window = window_after w e.1 in
-    let first : List (ℕ × Event) = if e.0 == by then given_by w e.1 else [] in
+    let first : List GotEvent = if e.0 == by then given_by w e.1 else [] in
     let step : Pays w client e.1 = pays w client e.1 legal.0 in
     let rest = paid_in by client w' es legal.1 in
     let sum : slots_got client (first ++ given_in by w' es) ≡ slots_got client first + slots_got client (given_in by w' es) = slots_got-append client first (given_in by w' es) in

@@ -1,11 +1,11 @@
 -- A line more in a journal.
-use Rattle.std.specs.Prelude.{◌≡◌, ℕ, suc, ◌≤◌, List, [], ◌∷◌, ◌++◌, length, take, drop, sum_by, refl}
-use Rattle.std.proofs.Common.{ap, sym, ◌∙◌, arith}
-use Rattle.std.proofs.lemmas.List.{take-append-le, drop-append-le, length-drop, take_all, nil_from_length}
+use Rattle.std.specs.Prelude.{◌≡◌, ℕ, zero, suc, ◌+◌, ◌<◌, ◌≤◌, List, [], ◌∷◌, ◌++◌, length, take, drop, sum_by, slice_get, Some, refl}
+use Rattle.std.proofs.Common.{get_or, ap, sym, subst, ◌∙◌, arith}
+use Rattle.std.proofs.lemmas.List.{take-append-le, drop-append-le, length-drop, drop-drop, take_all, nil_from_length}
 use Rattle.std.proofs.lemmas.List.Sums.{sum_by-cons}
 use Rattle.buffer_core.specs.declared.entry.BufferEntry.{BufferEntry}
 use Rattle.local_port.specs.declared.journal.Line.{Line}
-use Rattle.local_port.specs.Journals.{entries_of, entry_with, size_of_line}
+use Rattle.local_port.specs.Journals.{entries_of, entry_with, size_of_line, AreBehind}
 
 pub length-entries_of : (lines : List Line) (bytes : List ℕ) → length (entries_of lines bytes) ≡ length lines
 length-entries_of [] bytes = refl
@@ -23,3 +23,42 @@ entries_of-push (q ∷ qs) bytes l body whole stated =
     ap (λ (bs : List ℕ). (q.caller, entry_with bs q.entry) ∷ entries_of (qs ++ l ∷ []) (drop n (bytes ++ body))) (take-append-le n bytes body first)
     ∙ (ap (λ (bs : List ℕ). (q.caller, entry_with (take n bytes) q.entry) ∷ entries_of (qs ++ l ∷ []) bs) (drop-append-le n bytes body first)
     ∙ ap (λ (es : List (ℕ × BufferEntry)). (q.caller, entry_with (take n bytes) q.entry) ∷ es) (entries_of-push qs (drop n bytes) l body others stated))
+
+pub behind_push : (from : ℕ) (lines : List Line) (l : Line) → AreBehind from lines → l.from ≡ from + sum_by size_of_line lines → AreBehind from (lines ++ l ∷ [])
+behind_push from [] l behind is = (omega (arith, is), tt)
+behind_push from (q ∷ qs) l behind is = (behind.0, behind_push (from + q.size) qs l behind.1 (omega (arith, is, sum_by-cons size_of_line q qs)))
+
+-- what a line of a journal stands for
+pub record IsLine (lines : List Line) (bytes : List ℕ) (from number : ℕ) (l : Line) : Type 0 where
+  pub within : l.from + l.size ≤ length bytes
+  pub noted : slice_get (entries_of lines (drop from bytes)) number ≡ Some (l.caller, entry_with (take l.size (drop l.from bytes)) l.entry)
+
+pub line_at : (lines : List Line) (bytes : List ℕ) (from number : ℕ) (l : Line) → AreBehind from lines → from + sum_by size_of_line lines ≤ length bytes
+    → slice_get lines number ≡ Some l → IsLine lines bytes from number l
+line_at [] bytes from number l behind whole is = absurd (cc)
+line_at (q ∷ qs) bytes from zero l behind whole is =
+    let same : q ≡ l = cc in
+    let here : IsLine (q ∷ qs) bytes from zero q =
+    record {
+      within = omega (arith, behind.0, whole, sum_by-cons size_of_line q qs);
+      noted = ap (λ (n : ℕ). Some (q.caller, entry_with (take q.size (drop n bytes)) q.entry)) (sym behind.0);
+    } in
+    subst (λ (x : Line). IsLine (q ∷ qs) bytes from zero x) same here
+line_at (q ∷ qs) bytes from (suc number) l behind whole is =
+    let rest : IsLine qs bytes (from + q.size) number l = line_at qs bytes (from + q.size) number l behind.1 (omega (arith, whole, sum_by-cons size_of_line q qs)) is in
+    let dropped : drop q.size (drop from bytes) ≡ drop (from + q.size) bytes = drop-drop q.size from bytes in
+    record {
+      within = rest.within;
+      noted = ap (λ (bs : List ℕ). slice_get (entries_of qs bs) number) dropped ∙ rest.noted;
+    }
+
+get_at : (lines : List Line) (number : ℕ) (d : Line) → number < length lines → slice_get lines number ≡ Some (get_or lines number d)
+get_at [] number d within = absurd (omega (arith, within))
+get_at (q ∷ qs) zero d within = refl
+get_at (q ∷ qs) (suc number) d within = get_at qs number d (omega (arith, within))
+
+-- the line of this number
+pub line_is : (lines : List Line) (bytes : List ℕ) (number : ℕ) (l : Line) → AreBehind 0 lines → sum_by size_of_line lines ≡ length bytes → number < length lines
+    → l ≡ get_or lines number l → IsLine lines bytes 0 number l
+line_is lines bytes number l behind whole within is =
+    line_at lines bytes 0 number l behind (omega (arith, whole)) (get_at lines number l within ∙ ap (λ (x : Line). Some x) (sym is))

@@ -1,3 +1,4 @@
 pub mod JournalLaws
 pub mod GotLaws
+pub mod NumberLaws
 pub mod PortLaws

@@ -1,9 +1,10 @@
 -- Laws of ports.
-use Rattle.std.specs.Prelude.{◌≡◌, ℕ, ◌-◌, ◌^◌, ◌≤◌, ◌==◌, Bool, true, false, if◌then◌else◌, List, [], ◌∷◌, ◌++◌, length, min, Option, unwrap_or, Ok, Err, refl}
+use Rattle.std.specs.Prelude.{◌≡◌, ℕ, ◌-◌, ◌^◌, ◌≤◌, ◌==◌, Bool, false, if◌then◌else◌, List, [], ◌∷◌, ◌++◌, length, Contains, min, Option, unwrap_or, Ok, Err, refl}
 use Rattle.std.specs.Option.{option_map}
 use Rattle.std.proofs.Common.{ap, sym, subst, ◌∙◌, eq-eqb, append-nil, append_assoc}
 use Rattle.daq_types.specs.declared.events.Event.{Event}
 use Rattle.daq_model.specs.Events.{is_reserved, event_limit}
+use Rattle.daq_types.specs.Callers.{entries_by, entries_by-own}
 use Rattle.buffer_core.specs.declared.replies.Received.{Received}
 use Rattle.buffer_core.specs.declared.replies.Received.TheVariants.{Got, Empty, NoClient as NoReader, SmallBuf}
 use Rattle.buffer_core.specs.declared.entry.BufferEntry.TheVariants.{Attach, Detach, Request, Cancel, Send, SendInRun, Receive, Begin, Pause, Resume, End, Level, Accepted}
@@ -13,8 +14,8 @@ use Rattle.buffer_core.specs.Window.{Window, Sent, IsWindow, IsKeepable}
 use Rattle.buffer_core.specs.Calls.{IsReply, window_after, event_after}
 use Rattle.buffer_core.specs.Histories.{IsLegal, replay}
 use Rattle.buffer_core.specs.HistoryLaws.{replay-push, legal_push, window_replays, room_enough}
-use Rattle.buffer_core.specs.Ports.{Called, Calls, Receives, got_after, slots_got, GivesSound, IsSmallBuf}
-use Rattle.local_port.specs.Ported.{Ported, IsPorted, Does, access_of, calls_of, given_to, given_by, given_in}
+use Rattle.buffer_core.specs.Ports.{GotEvent, Called, Calls, Receives, got_after, slots_got, GivesSound, IsSmallBuf}
+use Rattle.local_port.specs.Ported.{Ported, IsPorted, Does, access_of, event_given, given_by, given_in, detached_by, taken_back_in}
 use Rattle.local_port.proofs.GotLaws.{IsGot, got_is, slots_few}
 
 -- a call more
@@ -48,22 +49,16 @@ ported_window p is = subst IsWindow (sym is.replayed) (window_replays p.start p.
 
 -- What a port tells.
 
-ifs_push : {X : Type 0} (b : Bool) (x : X) (xs ys : List X) → (if b then x ∷ (xs ++ ys) else xs ++ ys) ≡ (if b then x ∷ xs else xs) ++ ys
-ifs_push true x xs ys = refl
-ifs_push false x xs ys = refl
-
-pub calls_of-push : (by : ℕ) (h : List (ℕ × BufferEntry)) (e : BufferEntry) → calls_of by (h ++ (by, e) ∷ []) ≡ calls_of by h ++ e ∷ []
-calls_of-push by [] e = ap (λ (b : Bool). if b then e ∷ [] else []) (eq-eqb by by refl)
-calls_of-push by (x ∷ xs) e =
-    ap (λ (es : List BufferEntry). if x.0 == by then x.1 ∷ es else es) (calls_of-push by xs e)
-    ∙ ifs_push (x.0 == by) x.1 (calls_of by xs) (e ∷ [])
-
 pub given_in-push : (by : ℕ) (w : Window) (h : List (ℕ × BufferEntry)) (e : BufferEntry) → given_in by w (h ++ (by, e) ∷ []) ≡ given_in by w h ++ given_by (replay w h) e
 given_in-push by w [] e = append-nil (if by == by then given_by w e else []) ∙ ap (λ (b : Bool). if b then given_by w e else []) (eq-eqb by by refl)
 given_in-push by w (x ∷ xs) e =
-    let first : List (ℕ × Event) = if x.0 == by then given_by w x.1 else [] in
+    let first : List GotEvent = if x.0 == by then given_by w x.1 else [] in
     let w' : Window = window_after w x.1 in
-    ap (λ (gs : List (ℕ × Event)). first ++ gs) (given_in-push by w' xs e) ∙ sym (append_assoc first (given_in by w' xs) (given_by (replay w' xs) e))
+    ap (λ (gs : List GotEvent). first ++ gs) (given_in-push by w' xs e) ∙ sym (append_assoc first (given_in by w' xs) (given_by (replay w' xs) e))
+
+pub taken_back_in-push : (by : ℕ) (h : List (ℕ × BufferEntry)) (e : BufferEntry) → taken_back_in by (h ++ (by, e) ∷ []) ≡ taken_back_in by h
+taken_back_in-push by [] e = append-nil (if by == by then [] else detached_by e) ∙ ap (λ (b : Bool). if b then [] else detached_by e) (eq-eqb by by refl)
+taken_back_in-push by (x ∷ xs) e = ap (λ (ns : List ℕ). (if x.0 == by then [] else detached_by x.1) ++ ns) (taken_back_in-push by xs e)
 
 -- no call changes the size
 pub size_stays : (w : Window) (entry : BufferEntry) → (window_after w entry).size ≡ w.size
@@ -99,12 +94,15 @@ pub called : (p q : Ported) (e : BufferEntry) → Does p q e → Called (access_
 called p q e does =
     let given : given_in p.caller p.start (p.history ++ (p.caller, e) ∷ []) ≡ given_in p.caller p.start p.history ++ given_by p.window e =
     given_in-push p.caller p.start p.history e ∙ ap (λ (w : Window). given_in p.caller p.start p.history ++ given_by w e) (sym does.from.replayed) in
+    let taken_back : taken_back_in q.caller q.history ≡ taken_back_in p.caller p.history =
+    ap (λ (n : ℕ). taken_back_in n q.history) does.caller ∙ (ap (taken_back_in p.caller) does.history ∙ taken_back_in-push p.caller p.history e) in
     record {
       caller = does.caller;
       size = ap (λ (w : Window). w.size) does.window ∙ size_stays p.window e;
-      own = ap (λ (n : ℕ). calls_of n q.history) does.caller ∙ (ap (calls_of p.caller) does.history ∙ calls_of-push p.caller p.history e);
+      own = ap (λ (n : ℕ). entries_by n q.history) does.caller ∙ (ap (entries_by p.caller) does.history ∙ entries_by-own p.caller p.history e);
       got_is = ap (λ (n : ℕ). given_in n q.start q.history) does.caller
           ∙ (ap (λ (w : Window). given_in p.caller w q.history) does.start ∙ (ap (given_in p.caller p.start) does.history ∙ given));
+      taken_back = λ client had. subst (λ (ns : List ℕ). Contains ns client) (sym taken_back) had;
       entries = does.entries;
       bytes = does.bytes;
     }
@@ -112,11 +110,11 @@ called p q e does =
 -- a call that gives no event
 pub calls : (p q : Ported) (e : BufferEntry) → given_by p.window e ≡ [] → Does p q e → Calls (access_of p) (access_of q) e
 calls p q e none does =
-    subst (Called (access_of p) (access_of q) e) (ap (λ (gs : List (ℕ × Event)). given_in p.caller p.start p.history ++ gs) none ∙ append-nil (given_in p.caller p.start p.history)) (called p q e does)
+    subst (Called (access_of p) (access_of q) e) (ap (λ (gs : List GotEvent). given_in p.caller p.start p.history ++ gs) none ∙ append-nil (given_in p.caller p.start p.history)) (called p q e does)
 
 -- where a receive gives an event, it is one that is kept
 record IsGiving (w : Window) (client : ℕ) (reply : Received) (held held' : Event) : Type 0 where
-  got : (got : List (ℕ × Event)) → got ++ given_by w (Receive client 0 reply) ≡ got_after got client reply held'
+  got : (got : List GotEvent) → got ++ given_by w (Receive client 0 reply) ≡ got_after got client reply held'
   sound : GivesSound reply held'
 
 giving : (w : Window) (client room : ℕ) (reply : Received) (held held' : Event) → IsWindow w → IsReply w (Receive client room reply) → held' ≡ event_after held w reply → IsGiving w client reply held held'
@@ -125,7 +123,7 @@ giving w client room (Got place start) held held' is reply after =
     let event : held' ≡ got.sent.event = after ∙ ap (λ (o : Option Sent). unwrap_or (option_map (λ (x : Sent). x.event) o) held) got.kept in
     let keepable : IsKeepable got.sent = is.keepable got.index got.sent got.is in
     record {
-      got = λ gs. ap (λ (more : List (ℕ × Event)). gs ++ more) (ap (given_to client) got.kept ∙ ap (λ (e : Event). (client, e) ∷ []) (sym event));
+      got = λ gs. ap (λ (more : List GotEvent). gs ++ more) (ap (event_given client place start) got.kept ∙ ap (λ (e : Event). record { client = client; place = place; start = start; event = e } ∷ []) (sym event));
       sound = record {
         small = subst (λ (e : Event). length e.body ≤ event_limit) (sym event) keepable.small;
         free = subst (λ (e : Event). is_reserved e.id ≡ false) (sym event) keepable.free;

@@ -1,5 +1,5 @@
 -- A journal of a buffer's calls, kept as lines, with the data of all events that were sent one after the other.
-use Rattle.std.specs.Prelude.{ℕ, List, [], ◌∷◌, take, drop}
+use Rattle.std.specs.Prelude.{◌≡◌, ℕ, ◌+◌, List, [], ◌∷◌, take, drop, slice_get, Some, ⊤}
 use Rattle.daq_types.specs.declared.events.Event.{Event}
 use Rattle.buffer_core.specs.declared.entry.BufferEntry.{BufferEntry}
 use Rattle.buffer_core.specs.declared.entry.BufferEntry.TheVariants.{Send, SendInRun}
@@ -22,6 +22,15 @@ size_of_line l = l.size
 abbrev pub entries_of : List Line → List ℕ → List (ℕ × BufferEntry)
 entries_of [] bytes = []
 entries_of (l ∷ ls) bytes = (l.caller, entry_with (take l.size bytes) l.entry) ∷ entries_of ls (drop l.size bytes)
+
+-- the entry of this number, with the number of its caller, is this one with these data
+abbrev pub IsEntryAt : List (ℕ × BufferEntry) → (number caller : ℕ) → BufferEntry → (body : List ℕ) → Type 0
+IsEntryAt entries number caller entry body = slice_get entries number ≡ Some (caller, entry_with body entry)
+
+-- the data of each line begin where those of the lines before it end; those of the first begin here
+abbrev pub AreBehind : (from : ℕ) → List Line → Type 0
+AreBehind from [] = ⊤
+AreBehind from (l ∷ ls) = (l.from ≡ from) × AreBehind (from + l.size) ls
 
 -- a journal: its entries, each with the number of its caller; how many more it has room for; and for how many more bytes
 -- of data

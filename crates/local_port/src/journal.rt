@@ -1,8 +1,8 @@
-ghost use Rattle.std.specs.Prelude.{◌≡◌, ◌+◌, ◌≤◌, ◌++◌, ◌∷◌, [], length, OnOk};
-ghost use Rattle.local_port.specs.Journals.{entry_with};
+ghost use Rattle.std.specs.Prelude.{◌≡◌, ◌+◌, ◌≤◌, ◌<◌, ◌++◌, ◌∷◌, [], length, OnOk};
+ghost use Rattle.local_port.specs.Journals.{entry_with, IsEntryAt};
 
 use buffer_core::BufferEntry;
-use daq_types::NoMemory;
+use daq_types::{Caller, NoMemory};
 use event_header::append_within;
 use std::alloc::Global;
 use std::marker::Model;
@@ -10,10 +10,22 @@ use std::marker::Model;
 /// A call in a journal. Where it sends an event, the event's data stand among the bytes of the journal.
 #[derive(Drop)]
 pub struct Line {
-    caller: u32,
+    caller: Caller,
     entry: BufferEntry,
+    /// How many bytes of data the calls before it handed over together.
+    from: usize,
     /// How many bytes of data the call handed over.
     size: usize,
+}
+
+/// A call that was noted, as it is read.
+#[derive(Clone, Copy, Debug)]
+pub struct NotedCall<'a> {
+    pub caller: Caller,
+    /// The call with its reply. An event that it sends stands here without its data.
+    pub entry: &'a BufferEntry,
+    /// The data of the event that it sends.
+    pub body: &'a [u8],
 }
 
 /// The calls on a buffer with their replies, each with the number of its caller, in order. The data of all events that
@@ -52,6 +64,8 @@ impl BufferJournal {
         ensures same { self.new.entries ≡ self.old.entries }
         ensures room { OnOk result (entries ≤ self.new.room) }
         ensures bytes { OnOk result (bytes ≤ self.new.bytes) }
+        ensures keeps_room { self.old.room ≤ self.new.room }
+        ensures keeps_bytes { self.old.bytes ≤ self.new.bytes }
     {
         self.lines.reserve(entries as usize)?;
         self.bytes.reserve(bytes as usize)?;
@@ -59,7 +73,7 @@ impl BufferJournal {
     }
 
     /// One entry more, behind the others. It stands without the data of its event, which are given beside it.
-    pub fn push(&mut self, caller: u32, entry: BufferEntry, body: &[u8])
+    pub fn push(&mut self, caller: Caller, entry: BufferEntry, body: &[u8])
         requires room { 1 ≤ self.old.room }
         requires bytes { length body.now ≤ self.old.bytes }
         ensures entries { self.new.entries ≡ self.old.entries ++ (caller, entry_with body.now entry) ∷ [] }
@@ -69,6 +83,7 @@ impl BufferJournal {
         self.lines.push_reserved(Line {
             caller,
             entry,
+            from: self.bytes.len(),
             size: body.len(),
         });
         append_within(&mut self.bytes, body);
@@ -79,5 +94,20 @@ impl BufferJournal {
         ensures { result ≡ length self.now.entries }
     {
         self.lines.len()
+    }
+
+    /// The entry of this number, counted from 0.
+    pub fn get(&self, number: usize) -> NotedCall<'_>
+        requires { number < length self.now.entries }
+        ensures { IsEntryAt self.now.entries number result.caller result.entry.now result.body.now }
+    {
+        let line = &self.lines[number];
+        let (_, behind) = self.bytes.as_slice().split_at(line.from);
+        let (body, _) = behind.split_at(line.size);
+        NotedCall {
+            caller: line.caller,
+            entry: &line.entry,
+            body,
+        }
     }
 }

@@ -5,7 +5,7 @@ mod journal;
 mod local;
 mod port;
 
-pub use journal::BufferJournal;
+pub use journal::{BufferJournal, NotedCall};
 pub use local::LocalPort;
 
 #[cfg(test)]

@@ -1,7 +1,7 @@
 ghost use Rattle.std.specs.Prelude.{◌≡◌, ◌+◌, ◌≤◌, [], length, OnOk};
+ghost use Rattle.daq_types.specs.Callers.{main_caller};
 ghost use Rattle.event_header.specs.Headers.{event_of};
 ghost use Rattle.buffer_core.specs.declared.entry.BufferEntry.TheVariants.{Attach, Detach, Request, Cancel, Send, SendInRun, Receive, Begin, Pause, Resume, End, Level, Accepted};
-ghost use Rattle.buffer_core.specs.Window.{IsWindow};
 ghost use Rattle.buffer_core.specs.Calls.{event_after};
 ghost use Rattle.buffer_core.specs.Histories.{IsLegal, replay};
 ghost use Rattle.local_port.specs.Ported.{IsPorted, Does, KeepsPort};
@@ -10,7 +10,7 @@ use crate::journal::BufferJournal;
 use buffer_core::{
     BufferEntry, EventBuffer, MarkRefusal, NoClient, NoSlot, Received, RequestRefusal, SendRefusal,
 };
-use daq_types::{Bytes, Event, Kind, Name, NoMemory};
+use daq_types::{Bytes, Caller, Event, Kind, Name, NoMemory};
 use event_header::{EventBuf, Header};
 use std::alloc::Global;
 use std::marker::Model;
@@ -23,7 +23,7 @@ pub struct LocalPort<B: EventBuffer> {
     start: Snapshot<B>,
     buffer: B,
     journal: BufferJournal,
-    caller: u32,
+    caller: Caller,
     alloc: Global,
 }
 
@@ -51,26 +51,26 @@ fn without_data(alloc: Global, header: &Header) -> Event
 }
 
 impl<B: EventBuffer> LocalPort<B> {
-    /// A port to this buffer, with no call noted and no room. The calls of caller 0 come next. Takes no memory.
+    /// A port to this buffer, with no call noted and no room. The calls of the main thread come next. Takes no memory.
     pub fn new(alloc: Global, buffer: B) -> LocalPort<B>
-        requires { IsWindow (B.window buffer) }
         ensures start { result.start ≡ B.window buffer }
         ensures window { result.window ≡ B.window buffer }
         ensures history { result.history ≡ [] }
-        ensures caller { result.caller ≡ 0 }
+        ensures caller { result.caller ≡ main_caller }
     {
+        let _ = buffer.accepted();
         let start = Snapshot::of(&buffer);
         LocalPort {
             start,
             buffer,
             journal: BufferJournal::new(alloc),
-            caller: 0,
+            caller: Caller::MAIN,
             alloc,
         }
     }
 
     /// Says whose calls come next.
-    pub fn set_caller(&mut self, caller: u32)
+    pub fn set_caller(&mut self, caller: Caller)
         ensures { self.new ≡ record self.old { caller = caller } }
     {
         self.caller = caller;

@@ -2,9 +2,10 @@ ghost use Rattle.std.specs.Prelude.{◌≤◌};
 
 use crate::LocalPort;
 use buffer_core::{
-    BufferPort, MarkRefusal, NoClient, NoSlot, Received, RequestRefusal, RunGate, SendRefusal,
+    BufferEntry, BufferPort, MarkRefusal, NoClient, NoSlot, Received, RequestRefusal, RunGate,
+    SendRefusal,
 };
-use daq_types::{Kind, Name, NoMemory};
+use daq_types::{Caller, Kind, Name, NoMemory};
 use event_header::{EventBuf, Header};
 use plain_buffer::PlainBuffer;
 use std::alloc::Global;
@@ -95,7 +96,7 @@ fn run_step<R: Abort + AllocGlobal + Wait, P: BufferPort>(
 /// A port to a new buffer of 256 bytes.
 fn new_port(alloc: Global) -> Result<LocalPort<PlainBuffer>, NoMemory> {
     let mut port = LocalPort::new(alloc, PlainBuffer::new(alloc, 256)?);
-    port.set_caller(3);
+    port.set_caller(Caller::of_client(3));
     Ok(port)
 }
 
@@ -132,5 +133,10 @@ fn a_port_replies_as_its_buffer(rt: HostRuntime) -> Result<(), Fail> {
     }
     let (_, journal) = port.into_parts();
     assert_eq!(rt; journal.len(), STEPS.len());
+    assert!(rt; journal.len() > 4);
+    let sent = journal.get(4);
+    assert_eq!(rt; sent.caller, Caller::of_client(3));
+    assert!(rt; matches!(sent.entry, BufferEntry::SendInRun { start: 4, .. }));
+    assert_eq!(rt; sent.body, DATA.as_slice());
     Ok(())
 }

@@ -2,3 +2,4 @@ pub mod RowLaws
 pub mod Kept
 pub mod Room
 pub mod Admit
+pub mod Stays

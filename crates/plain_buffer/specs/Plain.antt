@@ -1,7 +1,7 @@
 -- How a plain buffer keeps its window.
 use Rattle.std.specs.Prelude.{◌≡◌, ◌+◌, ◌*◌, ◌^◌, ◌<◌, ◌≤◌, length, sum_by, vec_capacity}
 use Rattle.plain_buffer.specs.declared.plain.PlainBuffer.TheInside.{Inside}
-use Rattle.buffer_core.specs.Window.{Window}
+use Rattle.buffer_core.specs.Window.{Window, IsWindow}
 use Rattle.plain_buffer.specs.Rows.{slot_of_row, size_of_row, AreSmall, kept_of}
 
 abbrev pub window_of : Inside → Window
@@ -9,6 +9,7 @@ window_of b = record { size = b.size; first = b.first; kept = kept_of b.rows.ite
 
 -- what every plain buffer keeps
 pub record IsPlain (b : Inside) : Type 0 where
+  pub kept : IsWindow (window_of b)
   pub whole : sum_by size_of_row b.rows.items ≡ length b.bytes.items
   pub counted : b.level ≡ sum_by slot_of_row b.rows.items
   pub small : AreSmall b.rows.items

@@ -1,4 +1,4 @@
-ghost use Rattle.std.specs.Prelude.{◌≡◌, ◌≤◌, ◌+◌, ◌^◌, ◌%◌, length, IfOk, IfErr, OnOk, OnErr, Ok, Err};
+ghost use Rattle.std.specs.Prelude.{◌≡◌, ◌≤◌, ◌+◌, ◌^◌, ◌%◌, length, IfOk, IfErr, OnOk, OnErr, Ok, Err, false};
 ghost use Rattle.daq_model.specs.Events.{slot_size, is_reserved, event_limit};
 ghost use Rattle.event_header.specs.Headers.{event_of};
 ghost use Rattle.buffer_core.specs.Window.{opening, accepted_of};
@@ -82,6 +82,7 @@ impl PlainBuffer {
         ensures gone { IfOk result (λ gone. gone ≡ gone_of self.now (event_of header.now body.now)) }
         ensures stated { OnOk result (header.now.data_size ≡ length body.now) }
         ensures small { OnOk result (length body.now ≤ event_limit) }
+        ensures free { OnOk result (is_reserved header.now.event_id ≡ false) }
         ensures fits { OnOk result (slot_size (event_of header.now body.now) ≤ self.now.size) }
         ensures spent { OnOk result (self.now.total + slot_size (event_of header.now body.now) ≤ 2 ^ 62) }
         ensures refused { IfErr result (λ refusal. send_reply self.now header.now.data_size (event_of header.now body.now) ≡ Err refusal) }
@@ -121,6 +122,8 @@ impl PlainBuffer {
         requires gone { gone ≡ gone_of self.old (event_of header.now body.now) }
         requires stated { header.now.data_size ≡ length body.now }
         requires small { length body.now ≤ event_limit }
+        requires free { is_reserved header.now.event_id ≡ false }
+        requires early { start ≤ self.old.last }
         requires fits { slot_size (event_of header.now body.now) ≤ self.old.size }
         requires spent { self.old.total + slot_size (event_of header.now body.now) ≤ 2 ^ 62 }
         ensures { self.new ≡ after_send self.old start (event_of header.now body.now) }
@@ -144,6 +147,7 @@ impl PlainBuffer {
 
     /// Takes the event, of the run with this start number, where there is room for it.
     fn put(&mut self, start: u32, header: &Header, body: &[u8]) -> Result<u64, SendRefusal>
+        requires { start ≤ self.old.last }
         ensures reply { result ≡ send_reply self.old header.now.data_size (event_of header.now body.now) }
         ensures ok { OnOk result (self.new ≡ after_send self.old start (event_of header.now body.now)) }
         ensures err { OnErr result (self.new ≡ self.old) }

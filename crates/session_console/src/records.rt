@@ -22,8 +22,7 @@ pub struct BufferRecord {
     pub name: Name,
     /// Its size in bytes.
     pub size: u32,
-    /// All calls on it with their replies, each with the client number of its caller: those of the front-ends, and that of
-    /// the logger.
+    /// All calls on it with their replies, each with its caller.
     pub history: BufferJournal,
 }
 

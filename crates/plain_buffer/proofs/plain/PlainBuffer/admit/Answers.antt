@@ -1,12 +1,15 @@
-use Rattle.std.proofs.Common.{◌≡◌, ◌+◌, ◌^◌, ◌≤◌, ◌∷◌, [], ◌++◌, ℕ, List, length, take, drop, sum_by, subst, ap, sym, ◌∙◌, arith}
+use Rattle.std.proofs.Common.{◌≡◌, ◌+◌, ◌^◌, ◌≤◌, ◌∷◌, [], ◌++◌, ℕ, List, length, refl, take, drop, sum_by, subst, ap, sym, ◌∙◌, arith}
 use Rattle.std.proofs.lemmas.List.{length-drop}
 use Rattle.std.proofs.lemmas.List.Elements.{All-push, All-drop}
 use Rattle.daq_model.specs.Events.{slot_of_length}
 use Rattle.plain_buffer.specs.declared.rows.Row.{Row}
-use Rattle.buffer_core.specs.Window.{Window}
+use Rattle.buffer_core.specs.Window.{Window, IsWindow}
 use Rattle.plain_buffer.specs.Rows.{slot_of_row, size_of_row, AreSmall, IsSmall, kept_of}
+use Rattle.event_header.specs.Headers.{event_of}
+use Rattle.buffer_core.specs.Calls.{after_send}
 use Rattle.buffer_core.specs.WindowLaws.{slot_cover}
-use Rattle.plain_buffer.proofs.Admit.{IsFreed, freed, whole_admitted, counted_admitted, kept_admitted, window_admitted}
+use Rattle.buffer_core.specs.WindowKept.{IsTaken, send_kept}
+use Rattle.plain_buffer.proofs.Admit.{IsFreed, freed, whole_admitted, counted_admitted, kept_admitted, window_admitted, admitted}
 use Rattle.plain_buffer.proofs.plain.PlainBuffer.admit.Goals as goal
 
 pub split_at-requires : goal.split_at-requires
@@ -57,7 +60,16 @@ invariant_of-self c =
     c.drop_front-2.ensures.items ∙ ap (λ (n : ℕ). drop n c.self.inside.bytes.items) data_is in
     let slots_are : c.slots_len-slots.result ≡ sum_by slot_of_row (take c.args.gone c.self.inside.rows.items) = c.slots_len-slots.ensures ∙ ap (sum_by slot_of_row) front_is in
     let slot_is : c.from-slot.result ≡ slot_of_length (length c.args.body.now) = c.from-slot.ensures ∙ (c.slot_len.ensures ∙ ap slot_of_length c.requires.stated) in
+    let after : admitted c.self.inside c.args.gone c.from-slot.result (kept_of c.push_reserved.new.self.items c.append_within.new.bytes.items) c.push.new.self ≡ after_send c.args.self.now c.args.start (event_of c.args.header.now c.args.body.now) =
+    window_admitted c.self.inside c.args.self.now c.args.header.now c.args.body.now c.args.gone c.from-slot.result c.args.start (kept_of c.push_reserved.new.self.items c.append_within.new.bytes.items) c.push.new.self c.self.view_is
+    c.requires.gone slot_is
+    (kept_admitted c.self.inside.rows.items c.push_reserved.new.self.items c.self.inside.bytes.items c.drop_front-2.new.items.items c.append_within.new.bytes.items c.args.gone row c.args.body.now
+    c.self.invariant.whole c.requires.stated rows_are middle_is c.append_within.ensures.items)
+    c.push.ensures in
+    let taken : IsTaken c.args.self.now (length c.args.body.now) (event_of c.args.header.now c.args.body.now) =
+    record { sendable = record { stated_right = refl; small = c.requires.small; free = c.requires.free; fits = c.requires.fits }; unspent = c.requires.spent } in
     record {
+      kept = subst IsWindow (sym after) (send_kept c.args.self.now c.args.start (length c.args.body.now) (event_of c.args.header.now c.args.body.now) (subst IsWindow c.self.view_is c.self.invariant.kept) taken c.requires.early);
       whole = whole_admitted c.self.inside.rows.items c.push_reserved.new.self.items c.self.inside.bytes.items c.append_within.new.bytes.items c.args.gone row c.args.body.now c.drop_front-2.new.items.items
           c.self.invariant.whole c.requires.stated rows_are middle_is c.append_within.ensures.items;
       counted = counted_admitted c.self.inside.rows.items c.push_reserved.new.self.items c.args.gone row c.self.inside.level c.slots_len-slots.result c.from-slot.result
