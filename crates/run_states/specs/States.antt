@@ -15,9 +15,9 @@ is_allowed Paused Resume = true
 is_allowed state transition = false
 
 -- a start and a resume lead to running, a stop to stopped, a pause to paused; the call-off of a start changes nothing
-abbrev pub state_after : RunState → Transition → RunState
-state_after state Start = Running
-state_after state Stop = Stopped
-state_after state Pause = Paused
-state_after state Resume = Running
-state_after state StartAbort = state
+abbrev pub run_state_after : RunState → Transition → RunState
+run_state_after state Start = Running
+run_state_after state Stop = Stopped
+run_state_after state Pause = Paused
+run_state_after state Resume = Running
+run_state_after state StartAbort = state

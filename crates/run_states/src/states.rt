@@ -1,5 +1,5 @@
 ghost use Rattle.std.specs.Prelude.{◌≡◌, IsTrue};
-ghost use Rattle.run_states.specs.States.{is_allowed, state_after};
+ghost use Rattle.run_states.specs.States.{is_allowed, run_state_after};
 
 use daq_types::{RunState, Transition};
 
@@ -20,7 +20,7 @@ pub fn allowed(state: RunState, transition: Transition) -> bool
 /// The state behind a transition that is allowed.
 pub fn after(state: RunState, transition: Transition) -> RunState
     requires { IsTrue (is_allowed state transition) }
-    ensures { result ≡ state_after state transition }
+    ensures { result ≡ run_state_after state transition }
 {
     match transition {
         Transition::Start | Transition::Resume => RunState::Running,

@@ -8,7 +8,7 @@ use Rattle.daq_types.specs.declared.runs.Transition.{Transition}
 use Rattle.transitions.specs.declared.engine.Refusal.{Refusal}
 use Rattle.transitions.specs.declared.engine.Stage.{Stage}
 use Rattle.transitions.specs.Limits.{most_clients, most_tallies}
-use Rattle.transitions.specs.EngineCalls.{turn_kind, is_start, is_front, owes_answer}
+use Rattle.transitions.specs.EngineCalls.{turn_kind, is_start, is_next, owes_answer}
 use Rattle.transitions.specs.EngineInside.{most_at, underway_of}
 
 unrefused : (t : Transition) (r : Option Refusal) → is_start (turn_kind t r) ≡ true → r ≡ None
@@ -33,7 +33,7 @@ abbrev pub most_in : Option Stage → ℕ
 most_in None = 0
 most_in (Some stage) = most_at stage
 
-front_there : (called : List Called) (client : ℕ) → is_front called client ≡ true → 0 < length called
+front_there : (called : List Called) (client : ℕ) → is_next called client ≡ true → 0 < length called
 front_there [] client e = absurd cc
 front_there (c ∷ cs) client e = omega arith
 
@@ -50,7 +50,7 @@ most_within stage = within stage.refusal
 
 -- a client that owes an answer is in front of those that are called
 pub owes_front : (dump : Option (List ℕ)) (blanks : List Totals) (called : List Called) (tallies : List ClientTally) (stage : Stage) (client : ℕ) → owes_answer (underway_of (Some stage) dump blanks called tallies) client ≡ true → 0 < length called
-owes_front dump blanks called tallies stage client e = front_there called client (both_true stage.polled (is_front called client) e)
+owes_front dump blanks called tallies stage client e = front_there called client (both_true stage.polled (is_next called client) e)
 
 -- so there is room for its tally
 pub tally_fits : (tallies : List ClientTally) (called : List Called) (stage : Stage) → 0 < length called → length tallies + length called ≤ most_at stage → length tallies < most_tallies

@@ -27,7 +27,7 @@ use Rattle.transitions.specs.declared.entry.EngineEntry.{EngineEntry}
 use Rattle.transitions.specs.declared.entry.EngineEntry.TheVariants.{Register, Begin, Poll, Answer, Check, Close}
 use Rattle.transitions.specs.Limits.{last_start_number}
 use Rattle.transitions.specs.Engines.{Underway, EngineState, engine_opening}
-use Rattle.transitions.specs.EngineCalls.{turn_kind, turn_of, is_start, is_front, gets_dump, gets_blank, turn_reply, polled_by, told, refused_by, answered_by, outcome_of, register_reply, register_reply_in, begin_reply, begin_reply_in, start_reply, poll_reply, poll_reply_to, poll_reply_in, owes_answer, answer_reply, not_your_turn, check_reply, check_reply_in, progress_of, tallies_in, after_poll_by, after_answer_in, with_underway, IsEngineReply, engine_after}
+use Rattle.transitions.specs.EngineCalls.{turn_kind, turn_of, is_start, is_next, gets_dump, gets_blank, turn_reply, polled_by, told, refused_by, answered_by, outcome_of, register_reply, register_reply_in, begin_reply, begin_reply_in, start_reply, poll_reply, poll_reply_to, poll_reply_in, owes_answer, answer_reply, not_your_turn, check_reply, check_reply_in, progress_of, tallies_in, after_poll_by, after_answer_in, with_underway, IsEngineReply, engine_after}
 use Rattle.transitions.specs.EngineHistories.{IsLegalEngine}
 use Rattle.transitions.specs.EnginePoints.{engine_past_after, engine_past, Joined, Begun, GaveTurn, Answered, Ended, transition_at, callable_at, refusal_at, turned_at, answered_at, dump_at, blanks_at, calls_off, wants_dump, wants_report, is_among}
 use Rattle.transitions.specs.TurnOrder.{IsInOrder, IsRightTurn, IsRightCall, number_with, TurnsInOrder}
@@ -41,15 +41,15 @@ register_free_in : (o : Option Underway) (count n : ℕ) → Ok n ≡ register_r
 register_free_in None count n e = refl
 register_free_in (Some u) count n e = absurd cc
 
-register_free : (s : EngineState) (n : ℕ) → Ok n ≡ register_reply s → s.underway ≡ None
+pub register_free : (s : EngineState) (n : ℕ) → Ok n ≡ register_reply s → s.underway ≡ None
 register_free s n e =
     split s.closed (λ b. Ok n ≡ (if b then Err RegisterClosed else register_reply_in s.underway (length s.clients)) → s.underway ≡ None)
     (λ h e'. absurd cc) (λ h e'. register_free_in s.underway (length s.clients) n e') e
 
-record Begins (s : EngineState) (t : Transition) (n : ℕ) : Type 0 where
-  free : s.underway ≡ None
-  allowed : is_allowed s.state t ≡ true
-  number : n ≡ number_with t s.start
+pub record Begins (s : EngineState) (t : Transition) (n : ℕ) : Type 0 where
+  pub free : s.underway ≡ None
+  pub allowed : is_allowed s.state t ≡ true
+  pub number : n ≡ number_with t s.start
 
 start_number : (t : Transition) (start n : ℕ) → Ok n ≡ start_reply t start → n ≡ number_with t start
 start_number Start start n e =
@@ -66,7 +66,7 @@ begins_in s t n None is e =
     split (is_allowed s.state t) (λ b. is_allowed s.state t ≡ b → Ok n ≡ (if b then start_reply t s.start else Err (WrongState s.state)) → Begins s t n)
     (λ h g e'. record { free = is; allowed = g; number = start_number t s.start n e' }) (λ h g e'. absurd cc) refl e
 
-begins : (s : EngineState) (t : Transition) (n : ℕ) → Ok n ≡ begin_reply s t → Begins s t n
+pub begins : (s : EngineState) (t : Transition) (n : ℕ) → Ok n ≡ begin_reply s t → Begins s t n
 begins s t n e =
     split s.closed (λ b. Ok n ≡ (if b then Err BeginClosed else begin_reply_in s.underway s.state t s.start) → Begins s t n)
     (λ h e'. absurd cc) (λ h e'. begins_in s t n s.underway refl e') e
@@ -90,19 +90,19 @@ wrong_state s t state e =
     split s.closed (λ b. Err (WrongState state) ≡ (if b then Err BeginClosed else begin_reply_in s.underway s.state t s.start) → state ≡ s.state)
     (λ h e'. absurd cc) (λ h e'. wrong_in s.underway s.state t s.start state e') e
 
-record GivesTurn (s : EngineState) (client : ℕ) (reply : Polled) : Type 0 where
-  c : Registered
-  u : Underway
-  client_is : slice_get s.clients client ≡ Some c
-  underway_is : s.underway ≡ Some u
-  front : is_front u.called client ≡ true
-  reply_is : reply ≡ turn_reply c u
+pub record GivesTurn (s : EngineState) (client : ℕ) (reply : Polled) : Type 0 where
+  pub c : Registered
+  pub u : Underway
+  pub client_is : slice_get s.clients client ≡ Some c
+  pub underway_is : s.underway ≡ Some u
+  pub front : is_next u.called client ≡ true
+  pub reply_is : reply ≡ turn_reply c u
 
 gives_in : (s : EngineState) (client : ℕ) (c : Registered) (o : Option Underway) (turn : Transition) (order : Order) (dump : Option (List ℕ)) (blank : Option Totals)
     → slice_get s.clients client ≡ Some c → s.underway ≡ o → Turn turn order dump blank ≡ poll_reply_in s.state client c o → GivesTurn s client (Turn turn order dump blank)
 gives_in s client c None turn order dump blank is at e = absurd cc
 gives_in s client c (Some u) turn order dump blank is at e =
-    split (is_front u.called client) (λ b. is_front u.called client ≡ b → Turn turn order dump blank ≡ (if b then turn_reply c u else Idle s.state) → GivesTurn s client (Turn turn order dump blank))
+    split (is_next u.called client) (λ b. is_next u.called client ≡ b → Turn turn order dump blank ≡ (if b then turn_reply c u else Idle s.state) → GivesTurn s client (Turn turn order dump blank))
     (λ h g e'. record { c = c; u = u; client_is = is; underway_is = at; front = g; reply_is = e' }) (λ h g e'. absurd cc) refl e
 
 gives_to : (s : EngineState) (client : ℕ) (o : Option Registered) (turn : Transition) (order : Order) (dump : Option (List ℕ)) (blank : Option Totals)
@@ -112,13 +112,13 @@ gives_to s client (Some c) turn order dump blank is e =
     split s.closed (λ b. Turn turn order dump blank ≡ (if b then PollClosed else poll_reply_in s.state client c s.underway) → GivesTurn s client (Turn turn order dump blank))
     (λ h e'. absurd cc) (λ h e'. gives_in s client c s.underway turn order dump blank is refl e') e
 
-gives_turn : (s : EngineState) (client : ℕ) (turn : Transition) (order : Order) (dump : Option (List ℕ)) (blank : Option Totals) → Turn turn order dump blank ≡ poll_reply s client → GivesTurn s client (Turn turn order dump blank)
+pub gives_turn : (s : EngineState) (client : ℕ) (turn : Transition) (order : Order) (dump : Option (List ℕ)) (blank : Option Totals) → Turn turn order dump blank ≡ poll_reply s client → GivesTurn s client (Turn turn order dump blank)
 gives_turn s client turn order dump blank e = gives_to s client (slice_get s.clients client) turn order dump blank refl e
 
 idle_in : (now : RunState) (client : ℕ) (c : Registered) (o : Option Underway) (state : RunState) → Idle state ≡ poll_reply_in now client c o → state ≡ now
 idle_in now client c None state e = cc
 idle_in now client c (Some u) state e =
-    split (is_front u.called client) (λ b. Idle state ≡ (if b then turn_reply c u else Idle now) → state ≡ now) (λ h e'. absurd cc) (λ h e'. cc) e
+    split (is_next u.called client) (λ b. Idle state ≡ (if b then turn_reply c u else Idle now) → state ≡ now) (λ h e'. absurd cc) (λ h e'. cc) e
 
 idle_to : (s : EngineState) (client : ℕ) (o : Option Registered) (state : RunState) → Idle state ≡ poll_reply_to s client o → state ≡ s.state
 idle_to s client None state e = absurd cc
@@ -126,28 +126,28 @@ idle_to s client (Some c) state e =
     split s.closed (λ b. Idle state ≡ (if b then PollClosed else poll_reply_in s.state client c s.underway) → state ≡ s.state)
     (λ h e'. absurd cc) (λ h e'. idle_in s.state client c s.underway state e') e
 
-record Owes (s : EngineState) (client : ℕ) : Type 0 where
-  u : Underway
-  underway_is : s.underway ≡ Some u
-  polled : u.has_polled ≡ true
-  front : is_front u.called client ≡ true
+pub record Owes (s : EngineState) (client : ℕ) : Type 0 where
+  pub u : Underway
+  pub underway_is : s.underway ≡ Some u
+  pub polled : u.has_polled ≡ true
+  pub front : is_next u.called client ≡ true
 
 owes_in : (s : EngineState) (client : ℕ) (o : Option Underway) → s.underway ≡ o → owes_answer o client ≡ true → Owes s client
 owes_in s client None is e = absurd cc
 owes_in s client (Some u) is e =
-    let parts = and_parts u.has_polled (is_front u.called client) e in
+    let parts = and_parts u.has_polled (is_next u.called client) e in
     record { u = u; underway_is = is; polled = parts.0; front = parts.1 }
 
-owes : (s : EngineState) (client : ℕ) (done : ⊤) → Ok done ≡ answer_reply s client → Owes s client
+pub owes : (s : EngineState) (client : ℕ) (done : ⊤) → Ok done ≡ answer_reply s client → Owes s client
 owes s client done e =
     split (owes_answer s.underway client) (λ b. owes_answer s.underway client ≡ b → Ok done ≡ (if b then Ok tt else Err not_your_turn) → Owes s client)
     (λ h g e'. owes_in s client s.underway refl g) (λ h g e'. absurd cc) refl e
 
-record Finishes (s : EngineState) (outcome : StartOutcome) : Type 0 where
-  u : Underway
-  underway_is : s.underway ≡ Some u
-  done : u.called ≡ []
-  outcome_is : outcome ≡ outcome_of u.refusal
+pub record Finishes (s : EngineState) (outcome : StartOutcome) : Type 0 where
+  pub u : Underway
+  pub underway_is : s.underway ≡ Some u
+  pub done : u.called ≡ []
+  pub outcome_is : outcome ≡ outcome_of u.refusal
 
 finishes_at : (called : List Called) (r : Option Refusal) (outcome : StartOutcome) → Done outcome ≡ progress_of called r → (called ≡ []) × (outcome ≡ outcome_of r)
 finishes_at [] r outcome e = (refl, cc)
@@ -159,7 +159,7 @@ finishes_in s (Some u) outcome is e =
     let parts = finishes_at u.called u.refusal outcome e in
     record { u = u; underway_is = is; done = parts.0; outcome_is = parts.1 }
 
-finishes : (s : EngineState) (outcome : StartOutcome) → Done outcome ≡ check_reply s → Finishes s outcome
+pub finishes : (s : EngineState) (outcome : StartOutcome) → Done outcome ≡ check_reply s → Finishes s outcome
 finishes s outcome e = finishes_in s s.underway outcome refl e
 
 -- One call.
@@ -168,7 +168,7 @@ off_is : (past : List (ℕ × EngineEntry)) (state : RunState) (clients : List R
 off_is past state clients u answer t =
     ap (λ (o : Option Transition). calls_off answer o (refusal_at past)) t.transition ∙ ap (calls_off answer (Some u.transition)) t.refusal
 
-tracks_answer : (past : List (ℕ × EngineEntry)) (s : EngineState) (by client : ℕ) (answer : ClientAnswer) (done : ⊤) (u : Underway) → Tracks past s → TracksUnderway past s.state s.clients u → u.has_polled ≡ true → is_front u.called client ≡ true
+tracks_answer : (past : List (ℕ × EngineEntry)) (s : EngineState) (by client : ℕ) (answer : ClientAnswer) (done : ⊤) (u : Underway) → Tracks past s → TracksUnderway past s.state s.clients u → u.has_polled ≡ true → is_next u.called client ≡ true
     → Tracks ((by, Answer client answer (Ok done)) ∷ past) (with_underway s (answered_by s.clients client answer u))
 tracks_answer past s by client (Yes tally) done u t tu polled front =
     let e : ℕ × EngineEntry = (by, Answer client (Yes tally) (Ok done)) in

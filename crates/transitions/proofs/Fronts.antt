@@ -7,11 +7,11 @@ use Rattle.daq_types.specs.declared.runs.RunState.{RunState}
 use Rattle.daq_types.specs.declared.runs.RunState.TheVariants.{Stopped}
 use Rattle.daq_types.specs.declared.runs.Transition.{Transition}
 use Rattle.event_report.specs.Reports.{Totals}
-use Rattle.run_states.specs.States.{state_after}
+use Rattle.run_states.specs.States.{run_state_after}
 use Rattle.transitions.specs.declared.client.Registered.{Registered}
 use Rattle.transitions.specs.declared.called.Called.{Called}
 use Rattle.transitions.specs.declared.engine.Refusal.{Refusal}
-use Rattle.transitions.specs.EngineCalls.{is_front, state_with}
+use Rattle.transitions.specs.EngineCalls.{is_next, state_with}
 use Rattle.transitions.specs.EnginePoints.{is_among, wants_dump, blanks_after, GaveTurn, state_by}
 use Rattle.transitions.proofs.Apart.{clients_of, IsApart, fresh, last_among}
 
@@ -26,21 +26,21 @@ IsGiven true clients (c ∷ cs) dump = wants_dump clients c.client ≡ true → 
 IsGiven polled clients called dump = ⊤
 
 -- the client is the one in front
-pub front_cut : (client : ℕ) (called : List Called) → is_front called client ≡ true → clients_of called ≡ client ∷ clients_of (drop 1 called)
+pub front_cut : (client : ℕ) (called : List Called) → is_next called client ≡ true → clients_of called ≡ client ∷ clients_of (drop 1 called)
 front_cut client [] e = absurd cc
 front_cut client (c ∷ cs) e = ap (λ (n : ℕ). n ∷ clients_of cs) (eqb-true c.client client e)
 
 -- its answer moves it from those that are called to those that answered
-pub front_moves : (client : ℕ) (called : List Called) (answered : List ℕ) → is_front called client ≡ true → answered ++ clients_of called ≡ (answered ++ client ∷ []) ++ clients_of (drop 1 called)
+pub front_moves : (client : ℕ) (called : List Called) (answered : List ℕ) → is_next called client ≡ true → answered ++ clients_of called ≡ (answered ++ client ∷ []) ++ clients_of (drop 1 called)
 front_moves client called answered e =
     ap (λ (xs : List ℕ). answered ++ xs) (front_cut client called e) ∙ sym (append_assoc answered (client ∷ []) (clients_of (drop 1 called)))
 
-pub front_waits : (client : ℕ) (called : List Called) → is_front called client ≡ true → waiting true called ≡ client ∷ []
+pub front_waits : (client : ℕ) (called : List Called) → is_next called client ≡ true → waiting true called ≡ client ∷ []
 front_waits client [] e = absurd cc
 front_waits client (c ∷ cs) e = ap (λ (n : ℕ). n ∷ []) (eqb-true c.client client e)
 
 -- and is among those that were given a turn exactly where it has polled
-pub front_turned : (polled : Bool) (client : ℕ) (called : List Called) (answered : List ℕ) → is_front called client ≡ true → IsApart (answered ++ clients_of called) → is_among client (answered ++ waiting polled called) ≡ polled
+pub front_turned : (polled : Bool) (client : ℕ) (called : List Called) (answered : List ℕ) → is_next called client ≡ true → IsApart (answered ++ clients_of called) → is_among client (answered ++ waiting polled called) ≡ polled
 front_turned true client called answered e apart =
     ap (λ (xs : List ℕ). is_among client (answered ++ xs)) (front_waits client called e) ∙ last_among client answered
 front_turned false client called answered e apart =
@@ -48,7 +48,7 @@ front_turned false client called answered e apart =
     ∙ fresh client answered (clients_of (drop 1 called)) (subst (λ (xs : List ℕ). IsApart (answered ++ xs)) (front_cut client called e) apart)
 
 -- a poll adds it, if it is not there
-pub turned_next : (polled : Bool) (client : ℕ) (called : List Called) (answered : List ℕ) → is_front called client ≡ true → IsApart (answered ++ clients_of called)
+pub turned_next : (polled : Bool) (client : ℕ) (called : List Called) (answered : List ℕ) → is_next called client ≡ true → IsApart (answered ++ clients_of called)
     → (if is_among client (answered ++ waiting polled called) then answered ++ waiting polled called else (answered ++ waiting polled called) ++ client ∷ []) ≡ answered ++ waiting true called
 turned_next true client called answered e apart = rw (front_turned true client called answered e apart) refl
 turned_next false client called answered e apart =
@@ -72,12 +72,12 @@ given_none true false dump given e = refl
 given_none true true dump given e = given refl refl
 given_none false polled dump given e = absurd cc
 
-pub given_front : (polled : Bool) (clients : List Registered) (client : ℕ) (called : List Called) (dump : Option (List ℕ)) → is_front called client ≡ true → IsGiven polled clients called dump → polled ≡ true → wants_dump clients client ≡ true → dump ≡ None
+pub given_front : (polled : Bool) (clients : List Registered) (client : ℕ) (called : List Called) (dump : Option (List ℕ)) → is_next called client ≡ true → IsGiven polled clients called dump → polled ≡ true → wants_dump clients client ≡ true → dump ≡ None
 given_front false clients client called dump front given e wants = absurd cc
 given_front true clients client [] dump front given e wants = absurd cc
 given_front true clients client (c ∷ cs) dump front given e wants = given (ap (wants_dump clients) (eqb-true c.client client front) ∙ wants)
 
-pub given_from : (clients : List Registered) (client : ℕ) (called : List Called) (dump : Option (List ℕ)) → is_front called client ≡ true → (wants_dump clients client ≡ true → dump ≡ None) → IsGiven true clients called dump
+pub given_from : (clients : List Registered) (client : ℕ) (called : List Called) (dump : Option (List ℕ)) → is_next called client ≡ true → (wants_dump clients client ≡ true → dump ≡ None) → IsGiven true clients called dump
 given_from clients client [] dump front given = tt
 given_from clients client (c ∷ cs) dump front given = λ wants. given (ap (wants_dump clients) (sym (eqb-true c.client client front)) ∙ wants)
 
@@ -94,14 +94,14 @@ blanks_next client due blanks blank e =
 -- The state.
 
 -- while a client is in front, the state is that before the transition
-pub state_open : (state : RunState) (t : Transition) (r : Option Refusal) (client : ℕ) (called : List Called) → is_front called client ≡ true → state_with state t r called ≡ state
+pub state_open : (state : RunState) (t : Transition) (r : Option Refusal) (client : ℕ) (called : List Called) → is_next called client ≡ true → state_with state t r called ≡ state
 state_open state t r client [] e = absurd cc
 state_open state t None client (c ∷ cs) e = refl
 state_open state t (Some r) client (c ∷ cs) e = refl
 
-pub state_by-push : (ts : List Transition) (t : Transition) → state_by (ts ++ t ∷ []) ≡ state_after (state_by ts) t
+pub state_by-push : (ts : List Transition) (t : Transition) → state_by (ts ++ t ∷ []) ≡ run_state_after (state_by ts) t
 state_by-push ts t = from Stopped ts
   where
-    from : (state : RunState) (ts : List Transition) → fold state_after state (ts ++ t ∷ []) ≡ state_after (fold state_after state ts) t
+    from : (state : RunState) (ts : List Transition) → fold run_state_after state (ts ++ t ∷ []) ≡ run_state_after (fold run_state_after state ts) t
     from state [] = refl
-    from state (u ∷ us) = from (state_after state u) us
+    from state (u ∷ us) = from (run_state_after state u) us

@@ -5,3 +5,6 @@ pub mod Fronts
 pub mod Tracked
 pub mod Followed
 pub mod Sampled
+pub mod Given
+pub mod CalledOrdered
+pub mod Marked

@@ -9,7 +9,7 @@ use Rattle.daq_types.specs.declared.runs.Transition.{Transition}
 use Rattle.daq_types.specs.declared.runs.Transition.TheVariants.{StartAbort}
 use Rattle.daq_types.specs.declared.runs.StartOutcome.{StartOutcome}
 use Rattle.daq_types.specs.declared.runs.Why.{Why}
-use Rattle.run_states.specs.States.{state_after}
+use Rattle.run_states.specs.States.{run_state_after}
 use Rattle.event_report.specs.Reports.{Totals}
 use Rattle.transitions.specs.declared.client.Registered.{Registered}
 use Rattle.transitions.specs.declared.called.Called.{Called}
@@ -22,8 +22,8 @@ use Rattle.transitions.specs.declared.engine.Refusal.{Refusal}
 use Rattle.transitions.specs.declared.entry.EngineEntry.{EngineEntry}
 use Rattle.transitions.specs.Called.{called_list}
 use Rattle.transitions.specs.Engines.{Underway, EngineState}
-use Rattle.transitions.specs.EngineCalls.{turn_kind, is_start, is_front, state_with, order_of, begun, gets_dump, gets_blank, polled_by, told, refused_by, outcome_of}
-use Rattle.transitions.specs.EnginePoints.{EngineNews, Silence, Joined, Begun, GaveTurn, Answered, Ended, engine_news, clients_at, starts_at, transition_at, callable_at, refusal_at, called_at, turned_at, answered_at, tallies_at, dump_at, blanks_at, ended_at, state_at, order_at, state_by, calls_off, refusal_from, is_call_off, list_for, tally_of, wants_dump, wants_report, is_among, joined_after, starts_after, transition_after, callable_after, refusal_after, turned_after, answered_after, tallies_after, dump_after, blanks_after, ended_after, ended_with, order_after, answered_to_the_end}
+use Rattle.transitions.specs.EngineCalls.{turn_kind, is_start, is_next, state_with, order_for, begun, gets_dump, gets_blank, polled_by, told, refused_by, outcome_of}
+use Rattle.transitions.specs.EnginePoints.{EngineNews, Silence, Joined, Begun, GaveTurn, Answered, Ended, engine_news, clients_at, starts_at, transition_at, callable_at, refusal_at, called_at, turned_at, answered_at, tallies_at, dump_at, blanks_at, completed_at, state_at, order_at, state_by, calls_off, refusal_from, is_call_off, list_for, tally_of, wants_dump, wants_report, is_among, joined_after, starts_after, transition_after, callable_after, refusal_after, turned_after, answered_after, tallies_after, dump_after, blanks_after, completed_after, ended_with, order_after, answered_to_the_end}
 use Rattle.transitions.proofs.Apart.{client_of, clients_of, IsApart, called_apart}
 use Rattle.transitions.proofs.Fronts.{waiting, IsGiven, front_moves, front_waits, turned_next, dump_next, given_none, given_front, given_from, blanks_next, state_open, state_by-push}
 
@@ -40,7 +40,7 @@ pub record TracksUnderway (past : List (ℕ × EngineEntry)) (state : RunState) 
   pub given : IsGiven u.has_polled clients u.called u.dump
   pub blanks : blanks_at past ≡ u.blanks
   pub tallies : tallies_at past ≡ u.tallies
-  pub state_is : state ≡ state_with (state_by (ended_at past)) u.transition u.refusal u.called
+  pub state_is : state ≡ state_with (state_by (completed_at past)) u.transition u.refusal u.called
 
 -- none in progress
 pub record TracksNone (past : List (ℕ × EngineEntry)) (state : RunState) : Type 0 where
@@ -48,7 +48,7 @@ pub record TracksNone (past : List (ℕ × EngineEntry)) (state : RunState) : Ty
   pub refusal : refusal_at past ≡ None
   pub turned : turned_at past ≡ []
   pub answered : answered_at past ≡ []
-  pub state_is : state ≡ state_by (ended_at past)
+  pub state_is : state ≡ state_by (completed_at past)
 
 abbrev pub TracksTransition : List (ℕ × EngineEntry) → RunState → List Registered → Option Underway → Type 0
 TracksTransition past state clients None = TracksNone past state
@@ -66,7 +66,7 @@ ending : (t : Transition) (r : Option Refusal) (called answered : ℕ) (left : L
 ending t (Some r) called answered left base ts is long = ap state_by (append-nil ts) ∙ sym is
 ending t None called answered [] base ts is long =
     let e : eqb called answered ≡ true = eq-eqb called answered (omega arith) in
-    rw e (state_by-push ts t ∙ ap (λ (b : RunState). state_after b t) (sym is))
+    rw e (state_by-push ts t ∙ ap (λ (b : RunState). run_state_after b t) (sym is))
 ending t None called answered (c ∷ cs) base ts is long =
     let e : eqb called answered ≡ false = ne_eqb called answered (λ same. omega arith) in
     rw e (ap state_by (append-nil ts) ∙ sym is)
@@ -75,14 +75,14 @@ state_underway : (past : List (ℕ × EngineEntry)) (state : RunState) (clients 
 state_underway past state clients u t =
     let long : length (called_at past) ≡ length (answered_at past) + length u.called =
     ap length t.called ∙ (length-append (answered_at past) (clients_of u.called) ∙ ap (λ (n : ℕ). length (answered_at past) + n) (length-map u.called client_of)) in
-    ap (λ (o : Option Transition). state_by (ended_at past ++ answered_to_the_end o (refusal_at past) (length (called_at past)) (length (answered_at past)))) t.transition
-    ∙ (ap (λ (r : Option Refusal). state_by (ended_at past ++ answered_to_the_end (Some u.transition) r (length (called_at past)) (length (answered_at past)))) t.refusal
-    ∙ (ending u.transition u.refusal (length (called_at past)) (length (answered_at past)) u.called (state_by (ended_at past)) (ended_at past) refl long ∙ sym t.state_is))
+    ap (λ (o : Option Transition). state_by (completed_at past ++ answered_to_the_end o (refusal_at past) (length (called_at past)) (length (answered_at past)))) t.transition
+    ∙ (ap (λ (r : Option Refusal). state_by (completed_at past ++ answered_to_the_end (Some u.transition) r (length (called_at past)) (length (answered_at past)))) t.refusal
+    ∙ (ending u.transition u.refusal (length (called_at past)) (length (answered_at past)) u.called (state_by (completed_at past)) (completed_at past) refl long ∙ sym t.state_is))
 
 state_none : (past : List (ℕ × EngineEntry)) (state : RunState) → TracksNone past state → state_at past ≡ state
 state_none past state t =
-    ap (λ (o : Option Transition). state_by (ended_at past ++ answered_to_the_end o (refusal_at past) (length (called_at past)) (length (answered_at past)))) t.transition
-    ∙ (ap state_by (append-nil (ended_at past)) ∙ sym t.state_is)
+    ap (λ (o : Option Transition). state_by (completed_at past ++ answered_to_the_end o (refusal_at past) (length (called_at past)) (length (answered_at past)))) t.transition
+    ∙ (ap state_by (append-nil (completed_at past)) ∙ sym t.state_is)
 
 pub state_tracks : (past : List (ℕ × EngineEntry)) (state : RunState) (clients : List Registered) (o : Option Underway) → TracksTransition past state clients o → state_at past ≡ state
 state_tracks past state clients None t = state_none past state t
@@ -102,7 +102,7 @@ record Reads (past next : List (ℕ × EngineEntry)) (n : EngineNews) : Type 0 w
   dump : dump_at next ≡ dump_after n (callable_at past) (dump_at past)
   blanks : blanks_at next ≡ blanks_after n (blanks_at past)
   tallies : tallies_at next ≡ tallies_after n (is_call_off n past) (tallies_at past)
-  ended : ended_at next ≡ ended_after n (transition_at past) (ended_at past)
+  ended : completed_at next ≡ completed_after n (transition_at past) (completed_at past)
 
 reads : (past : List (ℕ × EngineEntry)) (e : ℕ × EngineEntry) (n : EngineNews) → engine_news e.1 ≡ n → Reads past (e ∷ past) n
 reads past e n is = record {
@@ -117,7 +117,7 @@ reads past e n is = record {
   dump = ap (λ (m : EngineNews). dump_after m (callable_at past) (dump_at past)) is;
   blanks = ap (λ (m : EngineNews). blanks_after m (blanks_at past)) is;
   tallies = ap (λ (m : EngineNews). tallies_after m (is_call_off m past) (tallies_at past)) is;
-  ended = ap (λ (m : EngineNews). ended_after m (transition_at past) (ended_at past)) is;
+  ended = ap (λ (m : EngineNews). completed_after m (transition_at past) (completed_at past)) is;
 }
 
 pub called_from : (past : List (ℕ × EngineEntry)) (t : Option Transition) (r : Option Refusal) (cs : List Registered) → transition_at past ≡ t → refusal_at past ≡ r → callable_at past ≡ cs
@@ -202,7 +202,7 @@ underway_begun past e s t sheet n is clients none =
     record {
       transition = r.transition;
       refusal = r.refusal;
-      order = r.order ∙ ap (λ (state : RunState). Some (order_of sheet n state)) (state_none past s.state none);
+      order = r.order ∙ ap (λ (state : RunState). Some (order_for sheet n state)) (state_none past s.state none);
       callable = r.callable ∙ clients;
       called = called ∙ ap (λ (xs : List ℕ). xs ++ clients_of (called_list t s.clients)) (sym r.answered);
       turned = r.turned ∙ sym (append-nil (answered_at next) ∙ r.answered);
@@ -226,7 +226,7 @@ pub report_wish : (clients : List Registered) (client : ℕ) (c : Registered) �
 report_wish clients client c is = ap (λ (o : Option Registered). option_map_or (λ (x : Registered). x.wants_report) o false) is
 
 pub underway_polled : (past : List (ℕ × EngineEntry)) (e : ℕ × EngineEntry) (state : RunState) (clients : List Registered) (u : Underway) (client : ℕ) (c : Registered) (blank : Option Totals)
-    → engine_news e.1 ≡ GaveTurn client blank → TracksUnderway past state clients u → slice_get clients client ≡ Some c → is_front u.called client ≡ true
+    → engine_news e.1 ≡ GaveTurn client blank → TracksUnderway past state clients u → slice_get clients client ≡ Some c → is_next u.called client ≡ true
     → blank ≡ (if gets_blank c u then slice_get u.blanks 0 else None) → TracksUnderway (e ∷ past) state clients (polled_by c u)
 underway_polled past e state clients u client c blank news t is front blank_is =
     let r = reads past e (GaveTurn client blank) news in
@@ -258,7 +258,7 @@ underway_polled past e state clients u client c blank news t is front blank_is =
 -- An answer that calls no start off.
 
 pub underway_told : (past : List (ℕ × EngineEntry)) (e : ℕ × EngineEntry) (state : RunState) (clients : List Registered) (u : Underway) (client : ℕ) (answer : ClientAnswer)
-    → engine_news e.1 ≡ Answered client answer → TracksUnderway past state clients u → u.has_polled ≡ true → is_front u.called client ≡ true
+    → engine_news e.1 ≡ Answered client answer → TracksUnderway past state clients u → u.has_polled ≡ true → is_next u.called client ≡ true
     → calls_off answer (transition_at past) (refusal_at past) ≡ false
     → TracksUnderway (e ∷ past) (state_with state u.transition u.refusal (drop 1 u.called)) clients (told client (tally_of answer) u)
 underway_told past e state clients u client answer news t polled front off =
@@ -270,7 +270,7 @@ underway_told past e state clients u client answer news t polled front off =
     let waits : waiting u.has_polled u.called ≡ client ∷ [] = ap (λ (b : Bool). waiting b u.called) polled ∙ front_waits client u.called front in
     let turned : turned_at next ≡ answered_at past ++ client ∷ [] =
     r.turned ∙ (ap (λ (b : Bool). if b then [] else turned_at past) off ∙ (t.turned ∙ ap (λ (xs : List ℕ). answered_at past ++ xs) waits)) in
-    let base : state ≡ state_by (ended_at past) = t.state_is ∙ state_open (state_by (ended_at past)) u.transition u.refusal client u.called front in
+    let base : state ≡ state_by (completed_at past) = t.state_is ∙ state_open (state_by (completed_at past)) u.transition u.refusal client u.called front in
     record {
       transition = r.transition ∙ t.transition;
       refusal = refusal ∙ t.refusal;
@@ -290,7 +290,7 @@ underway_told past e state clients u client answer news t polled front off =
 -- The refusal of a start.
 
 pub underway_refused : (past : List (ℕ × EngineEntry)) (e : ℕ × EngineEntry) (state : RunState) (clients : List Registered) (u : Underway) (client : ℕ) (why : Why)
-    → engine_news e.1 ≡ Answered client (No why) → TracksUnderway past state clients u → is_front u.called client ≡ true
+    → engine_news e.1 ≡ Answered client (No why) → TracksUnderway past state clients u → is_next u.called client ≡ true
     → calls_off (No why) (transition_at past) (refusal_at past) ≡ true
     → TracksUnderway (e ∷ past) state clients (refused_by clients client why u)
 underway_refused past e state clients u client why news t front off =
@@ -301,7 +301,7 @@ underway_refused past e state clients u client why news t front off =
     let called : called_at next ≡ clients_of (called_list StartAbort clients) = called_from next (Some u.transition) (Some own) clients (r.transition ∙ t.transition) refusal (r.callable ∙ t.callable) in
     let answered : answered_at next ≡ [] = r.answered ∙ ap (λ (b : Bool). if b then [] else answered_at past ++ client ∷ []) off in
     let turned : turned_at next ≡ [] = r.turned ∙ ap (λ (b : Bool). if b then [] else turned_at past) off in
-    let base : state ≡ state_by (ended_at past) = t.state_is ∙ state_open (state_by (ended_at past)) u.transition u.refusal client u.called front in
+    let base : state ≡ state_by (completed_at past) = t.state_is ∙ state_open (state_by (completed_at past)) u.transition u.refusal client u.called front in
     record {
       transition = r.transition ∙ t.transition;
       refusal = refusal;
@@ -332,7 +332,7 @@ none_ended past e state clients u outcome news t done outcome_is =
       refusal = r.refusal;
       turned = r.turned;
       answered = r.answered;
-      state_is = t.state_is ∙ (ap (state_with (state_by (ended_at past)) u.transition u.refusal) done ∙ (ended_state u.transition u.refusal (ended_at past)
-          ∙ ap state_by (sym (r.ended ∙ (ap (λ (o : StartOutcome). ended_with o (transition_at past) (ended_at past)) outcome_is
-          ∙ ap (λ (o : Option Transition). ended_with (outcome_of u.refusal) o (ended_at past)) t.transition)))));
+      state_is = t.state_is ∙ (ap (state_with (state_by (completed_at past)) u.transition u.refusal) done ∙ (ended_state u.transition u.refusal (completed_at past)
+          ∙ ap state_by (sym (r.ended ∙ (ap (λ (o : StartOutcome). ended_with o (transition_at past) (completed_at past)) outcome_is
+          ∙ ap (λ (o : Option Transition). ended_with (outcome_of u.refusal) o (completed_at past)) t.transition)))));
     }

@@ -8,7 +8,7 @@ use Rattle.daq_types.specs.declared.runs.Order.{Order}
 use Rattle.daq_types.specs.declared.runs.StartOutcome.{StartOutcome}
 use Rattle.daq_types.specs.declared.runs.StartOutcome.TheVariants.{Completed, Refused}
 use Rattle.daq_types.specs.declared.runs.Why.{Why}
-use Rattle.run_states.specs.States.{is_allowed, state_after}
+use Rattle.run_states.specs.States.{is_allowed, run_state_after}
 use Rattle.transitions.specs.declared.client.Registered.{Registered}
 use Rattle.transitions.specs.declared.called.Called.{Called}
 use Rattle.transitions.specs.declared.sheet.Sheet.{Sheet}
@@ -49,9 +49,9 @@ is_start Start = true
 is_start t = false
 
 -- whether this client is in front of those that are still to be called
-abbrev pub is_front : List Called → (client : ℕ) → Bool
-is_front [] client = false
-is_front (c ∷ cs) client = c.client == client
+abbrev pub is_next : List Called → (client : ℕ) → Bool
+is_next [] client = false
+is_next (c ∷ cs) client = c.client == client
 
 -- whether turns of a start are given
 abbrev pub is_in_start : Option Underway → Bool
@@ -60,7 +60,7 @@ is_in_start (Some u) = is_start (turn_of u)
 
 -- the state with these clients still to be called: where none is left, and no client refused, the transition is done
 abbrev pub state_with : RunState → Transition → Option Refusal → List Called → RunState
-state_with state t None [] = state_after state t
+state_with state t None [] = run_state_after state t
 state_with state t refusal called = state
 
 -- the engine with this transition, all of whose clients may have answered
@@ -98,14 +98,14 @@ abbrev pub begin_reply : EngineState → Transition → Result ℕ BeginRefusal
 begin_reply s t = if s.closed then Err BeginClosed else begin_reply_in s.underway s.state t s.start
 
 -- what the clients are told, with the state before the transition
-abbrev pub order_of : Sheet → (start : ℕ) → RunState → Order
-order_of sheet start from = record { run = sheet.run; start = start; time = sheet.time; from = from; quota = sheet.quota }
+abbrev pub order_for : Sheet → (start : ℕ) → RunState → Order
+order_for sheet start from = record { run = sheet.run; start = start; time = sheet.time; from = from; quota = sheet.quota }
 
 -- the transition as it begins
 abbrev pub begun : EngineState → Transition → Sheet → (start : ℕ) → Underway
 begun s t sheet start = record {
   transition = t;
-  order = order_of sheet start s.state;
+  order = order_for sheet start s.state;
   dump = sheet.dump;
   blanks = sheet.blanks;
   called = called_list t s.clients;
@@ -133,7 +133,7 @@ turn_reply c u =
 
 abbrev pub poll_reply_in : RunState → (client : ℕ) → Registered → Option Underway → Polled
 poll_reply_in state client c None = Idle state
-poll_reply_in state client c (Some u) = if is_front u.called client then turn_reply c u else Idle state
+poll_reply_in state client c (Some u) = if is_next u.called client then turn_reply c u else Idle state
 
 abbrev pub poll_reply_to : EngineState → (client : ℕ) → Option Registered → Polled
 poll_reply_to s client None = NoClient
@@ -176,7 +176,7 @@ not_your_turn = record {}
 -- whether the client was given a turn that it has not answered
 abbrev pub owes_answer : Option Underway → (client : ℕ) → Bool
 owes_answer None client = false
-owes_answer (Some u) client = u.has_polled && is_front u.called client
+owes_answer (Some u) client = u.has_polled && is_next u.called client
 
 abbrev pub answer_reply : EngineState → (client : ℕ) → Result ⊤ NotYourTurn
 answer_reply s client = if owes_answer s.underway client then Ok tt else Err not_your_turn

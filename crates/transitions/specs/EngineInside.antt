@@ -10,7 +10,7 @@ use Rattle.transitions.specs.declared.called.Called.{Called}
 use Rattle.transitions.specs.declared.answers.ClientTally.{ClientTally}
 use Rattle.transitions.specs.declared.engine.Stage.{Stage}
 use Rattle.transitions.specs.Limits.{most_clients, most_tallies}
-use Rattle.transitions.specs.Rooms.{HasRoom}
+use Rattle.transitions.specs.Rooms.{HasRoomFor}
 use Rattle.transitions.specs.Engines.{Underway}
 use Rattle.transitions.specs.EngineHistories.{IsShort, IsBlank}
 
@@ -33,8 +33,8 @@ abbrev pub most_at : Stage → ℕ
 most_at stage = if is_some stage.refusal then most_tallies else most_clients
 
 pub record IsEngine (state : RunState) (clients : Vec Registered) (stage : Option Stage) (dump : Option (List ℕ)) (blanks : List Totals) (called : Vec Called) (tallies : List ClientTally) : Type 0 where
-  pub clients_fit : HasRoom most_clients clients
-  pub called_fit : HasRoom most_clients called
+  pub clients_fit : HasRoomFor most_clients clients
+  pub called_fit : HasRoomFor most_clients called
   pub tallies_fit : (now : Stage) → stage ≡ Some now → length tallies + length called.items ≤ most_at now
   -- while a turn is open and no client refused, the transition is one that the state allows
   pub allowed : (now : Stage) → stage ≡ Some now → now.refusal ≡ None → 0 < length called.items → IsTrue (is_allowed state now.transition)

@@ -8,7 +8,7 @@ use Rattle.daq_types.specs.declared.runs.Transition.{Transition}
 use Rattle.daq_types.specs.declared.runs.Order.{Order}
 use Rattle.daq_types.specs.declared.runs.StartOutcome.{StartOutcome}
 use Rattle.daq_types.specs.declared.runs.StartOutcome.TheVariants.{Completed}
-use Rattle.run_states.specs.States.{state_after}
+use Rattle.run_states.specs.States.{run_state_after}
 use Rattle.event_report.specs.Reports.{Totals}
 use Rattle.transitions.specs.declared.client.Registered.{Registered}
 use Rattle.transitions.specs.declared.called.Called.{Called}
@@ -24,7 +24,7 @@ use Rattle.transitions.specs.declared.replies.Progress.TheVariants.{Done}
 use Rattle.transitions.specs.declared.entry.EngineEntry.{EngineEntry}
 use Rattle.transitions.specs.declared.entry.EngineEntry.TheVariants.{Register, Begin, Poll, Answer, Check}
 use Rattle.transitions.specs.Called.{called_list}
-use Rattle.transitions.specs.EngineCalls.{turn_kind, is_start, order_of}
+use Rattle.transitions.specs.EngineCalls.{turn_kind, is_start, order_for}
 
 -- the point behind these entries, which follow this point
 abbrev pub engine_past_after : List (ℕ × EngineEntry) → (entries : List (ℕ × EngineEntry)) → List (ℕ × EngineEntry)
@@ -209,14 +209,14 @@ abbrev pub ended_with : StartOutcome → Option Transition → List Transition �
 ended_with Completed (Some t) ended = ended ++ t ∷ []
 ended_with outcome transition ended = ended
 
-abbrev pub ended_after : EngineNews → Option Transition → List Transition → List Transition
-ended_after (Ended outcome) transition ended = ended_with outcome transition ended
-ended_after news transition ended = ended
+abbrev pub completed_after : EngineNews → Option Transition → List Transition → List Transition
+completed_after (Ended outcome) transition ended = ended_with outcome transition ended
+completed_after news transition ended = ended
 
 -- the transitions that were told to have ended and were not refused, in order
-abbrev pub ended_at : List (ℕ × EngineEntry) → List Transition
-ended_at [] = []
-ended_at (e ∷ past) = ended_after (engine_news e.1) (transition_at past) (ended_at past)
+abbrev pub completed_at : List (ℕ × EngineEntry) → List Transition
+completed_at [] = []
+completed_at (e ∷ past) = completed_after (engine_news e.1) (transition_at past) (completed_at past)
 
 abbrev pub answered_to_the_end : Option Transition → Option Refusal → (called answered : ℕ) → List Transition
 answered_to_the_end (Some t) None called answered = if called == answered then t ∷ [] else []
@@ -228,14 +228,14 @@ ending_at past = answered_to_the_end (transition_at past) (refusal_at past) (len
 
 -- the walk over transitions from stopped
 abbrev pub state_by : List Transition → RunState
-state_by ts = fold state_after Stopped ts
+state_by ts = fold run_state_after Stopped ts
 
 -- the state to which the transitions lead that were answered to the end and not refused
 abbrev pub state_at : List (ℕ × EngineEntry) → RunState
-state_at past = state_by (ended_at past ++ ending_at past)
+state_at past = state_by (completed_at past ++ ending_at past)
 
 abbrev pub order_after : EngineNews → RunState → Option Order → Option Order
-order_after (Begun t sheet n) state before = Some (order_of sheet n state)
+order_after (Begun t sheet n) state before = Some (order_for sheet n state)
 order_after news state before = before
 
 -- the order of the last transition that was begun

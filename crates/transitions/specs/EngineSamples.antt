@@ -14,7 +14,7 @@ use Rattle.transitions.specs.declared.replies.Polled.TheVariants.{Turn}
 use Rattle.transitions.specs.declared.replies.Progress.TheVariants.{Done}
 use Rattle.transitions.specs.declared.entry.EngineEntry.{EngineEntry}
 use Rattle.transitions.specs.declared.entry.EngineEntry.TheVariants.{Register, Begin, Poll, Answer, Check}
-use Rattle.transitions.specs.EngineCalls.{order_of}
+use Rattle.transitions.specs.EngineCalls.{order_for}
 
 abbrev pub at_all : ℕ → Sequences
 at_all q = record { start = Some q; stop = Some q; pause = None; resume = None; start_abort = Some q }
@@ -29,7 +29,7 @@ with_start_of dump es =
 
 -- the client is given its turn, without anything
 abbrev pub turn_for : (client : ℕ) → Transition → ℕ × EngineEntry
-turn_for client t = (client, Poll client (Turn t (order_of (sheet_with None) 1 Stopped) None None))
+turn_for client t = (client, Poll client (Turn t (order_for (sheet_with None) 1 Stopped) None None))
 
 abbrev pub yes_by : (client : ℕ) → ℕ × EngineEntry
 yes_by client = (client, Answer client (Yes Plain) (Ok tt))
@@ -61,7 +61,7 @@ after_the_refusal = with_start_of None (turn_for 0 Start ∷ no_by 0 ∷ [])
 
 -- both clients are given the dump
 abbrev pub with_dump : (client : ℕ) → ℕ × EngineEntry
-with_dump client = (client, Poll client (Turn Start (order_of (sheet_with (Some (7 ∷ []))) 1 Stopped) (Some (7 ∷ [])) None))
+with_dump client = (client, Poll client (Turn Start (order_for (sheet_with (Some (7 ∷ []))) 1 Stopped) (Some (7 ∷ [])) None))
 
 abbrev pub dump_given : List (ℕ × EngineEntry)
 dump_given = with_start_of (Some (7 ∷ [])) (with_dump 0 ∷ yes_by 0 ∷ [])

@@ -8,3 +8,6 @@ pub mod EngineHistories
 pub mod EnginePoints
 pub mod TurnOrder
 pub mod EngineSamples
+pub mod GivenTurns
+pub mod CalledOrder
+pub mod Marks

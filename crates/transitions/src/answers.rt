@@ -48,12 +48,12 @@ impl Model for Tallies {
 
     ghost Value = { List ClientTally };
 
-    ghost use Rattle.transitions.specs.Rooms.{HasRoom};
+    ghost use Rattle.transitions.specs.Rooms.{HasRoomFor};
     ghost use Rattle.transitions.specs.Limits.{most_tallies};
 
     ghost view = { λ t. t.tallies.items };
 
-    ghost invariant = { λ t. HasRoom most_tallies t.tallies };
+    ghost invariant = { λ t. HasRoomFor most_tallies t.tallies };
 }
 
 impl Tallies {

@@ -3,7 +3,7 @@ ghost use Rattle.run_states.specs.States.{is_allowed};
 ghost use Rattle.transitions.specs.declared.entry.EngineEntry.TheVariants.{Register, Begin, Poll, Answer as AnswerCall, Check, Close};
 ghost use Rattle.transitions.specs.declared.answers.Answer.TheVariants.{Yes};
 ghost use Rattle.transitions.specs.Engines.{engine_opening};
-ghost use Rattle.transitions.specs.EngineCalls.{turn_kind, is_start, is_front, state_with, outcome_of, owes_answer, is_in_start, register_reply, begin_reply, poll_reply, answer_reply, check_reply, tallies_given, close_reply, after_answer_in, after_refusal, without_return, engine_after};
+ghost use Rattle.transitions.specs.EngineCalls.{turn_kind, is_start, is_next, state_with, outcome_of, owes_answer, is_in_start, register_reply, begin_reply, poll_reply, answer_reply, check_reply, tallies_given, close_reply, after_answer_in, after_refusal, without_return, engine_after};
 ghost use Rattle.transitions.specs.EngineHistories.{IsSheet, IsFairTurn};
 
 use crate::answers::{Answer, ClientTally, Tallies, Tally};
@@ -84,8 +84,8 @@ fn is_start(transition: Transition) -> bool
 }
 
 /// Whether this client is the first of those still to be called.
-fn is_front(called: &[Called], client: u32) -> bool
-    ensures { result ≡ is_front called.now client }
+fn is_next(called: &[Called], client: u32) -> bool
+    ensures { result ≡ is_next called.now client }
 {
     match called {
         [] => false,
@@ -294,7 +294,7 @@ impl Engine {
         let Some(stage) = self.stage else {
             return Polled::Idle { state: self.state };
         };
-        if !is_front(self.called.as_slice(), client) {
+        if !is_next(self.called.as_slice(), client) {
             return Polled::Idle { state: self.state };
         }
         let dump = give_dump(&mut self.dump, gets_dump(&wishes, &stage));
@@ -320,7 +320,7 @@ impl Engine {
         let Some(stage) = self.stage else {
             return Err((NotYourTurn, answer));
         };
-        if !(stage.polled && is_front(self.called.as_slice(), client)) {
+        if !(stage.polled && is_next(self.called.as_slice(), client)) {
             return Err((NotYourTurn, answer));
         }
         let turn = find_turn(stage.transition, stage.refusal);

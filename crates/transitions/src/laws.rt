@@ -1,7 +1,18 @@
 //! Laws of the histories of an engine: each function does nothing, and its contract is the law. They hold of every list of
 //! calls whose replies are those of an engine that opened stopped and without clients.
 
-ghost use Rattle.std.specs.Prelude.{◌++◌, ◌∷◌, [], Ok, None};
+ghost use Rattle.std.specs.Prelude.{◌≡◌, ◌<◌, ◌++◌, ◌∷◌, ℕ, List, [], Ok, Option, Some, None};
+ghost use Rattle.daq_types.specs.Callers.{entries_by};
+ghost use Rattle.daq_types.specs.declared.runs.Transition.{Transition};
+ghost use Rattle.daq_types.specs.declared.runs.Order.{Order};
+ghost use Rattle.event_report.specs.Reports.{Totals};
+ghost use Rattle.transitions.specs.declared.client.Registered.{Registered};
+ghost use Rattle.transitions.specs.declared.sheet.Sheet.{Sheet};
+ghost use Rattle.transitions.specs.declared.replies.Polled.TheVariants.{Turn};
+ghost use Rattle.transitions.specs.Called.{called_list};
+ghost use Rattle.transitions.specs.CalledOrder.{IsCalledList};
+ghost use Rattle.transitions.specs.EnginePoints.{engine_past};
+ghost use Rattle.transitions.specs.GivenTurns.{OpenTurn, open_at, turns_at, calls_of, SpeaksFor, IsRepeated, IsFromBegin};
 ghost use Rattle.daq_types.specs.declared.runs.RunState.TheVariants.{Stopped};
 ghost use Rattle.daq_types.specs.declared.runs.Transition.TheVariants.{Start};
 ghost use Rattle.daq_types.specs.declared.runs.StartOutcome.TheVariants.{Completed};
@@ -11,6 +22,9 @@ ghost use Rattle.transitions.specs.declared.entry.EngineEntry.TheVariants.{Begin
 ghost use Rattle.transitions.specs.Engines.{engine_opening};
 ghost use Rattle.transitions.specs.EngineHistories.{EngineHistory, IsLegalEngine};
 ghost use Rattle.transitions.specs.TurnOrder.{TurnsInOrder};
+ghost use Rattle.transitions.specs.Marks.{IsEndOf};
+ghost use Rattle.transitions.specs.declared.answers.ClientTally.{ClientTally};
+ghost use Rattle.daq_types.specs.declared.runs.StartOutcome.{StartOutcome};
 ghost use Rattle.transitions.specs.EngineSamples.{sheet_with, turn_for, plain, with_dump, refused_by_second, out_of_order, before_the_answer, after_the_refusal, dump_given, both_answered, started};
 
 /// Turns are given in the order of the called list, each behind the answer to the one before; a refused start is called
@@ -18,6 +32,55 @@ ghost use Rattle.transitions.specs.EngineSamples.{sheet_with, turn_for, plain, w
 /// the states that are told are those that the transitions lead to.
 pub fn follows()
     ensures { (history : EngineHistory) → IsLegalEngine engine_opening history → TurnsInOrder history }
+{}
+
+/// The called list has the clients that are registered for the transition, each once, by rising sequence number, and equal
+/// ones in order of registration.
+pub fn called_in_order()
+    ensures { (transition : Transition) → (clients : List Registered) → IsCalledList transition clients (called_list transition clients) }
+{}
+
+/// The start number of a start is above that of each start before it, so each number begins once.
+pub fn start_numbers_rise()
+    ensures { (before between after : EngineHistory) → (caller other : ℕ) → (sheet more : Sheet) → (n m : ℕ) →
+        IsLegalEngine engine_opening
+        (before ++ (caller, Begin Start sheet (Ok n)) ∷ (between ++ (other, Begin Start more (Ok m)) ∷ after)) →
+        n < m }
+{}
+
+/// A client's turns, and whether it has one open, can be read off the calls of the caller that alone speaks for it.
+pub fn own_turns()
+    ensures turns { (by client : ℕ) → (past : EngineHistory) → SpeaksFor by client past →
+        turns_at client (calls_of past) ≡ turns_at client (entries_by by past) }
+    ensures open_turn { (by client : ℕ) → (past : EngineHistory) → SpeaksFor by client past →
+        open_at client (calls_of past) ≡ open_at client (entries_by by past) }
+{}
+
+/// Where a client has a turn open, a poll gives the same turn again, without dump and blank report: no turn of another
+/// transition comes before its answer.
+pub fn turn_repeats()
+    ensures { (before after : EngineHistory) → (caller client : ℕ) → (turn : Transition) → (order : Order) →
+        (dump : Option (List ℕ)) → (blank : Option Totals) → (open_turn : OpenTurn) →
+        IsLegalEngine engine_opening (before ++ (caller, Poll client (Turn turn order dump blank)) ∷ after) →
+        open_at client (calls_of (engine_past before)) ≡ Some open_turn →
+        IsRepeated open_turn turn order dump blank }
+{}
+
+/// Each turn has the order of a transition that was begun before it, and the dump, if it has one, is the one that this
+/// was begun with.
+pub fn turn_begun()
+    ensures { (before after : EngineHistory) → (caller client : ℕ) → (turn : Transition) → (order : Order) →
+        (dump : Option (List ℕ)) → (blank : Option Totals) →
+        IsLegalEngine engine_opening (before ++ (caller, Poll client (Turn turn order dump blank)) ∷ after) →
+        IsFromBegin before order dump }
+{}
+
+/// Where Done is told, the transition's begin stands before it with no other begin and no other Done between, and the
+/// tallies are the answers since.
+pub fn tallies_belong()
+    ensures { (before after : EngineHistory) → (caller : ℕ) → (outcome : StartOutcome) → (tallies : List ClientTally) →
+        IsLegalEngine engine_opening (before ++ (caller, Check (Done outcome) tallies) ∷ after) →
+        (transition : Transition) × IsEndOf before transition tallies }
 {}
 
 /// What the law asks is more than nothing: a history with a refused start, and one of each kind that it rules out.

@@ -1,0 +1,5 @@
+use Rattle.transitions.proofs.Marked.{end_of}
+use Rattle.transitions.proofs.laws.tallies_belong.Goals as goal
+
+pub returns : goal.returns
+returns c = end_of

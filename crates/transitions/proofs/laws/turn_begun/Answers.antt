@@ -1,0 +1,5 @@
+use Rattle.transitions.proofs.Given.{turn_begun}
+use Rattle.transitions.proofs.laws.turn_begun.Goals as goal
+
+pub returns : goal.returns
+returns c = turn_begun

@@ -1,0 +1,5 @@
+use Rattle.transitions.proofs.Given.{turn_repeats}
+use Rattle.transitions.proofs.laws.turn_repeats.Goals as goal
+
+pub returns : goal.returns
+returns c = turn_repeats

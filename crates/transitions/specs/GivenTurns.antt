@@ -1,0 +1,76 @@
+-- The turns that one client is given, read off the client's own calls; and where they come from.
+use Rattle.std.specs.Prelude.{◌≡◌, ℕ, ◌==◌, Bool, true, false, ◌&&◌, if◌then◌else◌, List, [], ◌∷◌, ◌++◌, map, Option, Some, None, is_none, Ok, ⊤}
+use Rattle.daq_types.specs.declared.runs.Transition.{Transition}
+use Rattle.daq_types.specs.declared.runs.Order.{Order}
+use Rattle.event_report.specs.Reports.{Totals}
+use Rattle.transitions.specs.declared.sheet.Sheet.{Sheet}
+use Rattle.transitions.specs.declared.replies.Polled.TheVariants.{Turn}
+use Rattle.transitions.specs.declared.entry.EngineEntry.{EngineEntry}
+use Rattle.transitions.specs.declared.entry.EngineEntry.TheVariants.{Begin, Poll, Answer}
+use Rattle.transitions.specs.EngineCalls.{order_for}
+use Rattle.transitions.specs.EnginePoints.{engine_past, state_at}
+
+-- a turn that was given and is not answered
+pub record OpenTurn : Type 0 where
+  pub turn : Transition
+  pub order : Order
+
+-- a turn, as the first reply gave it
+pub record GivenTurn : Type 0 where
+  pub turn : Transition
+  pub order : Order
+  pub dump : Option (List ℕ)
+  pub blank : Option Totals
+
+abbrev pub open_after : (client : ℕ) → EngineEntry → Option OpenTurn → Option OpenTurn
+open_after client (Poll c (Turn turn order dump blank)) before = if c == client then Some (record { turn = turn; order = order }) else before
+open_after client (Answer c answer (Ok done)) before = if c == client then None else before
+open_after client entry before = before
+
+-- the client's open turn behind these entries, the latest of which stands first
+abbrev pub open_at : (client : ℕ) → List EngineEntry → Option OpenTurn
+open_at client [] = None
+open_at client (e ∷ es) = open_after client e (open_at client es)
+
+abbrev pub turns_after : (client : ℕ) → EngineEntry → Option OpenTurn → List GivenTurn → List GivenTurn
+turns_after client (Poll c (Turn turn order dump blank)) open_turn before =
+    if (c == client) && is_none open_turn then before ++ record { turn = turn; order = order; dump = dump; blank = blank } ∷ [] else before
+turns_after client entry open_turn before = before
+
+-- the turns that the client was given, in order: those whose reply came while it had none open
+abbrev pub turns_at : (client : ℕ) → List EngineEntry → List GivenTurn
+turns_at client [] = []
+turns_at client (e ∷ es) = turns_after client e (open_at client es) (turns_at client es)
+
+abbrev pub calls_of : List (ℕ × EngineEntry) → List EngineEntry
+calls_of entries = map (λ e. e.1) entries
+
+-- whether the entry gives the client a turn or accepts its answer
+abbrev pub is_of_client : (client : ℕ) → EngineEntry → Bool
+is_of_client client (Poll c (Turn turn order dump blank)) = c == client
+is_of_client client (Answer c answer (Ok done)) = c == client
+is_of_client client entry = false
+
+-- only this caller polls and answers for the client
+abbrev pub SpeaksFor : (by client : ℕ) → List (ℕ × EngineEntry) → Type 0
+SpeaksFor by client [] = ⊤
+SpeaksFor by client (e ∷ es) = (is_of_client client e.1 ≡ true → e.0 ≡ by) × SpeaksFor by client es
+
+-- a reply repeats the open turn, without anything that is given once
+pub record IsRepeated (open_turn : OpenTurn) (turn : Transition) (order : Order) (dump : Option (List ℕ)) (blank : Option Totals) : Type 0 where
+  pub turn_is : turn ≡ open_turn.turn
+  pub order_is : order ≡ open_turn.order
+  pub dump_is : dump ≡ None
+  pub blank_is : blank ≡ None
+
+-- an order comes from a begin among these entries, and the dump, if there is one, from its sheet
+pub record IsFromBegin (before : List (ℕ × EngineEntry)) (order : Order) (dump : Option (List ℕ)) : Type 0 where
+  pub earlier : List (ℕ × EngineEntry)
+  pub later : List (ℕ × EngineEntry)
+  pub caller : ℕ
+  pub transition : Transition
+  pub sheet : Sheet
+  pub start : ℕ
+  pub stands : before ≡ earlier ++ (caller, Begin transition sheet (Ok start)) ∷ later
+  pub order_is : order ≡ order_for sheet start (state_at (engine_past earlier))
+  pub dump_is : (bytes : List ℕ) → dump ≡ Some bytes → sheet.dump ≡ Some bytes
