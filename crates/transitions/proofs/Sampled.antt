@@ -3,7 +3,9 @@ use Rattle.std.proofs.Common.{◌≡◌, ℕ, List, [], ◌∷◌, ◌++◌, Som
 use Rattle.std.specs.Prelude.{Ok}
 use Rattle.daq_types.specs.declared.runs.RunState.TheVariants.{Stopped}
 use Rattle.daq_types.specs.declared.runs.Transition.TheVariants.{Start, StartAbort}
-use Rattle.daq_types.specs.declared.runs.StartOutcome.TheVariants.{Completed}
+use Rattle.daq_types.specs.declared.runs.StartOutcome.TheVariants.{Completed, Refused}
+use Rattle.daq_types.specs.declared.runs.Why.TheVariants.{NotReady}
+use Rattle.event_report.specs.Reports.{Totals}
 use Rattle.transitions.specs.declared.replies.Polled.TheVariants.{Idle}
 use Rattle.transitions.specs.declared.replies.Progress.TheVariants.{Done}
 use Rattle.transitions.specs.declared.answers.ClientTally.{ClientTally}
@@ -12,7 +14,7 @@ use Rattle.transitions.specs.Called.{called_list}
 use Rattle.transitions.specs.Engines.{engine_opening}
 use Rattle.transitions.specs.EngineHistories.{IsLegalEngine, IsSheet}
 use Rattle.transitions.specs.TurnOrder.{TurnsInOrder}
-use Rattle.transitions.specs.EngineSamples.{sheet_with, turn_for, plain, with_dump, refused_by_second, out_of_order, before_the_answer, after_the_refusal, dump_given, both_answered, started}
+use Rattle.transitions.specs.EngineSamples.{sheet_with, turn_for, plain, with_dump, refused_by_second, out_of_order, before_the_answer, after_the_refusal, dump_given, both_answered, started, with_blank, blank_given, called_off}
 
 bare : IsSheet (sheet_with None)
 bare = record { short = λ bytes e. absurd cc; blank = tt }
@@ -79,3 +81,15 @@ never_number_twice law =
     let right = law.right started [] 0 (Begin Start (sheet_with None) (Ok 1)) refl in
     let same : 1 ≡ 2 = right.number in
     absurd (omega (arith, same))
+
+pub never_blank_twice : (blank : Totals) → TurnsInOrder (blank_given blank ++ with_blank blank ∷ []) → ⊥
+never_blank_twice blank law =
+    let right = law.right (blank_given blank) [] 0 (with_blank blank).1 refl in
+    let same : Some blank ≡ None = right.blank_is in
+    absurd cc
+
+pub never_completed : TurnsInOrder (called_off ++ (0, Check (Done Completed) (plain 0 ∷ plain 1 ∷ [])) ∷ []) → ⊥
+never_completed law =
+    let right = law.right called_off [] 0 (Check (Done Completed) (plain 0 ∷ plain 1 ∷ [])) refl in
+    let same : Completed ≡ Refused 0 NotReady = right.outcome_is in
+    absurd cc

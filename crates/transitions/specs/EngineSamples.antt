@@ -5,6 +5,7 @@ use Rattle.daq_types.specs.declared.runs.Transition.{Transition}
 use Rattle.daq_types.specs.declared.runs.Transition.TheVariants.{Start, StartAbort}
 use Rattle.daq_types.specs.declared.runs.StartOutcome.TheVariants.{Completed, Refused}
 use Rattle.daq_types.specs.declared.runs.Why.TheVariants.{NotReady}
+use Rattle.event_report.specs.Reports.{Totals}
 use Rattle.run_states.specs.declared.sequences.Sequences.{Sequences}
 use Rattle.transitions.specs.declared.sheet.Sheet.{Sheet}
 use Rattle.transitions.specs.declared.answers.Answer.TheVariants.{Yes, No}
@@ -73,3 +74,17 @@ both_answered = with_start_of None (turn_for 0 Start ∷ yes_by 0 ∷ turn_for 1
 -- and so the start is done
 abbrev pub started : List (ℕ × EngineEntry)
 started = both_answered ++ (0, Check (Done Completed) (plain 0 ∷ plain 1 ∷ [])) ∷ []
+
+-- a client is given a blank report at the first poll of its turn
+abbrev pub with_blank : Totals → ℕ × EngineEntry
+with_blank blank = (0, Poll 0 (Turn Start (order_for (sheet_with None) 1 Stopped) None (Some blank)))
+
+-- two blank reports are there
+abbrev pub blank_given : Totals → List (ℕ × EngineEntry)
+blank_given blank =
+    (0, Register [] (at_all 1) true true (Ok 0))
+    ∷ (0, Begin Start (record { run = 1; time = 1000; quota = 0; dump = None; blanks = blank ∷ blank ∷ [] }) (Ok 1)) ∷ with_blank blank ∷ []
+
+-- the first client refused the start, and both answered to start-abort
+abbrev pub called_off : List (ℕ × EngineEntry)
+called_off = with_start_of None (turn_for 0 Start ∷ no_by 0 ∷ turn_for 0 StartAbort ∷ yes_by 0 ∷ turn_for 1 StartAbort ∷ yes_by 1 ∷ [])

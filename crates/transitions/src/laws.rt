@@ -25,7 +25,7 @@ ghost use Rattle.transitions.specs.TurnOrder.{TurnsInOrder};
 ghost use Rattle.transitions.specs.Marks.{IsEndOf};
 ghost use Rattle.transitions.specs.declared.answers.ClientTally.{ClientTally};
 ghost use Rattle.daq_types.specs.declared.runs.StartOutcome.{StartOutcome};
-ghost use Rattle.transitions.specs.EngineSamples.{sheet_with, turn_for, plain, with_dump, refused_by_second, out_of_order, before_the_answer, after_the_refusal, dump_given, both_answered, started};
+ghost use Rattle.transitions.specs.EngineSamples.{sheet_with, turn_for, plain, with_dump, refused_by_second, out_of_order, before_the_answer, after_the_refusal, dump_given, both_answered, started, with_blank, blank_given, called_off};
 
 /// Turns are given in the order of the called list, each behind the answer to the one before; a refused start is called
 /// off; the dump and each blank report are given once; Done gives the answers in order; the start numbers rise by one, and
@@ -90,6 +90,8 @@ pub fn tells_apart()
     ensures unanswered { TurnsInOrder (before_the_answer ++ turn_for 1 Start ∷ []) → ⊥ }
     ensures refused { TurnsInOrder (after_the_refusal ++ turn_for 1 Start ∷ []) → ⊥ }
     ensures dump { TurnsInOrder (dump_given ++ with_dump 1 ∷ []) → ⊥ }
+    ensures blank { (report : Totals) → TurnsInOrder (blank_given report ++ with_blank report ∷ []) → ⊥ }
+    ensures outcome { TurnsInOrder (called_off ++ (0, Check (Done Completed) (plain 0 ∷ plain 1 ∷ [])) ∷ []) → ⊥ }
     ensures end { TurnsInOrder (before_the_answer ++ (0, Check (Done Completed) []) ∷ []) → ⊥ }
     ensures tallies { TurnsInOrder (both_answered ++ (0, Check (Done Completed) (plain 1 ∷ plain 0 ∷ [])) ∷ []) → ⊥ }
     ensures state { TurnsInOrder (started ++ (1, Poll 0 (Idle Stopped)) ∷ []) → ⊥ }

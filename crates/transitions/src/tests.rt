@@ -153,6 +153,9 @@ fn three_clients(alloc: Global) -> Result<Engine, Fail> {
     Ok(engine)
 }
 
+/// What a lock guards crosses threads.
+fn is_sent<T: Send + Drop>(_value: &T) {}
+
 #[test]
 fn turns_by_sequence(rt: HostRuntime) -> Result<(), Fail> {
     let mut engine = three_clients(rt.alloc())?;
@@ -248,6 +251,7 @@ fn start_refused(rt: HostRuntime) -> Result<(), Fail> {
 #[test]
 fn stop_not_refused(rt: HostRuntime) -> Result<(), Fail> {
     let mut engine = Engine::new(rt.alloc())?;
+    is_sent(&engine);
     let _client = add_client(&mut engine, 500, 500, true);
     make_calls(
         &rt,

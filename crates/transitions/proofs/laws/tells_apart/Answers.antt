@@ -1,4 +1,4 @@
-use Rattle.transitions.proofs.Sampled.{refused_is_legal, never_out_of_order, never_before_the_answer, never_after_the_refusal, never_dump_twice, never_done_before_all, never_tallies_out_of_order, never_state_kept, never_number_twice}
+use Rattle.transitions.proofs.Sampled.{refused_is_legal, never_out_of_order, never_before_the_answer, never_after_the_refusal, never_dump_twice, never_blank_twice, never_completed, never_done_before_all, never_tallies_out_of_order, never_state_kept, never_number_twice}
 use Rattle.transitions.proofs.laws.tells_apart.Goals as goal
 
 pub returns : goal.returns
@@ -8,6 +8,8 @@ returns c = record {
   unanswered = never_before_the_answer;
   refused = never_after_the_refusal;
   dump = never_dump_twice;
+  blank = never_blank_twice;
+  outcome = never_completed;
   end = never_done_before_all;
   tallies = never_tallies_out_of_order;
   state = never_state_kept;
