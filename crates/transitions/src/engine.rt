@@ -138,7 +138,8 @@ fn gets_dump(client: &Registered, stage: &Stage) -> bool
 
 /// Whether a client that polls its turn is given a blank report.
 fn gets_blank(client: &Registered, stage: &Stage) -> bool
-    ensures { result ≡ (client.now.wants_report && (not stage.now.polled && is_start (turn_kind stage.now.transition stage.now.refusal))) }
+    ensures { let turn = turn_kind stage.now.transition stage.now.refusal in
+        result ≡ (client.now.wants_report && (not stage.now.polled && is_start turn)) }
 {
     client.wants_report && !stage.polled && is_start(find_turn(stage.transition, stage.refusal))
 }
@@ -186,7 +187,8 @@ impl Engine {
         wants_report: bool,
     ) -> Result<u32, RegisterRefusal>
         ensures reply { result ≡ register_reply self.old }
-        ensures state { self.new ≡ engine_after self.old (Register name sequences wants_dump wants_report result) }
+        ensures state { self.new ≡
+            engine_after self.old (Register name sequences wants_dump wants_report result) }
     {
         if self.closed {
             return Err(RegisterRefusal::Closed);
@@ -242,7 +244,8 @@ impl Engine {
     ) -> Result<u32, (BeginRefusal, Sheet)>
         requires { IsSheet sheet }
         ensures reply { without_return result ≡ begin_reply self.old transition }
-        ensures state { self.new ≡ engine_after self.old (Begin transition sheet (without_return result)) }
+        ensures state { self.new ≡
+            engine_after self.old (Begin transition sheet (without_return result)) }
         ensures back { IfErr result (λ refused. refused.1 ≡ sheet) }
     {
         let start = match self.find_start(transition) {
@@ -314,7 +317,8 @@ impl Engine {
     /// The client's answer to its turn, which it has polled; else the answer is handed back. Takes no memory.
     pub fn answer(&mut self, client: u32, answer: Answer) -> Result<(), (NotYourTurn, Answer)>
         ensures reply { without_return result ≡ answer_reply self.old client }
-        ensures state { self.new ≡ engine_after self.old (AnswerCall client answer (without_return result)) }
+        ensures state { self.new ≡
+            engine_after self.old (AnswerCall client answer (without_return result)) }
         ensures back { IfErr result (λ refused. refused.1 ≡ answer) }
     {
         let Some(stage) = self.stage else {

@@ -31,20 +31,24 @@ ghost use Rattle.transitions.specs.EngineSamples.{sheet_with, turn_for, plain, w
 /// off; the dump and each blank report are given once; Done gives the answers in order; the start numbers rise by one, and
 /// the states that are told are those that the transitions lead to.
 pub fn follows()
-    ensures { (history : EngineHistory) → IsLegalEngine engine_opening history → TurnsInOrder history }
+    ensures { (history : EngineHistory) →
+        IsLegalEngine engine_opening history → TurnsInOrder history }
 {}
 
 /// The called list has the clients that are registered for the transition, each once, by rising sequence number, and equal
 /// ones in order of registration.
 pub fn called_in_order()
-    ensures { (transition : Transition) → (clients : List Registered) → IsCalledList transition clients (called_list transition clients) }
+    ensures { (transition : Transition) → (clients : List Registered) →
+        IsCalledList transition clients (called_list transition clients) }
 {}
 
 /// The start number of a start is above that of each start before it, so each number begins once.
 pub fn start_numbers_rise()
-    ensures { (before between after : EngineHistory) → (caller other : ℕ) → (sheet more : Sheet) → (n m : ℕ) →
+    ensures { (before between after : EngineHistory) → (caller other : ℕ) →
+        (sheet more : Sheet) → (n m : ℕ) →
         IsLegalEngine engine_opening
-        (before ++ (caller, Begin Start sheet (Ok n)) ∷ (between ++ (other, Begin Start more (Ok m)) ∷ after)) →
+        (before ++ (caller, Begin Start sheet (Ok n)) ∷
+        (between ++ (other, Begin Start more (Ok m)) ∷ after)) →
         n < m }
 {}
 
@@ -59,9 +63,11 @@ pub fn own_turns()
 /// Where a client has a turn open, a poll gives the same turn again, without dump and blank report: no turn of another
 /// transition comes before its answer.
 pub fn turn_repeats()
-    ensures { (before after : EngineHistory) → (caller client : ℕ) → (turn : Transition) → (order : Order) →
+    ensures { (before after : EngineHistory) → (caller client : ℕ) →
+        (turn : Transition) → (order : Order) →
         (dump : Option (List ℕ)) → (blank : Option Totals) → (open_turn : OpenTurn) →
-        IsLegalEngine engine_opening (before ++ (caller, Poll client (Turn turn order dump blank)) ∷ after) →
+        IsLegalEngine engine_opening
+        (before ++ (caller, Poll client (Turn turn order dump blank)) ∷ after) →
         open_at client (calls_of (engine_past before)) ≡ Some open_turn →
         IsRepeated open_turn turn order dump blank }
 {}
@@ -69,16 +75,19 @@ pub fn turn_repeats()
 /// Each turn has the order of a transition that was begun before it, and the dump, if it has one, is the one that this
 /// was begun with.
 pub fn turn_begun()
-    ensures { (before after : EngineHistory) → (caller client : ℕ) → (turn : Transition) → (order : Order) →
+    ensures { (before after : EngineHistory) → (caller client : ℕ) →
+        (turn : Transition) → (order : Order) →
         (dump : Option (List ℕ)) → (blank : Option Totals) →
-        IsLegalEngine engine_opening (before ++ (caller, Poll client (Turn turn order dump blank)) ∷ after) →
+        IsLegalEngine engine_opening
+        (before ++ (caller, Poll client (Turn turn order dump blank)) ∷ after) →
         IsFromBegin before order dump }
 {}
 
 /// Where Done is told, the transition's begin stands before it with no other begin and no other Done between, and the
 /// tallies are the answers since.
 pub fn tallies_belong()
-    ensures { (before after : EngineHistory) → (caller : ℕ) → (outcome : StartOutcome) → (tallies : List ClientTally) →
+    ensures { (before after : EngineHistory) → (caller : ℕ) → (outcome : StartOutcome) →
+        (tallies : List ClientTally) →
         IsLegalEngine engine_opening (before ++ (caller, Check (Done outcome) tallies) ∷ after) →
         (transition : Transition) × IsEndOf before transition tallies }
 {}
@@ -90,10 +99,13 @@ pub fn tells_apart()
     ensures unanswered { TurnsInOrder (before_the_answer ++ turn_for 1 Start ∷ []) → ⊥ }
     ensures refused { TurnsInOrder (after_the_refusal ++ turn_for 1 Start ∷ []) → ⊥ }
     ensures dump { TurnsInOrder (dump_given ++ with_dump 1 ∷ []) → ⊥ }
-    ensures blank { (report : Totals) → TurnsInOrder (blank_given report ++ with_blank report ∷ []) → ⊥ }
-    ensures outcome { TurnsInOrder (called_off ++ (0, Check (Done Completed) (plain 0 ∷ plain 1 ∷ [])) ∷ []) → ⊥ }
+    ensures blank { (report : Totals) →
+        TurnsInOrder (blank_given report ++ with_blank report ∷ []) → ⊥ }
+    ensures outcome { TurnsInOrder
+        (called_off ++ (0, Check (Done Completed) (plain 0 ∷ plain 1 ∷ [])) ∷ []) → ⊥ }
     ensures end { TurnsInOrder (before_the_answer ++ (0, Check (Done Completed) []) ∷ []) → ⊥ }
-    ensures tallies { TurnsInOrder (both_answered ++ (0, Check (Done Completed) (plain 1 ∷ plain 0 ∷ [])) ∷ []) → ⊥ }
+    ensures tallies { TurnsInOrder
+        (both_answered ++ (0, Check (Done Completed) (plain 1 ∷ plain 0 ∷ [])) ∷ []) → ⊥ }
     ensures state { TurnsInOrder (started ++ (1, Poll 0 (Idle Stopped)) ∷ []) → ⊥ }
     ensures number { TurnsInOrder (started ++ (0, Begin Start (sheet_with None) (Ok 1)) ∷ []) → ⊥ }
 {}
