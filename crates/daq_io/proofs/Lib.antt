@@ -1,5 +1,3 @@
-mod ReaderLemmas
-mod Reading
 mod Results
-mod SlotLemmas
+mod UseLemmas
 mod Writing

@@ -1,5 +1,5 @@
 -- What the numbers of files are in use for.
-use Rattle.std.specs.Prelude.{◌≡◌, ◌≢◌, ℕ, Bool, true, false, List, [], Option, Some, None, slice_get}
+use Rattle.std.specs.Prelude.{◌≡◌, ◌≢◌, ℕ, ◌+◌, Bool, true, false, if◌then◌else◌, count_by, length, List, [], Option, Some, None, slice_get}
 use Rattle.daq_io.specs.Seen.{Seen}
 use Rattle.daq_io.specs.declared.uses.Usage.{Usage}
 use Rattle.daq_io.specs.declared.uses.Usage.TheVariants.{Free, Writing, Reading}
@@ -32,6 +32,20 @@ use_at uses number = usage_or_free (slice_get uses number)
 pub record ChangesUse (old new : List Usage) (number : ℕ) (usage : Usage) : Type 0 where
   pub usage_is : use_at new number ≡ usage
   pub others : (other : ℕ) → other ≢ number → use_at new other ≡ use_at old other
+
+abbrev pub is_unused : Usage → Bool
+is_unused Free = true
+is_unused (Writing name) = false
+is_unused (Reading name) = false
+
+-- how many numbers are in no use
+abbrev pub free_numbers : List Usage → ℕ
+free_numbers uses = count_by is_unused uses
+
+-- One number went from its use to this one: so many numbers are in no use.
+pub record CountsUse (old new : List Usage) (number : ℕ) (usage : Usage) : Type 0 where
+  pub count : length new ≡ length old
+  pub free : free_numbers new + (if is_unused (use_at old number) then 1 else 0) ≡ free_numbers old + (if is_unused usage then 1 else 0)
 
 -- the numbers in use and their names, where no name of a file and no byte is told
 abbrev pub told_numbers : List Usage → Seen

@@ -35,7 +35,8 @@ impl ByteRoom {
 
     /// The bytes in it.
     pub fn as_slice(&self) -> &[u8]
-        ensures { result.now ≡ self.now.bytes }
+        ensures value { result.now ≡ self.now.bytes }
+        ensures fits { length result.now ≤ self.now.room }
     {
         self.bytes.as_slice()
     }
@@ -52,6 +53,7 @@ impl ByteRoom {
         ensures fits { IsTrue result ↔ (length self.old.bytes + length bytes.now ≤ self.old.room) }
         ensures put { OnTrue result (self.new ≡ record self.old { bytes = self.old.bytes ++ bytes.now }) }
         ensures kept { OnFalse result (self.new ≡ self.old) }
+        ensures room { self.new.room ≡ self.old.room }
     {
         if self.room - self.bytes.as_slice().len() < bytes.len() {
             return false;

@@ -1,4 +1,4 @@
-ghost use Rattle.std.specs.Prelude.{◌≡◌, ◌<◌, ℕ, List, Option, IfOk, OnOk, OnErr, length};
+ghost use Rattle.std.specs.Prelude.{◌≡◌, ◌<◌, ℕ, List, Option, IfOk, OnOk, OnErr, length, min, take};
 ghost use Rattle.std.specs.Io.{ReadsAtMost, WritesAtMost};
 ghost use Rattle.std.specs.Io.KnownBytes.{Appends, ReadConsumes, WriteAppends};
 ghost use Rattle.daq_io.specs.Counts.{CountsFault};
@@ -58,4 +58,15 @@ pub fn write_all<K: Sink>(out: &mut K, bytes: &[u8]) -> Result<(), Failed>
         rest = behind;
     }
     Ok(())
+}
+
+/// Copies the front of `from` to the front of `into`, as far as both go, and answers how many bytes that is.
+pub fn copy_front(from: &[u8], into: &mut [u8]) -> usize
+    ensures count { result ≡ min (length from.now) (length into.old) }
+    ensures front { take result into.new ≡ take result from.now }
+{
+    let count = from.len().min(into.len());
+    let (front, _) = into.split_at_mut(count);
+    front.copy_from_slice(&from[..count]);
+    count
 }

@@ -1,4 +1,4 @@
-ghost use Rattle.std.specs.Prelude.{◌≡◌, ◌≢◌, ◌<◌, ◌^◌, ℕ, IfOk, IfSome, IfNone, All, length};
+ghost use Rattle.std.specs.Prelude.{◌≡◌, ◌<◌, ◌^◌, ℕ, IfOk, IfSome, IfNone, length};
 
 use daq_types::{FileName, NoMemory};
 use std::alloc::Global;
@@ -20,11 +20,13 @@ pub struct UseTable {
 
 impl UseTable {
     ghost use Rattle.daq_io.specs.declared.uses.Usage.TheVariants.{Free};
-    ghost use Rattle.daq_io.specs.Uses.{use_at, ChangesUse};
+    ghost use Rattle.daq_io.specs.Uses.{use_at, free_numbers, ChangesUse, CountsUse};
 
     /// So many numbers, of which none is in use.
     pub fn new(alloc: Global, count: u32) -> Result<UseTable, NoMemory>
-        ensures { IfOk result (λ made. (number : ℕ) → use_at made.uses.items number ≡ Free) }
+        ensures free { IfOk result (λ made. (number : ℕ) → use_at made.uses.items number ≡ Free) }
+        ensures count { IfOk result (λ made. length made.uses.items ≡ count) }
+        ensures all_free { IfOk result (λ made. free_numbers made.uses.items ≡ count) }
     {
         let mut uses = Vec::new(alloc);
         for _ in 0..count {
@@ -37,7 +39,7 @@ impl UseTable {
     pub fn free(&self) -> Option<u32>
         ensures inside { IfSome result (λ number. number < length self.now.uses.items) }
         ensures free { IfSome result (λ number. use_at self.now.uses.items number ≡ Free) }
-        ensures none { IfNone result (All (λ usage. usage ≢ Free) self.now.uses.items) }
+        ensures none { IfNone result (free_numbers self.now.uses.items ≡ 0) }
     {
         for (number, usage) in self.uses.iter().enumerate() {
             if let Usage::Free = usage {
@@ -60,7 +62,8 @@ impl UseTable {
     /// Gives a number this use.
     pub fn assign(&mut self, number: u32, usage: Usage)
         requires { number < length self.old.uses.items }
-        ensures { ChangesUse self.old.uses.items self.new.uses.items number usage }
+        ensures changed { ChangesUse self.old.uses.items self.new.uses.items number usage }
+        ensures counted { CountsUse self.old.uses.items self.new.uses.items number usage }
     {
         self.uses[number as usize] = usage;
     }

@@ -8,7 +8,7 @@ use Rattle.event_header.specs.Pieces.{Gathers}
 use Rattle.event_header.specs.Headers.{header_encoding}
 use Rattle.event_header.specs.declared.head.Header.{Header}
 use Rattle.mid_format.specs.Faults.{header_fault, nothing_left, or_else, fault_at, OfBytes}
-use Rattle.mid_format.specs.Parts.{IsInRange, Passes}
+use Rattle.mid_format.specs.Parts.{IsInRange, PassesOver}
 use Rattle.mid_format.specs.declared.faults.MidFault.{MidFault}
 use Rattle.mid_format.specs.declared.faults.MidFault.TheVariants.{Truncated, NoBegin, NoEnd, AfterEnd, TooBig, ReadFault, BadRecord, TooLong}
 use Rattle.mid_format.specs.HeadersBack.{behind_head}
@@ -85,7 +85,7 @@ passed_more a b c size rest block count left p g e = record {
 }
 
 pub passed_end : (a b c : Option (List ℕ)) (size rest part : ℕ) (block : List ℕ) (count : ℕ) → Passed a b size rest → Gathers b c block count → length block ≡ part → part ≤ rest → count < part
-    → Passes a c size (size - (rest - count))
+    → PassesOver a c size (size - (rest - count))
 passed_end a b c size rest part block count p g len small short = record {
   bytes = p.bytes ++ take count block;
   length = omega (arith, p.length, length-append p.bytes (take count block), length-take count block, g.within, len, small, short);

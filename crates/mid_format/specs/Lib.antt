@@ -3,7 +3,6 @@ pub mod Parts
 pub mod HasRead
 pub mod Steps
 pub mod Opened
-pub mod FileLeft
 pub mod HeadersBack
 pub mod OneReading
 pub mod ReadLaws

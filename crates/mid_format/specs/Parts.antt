@@ -24,7 +24,7 @@ pub record ReadsHead (before after : Option (List ℕ)) (run : Option ℕ) (at :
   pub in_range : IsInRange h
 
 -- So much of some data was passed: all of them, or all that the source had.
-pub record Passes (before after : Option (List ℕ)) (size count : ℕ) : Type 0 where
+pub record PassesOver (before after : Option (List ℕ)) (size count : ℕ) : Type 0 where
   pub bytes : List ℕ
   pub length : length bytes ≡ count
   pub within : count ≤ size

@@ -66,8 +66,8 @@ abbrev pub FinishStops : Option (List ℕ) → Progress → Progress → Header 
 FinishStops before old new h fault = FinishCut before old new h fault ⊎ FinishMore before old new h fault
 
 -- An answer, and what was read: whatever was read before, one event more or, at the end, no more.
-abbrev pub Reads : Option (List ℕ) → Option (List ℕ) → Progress → Progress → Option (Unit {0}) → Event → Type 0
-Reads before after old new given event = (first : Option (List ℕ)) (events : List Event) → HasRead first before old events → HasRead first after new (and_given events given event)
+abbrev pub StepReads : Option (List ℕ) → Option (List ℕ) → Progress → Progress → Option (Unit {0}) → Event → Type 0
+StepReads before after old new given event = (first : Option (List ℕ)) (events : List Event) → HasRead first before old events → HasRead first after new (and_given events given event)
 
 -- A fault, and what was read: whatever was read before, and no more.
 abbrev pub Stops : Option (List ℕ) → Option (List ℕ) → Progress → Progress → MidFault → Type 0

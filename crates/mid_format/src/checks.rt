@@ -1,9 +1,8 @@
 //! Worked rows of run files.
 ghost use Rattle.std.specs.Prelude.{◌≡◌, ◌≤◌, None};
 
-use crate::{FileSource, MidFault, MidReader, begin_record, end_record};
-use daq_io::{Failed, Files, MemFiles, MemSource, Source};
-use daq_types::FileName;
+use crate::{MidFault, MidReader, begin_record, end_record};
+use daq_io::{Failed, Source, copy_front};
 use event_header::EventBuf;
 use std::alloc::{AllocError, Global};
 use std::test::Fail;
@@ -25,21 +24,49 @@ fn one_event(alloc: Global) -> Result<Vec<u8>, AllocError> {
     Ok(file)
 }
 
-/// A source that gives one byte at a time.
-struct Drip {
-    source: MemSource,
+/// A source of these bytes in pieces of at most `most` bytes, whose call of the number `fails_at`, from 0, fails. It tells
+/// nothing.
+#[derive(Drop)]
+struct Pieces<'a> {
+    rest: &'a [u8],
+    most: usize,
+    fails_at: Option<u64>,
+    calls: u64,
+    faults: u64,
 }
 
-impl Source for Drip {
-    ghost left = { λ s. ⟦<MemSource as Source>⟧.left s.source };
+impl Pieces<'_> {
+    /// All of these bytes, as many at a time as are wanted.
+    fn whole(bytes: &[u8]) -> Pieces<'_> {
+        Pieces {
+            rest: bytes,
+            most: bytes.len(),
+            fails_at: None,
+            calls: 0,
+            faults: 0,
+        }
+    }
+}
 
-    ghost faults = { λ s. ⟦<MemSource as Source>⟧.faults s.source };
+impl Source for Pieces<'_> {
+    ghost left = { λ _. None };
+
+    ghost faults = { λ s. s.faults };
 
     ghost origin = { λ _. None };
 
     fn read(&mut self, into: &mut [u8]) -> Result<usize, Failed> {
-        let (front, _) = into.split_at_mut(into.len().min(1));
-        self.source.read(front)
+        let fails = self.fails_at == Some(self.calls);
+        self.calls = self.calls.saturating_add(1);
+        if fails {
+            self.faults = self.faults.saturating_add(1);
+            return Err(Failed);
+        }
+        let (front, _) = into.split_at_mut(into.len().min(self.most));
+        let count = copy_front(self.rest, front);
+        let (_, rest) = self.rest.split_at(count);
+        self.rest = rest;
+        Ok(count)
     }
 }
 
@@ -70,8 +97,7 @@ fn cut(len: usize) -> Result<Option<()>, MidFault> {
 /// What a reader answers to these bytes.
 fn answers_to(alloc: Global, bytes: &[u8]) -> Result<[Result<Option<()>, MidFault>; 2], Fail> {
     let mut into = EventBuf::new(alloc, 4_194_304)?;
-    let source = MemSource::new(bytes.to_vec(alloc)?, Vec::new(alloc));
-    let mut reader = MidReader::new(source);
+    let mut reader = MidReader::new(Pieces::whole(bytes));
     Ok(read_two(&mut reader, &mut into))
 }
 
@@ -128,9 +154,13 @@ fn files_with_one_wrong_field(rt: HostRuntime) -> Result<(), Fail> {
 
 #[test]
 fn a_source_in_single_bytes(rt: HostRuntime) -> Result<(), Fail> {
-    let source = MemSource::new(one_event(rt.alloc())?, Vec::new(rt.alloc()));
+    let file = one_event(rt.alloc())?;
+    let source = Pieces {
+        most: 1,
+        ..Pieces::whole(file.as_slice())
+    };
     let mut into = EventBuf::new(rt.alloc(), 4_194_304)?;
-    let mut reader = MidReader::new(Drip { source });
+    let mut reader = MidReader::new(source);
     assert_eq!(rt; reader.run(), None);
     assert_eq!(rt; reader.next(&mut into), Ok(Some(())));
     assert_eq!(rt; into.bytes().len(), 40);
@@ -141,43 +171,21 @@ fn a_source_in_single_bytes(rt: HostRuntime) -> Result<(), Fail> {
     assert_eq!(rt; reader.next(&mut into), Ok(None));
     assert_eq!(rt; reader.last(), Some(end_record(1, 1010, 176)));
     assert_eq!(rt; reader.next(&mut into), Ok(None));
-    let Drip { mut source } = reader.into_source();
-    assert_eq!(rt; source.read(&mut [0; 8]), Ok(0));
+    assert_eq!(rt; reader.into_source().read(&mut [0; 8]), Ok(0));
     Ok(())
 }
 
 #[test]
 fn a_source_that_fails_in_an_event(rt: HostRuntime) -> Result<(), Fail> {
-    let source = MemSource::new(one_event(rt.alloc())?, [3].to_vec(rt.alloc())?);
+    let file = one_event(rt.alloc())?;
+    let source = Pieces {
+        fails_at: Some(3),
+        ..Pieces::whole(file.as_slice())
+    };
     let mut into = EventBuf::new(rt.alloc(), 4_194_304)?;
     let mut reader = MidReader::new(source);
     assert_eq!(rt; reader.next(&mut into), Err(MidFault::ReadFault));
     assert_eq!(rt; reader.next(&mut into), Err(MidFault::ReadFault));
     assert_eq!(rt; reader.run(), Some(1));
-    Ok(())
-}
-
-#[test]
-fn a_file_among_files(rt: HostRuntime) -> Result<(), Fail> {
-    let mut into = EventBuf::new(rt.alloc(), 4_194_304)?;
-    let mut files = MemFiles::new(rt.alloc(), 1, 1000, Vec::new(rt.alloc()))?;
-    let Ok(name) = FileName::new("run00001.mid") else {
-        return Ok(());
-    };
-    let file = one_event(rt.alloc())?;
-    let Ok(number) = files.create(&name) else {
-        return Ok(());
-    };
-    assert_eq!(rt; files.append(number, file.as_slice()), Ok(()));
-    assert_eq!(rt; files.close(number), Ok(()));
-    let Ok(number) = files.open_read(&name) else {
-        return Ok(());
-    };
-    let mut reader = MidReader::new(FileSource::new(files, number));
-    assert_eq!(rt; read_two(&mut reader, &mut into), [Ok(Some(())), Ok(None)]);
-    let source = reader.into_source();
-    let number = source.file();
-    let mut files = source.into_files();
-    assert_eq!(rt; files.close(number), Ok(()));
     Ok(())
 }

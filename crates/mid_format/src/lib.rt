@@ -4,7 +4,6 @@
 #[cfg(test)]
 mod checks;
 mod faults;
-mod file_source;
 pub mod laws;
 mod parts;
 mod progress;
@@ -13,7 +12,6 @@ mod records;
 mod steps;
 
 pub use faults::MidFault;
-pub use file_source::FileSource;
 pub use progress::Progress;
 pub use reader::MidReader;
 pub use records::{begin_record, end_record};

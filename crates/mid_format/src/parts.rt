@@ -1,7 +1,7 @@
 ghost use Rattle.std.specs.Prelude.{◌≡◌, ◌≤◌, ◌+◌, ◌^◌, Some, IfSome, IfOk, IfErr, OnOk};
 ghost use Rattle.daq_io.specs.Counts.{CountsFault};
 ghost use Rattle.mid_format.specs.Faults.{fault_at, OfBytes};
-ghost use Rattle.mid_format.specs.Parts.{ReadsHead, Passes, PassesAll, ReadsBody, IsCut, IsEnd, IsBehindEnd, CountsReads};
+ghost use Rattle.mid_format.specs.Parts.{ReadsHead, PassesOver, PassesAll, ReadsBody, IsCut, IsEnd, IsBehindEnd, CountsReads};
 
 use crate::faults::{MidFault, header_fault, nothing_left};
 use daq_io::{Failed, Source};
@@ -39,7 +39,7 @@ pub fn read_head<S: Source>(source: &mut S, run: Option<u32>, at: u64) -> Result
 
 /// Passes over so many bytes, or as many as the source has, and answers how many.
 fn pass<S: Source>(source: &mut S, size: u32) -> Result<u32, Failed>
-    ensures passes { IfOk result (Passes (S.left source.old) (S.left source.new) size) }
+    ensures passes { IfOk result (PassesOver (S.left source.old) (S.left source.new) size) }
     ensures faults { CountsFault (S.faults source.old) (S.faults source.new) result }
     ensures origin { S.origin source.new ≡ S.origin source.old }
 {

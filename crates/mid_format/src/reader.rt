@@ -108,6 +108,9 @@ impl<S: Source> MidReader<S> {
         ensures onward { IfOk result (λ given. IsSome given → self.old.progress.at < self.new.progress.at) }
         ensures limit { self.new.progress.at ≤ 2 ^ 62 }
         ensures counted { CountsNext self.old.progress.fault (S.faults self.old.source) (S.faults self.new.source) result }
+        // `into` stays at the end, and where a fault is answered again.
+        ensures into_at_end { IfOk result (λ given. IsNone given → into.new ≡ into.old) }
+        ensures into_again { IsSome self.old.progress.fault → into.new ≡ into.old }
         ensures room { into.new.room ≡ into.old.room }
         ensures origin { S.origin self.new.source ≡ S.origin self.old.source }
     {

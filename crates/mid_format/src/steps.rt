@@ -1,7 +1,7 @@
 ghost use Rattle.std.specs.Prelude.{◌≡◌, ◌≤◌, ◌<◌, ◌^◌, ◌+◌, ◌↔◌, ℕ, List, Some, None, IfOk, IfErr, OnOk, OnErr, IsSome, IsNone};
 ghost use Rattle.daq_types.specs.declared.events.Event.{Event};
 ghost use Rattle.mid_format.specs.Parts.{CountsReads};
-ghost use Rattle.mid_format.specs.Steps.{Begins, BeginStops, Finishes, FinishStops, IsGoing, Reads, Stops};
+ghost use Rattle.mid_format.specs.Steps.{Begins, BeginStops, Finishes, FinishStops, IsGoing, StepReads, Stops};
 
 use crate::faults::MidFault;
 use crate::parts::{pass_data, read_data, read_end, read_head};
@@ -57,13 +57,14 @@ pub fn step<S: Source>(
     requires room { 4194304 ≤ into.old.room }
     requires place { progress.old.at ≤ 2 ^ 62 }
     requires going { IsGoing progress.old }
-    ensures reads { IfOk result (λ given. Reads (S.left source.old) (S.left source.new) progress.old progress.new given into.new.event) }
+    ensures reads { IfOk result (λ given. StepReads (S.left source.old) (S.left source.new) progress.old progress.new given into.new.event) }
     ensures stops { IfErr result (Stops (S.left source.old) (S.left source.new) progress.old progress.new) }
     ensures place { progress.new.at ≤ 2 ^ 62 }
     ensures onward { IfOk result (λ given. IsSome given → progress.old.at < progress.new.at) }
     ensures begun { IsSome progress.old.begin → progress.new.begin ≡ progress.old.begin }
     ensures no_fault { progress.new.fault ≡ None }
     ensures last { IfOk result (λ given. IsNone given ↔ IsSome progress.new.last) }
+    ensures kept { IfOk result (λ given. IsNone given → into.new ≡ into.old) }
     ensures room { into.new.room ≡ into.old.room }
     ensures counted { CountsReads (S.faults source.old) (S.faults source.new) result }
     ensures origin { S.origin source.new ≡ S.origin source.old }

@@ -8,7 +8,9 @@ mod tools;
 mod top;
 mod words;
 
-use daq_io::{NoGate, Outside, RoundPick, StdClock, StdFiles, StdSink, StdSource};
+use daq_io::Outside;
+use daq_mem::NoGate;
+use daq_std::{RoundPick, StdClock, StdFiles, StdSink, StdSource};
 use daq_types::{NoMemory, Words};
 use std::env;
 use std::io::{self, Stdin, Stdout};

@@ -1,10 +1,10 @@
 //! The program over objects in memory: run files byte for byte, console text and status.
 use crate::outcome::Outcome;
 use crate::top::midas;
-use daq_io::{
-    FileFail, FileOp, MemClock, MemFiles, MemPick, MemSink, MemSource, NoGate, Outside, StdFiles,
-};
+use daq_io::Outside;
+use daq_mem::{FileFail, FileOp, MemClock, MemFiles, MemPick, MemSink, MemSource, NoGate};
 use daq_session::Cause;
+use daq_std::StdFiles;
 use daq_types::{FileName, NoMemory, Words};
 use midas_tools::InputFault;
 use std::alloc::Global;

@@ -4,7 +4,7 @@ use Rattle.std.proofs.lemmas.List.{append-nil, take_all}
 use Rattle.std.specs.Io.KnownBytes.{Appends, Keeps}
 use Rattle.daq_io.specs.Seen.{Seen}
 use Rattle.daq_io.specs.Streams.{AppendsPart}
-use Rattle.mid_format.specs.FileLeft.{told_left}
+use Rattle.daq_io.specs.FileLeft.{told_left}
 use Rattle.mid_format.specs.declared.faults.MidFault.{MidFault}
 use Rattle.mid_format.specs.declared.faults.MidFault.TheVariants.{ReadFault}
 use Rattle.midas_tools.specs.Dumps.{IsPart, IsDump, WritesSome, WritesOn, PrintsSome, PrintsDump, DumpsTo}

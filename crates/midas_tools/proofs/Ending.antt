@@ -2,7 +2,7 @@
 use Rattle.std.proofs.Common.{◌≡◌, ◌∙◌, ℕ, List, Option, Some, None, IfSome, IsTrue, Bool, true, false, if◌then◌else◌, inl, inr, refl, sym, subst}
 use Rattle.std.specs.Prelude.{IsSome}
 use Rattle.daq_io.specs.Seen.{Stored, Seen}
-use Rattle.mid_format.specs.FileLeft.{told_left}
+use Rattle.daq_io.specs.FileLeft.{told_left}
 use Rattle.mid_format.specs.declared.faults.MidFault.{MidFault}
 use Rattle.midas_tools.specs.Findings.{IsThere, Finds, WritesAll, Writes, ReadsTo, IsOpened, Refuses, SaysWhy, Printed, PrintsClosed, Finishes}
 use Rattle.midas_tools.specs.declared.opening.Refused.{Refused}

@@ -5,8 +5,8 @@ use crate::ends::{InputFault, ToolEnd};
 use crate::lines::add_bad;
 use crate::opening::{Refused, close};
 use crate::page::Page;
-use daq_io::{Files, Sink, write_all};
-use mid_format::{FileSource, MidFault};
+use daq_io::{FileSource, Files, Sink, write_all};
+use mid_format::MidFault;
 
 /// Writes a text, and answers the end that it tells of, or that the sink failed.
 pub fn print<K: Sink>(end: ToolEnd, text: &[u8], out: &mut K) -> ToolEnd

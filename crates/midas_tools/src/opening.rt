@@ -3,9 +3,8 @@ ghost use Rattle.daq_io.specs.Counts.{CountsFault};
 ghost use Rattle.daq_io.specs.Seen.{Ends, Same};
 ghost use Rattle.midas_tools.specs.Findings.{IsOpened, Refuses};
 
-use daq_io::{Failed, Files, NameRefused};
+use daq_io::{Failed, FileSource, Files, NameRefused};
 use daq_types::FileName;
-use mid_format::FileSource;
 
 /// Why a file was not opened.
 #[derive(Clone, Copy, Debug, PartialEq, Eq)]

@@ -1,7 +1,7 @@
 //! The tools over files in memory: worked rows.
 use crate::ends::{InputFault, ToolEnd};
 use crate::{analyze_file, check_file, dump_file};
-use daq_io::{FileFail, FileOp, MemFiles, MemSink};
+use daq_mem::{FileFail, FileOp, MemFiles, MemSink};
 use daq_types::{FileName, NoMemory};
 use mid_format::MidFault;
 use std::alloc::{AllocError, Global};

@@ -1,6 +1,6 @@
-use Rattle.std.proofs.Common.{◌≢◌, take, All}
-use Rattle.daq_io.specs.declared.uses.Usage.TheVariants.{Free}
+use Rattle.std.proofs.Common.{◌≡◌, take}
+use Rattle.daq_io.specs.Uses.{free_numbers}
 use Rattle.daq_io.proofs.uses.UseTable.free.Given as goal
 
 abbrev pub invariant-loop-number : goal.invariant-loop-number
-invariant-loop-number l = All (λ usage. usage ≢ Free) (take l.number l.self.uses.items)
+invariant-loop-number l = free_numbers (take l.number l.self.uses.items) ≡ 0

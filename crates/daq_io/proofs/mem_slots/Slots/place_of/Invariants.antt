@@ -1,6 +1,0 @@
-use Rattle.std.proofs.Common.{◌≡◌, false, take, All}
-use Rattle.daq_io.specs.MemSeen.{has_name}
-use Rattle.daq_io.proofs.mem_slots.Slots.place_of.Given as goal
-
-abbrev pub invariant-loop-place : goal.invariant-loop-place
-invariant-loop-place l = All (λ slot. has_name l.name slot.name ≡ false) (take l.place l.self.slots.items)

@@ -1,0 +1,3 @@
+mod ReaderLemmas
+mod Results
+mod SlotLemmas

@@ -1,0 +1,14 @@
+use Rattle.std.proofs.Common.{◌≡◌, ℕ, List, length, min, take, drop, ap, sym, ◌∙◌, subst, arith}
+use Rattle.daq_io.specs.ReadingLaws.{read_front, read_end}
+use Rattle.daq_mem.proofs.streams.MemSourceSource.read.Goals as goal
+
+pub returns-clause-bytes : goal.returns-clause-bytes
+returns-clause-bytes c =
+    let bytes : List ℕ = c.self.inside.bytes.items in
+    let into : List ℕ = c.copy_front-count.new.into in
+    let count : ℕ = c.copy_front-count.result in
+    let left : drop c.self.inside.at bytes ≡ c.args.self.now.left = ap (λ source. source.left) c.self.view_is in
+    let rest : c.split_at.result.1.now ≡ drop c.self.inside.at bytes = c.split_at.ensures.back ∙ ap (drop c.self.inside.at) c.as_slice.ensures.value in (
+      sym left ∙ read_front bytes into c.self.inside.at count (c.copy_front-count.ensures.front ∙ ap (take count) rest),
+      read_end bytes into c.self.inside.at count (subst (λ left. count ≡ min (length left) (length into)) rest (omega arith)),
+    )

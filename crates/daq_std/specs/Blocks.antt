@@ -1,0 +1,13 @@
+-- A file that is read and written in blocks.
+use Rattle.std.specs.Prelude.{ℕ, List, Option, Some, None}
+use Rattle.std.specs.Io.KnownBytes.{prepend_known, append_known}
+
+-- the bytes that the file was given, where it tells them: those that were written out, and then those that were not yet
+abbrev pub bytes_given : {F : Type 0} → (F → Option (List ℕ)) → Option F → List ℕ → Option (List ℕ)
+bytes_given contents None pending = None
+bytes_given contents (Some file) pending = append_known (contents file) pending
+
+-- the bytes that are left to read, where the file tells them: those that were read ahead, and then those of the file
+abbrev pub left_of : {F : Type 0} → (F → Option (List ℕ)) → Option F → List ℕ → Option (List ℕ)
+left_of remaining None ahead = None
+left_of remaining (Some file) ahead = prepend_known ahead (remaining file)

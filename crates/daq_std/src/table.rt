@@ -1,0 +1,88 @@
+ghost use Rattle.std.specs.Prelude.{◌≡◌, IfOk, IfSome, OnOk, slice_get};
+ghost use Rattle.std.specs.Io.{ReadsAtMost};
+ghost use Rattle.std.specs.Io.KnownBytes.{Appends, Keeps, ReadConsumes};
+ghost use Rattle.daq_std.specs.BlockTables.{ChangesBlock, IsOpened, bytes_given_at, ahead_at};
+
+use crate::blocks::BlockFile;
+use daq_io::Failed;
+use daq_types::NoMemory;
+use std::alloc::Global;
+use std::fs::OpenFile;
+use std::io::{Read, Write};
+
+/// A block for each number.
+#[derive(Drop)]
+pub struct BlockTable<F> {
+    pub blocks: Vec<BlockFile<F>>,
+}
+
+impl<F: Read + Write + OpenFile + Drop> BlockTable<F> {
+    /// Blocks for so many numbers.
+    pub fn new(alloc: Global, count: u32) -> Result<BlockTable<F>, NoMemory> {
+        let mut blocks = Vec::new(alloc);
+        for _ in 0..count {
+            blocks.push(BlockFile::new(alloc)?)?;
+        }
+        Ok(BlockTable { blocks })
+    }
+
+    /// Goes on with this file under this number, with nothing to write and nothing read ahead.
+    pub fn open(&mut self, number: u32, file: F)
+        ensures opened { IfSome (slice_get self.new.blocks.items number) (IsOpened file) }
+        ensures others { ChangesBlock self.old.blocks.items self.new.blocks.items number }
+    {
+        if number as usize >= self.blocks.as_slice().len() {
+            return;
+        }
+        let block = &mut self.blocks[number as usize];
+        block.open(file);
+    }
+
+    /// Appends to the file of this number.
+    pub fn append(&mut self, number: u32, bytes: &[u8]) -> Result<(), Failed>
+        ensures grown { OnOk result (Appends (bytes_given_at F.contents self.old.blocks.items number) (bytes_given_at F.contents self.new.blocks.items number) bytes.now) }
+        ensures others { ChangesBlock self.old.blocks.items self.new.blocks.items number }
+    {
+        if number as usize >= self.blocks.as_slice().len() {
+            return Err(Failed);
+        }
+        let block = &mut self.blocks[number as usize];
+        block.append(bytes)
+    }
+
+    /// Reads from the file of this number.
+    pub fn read(&mut self, number: u32, into: &mut [u8]) -> Result<usize, Failed>
+        ensures within { ReadsAtMost result into.new }
+        ensures bytes { ReadConsumes (ahead_at F.remaining self.old.blocks.items number) (ahead_at F.remaining self.new.blocks.items number) result into.new }
+        ensures others { ChangesBlock self.old.blocks.items self.new.blocks.items number }
+    {
+        if number as usize >= self.blocks.as_slice().len() {
+            return Err(Failed);
+        }
+        let block = &mut self.blocks[number as usize];
+        block.read(into)
+    }
+
+    /// Writes what is left of the file of this number, has all of it put on the disk, and hands the file out.
+    pub fn finish(&mut self, number: u32) -> Result<F, Failed>
+        ensures whole { IfOk result (λ file. Keeps (bytes_given_at F.contents self.old.blocks.items number) (F.contents file)) }
+        ensures others { ChangesBlock self.old.blocks.items self.new.blocks.items number }
+    {
+        if number as usize >= self.blocks.as_slice().len() {
+            return Err(Failed);
+        }
+        let block = &mut self.blocks[number as usize];
+        block.close()
+    }
+
+    /// Lets the file of this number go.
+    pub fn release(&mut self, number: u32)
+        ensures { ChangesBlock self.old.blocks.items self.new.blocks.items number }
+    {
+        if number as usize >= self.blocks.as_slice().len() {
+            return;
+        }
+        let block = &mut self.blocks[number as usize];
+        block.release();
+    }
+}
