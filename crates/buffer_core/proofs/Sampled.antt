@@ -8,7 +8,7 @@ use Rattle.daq_model.specs.Events.{Matches, matches, slot_of_length, slot_size}
 use Rattle.buffer_core.specs.declared.client.Request.{Request as EventRequest}
 use Rattle.buffer_core.specs.declared.entry.BufferEntry.{BufferEntry}
 use Rattle.buffer_core.specs.declared.entry.BufferEntry.TheVariants.{Attach, Request}
-use Rattle.buffer_core.specs.Window.{Sent, slot_of_sent, opening, no_clients, no_requests}
+use Rattle.buffer_core.specs.Window.{Sent, slot_of_sent, opening, no_clients, no_requests, any}
 use Rattle.buffer_core.specs.Histories.{IsLegal}
 use Rattle.buffer_core.specs.SlotLaws.{split}
 use Rattle.buffer_core.specs.Points.{Life, life_got, sent}
@@ -21,12 +21,12 @@ pub refused_once_is_legal : IsLegal (opening 48) refused_once
 unfolding no_clients no_requests slot_of_length matches
 refused_once_is_legal = (refl, (refl, (refl, (refl, (refl, (refl, (refl, tt)))))))
 
-matches_all : Matches 65535 65535 sample_event
+matches_all : Matches any any sample_event
 unfolding matches
 matches_all = refl
 
 abbrev all_events : EventRequest
-all_events = record { id = 65535; mask = 65535; kind = All; since = 0 }
+all_events = record { id = any; mask = any; kind = All; since = 0 }
 
 abbrev sample_sent : Sent
 sample_sent = record { event = sample_event; start = 0 }
@@ -54,7 +54,7 @@ few lives ss client life is nobody reader =
 -- Samples, each of which fails one part alone.
 
 abbrev asked : List (ℕ × BufferEntry)
-asked = (0, Request 0 65535 65535 All (Ok 0)) ∷ (0, Attach [] (Ok 0)) ∷ []
+asked = (0, Request 0 any any All (Ok 0)) ∷ (0, Attach [] (Ok 0)) ∷ []
 
 abbrev attached : Bool → Option Life
 attached b = if b then Some (reader_at 0 []) else None
@@ -190,7 +190,7 @@ much_alone size e long =
 pub never_reached_back : (size : ℕ) → Delivers size reached_back → ⊥
 never_reached_back size d =
     let got = d.in_order.0 in
-    let late : EventRequest = record { id = 65535; mask = 65535; kind = All; since = 1 } in
+    let late : EventRequest = record { id = any; mask = any; kind = All; since = 1 } in
     split (0 == got.number) (λ b. (if b then Some late else None) ≡ Some got.request → ⊥)
     (λ h is. let same : late ≡ got.request = cc (is) in omega (arith, ap (λ (q : EventRequest). q.since) same, got.wanted.since))
     (λ h none. cc (none))

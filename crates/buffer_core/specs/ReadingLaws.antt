@@ -20,7 +20,7 @@ use Rattle.buffer_core.specs.declared.replies.Received.{Received}
 use Rattle.buffer_core.specs.declared.replies.Received.TheVariants.{Got, Empty, NoClient as NoReader, SmallBuf}
 use Rattle.buffer_core.specs.declared.entry.BufferEntry.TheVariants.{Attach, Request, SendInRun, Receive, Begin, End}
 use Rattle.buffer_core.specs.Slots.{slot_at, some_slot}
-use Rattle.buffer_core.specs.Window.{Sent, Window, opening, no_clients, no_requests, slot_of_sent, accepted_of, covers, wants, holds_back, owes}
+use Rattle.buffer_core.specs.Window.{Sent, Window, opening, no_clients, no_requests, slot_of_sent, accepted_of, covers, wants, holds_back, owes, any}
 use Rattle.buffer_core.specs.Calls.{IsReply, window_after, begin_reply_at, mark_reply, is_open, attach_reply, request_reply_to, joined, with_request, going_on, pushed, owed_in, or_later, full_reply, room_reply, send_reply, send_in_run_reply, is_running, gone_of, after_send, found_in, found_reply, receive_reply_to, event_after, with_gate}
 use Rattle.buffer_core.specs.SlotLaws.{split, slot_set_same, slot_set_other, slot_change_same, slot_change_other, slot_change_all, slot_free, first_slot_none, some_slot_true}
 use Rattle.buffer_core.specs.WindowLaws.{IsSendable, spent_reply_is, to_drop_within, event_got}
@@ -52,8 +52,8 @@ pub record AsksAll (c : Client) (place : ℕ) : Type 0 where
   pub number : ℕ
   pub request : EventRequest
   pub lives : slot_at c.requests number ≡ Some request
-  pub id : request.id ≡ 65535
-  pub mask : request.mask ≡ 65535
+  pub id : request.id ≡ any
+  pub mask : request.mask ≡ any
   pub kind : request.kind ≡ All
   pub since : request.since ≤ place
 
@@ -91,7 +91,7 @@ reader_only w client next reads n c e =
 
 -- a buffer with one client that asks for all events
 abbrev pub reading : (size : ℕ) (name : List ℕ) → Window
-reading size name = window_after (window_after (opening size) (Attach name (Ok 0))) (Request 0 65535 65535 All (Ok 0))
+reading size name = window_after (window_after (opening size) (Attach name (Ok 0))) (Request 0 any any All (Ok 0))
 
 pub attach_opens : (size : ℕ) → attach_reply (opening size) ≡ Ok 0
 unfolding no_clients
@@ -123,7 +123,7 @@ opening_attach size name = slot_set_same no_clients 0 (Some (joined name 0)) (om
 
 pub drained_opens : (size : ℕ) (name : List ℕ) → IsDrained (reading size name) 0
 drained_opens size name =
-    let q : EventRequest = record { id = 65535; mask = 65535; kind = All; since = 0 } in
+    let q : EventRequest = record { id = any; mask = any; kind = All; since = 0 } in
     let clients : List (Option Client) = slice_set no_clients 0 (Some (joined name 0)) in
     record {
       reader = with_request 0 (Some q) (joined name 0);
@@ -143,14 +143,14 @@ drained_opens size name =
 
 -- A send.
 
-matches_all : (e : Event) → matches 65535 65535 e ≡ true
+matches_all : (e : Event) → matches any any e ≡ true
 unfolding matches
 matches_all e = refl
 
-covers_all : (place : ℕ) (e : Event) (q : EventRequest) → q.since ≤ place → q.id ≡ 65535 → q.mask ≡ 65535 → covers place e q ≡ true
+covers_all : (place : ℕ) (e : Event) (q : EventRequest) → q.since ≤ place → q.id ≡ any → q.mask ≡ any → covers place e q ≡ true
 covers_all place e q since id mask =
     ap (λ (b : Bool). b && matches q.id q.mask e) (le-leb q.since place since)
-    ∙ (ap (λ (n : ℕ). matches n q.mask e) id ∙ (ap (λ (n : ℕ). matches 65535 n e) mask ∙ matches_all e))
+    ∙ (ap (λ (n : ℕ). matches n q.mask e) id ∙ (ap (λ (n : ℕ). matches any n e) mask ∙ matches_all e))
 
 wants_all : (place : ℕ) (e : Event) (c : Client) → c.next ≤ place → AsksAll c place → wants place e c ≡ true
 wants_all place e c next asks =

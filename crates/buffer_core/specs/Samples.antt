@@ -2,6 +2,7 @@
 use Rattle.std.specs.Prelude.{ℕ, List, [], ◌∷◌, length, Ok, Err}
 use Rattle.daq_types.specs.declared.events.Event.{Event}
 use Rattle.daq_types.specs.declared.runs.Kind.TheVariants.{All}
+use Rattle.buffer_core.specs.Window.{any}
 use Rattle.buffer_core.specs.declared.replies.SendRefusal.TheVariants.{Full}
 use Rattle.buffer_core.specs.declared.replies.Received.TheVariants.{Got}
 use Rattle.buffer_core.specs.declared.entry.BufferEntry.{BufferEntry}
@@ -13,7 +14,7 @@ sample_event = record { id = 1; mask = 1; serial = 1; time = 0; body = [] }
 
 -- a client that asks for all events
 abbrev pub with_reader : List (ℕ × BufferEntry) → List (ℕ × BufferEntry)
-with_reader es = (0, Attach [] (Ok 0)) ∷ (0, Request 0 65535 65535 All (Ok 0)) ∷ es
+with_reader es = (0, Attach [] (Ok 0)) ∷ (0, Request 0 any any All (Ok 0)) ∷ es
 
 -- in 48 bytes two such events fit: the third is refused until the client got the first
 abbrev pub refused_once : List (ℕ × BufferEntry)

@@ -62,6 +62,10 @@ pub record StandsAt (ss : List Sent) (first place : ℕ) (s : Sent) : Type 0 whe
 
 -- What clients want.
 
+-- the id, or the mask, of a request for events of any
+abbrev pub any : ℕ
+any = 65535
+
 -- the request wants this event, which was sent after it
 abbrev pub covers : (place : ℕ) → Event → Request → Bool
 covers place e q = nat_le q.since place && matches q.id q.mask e

@@ -19,7 +19,7 @@ use Rattle.buffer_core.specs.declared.replies.Received.{Received}
 use Rattle.buffer_core.specs.declared.replies.Received.TheVariants.{Got}
 use Rattle.buffer_core.specs.declared.entry.BufferEntry.{BufferEntry}
 use Rattle.buffer_core.specs.declared.entry.BufferEntry.TheVariants.{Attach, Request, SendInRun, Receive, Begin, End}
-use Rattle.buffer_core.specs.Window.{Window, opening, accepted_of}
+use Rattle.buffer_core.specs.Window.{Window, opening, accepted_of, any}
 use Rattle.buffer_core.specs.Slots.{slot_at}
 use Rattle.buffer_core.specs.Calls.{IsReply, window_after, event_after, request_reply_to, with_gate}
 use Rattle.buffer_core.specs.WindowLaws.{IsSendable}
@@ -181,19 +181,19 @@ pub record Opened (q : Ported) (size : ℕ) (name : List ℕ) : Type 0 where
   pub start : q.start ≡ opening size
 
 pub opened : (p p1 p2 p3 : Ported) (size : ℕ) (name : List ℕ) (one : Result ℕ NoSlot) (two : Result ℕ RequestRefusal) → p.start ≡ opening size → p.window ≡ opening size → p.history ≡ []
-    → p1 ≡ record p { caller = logger_caller } → Does p1 p2 (Attach name one) → Does p2 p3 (Request 0 65535 65535 All two) → Opened p3 size name
+    → p1 ≡ record p { caller = logger_caller } → Does p1 p2 (Attach name one) → Does p2 p3 (Request 0 any any All two) → Opened p3 size name
 opened p p1 p2 p3 size name one two starts opens none set first second =
     let does : Does (record p { caller = logger_caller }) p2 (Attach name one) = as_caller p p1 p2 logger_caller (Attach name one) set first in
     let attached : one ≡ Ok 0 = subst (λ (w : Window). IsReply w (Attach name one)) opens does.reply ∙ attach_opens size in
     let joined_window : p2.window ≡ window_after (opening size) (Attach name (Ok 0)) =
     does.window ∙ (ap (λ (w : Window). window_after w (Attach name one)) opens ∙ ap (λ (r : Result ℕ NoSlot). window_after (opening size) (Attach name r)) attached) in
-    let asked : two ≡ request_reply_to (slot_at (window_after (opening size) (Attach name (Ok 0))).clients 0) = subst (λ (w : Window). IsReply w (Request 0 65535 65535 All two)) joined_window second.reply in
+    let asked : two ≡ request_reply_to (slot_at (window_after (opening size) (Attach name (Ok 0))).clients 0) = subst (λ (w : Window). IsReply w (Request 0 any any All two)) joined_window second.reply in
     let requested : two ≡ Ok 0 = asked ∙ (ap request_reply_to (opening_attach size name) ∙ request_opens name 0) in
-    let reads : Window = window_after (window_after (opening size) (Attach name (Ok 0))) (Request 0 65535 65535 All (Ok 0)) in
+    let reads : Window = window_after (window_after (opening size) (Attach name (Ok 0))) (Request 0 any any All (Ok 0)) in
     let window : p3.window ≡ reads =
     second.window
-    ∙ (ap (λ (w : Window). window_after w (Request 0 65535 65535 All two)) joined_window
-    ∙ ap (λ (r : Result ℕ RequestRefusal). window_after (window_after (opening size) (Attach name (Ok 0))) (Request 0 65535 65535 All r)) requested) in
+    ∙ (ap (λ (w : Window). window_after w (Request 0 any any All two)) joined_window
+    ∙ ap (λ (r : Result ℕ RequestRefusal). window_after (window_after (opening size) (Attach name (Ok 0))) (Request 0 any any All r)) requested) in
     record {
       drained = subst (λ (w : Window). IsDrained w 0) (sym window) (drained_opens size name);
       shut = ap (λ (w : Window). w.gate) window;
@@ -202,10 +202,10 @@ opened p p1 p2 p3 size name one two starts opens none set first second =
       total = ap (λ (w : Window). w.total) window;
       accepted = ap accepted_of window;
       history = second.history
-          ∙ (ap (λ (n : ℕ). p2.history ++ (n, Request 0 65535 65535 All two) ∷ []) does.caller
-          ∙ (ap (λ (h : List (ℕ × BufferEntry)). h ++ (logger_caller, Request 0 65535 65535 All two) ∷ []) (does.history ∙ ap (λ (h : List (ℕ × BufferEntry)). h ++ (logger_caller, Attach name one) ∷ []) none)
-          ∙ (ap (λ (r : Result ℕ NoSlot). (logger_caller, Attach name r) ∷ (logger_caller, Request 0 65535 65535 All two) ∷ []) attached
-          ∙ ap (λ (r : Result ℕ RequestRefusal). (logger_caller, Attach name (Ok 0)) ∷ (logger_caller, Request 0 65535 65535 All r) ∷ []) requested)));
+          ∙ (ap (λ (n : ℕ). p2.history ++ (n, Request 0 any any All two) ∷ []) does.caller
+          ∙ (ap (λ (h : List (ℕ × BufferEntry)). h ++ (logger_caller, Request 0 any any All two) ∷ []) (does.history ∙ ap (λ (h : List (ℕ × BufferEntry)). h ++ (logger_caller, Attach name one) ∷ []) none)
+          ∙ (ap (λ (r : Result ℕ NoSlot). (logger_caller, Attach name r) ∷ (logger_caller, Request 0 any any All two) ∷ []) attached
+          ∙ ap (λ (r : Result ℕ RequestRefusal). (logger_caller, Attach name (Ok 0)) ∷ (logger_caller, Request 0 any any All r) ∷ []) requested)));
       start = second.start ∙ (does.start ∙ starts);
     }
 

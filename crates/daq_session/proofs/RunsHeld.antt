@@ -8,7 +8,7 @@ use Rattle.std.proofs.lemmas.List.Elements.{filter-append}
 use Rattle.daq_types.specs.declared.events.Event.{Event}
 use Rattle.daq_model.specs.Events.{matches}
 use Rattle.buffer_core.specs.declared.entry.BufferEntry.{BufferEntry}
-use Rattle.buffer_core.specs.Window.{Sent}
+use Rattle.buffer_core.specs.Window.{Sent, any}
 use Rattle.buffer_core.specs.Points.{Life, sent, past_of}
 use Rattle.buffer_core.specs.SlotLaws.{split}
 use Rattle.buffer_core.specs.Runs.{ended_at, events_between, segment, segment_at}
@@ -117,14 +117,14 @@ among_all from count ss h =
 
 -- Events.
 
-wants_any : (e : Event) → matches 65535 65535 e ≡ true
+wants_any : (e : Event) → matches any any e ≡ true
 unfolding matches
 wants_any e = refl
 
-all_wanted : (es : List (ℕ × Sent)) → filter (λ e. matches 65535 65535 e.1.event) es ≡ es
+all_wanted : (es : List (ℕ × Sent)) → filter (λ e. matches any any e.1.event) es ≡ es
 all_wanted [] = refl
 all_wanted (e ∷ es) =
-    ap (λ (b : Bool). if b then e ∷ filter (λ (x : ℕ × Sent). matches 65535 65535 x.1.event) es else filter (λ (x : ℕ × Sent). matches 65535 65535 x.1.event) es) (wants_any e.1.event)
+    ap (λ (b : Bool). if b then e ∷ filter (λ (x : ℕ × Sent). matches any any x.1.event) es else filter (λ (x : ℕ × Sent). matches any any x.1.event) es) (wants_any e.1.event)
     ∙ ap (λ (xs : List (ℕ × Sent)). e ∷ xs) (all_wanted es)
 
 events-enumerated : (from start : ℕ) (es : List Event) → events_of (enumerate_from from (map (in_run start) es)) ≡ es
@@ -140,8 +140,8 @@ segment_done past sends start from events d =
 
 -- what a run that was ended left in the history
 pub record IsHeld (h : List (ℕ × BufferEntry)) (start : ℕ) (events : List Event) : Type 0 where
-  pub wanted : events_of (wanted_of h 65535 65535 start) ≡ events
-  pub got : among (segment h start) (places_got h 0) ≡ places_of (wanted_of h 65535 65535 start)
+  pub wanted : events_of (wanted_of h any any start) ≡ events
+  pub got : among (segment h start) (places_got h 0) ≡ places_of (wanted_of h any any start)
   pub sent : sent_by h front_caller start ≡ events
   pub only : events_of (segment h start) ≡ sent_by h front_caller start
 
@@ -149,8 +149,8 @@ pub is_held : (h : List (ℕ × BufferEntry)) (count start from : ℕ) (events :
 is_held h count start from events r d =
     let ss : List Sent = map (in_run start) events in
     let is_segment : segment h start ≡ enumerate_from from ss = segment_done (past_of h) (sent_by h front_caller) start from events d in
-    let is_wanted : wanted_of h 65535 65535 start ≡ enumerate_from from ss = all_wanted (segment h start) ∙ is_segment in
-    let places : places_of (wanted_of h 65535 65535 start) ≡ upwards from (length ss) = ap (λ (es : List (ℕ × Sent)). places_of es) is_wanted ∙ places-enumerated from ss in
+    let is_wanted : wanted_of h any any start ≡ enumerate_from from ss = all_wanted (segment h start) ∙ is_segment in
+    let places : places_of (wanted_of h any any start) ≡ upwards from (length ss) = ap (λ (es : List (ℕ × Sent)). places_of es) is_wanted ∙ places-enumerated from ss in
     let below : from + length ss ≤ count = omega (arith, d.within, r.counted, length-map events (in_run start)) in
     record {
       wanted = ap (λ (es : List (ℕ × Sent)). events_of es) is_wanted ∙ events-enumerated from start events;

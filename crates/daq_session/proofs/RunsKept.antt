@@ -10,6 +10,7 @@ use Rattle.daq_model.specs.Generator.{generated_events}
 use Rattle.daq_model.specs.GeneratorLaws.{length-generated_events}
 use Rattle.daq_io.specs.declared.faults.Failed.{Failed}
 use Rattle.daq_io.specs.Seen.{Stored, stored_closed}
+use Rattle.buffer_core.specs.Window.{any}
 use Rattle.buffer_core.specs.declared.entry.BufferEntry.{BufferEntry}
 use Rattle.buffer_core.specs.declared.entry.BufferEntry.TheVariants.{SendInRun, Receive}
 use Rattle.buffer_core.specs.declared.replies.Received.TheVariants.{Got}
@@ -191,7 +192,7 @@ told_at h more count after last runs same equal t =
 held_by : (h : List (ℕ × BufferEntry)) (count : ℕ) (r : RunRecord) (fronts : List FrontTally) → fronts ≡ r.fronts → IsRead (past_of h) count → TellsRun h r fronts → IsHeldRun h r
 held_by h count r [] same read none = record {
   fronts = subst (λ (xs : List FrontTally). All (IsSentByFront h r) xs) same (All-nil (IsSentByFront h r));
-  got = subst (λ (fs : List FileRecord). All (λ f. among (segment h r.start) (places_got h 0) ≡ places_of (wanted_of h 65535 65535 r.start)) fs) (sym none) (All-nil (λ f. among (segment h r.start) (places_got h 0) ≡ places_of (wanted_of h 65535 65535 r.start)));
+  got = subst (λ (fs : List FileRecord). All (λ f. among (segment h r.start) (places_got h 0) ≡ places_of (wanted_of h any any r.start)) fs) (sym none) (All-nil (λ f. among (segment h r.start) (places_got h 0) ≡ places_of (wanted_of h any any r.start)));
   file = subst (λ (fs : List FileRecord). All (λ f. segment_file h r ≡ file_of r) fs) (sym none) (All-nil (λ f. segment_file h r ≡ file_of r));
 }
 held_by h count r (front ∷ fronts) same read told =
@@ -199,7 +200,7 @@ held_by h count r (front ∷ fronts) same read told =
     let held : IsHeld h r.start events = is_held h count r.start told.0.from events read told.0.done in
     let alone : r.fronts ≡ front ∷ [] = sym same ∙ ap (λ (xs : List FrontTally). front ∷ xs) told.1 in
     let sent : sent_in r.fronts ≡ front.sent = ap sent_in alone in
-    let said : events_of (wanted_of h 65535 65535 r.start) ≡ generated_events (order_of r) 1 0 (sent_in r.fronts) = held.wanted ∙ ap (λ (n : ℕ). generated_events (order_of r) 1 0 n) (sym sent) in
+    let said : events_of (wanted_of h any any r.start) ≡ generated_events (order_of r) 1 0 (sent_in r.fronts) = held.wanted ∙ ap (λ (n : ℕ). generated_events (order_of r) 1 0 n) (sym sent) in
     record {
       fronts = subst (λ (xs : List FrontTally). All (IsSentByFront h r) xs) (sym alone) (All-cons (IsSentByFront h r) front [] (record {
         sent = ap (λ (n : ℕ). sent_by h (caller_of_client n) r.start) told.0.client ∙ held.sent;

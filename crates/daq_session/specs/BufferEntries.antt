@@ -6,6 +6,7 @@ use Rattle.daq_types.specs.declared.runs.Kind.TheVariants.{All}
 use Rattle.daq_model.specs.Generator.{generated_events}
 use Rattle.daq_io.specs.declared.faults.Failed.{Failed}
 use Rattle.daq_types.specs.Callers.{caller_of_client}
+use Rattle.buffer_core.specs.Window.{any}
 use Rattle.buffer_core.specs.declared.replies.Received.TheVariants.{Got}
 use Rattle.buffer_core.specs.declared.entry.BufferEntry.{BufferEntry}
 use Rattle.buffer_core.specs.declared.entry.BufferEntry.TheVariants.{Attach, Request, SendInRun, Receive, Begin, End}
@@ -20,7 +21,7 @@ logger_caller = caller_of_client 1
 
 -- the logger attaches its client, number 0, under this name, and asks for all events
 abbrev pub opening_entries : (name : List ℕ) → List (ℕ × BufferEntry)
-opening_entries name = (logger_caller, Attach name (Ok 0)) ∷ (logger_caller, Request 0 65535 65535 All (Ok 0)) ∷ []
+opening_entries name = (logger_caller, Attach name (Ok 0)) ∷ (logger_caller, Request 0 any any All (Ok 0)) ∷ []
 
 -- a run begins at this place
 abbrev pub begin_entry : (start place : ℕ) → ℕ × BufferEntry

@@ -8,7 +8,7 @@ use Rattle.daq_model.specs.Generator.{generated_events}
 use Rattle.daq_io.specs.Seen.{Stored, stored_closed}
 use Rattle.buffer_core.specs.declared.entry.BufferEntry.{BufferEntry}
 use Rattle.buffer_core.specs.declared.entry.BufferEntry.TheVariants.{SendInRun}
-use Rattle.buffer_core.specs.Window.{Sent}
+use Rattle.buffer_core.specs.Window.{Sent, any}
 use Rattle.buffer_core.specs.Readers.{among, places_got, places_of, wanted}
 use Rattle.buffer_core.specs.Runs.{segment}
 use Rattle.session_console.specs.declared.records.BufferRecord.{BufferRecord}
@@ -36,14 +36,14 @@ events_of = map (λ e. e.1.event)
 
 -- the file that the history says of the run
 abbrev pub segment_file : List (ℕ × BufferEntry) → RunRecord → List ℕ
-segment_file h r = run_file r.run r.time0 [] (events_of (wanted_of h 65535 65535 r.start)) r.time1 []
+segment_file h r = run_file r.run r.time0 [] (events_of (wanted_of h any any r.start)) r.time1 []
 
 -- A file that the record names is closed and holds, between its records, the events between the run's marks that the
 -- channel's request wants; and of the places between the marks the channel's client got just those, in order. The
 -- channel asks for any id and mask, and its client has number 0.
 pub record HoldsSegment (h : List (ℕ × BufferEntry)) (at : List ℕ → Option Stored) (r : RunRecord) (f : FileRecord) : Type 0 where
   pub file : at f.name ≡ Some (stored_closed (segment_file h r))
-  pub got : among (segment h r.start) (places_got h 0) ≡ places_of (wanted_of h 65535 65535 r.start)
+  pub got : among (segment h r.start) (places_got h 0) ≡ places_of (wanted_of h any any r.start)
 
 -- What the front-end sent in the run are events 1 to n of its generator, in
 -- order, n the record's number; and nothing else stands between the run's marks.
@@ -55,7 +55,7 @@ pub record IsSentByFront (h : List (ℕ × BufferEntry)) (r : RunRecord) (front 
 -- history says is the one that the record says.
 pub record IsHeldRun (h : List (ℕ × BufferEntry)) (r : RunRecord) : Type 0 where
   pub fronts : All (IsSentByFront h r) r.fronts
-  pub got : All (λ f. among (segment h r.start) (places_got h 0) ≡ places_of (wanted_of h 65535 65535 r.start)) r.files
+  pub got : All (λ f. among (segment h r.start) (places_got h 0) ≡ places_of (wanted_of h any any r.start)) r.files
   pub file : All (λ f. segment_file h r ≡ file_of r) r.files
 
 -- so of each file that the record names, with the history of the buffer SYSTEM
