@@ -1,4 +1,4 @@
-use Rattle.std.proofs.Common.{◌∙◌, sym, ap, subst}
+use Rattle.std.proofs.Common.{◌∙◌, ap}
 use Rattle.daq_session.specs.BufferEntries.{opening_entries}
 use Rattle.daq_session.proofs.Passing.{opened}
 use Rattle.daq_session.proofs.data_path.system_port.Goals as goal
