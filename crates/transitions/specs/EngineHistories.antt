@@ -1,6 +1,7 @@
 -- Histories of the engine: its calls with their replies, each with the number of its caller, in order.
 use Rattle.std.specs.Prelude.{◌≡◌, ℕ, ◌≤◌, List, [], ◌∷◌, length, Option, Some, ⊤}
 use Rattle.std.specs.List.{AllByRecursion}
+use Rattle.daq_types.specs.Callers.{main_caller}
 use Rattle.daq_model.specs.Events.{record_limit}
 use Rattle.event_report.specs.Reports.{Totals, report_of}
 use Rattle.transitions.specs.declared.sheet.Sheet.{Sheet}
@@ -32,14 +33,14 @@ abbrev pub IsFairTurn : Polled → Type 0
 IsFairTurn (Turn t order dump blank) = IsShort dump × ((report : Totals) → blank ≡ Some report → IsBlank report)
 IsFairTurn polled = ⊤
 
--- The main thread is caller 0. It alone registers clients, begins transitions, checks them and closes the engine.
+-- The main thread alone registers clients, begins transitions, checks them and closes the engine.
 abbrev pub IsEngineCaller : ℕ → EngineEntry → Type 0
-IsEngineCaller by (Register name sequences dump report reply) = by ≡ 0
-IsEngineCaller by (Begin t sheet reply) = (by ≡ 0) × IsSheet sheet
+IsEngineCaller by (Register name sequences dump report reply) = by ≡ main_caller
+IsEngineCaller by (Begin t sheet reply) = (by ≡ main_caller) × IsSheet sheet
 IsEngineCaller by (Poll client reply) = ⊤
 IsEngineCaller by (Answer client answer reply) = ⊤
-IsEngineCaller by (Check reply tallies) = by ≡ 0
-IsEngineCaller by (Close reply) = by ≡ 0
+IsEngineCaller by (Check reply tallies) = by ≡ main_caller
+IsEngineCaller by (Close reply) = by ≡ main_caller
 
 -- the engine after all these calls
 abbrev pub engine_replay : EngineState → List (ℕ × EngineEntry) → EngineState
