@@ -8,6 +8,7 @@ ghost use Rattle.event_header.specs.Pieces.{GathersBody};
 use crate::head::{HEADER_BYTES, Header, write_header};
 use crate::pieces::read_full;
 use crate::room::{append_within, write_head};
+use crate::writer::DataWriter;
 use daq_io::{Failed, Source};
 use daq_types::NoMemory;
 use std::alloc::Global;
@@ -110,6 +111,20 @@ impl EventBuf {
         self.prepare(*header);
         let (_, body) = self.bytes.as_mut_slice().split_at_mut(HEADER_BYTES);
         read_full(source, body)
+    }
+
+    /// Takes the event with this header, in place of the one that it holds, and has its data written.
+    pub fn fill_with<S, W: DataWriter<S>>(&mut self, header: &Header, writer: &W, state: &mut S)
+        requires room { header.now.data_size ≤ self.old.room }
+        requires whole { length (W.gives writer.now) ≡ header.now.data_size }
+        ensures event { self.new ≡ record self.old { event = event_of header.now (W.gives writer.now) } }
+        ensures led { W.leads state.old state.new }
+    {
+        let given = *header;
+        self.header = given;
+        write_head(&mut self.bytes, header);
+        let (_, data) = self.bytes.as_mut_slice().split_at_mut(HEADER_BYTES);
+        writer.write(data, state);
     }
 
     /// The header of the event.

@@ -5,11 +5,13 @@ mod event_buf;
 mod head;
 mod pieces;
 mod room;
+mod writer;
 
 pub use event_buf::{EventBuf, TooSmall};
 pub use head::{HEADER_BYTES, Header, MAX_DATA, Short, read_header, slot_len, write_header};
 pub use pieces::read_full;
 pub use room::append_within;
+pub use writer::DataWriter;
 
 #[cfg(test)]
 mod tests;

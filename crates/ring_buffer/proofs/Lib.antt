@@ -1,0 +1,6 @@
+pub mod Fields
+pub mod Opening
+pub mod Walking
+pub mod Sending
+pub mod GivenEvents
+pub mod Clients

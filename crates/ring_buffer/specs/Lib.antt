@@ -1,0 +1,5 @@
+pub mod RingHolds
+pub mod Stored
+pub mod RingViews
+pub mod Walks
+pub mod Reads

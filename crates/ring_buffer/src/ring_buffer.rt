@@ -1,0 +1,167 @@
+ghost use Rattle.std.specs.Prelude.{◌≡◌, ◌≤◌, ◌+◌, ◌^◌, ℕ, length, drop, sum_by, IfOk, IfErr, OnOk, OnErr, Ok, Err};
+ghost use Rattle.daq_model.specs.Events.{slot_size, is_reserved, event_limit};
+ghost use Rattle.event_header.specs.Headers.{event_of};
+ghost use Rattle.buffer_core.specs.Window.{opening, accepted_of, slot_of_sent, IsWindow};
+ghost use Rattle.buffer_core.specs.Calls.{send_reply, after_send, gone_of};
+ghost use Rattle.ring_buffer.specs.Reads.{reads_of_send};
+
+use crate::search::find_way;
+use crate::slot::{FRONT, front_bytes_of};
+use crate::walk::{Owed, Position};
+use buffer_core::{RunGate, SendRefusal};
+use client_pointers::Pointers;
+use daq_types::Steps;
+use event_header::{Header, MAX_DATA, slot_len};
+use ring_bytes::Ring;
+use std::marker::Model;
+use std::sync::ledger::Ledger;
+
+/// The most bytes that all events of a buffer take together, whether still kept or not.
+const MAX_TOTAL: u64 = 1 << 62;
+
+/// An event buffer over the bytes of a ring. No call takes memory, so that the kept events have no other room.
+#[derive(Drop)]
+pub struct RingBuffer {
+    pub(crate) ring: Ring,
+    /// The place of the first kept event.
+    pub(crate) first: u64,
+    /// The offset of that.
+    pub(crate) off: u64,
+    /// How many events were ever accepted.
+    pub(crate) count: u64,
+    /// The offset of the next event.
+    pub(crate) total: u64,
+    pub(crate) clients: Pointers,
+    pub(crate) gate: RunGate,
+    pub(crate) last: u32,
+}
+
+impl Model for RingBuffer {
+    ghost use Rattle.buffer_core.specs.Window.{Window};
+
+    ghost Value = { Window };
+
+    ghost use Rattle.ring_buffer.specs.RingViews.{window_of, IsRingBuffer};
+
+    ghost view = { window_of };
+
+    ghost invariant = { IsRingBuffer };
+}
+
+/// Whether the id is one that no front-end may send: that of a run record or of a fragment.
+fn is_id_reserved(id: u16) -> bool
+    ensures { result ≡ is_reserved id }
+{
+    id == 0x8000 || id == 0x8001 || id / 4096 == 12 || id / 4096 == 13
+}
+
+impl RingBuffer {
+    /// A buffer over this ring, of its size, with no event and no client.
+    pub fn over(ring: Ring) -> RingBuffer
+        requires { 256 ≤ length ring }
+        ensures { result ≡ opening (length ring) }
+    {
+        RingBuffer {
+            ring,
+            first: 0,
+            off: 0,
+            count: 0,
+            total: 0,
+            clients: Pointers::new(),
+            gate: RunGate::Shut,
+            last: 0,
+        }
+    }
+
+    /// Where the kept events begin once there is room for this one, or why it is not taken.
+    fn way_for<L: Ledger>(
+        &self,
+        header: &Header,
+        body: &[u8],
+        steps: &mut Steps<L>,
+    ) -> Result<Position, SendRefusal>
+        ensures taken { OnOk result (send_reply self.now header.now.data_size (event_of header.now body.now) ≡ Ok (accepted_of self.now)) }
+        ensures refused { IfErr result (λ refusal. send_reply self.now header.now.data_size (event_of header.now body.now) ≡ Err refusal) }
+        ensures place { IfOk result (λ way. way.place ≡ self.now.first + gone_of self.now (event_of header.now body.now)) }
+        ensures level { IfOk result (λ way. way.off + sum_by slot_of_sent (drop (gone_of self.now (event_of header.now body.now)) self.now.kept) ≡ self.now.total) }
+        ensures stated { OnOk result (header.now.data_size ≡ length body.now) }
+        ensures small { OnOk result (length body.now ≤ event_limit) }
+        ensures fits { OnOk result (slot_size (event_of header.now body.now) ≤ self.now.size) }
+        ensures spent { OnOk result (self.now.total + slot_size (event_of header.now body.now) ≤ 2 ^ 62) }
+        ensures reads { OnOk result (steps.new ≤ steps.old + gone_of self.now (event_of header.now body.now)) }
+        ensures refused_reads { IfErr result (λ refusal. steps.new ≤ steps.old + reads_of_send self.now (event_of header.now body.now) (Err refusal)) }
+    {
+        if header.data_size as usize != body.len() || header.data_size > MAX_DATA {
+            return Err(SendRefusal::BadSize {
+                stated: header.data_size,
+                given: body.len() as u64,
+            });
+        }
+        if is_id_reserved(header.event_id) {
+            return Err(SendRefusal::ReservedId {
+                id: header.event_id,
+            });
+        }
+        let slot = slot_len(header.data_size);
+        let size = self.ring.size();
+        if slot > size {
+            return Err(SendRefusal::TooLarge { slot, size });
+        }
+        if self.total + u64::from(slot) > MAX_TOTAL {
+            return Err(SendRefusal::Spent { total: self.total });
+        }
+        let from = Position {
+            off: self.off,
+            place: self.first,
+        };
+        let end = Position {
+            off: self.total,
+            place: self.count,
+        };
+        match find_way(&self.ring, &self.clients, from, end, u64::from(slot), steps) {
+            Ok(way) => Ok(way),
+            Err(Owed { client, place }) => Err(SendRefusal::Full { client, place }),
+        }
+    }
+
+    /// Drops the events in front of this position and takes this one, of the run with this start number.
+    fn admit(&mut self, way: Position, start: u32, header: &Header, body: &[u8])
+        requires place { way.place ≡ self.old.first + gone_of self.old (event_of header.now body.now) }
+        requires level { way.off + sum_by slot_of_sent (drop (gone_of self.old (event_of header.now body.now)) self.old.kept) ≡ self.old.total }
+        requires stated { header.now.data_size ≡ length body.now }
+        requires small { length body.now ≤ event_limit }
+        requires fits { slot_size (event_of header.now body.now) ≤ self.old.size }
+        requires spent { self.old.total + slot_size (event_of header.now body.now) ≤ 2 ^ 62 }
+        requires window { IsWindow self.old → IsWindow (after_send self.old start (event_of header.now body.now)) }
+        ensures { self.new ≡ after_send self.old start (event_of header.now body.now) }
+    {
+        let front = front_bytes_of(start, header);
+        self.ring.put_at(self.total, &front);
+        self.ring.put_at(self.total + FRONT as u64, body);
+        self.first = way.place;
+        self.off = way.off;
+        self.count += 1;
+        self.total += u64::from(slot_len(header.data_size));
+        self.clients.push(way.off, way.place);
+    }
+
+    /// Takes the event, of the run with this start number, where there is room for it.
+    pub(crate) fn put<L: Ledger>(
+        &mut self,
+        start: u32,
+        header: &Header,
+        body: &[u8],
+        steps: &mut Steps<L>,
+    ) -> Result<u64, SendRefusal>
+        requires window { IsWindow self.old → (n : ℕ) → send_reply self.old header.now.data_size (event_of header.now body.now) ≡ Ok n → IsWindow (after_send self.old start (event_of header.now body.now)) }
+        ensures reply { result ≡ send_reply self.old header.now.data_size (event_of header.now body.now) }
+        ensures ok { OnOk result (self.new ≡ after_send self.old start (event_of header.now body.now)) }
+        ensures err { OnErr result (self.new ≡ self.old) }
+        ensures reads { steps.new ≤ steps.old + reads_of_send self.old (event_of header.now body.now) result }
+    {
+        let way = self.way_for(header, body, steps)?;
+        let place = self.count;
+        self.admit(way, start, header, body);
+        Ok(place)
+    }
+}
