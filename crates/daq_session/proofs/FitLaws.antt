@@ -16,9 +16,9 @@ use Rattle.odb_runinfo.specs.declared.keys.RunKey.TheVariants.{RunNumber as numb
 use Rattle.odb_runinfo.specs.declared.sets.RunNumber.{RunNumber as NoNext}
 use Rattle.odb_runinfo.specs.RunKeys.{key_path, session_rows}
 use Rattle.odb_runinfo.specs.RunNumberKept.{AllSpareRuninfo}
-use Rattle.odb_runinfo.specs.NumberKept.{number_stays, number_given, number_read, number_opens}
-use Rattle.odb_runinfo.specs.RunSetLaws.{before_next}
-use Rattle.odb_runinfo.specs.RunSetLaws.{assignments_append, assignments_spare, front_spares, number_spares}
+use Rattle.odb_runinfo.proofs.NumberKept.{number_stays, number_given, number_read, number_opens}
+use Rattle.odb_runinfo.proofs.RunSetLaws.{before_next}
+use Rattle.odb_runinfo.proofs.RunSetLaws.{assignments_append, assignments_spare, front_spares, number_spares}
 use Rattle.odb_runinfo.specs.RunSets.{Assignment, assignments, front_made, have_of, next_run, number_got, start_sets, started_sets, refused_sets, stopping_sets, stopped_sets}
 use Rattle.odb_script.specs.declared.forms.Command.{Command}
 use Rattle.odb_script.specs.declared.forms.Command.TheVariants.{Nothing, Events, Start, Stop, Create, CreateDir, Set, Get, List as Ls, Remove, Exit}
@@ -79,7 +79,7 @@ on_more h more (Some order) fits = starts_on h more _ _ _ fits
 -- the first calls of a legal history
 legal_first : (s : Rows) (h more : List (ℕ × DatabaseEntry)) → IsLegal s (h ++ more) → IsLegal s h
 legal_first s [] more legal = tt
-legal_first s (e ∷ es) more legal = (legal.0, legal.1, legal_first (rows_after s e.1) es more legal.2)
+legal_first s (e ∷ es) more legal = (legal.0, legal_first (rows_after s e.1) es more legal.1)
 
 spare_append : (h more : List (ℕ × DatabaseEntry)) → AllSpareRuninfo h → AllSpareRuninfo more → AllSpareRuninfo (h ++ more)
 spare_append [] more first rest = rest

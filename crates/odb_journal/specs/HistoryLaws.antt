@@ -5,7 +5,8 @@ use Rattle.std.proofs.lemmas.List.{append-nil, map-append}
 use Rattle.odb_tree.specs.declared.entry.DatabaseEntry.{DatabaseEntry}
 use Rattle.odb_tree.specs.Rows.{Rows}
 use Rattle.odb_tree.specs.Calls.{IsReply, rows_after}
-use Rattle.odb_tree.specs.Histories.{IsCaller, IsLegal, replay}
+use Rattle.odb_tree.specs.Histories.{IsCaller, IsLegalCall, IsLegal, replay}
+use Rattle.odb_tree.specs.Databases.{IsSoundCall}
 use Rattle.odb_journal.specs.Noted.{Noted, IsNoted, Does, KeepsCalls, Grows, GoesOn, by_main}
 
 -- one call more at the end
@@ -13,9 +14,9 @@ pub replay-push : (s : Rows) (h : List (ℕ × DatabaseEntry)) (by : ℕ) (e : D
 replay-push s [] by e = refl
 replay-push s (x ∷ h) by e = replay-push (rows_after s x.1) h by e
 
-pub legal_push : (s : Rows) (h : List (ℕ × DatabaseEntry)) (by : ℕ) (e : DatabaseEntry) → IsLegal s h → IsCaller by e → IsReply (replay s h) e → IsLegal s (h ++ (by, e) ∷ [])
-legal_push s [] by e legal caller reply = (caller, reply, tt)
-legal_push s (x ∷ h) by e legal caller reply = (legal.0, legal.1, legal_push (rows_after s x.1) h by e legal.2 caller reply)
+pub legal_push : (s : Rows) (h : List (ℕ × DatabaseEntry)) (by : ℕ) (e : DatabaseEntry) → IsLegal s h → IsLegalCall (replay s h) by e → IsLegal s (h ++ (by, e) ∷ [])
+legal_push s [] by e legal call = (call, tt)
+legal_push s (x ∷ h) by e legal call = (legal.0, legal_push (rows_after s x.1) h by e legal.1 call)
 
 -- the calls of two histories, one behind the other
 pub replay-append : (s : Rows) (h more : List (ℕ × DatabaseEntry)) → replay s (h ++ more) ≡ replay (replay s h) more
@@ -23,12 +24,13 @@ replay-append s [] more = refl
 replay-append s (x ∷ h) more = replay-append (rows_after s x.1) h more
 
 -- a journal with one call more
-pub noted_next : (p q : Noted) (by : ℕ) (e : DatabaseEntry) → IsNoted p → IsCaller by e → IsReply p.rows e → q.rows ≡ rows_after p.rows e → q.history ≡ p.history ++ (by, e) ∷ [] → q.start ≡ p.start → IsNoted q
-noted_next p q by e is caller reply after grown start =
+pub noted_next : (p q : Noted) (by : ℕ) (e : DatabaseEntry) → IsNoted p → IsCaller by e → IsSoundCall e → IsReply p.rows e → q.rows ≡ rows_after p.rows e → q.history ≡ p.history ++ (by, e) ∷ [] → q.start ≡ p.start → IsNoted q
+noted_next p q by e is caller sound reply after grown start =
     let at : IsReply (replay p.start p.history) e = subst (λ (s : Rows). IsReply s e) is.replayed reply in
-    let legal : IsLegal p.start (p.history ++ (by, e) ∷ []) = legal_push p.start p.history by e is.legal caller at in
+    let legal : IsLegal p.start (p.history ++ (by, e) ∷ []) = legal_push p.start p.history by e is.legal (record { may = caller; sound = sound; reply = at }) in
     let replayed : q.rows ≡ replay p.start (p.history ++ (by, e) ∷ []) = after ∙ ap (λ (s : Rows). rows_after s e) is.replayed ∙ sym (replay-push p.start p.history by e) in
     record {
+      database = rw start is.database;
       legal = rw start (rw grown legal);
       replayed = rw start (rw grown replayed);
     }

@@ -3,6 +3,7 @@ use Rattle.std.specs.Prelude.{◌≡◌, ℕ, ◌+◌, ◌≤◌, List, [], ◌�
 use Rattle.odb_tree.specs.declared.entry.DatabaseEntry.{DatabaseEntry}
 use Rattle.odb_tree.specs.Rows.{Rows}
 use Rattle.odb_tree.specs.Calls.{IsReply, rows_after}
+use Rattle.odb_tree.specs.Databases.{IsDatabase}
 use Rattle.odb_tree.specs.Histories.{IsLegal, replay}
 
 -- the rows at first, and the rows now; the calls since, each with the number of its caller; and room for so many calls
@@ -13,8 +14,9 @@ pub record Noted : Type 0 where
   pub history : List (ℕ × DatabaseEntry)
   pub room : ℕ
 
--- the history is one of the database, and led to its rows
+-- at first the rows were those of a database, and the history is legal and led to the rows now
 pub record IsNoted (n : Noted) : Type 0 where
+  pub database : IsDatabase n.start
   pub legal : IsLegal n.start n.history
   pub replayed : n.rows ≡ replay n.start n.history
 

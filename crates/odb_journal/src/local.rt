@@ -1,6 +1,10 @@
-ghost use Rattle.std.specs.Prelude.{◌≡◌, ◌≤◌, [], OnOk, IfOk, IfErr, Ok, Err};
+ghost use Rattle.std.specs.Prelude.{◌≡◌, ◌≢◌, ◌≤◌, [], OnOk, IfOk, IfErr, Ok, Err};
+ghost use Rattle.daq_types.specs.declared.types.Tid.{Tid};
+ghost use Rattle.odb_value.specs.Items.{tid_of};
+ghost use Rattle.odb_tree.specs.declared.refusals.OdbRefusal.TheVariants.{NoMemory as no_memory};
 ghost use Rattle.odb_tree.specs.declared.entry.DatabaseEntry.TheVariants.{Create, Set, SetAll, Get, Find, ListDir, Delete, Resize, PathOf};
 ghost use Rattle.odb_tree.specs.Calls.{IsReply};
+ghost use Rattle.odb_tree.specs.Databases.{IsDatabase};
 ghost use Rattle.odb_tree.specs.Histories.{IsLegal, replay};
 ghost use Rattle.odb_journal.specs.Noted.{Does, KeepsCalls};
 
@@ -97,6 +101,8 @@ impl<D: Database> LocalDatabase<D> {
         ensures rows { result.rows ≡ D.rows database }
         ensures history { result.history ≡ [] }
     {
+        // The look-up tells that the rows are those of a database.
+        let _ = database.find(&Path::root(alloc));
         let start = Snapshot::of(&database);
         LocalDatabase {
             start,
@@ -118,6 +124,7 @@ impl<D: Database> LocalDatabase<D> {
     pub fn into_parts(self) -> (D, Journal<(u32, DatabaseEntry)>)
         ensures rows { D.rows result.0 ≡ self.rows }
         ensures history { result.1 ≡ self.history }
+        ensures database { IsDatabase self.start }
         ensures legal { IsLegal self.start self.history }
         ensures replayed { self.rows ≡ replay self.start self.history }
     {
@@ -135,6 +142,7 @@ impl<D: Database> LocalDatabase<D> {
         requires room { 1 ≤ self.old.room }
         ensures did { Does self.old self.new 0 (Create path kind result) }
     {
+        let _ = path.names();
         let reply = self.database.create(alloc, &path, kind);
         let entry = DatabaseEntry::Create { path, kind, reply };
         self.entries.push_reserved((0, entry));
@@ -152,7 +160,10 @@ impl<D: Database> LocalDatabase<D> {
     ) -> Result<u32, OdbRefusal>
         requires room { 1 ≤ self.old.room }
         ensures did { Does self.old self.new caller (Set path index item result) }
+        ensures memory { result ≡ Err no_memory → tid_of item ≡ Tid.Text }
     {
+        let _ = path.names();
+        let _ = item.tid();
         let reply = self.database.set(alloc, &path, index, &item);
         let entry = DatabaseEntry::Set {
             path,
@@ -169,6 +180,8 @@ impl<D: Database> LocalDatabase<D> {
         requires room { 1 ≤ self.old.room }
         ensures did { Does self.old self.new 0 (SetAll path value result) }
     {
+        let _ = path.names();
+        let _ = value.tid();
         let reply = self.database.set_all(alloc, &path, &value);
         let entry = DatabaseEntry::SetAll { path, value, reply };
         self.entries.push_reserved((0, entry));
@@ -180,6 +193,7 @@ impl<D: Database> LocalDatabase<D> {
         requires room { 1 ≤ self.old.room }
         ensures did { Does self.old self.new caller (Get path result) }
     {
+        let _ = path.names();
         match get_twice(alloc, &self.database, &path) {
             Ok((value, copy)) => {
                 let reply = Ok(copy);
@@ -200,7 +214,9 @@ impl<D: Database> LocalDatabase<D> {
     pub fn find(&mut self, caller: u32, path: Path) -> Result<u32, OdbRefusal>
         requires room { 1 ≤ self.old.room }
         ensures did { Does self.old self.new caller (Find path result) }
+        ensures memory { result ≢ Err no_memory }
     {
+        let _ = path.names();
         let reply = self.database.find(&path);
         let entry = DatabaseEntry::Find { path, reply };
         self.entries.push_reserved((caller, entry));
@@ -212,6 +228,7 @@ impl<D: Database> LocalDatabase<D> {
         requires room { 1 ≤ self.old.room }
         ensures did { Does self.old self.new caller (ListDir path result) }
     {
+        let _ = path.names();
         match list_twice(alloc, &self.database, &path) {
             Ok((children, copy)) => {
                 let reply = Ok(copy);
@@ -232,7 +249,9 @@ impl<D: Database> LocalDatabase<D> {
     pub fn delete(&mut self, path: Path) -> Result<u32, OdbRefusal>
         requires room { 1 ≤ self.old.room }
         ensures did { Does self.old self.new 0 (Delete path result) }
+        ensures memory { result ≢ Err no_memory }
     {
+        let _ = path.names();
         let reply = self.database.delete(&path);
         let entry = DatabaseEntry::Delete { path, reply };
         self.entries.push_reserved((0, entry));
@@ -244,6 +263,7 @@ impl<D: Database> LocalDatabase<D> {
         requires room { 1 ≤ self.old.room }
         ensures did { Does self.old self.new 0 (Resize path len result) }
     {
+        let _ = path.names();
         let reply = self.database.resize(alloc, &path, len);
         let entry = DatabaseEntry::Resize { path, len, reply };
         self.entries.push_reserved((0, entry));

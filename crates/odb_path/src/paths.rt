@@ -1,5 +1,5 @@
 ghost use Rattle.std.specs.Prelude.{◌≡◌, ◌≢◌, ◌+◌, ◌-◌, ◌*◌, ◌<◌, ◌≤◌, ◌∷◌, ◌++◌, [], ℕ, IfOk, IfErr, OnOk, OnErr, IfSome, None, Some, length, take, drop, position, ◌==◌};
-ghost use Rattle.odb_path.specs.Paths.{depth_limit};
+ghost use Rattle.odb_path.specs.Paths.{depth_limit, IsPath};
 ghost use Rattle.odb_path.specs.PathText.{behind_slash, name_fault, add_fault, path_reply, Gives};
 ghost use Rattle.odb_path.specs.declared.refusals.PathRefusal.TheVariants.{NoMemory as no_memory};
 
@@ -12,21 +12,21 @@ use std::marker::Model;
 pub const MAX_DEPTH: usize = 32;
 
 /// A path of the online database: the names of the directories from the root down, and of the key. The root has no
-/// name. A path has at most 32 names.
+/// name. A path has at most 32 names, each by the rule of names.
 #[derive(Debug, Drop)]
 pub struct Path {
     names: Vec<Name>,
 }
 
 impl Model for Path {
-    ghost use Rattle.std.specs.Prelude.{◌≤◌, List, ℕ, length};
-    ghost use Rattle.odb_path.specs.Paths.{depth_limit};
+    ghost use Rattle.std.specs.Prelude.{List, ℕ};
+    ghost use Rattle.odb_path.specs.Paths.{IsPath};
 
     ghost Value = { List (List ℕ) };
 
     ghost view = { λ p. p.names.items };
 
-    ghost invariant = { λ p. length p.names.items ≤ depth_limit };
+    ghost invariant = { λ p. IsPath p.names.items };
 }
 
 /// The text behind a first slash, which may be absent.
@@ -91,8 +91,13 @@ impl Path {
         requires { length names.now ≤ depth_limit }
         ensures { IfOk result (λ path. path ≡ names.now) }
     {
-        let names = Vec::from_slice(alloc, names)?;
-        Ok(Path { names })
+        let mut path = Path {
+            names: Vec::with_capacity(alloc, names.len())?,
+        };
+        for name in names {
+            path.push(*name)?;
+        }
+        Ok(path)
     }
 
     /// The path of a text: names between slashes, where a first slash may be absent; a slash alone and the empty text
@@ -132,7 +137,7 @@ impl Path {
         if depth >= MAX_DEPTH {
             return Err(PathRefusal::TooDeep);
         }
-        self.names.push(name)?;
+        self.push(name)?;
         Ok(())
     }
 
@@ -142,6 +147,7 @@ impl Path {
         ensures ok { OnOk result (self.new ≡ self.old ++ name ∷ []) }
         ensures err { OnErr result (self.new ≡ self.old) }
     {
+        let _ = name.as_slice();
         self.names.push(name)?;
         Ok(())
     }
@@ -149,7 +155,7 @@ impl Path {
     /// The names, from the root down.
     pub fn names(&self) -> &[Name]
         ensures names { result.now ≡ self.now }
-        ensures depth { length self.now ≤ depth_limit }
+        ensures is_path { IsPath self.now }
     {
         self.names.as_slice()
     }

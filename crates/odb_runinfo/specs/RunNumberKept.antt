@@ -7,7 +7,7 @@ use Rattle.odb_value.specs.declared.items.Item.TheVariants.{Int32}
 use Rattle.odb_value.specs.Values.{Held}
 use Rattle.odb_tree.specs.declared.rows.Row.{Row}
 use Rattle.odb_tree.specs.declared.entry.DatabaseEntry.{DatabaseEntry}
-use Rattle.odb_tree.specs.declared.entry.DatabaseEntry.TheVariants.{SetAll, Delete}
+use Rattle.odb_tree.specs.declared.entry.DatabaseEntry.TheVariants.{Delete}
 use Rattle.odb_tree.specs.Rows.{row_at}
 use Rattle.odb_runinfo.specs.declared.keys.RunKey.TheVariants.{RunNumber}
 use Rattle.odb_runinfo.specs.RunKeys.{key_path}
@@ -38,9 +38,8 @@ abbrev pub StandsApart : List (List ℕ) → Type 0
 StandsApart [] = ⊥
 StandsApart (name ∷ names) = same_name name (codes "Runinfo") ≡ false
 
--- a call as a session makes it without `load`: it replaces no whole value, and removes nothing below `/Runinfo`
+-- a call as a session makes it: it removes nothing below `/Runinfo`
 abbrev pub SparesRuninfo : DatabaseEntry → Type 0
-SparesRuninfo (SetAll p v reply) = ⊥
 SparesRuninfo (Delete p reply) = StandsApart p
 SparesRuninfo entry = Unit {0}
 

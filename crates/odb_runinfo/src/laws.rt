@@ -1,5 +1,5 @@
-//! The run number is there throughout a session, and its database stays a tree.
-ghost use Rattle.odb_tree.specs.Trees.{IsTree};
+//! The run number is there throughout a session, and its database stays one.
+ghost use Rattle.odb_tree.specs.Databases.{IsDatabase};
 ghost use Rattle.std.specs.Prelude.{◌≡◌, ℕ, List, ◌++◌, Ok};
 ghost use Rattle.odb_tree.specs.declared.entry.DatabaseEntry.{DatabaseEntry};
 ghost use Rattle.odb_tree.specs.Rows.{Rows};
@@ -10,8 +10,7 @@ ghost use Rattle.odb_runinfo.specs.RunKeys.{key_path, session_rows};
 ghost use Rattle.odb_runinfo.specs.RunNumberKept.{AllSpareRuninfo, HasRunNumber};
 ghost use Rattle.odb_runinfo.specs.RunSets.{Assignment, assignments, front_made, have_of, number_got};
 
-/// After any legal calls that replace no whole value and remove nothing below `/Runinfo`, the run number is there, an
-/// INT32 with an item 0.
+/// After any legal calls that remove nothing below `/Runinfo`, the run number is there, an INT32 with an item 0.
 pub fn run_number_stays()
     ensures { (s : Rows) (h : List (ℕ × DatabaseEntry)) → IsLegal s h → AllSpareRuninfo h → HasRunNumber s.rows → HasRunNumber (replay s h).rows }
 {}
@@ -27,13 +26,13 @@ pub fn run_number_given()
     ensures value { (s : Rows) (has : HasRunNumber s.rows) → get_reply s (key_path RunNumber) ≡ Ok has.held }
 {}
 
-/// The database with which a session opens is a tree, and each legal history of calls keeps a tree.
-pub fn tree_opens()
-    ensures opens { IsTree session_rows }
-    ensures stays { (history : List (ℕ × DatabaseEntry)) → IsLegal session_rows history → IsTree (replay session_rows history) }
+/// The rows with which a session opens are those of a database, and so are they after each legal history of calls.
+pub fn database_opens()
+    ensures opens { IsDatabase session_rows }
+    ensures stays { (history : List (ℕ × DatabaseEntry)) → IsLegal session_rows history → IsDatabase (replay session_rows history) }
 {}
 
-/// The session's own calls replace no whole value and remove nothing below `/Runinfo`.
+/// The session's own calls remove nothing below `/Runinfo`.
 pub fn own_calls_spare()
     ensures sets { (s : Rows) (sets : List Assignment) → AllSpareRuninfo (assignments s sets) }
     ensures front { (s : Rows) (front : List ℕ) → AllSpareRuninfo (front_made s front) }

@@ -11,6 +11,7 @@ use Rattle.odb_path.specs.Paths.{is_front}
 use Rattle.odb_value.specs.declared.items.Item.{Item}
 use Rattle.odb_value.specs.declared.items.Item.TheVariants.{Text}
 use Rattle.odb_value.specs.Items.{tid_of}
+use Rattle.odb_value.specs.ItemTexts.{text_limit}
 use Rattle.odb_value.specs.Values.{Held, IsShorter, size_limit}
 use Rattle.odb_tree.specs.declared.rows.Row.{Row}
 use Rattle.odb_tree.specs.declared.rows.NewKey.{NewKey}
@@ -18,10 +19,10 @@ use Rattle.odb_tree.specs.declared.refusals.OdbRefusal.{OdbRefusal}
 use Rattle.odb_tree.specs.declared.refusals.OdbRefusal.TheVariants.{TypeMismatch, BadIndex}
 use Rattle.odb_tree.specs.declared.refusals.What.TheVariants.{Size}
 use Rattle.odb_tree.specs.Rows.{Rows, row_at, bytes_of_row, total_of, rows_outside}
-use Rattle.odb_tree.specs.Limits.{IsWithin, text_fault, text_limit, limit_fault}
+use Rattle.odb_tree.specs.Limits.{IsWithin, text_fault, limit_fault}
 use Rattle.odb_tree.specs.Lookups.{obstacle_to, obstacle_to_new, found_row, key_of, key_found, seek_key}
 use Rattle.odb_tree.specs.Changes.{CanPut, IsKeyAt}
-use Rattle.odb_tree.specs.Calls.{set_fault, set_all_fault, after_set, after_set_all, type_fault, index_fault, value_fault, create_fault, exists_fault, kept_fault, items_fault, after_create}
+use Rattle.odb_tree.specs.Calls.{set_fault, set_all_fault, after_set, after_set_all, type_fault, index_fault, value_fault, tid_fault, there_fault, own_fault, create_fault, exists_fault, kept_fault, items_fault, after_create}
 use Rattle.odb_tree.proofs.Limited.{or_none_left, or_none_right, own_none, within}
 
 -- create
@@ -117,7 +118,7 @@ if_not : {X : Type 0} (t : Bool) (x : X) → cond t (Some x) None ≡ None → t
 if_not true x h = absurd (cc)
 if_not false x h = refl
 
-types_agree : (have given : Tid) → type_fault have given ≡ None → given ≡ have
+pub types_agree : (have given : Tid) → type_fault have given ≡ None → given ≡ have
 types_agree have given h = sym (same_tid have given (grind (arith, nat_tests, unless_not (eqb (tid_code have) (tid_code given)) (TypeMismatch have) h)))
 
 index_inside : (len index : ℕ) → index_fault len index ≡ None → index < len
@@ -163,4 +164,5 @@ can_put_there rows p index item given v at h is row there w held =
 pub set_all_within : (s : Rows) (p : List (List ℕ)) (v : Held) (r : Option OdbRefusal) → r ≡ set_all_fault s p v → r ≡ None → IsWithin (after_set_all s p v)
 set_all_within s p v r is none =
     let whole : set_all_fault s p v ≡ None = sym is ∙ none in
-    within None (after_set_all s p v) (or_none_right (value_fault s.rows p v.tid) _ (or_none_right (obstacle_to_new s.rows p) _ whole))
+    within (own_fault v) (after_set_all s p v)
+    (or_none_right (there_fault v.tid (row_at s.rows p)) _ (or_none_right (tid_fault v.tid) _ (or_none_right (value_fault s.rows p) _ (or_none_right (obstacle_to_new s.rows p) _ whole))))

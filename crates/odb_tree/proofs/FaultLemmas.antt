@@ -1,23 +1,29 @@
 -- The faults of calls, from what the code finds.
-use Rattle.std.proofs.Common.{◌≡◌, ℕ, ◌+◌, ◌-◌, ◌*◌, ◌≤◌, ◌^◌, false, eqb, List, [], ◌∷◌, ◌++◌, length, replicate, Option, Some, None, refl, sym, ap, ◌∙◌, subst, arith}
-use Rattle.std.specs.Option.{option_or, option_map}
+use Rattle.std.proofs.Common.{◌≡◌, ℕ, ◌+◌, ◌-◌, ◌*◌, ◌≤◌, ◌^◌, Bool, false, cond, eqb, List, [], ◌∷◌, ◌++◌, length, replicate, Option, Some, None, refl, sym, ap, ◌∙◌, subst, arith}
+use Rattle.std.specs.Prelude.{All, IsTrue}
+use Rattle.std.specs.Option.{option_or, option_map, is_some}
+use Rattle.std.proofs.lemmas.Bool.Decides.{nat_tests}
+use Rattle.std.proofs.lemmas.List.Elements.{All-head, All-tail}
 use Rattle.std.proofs.lemmas.List.{length-append, length-take, length-replicate, length-set}
 use Rattle.daq_types.specs.declared.types.Tid.{Tid}
 use Rattle.odb_value.specs.declared.items.Item.{Item}
-use Rattle.odb_value.specs.Items.{tid_of}
-use Rattle.odb_value.specs.Values.{Held, IsValue, items_limit}
+use Rattle.odb_value.specs.declared.items.Item.TheVariants.{Text}
+use Rattle.odb_value.specs.Items.{tid_of, is_kept, IsItem}
+use Rattle.odb_value.specs.ItemTexts.{text_limit}
+use Rattle.odb_value.specs.Values.{Held, IsValue, IsSizeOf, IsShorter, items_limit}
+use Rattle.odb_value.proofs.ValueKept.{is_kept-value}
 use Rattle.odb_value.specs.ValueChanges.{put_in, resized, raised, default_item}
 use Rattle.odb_tree.specs.declared.rows.Row.{Row}
 use Rattle.odb_tree.specs.declared.rows.NewKey.{NewKey}
 use Rattle.odb_tree.specs.declared.refusals.OdbRefusal.{OdbRefusal}
-use Rattle.odb_tree.specs.declared.refusals.OdbRefusal.TheVariants.{Limit}
+use Rattle.odb_tree.specs.declared.refusals.OdbRefusal.TheVariants.{Limit, NotKept, NotValue}
 use Rattle.odb_tree.specs.declared.refusals.What.{What}
 use Rattle.odb_tree.specs.Rows.{Rows, row_at, change_at, bytes_of, bytes_in, total_of}
-use Rattle.odb_tree.specs.Limits.{IsWithin, passed, len_fault, text_fault, limit_fault}
+use Rattle.odb_tree.specs.Limits.{IsWithin, passed, len_fault, text_fault, texts_fault, limit_fault}
 use Rattle.odb_tree.specs.Lookups.{parent_of, obstacle_to_new}
 use Rattle.odb_tree.specs.Making.{created, missing_from}
 use Rattle.odb_tree.specs.Changes.{IsKeyAt}
-use Rattle.odb_tree.specs.Calls.{set_fault, set_all_fault, after_set, after_set_all, after_resize, after_set_all_at, type_fault, index_fault, value_fault, there_fault, replace_fault, create_fault, exists_fault, kept_fault, items_fault, after_create}
+use Rattle.odb_tree.specs.Calls.{set_fault, set_all_fault, after_set, after_set_all, after_resize, after_set_all_at, type_fault, index_fault, value_fault, directory_fault, tid_fault, there_fault, replace_fault, own_fault, create_fault, exists_fault, kept_fault, items_fault, after_create}
 use Rattle.odb_tree.proofs.Limited.{new_counts, change_counts, fault_same}
 
 -- of an `option_or` whose first is nothing the second is left
@@ -82,33 +88,63 @@ set_is s p v index item had bytes len size h value k e r b =
 
 -- set_all
 
-named_value : (rows : List Row) (p : List (List ℕ)) (given : Tid) → eqb (length p) 0 ≡ false → value_fault rows p given ≡ there_fault given (row_at rows p)
-named_value rows [] given h = absurd (cc)
-named_value rows (name ∷ names) given h = refl
+named_value : (rows : List Row) (p : List (List ℕ)) → eqb (length p) 0 ≡ false → value_fault rows p ≡ directory_fault (row_at rows p)
+named_value rows [] h = absurd (cc)
+named_value rows (name ∷ names) h = refl
+
+of_kept : (type : Tid) → IsTrue (is_kept type) → tid_fault type ≡ None
+of_kept type h = ap (λ (t : Bool). cond t None (Some (NotKept type))) h
+
+-- a text of a value is not too long
+short_text : (type : Tid) (size : ℕ) (item : Item) → IsSizeOf type size → IsItem type item → IsShorter size item → text_fault item ≡ None
+short_text type size (Text bytes) fits is short = not_long bytes (omega (arith, subst (λ (t : Tid). IsSizeOf t size) (sym is.tid) fits, short))
+  where
+    not_long : (bytes : List ℕ) → length bytes ≤ text_limit → text_fault (Text bytes) ≡ None
+    not_long bytes h = grind (arith, nat_tests, h)
+short_text type size _ fits is short = refl
+
+short_texts : (type : Tid) (size : ℕ) (items : List Item) → IsSizeOf type size → All (IsItem type) items → All (IsShorter size) items → texts_fault items ≡ None
+short_texts type size [] fits are short = refl
+short_texts type size (item ∷ items) fits are short =
+    rw (short_text type size item fits (All-head (IsItem type) item items are) (All-head (IsShorter size) item items short))
+    (short_texts type size items fits (All-tail (IsItem type) item items are) (All-tail (IsShorter size) item items short))
+
+-- of a value nothing is wrong with its type and its items
+own_right : (v : Held) → IsValue v → own_fault v ≡ None
+own_right v h = rw (len_right (length v.items) h.some h.many) (short_texts v.tid v.size v.items h.size h.of_type h.shorter)
+
+pub tid_right : (v : Held) → IsValue v → tid_fault v.tid ≡ None
+tid_right v h = of_kept v.tid (is_kept-value v h)
+
+all_clear : (a b c type : Option OdbRefusal) (own : Option What) (after s : Rows) → a ≡ None → b ≡ None → c ≡ type → own ≡ None → after ≡ s
+    → option_or a (option_or b (option_or c (limit_fault own after))) ≡ option_or type (limit_fault None s)
+all_clear a b c type own after s ea eb ec eo es = rw (ea, eb, ec, eo, es) refl
 
 -- a new key
-pub set_all_new : (s : Rows) (p : List (List ℕ)) (v : Held) (obstacle r : Option OdbRefusal) → eqb (length p) 0 ≡ false → row_at s.rows p ≡ None
+pub set_all_new : (s : Rows) (p : List (List ℕ)) (v : Held) (obstacle r : Option OdbRefusal) → eqb (length p) 0 ≡ false → row_at s.rows p ≡ None → IsValue v
     → obstacle ≡ obstacle_to_new s.rows p → ((x : OdbRefusal) → obstacle ≡ Some x → ⊥) → r ≡ limit_fault None (created s p (Some v)) → r ≡ set_all_fault s p v
-set_all_new s p v obstacle r named missing is free fault =
-    let value : value_fault s.rows p v.tid ≡ None = named_value s.rows p v.tid named ∙ ap (there_fault v.tid) missing in
-    let after : after_set_all s p v ≡ created s p (Some v) = ap (λ (o : Option Row). after_set_all_at s p v o) missing in
+set_all_new s p v obstacle r named missing sound is free fault =
     or_next obstacle (limit_fault None (created s p (Some v))) r free fault
     ∙ (ap (λ (o : Option OdbRefusal). option_or o (limit_fault None (created s p (Some v)))) is
-    ∙ (ap (λ (o : Option OdbRefusal). option_or (obstacle_to_new s.rows p) (option_or o (limit_fault None (created s p (Some v))))) (sym value)
-    ∙ ap (λ (a : Rows). option_or (obstacle_to_new s.rows p) (option_or (value_fault s.rows p v.tid) (limit_fault None a))) (sym after)))
+    ∙ ap (λ (o : Option OdbRefusal). option_or (obstacle_to_new s.rows p) o)
+    (sym (all_clear (value_fault s.rows p) (tid_fault v.tid) (there_fault v.tid (row_at s.rows p)) None (own_fault v) (after_set_all s p v) (created s p (Some v))
+    (named_value s.rows p named ∙ ap directory_fault missing) (tid_right v sound) (ap (there_fault v.tid) missing) (own_right v sound) (ap (after_set_all_at s p v) missing))))
+
+no_directory : (row : Row) (v : Held) → row.value ≡ Some v → directory_fault (Some row) ≡ None
+no_directory row v h = ap (λ (o : Option Held). cond (is_some o) None (Some NotValue)) h
 
 -- a key that is there
 pub set_all_there : (s : Rows) (p : List (List ℕ)) (v had : Held) (row : Row) (obstacle type r : Option OdbRefusal) → eqb (length p) 0 ≡ false → row_at s.rows p ≡ Some row → row.value ≡ Some had
-    → obstacle ≡ obstacle_to_new s.rows p → ((x : OdbRefusal) → obstacle ≡ Some x → ⊥) → type ≡ type_fault had.tid v.tid → ((x : OdbRefusal) → type ≡ Some x → ⊥)
-    → r ≡ limit_fault None (record { rows = change_at s.rows p (λ _. v); next = s.next }) → r ≡ set_all_fault s p v
-set_all_there s p v had row obstacle type r named there held is free type_is same fault =
-    let value : value_fault s.rows p v.tid ≡ type_fault had.tid v.tid = named_value s.rows p v.tid named ∙ (ap (there_fault v.tid) there ∙ ap (replace_fault v.tid) held) in
-    let after : after_set_all s p v ≡ record { rows = change_at s.rows p (λ _. v); next = s.next } = ap (λ (o : Option Row). after_set_all_at s p v o) there in
-    let limits : Option OdbRefusal = limit_fault None (record { rows = change_at s.rows p (λ _. v); next = s.next }) in
-    or_next obstacle (option_or type limits) r free (or_next type limits r same fault)
-    ∙ (ap (λ (o : Option OdbRefusal). option_or o (option_or type limits)) is
-    ∙ (ap (λ (o : Option OdbRefusal). option_or (obstacle_to_new s.rows p) (option_or o limits)) (type_is ∙ sym value)
-    ∙ ap (λ (a : Rows). option_or (obstacle_to_new s.rows p) (option_or (value_fault s.rows p v.tid) (limit_fault None a))) (sym after)))
+    → IsValue v → obstacle ≡ obstacle_to_new s.rows p → ((x : OdbRefusal) → obstacle ≡ Some x → ⊥) → type ≡ type_fault had.tid v.tid
+    → r ≡ option_or type (limit_fault None (record { rows = change_at s.rows p (λ _. v); next = s.next })) → r ≡ set_all_fault s p v
+set_all_there s p v had row obstacle type r named there held sound is free type_is fault =
+    let after : Rows = record { rows = change_at s.rows p (λ _. v); next = s.next } in
+    or_next obstacle (option_or type (limit_fault None after)) r free fault
+    ∙ (ap (λ (o : Option OdbRefusal). option_or o (option_or type (limit_fault None after))) is
+    ∙ ap (λ (o : Option OdbRefusal). option_or (obstacle_to_new s.rows p) o)
+    (sym (all_clear (value_fault s.rows p) (tid_fault v.tid) (there_fault v.tid (row_at s.rows p)) type (own_fault v) (after_set_all s p v) after
+    (named_value s.rows p named ∙ (ap directory_fault there ∙ no_directory row had held)) (tid_right v sound)
+    (ap (there_fault v.tid) there ∙ (ap (replace_fault v.tid) held ∙ sym type_is)) (own_right v sound) (ap (after_set_all_at s p v) there))))
 
 -- create
 

@@ -2,7 +2,6 @@
 use Rattle.std.proofs.Common.{◌≡◌, ℕ, ◌+◌, ◌-◌, ◌<◌, ◌≤◌, Bool, true, false, cond, List, [], ◌∷◌, ◌++◌, length, get_or, take, Option, Some, None, Ok, Err, inl, inr, refl, sym, ap, ◌∙◌, subst, arith, append_assoc, append-nil, length-append}
 use Rattle.std.specs.Option.{option_or, is_some}
 use Rattle.std.proofs.lemmas.List.{drop_more, take_more, drop_all, take_all}
-use Rattle.daq_types.specs.declared.types.Tid.{Tid}
 use Rattle.odb_path.specs.Paths.{same_path}
 use Rattle.odb_value.specs.Values.{Held}
 use Rattle.odb_value.specs.ValueChanges.{put_in, resized}
@@ -50,7 +49,7 @@ record IsOnWay (s : Rows) (reached : List (List ℕ)) (way : Way) : Type 0 where
   short : AreShort (length reached) way.dirs
 
 -- a row that is found is there, at the path
-found_there : (rows : List Row) (p : List (List ℕ)) (r : Row) → row_at rows p ≡ Some r → is_key r ≡ false → HasDir rows r.path × (same_path r.path p ≡ true)
+pub found_there : (rows : List Row) (p : List (List ℕ)) (r : Row) → row_at rows p ≡ Some r → is_key r ≡ false → HasDir rows r.path × (same_path r.path p ≡ true)
 found_there [] p r h dir = absurd (cc)
 found_there (x ∷ xs) p r h dir = cases (same_path x.path p) refl h (λ k. found_there xs p r k dir)
   where
@@ -192,18 +191,18 @@ create_makes s p kind n h =
     let clear : obstacle_to_new s.rows p ≡ None = or_none_left (obstacle_to_new s.rows p) _ whole in
     (made_new s p (new_value kind) free.some clear free.free, made_short s p (new_value kind) free.some clear)
 
-not_root : (rows : List Row) (p : List (List ℕ)) (given : Tid) → value_fault rows p given ≡ None → 0 < length p
-not_root rows [] given h = absurd (cc)
-not_root rows (name ∷ names) given h = omega arith
+not_root : (rows : List Row) (p : List (List ℕ)) → value_fault rows p ≡ None → 0 < length p
+not_root rows [] h = absurd (cc)
+not_root rows (name ∷ names) h = omega arith
 
 -- what an accepted `set_all` of a path without a row makes
 pub set_all_makes : (s : Rows) (p : List (List ℕ)) (v : Held) (n : ℕ) → set_all_reply s p v ≡ Ok n → row_at s.rows p ≡ None
     → AreNew s (made_for s p (Some v)) × AreShort (length p) (made_for s p (Some v))
 set_all_makes s p v n h free =
     let whole : set_all_fault s p v ≡ None = ok_none (set_all_fault s p v) (number_at s p (row_at s.rows p)) n h in
-    let rest : option_or (value_fault s.rows p v.tid) (limit_fault None (after_set_all s p v)) ≡ None = or_none_right (obstacle_to_new s.rows p) _ whole in
+    let rest = or_none_right (obstacle_to_new s.rows p) _ whole in
     let clear : obstacle_to_new s.rows p ≡ None = or_none_left (obstacle_to_new s.rows p) _ whole in
-    let some : 0 < length p = not_root s.rows p v.tid (or_none_left (value_fault s.rows p v.tid) _ rest) in
+    let some : 0 < length p = not_root s.rows p (or_none_left (value_fault s.rows p) _ rest) in
     (made_new s p (Some v) some clear free, made_short s p (Some v) some clear)
 
 tree_set_all : (s : Rows) (p : List (List ℕ)) (v : Held) (n : ℕ) (o : Option Row) → row_at s.rows p ≡ o → IsTree s → set_all_reply s p v ≡ Ok n → IsTree (after_set_all_at s p v o)
@@ -230,7 +229,7 @@ tree_after s (PathOf row reply) h k = h
 -- a legal history keeps a tree
 pub tree_replayed : (s : Rows) (history : List (ℕ × DatabaseEntry)) → IsTree s → IsLegal s history → IsTree (replay s history)
 tree_replayed s [] h k = h
-tree_replayed s (e ∷ es) h k = tree_replayed (rows_after s e.1) es (tree_after s e.1 h k.1) k.2
+tree_replayed s (e ∷ es) h k = tree_replayed (rows_after s e.1) es (tree_after s e.1 h k.0.reply) k.1
 
 pub tree_begins : IsTree no_rows
 tree_begins = record { placed = tt; apart = tt; numbered = omega arith }

@@ -9,3 +9,7 @@ pub mod Changed
 pub mod Placed
 pub mod Whole
 pub mod Short
+pub mod EachRow
+pub mod Sound
+pub mod Lasting
+pub mod Listed

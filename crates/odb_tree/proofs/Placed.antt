@@ -317,3 +317,17 @@ set_all_inserts s p v number tree deep h free =
       all_inserted s (made_for s p (Some v)) tree makes.0 (short_more (length p) depth_limit (made_for s p (Some v)) deep makes.1),
       ap (after_set_all_at s p v) free ∙ created_with s p (Some v),
     )
+
+-- the part of a directory in the walk
+pub record HasPart (s : Rows) (q : List (List ℕ)) : Type 0 where
+  pub front : List Row
+  pub rest : List Row
+  pub walk_is : walk s ≡ front ++ (walk_below (depth_limit - length q) s.rows q ++ rest)
+
+pub directory_part : (s : Rows) (q : List (List ℕ)) → IsTree s → IsDir s.rows q → length q ≤ depth_limit → HasPart s q
+unfolding walk
+directory_part s q tree there deep =
+    let below : Row = record { number = 0; path = q ++ [] ∷ []; value = None } in
+    let part = part_of (length q) (depth_limit - length q) depth_limit s.rows below q tree.placed tree.apart there refl (omega (arith, deep))
+    (front_more q ([] ∷ [])) (omega (arith, length-append q ([] ∷ []))) in
+    record { front = part.front; rest = part.rest; walk_is = part.before }

@@ -11,11 +11,10 @@ use Rattle.odb_tree.specs.declared.entry.DatabaseEntry.{DatabaseEntry}
 use Rattle.odb_tree.specs.declared.entry.DatabaseEntry.TheVariants.{Create, Set, SetAll, Get, Find, ListDir, Delete, Resize, PathOf}
 use Rattle.odb_tree.specs.Rows.{Rows, row_at, change_row, change_at}
 use Rattle.odb_tree.specs.Calls.{IsReply, rows_after, set_all_reply, after_set_all_at}
-use Rattle.odb_tree.specs.Histories.{IsLegal, replay}
 use Rattle.odb_tree.specs.Walks.{walk}
 use Rattle.odb_tree.specs.WalkLaws.{NoneAt, OneAt}
 use Rattle.odb_tree.specs.Trees.{IsTree, AreShort}
-use Rattle.odb_tree.specs.ShortPaths.{HasShortPath, HaveShortPaths}
+use Rattle.odb_tree.specs.Databases.{IsSoundCall}
 use Rattle.odb_tree.proofs.Trees.{one_at}
 use Rattle.odb_tree.proofs.Kept.{short_more, create_makes, set_all_makes}
 use Rattle.odb_tree.proofs.Whole.{has_rows}
@@ -45,12 +44,12 @@ short_set_all : (s : Rows) (p : List (List ℕ)) (v : Held) (number : ℕ) (o : 
 short_set_all s p v number None e h deep k = short_append depth_limit s.rows _ h (short_more (length p) depth_limit _ deep (set_all_makes s p v number k e).1)
 short_set_all s p v number (Some r) e h deep k = short_changed depth_limit s.rows p (λ _. v) h
 
-pub short_after : (s : Rows) (entry : DatabaseEntry) → AreShort depth_limit s.rows → HasShortPath entry → IsReply s entry → AreShort depth_limit (rows_after s entry).rows
-short_after s (Create p kind (Ok n)) h deep k = short_append depth_limit s.rows _ h (short_more (length p) depth_limit _ deep (create_makes s p kind n k).1)
+pub short_after : (s : Rows) (entry : DatabaseEntry) → AreShort depth_limit s.rows → IsSoundCall entry → IsReply s entry → AreShort depth_limit (rows_after s entry).rows
+short_after s (Create p kind (Ok n)) h deep k = short_append depth_limit s.rows _ h (short_more (length p) depth_limit _ deep.short (create_makes s p kind n k).1)
 short_after s (Create p kind (Err refusal)) h deep k = h
 short_after s (Set p index item (Ok n)) h deep k = short_changed depth_limit s.rows p (λ v. put_in v index item) h
 short_after s (Set p index item (Err refusal)) h deep k = h
-short_after s (SetAll p v (Ok n)) h deep k = short_set_all s p v n (row_at s.rows p) refl h deep k
+short_after s (SetAll p v (Ok n)) h deep k = short_set_all s p v n (row_at s.rows p) refl h deep.0.short k
 short_after s (SetAll p v (Err refusal)) h deep k = h
 short_after s (Get p reply) h deep k = h
 short_after s (Find p reply) h deep k = h
@@ -60,10 +59,6 @@ short_after s (Delete p (Err refusal)) h deep k = h
 short_after s (Resize p len (Ok n)) h deep k = short_changed depth_limit s.rows p (λ v. resized v len) h
 short_after s (Resize p len (Err refusal)) h deep k = h
 short_after s (PathOf row reply) h deep k = h
-
-pub short_replayed : (s : Rows) (history : List (ℕ × DatabaseEntry)) → AreShort depth_limit s.rows → HaveShortPaths history → IsLegal s history → AreShort depth_limit (replay s history).rows
-short_replayed s [] h deep k = h
-short_replayed s (e ∷ es) h deep k = short_replayed (rows_after s e.1) es (short_after s e.1 h deep.0 k.1) deep.1 k.2
 
 -- how many rows are at a path
 

@@ -21,7 +21,7 @@ use Rattle.odb_tree.specs.declared.entry.DatabaseEntry.{DatabaseEntry}
 use Rattle.odb_tree.specs.declared.entry.DatabaseEntry.TheVariants.{Create, Set, SetAll, Get, Find, ListDir, Delete, Resize, PathOf}
 use Rattle.odb_tree.specs.Rows.{Rows, row_at, row_numbered, is_key, change_at, rows_outside, keys_in, dirs_in}
 use Rattle.odb_tree.specs.Lookups.{obstacle_to_new, seek, seek_key, dir_fault, absent_fault}
-use Rattle.odb_tree.specs.Limits.{len_fault, text_fault, limit_fault}
+use Rattle.odb_tree.specs.Limits.{len_fault, text_fault, texts_fault, limit_fault}
 use Rattle.odb_tree.specs.Making.{new_number, created}
 
 -- The refusals are tested in this order: along the path; Exists; NotValue; NotKept; TypeMismatch; BadIndex; Limit. A
@@ -37,9 +37,13 @@ abbrev pub exists_fault : List Row → List (List ℕ) → Option OdbRefusal
 exists_fault rows [] = Some Exists
 exists_fault rows (name ∷ names) = if is_some (row_at rows (name ∷ names)) then Some Exists else None
 
+-- the database keeps values of some types alone
+abbrev pub tid_fault : Tid → Option OdbRefusal
+tid_fault type = if is_kept type then None else Some (NotKept type)
+
 abbrev pub kept_fault : NewKey → Option OdbRefusal
 kept_fault Dir = None
-kept_fault (Keys type len) = if is_kept type then None else Some (NotKept type)
+kept_fault (Keys type len) = tid_fault type
 
 -- what is wrong with the number of items
 abbrev pub items_fault : NewKey → Option What
@@ -92,26 +96,37 @@ after_set_all_at s p v (Some r) = record { rows = change_at s.rows p (λ _. v); 
 abbrev pub after_set_all : Rows → List (List ℕ) → Held → Rows
 after_set_all s p v = after_set_all_at s p v (row_at s.rows p)
 
--- a directory has no value, and a value keeps its type
+-- a directory has no value
+abbrev pub directory_fault : Option Row → Option OdbRefusal
+directory_fault None = None
+directory_fault (Some r) = if is_key r then None else Some NotValue
+
+-- nor has the root
+abbrev pub value_fault : List Row → List (List ℕ) → Option OdbRefusal
+value_fault rows [] = Some NotValue
+value_fault rows (name ∷ names) = directory_fault (row_at rows (name ∷ names))
+
+-- a value keeps its type
 abbrev pub replace_fault : (given : Tid) → Option Held → Option OdbRefusal
-replace_fault given None = Some NotValue
+replace_fault given None = None
 replace_fault given (Some v) = type_fault v.tid given
 
 abbrev pub there_fault : (given : Tid) → Option Row → Option OdbRefusal
 there_fault given None = None
 there_fault given (Some r) = replace_fault given r.value
 
--- nor has the root
-abbrev pub value_fault : List Row → List (List ℕ) → (given : Tid) → Option OdbRefusal
-value_fault rows [] given = Some NotValue
-value_fault rows (name ∷ names) given = there_fault given (row_at rows (name ∷ names))
+-- what is wrong with the items: how many there are, or a text that is too long
+abbrev pub own_fault : Held → Option What
+own_fault v = option_or (len_fault (length v.items)) (texts_fault v.items)
 
 abbrev pub number_at : Rows → List (List ℕ) → Option Row → ℕ
 number_at s p None = new_number s p
 number_at s p (Some r) = r.number
 
 abbrev pub set_all_fault : Rows → List (List ℕ) → Held → Option OdbRefusal
-set_all_fault s p v = option_or (obstacle_to_new s.rows p) (option_or (value_fault s.rows p v.tid) (limit_fault None (after_set_all s p v)))
+set_all_fault s p v =
+    option_or (obstacle_to_new s.rows p) (option_or (value_fault s.rows p) (option_or (tid_fault v.tid)
+    (option_or (there_fault v.tid (row_at s.rows p)) (limit_fault (own_fault v) (after_set_all s p v)))))
 
 abbrev pub set_all_reply : Rows → List (List ℕ) → Held → Result ℕ OdbRefusal
 set_all_reply s p v = reply_or (set_all_fault s p v) (number_at s p (row_at s.rows p))

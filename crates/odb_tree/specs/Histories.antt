@@ -4,6 +4,7 @@ use Rattle.odb_tree.specs.declared.entry.DatabaseEntry.{DatabaseEntry}
 use Rattle.odb_tree.specs.declared.entry.DatabaseEntry.TheVariants.{Create, SetAll, Delete, Resize}
 use Rattle.odb_tree.specs.Rows.{Rows}
 use Rattle.odb_tree.specs.Calls.{IsReply, rows_after}
+use Rattle.odb_tree.specs.Databases.{IsSoundCall}
 
 abbrev pub History : Type 0
 History = List (ℕ × DatabaseEntry)
@@ -25,7 +26,13 @@ shapes_rows entry = false
 abbrev pub IsCaller : (caller : ℕ) → DatabaseEntry → Type 0
 IsCaller caller entry = shapes_rows entry ≡ true → caller ≡ 0
 
--- each call is one that its caller may make, with the reply that the rows give at that point
+-- a call that its caller may make, with arguments as their types have them, and with the reply that the rows give
+pub record IsLegalCall (s : Rows) (caller : ℕ) (entry : DatabaseEntry) : Type 0 where
+  pub may : IsCaller caller entry
+  pub sound : IsSoundCall entry
+  pub reply : IsReply s entry
+
+-- each call is legal at its point
 abbrev pub IsLegal : Rows → List (ℕ × DatabaseEntry) → Type 0
 IsLegal s [] = ⊤
-IsLegal s (e ∷ es) = IsCaller e.0 e.1 × IsReply s e.1 × IsLegal (rows_after s e.1) es
+IsLegal s (e ∷ es) = IsLegalCall s e.0 e.1 × IsLegal (rows_after s e.1) es

@@ -6,9 +6,9 @@ pub mod WayInside
 pub mod Changes
 pub mod PlainInside
 pub mod Calls
-pub mod Histories
 pub mod Walks
 pub mod WalkLaws
 pub mod Trees
 pub mod Places
-pub mod ShortPaths
+pub mod Databases
+pub mod Histories

@@ -1,8 +1,9 @@
 -- The limits of the database.
-use Rattle.std.specs.Prelude.{ℕ, ◌^◌, ◌≤◌, nat_lt, ◌||◌, ◌==◌, if◌then◌else◌, length, Option, Some, None}
+use Rattle.std.specs.Prelude.{ℕ, ◌^◌, ◌≤◌, nat_lt, ◌||◌, ◌==◌, if◌then◌else◌, List, [], ◌∷◌, length, Option, Some, None}
 use Rattle.std.specs.Option.{option_or, option_map}
 use Rattle.odb_value.specs.declared.items.Item.{Item}
 use Rattle.odb_value.specs.declared.items.Item.TheVariants.{Text}
+use Rattle.odb_value.specs.ItemTexts.{text_limit}
 use Rattle.odb_value.specs.Values.{items_limit}
 use Rattle.odb_tree.specs.declared.refusals.OdbRefusal.{OdbRefusal}
 use Rattle.odb_tree.specs.declared.refusals.OdbRefusal.TheVariants.{Limit}
@@ -18,10 +19,6 @@ rows_limit = 65536
 abbrev pub total_limit : ℕ
 total_limit = 4194304
 
--- the most bytes of a text
-abbrev pub text_limit : ℕ
-text_limit = 1023
-
 -- a key has some items, and not too many
 abbrev pub len_fault : ℕ → Option What
 len_fault len = if (len == 0) || nat_lt items_limit len then Some Items else None
@@ -30,6 +27,11 @@ len_fault len = if (len == 0) || nat_lt items_limit len then Some Items else Non
 abbrev pub text_fault : Item → Option What
 text_fault (Text bytes) = if nat_lt text_limit (length bytes) then Some Size else None
 text_fault item = None
+
+-- none of these texts is
+abbrev pub texts_fault : List Item → Option What
+texts_fault [] = None
+texts_fault (item ∷ items) = option_or (text_fault item) (texts_fault items)
 
 abbrev pub number_fault : (next : ℕ) → Option What
 number_fault next = if nat_lt (2 ^ 32) next then Some RowNumbers else None

@@ -1,4 +1,8 @@
-ghost use Rattle.std.specs.Prelude.{◌≡◌, IfOk};
+ghost use Rattle.std.specs.Prelude.{◌≡◌, ◌≢◌, Err, IfOk};
+ghost use Rattle.daq_types.specs.declared.types.Tid.{Tid};
+ghost use Rattle.odb_value.specs.Items.{tid_of};
+ghost use Rattle.odb_tree.specs.declared.refusals.OdbRefusal.TheVariants.{NoMemory as no_memory};
+ghost use Rattle.odb_tree.specs.Databases.{IsDatabase};
 ghost use Rattle.odb_tree.specs.declared.entry.DatabaseEntry.TheVariants.{Create, Set, SetAll, Get, Find, ListDir, Delete, Resize, PathOf};
 ghost use Rattle.odb_tree.specs.Calls.{IsReply, rows_after, is_row_below};
 
@@ -12,7 +16,8 @@ use std::alloc::Global;
 
 /// An online database, seen as a list of rows. Each call replies what `IsReply` says of the rows before it, and leaves
 /// `rows_after` of them. Want of memory is the one answer that no clause ties to the rows; it leaves them as they were.
-pub trait Database {
+/// The rows are always those of a database, which `find` and `list` tell.
+pub trait Database: Drop {
     ghost use Rattle.odb_tree.specs.Rows.{Rows};
 
     ghost rows: { Self → Rows };
@@ -32,6 +37,7 @@ pub trait Database {
         item: &Item,
     ) -> Result<u32, OdbRefusal>
         ensures reply { IsReply (rows self.old) (Set path.now index item.now result) }
+        ensures memory { result ≡ Err no_memory → tid_of item.now ≡ Tid.Text }
         ensures after { rows self.new ≡ rows_after (rows self.old) (Set path.now index item.now result) };
 
     /// Replaces the value of a key by one of the same type, or makes the key with it, and answers the number of its row.
@@ -45,15 +51,19 @@ pub trait Database {
 
     /// The number of the row of a key or a directory; 0 for the root. Takes no memory.
     fn find(&self, path: &Path) -> Result<u32, OdbRefusal>
-        ensures { IsReply (rows self.now) (Find path.now result) };
+        ensures reply { IsReply (rows self.now) (Find path.now result) }
+        ensures memory { result ≢ Err no_memory }
+        ensures database { IsDatabase (rows self.now) };
 
     /// What stands in a directory: its keys, and then its directories, each in order of making.
     fn list(&self, alloc: Global, path: &Path) -> Result<Children, OdbRefusal>
-        ensures { IsReply (rows self.now) (ListDir path.now result) };
+        ensures reply { IsReply (rows self.now) (ListDir path.now result) }
+        ensures database { IsDatabase (rows self.now) };
 
     /// Removes a row and all below it, and answers how many rows went. For the root all rows go. Takes no memory.
     fn delete(&mut self, path: &Path) -> Result<u32, OdbRefusal>
         ensures reply { IsReply (rows self.old) (Delete path.now result) }
+        ensures memory { result ≢ Err no_memory }
         ensures after { rows self.new ≡ rows_after (rows self.old) (Delete path.now result) };
 
     /// Gives a key so many items: cuts at the end, or adds items of a new key. Answers the number of its row.

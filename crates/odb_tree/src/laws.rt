@@ -2,19 +2,20 @@
 ghost use Rattle.std.specs.Prelude.{◌≡◌, ◌≢◌, ℕ, suc, None, List, [], ◌∷◌, ◌++◌, map, true, false, ◌≤◌, length, Some, Ok, IsPermutation};
 ghost use Rattle.odb_path.specs.Paths.{is_front, depth_limit};
 ghost use Rattle.odb_tree.specs.declared.rows.Row.{Row};
-ghost use Rattle.odb_tree.specs.Trees.{IsTree, AreShort, with_rows};
+ghost use Rattle.odb_tree.specs.declared.children.Child.{Child};
+ghost use Rattle.odb_tree.specs.Trees.{IsTree, with_rows};
 ghost use Rattle.odb_tree.specs.declared.entry.DatabaseEntry.{DatabaseEntry};
-ghost use Rattle.odb_tree.specs.declared.entry.DatabaseEntry.TheVariants.{Create, SetAll};
+ghost use Rattle.odb_tree.specs.declared.entry.DatabaseEntry.TheVariants.{Create, SetAll, ListDir};
 ghost use Rattle.odb_tree.specs.declared.rows.NewKey.{NewKey};
 ghost use Rattle.odb_tree.specs.Places.{AreInserted, made_for};
-ghost use Rattle.odb_tree.specs.Calls.{IsReply, rows_after, after_delete, after_set, after_set_all, after_resize, after_create, new_value};
-ghost use Rattle.odb_tree.specs.ShortPaths.{HasShortPath, HaveShortPaths};
+ghost use Rattle.odb_tree.specs.Calls.{IsReply, child_of, rows_after, after_delete, after_set, after_set_all, after_resize, after_create, new_value};
+ghost use Rattle.odb_tree.specs.Databases.{IsDatabase, IsSoundCall};
 ghost use Rattle.odb_tree.specs.Histories.{IsLegal, replay};
 ghost use Rattle.odb_tree.specs.Rows.{Rows, no_rows, is_listed, keys_in, dirs_in, rows_outside, change_at, row_at};
 ghost use Rattle.odb_value.specs.declared.items.Item.{Item};
 ghost use Rattle.odb_value.specs.Values.{Held};
 ghost use Rattle.odb_value.specs.ValueChanges.{put_in, resized};
-ghost use Rattle.odb_tree.specs.Walks.{walk_below, walk, changed_at};
+ghost use Rattle.odb_tree.specs.Walks.{walk_below, walk, changed_at, directly_below};
 ghost use Rattle.odb_tree.specs.WalkLaws.{NoneAbove, OneAt, below_dirs};
 
 /// In a directory that is not above a new row the walk stays as it was.
@@ -76,15 +77,20 @@ pub fn walk_after_set_all()
     ensures rows { (s : Rows) (p : List (List ℕ)) (v : Held) → row_at s.rows p ≡ None → after_set_all s p v ≡ with_rows s (made_for s p (Some v)) }
 {}
 
-/// The walk through a tree whose paths have at most 32 names has the rows of the database, each once, and so at most
-/// one row at a path.
-pub fn walk_has_all_rows()
-    ensures rows { (s : Rows) → IsTree s → AreShort depth_limit s.rows → IsPermutation (walk s) s.rows }
-    ensures one { (s : Rows) (p : List (List ℕ)) → IsTree s → AreShort depth_limit s.rows → OneAt p (walk s) }
+/// The new database is one, and each legal history keeps a database.
+pub fn databases_stay()
+    ensures begins { IsDatabase no_rows }
+    ensures after { (s : Rows) (entry : DatabaseEntry) → IsDatabase s → IsSoundCall entry → IsReply s entry → IsDatabase (rows_after s entry) }
+    ensures stays { (s : Rows) (history : List (ℕ × DatabaseEntry)) → IsDatabase s → IsLegal s history → IsDatabase (replay s history) }
 {}
 
-/// Paths of at most 32 names stay so with calls that have such paths.
-pub fn paths_stay_short()
-    ensures after { (s : Rows) (entry : DatabaseEntry) → AreShort depth_limit s.rows → HasShortPath entry → IsReply s entry → AreShort depth_limit (rows_after s entry).rows }
-    ensures stays { (s : Rows) (history : List (ℕ × DatabaseEntry)) → AreShort depth_limit s.rows → HaveShortPaths history → IsLegal s history → AreShort depth_limit (replay s history).rows }
+/// The walk through a database has its rows, each once, and so at most one row at a path.
+pub fn walk_has_all_rows()
+    ensures rows { (s : Rows) → IsDatabase s → IsPermutation (walk s) s.rows }
+    ensures one { (s : Rows) (p : List (List ℕ)) → IsDatabase s → OneAt p (walk s) }
+{}
+
+/// What `list` answers are the rows that the walk meets directly below the directory, in order.
+pub fn list_follows_walk()
+    ensures { (s : Rows) (p : List (List ℕ)) (children : List Child) → IsDatabase s → IsReply s (ListDir p (Ok children)) → children ≡ map child_of (directly_below p (walk s)) }
 {}

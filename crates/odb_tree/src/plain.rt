@@ -4,9 +4,10 @@ ghost use Rattle.odb_path.specs.Paths.{depth_limit};
 ghost use Rattle.odb_value.specs.Values.{Held};
 ghost use Rattle.odb_tree.specs.declared.refusals.OdbRefusal.TheVariants.{Limit};
 ghost use Rattle.odb_tree.specs.Rows.{no_rows, bytes_in, total_of};
-ghost use Rattle.odb_tree.specs.Limits.{IsWithin, len_fault, passed, limit_fault, total_limit};
+ghost use Rattle.odb_tree.specs.Limits.{len_fault, passed, limit_fault};
 ghost use Rattle.odb_tree.specs.Making.{new_number, created};
 ghost use Rattle.odb_tree.specs.Changes.{IsKeyAt};
+ghost use Rattle.odb_tree.specs.Databases.{IsDatabase};
 ghost use Rattle.odb_tree.specs.Calls.{create_fault, set_fault, set_all_fault, after_resize};
 
 use crate::changes::{copy_rows, put_at, remove_at, replace_at, resize_at};
@@ -36,7 +37,7 @@ pub struct PlainTree {
 
 impl Model for PlainTree {
     ghost use Rattle.odb_tree.specs.Rows.{Rows};
-    ghost use Rattle.odb_tree.specs.Limits.{IsWithin};
+    ghost use Rattle.odb_tree.specs.Databases.{IsDatabase};
 
     ghost Value = { Rows };
 
@@ -44,7 +45,7 @@ impl Model for PlainTree {
 
     ghost view = { rows_of };
 
-    ghost invariant = { λ t. IsWithin (rows_of t) };
+    ghost invariant = { λ t. IsDatabase (rows_of t) };
 }
 
 impl PlainTree {
@@ -137,13 +138,14 @@ impl PlainTree {
         if names.is_empty() {
             return Some(OdbRefusal::NotValue);
         }
+        let given = value.tid();
         let Some(row) = row_at(rows, names) else {
             return self.new_fault(names, None, bytes_of(value));
         };
         let Some(had) = &row.value else {
             return Some(OdbRefusal::NotValue);
         };
-        if let Some(refusal) = type_fault(had.tid(), value.tid()) {
+        if let Some(refusal) = type_fault(had.tid(), given) {
             return Some(refusal);
         }
         self.change_fault(None, bytes_of(had), bytes_of(value))
@@ -162,7 +164,7 @@ impl PlainTree {
     fn make(&mut self, alloc: Global, names: &[Name], value: Option<Value>) -> Result<u32, NoMemory>
         requires named { 0 < length names.now }
         requires depth { length names.now ≤ depth_limit }
-        requires within { IsWithin (created self.old names.now value) }
+        requires database { IsDatabase (created self.old names.now value) }
         ensures number { IfOk result (λ number. number ≡ new_number self.old names.now) }
         ensures ok { OnOk result (self.new ≡ created self.old names.now value) }
         ensures err { OnErr result (self.new ≡ self.old) }
@@ -180,6 +182,7 @@ impl Database for PlainTree {
     ghost rows = { λ s. s };
 
     fn create(&mut self, alloc: Global, path: &Path, kind: NewKey) -> Result<u32, OdbRefusal> {
+        let _ = &self.rows;
         let names = path.names();
         if let Some(refusal) = self.create_fault(names, kind) {
             return Err(refusal);
@@ -202,6 +205,7 @@ impl Database for PlainTree {
         if let Some(refusal) = self.set_fault(names, key.value, index, item) {
             return Err(refusal);
         }
+        let _ = item.tid();
         let item = item.try_clone(alloc)?;
         put_at(&mut self.rows, names, index, item);
         Ok(number)
@@ -212,6 +216,7 @@ impl Database for PlainTree {
         if let Some(refusal) = self.set_all_fault(names, value) {
             return Err(refusal);
         }
+        let _ = value.tid();
         let value = value.try_clone(alloc)?;
         match row_at(self.rows.as_slice(), names) {
             Some(row) => {
@@ -233,11 +238,12 @@ impl Database for PlainTree {
     }
 
     fn find(&self, path: &Path) -> Result<u32, OdbRefusal> {
+        let rows = self.rows.as_slice();
         let names = path.names();
         if names.is_empty() {
             return Ok(0);
         }
-        let row = seek(self.rows.as_slice(), names)?;
+        let row = seek(rows, names)?;
         Ok(row.number)
     }
 

@@ -1,4 +1,4 @@
-use Rattle.odb_runinfo.specs.RunSetLaws.{assignments_append}
+use Rattle.odb_runinfo.proofs.RunSetLaws.{assignments_append}
 use Rattle.odb_runinfo.proofs.laws.assignments_follow.Goals as goal
 
 pub returns : goal.returns

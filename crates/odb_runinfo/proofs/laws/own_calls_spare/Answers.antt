@@ -1,4 +1,4 @@
-use Rattle.odb_runinfo.specs.RunSetLaws.{assignments_spare, front_spares, number_spares}
+use Rattle.odb_runinfo.proofs.RunSetLaws.{assignments_spare, front_spares, number_spares}
 use Rattle.odb_runinfo.proofs.laws.own_calls_spare.Goals as goal
 
 pub returns-clause-sets : goal.returns-clause-sets

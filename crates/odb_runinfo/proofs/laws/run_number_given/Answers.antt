@@ -1,4 +1,4 @@
-use Rattle.odb_runinfo.specs.NumberKept.{number_given, number_read}
+use Rattle.odb_runinfo.proofs.NumberKept.{number_given, number_read}
 use Rattle.odb_runinfo.proofs.laws.run_number_given.Goals as goal
 
 pub returns-clause-read : goal.returns-clause-read

@@ -1,4 +1,4 @@
-use Rattle.odb_runinfo.specs.NumberKept.{number_opens}
+use Rattle.odb_runinfo.proofs.NumberKept.{number_opens}
 use Rattle.odb_runinfo.proofs.laws.run_number_opens.Goals as goal
 
 pub returns : goal.returns

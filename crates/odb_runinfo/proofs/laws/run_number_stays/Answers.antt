@@ -1,4 +1,4 @@
-use Rattle.odb_runinfo.specs.NumberKept.{number_stays}
+use Rattle.odb_runinfo.proofs.NumberKept.{number_stays}
 use Rattle.odb_runinfo.proofs.laws.run_number_stays.Goals as goal
 
 pub returns : goal.returns

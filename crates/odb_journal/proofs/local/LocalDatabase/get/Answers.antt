@@ -6,8 +6,8 @@ use Rattle.odb_journal.proofs.local.LocalDatabase.get.Goals as goal
 
 pub invariant_of-self : goal.invariant_of-self
 invariant_of-self g c =
-    noted_next _ _ c.args.caller (Get c.args.path (Ok c.in-Ok.copy)) c.self.invariant (λ e. absurd (false≢true e)) (rw c.in-Ok.ensures.same c.in-Ok.ensures.value) refl c.push_reserved.ensures.items refl
+    noted_next _ _ c.args.caller (Get c.args.path (Ok c.in-Ok.copy)) c.self.invariant (λ e. absurd (false≢true e)) c.names.ensures.is_path (rw c.in-Ok.ensures.same c.in-Ok.ensures.value) refl c.push_reserved.ensures.items refl
 
 pub invariant_of-self-in-Err : goal.invariant_of-self-in-Err
 invariant_of-self-in-Err g c =
-    noted_next _ _ c.args.caller (Get c.args.path (Err c.in-Err.refusal)) c.self.invariant (λ e. absurd (false≢true e)) c.in-Err.ensures.refused refl c.push_reserved-in-Err.ensures.items refl
+    noted_next _ _ c.args.caller (Get c.args.path (Err c.in-Err.refusal)) c.self.invariant (λ e. absurd (false≢true e)) c.names.ensures.is_path c.in-Err.ensures.refused refl c.push_reserved-in-Err.ensures.items refl

@@ -5,4 +5,4 @@ use Rattle.odb_journal.proofs.local.LocalDatabase.resize.Goals as goal
 
 pub invariant_of-self : goal.invariant_of-self
 invariant_of-self g c =
-    noted_next _ _ 0 (Resize c.args.path c.args.len c.resize-reply.result) c.self.invariant (λ _. refl) c.resize-reply.ensures.reply c.resize-reply.ensures.after c.push_reserved.ensures.items refl
+    noted_next _ _ 0 (Resize c.args.path c.args.len c.resize-reply.result) c.self.invariant (λ _. refl) c.names.ensures.is_path c.resize-reply.ensures.reply c.resize-reply.ensures.after c.push_reserved.ensures.items refl

@@ -9,4 +9,4 @@ use Rattle.odb_tree.proofs.plain.PlainTree.make.Goals as goal
 pub to-requires-clause-fits : goal.to-requires-clause-fits
 to-requires-clause-fits c =
     new_fits (rows_of c.self.inside) c.args.names.now c.args.value c.as_slice.result.now c.parent.result.now c.as_slice.ensures.value c.parent.ensures
-    (subst (λ (s : Rows). IsWithin (created s c.args.names.now c.args.value)) (sym c.self.view_is) c.requires.within)
+    (subst (λ (s : Rows). IsWithin (created s c.args.names.now c.args.value)) (sym c.self.view_is) c.requires.database.within)

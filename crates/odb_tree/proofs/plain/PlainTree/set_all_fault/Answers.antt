@@ -1,11 +1,13 @@
-use Rattle.std.proofs.Common.{◌≡◌, ◌≤◌, ℕ, List, [], Some, None, sym, subst, ap, ◌∙◌}
-use Rattle.std.specs.Option.{option_copied}
+use Rattle.std.proofs.Common.{◌≡◌, ◌≤◌, ℕ, List, [], Option, Some, None, sym, subst, ap, ◌∙◌}
+use Rattle.std.specs.Option.{option_copied, option_or}
 use Rattle.odb_value.specs.Values.{Held}
 use Rattle.odb_tree.specs.declared.rows.Row.{Row}
-use Rattle.odb_tree.specs.Rows.{Rows, row_at, total_of}
+use Rattle.odb_tree.specs.Rows.{Rows, row_at, change_at, total_of}
+use Rattle.odb_tree.specs.Limits.{limit_fault}
+use Rattle.odb_tree.specs.declared.refusals.OdbRefusal.{OdbRefusal}
 use Rattle.odb_tree.specs.Lookups.{obstacle_from}
 use Rattle.odb_tree.specs.Calls.{type_fault}
-use Rattle.odb_tree.proofs.FaultLemmas.{had_some, change_is, key_at, set_all_there}
+use Rattle.odb_tree.proofs.FaultLemmas.{had_some, change_is, key_at, or_next, set_all_new, set_all_there}
 use Rattle.odb_tree.proofs.plain.PlainTree.set_all_fault.Goals as goal
 
 pub change_fault-requires-clause-had : goal.change_fault-requires-clause-had
@@ -22,8 +24,28 @@ returns c =
     ∙ (ap (λ (rows : List Row). obstacle_from None rows [] c.parent.result.now) seen ∙ ap (obstacle_from None c.args.self.now.rows []) c.parent.ensures) in
     set_all_there c.args.self.now c.args.names.now c.args.value.now c.in-Some-value.had c.in-Some-row_at.row.now c.obstacle.result c.type_fault.result c.change_fault.result
     (sym c.is_empty.ensures ∙ c.if-is_empty.false) (subst (λ (rows : List Row). row_at rows c.args.names.now ≡ Some c.in-Some-row_at.row.now) seen there) c.in-Some-value.is
-    obstacle_is c.in_default.not-Some
-    (c.type_fault.ensures ∙ (ap (λ t. type_fault t c.tid-2.result) c.tid.ensures.tid ∙ ap (type_fault c.in-Some-value.had.tid) c.tid-2.ensures.tid)) c.in_default-type_fault.not-Some
+    c.tid-given.ensures.is_value obstacle_is c.in_default.not-Some
+    (c.type_fault.ensures ∙ (ap (λ t. type_fault t c.tid-given.result) c.tid.ensures.tid ∙ ap (type_fault c.in-Some-value.had.tid) c.tid-given.ensures.tid))
+    (or_next c.type_fault.result _ c.change_fault.result c.in_default-type_fault.not-Some
     (c.change_fault.ensures
     ∙ change_is c.args.self.now c.args.names.now c.in-Some-value.had (λ (_ : Held). c.args.value.now) None c.bytes_of-2.result c.bytes_of-3.result
-    (key_at c.args.self.now c.as_slice-rows.result.now c.args.names.now c.in-Some-row_at.row.now c.in-Some-value.had seen there c.in-Some-value.is) c.bytes_of-2.ensures.value (λ none. c.bytes_of-3.ensures.value))
+    (key_at c.args.self.now c.as_slice-rows.result.now c.args.names.now c.in-Some-row_at.row.now c.in-Some-value.had seen there c.in-Some-value.is) c.bytes_of-2.ensures.value (λ none. c.bytes_of-3.ensures.value)))
+
+pub returns-in_default-row_at : goal.returns-in_default-row_at
+returns-in_default-row_at c =
+    let seen : c.as_slice-rows.result.now ≡ c.args.self.now.rows = c.as_slice-rows.ensures.value ∙ ap (λ (s : Rows). s.rows) c.self.view_is in
+    set_all_new c.args.self.now c.args.names.now c.args.value.now c.obstacle.result c.new_fault.result (sym c.is_empty.ensures ∙ c.if-is_empty.false)
+    (subst (λ (rows : List Row). row_at rows c.args.names.now ≡ None) seen (sym c.row_at.ensures ∙ ap option_copied c.in_default-row_at.is)) c.tid-given.ensures.is_value
+    (c.obstacle.ensures ∙ (ap (λ (rows : List Row). obstacle_from None rows [] c.parent.result.now) seen ∙ ap (obstacle_from None c.args.self.now.rows []) c.parent.ensures)) c.in_default.not-Some
+    (c.new_fault.ensures (Some c.args.value.now) (λ none. sym c.bytes_of.ensures.value))
+
+pub returns-in-Some-type_fault : goal.returns-in-Some-type_fault
+returns-in-Some-type_fault c =
+    let seen : c.as_slice-rows.result.now ≡ c.args.self.now.rows = c.as_slice-rows.ensures.value ∙ ap (λ (s : Rows). s.rows) c.self.view_is in
+    set_all_there c.args.self.now c.args.names.now c.args.value.now c.in-Some-value.had c.in-Some-row_at.row.now c.obstacle.result c.type_fault.result (Some c.in-Some-type_fault.refusal)
+    (sym c.is_empty.ensures ∙ c.if-is_empty.false)
+    (subst (λ (rows : List Row). row_at rows c.args.names.now ≡ Some c.in-Some-row_at.row.now) seen (sym c.row_at.ensures ∙ ap option_copied c.in-Some-row_at.is)) c.in-Some-value.is
+    c.tid-given.ensures.is_value
+    (c.obstacle.ensures ∙ (ap (λ (rows : List Row). obstacle_from None rows [] c.parent.result.now) seen ∙ ap (obstacle_from None c.args.self.now.rows []) c.parent.ensures)) c.in_default.not-Some
+    (c.type_fault.ensures ∙ (ap (λ t. type_fault t c.tid-given.result) c.tid.ensures.tid ∙ ap (type_fault c.in-Some-value.had.tid) c.tid-given.ensures.tid))
+    (sym (ap (λ (o : Option OdbRefusal). option_or o (limit_fault None (record { rows = change_at c.args.self.now.rows c.args.names.now (λ _. c.args.value.now); next = c.args.self.now.next }))) c.in-Some-type_fault.is))

@@ -2,7 +2,9 @@
 use Rattle.std.specs.Prelude.{◌≡◌, ℕ, zero, suc, ◌-◌, Bool, true, false, not, ◌&&◌, ◌==◌, cond, ◌⊎◌, List, [], ◌∷◌, ◌++◌, length, map, take, replicate, slice_set, Option, Some, None, Result, Ok, Err, codes, ℤ, pos, refl}
 use Rattle.std.specs.Option.{option_map}
 use Rattle.std.specs.Char.{to_ascii_lowercase}
-use Rattle.std.proofs.Common.{ap, ◌∙◌, sym, inl, inr, Decides}
+use Rattle.std.specs.Prelude.{◌≤◌, All}
+use Rattle.std.proofs.lemmas.List.Elements.{All-head}
+use Rattle.std.proofs.Common.{ap, ◌∙◌, sym, inl, inr, Decides, arith}
 use Rattle.std.proofs.lemmas.Bool.{false≢true}
 use Rattle.std.proofs.lemmas.Slice.Eq.{slice_eq-Decides}
 use Rattle.std.proofs.lemmas.Bool.Decides.{Decides-eqb}
@@ -11,21 +13,23 @@ use Rattle.daq_types.specs.declared.types.Tid.TheVariants as tid
 use Rattle.odb_path.specs.Paths.{same_name, is_front, same_path}
 use Rattle.odb_value.specs.declared.items.Item.{Item}
 use Rattle.odb_value.specs.declared.items.Item.TheVariants.{Int32}
-use Rattle.odb_value.specs.Items.{tid_of}
-use Rattle.odb_value.specs.Values.{Held}
+use Rattle.odb_value.specs.Items.{tid_of, IsItem}
+use Rattle.odb_value.specs.Values.{Held, IsValue}
 use Rattle.odb_value.specs.ValueChanges.{default_item, put_in, resized}
 use Rattle.odb_tree.specs.declared.rows.Row.{Row}
 use Rattle.odb_tree.specs.declared.refusals.OdbRefusal.{OdbRefusal}
 use Rattle.odb_tree.specs.declared.entry.DatabaseEntry.{DatabaseEntry}
 use Rattle.odb_tree.specs.declared.entry.DatabaseEntry.TheVariants.{Create, Set, SetAll, Get, Find, ListDir, Delete, Resize, PathOf}
 use Rattle.odb_tree.specs.Rows.{Rows, row_at, change_row, change_at, rows_outside}
-use Rattle.odb_tree.specs.Lookups.{seek_key}
+use Rattle.odb_tree.specs.Lookups.{obstacle_to_new, seek_key}
 use Rattle.odb_tree.specs.Limits.{len_fault, limit_fault}
-use Rattle.odb_tree.specs.Calls.{GivesItem, IsReply, after_resize, get_reply, reply_or, resize_reply_to, rows_after, set_fault, set_reply, set_reply_to}
+use Rattle.odb_tree.specs.Calls.{IsReply, after_resize, after_set_all_at, get_reply, number_at, replace_fault, resize_reply_to, rows_after, set_all_fault, set_all_reply, set_fault, set_reply, set_reply_to, there_fault, tid_fault, value_fault}
 use Rattle.odb_tree.specs.Changes.{IsKeyAt}
 use Rattle.odb_tree.specs.Histories.{IsLegal, replay}
-use Rattle.odb_tree.proofs.Limited.{own_none}
-use Rattle.odb_tree.proofs.CallLemmas.{can_put, sought_key}
+use Rattle.odb_tree.specs.Databases.{IsSoundCall}
+use Rattle.odb_tree.proofs.Limited.{or_none_left, or_none_right, own_none}
+use Rattle.odb_tree.proofs.CallLemmas.{can_put, sought_key, types_agree}
+use Rattle.odb_tree.proofs.Sound.{ok_none, given_item}
 use Rattle.odb_runinfo.specs.declared.keys.RunKey.TheVariants.{RunNumber}
 use Rattle.odb_runinfo.specs.RunKeys.{key_path, key_row, session_rows}
 use Rattle.odb_runinfo.specs.RunSets.{have_of, number_in}
@@ -157,14 +161,6 @@ changed rows q f keeps has =
 
 -- A set that is answered puts an item of the key's type.
 
-ok_none : (o : Option OdbRefusal) (number n : ℕ) → reply_or o number ≡ Ok n → o ≡ None
-ok_none None number n e = refl
-ok_none (Some why) number n e = absurd (cc)
-
-given_item : (type : Tid) (n : ℕ) (reply : Result ℕ OdbRefusal) → GivesItem type (Ok n) reply → reply ≡ Ok n
-given_item tid.Text n reply h = h
-given_item _ n reply h = sym h
-
 one_value : (rows : List Row) (q : List (List ℕ)) (v w : Held) → IsKeyAt rows q v → IsKeyAt rows q w → v ≡ w
 one_value rows q v w a b =
     let found = a.there in
@@ -212,29 +208,56 @@ resized_number v (suc len) fits number =
     let new = replicate (suc len - length v.items) (default_item v.tid) in
     record { type = number.type; first = number.first; more = take len (number.more ++ new); items = ap (λ (l : List Item). take (suc len) (l ++ new)) number.items }
 
+-- A value that replaces it is of its type, and has an item 0.
+
+same_type : (s : Rows) (q : List (List ℕ)) (v w : Held) (n : ℕ) → set_all_reply s q v ≡ Ok n → IsKeyAt s.rows q w → v.tid ≡ w.tid
+same_type s q v w n e at =
+    let whole : set_all_fault s q v ≡ None = ok_none (set_all_fault s q v) (number_at s q (row_at s.rows q)) n e in
+    let there : there_fault v.tid (row_at s.rows q) ≡ None =
+    or_none_left (there_fault v.tid (row_at s.rows q)) _ (or_none_right (tid_fault v.tid) _ (or_none_right (value_fault s.rows q) _ (or_none_right (obstacle_to_new s.rows q) _ whole))) in
+    types_agree w.tid v.tid (sym (ap (there_fault v.tid) at.there ∙ ap (replace_fault v.tid) at.value) ∙ there)
+
+number_first : (type : Tid) (items : List Item) → 1 ≤ length items → All (IsItem type) items → type ≡ tid.Int32 → (z : ℤ) × (more : List Item) × (items ≡ Int32 z ∷ more)
+number_first type [] some are same = absurd (omega (arith, some))
+number_first type (item ∷ items) some are same =
+    let is = number_item item ((All-head (IsItem type) item items are).tid ∙ same) in
+    (is.0, items, ap (λ (i : Item). i ∷ items) is.1)
+
+value_number : (v w : Held) → IsValue v → v.tid ≡ w.tid → HoldsNumber w → HoldsNumber v
+value_number v w value same number =
+    let type : v.tid ≡ tid.Int32 = same ∙ number.type in
+    let first = number_first v.tid v.items value.some value.of_type type in
+    record { type = type; first = first.0; more = first.1; items = first.2 }
+
+replaced : (s : Rows) (q : List (List ℕ)) (v : Held) (n : ℕ) (o : Option Row) → row_at s.rows q ≡ o → set_all_reply s q v ≡ Ok n → IsValue v → HasRunNumber s.rows
+    → HasRunNumber (after_set_all_at s q v o).rows
+replaced s q v n None e reply value has = appended s.rows _ has
+replaced s q v n (Some r) e reply value has = changed s.rows q (λ _. v) (λ w at. value_number v w value (same_type s q v w n reply at)) has
+
 -- The calls.
 
-number_kept : (s : Rows) (e : DatabaseEntry) → IsReply s e → SparesRuninfo e → HasRunNumber s.rows → HasRunNumber (rows_after s e).rows
-number_kept s (Create p kind (Ok n)) reply spares has = appended s.rows _ has
-number_kept s (Create p kind (Err why)) reply spares has = has
-number_kept s (Set p index item (Ok n)) reply spares has =
+number_kept : (s : Rows) (e : DatabaseEntry) → IsSoundCall e → IsReply s e → SparesRuninfo e → HasRunNumber s.rows → HasRunNumber (rows_after s e).rows
+number_kept s (Create p kind (Ok n)) sound reply spares has = appended s.rows _ has
+number_kept s (Create p kind (Err why)) sound reply spares has = has
+number_kept s (Set p index item (Ok n)) sound reply spares has =
     let given : set_reply s p index item ≡ Ok n = given_item (tid_of item) n (set_reply s p index item) reply in
     changed s.rows p (λ (v : Held). put_in v index item) (λ v at. put_number v index item (set_type s p index item n v (seek_key s.rows p) refl given at)) has
-number_kept s (Set p index item (Err why)) reply spares has = has
-number_kept s (SetAll p v answer) reply spares has = absurd spares
-number_kept s (Get p answer) reply spares has = has
-number_kept s (Find p answer) reply spares has = has
-number_kept s (ListDir p answer) reply spares has = has
-number_kept s (Delete p (Ok n)) reply spares has = outside s.rows p spares has
-number_kept s (Delete p (Err why)) reply spares has = has
-number_kept s (Resize p len (Ok n)) reply spares has =
+number_kept s (Set p index item (Err why)) sound reply spares has = has
+number_kept s (SetAll p v (Ok n)) sound reply spares has = replaced s p v n (row_at s.rows p) refl reply sound.1 has
+number_kept s (SetAll p v (Err why)) sound reply spares has = has
+number_kept s (Get p answer) sound reply spares has = has
+number_kept s (Find p answer) sound reply spares has = has
+number_kept s (ListDir p answer) sound reply spares has = has
+number_kept s (Delete p (Ok n)) sound reply spares has = outside s.rows p spares has
+number_kept s (Delete p (Err why)) sound reply spares has = has
+number_kept s (Resize p len (Ok n)) sound reply spares has =
     changed s.rows p (λ (v : Held). resized v len) (λ v at. resized_number v len (resize_fits s p len n (seek_key s.rows p) reply)) has
-number_kept s (Resize p len (Err why)) reply spares has = has
-number_kept s (PathOf row answer) reply spares has = has
+number_kept s (Resize p len (Err why)) sound reply spares has = has
+number_kept s (PathOf row answer) sound reply spares has = has
 
 pub number_stays : (s : Rows) (h : List (ℕ × DatabaseEntry)) → IsLegal s h → AllSpareRuninfo h → HasRunNumber s.rows → HasRunNumber (replay s h).rows
 number_stays s [] legal spares has = has
-number_stays s (e ∷ es) legal spares has = number_stays (rows_after s e.1) es legal.2 spares.1 (number_kept s e.1 legal.1 spares.0 has)
+number_stays s (e ∷ es) legal spares has = number_stays (rows_after s e.1) es legal.1 spares.1 (number_kept s e.1 legal.0.sound legal.0.reply spares.0 has)
 
 -- so a `get` of the run number gives it
 pub number_given : (s : Rows) (has : HasRunNumber s.rows) → get_reply s (key_path RunNumber) ≡ Ok has.held
