@@ -29,13 +29,12 @@ use Rattle.session_console.specs.Refused.{Counts}
 use Rattle.daq_session.specs.RunRecords.{IsKept}
 use Rattle.daq_session.specs.Endings.{SinkCounts}
 use Rattle.daq_session.specs.Halts.{SinkBy}
-use Rattle.daq_session.specs.Stages.{Outset, Stage, Does, Interrupts}
+use Rattle.daq_session.specs.Stages.{Outset, Stage, Does}
 use Rattle.daq_session.specs.Standing.{order_in, stage_of, Answers}
 use Rattle.daq_session.specs.Playing.{AreLines, CutBy, Wrote, Played, Prints}
 use Rattle.daq_session.specs.Sessions.{IsPlayed}
 use Rattle.daq_session.specs.Closing.{prints, earlier, Finished}
 use Rattle.daq_session.proofs.GivenLines.{given_first}
-use Rattle.daq_session.proofs.Interrupting.{interrupts_none}
 use Rattle.daq_session.proofs.PlayingLaws.{wrote_whole}
 
 -- What was written.
@@ -110,7 +109,7 @@ closes_some o (Some run) old new some does = does
 
 stopped : (o : Outset) (ending : Ending) (source left told_first told : Option (List ℕ)) (reply : Reply) (old new : State) (before after : Outset) (refusals : Refusals)
     → (played : Played o ending source left told_first told old before refusals) → IsSome old.current → Answers (Ok Stop) reply old new before after → new.current ≡ None
-    → (readings : ℕ) × IsPlayed o after (CutBy ending) played.lines (stage_of new readings (played.replies ++ reply ∷ []))
+    → (readings : ℕ) × IsPlayed o after (CutBy ending source played.lines) played.lines (stage_of new readings (played.replies ++ reply ∷ []))
 stopped o ending source left told_first told reply old new before after refusals played running answers idle =
     let leads = answers o played.readings played.replies played.at in (
       leads.readings_after,
@@ -217,22 +216,22 @@ lines_earlier (Halted SinkFault) FileFault text left lines are = are
 lines_earlier (Halted FileFault) halt text left lines are = are
 
 -- nothing was cut off: so may it be said of each halt
-cut_halted : (halt : Halt) (old new : Stage) → new ≡ old → CutBy (Halted halt) old new
-cut_halted NoMemory old new same = subst (Interrupts old) (sym same) (interrupts_none old)
-cut_halted SinkFault old new same = same
-cut_halted FileFault old new same = same
+cut_halted : (halt : Halt) (source : Option (List ℕ)) (lines : List (List ℕ)) (old new : Stage) → new ≡ old → CutBy (Halted halt) source lines old new
+cut_halted NoMemory source lines old new same = inl same
+cut_halted SinkFault source lines old new same = same
+cut_halted FileFault source lines old new same = same
 
-cut_earlier : (ending : Ending) (halt : Halt) (old new : Stage) → CutBy ending old new → CutBy (earlier ending halt) old new
-cut_earlier End halt old new cut = cut_halted halt old new cut
-cut_earlier TooLong halt old new cut = cut_halted halt old new cut
-cut_earlier SourceFault NoMemory old new cut = cut_halted NoMemory old new cut
-cut_earlier SourceFault SinkFault old new cut = cut
-cut_earlier SourceFault FileFault old new cut = cut
-cut_earlier (Halted NoMemory) halt old new cut = cut
-cut_earlier (Halted SinkFault) NoMemory old new cut = cut_halted NoMemory old new cut
-cut_earlier (Halted SinkFault) SinkFault old new cut = cut
-cut_earlier (Halted SinkFault) FileFault old new cut = cut
-cut_earlier (Halted FileFault) halt old new cut = cut_halted halt old new cut
+cut_earlier : (ending : Ending) (halt : Halt) (source : Option (List ℕ)) (lines : List (List ℕ)) (old new : Stage) → CutBy ending source lines old new → CutBy (earlier ending halt) source lines old new
+cut_earlier End halt source lines old new cut = cut_halted halt source lines old new cut
+cut_earlier TooLong halt source lines old new cut = cut_halted halt source lines old new cut
+cut_earlier SourceFault NoMemory source lines old new cut = cut_halted NoMemory source lines old new cut
+cut_earlier SourceFault SinkFault source lines old new cut = cut
+cut_earlier SourceFault FileFault source lines old new cut = cut
+cut_earlier (Halted NoMemory) halt source lines old new cut = cut
+cut_earlier (Halted SinkFault) NoMemory source lines old new cut = cut_halted NoMemory source lines old new cut
+cut_earlier (Halted SinkFault) SinkFault source lines old new cut = cut
+cut_earlier (Halted SinkFault) FileFault source lines old new cut = cut
+cut_earlier (Halted FileFault) halt source lines old new cut = cut_halted halt source lines old new cut
 
 -- with another word of what is cut off
 pub played_by : (o after : Outset) (Was Now : Stage → Stage → Type 0) (lines : List (List ℕ)) (final : Stage) → ((old new : Stage) → Was old new → Now old new) → IsPlayed o after Was lines final → IsPlayed o after Now lines final
@@ -251,7 +250,7 @@ finished_cut o ending halt source left told_first told_old told_new sink_first s
       lines = played.lines;
       replies = played.replies ++ reply ∷ [];
       readings = is_stopped.0;
-      played = played_by o after (CutBy ending) (CutBy (earlier ending halt)) played.lines (stage_of new is_stopped.0 (played.replies ++ reply ∷ [])) (cut_earlier ending halt) is_stopped.1;
+      played = played_by o after (CutBy ending source played.lines) (CutBy (earlier ending halt) source played.lines) played.lines (stage_of new is_stopped.0 (played.replies ++ reply ∷ [])) (cut_earlier ending halt source played.lines) is_stopped.1;
       counts = counts_accepted played.replies reply refusals accepted played.counts;
       are_lines = λ text told. lines_earlier ending halt text left played.lines (played.are_lines text told);
       wrote = λ memory calm. absurd (no_calm ending halt sink_first sink_old sink_new printing by counts memory calm here);

@@ -1,6 +1,6 @@
 -- How the records of runs stand to the history of the online database, from stage to stage.
-use Rattle.std.proofs.Common.{◌≡◌, ℕ, List, [], ◌∷◌, ◌++◌, Option, Some, None, true, false, Bool, refl, ap, sym, subst, ◌∙◌, append_assoc}
-use Rattle.std.specs.Prelude.{◌-◌, ℤ, pos, map, MatchOption, Result, Ok, Err, All, IfSome, ⊤}
+use Rattle.std.proofs.Common.{◌≡◌, ℕ, inl, inr, List, [], ◌∷◌, ◌++◌, Option, Some, None, true, false, Bool, refl, ap, sym, subst, ◌∙◌, append_assoc}
+use Rattle.std.specs.Prelude.{◌⊎◌, ◌-◌, ℤ, pos, map, MatchOption, Result, Ok, Err, All, IfSome, ⊤}
 use Rattle.std.proofs.Math.Logic.{⊎_elim}
 use Rattle.std.proofs.lemmas.List.{append-nil}
 use Rattle.std.proofs.lemmas.List.Elements.{All-nil, All-push, All-weaker}
@@ -34,8 +34,9 @@ use Rattle.session_console.specs.declared.records.FrontTally.{FrontTally}
 use Rattle.session_console.specs.declared.records.SessionRecord.{SessionRecord}
 use Rattle.session_console.specs.FrontNames.{front_name}
 use Rattle.daq_session.specs.RunRecordFits.{rows_behind, number_behind, start_calls, stop_calls, GivesNumber, StartsIn, StopsBy, RunRecordFits}
+use Rattle.daq_session.specs.Playing.{StopsAt}
 use Rattle.daq_session.specs.Sessions.{Count, CutsBy, IsPlayed, IsRecorded, IsSession}
-use Rattle.daq_session.specs.Stages.{Outset, Stage, opening, called, opens, Begins, Refuses, Ends, StartsRun, DoesStart, DoesStop, DoesAnswer, Does, Plays, Interrupts, completed_record, refused_record, next_order}
+use Rattle.daq_session.specs.Stages.{Outset, Stage, opening, called, opens, Begins, Refuses, Ends, StartsRun, DoesStart, DoesStop, DoesAnswer, Does, Plays, Interrupts, line_calls, completed_record, refused_record, next_order}
 
 -- Calls more.
 
@@ -293,28 +294,32 @@ opening_stands = (record { rows = refl; runs_fit = λ legal. All-nil (RunRecordF
 
 -- The end of a session.
 
-interrupts_fits : (old new : Stage) → Interrupts old new → FitsAt old → FitsAt new
-interrupts_fits old new is fits = subst FitsAt (sym is.leads) (called_fits old (by_main is.calls) fits)
+interrupts_fits : (calls : List (ℕ × DatabaseEntry)) (old new : Stage) → Interrupts calls old new → FitsAt old → FitsAt new
+interrupts_fits calls old new is fits = subst FitsAt (sym is.leads) (called_fits old is.made fits)
 
-cut_fits : (cause : Cause) (old new : Stage) → CutsBy cause old new → FitsAt old → FitsAt new
-cut_fits Done old new cut fits = subst FitsAt (sym cut) fits
-cut_fits (CommandRefused count first) old new cut fits = subst FitsAt (sym cut) fits
-cut_fits (BadInput fault) old new cut fits = subst FitsAt (sym cut) fits
-cut_fits Usage old new cut fits = absurd cut
-cut_fits SourceFault old new cut fits = subst FitsAt (sym cut) fits
-cut_fits SinkFault old new cut fits = subst FitsAt (sym cut) fits
-cut_fits (FileFault name) old new cut fits = subst FitsAt (sym cut) fits
-cut_fits NoMemory old new cut fits = interrupts_fits old new cut fits
+stops_fits : (source : Option (List ℕ)) (lines : List (List ℕ)) (old new : Stage) → (new ≡ old) ⊎ StopsAt source lines old new → FitsAt old → FitsAt new
+stops_fits source lines old new (inl same) fits = subst FitsAt (sym same) fits
+stops_fits source lines old new (inr stops) fits = interrupts_fits (line_calls old (command_of stops.line)) old new stops.interrupts fits
+
+cut_fits : (cause : Cause) (source : Option (List ℕ)) (lines : List (List ℕ)) (old new : Stage) → CutsBy cause source lines old new → FitsAt old → FitsAt new
+cut_fits Done source lines old new cut fits = subst FitsAt (sym cut) fits
+cut_fits (CommandRefused count first) source lines old new cut fits = subst FitsAt (sym cut) fits
+cut_fits (BadInput fault) source lines old new cut fits = subst FitsAt (sym cut) fits
+cut_fits Usage source lines old new cut fits = absurd cut
+cut_fits SourceFault source lines old new cut fits = subst FitsAt (sym cut) fits
+cut_fits SinkFault source lines old new cut fits = subst FitsAt (sym cut) fits
+cut_fits (FileFault name) source lines old new cut fits = subst FitsAt (sym cut) fits
+cut_fits NoMemory source lines old new cut fits = stops_fits source lines old new cut fits
 
 closes_fits : (o : Outset) (on : Option Order) (old new : Stage) → old.on ≡ on → MatchOption on (new ≡ old) (λ (order : Order). Does o old (Ok Stop) new) → FitsAt old → FitsAt new
 closes_fits o None old new on same fits = subst FitsAt (sym same) fits
 closes_fits o (Some order) old new on does fits =
     ends_fits o old new order on (subst (λ (on : Option Order). DoesStop o old on new) on does) fits
 
-final_fits : (o after : Outset) (cause : Cause) (lines : List (List ℕ)) (final : Stage) → IsPlayed o after (CutsBy cause) lines final → FitsAt final
-final_fits o after cause lines final played =
+final_fits : (o after : Outset) (cause : Cause) (source : Option (List ℕ)) (lines : List (List ℕ)) (final : Stage) → IsPlayed o after (CutsBy cause source lines) lines final → FitsAt final
+final_fits o after cause source lines final played =
     closes_fits o played.cut.on played.cut final refl played.closes
-    (cut_fits cause played.behind played.cut played.is_cut
+    (cut_fits cause source lines played.behind played.cut played.is_cut
     (plays_stands o (map command_of lines) opening played.behind played.plays opening_stands).0)
 
 recorded_fits : (final : Stage) (session : Option SessionRecord) → (IsLegal session_rows final.calls → All (RunRecordFits final.calls) final.runs) → IsRecorded final session
@@ -326,4 +331,4 @@ recorded_fits final (Some s) fit recorded legal = rw (recorded.1, recorded.2) (f
 pub session_fits : (o after : Outset) (source left told_first told_now : Option (List ℕ)) (sink : Count) (cause : Cause) (session : Option SessionRecord) → IsSession o after source left told_first told_now sink cause session
     → IfSome session (λ s. IsLegal session_rows s.database) → IfSome session (λ s. All (RunRecordFits s.database) s.runs)
 session_fits o after source left told_first told_now sink cause session is legal =
-    recorded_fits is.final session (final_fits o after cause is.lines is.final is.played).runs_fit is.recorded legal
+    recorded_fits is.final session (final_fits o after cause source is.lines is.final is.played).runs_fit is.recorded legal

@@ -1,6 +1,6 @@
 -- What the front-end's pass does to the online database, from stage to stage.
-use Rattle.std.proofs.Common.{◌≡◌, ℕ, ◌≤◌, List, [], ◌∷◌, ◌++◌, Option, Some, None, true, false, Bool, refl, ap, sym, subst, ◌∙◌, append_assoc, arith}
-use Rattle.std.specs.Prelude.{◌==◌, if◌then◌else◌, map, MatchOption, Result, Ok, Err, IfSome}
+use Rattle.std.proofs.Common.{◌≡◌, ℕ, ◌≤◌, List, [], ◌∷◌, ◌++◌, Option, Some, None, true, false, Bool, inl, inr, refl, ap, sym, subst, ◌∙◌, append_assoc, arith}
+use Rattle.std.specs.Prelude.{◌⊎◌, ◌==◌, if◌then◌else◌, map, MatchOption, Result, Ok, Err, IfSome}
 use Rattle.std.specs.List.{flat_map}
 use Rattle.std.proofs.Math.Logic.{⊎_elim}
 use Rattle.std.proofs.lemmas.List.{append-nil}
@@ -11,7 +11,7 @@ use Rattle.odb_tree.specs.declared.entry.DatabaseEntry.{DatabaseEntry}
 use Rattle.odb_tree.specs.Rows.{Rows}
 use Rattle.odb_tree.specs.Calls.{get_reply}
 use Rattle.odb_tree.specs.Histories.{replay}
-use Rattle.odb_journal.specs.Noted.{by_main}
+use Rattle.odb_journal.specs.Noted.{AreCutShort, by_main}
 use Rattle.odb_runinfo.specs.declared.keys.RunKey.TheVariants.{RunNumber as number_key}
 use Rattle.odb_runinfo.specs.declared.sets.RunNumber.{RunNumber as NoNext}
 use Rattle.odb_runinfo.specs.RunKeys.{key_path}
@@ -21,14 +21,15 @@ use Rattle.odb_script.specs.declared.forms.Command.TheVariants.{Nothing, Events,
 use Rattle.odb_script.specs.declared.refusals.LineRefusal.{LineRefusal}
 use Rattle.odb_script.specs.declared.refusals.LineRefusal.TheVariants.{BadCommand as no_command}
 use Rattle.odb_script.specs.Forms.{command_of}
-use Rattle.odb_commands.specs.Answers.{Answer, answer_of}
+use Rattle.odb_commands.specs.Answers.{Answer, answer_of, calls_of}
 use Rattle.daq_session.specs.declared.causes.Cause.{Cause}
 use Rattle.daq_session.specs.declared.causes.Cause.TheVariants.{Done, CommandRefused, Usage, BadInput, SourceFault, SinkFault, FileFault, NoMemory}
 use Rattle.session_console.specs.declared.records.SessionRecord.{SessionRecord}
 use Rattle.session_console.specs.FrontNames.{front_name}
 use Rattle.daq_session.specs.FrontSets.{made_by, IsSentSet, AreSentSets, set_numbers, IsFrontsPass, AreCallers}
+use Rattle.daq_session.specs.Playing.{StopsAt}
 use Rattle.daq_session.specs.Sessions.{Count, CutsBy, IsPlayed, IsRecorded, IsSession}
-use Rattle.daq_session.specs.Stages.{Outset, Stage, opening, called, opens, Begins, Refuses, Ends, StartsRun, DoesStart, DoesStop, DoesAnswer, Does, Plays, Interrupts, completed_record, refused_record, next_order}
+use Rattle.daq_session.specs.Stages.{Outset, Stage, opening, called, opens, Begins, Refuses, Ends, StartsRun, DoesStart, DoesStop, DoesAnswer, Does, Plays, Interrupts, line_calls, opening_calls, start_calls, completed_record, refused_record, next_order}
 
 -- The front-end set these numbers in the calls, and all other calls are the main thread's.
 record Makes (calls : List (ℕ × DatabaseEntry)) (numbers : List ℕ) : Type 0 where
@@ -190,18 +191,61 @@ plays_stands : (o : Outset) (lines : List (Result Command LineRefusal)) (old new
 plays_stands o [] old new plays stands = subst Stands (sym plays) stands
 plays_stands o (line ∷ lines) old new plays stands = plays_stands o lines plays.0 new plays.2 (does_stands o line old plays.0 plays.1 stands)
 
-interrupts_stands : (old new : Stage) → Interrupts old new → Stands old → Stands new
-interrupts_stands old new is stands = subst Stands (sym is.leads) (makes_none old.calls (by_main is.calls) (numbers_at old) stands (main_calls is.calls))
+-- The calls of a line, up to where it may find no memory, are the main thread's.
 
-cut_stands : (cause : Cause) (old new : Stage) → CutsBy cause old new → Stands old → Stands new
-cut_stands Done old new cut stands = subst Stands (sym cut) stands
-cut_stands (CommandRefused count first) old new cut stands = subst Stands (sym cut) stands
-cut_stands (BadInput fault) old new cut stands = subst Stands (sym cut) stands
-cut_stands Usage old new cut stands = absurd cut
-cut_stands SourceFault old new cut stands = subst Stands (sym cut) stands
-cut_stands SinkFault old new cut stands = subst Stands (sym cut) stands
-cut_stands (FileFault name) old new cut stands = subst Stands (sym cut) stands
-cut_stands NoMemory old new cut stands = interrupts_stands old new cut stands
+abbrev ByMain : List (ℕ × DatabaseEntry) → Type 0
+ByMain [] = Unit {0}
+ByMain (e ∷ es) = (e.0 ≡ 0) × ByMain es
+
+main_made_all : (made : List (ℕ × DatabaseEntry)) → ByMain made → Makes made []
+main_made_all [] main = none_made
+main_made_all (e ∷ made) main = subst (λ (n : ℕ). Makes ((n, e.1) ∷ made) []) (sym main.0) (main_made e.1 made [] (main_made_all made main.1))
+
+cut_main : (calls made : List (ℕ × DatabaseEntry)) → ByMain calls → AreCutShort calls made → ByMain made
+cut_main calls [] main short = tt
+cut_main [] (e ∷ made) main short = absurd short
+cut_main (c ∷ calls) (e ∷ made) main (inl here) = (ap (λ (x : ℕ × DatabaseEntry). x.0) here.0 ∙ main.0, cut_main calls made main.1 here.1)
+cut_main (c ∷ calls) (e ∷ made) main (inr last) = (ap (λ (x : ℕ × DatabaseEntry). x.0) last.0 ∙ main.0, subst ByMain (sym last.1) tt)
+
+opening_main : (opened : Bool) (rows : Rows) (more : List (ℕ × DatabaseEntry)) → ByMain more → ByMain (opening_calls opened rows ++ more)
+opening_main false rows more main = (refl, main)
+opening_main true rows more main = main
+
+start_main : (old : Stage) (on : Option Order) → ByMain (start_calls old on)
+start_main old None = opening_main old.opened old.rows (number_got (opens old.opened old).rows) (refl, tt)
+start_main old (Some order) = tt
+
+all_main : (calls : List DatabaseEntry) → ByMain (by_main calls)
+all_main [] = tt
+all_main (e ∷ calls) = (refl, all_main calls)
+
+answer_main : (answer : Option Answer) → ByMain (calls_of answer)
+answer_main None = tt
+answer_main (Some answer) = all_main answer.calls
+
+line_main : (old : Stage) (line : Result Command LineRefusal) → ByMain (line_calls old line)
+line_main old (Err why) = tt
+line_main old (Ok Start) = start_main old old.on
+line_main old (Ok command) = answer_main (answer_of old.rows command)
+
+interrupts_stands : (calls : List (ℕ × DatabaseEntry)) (old new : Stage) → ByMain calls → Interrupts calls old new → Stands old → Stands new
+interrupts_stands calls old new main is stands =
+    subst Stands (sym is.leads) (makes_none old.calls is.made (numbers_at old) stands (main_made_all is.made (cut_main calls is.made main is.short)))
+
+stops_stands : (source : Option (List ℕ)) (lines : List (List ℕ)) (old new : Stage) → (new ≡ old) ⊎ StopsAt source lines old new → Stands old → Stands new
+stops_stands source lines old new (inl same) stands = subst Stands (sym same) stands
+stops_stands source lines old new (inr stops) stands =
+    interrupts_stands (line_calls old (command_of stops.line)) old new (line_main old (command_of stops.line)) stops.interrupts stands
+
+cut_stands : (cause : Cause) (source : Option (List ℕ)) (lines : List (List ℕ)) (old new : Stage) → CutsBy cause source lines old new → Stands old → Stands new
+cut_stands Done source lines old new cut stands = subst Stands (sym cut) stands
+cut_stands (CommandRefused count first) source lines old new cut stands = subst Stands (sym cut) stands
+cut_stands (BadInput fault) source lines old new cut stands = subst Stands (sym cut) stands
+cut_stands Usage source lines old new cut stands = absurd cut
+cut_stands SourceFault source lines old new cut stands = subst Stands (sym cut) stands
+cut_stands SinkFault source lines old new cut stands = subst Stands (sym cut) stands
+cut_stands (FileFault name) source lines old new cut stands = subst Stands (sym cut) stands
+cut_stands NoMemory source lines old new cut stands = stops_stands source lines old new cut stands
 
 -- the session closes: no run is on
 closes_by : (o : Outset) (on : Option Order) (old new : Stage) → old.on ≡ on → MatchOption on (new ≡ old) (λ (order : Order). Does o old (Ok Stop) new) → Stands old → Makes new.calls (flat_map set_numbers new.runs)
@@ -210,10 +254,10 @@ closes_by o (Some order) old new on does stands =
     let ends : Ends o old order new = subst (λ (on : Option Order). DoesStop o old on new) on does in
     stands_at_rest new (ap (λ (s : Stage). s.on) ends.leads) (ends_stands o old new order on ends stands)
 
-final_makes : (o after : Outset) (cause : Cause) (lines : List (List ℕ)) (final : Stage) → IsPlayed o after (CutsBy cause) lines final → Makes final.calls (flat_map set_numbers final.runs)
-final_makes o after cause lines final played =
+final_makes : (o after : Outset) (cause : Cause) (source : Option (List ℕ)) (lines : List (List ℕ)) (final : Stage) → IsPlayed o after (CutsBy cause source lines) lines final → Makes final.calls (flat_map set_numbers final.runs)
+final_makes o after cause source lines final played =
     closes_by o played.cut.on played.cut final refl played.closes
-    (cut_stands cause played.behind played.cut played.is_cut
+    (cut_stands cause source lines played.behind played.cut played.is_cut
     (plays_stands o (map command_of lines) opening played.behind played.plays none_made))
 
 -- What the record of a session says of them.
@@ -229,5 +273,5 @@ callers_by final (Some s) recorded makes = rw recorded.2 makes.callers
 pub session_fronts : (o after : Outset) (source left told_first told_now : Option (List ℕ)) (sink : Count) (cause : Cause) (session : Option SessionRecord) → IsSession o after source left told_first told_now sink cause session
     → IfSome session (λ s. IsFrontsPass s.database s.runs) × IfSome session (λ s. AreCallers s.database)
 session_fronts o after source left told_first told_now sink cause session is =
-    let makes = final_makes o after cause is.lines is.final is.played in
+    let makes = final_makes o after cause source is.lines is.final is.played in
     (pass_by is.final session is.recorded makes, callers_by is.final session is.recorded makes)

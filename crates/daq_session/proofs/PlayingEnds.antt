@@ -1,6 +1,6 @@
 -- How the lines of a script end.
 use Rattle.std.proofs.Common.{◌≡◌, ℕ, ◌+◌, List, [], ◌∷◌, ◌++◌, Option, Some, refl, ap, sym, subst, arith, inl, inr}
-use Rattle.std.specs.Prelude.{Ok, Err}
+use Rattle.std.specs.Prelude.{Result, Ok, Err}
 use Rattle.std.proofs.Math.Logic.{⊎_elim}
 use Rattle.std.specs.Io.KnownBytes.{Appends}
 use Rattle.daq_io.specs.Streams.{Appends-kept}
@@ -17,10 +17,12 @@ use Rattle.session_console.specs.declared.replies.Reply.{Reply}
 use Rattle.session_console.specs.declared.refusals.Refusals.{Refusals}
 use Rattle.daq_session.specs.declared.state.State.{State}
 use Rattle.session_console.specs.Console.{text_of, console_text}
-use Rattle.daq_session.specs.Stages.{Outset, Stage}
+use Rattle.daq_session.specs.Stages.{Outset, Stage, Interrupts, line_calls}
+use Rattle.odb_script.specs.declared.forms.Command.{Command}
+use Rattle.odb_script.specs.declared.refusals.LineRefusal.{LineRefusal}
+use Rattle.odb_script.specs.KeptForms.{command_of-kept}
 use Rattle.daq_session.specs.Standing.{stage_of, IsReady}
 use Rattle.daq_session.specs.Playing.{Moment, Replied, Unanswered, DoesLine, AreFirst, AreLines, CutBy, Wrote, Played, PlaysTo}
-use Rattle.daq_session.proofs.Interrupting.{interrupts_none}
 use Rattle.daq_session.proofs.PlayingLaws.{SoFar, moment_more, stops, wrote_more, wrote_part, wrote_none, wrote_whole}
 
 -- what was read of a source that told this text
@@ -28,13 +30,13 @@ told_read : (first now : Option (List ℕ)) (reading : Reading) (lines : List (L
 told_read first now reading lines text told read = subst (λ (f : Option (List ℕ)). HasRead f now reading lines) told read
 
 -- nothing was cut off
-pub cut_none : (ending : Ending) (s : Stage) → CutBy ending s s
-cut_none End s = refl
-cut_none TooLong s = refl
-cut_none SourceFault s = refl
-cut_none (Halted NoMemory) s = interrupts_none s
-cut_none (Halted SinkFault) s = refl
-cut_none (Halted FileFault) s = refl
+pub cut_none : (ending : Ending) (source : Option (List ℕ)) (lines : List (List ℕ)) (s : Stage) → CutBy ending source lines s s
+cut_none End source lines s = refl
+cut_none TooLong source lines s = refl
+cut_none SourceFault source lines s = refl
+cut_none (Halted NoMemory) source lines s = inl refl
+cut_none (Halted SinkFault) source lines s = refl
+cut_none (Halted FileFault) source lines s = refl
 
 -- the lines were answered, and nothing else was done
 answered_played : (o : Outset) (ending : Ending) (source left told_first told_now : Option (List ℕ)) (lines : List (List ℕ)) (replies : List Reply) (s : State) (now : Outset) (refusals : Refusals)
@@ -46,7 +48,7 @@ answered_played o ending source left told_first told_now lines replies s now ref
   behind = stage_of s moment.readings replies;
   plays = moment.plays;
   readings = moment.readings;
-  cut = cut_none ending (stage_of s moment.readings replies);
+  cut = cut_none ending source lines (stage_of s moment.readings replies);
   at = moment.at;
   counts = moment.counts;
   ready = ready;
@@ -138,16 +140,21 @@ pub first_by_last : (source_first source_old source_new : Option (List ℕ)) (ol
 first_by_last source_first source_old source_new old new lines line read on reads text told = lines_first_last text source_old source_new old new lines line (told_read source_first source_old old lines text told read) on reads
 
 -- a line was not answered
-broken_played : (o : Outset) (source_first source_old left told_first told_old told_new : Option (List ℕ)) (reading : Reading) (old new : State) (before after : Outset) (was now : Refusals) (number : ℕ)
-    → SoFar o source_first source_old told_first told_old reading old before was number → Unanswered old new before after told_old told_new was now
+broken_played : (o : Outset) (source_first source_old left told_first told_old told_new : Option (List ℕ)) (reading : Reading) (old new : State) (before after : Outset) (was now : Refusals) (number : ℕ) (line : List ℕ)
+    → (so_far : SoFar o source_first source_old told_first told_old reading old before was number) → AreFirstOf source_first (so_far.lines ++ line ∷ []) → Unanswered (kept line) old new before after told_old told_new was now
     → Played o (Halted NoMemory) source_first left told_first told_new new after now
-broken_played o source_first source_old left told_first told_old told_new reading old new before after was now number so_far unanswered = record {
+broken_played o source_first source_old left told_first told_old told_new reading old new before after was now number line so_far first unanswered = record {
   lines = so_far.lines;
   replies = so_far.replies;
   behind = stage_of old so_far.moment.readings so_far.replies;
   plays = so_far.moment.plays;
   readings = so_far.moment.readings;
-  cut = unanswered.breaks.stage so_far.moment.readings so_far.replies;
+  cut = inr (record {
+    line = line;
+    next = first;
+    interrupts = subst (λ (c : Result Command LineRefusal). Interrupts (line_calls (stage_of old so_far.moment.readings so_far.replies) c) (stage_of old so_far.moment.readings so_far.replies) (stage_of new so_far.moment.readings so_far.replies))
+        (command_of-kept line) (unanswered.breaks.stage so_far.moment.readings so_far.replies);
+  });
   at = unanswered.breaks.at o so_far.moment.readings so_far.moment.at;
   counts = rw unanswered.same so_far.moment.counts;
   ready = unanswered.ready;
@@ -166,7 +173,7 @@ halted_played o SinkFault source_first source_old left told_first told_old told_
 halted_played o NoMemory source_first source_old left told_first told_old told_new reading old new before after was now number line so_far first does = ⊎_elim
     (λ answered. behind_played o (Halted NoMemory) source_first source_old left told_first told_old told_new reading old new before after was now number line answered.0 so_far answered.1 first
     (wrote_none told_first told_old told_new so_far.replies answered.0 so_far.wrote answered.2))
-    (λ unanswered. broken_played o source_first source_old left told_first told_old told_new reading old new before after was now number so_far unanswered)
+    (λ unanswered. broken_played o source_first source_old left told_first told_old told_new reading old new before after was now number line so_far first unanswered)
     does
 
 -- the same, of the line as it is kept

@@ -1,5 +1,5 @@
 -- From how a session was closed to its cause.
-use Rattle.std.proofs.Common.{◌≡◌, ◌≢◌, ℕ, ◌<◌, List, [], ◌∷◌, Option, None, true, false, Bool, length, refl, ap, sym, subst, ◌∙◌, arith, eqb-true, zero-add}
+use Rattle.std.proofs.Common.{◌≡◌, ◌≢◌, ℕ, ◌<◌, List, [], ◌∷◌, Option, None, true, false, Bool, length, refl, ap, sym, subst, ◌∙◌, arith, eqb-true, zero-add, inl}
 use Rattle.std.specs.Prelude.{◌==◌, if◌then◌else◌, zero, suc}
 use Rattle.std.proofs.lemmas.List.Elements.{All-nil}
 use Rattle.daq_io.specs.Counts.{Rose}
@@ -22,7 +22,6 @@ use Rattle.daq_session.specs.Endings.{FileCounts}
 use Rattle.daq_session.specs.Playing.{AreLines, CutBy, Played, PlaysTo}
 use Rattle.daq_session.specs.Sessions.{Count, CutsBy, ReadBy, RefusedBy, FaultsBy, IsRecorded, IsSession}
 use Rattle.daq_session.specs.Closing.{Finished, FaultsOf, CauseBy}
-use Rattle.daq_session.proofs.Interrupting.{interrupts_none}
 use Rattle.daq_session.proofs.ClosingLaws.{played_by}
 
 pub plays_played : (o : Outset) (ending : Ending) (source left told_first told_now : Option (List ℕ)) (s : State) (now : Outset) (refusals : Refusals) → ending ≢ Halted FileFault
@@ -52,17 +51,17 @@ empty_by [] e = refl
 empty_by (x ∷ xs) e = absurd (omega (arith, e))
 
 -- what is cut off by the ending, and by the cause that it is
-cut_by : (ending : Ending) (cause : Cause) (refusals : Refusals) (first : Option (List ℕ)) → CauseBy ending refusals first cause → (old new : Stage) → CutBy ending old new → CutsBy cause old new
-cut_by End cause refusals first by old new cut =
-    elim (refusals.count == 0) as (λ (b : Bool). cause ≡ (if b then Done else CommandRefused refusals.count refusals.first) → CutsBy cause old new) [
-      | true ↦ λ is. subst (λ (c : Cause). CutsBy c old new) (sym is) cut
-      | false ↦ λ is. subst (λ (c : Cause). CutsBy c old new) (sym is) cut
+cut_by : (ending : Ending) (cause : Cause) (refusals : Refusals) (first : Option (List ℕ)) → CauseBy ending refusals first cause → (source : Option (List ℕ)) (lines : List (List ℕ)) (old new : Stage) → CutBy ending source lines old new → CutsBy cause source lines old new
+cut_by End cause refusals first by source lines old new cut =
+    elim (refusals.count == 0) as (λ (b : Bool). cause ≡ (if b then Done else CommandRefused refusals.count refusals.first) → CutsBy cause source lines old new) [
+      | true ↦ λ is. subst (λ (c : Cause). CutsBy c source lines old new) (sym is) cut
+      | false ↦ λ is. subst (λ (c : Cause). CutsBy c source lines old new) (sym is) cut
     ] by
-cut_by TooLong cause refusals first by old new cut = subst (λ (c : Cause). CutsBy c old new) (sym by) cut
-cut_by SourceFault cause refusals first by old new cut = subst (λ (c : Cause). CutsBy c old new) (sym by) cut
-cut_by (Halted NoMemory) cause refusals first by old new cut = subst (λ (c : Cause). CutsBy c old new) (sym by) cut
-cut_by (Halted SinkFault) cause refusals first by old new cut = subst (λ (c : Cause). CutsBy c old new) (sym by) cut
-cut_by (Halted FileFault) cause refusals first by old new cut = subst (λ (c : Cause). CutsBy c old new) (sym by.1) cut
+cut_by TooLong cause refusals first by source lines old new cut = subst (λ (c : Cause). CutsBy c source lines old new) (sym by) cut
+cut_by SourceFault cause refusals first by source lines old new cut = subst (λ (c : Cause). CutsBy c source lines old new) (sym by) cut
+cut_by (Halted NoMemory) cause refusals first by source lines old new cut = subst (λ (c : Cause). CutsBy c source lines old new) (sym by) cut
+cut_by (Halted SinkFault) cause refusals first by source lines old new cut = subst (λ (c : Cause). CutsBy c source lines old new) (sym by) cut
+cut_by (Halted FileFault) cause refusals first by source lines old new cut = subst (λ (c : Cause). CutsBy c source lines old new) (sym by.1) cut
 
 -- which lines were played
 read_by : (ending : Ending) (cause : Cause) (refusals : Refusals) (first : Option (List ℕ)) → CauseBy ending refusals first cause → (text : List ℕ) (left : Option (List ℕ)) (lines : List (List ℕ)) → AreLines ending text left lines → ReadBy cause text left lines
@@ -107,7 +106,7 @@ session_by o ending cause first source left told_first told_now sink s after ref
     record {
       lines = finished.lines;
       final = stage_of s finished.readings finished.replies;
-      played = played_by o after (CutBy ending) (CutsBy cause) finished.lines (stage_of s finished.readings finished.replies) (cut_by ending cause refusals first by) finished.played;
+      played = played_by o after (CutBy ending source finished.lines) (CutsBy cause source finished.lines) finished.lines (stage_of s finished.readings finished.replies) (cut_by ending cause refusals first by source finished.lines) finished.played;
       recorded = recorded finished.readings finished.replies;
       read = λ text told. read_by ending cause refusals first by text left finished.lines (finished.are_lines text told);
       refused = refused_by ending cause refusals first by (refused_lines 1 finished.replies) finished.counts;
@@ -137,7 +136,7 @@ session_none o source left told sink = record {
     behind = opening;
     plays = refl;
     cut = opening;
-    is_cut = interrupts_none opening;
+    is_cut = inl refl;
     closes = refl;
     kept = record { tells = refl; filed = λ known. All-nil (IsFiled o.files.at); begun = λ known. tt; others = λ known name avoids ne. refl };
     clock = record { tells = refl; ahead = λ told n. ap o.ahead (sym (zero-add n)) };

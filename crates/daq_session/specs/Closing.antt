@@ -47,7 +47,7 @@ pub record Finished (o : Outset) (ending : Ending) (source left told_first told_
   pub lines : List (List ℕ)
   pub replies : List Reply
   pub readings : ℕ
-  pub played : IsPlayed o after (CutBy ending) lines (stage_of s readings replies)
+  pub played : IsPlayed o after (CutBy ending source lines) lines (stage_of s readings replies)
   pub counts : Counts (refused_lines 1 replies) refusals
   pub are_lines : (text : List ℕ) → source ≡ Some text → AreLines ending text left lines
   pub wrote : ending ≢ Halted NoMemory → ¬ Rises sink → Appends told_first told_now (console_text 1 replies)

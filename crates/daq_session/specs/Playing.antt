@@ -1,5 +1,5 @@
 -- A script played by a session: line by line, and what was written.
-use Rattle.std.specs.Prelude.{◌≡◌, ℕ, ◌<◌, ◌≤◌, true, false, List, [], length, map, take, Option, Some, None, Result, Ok, Err, ◌⊎◌, ⊤}
+use Rattle.std.specs.Prelude.{◌≡◌, ℕ, ◌<◌, ◌≤◌, true, false, List, [], ◌∷◌, ◌++◌, length, map, take, Option, Some, None, Result, Ok, Err, ◌⊎◌, ⊤}
 use Rattle.std.specs.Io.KnownBytes.{Appends, Keeps}
 use Rattle.daq_io.specs.Streams.{AppendsPart}
 use Rattle.odb_runinfo.specs.RunKeys.{session_rows}
@@ -20,8 +20,8 @@ use Rattle.session_console.specs.declared.refusals.Refusals.{Refusals}
 use Rattle.daq_session.specs.declared.state.State.{State}
 use Rattle.session_console.specs.Console.{text_of, console_text, is_refusal, refused_lines}
 use Rattle.session_console.specs.Refused.{noted, Counts}
-use Rattle.daq_session.specs.Stages.{Outset, Stage, opening, Plays, Interrupts}
-use Rattle.daq_session.specs.Standing.{stage_of, IsAt, IsReady, Answers, Breaks}
+use Rattle.daq_session.specs.Stages.{Outset, Stage, opening, Plays, Interrupts, line_calls}
+use Rattle.daq_session.specs.Standing.{stage_of, IsAt, IsReady, Answers, Breaks, calls_of_line}
 
 -- The session after some lines of its script: what they did, where the outside is, and which were refused.
 pub record Moment (o : Outset) (lines : List (List ℕ)) (replies : List Reply) (s : State) (now : Outset) (refusals : Refusals) : Type 0 where
@@ -48,8 +48,8 @@ pub record Replied (line : List ℕ) (number : ℕ) (reply : Reply) (old new : S
   pub is_noted : now ≡ noted was number (is_refusal reply)
 
 -- The line was not answered, for want of memory.
-pub record Unanswered (old new : State) (before after : Outset) (told_old told_new : Option (List ℕ)) (was now : Refusals) : Type 0 where
-  pub breaks : Breaks old new before after
+pub record Unanswered (line : List ℕ) (old new : State) (before after : Outset) (told_old told_new : Option (List ℕ)) (was now : Refusals) : Type 0 where
+  pub breaks : Breaks (calls_of_line (command_of line)) old new before after
   pub ready : IsReady after.files new.current
   pub same : now ≡ was
   pub kept : Keeps told_old told_new
@@ -65,7 +65,7 @@ abbrev pub DoesLine : (line : List ℕ) (number : ℕ) (old new : State) (before
 DoesLine line number old new before after told_old told_new was now (Ok going) = (reply : Reply) × Replied line number reply old new before after was now × Appends told_old told_new (text_of number reply) × GoesBehind going (command_of line)
 DoesLine line number old new before after told_old told_new was now (Err SinkFault) = (reply : Reply) × Replied line number reply old new before after was now × AppendsPart told_old told_new (text_of number reply)
 DoesLine line number old new before after told_old told_new was now (Err NoMemory) =
-    ((reply : Reply) × Replied line number reply old new before after was now × Keeps told_old told_new) ⊎ Unanswered old new before after told_old told_new was now
+    ((reply : Reply) × Replied line number reply old new before after was now × Keeps told_old told_new) ⊎ Unanswered line old new before after told_old told_new was now
 DoesLine line number old new before after told_old told_new was now (Err FileFault) = ⊤
 
 -- a text was written; or a part of it, where the sink failed; or nothing, for want of memory
@@ -102,14 +102,24 @@ AreLines TooLong text left lines = AreTooMany text lines
 AreLines SourceFault text left lines = AreGiven text left lines
 AreLines (Halted halt) text left lines = AreFirst text lines
 
--- Behind the last line that was answered a command may have found no memory.
-abbrev pub CutBy : Ending → Stage → Stage → Type 0
-CutBy End old new = new ≡ old
-CutBy TooLong old new = new ≡ old
-CutBy SourceFault old new = new ≡ old
-CutBy (Halted NoMemory) old new = Interrupts old new
-CutBy (Halted SinkFault) old new = new ≡ old
-CutBy (Halted FileFault) old new = new ≡ old
+-- this is the next line of the script's text behind these
+abbrev pub IsNext : (source : Option (List ℕ)) → (lines : List (List ℕ)) → (line : List ℕ) → Type 0
+IsNext source lines line = (text : List ℕ) → source ≡ Some text → AreFirst text (lines ++ line ∷ [])
+
+-- the next line found no memory: the first of its calls were made
+pub record StopsAt (source : Option (List ℕ)) (lines : List (List ℕ)) (old new : Stage) : Type 0 where
+  pub line : List ℕ
+  pub next : IsNext source lines line
+  pub interrupts : Interrupts (line_calls old (command_of line)) old new
+
+-- Behind the last line that was answered the next one may have found no memory.
+abbrev pub CutBy : Ending → (source : Option (List ℕ)) → (lines : List (List ℕ)) → Stage → Stage → Type 0
+CutBy End source lines old new = new ≡ old
+CutBy TooLong source lines old new = new ≡ old
+CutBy SourceFault source lines old new = new ≡ old
+CutBy (Halted NoMemory) source lines old new = (new ≡ old) ⊎ StopsAt source lines old new
+CutBy (Halted SinkFault) source lines old new = new ≡ old
+CutBy (Halted FileFault) source lines old new = new ≡ old
 
 -- What was written of the replies' text: all of it, but for its end where the sink failed or there was no memory.
 abbrev pub Wrote : Ending → (told_first told_now : Option (List ℕ)) → List ℕ → Type 0
@@ -125,7 +135,7 @@ pub record Played (o : Outset) (ending : Ending) (source left told_first told_no
   pub behind : Stage
   pub plays : Plays o opening (map command_of lines) behind
   pub readings : ℕ
-  pub cut : CutBy ending behind (stage_of s readings replies)
+  pub cut : CutBy ending source lines behind (stage_of s readings replies)
   pub at : IsAt o readings s now
   pub counts : Counts (refused_lines 1 replies) refusals
   pub ready : IsReady now.files s.current

@@ -1,5 +1,5 @@
 -- A script and what a session made of it: the records of its runs, the run files, the text written, and the cause.
-use Rattle.std.specs.Prelude.{◌≡◌, ◌≢◌, ℕ, ◌<◌, true, false, List, [], length, map, Option, Some, None, Ok, MatchOption, ⊤}
+use Rattle.std.specs.Prelude.{◌≡◌, ◌≢◌, ◌⊎◌, ℕ, ◌<◌, true, false, List, [], length, map, Option, Some, None, Ok, MatchOption, ⊤}
 use Rattle.std.specs.Io.KnownBytes.{Appends}
 use Rattle.daq_io.specs.Counts.{Rose}
 use Rattle.daq_io.specs.Streams.{AppendsPart}
@@ -9,11 +9,11 @@ use Rattle.daq_session.specs.declared.causes.Cause.{Cause}
 use Rattle.daq_session.specs.declared.causes.Cause.TheVariants.{Done, CommandRefused, Usage, BadInput, SourceFault, SinkFault, FileFault, NoMemory}
 use Rattle.session_console.specs.declared.records.SessionRecord.{SessionRecord}
 use Rattle.session_console.specs.Console.{console_text, refused_lines, first_line}
-use Rattle.daq_session.specs.Playing.{AreWhole, AreTooMany, AreGiven, AreFirst}
+use Rattle.daq_session.specs.Playing.{AreWhole, AreTooMany, AreGiven, AreFirst, StopsAt}
 use Rattle.daq_session.specs.RunRecords.{IsKept}
 use Rattle.midas_tools.specs.declared.ends.InputFault.TheVariants.{ScriptTooLong}
 use Rattle.daq_session.specs.Standing.{IsClock}
-use Rattle.daq_session.specs.Stages.{Outset, Stage, opening, Does, Plays, Interrupts}
+use Rattle.daq_session.specs.Stages.{Outset, Stage, opening, Does, Plays}
 
 -- the stop at the script's end, which is given where a run is on
 abbrev pub ClosesRun : Outset → Stage → Stage → Type 0
@@ -37,15 +37,15 @@ IsRecorded final None = final.opened ≡ false
 IsRecorded final (Some session) = (final.opened ≡ true) × (session.runs ≡ final.runs) × (session.database ≡ final.calls)
 
 -- A command is cut off where it found no memory, and then alone.
-abbrev pub CutsBy : Cause → Stage → Stage → Type 0
-CutsBy Done old new = new ≡ old
-CutsBy (CommandRefused count first) old new = new ≡ old
-CutsBy (BadInput fault) old new = new ≡ old
-CutsBy Usage old new = ⊥
-CutsBy SourceFault old new = new ≡ old
-CutsBy SinkFault old new = new ≡ old
-CutsBy (FileFault name) old new = new ≡ old
-CutsBy NoMemory old new = Interrupts old new
+abbrev pub CutsBy : Cause → (source : Option (List ℕ)) → (lines : List (List ℕ)) → Stage → Stage → Type 0
+CutsBy Done source lines old new = new ≡ old
+CutsBy (CommandRefused count first) source lines old new = new ≡ old
+CutsBy (BadInput fault) source lines old new = new ≡ old
+CutsBy Usage source lines old new = ⊥
+CutsBy SourceFault source lines old new = new ≡ old
+CutsBy SinkFault source lines old new = new ≡ old
+CutsBy (FileFault name) source lines old new = new ≡ old
+CutsBy NoMemory source lines old new = (new ≡ old) ⊎ StopsAt source lines old new
 
 -- Which lines of the script's text were played, where this is left in the source: all of them, where the script was read
 -- to its end or is too long; those that were given, where the source failed; and else the first.
@@ -98,7 +98,7 @@ FaultsBy NoMemory source sink files first = ⊤
 pub record IsSession (o after : Outset) (source left told_first told_now : Option (List ℕ)) (sink : Count) (cause : Cause) (session : Option SessionRecord) : Type 0 where
   pub lines : List (List ℕ)
   pub final : Stage
-  pub played : IsPlayed o after (CutsBy cause) lines final
+  pub played : IsPlayed o after (CutsBy cause source lines) lines final
   pub recorded : IsRecorded final session
   pub read : (text : List ℕ) → source ≡ Some text → ReadBy cause text left lines
   pub refused : RefusedBy cause (refused_lines 1 final.replies)

@@ -8,7 +8,7 @@ use Rattle.odb_tree.specs.declared.entry.DatabaseEntry.{DatabaseEntry}
 use Rattle.odb_tree.specs.Rows.{Rows}
 use Rattle.odb_tree.specs.Calls.{get_reply}
 use Rattle.odb_tree.specs.Histories.{replay}
-use Rattle.odb_journal.specs.Noted.{by_main}
+use Rattle.odb_journal.specs.Noted.{AreCutShort, by_main}
 use Rattle.odb_runinfo.specs.declared.keys.RunKey.TheVariants.{RunNumber as number_key}
 use Rattle.odb_runinfo.specs.declared.sets.RunNumber.{RunNumber as NoNext}
 use Rattle.odb_runinfo.specs.RunKeys.{key_path, session_rows}
@@ -17,7 +17,7 @@ use Rattle.odb_script.specs.declared.forms.Command.{Command}
 use Rattle.odb_script.specs.declared.forms.Command.TheVariants.{Nothing, Events, Start, Stop, Create, CreateDir, Set, Get, List as Ls, Remove, Exit}
 use Rattle.odb_script.specs.declared.refusals.LineRefusal.{LineRefusal}
 use Rattle.odb_script.specs.declared.refusals.LineRefusal.TheVariants.{BadCommand as no_command}
-use Rattle.odb_commands.specs.Answers.{Answer, answer_of}
+use Rattle.odb_commands.specs.Answers.{Answer, answer_of, calls_of}
 use Rattle.session_console.specs.declared.records.RunRecord.{RunRecord}
 use Rattle.session_console.specs.declared.records.FrontTally.{FrontTally}
 use Rattle.session_console.specs.declared.records.FileRecord.{FileRecord}
@@ -167,15 +167,34 @@ abbrev pub Plays : Outset → Stage → List (Result Command LineRefusal) → St
 Plays o old [] new = new ≡ old
 Plays o old (line ∷ lines) new = (between : Stage) × Does o old line between × Plays o between lines new
 
+-- The calls of a line up to where it may find no memory.
+
+-- the first start opens the session
+abbrev pub opening_calls : Bool → Rows → List (ℕ × DatabaseEntry)
+opening_calls false rows = front_made rows front_name
+opening_calls true rows = []
+
+-- a start where no run is on, before its run begins
+abbrev pub start_calls : Stage → Option Order → List (ℕ × DatabaseEntry)
+start_calls old None = opening_calls old.opened old.rows ++ number_got (opens old.opened old).rows
+start_calls old (Some order) = []
+
+abbrev pub line_calls : Stage → Result Command LineRefusal → List (ℕ × DatabaseEntry)
+line_calls old (Err why) = []
+line_calls old (Ok Start) = start_calls old old.on
+line_calls old (Ok command) = calls_of (answer_of old.rows command)
+
 -- These calls opened the session: the first of them is the one that does, and was not refused for want of memory.
-pub record OpenedBy (old : Stage) (opened : Bool) (calls : List DatabaseEntry) : Type 0 where
-  pub behind : List DatabaseEntry
-  pub calls_are : by_main calls ≡ front_made old.rows front_name ++ by_main behind
+pub record OpenedBy (old : Stage) (opened : Bool) (calls : List (ℕ × DatabaseEntry)) : Type 0 where
+  pub behind : List (ℕ × DatabaseEntry)
+  pub calls_are : calls ≡ front_made old.rows front_name ++ behind
   pub is_open : opened ≡ true
 
--- A command found no memory: the main thread made some calls on the database, which maybe opened the session.
-pub record Interrupts (old new : Stage) : Type 0 where
-  pub calls : List DatabaseEntry
+-- Memory ended before these calls were made and answered: the first of them were, the last of those maybe with that
+-- reply, and they maybe opened the session. Nothing else happened.
+pub record Interrupts (calls : List (ℕ × DatabaseEntry)) (old new : Stage) : Type 0 where
+  pub made : List (ℕ × DatabaseEntry)
+  pub short : AreCutShort calls made
   pub opened : Bool
-  pub opened_by : (opened ≡ old.opened) ⊎ OpenedBy old opened calls
-  pub leads : new ≡ record (called old (by_main calls)) { opened = opened }
+  pub opened_by : (opened ≡ old.opened) ⊎ OpenedBy old opened made
+  pub leads : new ≡ record (called old made) { opened = opened }

@@ -11,7 +11,8 @@ use Rattle.session_console.specs.declared.replies.Reply.{Reply}
 use Rattle.daq_session.specs.declared.state.State.{State}
 use Rattle.daq_session.specs.declared.state.OpenRun.{OpenRun}
 use Rattle.daq_session.specs.RunRecords.{IsKept}
-use Rattle.daq_session.specs.Stages.{Outset, Stage, Does, StartsRun, Interrupts}
+use Rattle.odb_tree.specs.declared.entry.DatabaseEntry.{DatabaseEntry}
+use Rattle.daq_session.specs.Stages.{Outset, Stage, Does, StartsRun, Interrupts, line_calls}
 
 -- the order of the run that is on
 abbrev pub order_in : Option OpenRun → Option Order
@@ -48,6 +49,14 @@ AnswersBy Way reply old new before after = (o : Outset) (readings : ℕ) (replie
 abbrev pub LineDoes : Result Command LineRefusal → Outset → Stage → Stage → Type 0
 LineDoes line o old new = Does o old line new
 
+-- the calls that the line makes up to where it may find no memory
+abbrev pub calls_of_line : Result Command LineRefusal → Stage → List (ℕ × DatabaseEntry)
+calls_of_line line old = line_calls old line
+
+-- none
+abbrev pub no_calls : Stage → List (ℕ × DatabaseEntry)
+no_calls old = []
+
 -- how a run of this number is started
 abbrev pub RunStarts : (run : ℕ) → Outset → Stage → Stage → Type 0
 RunStarts run o old new = StartsRun o (Ok run) old new
@@ -55,18 +64,20 @@ RunStarts run o old new = StartsRun o (Ok run) old new
 abbrev pub Answers : Result Command LineRefusal → Reply → (old new : State) → (before after : Outset) → Type 0
 Answers line = AnswersBy (LineDoes line)
 
--- A command found no memory: the state is what it was but for calls on the database, and so is the outside.
-pub record Breaks (old new : State) (before after : Outset) : Type 0 where
-  pub stage : (readings : ℕ) (replies : List Reply) → Interrupts (stage_of old readings replies) (stage_of new readings replies)
+-- A command found no memory: the state is what it was but for the first of these calls on the database, and so is the
+-- outside.
+pub record Breaks (calls : Stage → List (ℕ × DatabaseEntry)) (old new : State) (before after : Outset) : Type 0 where
+  pub stage : (readings : ℕ) (replies : List Reply) → Interrupts (calls (stage_of old readings replies)) (stage_of old readings replies) (stage_of new readings replies)
   pub at : (o : Outset) (readings : ℕ) → IsAt o readings old before → IsAt o readings new after
 
--- What is done in this way: it is answered, or there was no memory, or a call on the run files failed.
-abbrev pub HandlesBy : (Outset → Stage → Stage → Type 0) → (old new : State) (before after : Outset) → Result Reply Halt → Type 0
-HandlesBy Way old new before after (Ok reply) = AnswersBy Way reply old new before after × IsReady after.files new.current
-HandlesBy Way old new before after (Err NoMemory) = Breaks old new before after × IsReady after.files new.current
-HandlesBy Way old new before after (Err SinkFault) = ⊥
-HandlesBy Way old new before after (Err FileFault) = ⊤
+-- What is done in this way: it is answered, or there was no memory before these calls were made and answered, or a call
+-- on the run files failed.
+abbrev pub HandlesBy : (Outset → Stage → Stage → Type 0) → (Stage → List (ℕ × DatabaseEntry)) → (old new : State) (before after : Outset) → Result Reply Halt → Type 0
+HandlesBy Way calls old new before after (Ok reply) = AnswersBy Way reply old new before after × IsReady after.files new.current
+HandlesBy Way calls old new before after (Err NoMemory) = Breaks calls old new before after × IsReady after.files new.current
+HandlesBy Way calls old new before after (Err SinkFault) = ⊥
+HandlesBy Way calls old new before after (Err FileFault) = ⊤
 
 -- what a line does
 abbrev pub Handles : Result Command LineRefusal → (old new : State) (before after : Outset) → Result Reply Halt → Type 0
-Handles line = HandlesBy (LineDoes line)
+Handles line = HandlesBy (LineDoes line) (calls_of_line line)

@@ -6,7 +6,7 @@ ghost use Rattle.odb_script.specs.declared.forms.Command.TheVariants.{Nothing, S
 ghost use Rattle.session_console.specs.Console.{is_refusal};
 ghost use Rattle.daq_session.specs.Halts.{CountsHalt};
 ghost use Rattle.daq_session.specs.Standing.{Answers, Handles, IsReady, stage_of};
-ghost use Rattle.daq_session.specs.Stages.{DoesAnswer, Interrupts};
+ghost use Rattle.daq_session.specs.Stages.{DoesAnswer, Interrupts, line_calls};
 ghost use Rattle.daq_session.specs.declared.halts.Halt.TheVariants.{NoMemory as no_memory};
 ghost use Rattle.odb_commands.specs.Answers.{answer_of};
 ghost use Rattle.odb_runinfo.specs.RunKeys.{session_rows};
@@ -67,7 +67,7 @@ fn call(alloc: Global, state: &mut State, command: &Command<'_>) -> Result<Reply
     requires is_call { IsSome (answer_of state.old.database.rows command.now) }
     ensures answered { IfOk result (λ reply. (readings : ℕ) (replies : List Reply) → DoesAnswer (stage_of state.old readings replies) (answer_of state.old.database.rows command.now) (stage_of state.new readings (replies ++ reply ∷ []))) }
     ensures halted { IfErr result (λ halt. halt ≡ no_memory) }
-    ensures interrupted { OnErr result ((readings : ℕ) (replies : List Reply) → Interrupts (stage_of state.old readings replies) (stage_of state.new readings replies)) }
+    ensures interrupted { OnErr result ((readings : ℕ) (replies : List Reply) → Interrupts (line_calls (stage_of state.old readings replies) (Ok command.now)) (stage_of state.old readings replies) (stage_of state.new readings replies)) }
     ensures current { state.new.current ≡ state.old.current }
     ensures runs { state.new.runs.items ≡ state.old.runs.items }
     ensures starts { state.new.starts ≡ state.old.starts }

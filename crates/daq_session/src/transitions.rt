@@ -13,8 +13,8 @@ ghost use Rattle.session_console.specs.Console.{is_refusal};
 ghost use Rattle.odb_journal.specs.Noted.{KeepsCalls};
 ghost use Rattle.session_console.specs.FrontNames.{front_name};
 ghost use Rattle.daq_session.specs.RunNames.{run_name};
-ghost use Rattle.daq_session.specs.Stages.{Interrupts, completed_record, file_record, opens, refused_record};
-ghost use Rattle.daq_session.specs.Standing.{Answers, Handles, HandlesBy, IsReady, RunStarts, stage_of};
+ghost use Rattle.daq_session.specs.Stages.{Interrupts, completed_record, file_record, line_calls, opens, refused_record};
+ghost use Rattle.daq_session.specs.Standing.{Answers, Handles, HandlesBy, IsReady, RunStarts, no_calls, stage_of};
 ghost use Rattle.odb_script.specs.declared.forms.Command.TheVariants.{Start, Stop};
 ghost use Rattle.daq_session.specs.Halts.{CountsHalt};
 
@@ -70,7 +70,7 @@ fn front_name() -> Name
 fn open_session(alloc: Global, state: &mut State) -> Result<(), NoMemory>
     requires idle { state.old.current ≡ None }
     ensures opens { OnOk result ((readings : ℕ) (replies : List Reply) → stage_of state.new readings replies ≡ opens state.old.opened (stage_of state.old readings replies)) }
-    ensures interrupted { OnErr result ((readings : ℕ) (replies : List Reply) → Interrupts (stage_of state.old readings replies) (stage_of state.new readings replies)) }
+    ensures interrupted { OnErr result ((readings : ℕ) (replies : List Reply) → Interrupts (line_calls (stage_of state.old readings replies) (Ok Start)) (stage_of state.old readings replies) (stage_of state.new readings replies)) }
     ensures current { state.new.current ≡ state.old.current }
     ensures runs { state.new.runs.items ≡ state.old.runs.items }
     ensures starts { state.new.starts ≡ state.old.starts }
@@ -144,7 +144,7 @@ fn start_run<F: Files, C: Clock>(
     requires bytes { ForSome state.old.current (λ r. 80 * r.order.quota ≤ path.old.port.bytes) }
     requires told { ∥ IsStanding path.old.port.history (accepted_of path.old.port.window) state.old.starts state.old.runs.items state.old.current ∥₁ }
     requires ready { IsReady (F.seen files.old) state.old.current }
-    ensures did { HandlesBy (RunStarts run) state.old state.new (record { files = F.seen files.old; clock_tells = C.tells clock.old; ahead = C.ahead clock.old }) (record { files = F.seen files.new; clock_tells = C.tells clock.new; ahead = C.ahead clock.new }) result }
+    ensures did { HandlesBy (RunStarts run) no_calls state.old state.new (record { files = F.seen files.old; clock_tells = C.tells clock.old; ahead = C.ahead clock.old }) (record { files = F.seen files.new; clock_tells = C.tells clock.new; ahead = C.ahead clock.new }) result }
     ensures shut { ForNone state.new.current (path.new.port.window.gate ≡ Shut) }
     ensures open_gate { ForSome state.new.current (λ r. path.new.port.window.gate ≡ Running r.order.start) }
     ensures later { path.new.port.window.last ≤ state.new.starts }

@@ -18,7 +18,7 @@ use Rattle.odb_tree.specs.declared.rows.NewKey.{NewKey}
 use Rattle.odb_tree.specs.declared.rows.NewKey.TheVariants.{Dir, Keys}
 use Rattle.odb_tree.specs.Rows.{Rows}
 use Rattle.odb_tree.specs.Calls.{create_reply, set_reply, get_reply, find_reply, list_reply, delete_reply, path_with}
-use Rattle.odb_journal.specs.Noted.{Noted, Grows, by_main}
+use Rattle.odb_journal.specs.Noted.{Noted, Grows, EndsEarly, by_main}
 use Rattle.odb_script.specs.declared.forms.Command.{Command}
 use Rattle.odb_script.specs.declared.forms.Command.TheVariants as command
 use Rattle.odb_commands.specs.declared.replies.CommandRefusal.{CommandRefusal}
@@ -145,3 +145,12 @@ abbrev pub AnswersIf : (p q : Noted) → Option Answer → Option CommandReply �
 AnswersIf p q None None = q ≡ p
 AnswersIf p q (Some answer) (Some reply) = Answers p q answer reply
 AnswersIf p q answer reply = ⊥
+
+-- memory ended before the command was answered
+abbrev pub EndsAnswer : (p q : Noted) → Answer → Type 0
+EndsAnswer p q answer = EndsEarly p q (by_main answer.calls)
+
+-- the calls of a command that may be another's
+abbrev pub calls_of : Option Answer → List (ℕ × DatabaseEntry)
+calls_of None = []
+calls_of (Some answer) = by_main answer.calls

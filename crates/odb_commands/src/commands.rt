@@ -1,8 +1,8 @@
 ghost use Rattle.std.specs.Prelude.{◌≡◌, ◌≤◌, ◌+◌, IfOk, OnErr, OnOk, Ok, Err};
 ghost use Rattle.odb_path.specs.PathText.{path_reply};
-ghost use Rattle.odb_journal.specs.Noted.{GoesOn, KeepsCalls};
+ghost use Rattle.odb_journal.specs.Noted.{EndsEarly, KeepsCalls};
 ghost use Rattle.odb_tree.specs.declared.rows.NewKey.TheVariants.{Dir, Keys};
-ghost use Rattle.odb_commands.specs.Answers.{Answers, AnswersIf, answer_of, at_path, create_at, done_or, get_at, get_in, key_found, key_named, list_at, listed_or, remove_at, set_at, set_in, set_item, shown};
+ghost use Rattle.odb_commands.specs.Answers.{Answers, AnswersIf, EndsAnswer, answer_of, at_path, calls_of, create_at, done_or, get_at, get_in, key_found, key_named, list_at, listed_or, remove_at, set_at, set_in, set_item, shown};
 
 use crate::reading::{is_protected, item_for, one_of, read_path, settled};
 use crate::replies::{CommandRefusal, CommandReply};
@@ -81,7 +81,7 @@ fn create_at<D: Database>(
     ensures did { IfOk result (λ reply. Answers database.old database.new (create_at database.old.rows kind path) reply) }
     ensures start { database.new.start ≡ database.old.start }
     ensures room { database.old.room ≤ database.new.room + 1 }
-    ensures interrupted { OnErr result (GoesOn database.old database.new) }
+    ensures interrupted { OnErr result (EndsAnswer database.old database.new (create_at database.old.rows kind path)) }
 {
     let reply = settled(database.create(alloc, path, kind))?;
     Ok(done_or(reply))
@@ -97,7 +97,7 @@ pub fn create<D: Database>(
     ensures did { IfOk result (λ reply. Answers database.old database.new (at_path (path_reply path.now) (create_at database.old.rows kind)) reply) }
     ensures start { database.new.start ≡ database.old.start }
     ensures room { database.old.room ≤ database.new.room + 3 }
-    ensures interrupted { OnErr result (GoesOn database.old database.new) }
+    ensures interrupted { OnErr result (EndsAnswer database.old database.new (at_path (path_reply path.now) (create_at database.old.rows kind))) }
 {
     match prepare(alloc, database, path, 1)? {
         Err(why) => Ok(no_path(why)),
@@ -117,7 +117,7 @@ fn set_item<D: Database>(
     ensures did { IfOk result (λ reply. Answers database.old database.new (set_item database.old.rows path index item) reply) }
     ensures start { database.new.start ≡ database.old.start }
     ensures room { database.old.room ≤ database.new.room + 1 }
-    ensures interrupted { OnErr result (GoesOn database.old database.new) }
+    ensures interrupted { OnErr result (EndsAnswer database.old database.new (set_item database.old.rows path index item)) }
 {
     match item {
         Err(why) => Ok(CommandReply::Refused { why }),
@@ -141,7 +141,7 @@ fn set_in<D: Database>(
     ensures did { IfOk result (λ reply. Answers database.old database.new (set_in database.old.rows path index text.now got) reply) }
     ensures start { database.new.start ≡ database.old.start }
     ensures room { database.old.room ≤ database.new.room + 1 }
-    ensures interrupted { OnErr result (GoesOn database.old database.new) }
+    ensures interrupted { OnErr result (EndsAnswer database.old database.new (set_in database.old.rows path index text.now got)) }
 {
     match got {
         Err(why) => Ok(refused_by(why)),
@@ -164,7 +164,7 @@ fn set_at<D: Database>(
     ensures did { IfOk result (λ reply. Answers database.old database.new (set_at database.old.rows index text.now path) reply) }
     ensures start { database.new.start ≡ database.old.start }
     ensures room { database.old.room ≤ database.new.room + 2 }
-    ensures interrupted { OnErr result (GoesOn database.old database.new) }
+    ensures interrupted { OnErr result (EndsAnswer database.old database.new (set_at database.old.rows index text.now path)) }
 {
     let copy = path.try_clone(alloc)?;
     let got = settled(database.get(alloc, 0, copy))?;
@@ -182,7 +182,7 @@ pub fn set<D: Database>(
     ensures did { IfOk result (λ reply. Answers database.old database.new (at_path (path_reply path.now) (set_at database.old.rows index text.now)) reply) }
     ensures start { database.new.start ≡ database.old.start }
     ensures room { database.old.room ≤ database.new.room + 3 }
-    ensures interrupted { OnErr result (GoesOn database.old database.new) }
+    ensures interrupted { OnErr result (EndsAnswer database.old database.new (at_path (path_reply path.now) (set_at database.old.rows index text.now))) }
 {
     match prepare(alloc, database, path, 2)? {
         Err(why) => Ok(no_path(why)),
@@ -201,7 +201,7 @@ fn key_named<D: Database>(
     ensures did { IfOk result (λ reply. Answers database.old database.new (key_named database.old.rows value row) reply) }
     ensures start { database.new.start ≡ database.old.start }
     ensures room { database.old.room ≤ database.new.room + 1 }
-    ensures interrupted { OnErr result (GoesOn database.old database.new) }
+    ensures interrupted { OnErr result (EndsAnswer database.old database.new (key_named database.old.rows value row)) }
 {
     let path = database.path_of(alloc, 0, row)?;
     let path = path.unwrap_or(Path::root(alloc));
@@ -219,7 +219,7 @@ fn key_found<D: Database>(
     ensures did { IfOk result (λ reply. Answers database.old database.new (key_found database.old.rows value found) reply) }
     ensures start { database.new.start ≡ database.old.start }
     ensures room { database.old.room ≤ database.new.room + 1 }
-    ensures interrupted { OnErr result (GoesOn database.old database.new) }
+    ensures interrupted { OnErr result (EndsAnswer database.old database.new (key_found database.old.rows value found)) }
 {
     match found {
         Err(why) => Ok(refused_by(why)),
@@ -239,7 +239,7 @@ fn shown<D: Database>(
     ensures did { IfOk result (λ reply. Answers database.old database.new (shown database.old.rows path index value) reply) }
     ensures start { database.new.start ≡ database.old.start }
     ensures room { database.old.room ≤ database.new.room + 2 }
-    ensures interrupted { OnErr result (GoesOn database.old database.new) }
+    ensures interrupted { OnErr result (EndsAnswer database.old database.new (shown database.old.rows path index value)) }
 {
     match index {
         Some(index) => one_of(alloc, &value, index),
@@ -262,7 +262,7 @@ fn get_in<D: Database>(
     ensures did { IfOk result (λ reply. Answers database.old database.new (get_in database.old.rows path index got) reply) }
     ensures start { database.new.start ≡ database.old.start }
     ensures room { database.old.room ≤ database.new.room + 2 }
-    ensures interrupted { OnErr result (GoesOn database.old database.new) }
+    ensures interrupted { OnErr result (EndsAnswer database.old database.new (get_in database.old.rows path index got)) }
 {
     match got {
         Err(why) => Ok(refused_by(why)),
@@ -281,7 +281,7 @@ fn get_at<D: Database>(
     ensures did { IfOk result (λ reply. Answers database.old database.new (get_at database.old.rows index path) reply) }
     ensures start { database.new.start ≡ database.old.start }
     ensures room { database.old.room ≤ database.new.room + 3 }
-    ensures interrupted { OnErr result (GoesOn database.old database.new) }
+    ensures interrupted { OnErr result (EndsAnswer database.old database.new (get_at database.old.rows index path)) }
 {
     let copy = path.try_clone(alloc)?;
     let got = settled(database.get(alloc, 0, copy))?;
@@ -298,7 +298,7 @@ pub fn get<D: Database>(
     ensures did { IfOk result (λ reply. Answers database.old database.new (at_path (path_reply path.now) (get_at database.old.rows index)) reply) }
     ensures start { database.new.start ≡ database.old.start }
     ensures room { database.old.room ≤ database.new.room + 3 }
-    ensures interrupted { OnErr result (GoesOn database.old database.new) }
+    ensures interrupted { OnErr result (EndsAnswer database.old database.new (at_path (path_reply path.now) (get_at database.old.rows index))) }
 {
     match prepare(alloc, database, path, 3)? {
         Err(why) => Ok(no_path(why)),
@@ -316,7 +316,7 @@ fn list_at<D: Database>(
     ensures did { IfOk result (λ reply. Answers database.old database.new (list_at database.old.rows path) reply) }
     ensures start { database.new.start ≡ database.old.start }
     ensures room { database.old.room ≤ database.new.room + 1 }
-    ensures interrupted { OnErr result (GoesOn database.old database.new) }
+    ensures interrupted { OnErr result (EndsAnswer database.old database.new (list_at database.old.rows path)) }
 {
     let children = settled(database.list(alloc, 0, path))?;
     Ok(listed_or(children))
@@ -331,7 +331,7 @@ pub fn list<D: Database>(
     ensures did { IfOk result (λ reply. Answers database.old database.new (at_path (path_reply path.now) (list_at database.old.rows)) reply) }
     ensures start { database.new.start ≡ database.old.start }
     ensures room { database.old.room ≤ database.new.room + 3 }
-    ensures interrupted { OnErr result (GoesOn database.old database.new) }
+    ensures interrupted { OnErr result (EndsAnswer database.old database.new (at_path (path_reply path.now) (list_at database.old.rows))) }
 {
     match prepare(alloc, database, path, 1)? {
         Err(why) => Ok(no_path(why)),
@@ -363,7 +363,7 @@ pub fn remove<D: Database>(
     ensures did { IfOk result (λ reply. Answers database.old database.new (at_path (path_reply path.now) (remove_at database.old.rows)) reply) }
     ensures start { database.new.start ≡ database.old.start }
     ensures room { database.old.room ≤ database.new.room + 3 }
-    ensures interrupted { OnErr result (GoesOn database.old database.new) }
+    ensures interrupted { OnErr result (EndsAnswer database.old database.new (at_path (path_reply path.now) (remove_at database.old.rows))) }
 {
     match prepare(alloc, database, path, 1)? {
         Err(why) => Ok(no_path(why)),
@@ -372,7 +372,8 @@ pub fn remove<D: Database>(
 }
 
 /// Answers a command of the database, by the main thread: makes its calls, each noted once and in order, and gives the
-/// reply. None for any other command. Where memory is wanting, the calls so far are noted, and nothing is printed.
+/// reply. None for any other command. Where memory ends, the first of its calls are noted, the last of them maybe with that reply, and
+/// nothing is printed.
 pub fn run_command<D: Database>(
     alloc: Global,
     database: &mut LocalDatabase<D>,
@@ -381,7 +382,7 @@ pub fn run_command<D: Database>(
     ensures did { IfOk result (λ reply. AnswersIf database.old database.new (answer_of database.old.rows command.now) reply) }
     ensures start { database.new.start ≡ database.old.start }
     ensures room { database.old.room ≤ database.new.room + 3 }
-    ensures interrupted { OnErr result (GoesOn database.old database.new) }
+    ensures interrupted { OnErr result (EndsEarly database.old database.new (calls_of (answer_of database.old.rows command.now))) }
 {
     match command {
         Command::Create { tid, path, len } => {

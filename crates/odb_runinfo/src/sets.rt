@@ -1,6 +1,6 @@
 ghost use Rattle.std.specs.Prelude.{◌≡◌, ◌≤◌, ◌+◌, ◌<◌, ◌^◌, ◌∷◌, [], IfOk, OnErr, OnOk, IsTrue};
 ghost use Rattle.odb_tree.specs.Calls.{get_reply};
-ghost use Rattle.odb_journal.specs.Noted.{GoesOn, Grows};
+ghost use Rattle.odb_journal.specs.Noted.{EndsEarly, Grows};
 ghost use Rattle.odb_runinfo.specs.declared.keys.RunKey.TheVariants as key;
 ghost use Rattle.odb_runinfo.specs.RunKeys.{key_path};
 ghost use Rattle.odb_runinfo.specs.RunSets.{have_of, number_in, next_run, number_got, front_made, is_number, assignments, start_sets, started_sets, refused_sets, stopping_sets, stopped_sets};
@@ -68,7 +68,7 @@ pub fn next_run<D: Database>(
     ensures run { IfOk result (λ run. run ≡ next_run (have_of (get_reply database.old.rows (key_path RunKey.RunNumber)))) }
     ensures small { IfOk result (λ run. IfOk run (λ number. number < 2 ^ 31)) }
     ensures least { IfOk result (λ run. IfOk run (λ number. 1 ≤ number)) }
-    ensures interrupted { OnErr result (GoesOn database.old database.new) }
+    ensures interrupted { OnErr result (EndsEarly database.old database.new (number_got database.old.rows)) }
     ensures start { database.new.start ≡ database.old.start }
 {
     let path = RunKey::RunNumber.path(alloc)?;
@@ -88,7 +88,7 @@ pub fn open_front<D: Database>(
     front: Name,
 ) -> Result<(), NoMemory>
     ensures calls { OnOk result (Grows database.old database.new (front_made database.old.rows front)) }
-    ensures interrupted { OnErr result (GoesOn database.old database.new) }
+    ensures interrupted { OnErr result (EndsEarly database.old database.new (front_made database.old.rows front)) }
     ensures start { database.new.start ≡ database.old.start }
 {
     let path = sent_path(alloc, front)?;

@@ -5,24 +5,23 @@ use Rattle.daq_types.specs.declared.runs.RunState.TheVariants.{Stopped}
 use Rattle.buffer_core.specs.declared.entry.BufferEntry.{BufferEntry}
 use Rattle.buffer_core.specs.Window.{Window, accepted_of}
 use Rattle.odb_runinfo.specs.RunSets.{start_sets, started_sets, refused_sets}
-use Rattle.odb_journal.specs.HistoryLaws.{goes_on_none}
 use Rattle.daq_session.specs.RunsTold.{IsStanding}
 use Rattle.session_console.specs.FrontNames.{front_name}
 use Rattle.daq_session.specs.BufferEntries.{begin_entry}
 use Rattle.daq_session.proofs.RunsKept.{standing_begun, standing_refused}
 use Rattle.session_console.specs.declared.records.RunRecord.{RunRecord}
 use Rattle.daq_session.specs.declared.state.OpenRun.{OpenRun}
-use Rattle.daq_session.specs.Standing.{IsReady, RunStarts}
-use Rattle.daq_session.proofs.Interrupting.{memory_handled, breaks_state}
+use Rattle.daq_session.specs.Standing.{IsReady, RunStarts, no_calls}
+use Rattle.daq_session.proofs.Interrupting.{memory_handled, breaks_none}
 use Rattle.daq_session.proofs.Leading.{begun_leads, refused_leads, rows_after_two, calls_after_two}
 use Rattle.daq_session.proofs.transitions.start_run.Goals as goal
 
 pub returns-in_err-name-clause-did : goal.returns-in_err-name-clause-did
 returns-in_err-name-clause-did g c =
     let idle : c.prepare_run.new.state.current ≡ None = c.prepare_run.ensures.current ∙ c.requires.idle in
-    memory_handled (RunStarts c.args.run) c.args.state.now c.prepare_run.new.state _ _ c.from_residual.result c.from_residual.ensures.0 c.from_residual.ensures.1
-    (breaks_state c.args.state.now c.prepare_run.new.state _ c.prepare_run.ensures.quota c.prepare_run.ensures.starts c.prepare_run.ensures.opened c.prepare_run.ensures.runs c.prepare_run.ensures.current
-    (goes_on_none c.args.state.now.database c.prepare_run.new.state.database c.prepare_run.ensures.calls))
+    memory_handled (RunStarts c.args.run) no_calls c.args.state.now c.prepare_run.new.state _ _ c.from_residual.result c.from_residual.ensures.0 c.from_residual.ensures.1
+    (breaks_none no_calls c.args.state.now c.prepare_run.new.state _ c.prepare_run.ensures.quota c.prepare_run.ensures.starts c.prepare_run.ensures.opened c.prepare_run.ensures.runs c.prepare_run.ensures.current
+    c.prepare_run.ensures.calls)
     (subst (λ (on : Option OpenRun). IsReady (g.F.Files.seen c.args.files.now) on) (sym idle) tt)
 
 pub returns-in-Writing-clause-did : goal.returns-in-Writing-clause-did
