@@ -1,13 +1,12 @@
 -- How what `dump` read, printed and closed makes its end.
-use Rattle.std.proofs.Common.{◌≢◌, ◌∙◌, ℕ, List, [], length, Option, Some, None, IfSome, inl, inr, refl, ap, sym, subst, arith}
-use Rattle.std.proofs.lemmas.List.{append-nil, take_all}
+use Rattle.std.proofs.Common.{◌≢◌, ◌∙◌, ℕ, List, [], Option, Some, None, IfSome, inl, inr, refl, ap, sym, subst}
+use Rattle.std.proofs.lemmas.List.{append-nil}
 use Rattle.std.specs.Io.KnownBytes.{Appends, Keeps}
 use Rattle.daq_io.specs.Seen.{Seen}
-use Rattle.daq_io.specs.Streams.{AppendsPart}
 use Rattle.daq_io.specs.FileLeft.{told_left}
 use Rattle.mid_format.specs.declared.faults.MidFault.{MidFault}
 use Rattle.mid_format.specs.declared.faults.MidFault.TheVariants.{ReadFault}
-use Rattle.midas_tools.specs.Dumps.{IsPart, IsDump, WritesSome, WritesOn, PrintsSome, PrintsDump, DumpsTo}
+use Rattle.midas_tools.specs.Dumps.{IsPart, IsDump, WritesSome, WritesLines, WritesOn, PrintsSome, PrintsLines, PrintsDump, DumpsTo}
 use Rattle.midas_tools.specs.Findings.{Finds, WritesAll, WritesPart, IsOpened, Refuses, SaysWhy, ClosesWell, Closed}
 use Rattle.midas_tools.specs.declared.opening.Refused.{Refused}
 use Rattle.midas_tools.specs.declared.opening.Refused.TheVariants.{NameCompressed, NameMissing, OpenFailed}
@@ -15,9 +14,6 @@ use Rattle.midas_tools.specs.declared.ends.InputFault.TheVariants.{Mid, Compress
 use Rattle.midas_tools.specs.declared.ends.ToolEnd.{ToolEnd}
 use Rattle.midas_tools.specs.declared.ends.ToolEnd.TheVariants.{Done, Input, FileFault, SinkFault, NoMemory}
 use Rattle.midas_tools.proofs.Ending.{there}
-
-whole_part : (old new : Option (List ℕ)) (text : List ℕ) → Appends old new text → AppendsPart old new text
-whole_part old new text w = record { count = length text; appends = subst (λ (t : List ℕ). Appends old new t) (sym (take_all (length text) text (omega arith))) w }
 
 no_part : (old new : Option (List ℕ)) → Keeps old new → Appends old new []
 no_part None new k = tt
@@ -37,11 +33,18 @@ module _ (seen : Seen) (name : List ℕ) (told_old told_new : Option (List ℕ))
       subst (λ (e : ToolEnd). WritesOn seen name told_old told_new e) (sym part.0) (inl (record { found = Input Missing; text = _; finds = (r.0, refl, r.1); written = part.1 }))
   dump_refused faults_old faults_new clashes_old clashes_new sink_old sink_new OpenFailed result r s =
       subst (λ (e : ToolEnd). WritesOn seen name told_old told_new e) (sym s.0)
-      (r.0, inr (record { text = []; lists = inl refl; written = record { count = 0; appends = no_part told_old told_new s.1 } }))
+      (r.0, inr (record { text = []; lists = inl refl; written = no_part told_old told_new s.1 }))
 
   module _ (opened : Seen) (number : ℕ) (o : IsOpened seen opened name number) where
     some_written : PrintsSome (told_left opened number) told_old told_new → WritesSome seen name told_old told_new
     some_written p = record {
+      text = p.text;
+      lists = inr (λ told. there seen opened name number (λ bytes. IsPart bytes p.text) o p.part told);
+      written = p.written;
+    }
+
+    lines_written : PrintsLines (told_left opened number) told_old told_new → WritesLines seen name told_old told_new
+    lines_written p = record {
       text = p.text;
       lists = inr (λ told. there seen opened name number (λ bytes. IsPart bytes p.text) o p.part told);
       written = p.written;
@@ -61,7 +64,7 @@ module _ (seen : Seen) (name : List ℕ) (told_old told_new : Option (List ℕ))
     closed_all files_old files_new end result text finds written all (inl well) =
         subst (λ (e : ToolEnd). WritesOn seen name told_old told_new e) (sym well.0) (all (record { text = text; finds = finds; written = written }))
     closed_all files_old files_new end result text finds written all (inr failed) =
-        subst (λ (e : ToolEnd). WritesOn seen name told_old told_new e) (sym failed.0) (o.plain, inl (record { found = end; text = text; finds = finds; written = whole_part told_old told_new text written }))
+        subst (λ (e : ToolEnd). WritesOn seen name told_old told_new e) (sym failed.0) (o.plain, inl (end, record { text = text; finds = finds; written = written }))
 
     pub dump_read : (files_old files_new : ℕ) (end result : ToolEnd) → DumpsTo (told_left opened number) told_old told_new end → Closed end files_old files_new result → WritesOn seen name told_old told_new result
     dump_read files_old files_new Done result d c =
@@ -71,7 +74,7 @@ module _ (seen : Seen) (name : List ℕ) (told_old told_new : Option (List ℕ))
     dump_read files_old files_new (Input Compressed) result d c = absurd d
     dump_read files_old files_new (Input Missing) result d c = absurd d
     dump_read files_old files_new (Input ScriptTooLong) result d c = absurd d
-    dump_read files_old files_new FileFault result d c = subst (λ (e : ToolEnd). WritesOn seen name told_old told_new e) (sym c.0) (o.plain, inr (some_written d))
+    dump_read files_old files_new FileFault result d c = subst (λ (e : ToolEnd). WritesOn seen name told_old told_new e) (sym c.0) (o.plain, inr (lines_written d))
     dump_read files_old files_new SinkFault result (inl d) c = subst (λ (e : ToolEnd). WritesOn seen name told_old told_new e) (sym c) (inr (o.plain, some_written d))
     dump_read files_old files_new SinkFault result (inr d) c = subst (λ (e : ToolEnd). WritesOn seen name told_old told_new e) (sym c) (inl (part_written d))
     dump_read files_old files_new NoMemory result d c = subst (λ (e : ToolEnd). WritesOn seen name told_old told_new e) (sym c) (o.plain, some_written d)

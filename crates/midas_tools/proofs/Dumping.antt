@@ -1,11 +1,12 @@
 -- What `dump` has printed, step by step.
 use Rattle.std.proofs.Common.{◌≡◌, ◌≢◌, ◌∙◌, ℕ, List, [], ◌∷◌, ◌++◌, length, Option, Some, None, Result, Ok, Err, IfSome, IfOk, Bool, true, false, ◌⊎◌, inl, inr, refl, ap, sym, subst, arith, append_assoc}
-use Rattle.std.specs.Prelude.{is_some, IsSome, IsNone, ◌↔◌}
-use Rattle.std.proofs.lemmas.List.{append-nil, take_all}
+use Rattle.std.specs.Prelude.{is_some, IsSome, IsNone, IsTrue, ◌↔◌}
+use Rattle.std.proofs.lemmas.List.{append-nil}
 use Rattle.std.specs.Io.KnownBytes.{Appends, Consumes, IsAtEnd}
 use Rattle.daq_types.specs.declared.events.Event.{Event}
 use Rattle.daq_model.specs.Events.{encoding}
 use Rattle.daq_model.specs.RunFile.{end_record}
+use Rattle.daq_io.specs.Counts.{Rose}
 use Rattle.daq_io.specs.Streams.{AppendsPart, Appends-nil}
 use Rattle.daq_io.specs.declared.faults.Failed.{Failed}
 use Rattle.event_header.specs.declared.head.Header.{Header}
@@ -18,11 +19,12 @@ use Rattle.mid_format.specs.declared.faults.MidFault.{MidFault}
 use Rattle.mid_format.specs.declared.faults.MidFault.TheVariants.{Truncated, NoBegin, NoEnd, AfterEnd, TooBig, ReadFault, BadRecord, TooLong}
 use Rattle.mid_format.specs.declared.progress.Progress.{Progress}
 use Rattle.midas_tools.specs.Areas.{AreEventLines, AreLinesOf, AreLinesOf-more, Adds}
-use Rattle.midas_tools.specs.Dumps.{begin_lines, end_lines, fault_lines, new_begin, EndsAt, IsPart, IsDump, Listing, Printing, PrintsUpTo, PrintsSome, PrintsDump, ended_text, EndsText, DumpsTo}
-use Rattle.midas_tools.specs.Findings.{FaultEnds, Printed, FileCounts, SinkCounts}
-use Rattle.midas_tools.specs.Printing.{Prints, Prints-none, Prints-more, Prints-all, Prints-part, Prints-fails, Passes}
+use Rattle.midas_tools.specs.Dumps.{HaltsBehind, ListsTo, SourceHalts, SinkHalts, ReadCounts, EndsUnread, PrintsLines, begin_lines, end_lines, fault_lines, new_begin, EndsAt, IsPart, IsDump, Listing, Printing, PrintsUpTo, PrintsSome, PrintsDump, ended_text, EndsText, DumpsTo}
+use Rattle.midas_tools.specs.Findings.{FaultEnds, Printed, SinkCounts}
+use Rattle.midas_tools.specs.Printing.{Prints, Prints-none, Prints-more, Prints-all, Prints-part, Prints-fails, PassesPage}
 use Rattle.midas_tools.specs.Texts.{bad_line}
 use Rattle.midas_tools.specs.declared.ends.InputFault.TheVariants.{Mid, Compressed, Missing, ScriptTooLong}
+use Rattle.midas_tools.specs.declared.halts.Halt.{Halt}
 use Rattle.midas_tools.specs.declared.ends.ToolEnd.{ToolEnd}
 use Rattle.midas_tools.specs.declared.ends.ToolEnd.TheVariants.{Done, Input, FileFault, SinkFault, NoMemory}
 
@@ -243,7 +245,7 @@ more_printed first after new told_first told_now page page1 one event s a =
     subst (λ (q : List ℕ). Prints told_first told_now q (s.text ++ a.lines)) (sym a.page_is) (Prints-more told_first told_now page s.text a.lines s.prints)
 
 pub one_more : (first after : Option (List ℕ)) (new : Progress) (told_first told_now told_new : Option (List ℕ)) (page page1 page2 : List ℕ) (one : Unit {0}) (done : Unit {0}) (event : Event)
-    → Stepped first after new told_first told_now page (Ok (Some one)) event → Adds (AreEventLines event) page page1 → Passes told_now told_new page1 page2 (Ok done) → new.fault ≡ None → new.last ≡ None
+    → Stepped first after new told_first told_now page (Ok (Some one)) event → Adds (AreEventLines event) page page1 → PassesPage told_now told_new page1 page2 (Ok done) → new.fault ≡ None → new.last ≡ None
     → Printing first after new told_first told_new page2
 one_more first after new told_first told_now told_new page page1 page2 one done event s a passes sound going = record {
   text = s.text ++ a.lines;
@@ -254,7 +256,7 @@ one_more first after new told_first told_now told_new page page1 page2 one done 
 }
 
 pub one_cut : (first after : Option (List ℕ)) (new : Progress) (told_first told_now told_new : Option (List ℕ)) (page page1 page2 : List ℕ) (one : Unit {0}) (failed : Failed) (event : Event)
-    → Stepped first after new told_first told_now page (Ok (Some one)) event → Adds (AreEventLines event) page page1 → Passes told_now told_new page1 page2 (Err failed) → PrintsSome first told_first told_new
+    → Stepped first after new told_first told_now page (Ok (Some one)) event → Adds (AreEventLines event) page page1 → PassesPage told_now told_new page1 page2 (Err failed) → PrintsSome first told_first told_new
 one_cut first after new told_first told_now told_new page page1 page2 one failed event s a passes = record {
   text = s.text ++ a.lines;
   part = part_listed first after new (s.text ++ a.lines) (more_listed first after new told_first told_now page page1 one event s a);
@@ -328,16 +330,13 @@ same_sink f page page1 Done sink_old sink_new e s = s
 same_sink f page page1 (Input g) sink_old sink_new e s = s
 same_sink f page page1 FileFault sink_old sink_new e s = s
 same_sink f page page1 SinkFault sink_old sink_new e s = absurd e
-same_sink f page page1 NoMemory sink_old sink_new e s = tt
+same_sink f page page1 NoMemory sink_old sink_new e s = s
 
 pub sink_of : (f : MidFault) (page page1 : List ℕ) (now new : Option (List ℕ)) (sink_old sink_new : ℕ) (end result : ToolEnd) → FaultEnds f page page1 end → Printed page1 now new sink_old sink_new end result → SinkCounts result sink_old sink_new
 sink_of f page page1 now new sink_old sink_new end result e (inl whole) = subst (λ (r : ToolEnd). SinkCounts r sink_old sink_new) (sym whole.0) (same_sink f page page1 end sink_old sink_new e whole.2)
 sink_of f page page1 now new sink_old sink_new end result e (inr part) = subst (λ (r : ToolEnd). SinkCounts r sink_old sink_new) (sym part.0) part.2
 
 -- What was printed in all
-
-whole_part : (old new : Option (List ℕ)) (text : List ℕ) → Appends old new text → AppendsPart old new text
-whole_part old new text w = record { count = length text; appends = subst (λ (t : List ℕ). Appends old new t) (sym (take_all (length text) text (omega arith))) w }
 
 told_good : (first now : Option (List ℕ)) (p : Progress) (text : List ℕ) (end : Header) → Listing first now p text → p.fault ≡ None → p.last ≡ Some end → IfSome first (λ bytes. IsDump bytes None (ended_text text p.last None))
 told_good None now p text end l sound last_is = tt
@@ -350,6 +349,10 @@ told_fault (Some bytes) now p text f l is_fault ne = dump_fault bytes now p text
 told_part : (first now : Option (List ℕ)) (p : Progress) (text : List ℕ) → Listing first now p text → IfSome first (λ bytes. IsPart bytes (ended_text text p.last (Some ReadFault)))
 told_part None now p text l = tt
 told_part (Some bytes) now p text l = subst (λ (t : List ℕ). IsPart bytes t) (sym (append-nil (text ++ end_lines p.last))) (with_end bytes now p text l)
+
+told_ended : (first now : Option (List ℕ)) (p : Progress) (text : List ℕ) → Listing first now p text → IfSome first (λ bytes. IsPart bytes (text ++ end_lines p.last))
+told_ended None now p text l = tt
+told_ended (Some bytes) now p text l = with_end bytes now p text l
 
 pub dumps_good : (first now : Option (List ℕ)) (p : Progress) (told_first told_now told_new : Option (List ℕ)) (page : List ℕ) (end : Header) (u : PrintsUpTo first now p told_first told_now page None) → p.last ≡ Some end
     → (result : ToolEnd) → EndsText p.last None told_first told_new u.text result → DumpsTo first told_first told_new result
@@ -386,7 +389,7 @@ dumps_fault first now p told_first told_now told_new page f u (Input ScriptTooLo
 dumps_fault first now p told_first told_now told_new page f u FileFault e = record {
   text = ended_text u.text p.last (Some ReadFault);
   part = told_part first now p u.text u.listing;
-  written = whole_part told_first told_new (ended_text u.text p.last (Some ReadFault)) (subst (λ (o : Option MidFault). Appends told_first told_new (ended_text u.text p.last o)) e.0 e.1);
+  written = (subst (λ (o : Option MidFault). Appends told_first told_new (ended_text u.text p.last o)) e.0 e.1);
 }
 dumps_fault first now p told_first told_now told_new page f u SinkFault e = cut_fault first now p told_first told_now told_new page f u e (read_or_not f)
 dumps_fault first now p told_first told_now told_new page f u NoMemory e = record { text = u.text; part = part_listed first now p u.text u.listing; written = e }
@@ -422,7 +425,78 @@ counted_same ReadFault old new ne c = absurd (ne refl)
 counted_same (BadRecord at) old new ne c = c
 counted_same (TooLong at) old new ne c = c
 
-pub source_good : (last : Option Header) (first now : Option (List ℕ)) (text : List ℕ) (result : ToolEnd) (old new : ℕ) → EndsText last None first now text result → new ≡ old → FileCounts result old new
+none_of : (last : Option Header) → ¬ IsSome last → last ≡ None
+none_of None h = refl
+none_of (Some end) h = absurd (h refl)
+
+counted_not : (r : Result (Option (Unit {0})) MidFault) (old new : ℕ) → r ≢ Err ReadFault → CountsNext None old new r → new ≡ old
+counted_not (Ok x) old new ne c = c.done
+counted_not (Err f) old new ne c = counted_same f old new (λ e. ne (ap Err e)) c.fault
+
+-- a line found no memory behind an answer of the reader
+pub halts_behind : (fault : Option MidFault) (old new : ℕ) (given : Result (Option (Unit {0})) MidFault) (halt : Halt) → fault ≡ None → CountsNext fault old new given → HaltsBehind given halt → SourceHalts (Err halt) old new
+halts_behind fault old new given halt none c (inl b) =
+    let d : CountsNext None old new (Err ReadFault) = subst (λ (x : Option MidFault × Result (Option (Unit {0})) MidFault). CountsNext x.0 old new x.1) (λ i. (none i, b.0 i)) c in
+    subst (λ (h : Halt). SourceHalts (Err h) old new) (sym b.1) d.fault
+halts_behind fault old new given halt none c (inr b) =
+    let d : CountsNext None old new given = subst (λ (o : Option MidFault). CountsNext o old new given) none c in
+    subst (λ (h : Halt). SourceHalts (Err h) old new) (sym b.1) (counted_not given old new b.0 d)
+
+front_nil : (xs ys : List ℕ) → xs ++ ys ≡ [] → xs ≡ []
+front_nil [] ys e = refl
+front_nil (x ∷ xs) ys e = absurd (let l : length (x ∷ xs ++ ys) ≡ 0 = ap (length {A = ℕ}) e in omega arith)
+
+-- where no begin record was read before, nothing was printed
+begins_printing : (first before : Option (List ℕ)) (old : Progress) (told_first told_now : Option (List ℕ)) (page : List ℕ) → Printing first before old told_first told_now page → old.begin ≡ None → PrintsLines first told_first told_now
+begins_printing first before old told_first told_now page p fresh =
+    let none : p.listing.events ≡ [] = no_events p.listing.read.done old.last p.listing.events (subst (λ (b : Option Header). IsDone p.listing.read.done b old.last p.listing.events) fresh p.listing.read.is_done) p.going in
+    let lines : p.listing.lines ≡ [] = no_lines p.listing.events p.listing.lines none p.listing.lines_are in
+    let text : p.text ≡ [] = p.listing.text_is ∙ ap (λ (b : Option Header). begin_lines b ++ p.listing.lines) fresh ∙ lines in
+    let done : p.prints.done ≡ [] = front_nil p.prints.done page (sym p.prints.text_is ∙ text) in
+    record { text = []; part = told_nothing first; written = subst (λ (t : List ℕ). Appends told_first told_now t) done p.prints.written }
+
+pub halts_unread : (first before now : Option (List ℕ)) (old new : Progress) (told_first told_now : Option (List ℕ)) (page page1 : List ℕ) (given : Result (Option (Unit {0})) MidFault) (halt : Halt)
+    → Printing first before old told_first told_now page → old.begin ≡ None → HaltsBehind given halt → ListsTo first now new told_first told_now page1 (Err halt)
+halts_unread first before now old new told_first told_now page page1 given halt p fresh (inl b) =
+    subst (λ (h : Halt). ListsTo first now new told_first told_now page1 (Err h)) (sym b.1) (begins_printing first before old told_first told_now page p fresh)
+halts_unread first before now old new told_first told_now page page1 given halt p fresh (inr b) =
+    subst (λ (h : Halt). ListsTo first now new told_first told_now page1 (Err h)) (sym b.1) (stays_part first before old told_first told_now page p)
+
+pub sinks_behind : (given : Result (Option (Unit {0})) MidFault) (halt : Halt) (old new : ℕ) → HaltsBehind given halt → new ≡ old → SinkHalts (Err halt) old new
+sinks_behind given halt old new (inl b) same = subst (λ (h : Halt). SinkHalts (Err h) old new) (sym b.1) same
+sinks_behind given halt old new (inr b) same = subst (λ (h : Halt). SinkHalts (Err h) old new) (sym b.1) same
+
+-- it is a reader that has read no begin record
+pub not_begun : (begun : Bool) (o : Option Header) → begun ≡ is_some o → (IsTrue begun → ⊥) → o ≡ None
+not_begun begun o is fresh = none_of o (λ some. fresh (is ∙ some))
+
+-- the last lines behind a fault of the source
+pub dumps_unread : (first now : Option (List ℕ)) (p : Progress) (told_first told_now told_new : Option (List ℕ)) (page : List ℕ) (u : PrintsUpTo first now p told_first told_now page (Some ReadFault)) (result : ToolEnd)
+    → EndsUnread p.last told_first told_new u.text result → DumpsTo first told_first told_new result
+dumps_unread first now p told_first told_now told_new page u Done e = absurd e
+dumps_unread first now p told_first told_now told_new page u (Input g) e = absurd e
+dumps_unread first now p told_first told_now told_new page u FileFault (inl e) = record { text = u.text ++ end_lines p.last; part = told_ended first now p u.text u.listing; written = e }
+dumps_unread first now p told_first told_now told_new page u FileFault (inr e) = record { text = u.text; part = part_listed first now p u.text u.listing; written = e }
+dumps_unread first now p told_first told_now told_new page u SinkFault (inr e) = inl (record { text = u.text; part = part_listed first now p u.text u.listing; written = e })
+dumps_unread first now p told_first told_now told_new page u SinkFault (inl e) = inl (record { text = u.text ++ end_lines p.last; part = told_ended first now p u.text u.listing; written = e })
+dumps_unread first now p told_first told_now told_new page u NoMemory e = absurd e
+
+pub reads_unread : (last : Option Header) (first now : Option (List ℕ)) (text : List ℕ) (result : ToolEnd) (old new : ℕ) → EndsUnread last first now text result → Rose old new → ReadCounts result old new
+reads_unread last first now text Done old new e rose = absurd e
+reads_unread last first now text (Input g) old new e rose = absurd e
+reads_unread last first now text FileFault old new e rose = rose
+reads_unread last first now text SinkFault old new e rose = tt
+reads_unread last first now text NoMemory old new e rose = absurd e
+
+-- the page and the line of the end record
+pub unread_printed : (last : Option Header) (first now new : Option (List ℕ)) (sink_old sink_new : ℕ) (text page : List ℕ) (result : ToolEnd) → Prints first now page (text ++ end_lines last)
+    → Printed page now new sink_old sink_new FileFault result → EndsUnread last first new text result
+unread_printed last first now new sink_old sink_new text page result p (inl whole) =
+    subst (λ (e : ToolEnd). EndsUnread last first new text e) (sym whole.0) (inl (Prints-all first now new page (text ++ end_lines last) p whole.1))
+unread_printed last first now new sink_old sink_new text page result p (inr part) =
+    subst (λ (e : ToolEnd). EndsUnread last first new text e) (sym part.0) (inl (Prints-fails first now new page (text ++ end_lines last) p part.1))
+
+pub source_good : (last : Option Header) (first now : Option (List ℕ)) (text : List ℕ) (result : ToolEnd) (old new : ℕ) → EndsText last None first now text result → new ≡ old → ReadCounts result old new
 source_good last first now text Done old new e same = same
 source_good last first now text (Input (Mid g)) old new e same = same
 source_good last first now text (Input Compressed) old new e same = absurd e
@@ -430,17 +504,17 @@ source_good last first now text (Input Missing) old new e same = absurd e
 source_good last first now text (Input ScriptTooLong) old new e same = absurd e
 source_good last first now text FileFault old new e same = some_is_none ReadFault (sym e.0)
 source_good last first now text SinkFault old new e same = tt
-source_good last first now text NoMemory old new e same = tt
+source_good last first now text NoMemory old new e same = same
 
-pub source_bad : (last : Option Header) (f : MidFault) (first now : Option (List ℕ)) (text : List ℕ) (result : ToolEnd) (old new : ℕ) → EndsText last (Some f) first now text result → CountedBy f old new → FileCounts result old new
-source_bad last f first now text Done old new e counted = some_is_none f e.0
-source_bad last f first now text (Input (Mid g)) old new e counted = counted_same f old new (λ is_read. e.1 (sym (same_fault f g e.0) ∙ is_read)) counted
-source_bad last f first now text (Input Compressed) old new e counted = absurd e
-source_bad last f first now text (Input Missing) old new e counted = absurd e
-source_bad last f first now text (Input ScriptTooLong) old new e counted = absurd e
-source_bad last f first now text FileFault old new e counted = subst (λ (g : MidFault). CountedBy g old new) (same_fault f ReadFault e.0) counted
-source_bad last f first now text SinkFault old new e counted = tt
-source_bad last f first now text NoMemory old new e counted = tt
+pub source_bad : (last : Option Header) (f : MidFault) (first now : Option (List ℕ)) (text : List ℕ) (result : ToolEnd) (old new : ℕ) → EndsText last (Some f) first now text result → f ≢ ReadFault → CountedBy f old new → ReadCounts result old new
+source_bad last f first now text Done old new e ne counted = some_is_none f e.0
+source_bad last f first now text (Input (Mid g)) old new e ne counted = counted_same f old new ne counted
+source_bad last f first now text (Input Compressed) old new e ne counted = absurd e
+source_bad last f first now text (Input Missing) old new e ne counted = absurd e
+source_bad last f first now text (Input ScriptTooLong) old new e ne counted = absurd e
+source_bad last f first now text FileFault old new e ne counted = absurd (ne (same_fault f ReadFault e.0))
+source_bad last f first now text SinkFault old new e ne counted = tt
+source_bad last f first now text NoMemory old new e ne counted = counted_same f old new ne counted
 
 -- What the reader's answer says
 
@@ -448,10 +522,6 @@ pub counts_ok : (fault : Option MidFault) (old new : ℕ) (r : Result (Option (U
 counts_ok fault old new r x none c is =
     let d : CountsNext None old new (Ok x) = subst (λ (o : Option MidFault). CountsNext o old new (Ok x)) none (subst (λ (q : Result (Option (Unit {0})) MidFault). CountsNext fault old new q) is c) in
     d.done
-
-none_of : (last : Option Header) → ¬ IsSome last → last ≡ None
-none_of None h = refl
-none_of (Some end) h = absurd (h refl)
 
 some_of : (last : Option Header) → IsSome last → (end : Header) × (last ≡ Some end)
 some_of None h = let e : false ≡ true = h in absurd cc

@@ -4,7 +4,7 @@ use Rattle.std.specs.Prelude.{IsSome}
 use Rattle.daq_io.specs.Seen.{Stored, Seen}
 use Rattle.daq_io.specs.FileLeft.{told_left}
 use Rattle.mid_format.specs.declared.faults.MidFault.{MidFault}
-use Rattle.midas_tools.specs.Findings.{IsThere, Finds, WritesAll, Writes, ReadsTo, IsOpened, Refuses, SaysWhy, Printed, PrintsClosed, Finishes}
+use Rattle.midas_tools.specs.Findings.{IsThere, Finds, WritesAll, Writes, ReadsTo, IsOpened, Refuses, SaysWhy, Printed, PrintsClosed, FinishesFile}
 use Rattle.midas_tools.specs.declared.opening.Refused.{Refused}
 use Rattle.midas_tools.specs.declared.opening.Refused.TheVariants.{NameCompressed, NameMissing, OpenFailed}
 use Rattle.midas_tools.specs.declared.ends.InputFault.TheVariants.{Mid, Compressed, Missing, ScriptTooLong}
@@ -50,7 +50,7 @@ module _ (Says : List ℕ → Option MidFault → List ℕ → Type 0) (seen : S
     closed_to end result finds all (inl printed) = all_or_part page end result finds all printed.0
     closed_to end result finds all (inr failed) = subst (λ (e : ToolEnd). Writes Says seen name told_old told_new e) (sym failed.0.0) (o.plain, failed.0.1)
 
-    pub writes_read : (end result : ToolEnd) → ReadsTo Says (told_left opened number) page end → Finishes page told_old told_new sink_old sink_new files_old files_new end result
+    pub writes_read : (end result : ToolEnd) → ReadsTo Says (told_left opened number) page end → FinishesFile page told_old told_new sink_old sink_new files_old files_new end result
         → Writes Says seen name told_old told_new result
     writes_read Done result r f = closed_to Done result (o.plain, λ told. there seen opened name number (λ bytes. Says bytes None page) o r told) (λ all. all) f
     writes_read (Input (Mid fault)) result r f =

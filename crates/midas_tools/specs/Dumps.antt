@@ -4,7 +4,7 @@ use Rattle.std.specs.Io.KnownBytes.{Appends}
 use Rattle.daq_types.specs.Names.{is_compressed}
 use Rattle.daq_types.specs.declared.events.Event.{Event}
 use Rattle.daq_io.specs.Counts.{Rose}
-use Rattle.daq_io.specs.Seen.{Stored, Seen}
+use Rattle.daq_io.specs.Seen.{Seen}
 use Rattle.daq_io.specs.Streams.{AppendsPart}
 use Rattle.event_header.specs.declared.head.Header.{Header}
 use Rattle.mid_format.specs.Parts.{CountedBy}
@@ -17,7 +17,7 @@ use Rattle.midas_tools.specs.Areas.{AreLinesOf}
 use Rattle.midas_tools.specs.Printing.{Prints}
 use Rattle.midas_tools.specs.Findings.{IsThere, WritesAll, WritesPart}
 use Rattle.midas_tools.specs.declared.halts.Halt.{Halt}
-use Rattle.midas_tools.specs.declared.halts.Halt.TheVariants.{Bad, SinkFailed, Short}
+use Rattle.midas_tools.specs.declared.halts.Halt.TheVariants.{Bad, SinkFailed, Short, Unread}
 use Rattle.midas_tools.specs.declared.ends.InputFault.TheVariants.{Mid, Compressed, Missing, ScriptTooLong}
 use Rattle.midas_tools.specs.declared.ends.ToolEnd.{ToolEnd}
 use Rattle.midas_tools.specs.declared.ends.ToolEnd.TheVariants.{Done, Input, FileFault, SinkFault, NoMemory}
@@ -85,12 +85,24 @@ pub record WritesSome (seen : Seen) (name : List ℕ) (told_old told_new : Optio
   pub lists : (text ≡ []) ⊎ (IsTrue seen.tells → IsThere seen name (λ bytes. IsPart bytes text))
   pub written : AppendsPart told_old told_new text
 
--- What `dump` writes, which prints as it reads: its text; and where a call on the files or the sink fails, or memory is
--- wanting, a part of it, or a part of the lines of what was read.
+-- The lines of some records and events of the file were written, and none of them was cut off; nothing, where there is no
+-- file.
+pub record WritesLines (seen : Seen) (name : List ℕ) (told_old told_new : Option (List ℕ)) : Type 0 where
+  pub text : List ℕ
+  pub lists : (text ≡ []) ⊎ (IsTrue seen.tells → IsThere seen name (λ bytes. IsPart bytes text))
+  pub written : Appends told_old told_new text
+
+-- All of the text of what was found was written.
+abbrev pub WritesFound : (seen : Seen) (name : List ℕ) (told_old told_new : Option (List ℕ)) → Type 0
+WritesFound seen name told_old told_new = (found : ToolEnd) × WritesAll IsDump seen name told_old told_new found
+
+-- What `dump` writes, which prints as it reads: its text. Where a call on the files fails, that too, or whole lines of
+-- what was read in front of it; where the sink fails a part of the text, or of the lines of what was read; where memory
+-- is wanting a part of these lines.
 abbrev pub WritesOn : (seen : Seen) (name : List ℕ) (told_old told_new : Option (List ℕ)) → ToolEnd → Type 0
 WritesOn seen name told_old told_new Done = WritesAll IsDump seen name told_old told_new Done
 WritesOn seen name told_old told_new (Input fault) = WritesAll IsDump seen name told_old told_new (Input fault)
-WritesOn seen name told_old told_new FileFault = (is_compressed name ≡ false) × (WritesPart IsDump seen name told_old told_new ⊎ WritesSome seen name told_old told_new)
+WritesOn seen name told_old told_new FileFault = (is_compressed name ≡ false) × (WritesFound seen name told_old told_new ⊎ WritesLines seen name told_old told_new)
 WritesOn seen name told_old told_new SinkFault = WritesPart IsDump seen name told_old told_new ⊎ ((is_compressed name ≡ false) × WritesSome seen name told_old told_new)
 WritesOn seen name told_old told_new NoMemory = (is_compressed name ≡ false) × WritesSome seen name told_old told_new
 
@@ -127,6 +139,12 @@ pub record PrintsSome (first told_first told_now : Option (List ℕ)) : Type 0 w
   pub part : IfSome first (λ bytes. IsPart bytes text)
   pub written : AppendsPart told_first told_now text
 
+-- Some of the lines were printed whole.
+pub record PrintsLines (first told_first told_now : Option (List ℕ)) : Type 0 where
+  pub text : List ℕ
+  pub part : IfSome first (λ bytes. IsPart bytes text)
+  pub written : Appends told_first told_now text
+
 -- A part of the whole text was printed.
 pub record PrintsDump (first told_first told_now : Option (List ℕ)) : Type 0 where
   pub text : List ℕ
@@ -141,19 +159,34 @@ ListsTo first now progress told_first told_now page (Ok done) = PrintsUpTo first
 ListsTo first now progress told_first told_now page (Err (Bad fault)) = PrintsUpTo first now progress told_first told_now page (Some fault)
 ListsTo first now progress told_first told_now page (Err SinkFailed) = PrintsSome first told_first told_now
 ListsTo first now progress told_first told_now page (Err Short) = PrintsSome first told_first told_now
+ListsTo first now progress told_first told_now page (Err Unread) = PrintsLines first told_first told_now
+
+-- A line found no memory behind this answer of the reader: a fault of the source was met before.
+abbrev pub HaltsBehind : Result (Option (Unit {0})) MidFault → Halt → Type 0
+HaltsBehind given halt = ((given ≡ Err ReadFault) × (halt ≡ Unread)) ⊎ ((given ≢ Err ReadFault) × (halt ≡ Short))
 
 -- the source's count of faults by that, and the sink's
 abbrev pub SourceHalts : Result (Unit {0}) Halt → (old new : ℕ) → Type 0
 SourceHalts (Ok done) old new = new ≡ old
 SourceHalts (Err (Bad fault)) old new = CountedBy fault old new
 SourceHalts (Err SinkFailed) old new = ⊤
-SourceHalts (Err Short) old new = ⊤
+SourceHalts (Err Short) old new = new ≡ old
+SourceHalts (Err Unread) old new = Rose old new
 
 abbrev pub SinkHalts : Result (Unit {0}) Halt → (old new : ℕ) → Type 0
 SinkHalts (Ok done) old new = new ≡ old
 SinkHalts (Err (Bad fault)) old new = new ≡ old
 SinkHalts (Err SinkFailed) old new = Rose old new
 SinkHalts (Err Short) old new = new ≡ old
+SinkHalts (Err Unread) old new = new ≡ old
+
+-- the source's count of faults by the end: a fault of the source comes before want of memory behind it
+abbrev pub ReadCounts : ToolEnd → (old new : ℕ) → Type 0
+ReadCounts Done old new = new ≡ old
+ReadCounts (Input fault) old new = new ≡ old
+ReadCounts FileFault old new = Rose old new
+ReadCounts SinkFault old new = ⊤
+ReadCounts NoMemory old new = new ≡ old
 
 -- the text with the lines of the end record and of the fault
 abbrev pub ended_text : List ℕ → Option Header → Option MidFault → List ℕ
@@ -170,6 +203,15 @@ EndsText last fault first now text FileFault = (fault ≡ Some ReadFault) × App
 EndsText last fault first now text SinkFault = AppendsPart first now (ended_text text last fault)
 EndsText last fault first now text NoMemory = AppendsPart first now text
 
+-- What the last lines make of a text where the source failed: all of it was written, but for the line of the end record
+-- where there was no memory for that.
+abbrev pub EndsUnread : (last : Option Header) (first now : Option (List ℕ)) (text : List ℕ) → ToolEnd → Type 0
+EndsUnread last first now text Done = ⊥
+EndsUnread last first now text (Input fault) = ⊥
+EndsUnread last first now text FileFault = Appends first now (text ++ end_lines last) ⊎ Appends first now text
+EndsUnread last first now text SinkFault = AppendsPart first now (text ++ end_lines last) ⊎ AppendsPart first now text
+EndsUnread last first now text NoMemory = ⊥
+
 -- What was printed of a source, by the end that it leads to.
 abbrev pub DumpsTo : (source told_old told_new : Option (List ℕ)) → ToolEnd → Type 0
 DumpsTo source told_old told_new Done = (text : List ℕ) × IfSome source (λ bytes. IsDump bytes None text) × Appends told_old told_new text
@@ -177,6 +219,6 @@ DumpsTo source told_old told_new (Input (Mid fault)) = (text : List ℕ) × (fau
 DumpsTo source told_old told_new (Input Compressed) = ⊥
 DumpsTo source told_old told_new (Input Missing) = ⊥
 DumpsTo source told_old told_new (Input ScriptTooLong) = ⊥
-DumpsTo source told_old told_new FileFault = PrintsSome source told_old told_new
+DumpsTo source told_old told_new FileFault = PrintsLines source told_old told_new
 DumpsTo source told_old told_new SinkFault = PrintsSome source told_old told_new ⊎ PrintsDump source told_old told_new
 DumpsTo source told_old told_new NoMemory = PrintsSome source told_old told_new

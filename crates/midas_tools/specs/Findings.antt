@@ -77,13 +77,13 @@ Writes Says seen name told_old told_new FileFault = (is_compressed name ≡ fals
 Writes Says seen name told_old told_new SinkFault = WritesPart Says seen name told_old told_new
 Writes Says seen name told_old told_new NoMemory = (is_compressed name ≡ false) × Keeps told_old told_new
 
--- the sink's count of faults: it rose exactly where the sink failed; nothing is said where memory was wanting
+-- the sink's count of faults: it rose exactly where the sink failed
 abbrev pub SinkCounts : ToolEnd → (old new : ℕ) → Type 0
 SinkCounts Done old new = new ≡ old
 SinkCounts (Input fault) old new = new ≡ old
 SinkCounts FileFault old new = new ≡ old
 SinkCounts SinkFault old new = Rose old new
-SinkCounts NoMemory old new = ⊤
+SinkCounts NoMemory old new = new ≡ old
 
 -- the files' count: it rose exactly where a call on them failed and the sink did not
 abbrev pub FileCounts : ToolEnd → (old new : ℕ) → Type 0
@@ -156,12 +156,12 @@ abbrev pub PrintsClosed : (text : List ℕ) (told_old told_new : Option (List �
 PrintsClosed text told_old told_new sink_old sink_new files_old files_new end result =
     (Printed text told_old told_new sink_old sink_new end result × (files_new ≡ files_old)) ⊎ (Unprinted told_old told_new sink_old sink_new FileFault result × Rose files_old files_new)
 
-abbrev pub Finishes : (text : List ℕ) (told_old told_new : Option (List ℕ)) (sink_old sink_new files_old files_new : ℕ) (end result : ToolEnd) → Type 0
-Finishes text told_old told_new sink_old sink_new files_old files_new Done result = PrintsClosed text told_old told_new sink_old sink_new files_old files_new Done result
-Finishes text told_old told_new sink_old sink_new files_old files_new (Input fault) result = PrintsClosed text told_old told_new sink_old sink_new files_old files_new (Input fault) result
-Finishes text told_old told_new sink_old sink_new files_old files_new FileFault result = Unprinted told_old told_new sink_old sink_new FileFault result × (files_old ≤ files_new)
-Finishes text told_old told_new sink_old sink_new files_old files_new SinkFault result = Unprinted told_old told_new sink_old sink_new SinkFault result × (files_old ≤ files_new)
-Finishes text told_old told_new sink_old sink_new files_old files_new NoMemory result = Unprinted told_old told_new sink_old sink_new NoMemory result × (files_old ≤ files_new)
+abbrev pub FinishesFile : (text : List ℕ) (told_old told_new : Option (List ℕ)) (sink_old sink_new files_old files_new : ℕ) (end result : ToolEnd) → Type 0
+FinishesFile text told_old told_new sink_old sink_new files_old files_new Done result = PrintsClosed text told_old told_new sink_old sink_new files_old files_new Done result
+FinishesFile text told_old told_new sink_old sink_new files_old files_new (Input fault) result = PrintsClosed text told_old told_new sink_old sink_new files_old files_new (Input fault) result
+FinishesFile text told_old told_new sink_old sink_new files_old files_new FileFault result = Unprinted told_old told_new sink_old sink_new FileFault result × (files_old ≤ files_new)
+FinishesFile text told_old told_new sink_old sink_new files_old files_new SinkFault result = Unprinted told_old told_new sink_old sink_new SinkFault result × (files_old ≤ files_new)
+FinishesFile text told_old told_new sink_old sink_new files_old files_new NoMemory result = Unprinted told_old told_new sink_old sink_new NoMemory result × (files_old ≤ files_new)
 
 -- How the reading of a file ends at this fault of it: its line is put on the page, unless the source failed or there is
 -- no memory.

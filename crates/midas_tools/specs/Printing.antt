@@ -46,6 +46,6 @@ Prints-fails first now new page text p w = record {
 
 -- A page goes to the sink, if it is full: of any text as much as before was written and is on the page; where the sink
 -- fails, a part of it was written.
-abbrev pub Passes : (now new : Option (List ℕ)) (page_old page_new : List ℕ) → Result (Unit {0}) Failed → Type 0
-Passes now new page_old page_new (Ok done) = (first : Option (List ℕ)) (text : List ℕ) → Prints first now page_old text → Prints first new page_new text
-Passes now new page_old page_new (Err failed) = (first : Option (List ℕ)) (text : List ℕ) → Prints first now page_old text → AppendsPart first new text
+abbrev pub PassesPage : (now new : Option (List ℕ)) (page_old page_new : List ℕ) → Result (Unit {0}) Failed → Type 0
+PassesPage now new page_old page_new (Ok done) = (first : Option (List ℕ)) (text : List ℕ) → Prints first now page_old text → Prints first new page_new text
+PassesPage now new page_old page_new (Err failed) = (first : Option (List ℕ)) (text : List ℕ) → Prints first now page_old text → AppendsPart first new text

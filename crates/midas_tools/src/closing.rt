@@ -1,5 +1,5 @@
 ghost use Rattle.daq_io.specs.Seen.{Ends};
-ghost use Rattle.midas_tools.specs.Findings.{Closed, FaultEnds, Finishes, Printed, SaysWhy};
+ghost use Rattle.midas_tools.specs.Findings.{Closed, FaultEnds, FinishesFile, Printed, SaysWhy};
 
 use crate::ends::{InputFault, ToolEnd};
 use crate::lines::add_bad;
@@ -58,7 +58,7 @@ pub fn finish<F: Files, K: Sink>(
     page: &Page,
     out: &mut K,
 ) -> (ToolEnd, F)
-    ensures finished { Finishes page.now (K.written out.old) (K.written out.new) (K.faults out.old) (K.faults out.new) (F.faults source.files) (F.faults result.1) end result.0 }
+    ensures finished { FinishesFile page.now (K.written out.old) (K.written out.new) (K.faults out.old) (K.faults out.new) (F.faults source.files) (F.faults result.1) end result.0 }
     ensures ended { Ends (F.seen source.first) (F.seen result.1) source.number }
 {
     let (closed, files) = close(source);

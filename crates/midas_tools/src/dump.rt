@@ -1,17 +1,17 @@
-ghost use Rattle.std.specs.Prelude.{◌≡◌, ◌≤◌, ◌++◌, ℕ, List, [], Option, OnOk};
+ghost use Rattle.std.specs.Prelude.{◌≡◌, ◌≤◌, ◌++◌, ℕ, List, [], Option, OnOk, IsOk, IsTrue};
 ghost use Rattle.daq_io.specs.Seen.{Same};
 ghost use Rattle.mid_format.specs.HasRead.{nothing_read};
-ghost use Rattle.midas_tools.specs.Dumps.{DumpsTo, EndsText, ListsTo, SinkHalts, SourceHalts, WritesOn, end_lines, new_begin};
+ghost use Rattle.midas_tools.specs.Dumps.{DumpsTo, EndsText, EndsUnread, ListsTo, ReadCounts, SinkHalts, SourceHalts, WritesOn, end_lines, new_begin};
 ghost use Rattle.midas_tools.specs.Findings.{ClashCounts, Completes, FileCounts, SinkCounts};
 ghost use Rattle.midas_tools.specs.Printing.{Prints};
 
 use crate::areas::add_whole_event;
 use crate::closing::{close_dump, print, refuse, stop_at};
 use crate::ends::ToolEnd;
-use crate::halts::Halt;
+use crate::halts::{Halt, halt_behind};
 use crate::lines::add_record;
 use crate::opening::open;
-use crate::page::{Page, flush_full};
+use crate::page::{Page, flush, flush_full};
 use daq_io::{Files, Sink, Source};
 use daq_types::{FileName, NoMemory};
 use event_header::{EventBuf, Header, MAX_DATA};
@@ -20,7 +20,8 @@ use std::alloc::Global;
 
 /// Adds the line of the begin record, where it was read just now.
 fn add_begin(page: &mut Page, begun: bool, begin: Option<Header>) -> Result<(), NoMemory>
-    ensures { OnOk result (page.new ≡ page.old ++ new_begin begun begin) }
+    ensures added { OnOk result (page.new ≡ page.old ++ new_begin begun begin) }
+    ensures none { IsTrue begun → IsOk result }
 {
     if begun {
         return Ok(());
@@ -59,7 +60,9 @@ fn print_events<S: Source, K: Sink>(
     loop {
         let begun = reader.begin().is_some();
         let given = reader.next(event);
-        add_begin(page, begun, reader.begin())?;
+        let Ok(()) = add_begin(page, begun, reader.begin()) else {
+            return Err(halt_behind(&given));
+        };
         match given {
             Ok(Some(())) => {
                 add_whole_event(page, event)?;
@@ -93,6 +96,21 @@ fn end_dump<K: Sink>(
     }
 }
 
+/// Prints what is on the page, and then the line of the end record, where it was read and there is memory for it. The
+/// source failed behind that.
+fn end_unread<K: Sink>(last: Option<Header>, page: &mut Page, out: &mut K) -> ToolEnd
+    ensures text { (first : Option (List ℕ)) → (text : List ℕ) → Prints first (K.written out.old) page.old text → EndsUnread last first (K.written out.new) text result }
+    ensures sink { SinkCounts result (K.faults out.old) (K.faults out.new) }
+{
+    let Ok(()) = flush(page, out) else {
+        return ToolEnd::SinkFault;
+    };
+    let Ok(()) = add_end(page, last) else {
+        return ToolEnd::FileFault;
+    };
+    print(ToolEnd::FileFault, page.as_slice(), out)
+}
+
 /// Reads a file and prints what `dump` prints of it.
 fn read_and_dump<S: Source, K: Sink>(
     alloc: Global,
@@ -101,7 +119,7 @@ fn read_and_dump<S: Source, K: Sink>(
 ) -> ToolEnd
     requires { reader.old.progress ≡ nothing_read }
     ensures dumps { DumpsTo (S.left reader.old.source) (K.written out.old) (K.written out.new) result }
-    ensures source { FileCounts result (S.faults reader.old.source) (S.faults reader.new.source) }
+    ensures source { ReadCounts result (S.faults reader.old.source) (S.faults reader.new.source) }
     ensures sink { SinkCounts result (K.faults out.old) (K.faults out.new) }
     ensures origin { S.origin reader.new.source ≡ S.origin reader.old.source }
 {
@@ -111,9 +129,13 @@ fn read_and_dump<S: Source, K: Sink>(
     let mut page = Page::new(alloc);
     match print_events(reader, &mut event, &mut page, out) {
         Ok(()) => end_dump(reader.last(), None, &mut page, out),
-        Err(Halt::Bad { fault }) => end_dump(reader.last(), Some(fault), &mut page, out),
+        Err(Halt::Bad { fault }) => match fault {
+            MidFault::ReadFault => end_unread(reader.last(), &mut page, out),
+            fault => end_dump(reader.last(), Some(fault), &mut page, out),
+        },
         Err(Halt::SinkFailed) => ToolEnd::SinkFault,
         Err(Halt::Short) => ToolEnd::NoMemory,
+        Err(Halt::Unread) => ToolEnd::FileFault,
     }
 }
 

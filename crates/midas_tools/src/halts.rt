@@ -1,4 +1,5 @@
 ghost use Rattle.std.specs.Prelude.{◌≡◌};
+ghost use Rattle.midas_tools.specs.Dumps.{HaltsBehind};
 ghost use Rattle.midas_tools.specs.declared.halts.Halt.TheVariants.{Short as no_memory, SinkFailed as sink_failed};
 
 use daq_io::Failed;
@@ -14,6 +15,8 @@ pub enum Halt {
     SinkFailed,
     /// There was no memory.
     Short,
+    /// The source failed, and there was no memory for the line of what it had given in the same call.
+    Unread,
 }
 
 impl From<NoMemory> for Halt {
@@ -29,5 +32,15 @@ impl From<Failed> for Halt {
 
     fn from(_e: Failed) -> Halt {
         Halt::SinkFailed
+    }
+}
+
+/// Why the events were not all printed where a line found no memory behind this answer of the reader.
+pub fn halt_behind(given: &Result<Option<()>, MidFault>) -> Halt
+    ensures { HaltsBehind given.now result }
+{
+    match given {
+        Err(MidFault::ReadFault) => Halt::Unread,
+        _ => Halt::Short,
     }
 }

@@ -1,9 +1,9 @@
-ghost use Rattle.std.specs.Prelude.{◌≡◌, ◌++◌, ◌∷◌, [], OnOk, OnErr};
+ghost use Rattle.std.specs.Prelude.{◌≡◌, ◌<◌, ◌++◌, ◌∷◌, [], length, OnOk, OnErr};
 ghost use Rattle.std.specs.Io.KnownBytes.{Appends};
 ghost use Rattle.daq_io.specs.Counts.{CountsFault};
 ghost use Rattle.daq_io.specs.Streams.{AppendsPart};
 ghost use Rattle.event_report.specs.Texts.{report_text};
-ghost use Rattle.midas_tools.specs.Printing.{Passes};
+ghost use Rattle.midas_tools.specs.Printing.{PassesPage};
 ghost use Rattle.midas_tools.specs.Texts.{number_text};
 
 use daq_io::{Failed, Sink, write_all};
@@ -104,8 +104,9 @@ pub fn flush<K: Sink>(page: &mut Page, out: &mut K) -> Result<(), Failed>
 
 /// Writes the page and begins it anew, if it is full.
 pub fn flush_full<K: Sink>(page: &mut Page, out: &mut K) -> Result<(), Failed>
-    ensures passes { Passes (K.written out.old) (K.written out.new) page.old page.new result }
+    ensures passes { PassesPage (K.written out.old) (K.written out.new) page.old page.new result }
     ensures faults { CountsFault (K.faults out.old) (K.faults out.new) result }
+    ensures less { OnOk result (length page.new < PAGE_BYTES) }
 {
     if page.as_slice().len() < PAGE_BYTES {
         return Ok(());
