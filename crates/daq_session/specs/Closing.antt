@@ -64,7 +64,7 @@ abbrev pub FaultsOf : Ending → (source sink files : Count) → Type 0
 FaultsOf End source sink files = Stands source × Stands sink × Stands files
 FaultsOf TooLong source sink files = Stands source × Stands sink × Stands files
 FaultsOf SourceFault source sink files = Rises source
-FaultsOf (Halted NoMemory) source sink files = ⊤
+FaultsOf (Halted NoMemory) source sink files = Stands sink
 FaultsOf (Halted SinkFault) source sink files = Stands source × Rises sink
 FaultsOf (Halted FileFault) source sink files = Stands source × Stands sink × Rises files
 

@@ -82,7 +82,8 @@ abbrev pub Stands : Count → Type 0
 Stands count = count.new ≡ count.old
 
 -- what the cause says of the counts of faults of the source, the sink and the run files, and of the file of the first
--- fault: a fault is the cause exactly where that count rose and no earlier cause holds
+-- fault: a fault is the cause exactly where that count rose and no earlier cause holds. Where there was no memory nothing
+-- is printed behind that, and so the sink's count stands
 abbrev pub FaultsBy : Cause → (source sink files : Count) → (first : Option (List ℕ)) → Type 0
 FaultsBy Done source sink files first = Stands source × Stands sink × Stands files
 FaultsBy (CommandRefused count line) source sink files first = Stands source × Stands sink × Stands files
@@ -91,7 +92,7 @@ FaultsBy Usage source sink files first = ⊥
 FaultsBy SourceFault source sink files first = Rises source
 FaultsBy SinkFault source sink files first = Stands source × Rises sink
 FaultsBy (FileFault name) source sink files first = Stands source × Stands sink × Rises files × (first ≡ Some name)
-FaultsBy NoMemory source sink files first = ⊤
+FaultsBy NoMemory source sink files first = Stands sink
 
 -- What a session made of its script, where no call on the run files failed. The last reply is that of the stop at the
 -- end, where one was given.

@@ -87,6 +87,7 @@ pub fn close_run<K: Sink, F: Files, C: Clock>(
     ensures refusals { desk.new.refusals ≡ desk.old.refusals }
     ensures counts { CountsOn ending (K.faults out.old) (K.faults out.new) (F.faults files.old) (F.faults files.new) result }
     ensures broken { result.whole ≡ false → Rose (F.faults files.old) (F.faults files.new) }
+    ensures file_fault { result.whole ≡ false → result.ending ≡ earlier ending Halt.FileFault }
     ensures calm { result.whole ≡ true → F.faults files.new ≡ F.faults files.old }
 {
     if desk.session.state.current.is_none() {

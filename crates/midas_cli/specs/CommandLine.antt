@@ -7,8 +7,8 @@ use Rattle.midas_cli.specs.declared.words.Form.{Form}
 use Rattle.midas_cli.specs.declared.words.Form.TheVariants.{Run, OnFile}
 
 -- the words are just `run`
-abbrev pub IsRun : List (List ℕ) → Type 0
-IsRun words = words ≡ codes "run" ∷ []
+abbrev pub IsRunWord : List (List ℕ) → Type 0
+IsRunWord words = words ≡ codes "run" ∷ []
 
 -- the word of a tool
 abbrev pub tool_word : Tool → List ℕ
@@ -32,14 +32,15 @@ pub record IsOnFile (tool : Tool) (name : List ℕ) (words : List (List ℕ)) : 
 
 -- the forms that the words may have
 abbrev pub HasForm : List (List ℕ) → Type 0
-HasForm words = IsRun words ⊎ ((tool : Tool) × (name : List ℕ) × IsOnFile tool name words)
+HasForm words = IsRunWord words ⊎ ((tool : Tool) × (name : List ℕ) × IsOnFile tool name words)
 
 -- the form that the words have, if any
 abbrev pub FormIs : List (List ℕ) → Option Form → Type 0
 FormIs words None = ¬ HasForm words
-FormIs words (Some Run) = IsRun words
+FormIs words (Some Run) = IsRunWord words
 FormIs words (Some (OnFile call)) = IsOnFile call.tool call.name words
 
--- the line that tells which forms there are
+-- The line that is written where the words have no form. It tells the forms of the finished program: `run --cooperative`
+-- and `gen N` are among them, and are no forms yet.
 abbrev pub usage_line : List ℕ
 usage_line = codes "usage: midas run [--cooperative] | check FILE | dump FILE | analyze FILE | gen N" ++ 10 ∷ []

@@ -27,7 +27,7 @@ ToolWrites Dump seen name told_old told_new end = WritesOn seen name told_old to
 ToolWrites Analyze seen name told_old told_new end = Writes Analyzes seen name told_old told_new end
 
 -- The counts of faults and clashes before a call and after it.
-pub record Counts : Type 0 where
+pub record CallCounts : Type 0 where
   pub sink_old : ℕ
   pub sink_new : ℕ
   pub files_old : ℕ
@@ -36,7 +36,7 @@ pub record Counts : Type 0 where
   pub clashes_new : ℕ
 
 -- A tool was run on the file of this name, and this is its cause.
-pub record ToolRan (tool : Tool) (seen : Seen) (name : List ℕ) (told_old told_new : Option (List ℕ)) (counts : Counts) (first : Option (List ℕ)) (cause : Cause) : Type 0 where
+pub record ToolRan (tool : Tool) (seen : Seen) (name : List ℕ) (told_old told_new : Option (List ℕ)) (counts : CallCounts) (first : Option (List ℕ)) (cause : Cause) : Type 0 where
   pub end : ToolEnd
   pub cause_is : IsCauseOf end first cause
   pub writes : ToolWrites tool seen name told_old told_new end

@@ -9,7 +9,7 @@ ghost use Rattle.daq_session.specs.RunRecordFits.{RunRecordFits};
 ghost use Rattle.daq_session.specs.Sessions.{FaultsBy, IsSession};
 ghost use Rattle.odb_tree.specs.Histories.{IsLegal};
 ghost use Rattle.odb_runinfo.specs.RunKeys.{session_rows};
-ghost use Rattle.midas_cli.specs.CommandLine.{HasForm, IsOnFile, IsRun, usage_line};
+ghost use Rattle.midas_cli.specs.CommandLine.{HasForm, IsOnFile, IsRunWord, usage_line};
 ghost use Rattle.daq_io.specs.Seen.{Same};
 ghost use Rattle.midas_cli.specs.Outcomes.{status_of};
 ghost use Rattle.midas_cli.specs.Tools.{ToolRan};
@@ -84,18 +84,18 @@ pub fn midas<
     // The words of a tool: what it found and wrote, and why it ended. Every name and byte of the run files stays, and the
     // script is not read.
     ensures tool { (tool : Tool) → (name : List ℕ) → IsOnFile tool name words.now → ToolRan tool (F.seen outside.run_files) name (K.written outside.out) (K.written result.1.out) (record { sink_old = K.faults outside.out; sink_new = K.faults result.1.out; files_old = F.faults outside.run_files; files_new = F.faults result.1.run_files; clashes_old = F.clashes outside.run_files; clashes_new = F.clashes result.1.run_files }) (F.first result.1.run_files) result.0.cause }
-    ensures tool_files { ¬ IsRun words.now → Same (F.seen outside.run_files) (F.seen result.1.run_files) }
-    ensures tool_source { ¬ IsRun words.now → result.1.src ≡ outside.src }
-    ensures tool_session { ¬ IsRun words.now → result.0.session ≡ None }
-    ensures tool_clock { ¬ IsRun words.now → result.1.clock ≡ outside.clock }
+    ensures tool_files { ¬ IsRunWord words.now → Same (F.seen outside.run_files) (F.seen result.1.run_files) }
+    ensures tool_source { ¬ IsRunWord words.now → result.1.src ≡ outside.src }
+    ensures tool_session { ¬ IsRunWord words.now → result.0.session ≡ None }
+    ensures tool_clock { ¬ IsRunWord words.now → result.1.clock ≡ outside.clock }
     ensures usage_files { ¬ HasForm words.now → result.1.run_files ≡ outside.run_files }
     ensures usage_clock { ¬ HasForm words.now → result.1.clock ≡ outside.clock }
     // What the session made of the script: its records, the run files, the text and the cause.
-    ensures session { IsRun words.now → ¬ Rose (F.faults outside.run_files) (F.faults result.1.run_files) → IsSession (record { files = F.seen outside.run_files; clock_tells = C.tells outside.clock; ahead = C.ahead outside.clock }) (record { files = F.seen result.1.run_files; clock_tells = C.tells result.1.clock; ahead = C.ahead result.1.clock }) (S.left outside.src) (S.left result.1.src) (K.written outside.out) (K.written result.1.out) (record { old = K.faults outside.out; new = K.faults result.1.out }) result.0.cause result.0.session }
+    ensures session { IsRunWord words.now → ¬ Rose (F.faults outside.run_files) (F.faults result.1.run_files) → IsSession (record { files = F.seen outside.run_files; clock_tells = C.tells outside.clock; ahead = C.ahead outside.clock }) (record { files = F.seen result.1.run_files; clock_tells = C.tells result.1.clock; ahead = C.ahead result.1.clock }) (S.left outside.src) (S.left result.1.src) (K.written outside.out) (K.written result.1.out) (record { old = K.faults outside.out; new = K.faults result.1.out }) result.0.cause result.0.session }
     // There is no record where a call on the run files failed.
     ensures broken { F.faults result.1.run_files ≢ F.faults outside.run_files → result.0.session ≡ None }
     // A fault is the cause exactly where its count rose and no earlier cause holds.
-    ensures faults { IsRun words.now → FaultsBy result.0.cause (record { old = S.faults outside.src; new = S.faults result.1.src }) (record { old = K.faults outside.out; new = K.faults result.1.out }) (record { old = F.faults outside.run_files; new = F.faults result.1.run_files }) (F.first result.1.run_files) }
+    ensures faults { IsRunWord words.now → FaultsBy result.0.cause (record { old = S.faults outside.src; new = S.faults result.1.src }) (record { old = K.faults outside.out; new = K.faults result.1.out }) (record { old = F.faults outside.run_files; new = F.faults result.1.run_files }) (F.first result.1.run_files) }
     // The calls on the online database are those of one database that opened with the run's parameters: each reply is the
     // one that it gave there, and the main thread alone made, removed or resized a row.
     ensures database { IfSome result.0.session (λ s. IsLegal session_rows s.database) }

@@ -1,5 +1,5 @@
 ghost use Rattle.std.specs.Prelude.{◌≡◌, ◌≢◌, ◌↔◌, IsTrue, IfSome, IfNone, MatchOption, List, ℕ, ◌∷◌, []};
-ghost use Rattle.midas_cli.specs.CommandLine.{FormIs, IsFileWord, IsRun, is_flag, tool_word};
+ghost use Rattle.midas_cli.specs.CommandLine.{FormIs, IsFileWord, IsRunWord, is_flag, tool_word};
 ghost use Rattle.midas_cli.specs.declared.words.Tool.{Tool};
 
 use daq_types::{FileName, Words};
@@ -34,7 +34,7 @@ pub enum Form {
 
 /// Whether the words are just `run`.
 pub fn is_run(words: &Words) -> bool
-    ensures { IsTrue result ↔ IsRun words.now }
+    ensures { IsTrue result ↔ IsRunWord words.now }
 {
     if words.len() != 1 {
         return false;
