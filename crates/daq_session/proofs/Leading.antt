@@ -13,7 +13,7 @@ use Rattle.odb_runinfo.specs.RunSets.{Assignment, assignments, start_sets, start
 use Rattle.session_console.specs.FrontNames.{front_name}
 use Rattle.session_console.specs.declared.records.FrontTally.{FrontTally}
 use Rattle.session_console.specs.declared.records.FileRecord.{FileRecord}
-use Rattle.session_console.specs.declared.records.Why.TheVariants.{Exists}
+use Rattle.daq_types.specs.declared.runs.Why.TheVariants.{Exists}
 use Rattle.session_console.specs.declared.replies.Reply.{Reply}
 use Rattle.session_console.specs.declared.replies.Reply.TheVariants.{StartRefused, Started, Stopped as run_stopped}
 use Rattle.daq_session.specs.declared.state.State.{State}

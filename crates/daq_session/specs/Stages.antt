@@ -21,8 +21,8 @@ use Rattle.odb_commands.specs.Answers.{Answer, answer_of, calls_of}
 use Rattle.session_console.specs.declared.records.RunRecord.{RunRecord}
 use Rattle.session_console.specs.declared.records.FrontTally.{FrontTally}
 use Rattle.session_console.specs.declared.records.FileRecord.{FileRecord}
-use Rattle.session_console.specs.declared.records.StartOutcome.TheVariants.{Completed, Refused}
-use Rattle.session_console.specs.declared.records.Why.TheVariants.{Exists}
+use Rattle.daq_types.specs.declared.runs.StartOutcome.TheVariants.{Completed, Refused}
+use Rattle.daq_types.specs.declared.runs.Why.TheVariants.{Exists}
 use Rattle.session_console.specs.declared.replies.Reply.{Reply}
 use Rattle.session_console.specs.declared.replies.Reply.TheVariants.{Silent, BadCommand, WrongState, RunNumber, StartRefused, Started, Stopped as run_stopped, Database}
 use Rattle.session_console.specs.FrontNames.{front_name}

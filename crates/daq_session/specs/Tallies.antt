@@ -1,8 +1,8 @@
 -- What a front-end says that it sent.
 use Rattle.std.specs.Prelude.{◌≡◌, ℕ, ◌*◌}
 use Rattle.session_console.specs.declared.records.FrontTally.{FrontTally}
-use Rattle.session_console.specs.declared.records.FrontEnded.{FrontEnded}
-use Rattle.session_console.specs.declared.records.FrontEnded.TheVariants.{Quota, Paused, Spent}
+use Rattle.daq_types.specs.declared.runs.FrontEnded.{FrontEnded}
+use Rattle.daq_types.specs.declared.runs.FrontEnded.TheVariants.{Quota, Paused, Spent}
 
 -- the most bytes that the slots of all events of so many runs come to: 2^32 events of a run, of 104 bytes each
 abbrev pub most_spent : (starts : ℕ) → ℕ

@@ -13,12 +13,12 @@ ghost use Rattle.daq_session.specs.Tallies.{IsTally, most_spent, most_starts};
 
 use buffer_core::laws;
 use daq_io::{Failed, Files};
-use daq_types::{Caller, Kind, Name, NoMemory, Order};
+use daq_types::{Caller, FrontEnded, Kind, Name, NoMemory, Order};
 use event_header::EventBuf;
 use frontend_kit::{EVENT_ROOM, Generator};
 use local_port::LocalPort;
 use plain_buffer::PlainBuffer;
-use session_console::{BufferRecord, Entries, FrontEnded, FrontTally};
+use session_console::{BufferRecord, Entries, FrontTally};
 use std::alloc::Global;
 
 /// The front-end FE: its client number, its event id and its trigger mask.
@@ -251,7 +251,7 @@ impl DataPath {
         }
         Ok(FrontTally {
             client: FRONT_CLIENT,
-            sent: order.quota,
+            sent: order.quota as u64,
             ended: FrontEnded::Quota,
         })
     }

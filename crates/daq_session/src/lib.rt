@@ -21,9 +21,9 @@ mod transitions;
 pub use causes::Cause;
 pub use run::run_script;
 pub use run_names::name_of_run;
+pub use daq_types::{FrontEnded, StartOutcome, Why};
 pub use session_console::{
-    BufferRecord, Entries, FileRecord, FrontEnded, FrontTally, Reply, RunRecord, SessionRecord,
-    StartOutcome, Why,
+    BufferRecord, Entries, FileRecord, FrontTally, Reply, RunRecord, SessionRecord,
 };
 
 #[cfg(test)]

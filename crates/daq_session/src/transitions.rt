@@ -25,12 +25,12 @@ use crate::run_files::{Begun, begin_file, end_file};
 use crate::run_names::name_of_run;
 use crate::state::{OpenRun, State};
 use daq_io::{Clock, Failed, Files};
-use daq_types::{ChannelState, FileName, Name, NoMemory, Order, RunState};
+use daq_types::{ChannelState, FileName, Name, NoMemory, Order, RunState, StartOutcome, Why};
 use odb_runinfo::{
     RunNumber, RunPaths, START_CALLS, STOP_CALLS, next_run, open_front, set_refused, set_start,
     set_started, set_stopped, set_stopping,
 };
-use session_console::{Entries, FileRecord, FrontTally, Reply, RunRecord, StartOutcome, Why};
+use session_console::{Entries, FileRecord, FrontTally, Reply, RunRecord};
 use std::alloc::Global;
 
 /// The client number of the logger, and the number of its channel.
@@ -288,7 +288,7 @@ pub fn stop<F: Files, C: Clock>(
             } = run;
             set_stopping(alloc, &mut state.database, stopping, time);
             let ended = end_run(path, files, order, name, file, rooms, time)?;
-            set_stopped(alloc, &mut state.database, stopped, ended.front.sent);
+            set_stopped(alloc, &mut state.database, stopped, ended.front.sent as u32);
             state.runs.push_reserved(ended.run);
             Ok(Reply::Stopped {
                 run: number,

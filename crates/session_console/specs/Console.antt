@@ -8,8 +8,8 @@ use Rattle.daq_types.specs.declared.runs.RunState.TheVariants.{Stopped, Paused, 
 use Rattle.daq_types.specs.declared.runs.ChannelState.{ChannelState}
 use Rattle.daq_types.specs.declared.runs.ChannelState.TheVariants.{Idle, Writing, Broken, Ended, NoEnd, NoMark}
 use Rattle.session_console.specs.FrontNames.{front_name}
-use Rattle.session_console.specs.declared.records.Why.{Why}
-use Rattle.session_console.specs.declared.records.Why.TheVariants.{Exists}
+use Rattle.daq_types.specs.declared.runs.Why.{Why}
+use Rattle.daq_types.specs.declared.runs.Why.TheVariants.{NotReady, Exists, Fault, BufferRefused}
 use Rattle.session_console.specs.declared.records.FrontTally.{FrontTally}
 use Rattle.session_console.specs.declared.records.FileRecord.{FileRecord}
 use Rattle.session_console.specs.declared.replies.Reply.{Reply}
@@ -37,9 +37,12 @@ state_name NoMark = codes "NoMark"
 unfoldable pub client_name : ℕ → List ℕ
 client_name client = if client == 0 then front_name else codes "Logger"
 
--- why a client refused a start: the name of the reason, and its field
+-- why a client refused a start: the name of the reason, and its field if it has one
 abbrev pub why_text : Why → List ℕ
+why_text NotReady = codes "NotReady"
 why_text (Exists channel) = codes "Exists " ++ decimal channel
+why_text (Fault channel) = codes "Fault " ++ decimal channel
+why_text BufferRefused = codes "BufferRefused"
 
 -- what a front-end sent
 abbrev pub front_line : FrontTally → List ℕ

@@ -5,9 +5,9 @@ ghost use Rattle.odb_commands.specs.Texts.{refused_line};
 ghost use Rattle.odb_value.specs.declared.items.Item.TheVariants.{Int32};
 ghost use Rattle.odb_value.specs.ItemTexts.{item_text};
 
-use crate::records::{FileRecord, FrontTally, Why};
+use crate::records::{FileRecord, FrontTally};
 use crate::replies::Reply;
-use daq_types::{ChannelState, NoMemory, RunState};
+use daq_types::{ChannelState, NoMemory, RunState, Why};
 use itoa::Buffer;
 use odb_script::TextBuffer;
 use std::alloc::Global;
@@ -96,10 +96,16 @@ fn add_why(text: &mut TextBuffer, alloc: Global, why: &Why) -> Result<(), NoMemo
     ensures { OnOk result (text.new ≡ text.old ++ why_text why.now) }
 {
     match why {
+        Why::NotReady => text.text(b"NotReady"),
         Why::Exists { channel } => {
             text.text(b"Exists ")?;
             text.number(alloc, *channel as u64)
         }
+        Why::Fault { channel } => {
+            text.text(b"Fault ")?;
+            text.number(alloc, *channel as u64)
+        }
+        Why::BufferRefused => text.text(b"BufferRefused"),
     }
 }
 
@@ -150,7 +156,7 @@ fn add_tallies(
 {
     text.text(name_of_client(front.client))?;
     text.text(b" sent ")?;
-    text.number(alloc, front.sent as u64)?;
+    text.number(alloc, front.sent)?;
     text.text(b"\n")?;
     text.text(file.name.as_slice())?;
     text.text(b" ")?;

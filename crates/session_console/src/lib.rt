@@ -8,8 +8,6 @@ mod refusals;
 mod replies;
 
 pub use entry_list::Entries;
-pub use records::{
-    BufferRecord, FileRecord, FrontEnded, FrontTally, RunRecord, SessionRecord, StartOutcome, Why,
-};
+pub use records::{BufferRecord, FileRecord, FrontTally, RunRecord, SessionRecord};
 pub use refusals::Refusals;
 pub use replies::Reply;

@@ -1,5 +1,5 @@
 use crate::entry_list::Entries;
-use daq_types::{ChannelState, FileName, Journal, Name};
+use daq_types::{ChannelState, FileName, FrontEnded, Journal, Name, StartOutcome};
 use local_port::BufferJournal;
 use odb_tree::DatabaseEntry;
 
@@ -45,42 +45,15 @@ pub struct RunRecord {
     pub files: Entries<FileRecord>,
 }
 
-/// How a start ended.
-#[derive(Clone, Copy, Debug, PartialEq, Eq)]
-pub enum StartOutcome {
-    /// Every client took part.
-    Completed,
-    /// This client refused.
-    Refused { client: u32, why: Why },
-}
-
-/// Why a client refused a start.
-#[derive(Clone, Copy, Debug, PartialEq, Eq)]
-pub enum Why {
-    /// The name of this channel's run file was taken.
-    Exists { channel: u32 },
-}
-
 /// What a front-end sent in a run.
 #[derive(Clone, Copy, Debug, PartialEq, Eq)]
 pub struct FrontTally {
     /// Its client number.
     pub client: u32,
     /// How many events it sent.
-    pub sent: u32,
+    pub sent: u64,
     /// Why it sent no more.
     pub ended: FrontEnded,
-}
-
-/// Why a front-end sent no more events in a run.
-#[derive(Clone, Copy, Debug, PartialEq, Eq)]
-pub enum FrontEnded {
-    /// It had sent its quota.
-    Quota,
-    /// The run was stopped while it was paused.
-    Paused,
-    /// The buffer takes no more events; `total` is the sum of the slots of all that it ever took.
-    Spent { total: u64 },
 }
 
 /// What a channel of the logger wrote in a run.

@@ -1,5 +1,5 @@
-use crate::records::{FileRecord, FrontTally, Why};
-use daq_types::RunState;
+use crate::records::{FileRecord, FrontTally};
+use daq_types::{RunState, Why};
 use odb_commands::CommandReply;
 
 /// What a line of the script is answered.
