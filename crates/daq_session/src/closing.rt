@@ -108,7 +108,7 @@ pub fn close_run<K: Sink, F: Files, C: Clock>(
                     whole: true,
                 };
             }
-            match print_reply(&mut desk.text, alloc, 0, &reply, out) {
+            match print_reply(&mut desk.text, 0, &reply, out) {
                 Ok(()) => Closed {
                     ending,
                     whole: true,

@@ -4,14 +4,12 @@ ghost use Rattle.session_console.specs.Console.{text_of};
 
 use crate::halts::Halt;
 use daq_io::{Sink, write_all};
-use odb_script::TextBuffer;
+use daq_text::TextBuffer;
 use session_console::Reply;
-use std::alloc::Global;
 
 /// Writes what the script's line of this number prints for this reply.
 pub fn print_reply<K: Sink>(
     text: &mut TextBuffer,
-    alloc: Global,
     line: u64,
     reply: &Reply,
     out: &mut K,
@@ -20,7 +18,7 @@ pub fn print_reply<K: Sink>(
     ensures sink { CountsSink (K.faults out.old) (K.faults out.new) result }
 {
     text.clear();
-    if reply.print(alloc, line, text).is_err() {
+    if reply.print(line, text).is_err() {
         return Err(Halt::NoMemory);
     }
     match write_all(out, text.as_slice()) {

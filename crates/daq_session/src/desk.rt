@@ -8,8 +8,9 @@ use crate::console::print_reply;
 use crate::halts::Halt;
 use crate::session::Session;
 use daq_io::{Clock, Files, Sink};
+use daq_text::TextBuffer;
 use daq_types::NoMemory;
-use odb_script::{Command, LineRefusal, TextBuffer};
+use odb_script::{Command, LineRefusal};
 use session_console::Refusals;
 use std::alloc::Global;
 
@@ -81,7 +82,7 @@ impl Desk {
         let going = going_behind(&command);
         let reply = self.session.answer(alloc, command, files, clock)?;
         self.refusals.note(number, &reply);
-        print_reply(&mut self.text, alloc, number, &reply, out)?;
+        print_reply(&mut self.text, number, &reply, out)?;
         Ok(going)
     }
 }

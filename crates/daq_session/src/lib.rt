@@ -19,9 +19,9 @@ mod state;
 mod transitions;
 
 pub use causes::Cause;
+pub use daq_types::{FrontEnded, StartOutcome, Why};
 pub use run::run_script;
 pub use run_names::name_of_run;
-pub use daq_types::{FrontEnded, StartOutcome, Why};
 pub use session_console::{
     BufferRecord, Entries, FileRecord, FrontTally, Reply, RunRecord, SessionRecord,
 };

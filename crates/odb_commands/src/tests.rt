@@ -1,7 +1,8 @@
 //! Worked commands: what each prints, and how many calls it makes.
 use crate::run_command;
+use daq_text::TextBuffer;
 use odb_journal::LocalDatabase;
-use odb_script::{Command, TextBuffer};
+use odb_script::Command;
 use odb_tree::PlainTree;
 use std::test::Fail;
 
@@ -53,7 +54,7 @@ fn commands_in_a_row(rt: HostRuntime) -> Result<(), Fail> {
         text.clear();
         if let Ok(command) = Command::read(line.as_bytes()) {
             if let Some(reply) = run_command(alloc, &mut database, &command)? {
-                reply.print(alloc, number, &mut text)?;
+                reply.print(number, &mut text)?;
             }
         }
         assert_eq!(rt; text.as_slice(), shown.as_bytes(), "{line}");

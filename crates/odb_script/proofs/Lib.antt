@@ -2,7 +2,6 @@ mod KeptLines
 mod Scanning
 mod LinesSoFar
 mod TypeLaws
-mod NumberLaws
 mod WordLaws
 mod TableLaws
 mod SpelledLaws

@@ -5,11 +5,12 @@ use Rattle.std.specs.List.{starts_with}
 use Rattle.std.proofs.lemmas.List.{append-nil}
 use Rattle.daq_types.specs.declared.types.Tid.{Tid}
 use Rattle.odb_script.specs.LineWords.{Words, word, ended, faulty, line_words}
-use Rattle.odb_script.specs.Numbers.{number_of}
+use Rattle.daq_text.specs.Numbers.{number_of}
+use Rattle.odb_script.specs.Numbers.{most_number}
 use Rattle.odb_script.specs.TypeNames.{is_text, type_named}
 use Rattle.odb_script.specs.declared.forms.Command.{Command}
 use Rattle.odb_script.specs.declared.forms.Command.TheVariants.{Nothing, Events, Start, Stop, Create, CreateDir, Set, Get, List as Ls, Remove, Exit}
-use Rattle.odb_script.specs.Forms.{Read, ◌>>=◌, next_text, behind, line_end, last_number, only, events_form, value_form, create_form, set_end, set_form, get_form, list_form, remove_form, named_form, words_form, command_of}
+use Rattle.odb_script.specs.Forms.{Read, ◌>>=◌, next_text, words_behind, line_end, last_number, only, events_form, value_form, create_form, set_end, set_form, get_form, list_form, remove_form, named_form, words_form, command_of}
 use Rattle.odb_script.specs.Spelled.{texts_of, Spells, Spelled}
 use Rattle.odb_script.proofs.TableLaws.{number_cases, type_cases, text_cases, no_directory_type}
 
@@ -32,7 +33,7 @@ ends front command (ended at) h = ([], refl, subst (λ texts. Spells texts comma
 ends front command (faulty at) h = tt
 
 path_ends : (front : List (List ℕ)) (make : List ℕ → Command) (ws : Words) → ((path : List ℕ) → Spells (front ++ path ∷ []) (make path))
-    → Reads front ws (next_text ws >>= (λ path. only (make path) (behind ws)))
+    → Reads front ws (next_text ws >>= (λ path. only (make path) (words_behind ws)))
 path_ends front make (word at text ws) h = step front at text ws (only (make text) ws) (ends (front ++ text ∷ []) (make text) ws (h text))
 path_ends front make (ended at) h = tt
 path_ends front make (faulty at) h = tt
@@ -45,7 +46,7 @@ given front make n (ended at) h = ([], refl, subst (λ texts. Spells texts (make
 given front make n (faulty at) h = tt
 
 number_ends : (front : List (List ℕ)) (make : Option ℕ → Command) (ws : Words) → Spells front (make None)
-    → ((text : List ℕ) (n : ℕ) → number_of text ≡ Some n → Spells (front ++ text ∷ []) (make (Some n)))
+    → ((text : List ℕ) (n : ℕ) → number_of most_number text ≡ Some n → Spells (front ++ text ∷ []) (make (Some n)))
     → Reads front ws (last_number ws >>= (λ n. Ok (make n)))
 number_ends front make (word at text ws) none some = number_cases text
     (λ e. rw e tt)
@@ -54,8 +55,8 @@ number_ends front make (ended at) none some = ([], refl, subst (λ texts. Spells
 number_ends front make (faulty at) none some = tt
 
 path_number_ends : (front : List (List ℕ)) (make : List ℕ → Option ℕ → Command) (ws : Words) → ((path : List ℕ) → Spells (front ++ path ∷ []) (make path None))
-    → ((path text : List ℕ) (n : ℕ) → number_of text ≡ Some n → Spells ((front ++ path ∷ []) ++ text ∷ []) (make path (Some n)))
-    → Reads front ws (next_text ws >>= (λ path. last_number (behind ws) >>= (λ n. Ok (make path n))))
+    → ((path text : List ℕ) (n : ℕ) → number_of most_number text ≡ Some n → Spells ((front ++ path ∷ []) ++ text ∷ []) (make path (Some n)))
+    → Reads front ws (next_text ws >>= (λ path. last_number (words_behind ws) >>= (λ n. Ok (make path n))))
 path_number_ends front make (word at path ws) none some =
     step front at path ws (last_number ws >>= (λ n. Ok (make path n))) (number_ends (front ++ path ∷ []) (make path) ws (none path) (some path))
 path_number_ends front make (ended at) none some = tt
@@ -71,7 +72,7 @@ events (faulty at) = tt
 create : (ws : Words) → Reads (codes "create" ∷ []) ws (create_form ws)
 create (word at kind ws) = text_cases kind (codes "DIR")
     (λ same. subst (λ text. Reads (codes "create" ∷ []) (word at text ws) (create_form (word at text ws))) same
-    (step (codes "create" ∷ []) at (codes "DIR") ws (next_text ws >>= (λ path. only (CreateDir path) (behind ws)))
+    (step (codes "create" ∷ []) at (codes "DIR") ws (next_text ws >>= (λ path. only (CreateDir path) (words_behind ws)))
     (path_ends (codes "create" ∷ codes "DIR" ∷ []) CreateDir ws (λ path. refl))))
     (λ other. type_cases kind
     (λ e. rw (other, e) tt)
@@ -87,20 +88,20 @@ set_without_index path first (word at value ws) = tt
 set_without_index path first (ended at) = ([], refl, inl (refl, refl))
 set_without_index path first (faulty at) = tt
 
-set_with_index : (path first : List ℕ) (n : ℕ) → number_of first ≡ Some n → (ws : Words) → Reads (codes "set" ∷ path ∷ first ∷ []) ws (set_end path first (Some n) ws)
+set_with_index : (path first : List ℕ) (n : ℕ) → number_of most_number first ≡ Some n → (ws : Words) → Reads (codes "set" ∷ path ∷ first ∷ []) ws (set_end path first (Some n) ws)
 set_with_index path first n number (word at value ws) =
     step (codes "set" ∷ path ∷ first ∷ []) at value ws (only (Set path n value) ws)
     (ends (codes "set" ∷ path ∷ first ∷ value ∷ []) (Set path n value) ws (inr (first, refl, number)))
 set_with_index path first n number (ended at) = ([], refl, inl (refl, refl))
 set_with_index path first n number (faulty at) = tt
 
-set_value : (path first : List ℕ) (ws : Words) → Reads (codes "set" ∷ path ∷ first ∷ []) ws (set_end path first (number_of first) ws)
+set_value : (path first : List ℕ) (ws : Words) → Reads (codes "set" ∷ path ∷ first ∷ []) ws (set_end path first (number_of most_number first) ws)
 set_value path first ws = number_cases first (λ e. rw e (set_without_index path first ws)) (λ n e. rw e (set_with_index path first n e ws))
 
 set : (ws : Words) → Reads (codes "set" ∷ []) ws (set_form ws)
 set (word at path (word next first ws)) =
-    step (codes "set" ∷ []) at path (word next first ws) (set_end path first (number_of first) ws)
-    (step (codes "set" ∷ path ∷ []) next first ws (set_end path first (number_of first) ws) (set_value path first ws))
+    step (codes "set" ∷ []) at path (word next first ws) (set_end path first (number_of most_number first) ws)
+    (step (codes "set" ∷ path ∷ []) next first ws (set_end path first (number_of most_number first) ws) (set_value path first ws))
 set (word at path (ended next)) = tt
 set (word at path (faulty next)) = tt
 set (ended at) = tt

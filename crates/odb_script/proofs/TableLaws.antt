@@ -6,19 +6,20 @@ use Rattle.std.proofs.lemmas.Bool.{lt-ltb, le-ltb}
 use Rattle.std.proofs.lemmas.Slice.Eq.{bytes_eq-Decides}
 use Rattle.daq_types.specs.declared.types.Tid.{Tid}
 use Rattle.odb_script.specs.LineWords.{Words, word, ended, faulty, line_words}
-use Rattle.odb_script.specs.Numbers.{number_of}
+use Rattle.daq_text.specs.Numbers.{number_of}
+use Rattle.odb_script.specs.Numbers.{most_number}
 use Rattle.odb_script.specs.TypeNames.{is_text, type_named}
 use Rattle.odb_script.specs.declared.forms.Command.{Command}
 use Rattle.odb_script.specs.declared.forms.Command.TheVariants.{Nothing, Events, Start, Stop, Create, CreateDir, Set, Get, List as Ls, Remove, Exit}
 use Rattle.odb_script.specs.declared.refusals.LineRefusal.TheVariants.{BadCommand}
-use Rattle.odb_script.specs.Forms.{◌>>=◌, next_text, behind, last_number, only, events_form, create_form, set_end, set_form, named_form, words_form, command_of}
+use Rattle.odb_script.specs.Forms.{◌>>=◌, next_text, words_behind, last_number, only, events_form, create_form, set_end, set_form, named_form, words_form, command_of}
 use Rattle.odb_script.specs.FormTable.{Form, exactly, any_text, a_number, a_type, forms, first_misfit, place_of}
 
 -- What is known of a text: whether it is a number, the name of a type, or one text alone.
 
-pub number_cases : {A : Type 0} (text : List ℕ) → (number_of text ≡ None → A) → ((n : ℕ) → number_of text ≡ Some n → A) → A
+pub number_cases : {A : Type 0} (text : List ℕ) → (number_of most_number text ≡ None → A) → ((n : ℕ) → number_of most_number text ≡ Some n → A) → A
 number_cases {A} text none some =
-    elim (number_of text) as (λ found. number_of text ≡ found → A) [ None ↦ none | Some n ↦ some n ] refl
+    elim (number_of most_number text) as (λ found. number_of most_number text ≡ found → A) [ None ↦ none | Some n ↦ some n ] refl
 
 pub type_cases : {A : Type 0} (text : List ℕ) → (type_named text ≡ None → A) → ((t : Tid) → type_named text ≡ Some t → A) → A
 type_cases {A} text none some =
@@ -44,14 +45,14 @@ number_ends make (ended at) = refl
 number_ends make (faulty at) = refl
 
 -- one path
-path_ends : (make : List ℕ → Command) (ws : Words) → place_of (next_text ws >>= (λ path. only (make path) (behind ws))) ≡ first_misfit ((any_text ∷ []) ∷ []) ws
+path_ends : (make : List ℕ → Command) (ws : Words) → place_of (next_text ws >>= (λ path. only (make path) (words_behind ws))) ≡ first_misfit ((any_text ∷ []) ∷ []) ws
 path_ends make (word at text ws) = ends (make text) ws
 path_ends make (ended at) = refl
 path_ends make (faulty at) = refl
 
 -- a path, and a number that may be left out
 path_number_ends : (make : List ℕ → Option ℕ → Command) (ws : Words)
-    → place_of (next_text ws >>= (λ path. last_number (behind ws) >>= (λ n. Ok (make path n)))) ≡ first_misfit ((any_text ∷ []) ∷ (any_text ∷ a_number ∷ []) ∷ []) ws
+    → place_of (next_text ws >>= (λ path. last_number (words_behind ws) >>= (λ n. Ok (make path n)))) ≡ first_misfit ((any_text ∷ []) ∷ (any_text ∷ a_number ∷ []) ∷ []) ws
 path_number_ends make (word at text ws) = number_ends (make text) ws
 path_number_ends make (ended at) = refl
 path_number_ends make (faulty at) = refl

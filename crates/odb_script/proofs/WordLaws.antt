@@ -3,7 +3,8 @@ use Rattle.std.specs.Prelude.{◌≡◌, ◌≢◌, ℕ, suc, zero, ◌+◌, ◌
 use Rattle.std.proofs.Common.{ap, sym, ◌∙◌, subst, arith, append_assoc, get_or, take, ne_eqb}
 use Rattle.std.proofs.lemmas.List.{append-nil, take_more}
 use Rattle.std.proofs.lemmas.List.Elements.{All-append}
-use Rattle.odb_script.specs.LineWords.{word, ended, faulty, is_blank, is_quote, between, inside, quoted, closed, words_from}
+use Rattle.daq_text.specs.Numbers.{is_blank}
+use Rattle.odb_script.specs.LineWords.{word, ended, faulty, is_quote, between, inside, quoted, closed, words_from}
 use Rattle.odb_script.specs.declared.words.Part.{Part}
 use Rattle.odb_script.specs.declared.words.Part.TheVariants.{Blanks, Plain, Quoted}
 use Rattle.odb_script.specs.NextWords.{belongs, is_gap, IsBehind}

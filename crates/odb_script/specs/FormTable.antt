@@ -1,23 +1,27 @@
 -- The forms of a script's commands as a table. A line is refused at the first word with which none of them goes on.
 use Rattle.std.specs.Prelude.{ℕ, Bool, true, false, if◌then◌else◌, List, [], ◌∷◌, Option, Some, None, is_some, Ok, Err, codes}
 use Rattle.odb_script.specs.LineWords.{Words, word, ended, faulty}
-use Rattle.odb_script.specs.Numbers.{number_of}
+use Rattle.daq_text.specs.Numbers.{number_of}
+use Rattle.odb_script.specs.Numbers.{most_number}
 use Rattle.odb_script.specs.TypeNames.{is_text, type_named}
 use Rattle.odb_script.specs.Forms.{Read}
 use Rattle.odb_script.specs.declared.forms.Command.{Command}
 use Rattle.odb_script.specs.declared.refusals.LineRefusal.TheVariants.{BadCommand}
 
--- what a word of a form may be: one text alone, any text, a number or the name of a type
+-- what a word of a form may be: one text alone, any text, a number of at most this or the name of a type
 pub data Piece : Type 0 where
   exactly : (text : List ℕ) → Piece
   any_text : Piece
-  a_number : Piece
+  number_to : (most : ℕ) → Piece
   a_type : Piece
+
+abbrev pub a_number : Piece
+a_number = number_to most_number
 
 abbrev pub fits : Piece → List ℕ → Bool
 fits (exactly name) text = is_text text name
 fits any_text text = true
-fits a_number text = is_some (number_of text)
+fits (number_to most) text = is_some (number_of most text)
 fits a_type text = is_some (type_named text)
 
 -- a form, word by word

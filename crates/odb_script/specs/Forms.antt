@@ -3,7 +3,8 @@ use Rattle.std.specs.Prelude.{ℕ, nat_lt, nat_eq, if◌then◌else◌, List, le
 use Rattle.std.specs.List.{starts_with}
 use Rattle.daq_types.specs.declared.types.Tid.{Tid}
 use Rattle.odb_script.specs.LineWords.{Words, word, ended, faulty, line_words}
-use Rattle.odb_script.specs.Numbers.{number_of}
+use Rattle.daq_text.specs.Numbers.{number_of}
+use Rattle.odb_script.specs.Numbers.{most_number}
 use Rattle.odb_script.specs.TypeNames.{is_text, type_named}
 use Rattle.odb_script.specs.declared.forms.Command.{Command}
 use Rattle.odb_script.specs.declared.forms.Command.TheVariants.{Nothing, Events, Start, Stop, Create, CreateDir, Set, Get, List as Ls, Remove, Exit}
@@ -26,10 +27,10 @@ next_text (ended at) = Err (BadCommand at)
 next_text (faulty at) = Err (BadCommand at)
 
 -- what stands behind the next word
-abbrev pub behind : Words → Words
-behind (word at text ws) = ws
-behind (ended at) = ended at
-behind (faulty at) = faulty at
+abbrev pub words_behind : Words → Words
+words_behind (word at text ws) = ws
+words_behind (ended at) = ended at
+words_behind (faulty at) = faulty at
 
 -- the line ends here
 abbrev pub line_end : Words → Read (Unit {0})
@@ -42,16 +43,16 @@ abbrev pub number_at : ℕ → Option ℕ → Read ℕ
 number_at at None = Err (BadCommand at)
 number_at at (Some n) = Ok n
 
--- the next word, which has to be a number
-abbrev pub next_number : Words → Read ℕ
-next_number (word at text ws) = number_at at (number_of text)
-next_number (ended at) = Err (BadCommand at)
-next_number (faulty at) = Err (BadCommand at)
+-- the next word, which has to be a number of at most this
+abbrev pub next_number : (most : ℕ) → Words → Read ℕ
+next_number most (word at text ws) = number_at at (number_of most text)
+next_number most (ended at) = Err (BadCommand at)
+next_number most (faulty at) = Err (BadCommand at)
 
 -- a number at the line's end, which may be left out
 abbrev pub last_number : Words → Read (Option ℕ)
 last_number (word at text ws) = do
-  n ← number_at at (number_of text)
+  n ← number_at at (number_of most_number text)
   _ ← line_end ws
   Ok (Some n)
 last_number (ended at) = Ok None
@@ -66,21 +67,21 @@ only command ws = do
 -- `events N`
 abbrev pub events_form : Words → Read Command
 events_form ws = do
-  count ← next_number ws
-  only (Events count) (behind ws)
+  count ← next_number most_number ws
+  only (Events count) (words_behind ws)
 
 -- `create DIR PATH`
 abbrev pub directory_form : Words → Read Command
 directory_form ws = do
   path ← next_text ws
-  only (CreateDir path) (behind ws)
+  only (CreateDir path) (words_behind ws)
 
 -- `create TYPE PATH` and maybe LEN, which is else 1
 abbrev pub value_form : ℕ → Option Tid → Words → Read Command
 value_form at None ws = Err (BadCommand at)
 value_form at (Some tid) ws = do
   path ← next_text ws
-  len ← last_number (behind ws)
+  len ← last_number (words_behind ws)
   Ok (Create tid path (unwrap_or len 1))
 
 abbrev pub create_form : Words → Read Command
@@ -100,27 +101,27 @@ set_end path first (Some index) (word at value ws) = only (Set path index value)
 abbrev pub set_form : Words → Read Command
 set_form ws = do
   path ← next_text ws
-  first ← next_text (behind ws)
-  set_end path first (number_of first) (behind (behind ws))
+  first ← next_text (words_behind ws)
+  set_end path first (number_of most_number first) (words_behind (words_behind ws))
 
 -- `get PATH` and maybe INDEX
 abbrev pub get_form : Words → Read Command
 get_form ws = do
   path ← next_text ws
-  index ← last_number (behind ws)
+  index ← last_number (words_behind ws)
   Ok (Get path index)
 
 -- `ls PATH`
 abbrev pub list_form : Words → Read Command
 list_form ws = do
   path ← next_text ws
-  only (Ls path) (behind ws)
+  only (Ls path) (words_behind ws)
 
 -- `rm PATH`
 abbrev pub remove_form : Words → Read Command
 remove_form ws = do
   path ← next_text ws
-  only (Remove path) (behind ws)
+  only (Remove path) (words_behind ws)
 
 -- the form that begins with a name, which stands at a place, and what is behind it
 unfoldable pub named_form : ℕ → List ℕ → Words → Read Command

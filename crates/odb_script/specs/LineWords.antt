@@ -1,5 +1,6 @@
 -- The words of a script's line.
-use Rattle.std.specs.Prelude.{ℕ, ◌+◌, ◌==◌, Bool, ◌||◌, if◌then◌else◌, List, [], ◌∷◌, ◌++◌}
+use Rattle.std.specs.Prelude.{ℕ, ◌+◌, ◌==◌, Bool, if◌then◌else◌, List, [], ◌∷◌, ◌++◌}
+use Rattle.daq_text.specs.Numbers.{is_blank}
 
 -- What a line has from a place on: words, each with the place of its first byte and its text, which has no quotes round
 -- it; then its end, whose place is the line's length. In place of the end may stand what is no word, with the place at
@@ -8,10 +9,6 @@ pub data Words : Type 0 where
   word : (at : ℕ) (text : List ℕ) (rest : Words) → Words
   ended : (at : ℕ) → Words
   faulty : (at : ℕ) → Words
-
--- blanks are the space and the tab
-abbrev pub is_blank : ℕ → Bool
-is_blank b = b == 32 || b == 9
 
 abbrev pub is_quote : ℕ → Bool
 is_quote b = b == 34

@@ -1,6 +1,7 @@
 -- What a reader of words gives, and how it cuts them out of a line.
 use Rattle.std.specs.Prelude.{◌≡◌, ℕ, Bool, true, false, not, ◌||◌, List, [], ◌∷◌}
-use Rattle.odb_script.specs.LineWords.{Words, word, ended, faulty, is_blank, is_quote}
+use Rattle.daq_text.specs.Numbers.{is_blank}
+use Rattle.odb_script.specs.LineWords.{Words, word, ended, faulty, is_quote}
 use Rattle.odb_script.specs.declared.words.NextWord.{NextWord}
 use Rattle.odb_script.specs.declared.words.NextWord.TheVariants.{Word, End, Faulty}
 use Rattle.odb_script.specs.declared.words.Part.{Part}

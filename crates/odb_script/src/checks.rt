@@ -1,7 +1,7 @@
-//! Worked rows of lines and texts.
+//! Worked rows of lines.
 ghost use Rattle.std.specs.Prelude.{None};
 
-use crate::{LineReader, NextLine, TextBuffer};
+use crate::{LineReader, NextLine};
 use daq_io::{Failed, Source, copy_front};
 use std::test::Fail;
 
@@ -63,16 +63,5 @@ fn a_line_cut_by_a_fault(rt: HostRuntime) -> Result<(), Fail> {
     };
     let mut reader = LineReader::new(rt.alloc())?;
     assert_eq!(rt; reader.advance(&mut source), NextLine::Fault);
-    Ok(())
-}
-
-#[test]
-fn texts(rt: HostRuntime) -> Result<(), Fail> {
-    let mut text = TextBuffer::new(rt.alloc());
-    text.text(b"run ")?;
-    text.number(rt.alloc(), 18446744073709551615)?;
-    assert_eq!(rt; text.as_slice(), b"run 18446744073709551615".as_slice());
-    text.clear();
-    assert!(rt; text.as_slice().is_empty());
     Ok(())
 }

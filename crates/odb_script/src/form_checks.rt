@@ -1,7 +1,7 @@
 //! Worked lines of the script with their commands, and the places at which lines are refused.
-use crate::{Command, LineRefusal, TextBuffer};
+use crate::{Command, LineRefusal};
+use daq_text::TextBuffer;
 use daq_types::NoMemory;
-use std::alloc::Global;
 use std::test::Fail;
 
 /// Writes a text in angle brackets.
@@ -11,14 +11,8 @@ fn spell_text(text: &mut TextBuffer, bytes: &[u8]) -> Result<(), NoMemory> {
     text.text(b">")
 }
 
-/// Writes a number behind a blank.
-fn spell_number(alloc: Global, text: &mut TextBuffer, number: u32) -> Result<(), NoMemory> {
-    text.text(b" ")?;
-    text.number(alloc, number as u64)
-}
-
 /// Writes a command with all its parts, texts in angle brackets.
-fn spell(alloc: Global, text: &mut TextBuffer, command: Command<'_>) -> Result<(), NoMemory> {
+fn spell(text: &mut TextBuffer, command: Command<'_>) -> Result<(), NoMemory> {
     match command {
         Command::Nothing => text.text(b"nothing"),
         Command::Start => text.text(b"start"),
@@ -26,13 +20,13 @@ fn spell(alloc: Global, text: &mut TextBuffer, command: Command<'_>) -> Result<(
         Command::Exit => text.text(b"exit"),
         Command::Events { count } => {
             text.text(b"events")?;
-            spell_number(alloc, text, count)
+            text.blank_number(count as u64)
         }
         Command::Create { tid, path, len } => {
             text.text(b"create ")?;
             text.text(tid.name().as_bytes())?;
             spell_text(text, path.as_slice())?;
-            spell_number(alloc, text, len)
+            text.blank_number(len as u64)
         }
         Command::CreateDir { path } => {
             text.text(b"directory")?;
@@ -41,7 +35,7 @@ fn spell(alloc: Global, text: &mut TextBuffer, command: Command<'_>) -> Result<(
         Command::Set { path, index, value } => {
             text.text(b"set")?;
             spell_text(text, path.as_slice())?;
-            spell_number(alloc, text, index)?;
+            text.blank_number(index as u64)?;
             spell_text(text, value.as_slice())
         }
         Command::Get { path, index } => {
@@ -49,7 +43,7 @@ fn spell(alloc: Global, text: &mut TextBuffer, command: Command<'_>) -> Result<(
             spell_text(text, path.as_slice())?;
             match index {
                 None => Ok(()),
-                Some(index) => spell_number(alloc, text, index),
+                Some(index) => text.blank_number(index as u64),
             }
         }
         Command::List { path } => {
@@ -105,7 +99,7 @@ fn lines_that_are_commands(rt: HostRuntime) -> Result<(), Fail> {
     ] {
         let mut text = TextBuffer::new(rt.alloc());
         match Command::read(line.as_bytes()) {
-            Ok(command) => spell(rt.alloc(), &mut text, command)?,
+            Ok(command) => spell(&mut text, command)?,
             Err(_) => text.text(b"refused")?,
         }
         assert_eq!(rt; text.as_slice(), wanted.as_bytes(), "{line}");

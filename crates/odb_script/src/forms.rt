@@ -1,13 +1,14 @@
 ghost use Rattle.std.specs.Prelude.{◌≡◌, OnOk, Ok};
 ghost use Rattle.odb_script.specs.Exits.{is_exit};
-ghost use Rattle.odb_script.specs.Numbers.{number_of};
+ghost use Rattle.daq_text.specs.Numbers.{number_of};
+ghost use Rattle.odb_script.specs.Numbers.{most_number};
 ghost use Rattle.odb_script.specs.TypeNames.{type_named};
-ghost use Rattle.odb_script.specs.Forms.{next_text, behind, line_end, number_at, next_number as number_next, last_number as number_last, only, events_form, directory_form, value_form, create_form, set_end, set_form, get_form, list_form, remove_form, named_form, command_of};
+ghost use Rattle.odb_script.specs.Forms.{next_text, words_behind, line_end, number_at, next_number as number_next, last_number as number_last, only, events_form, directory_form, value_form, create_form, set_end, set_form, get_form, list_form, remove_form, named_form, command_of};
 
 use crate::line_text::LineText;
-use crate::numbers::number;
 use crate::refusals::{LINE_BYTES, LineRefusal};
 use crate::words::{NextWord, WordReader};
+use daq_text::number;
 use daq_types::Tid;
 
 /// A command of the script. Its texts are words of the line, without quotes; paths and values are read later, by the
@@ -64,11 +65,21 @@ fn type_of(name: &[u8]) -> Option<Tid>
     Tid::from_name(name)
 }
 
-/// The number that a word at this place is.
-fn number_there(at: u32, text: &LineText<'_>) -> Result<u32, LineRefusal>
-    ensures { result ≡ number_at at (number_of text.now) }
+/// The number of at most `most` that a word is.
+fn word_number(text: &LineText<'_>, most: u32) -> Option<u32>
+    ensures { result ≡ number_of most text.now }
 {
-    match number(text.as_slice()) {
+    match number(text.as_slice(), most as u64) {
+        None => None,
+        Some(number) => Some(number as u32),
+    }
+}
+
+/// The number of at most `most` that a word at this place is.
+fn number_there(at: u32, text: &LineText<'_>, most: u32) -> Result<u32, LineRefusal>
+    ensures { result ≡ number_at at (number_of most text.now) }
+{
+    match word_number(text, most) {
         None => Err(LineRefusal::BadCommand { at }),
         Some(number) => Ok(number),
     }
@@ -77,7 +88,7 @@ fn number_there(at: u32, text: &LineText<'_>) -> Result<u32, LineRefusal>
 /// The next word, which has to be there.
 fn text<'a>(words: &mut WordReader<'a>) -> Result<LineText<'a>, LineRefusal>
     ensures text { result ≡ next_text words.old }
-    ensures behind { OnOk result (words.new ≡ behind words.old) }
+    ensures behind { OnOk result (words.new ≡ words_behind words.old) }
 {
     match words.next() {
         NextWord::Word { text, .. } => Ok(text),
@@ -95,13 +106,13 @@ fn end(words: &mut WordReader<'_>) -> Result<(), LineRefusal>
     }
 }
 
-/// The next word, which has to be a number.
-fn next_number(words: &mut WordReader<'_>) -> Result<u32, LineRefusal>
-    ensures number { result ≡ number_next words.old }
-    ensures behind { OnOk result (words.new ≡ behind words.old) }
+/// The next word, which has to be a number of at most `most`.
+fn next_number(words: &mut WordReader<'_>, most: u32) -> Result<u32, LineRefusal>
+    ensures number { result ≡ number_next most words.old }
+    ensures behind { OnOk result (words.new ≡ words_behind words.old) }
 {
     match words.next() {
-        NextWord::Word { at, text } => number_there(at, &text),
+        NextWord::Word { at, text } => number_there(at, &text, most),
         NextWord::End { at } | NextWord::Faulty { at } => Err(LineRefusal::BadCommand { at }),
     }
 }
@@ -112,7 +123,7 @@ fn last_number(words: &mut WordReader<'_>) -> Result<Option<u32>, LineRefusal>
 {
     match words.next() {
         NextWord::Word { at, text } => {
-            let number = number_there(at, &text)?;
+            let number = number_there(at, &text, u32::MAX)?;
             end(words)?;
             Ok(Some(number))
         }
@@ -125,7 +136,7 @@ fn last_number(words: &mut WordReader<'_>) -> Result<Option<u32>, LineRefusal>
 fn read_events<'a>(words: &mut WordReader<'a>) -> Result<Command<'a>, LineRefusal>
     ensures { result ≡ events_form words.old }
 {
-    let count = next_number(words)?;
+    let count = next_number(words, u32::MAX)?;
     end(words)?;
     Ok(Command::Events { count })
 }
@@ -207,7 +218,7 @@ fn read_set<'a>(words: &mut WordReader<'a>) -> Result<Command<'a>, LineRefusal>
 {
     let path = text(words)?;
     let first = text(words)?;
-    let index = number(first.as_slice());
+    let index = word_number(&first, u32::MAX);
     read_set_end(path, first, index, words)
 }
 

@@ -3,6 +3,7 @@ ghost use Rattle.odb_script.specs.LineWords.{between, inside, quoted, words_from
 ghost use Rattle.odb_script.specs.NextWords.{Gives, belongs, is_gap, IsBehind};
 
 use crate::line_text::LineText;
+use daq_text::is_blank;
 use std::marker::Model;
 
 /// What a line has next.
@@ -53,7 +54,7 @@ impl<'a> Model for WordReader<'a> {
 fn belongs_to(part: Part, byte: u8) -> bool
     ensures { result ≡ belongs part byte }
 {
-    let blank = byte == b' ' || byte == b'\t';
+    let blank = is_blank(byte);
     let quote = byte == b'"';
     match part {
         Part::Blanks => blank,

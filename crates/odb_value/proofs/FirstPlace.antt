@@ -14,7 +14,8 @@ use Rattle.odb_value.specs.declared.items.Item.TheVariants.{UInt8, Int8, Char, U
 use Rattle.odb_value.specs.declared.refusals.ItemRefusal.{ItemRefusal}
 use Rattle.odb_value.specs.declared.refusals.ItemRefusal.TheVariants.{BadText, OutOfRange}
 use Rattle.odb_value.specs.ItemBytes.{is_printable, is_text_byte}
-use Rattle.odb_value.specs.Forms.{behind, is_blank, unsigned_form, signed_form, truth_form, mapped}
+use Rattle.daq_text.specs.Numbers.{behind, is_blank, unsigned_form, mapped}
+use Rattle.odb_value.specs.Forms.{signed_form, truth_form}
 use Rattle.odb_value.specs.ItemTexts.{item_read, number_up_to, unsigned_read, is_within, number_within, signed_read, truth_found, char_read, text_limit, text_found}
 use Rattle.odb_value.specs.Places.{IsInForm, IsFirstPlace}
 use Rattle.odb_value.proofs.Stops.{Stops, stops_here, stops_cons, unsigned_fits, signed_fits, truth_fits, unsigned_stops, signed_stops, truth_stops, spaced_stops, not_digit, not_digit_fits, plain_sign}

@@ -2,3 +2,4 @@ pub mod ValueKept
 pub mod FormSteps
 pub mod Stops
 pub mod FirstPlace
+pub mod KeyLines

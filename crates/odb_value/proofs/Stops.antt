@@ -3,7 +3,8 @@ use Rattle.std.proofs.Common.{◌≡◌, ℕ, ◌≤◌, Bool, true, false, List
 use Rattle.std.specs.Prelude.{◌&&◌, ◌||◌, ◌==◌, nat_eq, if◌then◌else◌, Result, Ok, Err, is_ok, pos}
 use Rattle.std.proofs.lemmas.Bool.{eqb-true}
 use Rattle.std.specs.Str.Parse.{digits_value}
-use Rattle.odb_value.specs.Forms.{front, behind, is_blank, ended, is_digit_in, digits_form, unsigned_form, signed_form, truth_form, is_yes, is_no, negative, mapped}
+use Rattle.daq_text.specs.Numbers.{front, behind, is_blank, ended, is_digit_in, digits_form, unsigned_form, mapped}
+use Rattle.odb_value.specs.Forms.{signed_form, truth_form, is_yes, is_no, negative}
 
 -- A text has so many bytes left behind those that go on with a form: some bytes make them a text of the form, and with
 -- the next byte of the text no bytes do.

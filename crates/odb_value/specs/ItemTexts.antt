@@ -8,7 +8,8 @@ use Rattle.odb_value.specs.declared.items.Item.TheVariants.{UInt8, Int8, Char, U
 use Rattle.odb_value.specs.declared.refusals.ItemRefusal.{ItemRefusal}
 use Rattle.odb_value.specs.declared.refusals.ItemRefusal.TheVariants.{BadText, OutOfRange, NotKept}
 use Rattle.odb_value.specs.ItemBytes.{is_printable, is_text_byte}
-use Rattle.odb_value.specs.Forms.{behind, is_blank, mapped, unsigned_form, signed_form, truth_form}
+use Rattle.daq_text.specs.Numbers.{behind, is_blank, mapped, unsigned_form}
+use Rattle.odb_value.specs.Forms.{signed_form, truth_form}
 
 -- Printing.
 

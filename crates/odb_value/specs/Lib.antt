@@ -5,6 +5,7 @@ pub mod ValueInside
 pub mod ValueChanges
 pub mod Forms
 pub mod ItemTexts
+pub mod KeyTexts
 pub mod Sized
 pub mod ReadAgain
 pub mod Places

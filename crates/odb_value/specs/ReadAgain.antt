@@ -14,7 +14,8 @@ use Rattle.odb_value.specs.declared.items.Item.TheVariants.{UInt8, Int8, Char, U
 use Rattle.odb_value.specs.ItemBytes.{is_printable, is_char_byte, is_text_byte, IsText}
 use Rattle.odb_value.specs.Items.{tid_of, IsSound}
 use Rattle.odb_value.specs.Values.{IsShorter, size_limit}
-use Rattle.odb_value.specs.Forms.{front, behind, is_blank, is_digit_in, digits_form, unsigned_form, signed_form, negative, mapped}
+use Rattle.daq_text.specs.Numbers.{front, behind, is_blank, is_digit_in, digits_form, unsigned_form, mapped}
+use Rattle.odb_value.specs.Forms.{signed_form, negative}
 use Rattle.odb_value.specs.ItemTexts.{item_text, item_read, char_text, char_read, truth_text, truth_read, text_read, text_limit, unsigned_read, signed_read}
 
 -- Digits alone.

@@ -1,5 +1,8 @@
 //! Worked rows of items, their texts and values.
-use crate::{CharByte, Item, ItemRefusal, Items, TextBytes, Value, parse_item, print_item};
+use crate::{
+    CharByte, Item, ItemRefusal, Items, TextBytes, Value, parse_item, print_item, print_key,
+};
+use daq_text::TextBuffer;
 use daq_types::Tid;
 use std::process::Abort;
 use std::test::Fail;
@@ -7,7 +10,7 @@ use std::test::Fail;
 /// Whether the text, read as an item of this type, is printed so again.
 fn prints_as(rt: &(impl Abort + AllocGlobal), tid: Tid, text: &[u8], printed: &[u8]) -> bool {
     let item = parse_item(rt.alloc(), tid, text).expect(rt, "an item");
-    let mut out = Vec::new(rt.alloc());
+    let mut out = TextBuffer::new(rt.alloc());
     print_item(&item, &mut out).expect(rt, "memory");
     item.tid() == tid && out.as_slice() == printed
 }
@@ -197,5 +200,19 @@ fn parts_of_items(rt: HostRuntime) -> Result<(), Fail> {
     let items = Items::of(list).try_clone(rt.alloc())?;
     assert_eq!(rt; items.len(), 2);
     assert_eq!(rt; items.as_slice().len(), 2);
+    Ok(())
+}
+
+#[test]
+fn keys_as_in_a_dump(rt: HostRuntime) -> Result<(), Fail> {
+    let mut text = TextBuffer::new(rt.alloc());
+    let one = Value::new(rt.alloc(), Tid::Bool, 1)?;
+    print_key(b"Enabled", &one, &mut text)?;
+    let two = Value::new(rt.alloc(), Tid::UInt16, 2)?;
+    print_key(b"Channels", &two, &mut text)?;
+    assert_eq!(rt;
+        text.as_slice(),
+        b"Enabled = BOOL : n\nChannels = UINT16[2] :\n[0] 0\n[1] 0\n".as_slice()
+    );
     Ok(())
 }

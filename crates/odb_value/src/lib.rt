@@ -5,6 +5,7 @@
 mod checks;
 mod forms;
 mod items;
+mod key_texts;
 pub mod laws;
 mod parts;
 mod refusals;
@@ -12,6 +13,7 @@ mod texts;
 mod values;
 
 pub use items::Item;
+pub use key_texts::print_key;
 pub use parts::{CharByte, TextBytes};
 pub use refusals::ItemRefusal;
 pub use texts::{parse_item, print_item};

@@ -2,12 +2,12 @@ ghost use Rattle.std.specs.Prelude.{◌≡◌, ◌≢◌, ◌≤◌, ◌-◌, �
 ghost use Rattle.daq_types.specs.declared.types.Tid.{Tid};
 ghost use Rattle.odb_value.specs.ItemTexts.{char_read, char_text, is_within, item_read, item_text, signed_read, stopped, text_read, truth_read, unsigned_read};
 
-use crate::forms::{behind_blanks, signed, truth, unsigned};
+use crate::forms::{signed, truth};
 use crate::items::Item;
 use crate::parts::{CharByte, TextBytes};
 use crate::refusals::ItemRefusal;
+use daq_text::{TextBuffer, behind_blanks, unsigned};
 use daq_types::{NoMemory, Tid};
-use itoa::Buffer;
 use std::alloc::Global;
 
 /// The longest text of a STRING, in bytes.
@@ -28,16 +28,10 @@ fn unsigned_up_to(text: &[u8], most: u64) -> Result<u64, ItemRefusal>
     ensures bound { IfOk result (λ n. n ≤ most) }
     ensures no_memory { IfErr result (λ refusal. refusal ≢ ItemRefusal.NoMemory) }
 {
-    match unsigned(behind_blanks(text)) {
+    match unsigned(behind_blanks(text), most) {
         Err(left) => Err(stopped(text, left)),
         Ok(None) => Err(ItemRefusal::OutOfRange),
-        Ok(Some(number)) => {
-            if number <= most {
-                Ok(number)
-            } else {
-                Err(ItemRefusal::OutOfRange)
-            }
-        }
+        Ok(Some(number)) => Ok(number),
     }
 }
 
@@ -156,45 +150,35 @@ pub fn parse_item(alloc: Global, tid: Tid, text: &[u8]) -> Result<Item, ItemRefu
     }
 }
 
-/// Appends the text of the item: a number in decimal digits, a truth value as `y` or `n`, a CHAR and a STRING as their
-/// bytes, and nothing for the CHAR 0. Only `out` takes memory.
-pub fn print_item(item: &Item, out: &mut Vec<u8>) -> Result<(), NoMemory>
-    ensures added { OnOk result (out.new.items ≡ out.old.items ++ item_text item.now) }
-    ensures kept { OnErr result (out.new.items ≡ out.old.items) }
+/// Adds the text of the item: a number in decimal digits, a truth value as `y` or `n`, a CHAR and a STRING as their
+/// bytes, and nothing for the CHAR 0.
+pub fn print_item(item: &Item, text: &mut TextBuffer) -> Result<(), NoMemory>
+    ensures added { OnOk result (text.new ≡ text.old ++ item_text item.now) }
+    ensures kept { OnErr result (text.new ≡ text.old) }
 {
-    let mut buffer = Buffer::new();
     match item {
-        Item::UInt8(number) => append(out, buffer.format(*number).as_bytes()),
-        Item::Int8(number) => append(out, buffer.format(*number).as_bytes()),
-        Item::Char(byte) => append_char(out, byte.get()),
-        Item::UInt16(number) => append(out, buffer.format(*number).as_bytes()),
-        Item::Int16(number) => append(out, buffer.format(*number).as_bytes()),
-        Item::UInt32(number) => append(out, buffer.format(*number).as_bytes()),
-        Item::Int32(number) => append(out, buffer.format(*number).as_bytes()),
-        Item::Bool(true) => append(out, b"y"),
-        Item::Bool(false) => append(out, b"n"),
-        Item::Text(text) => append(out, text.as_slice()),
-        Item::Int64(number) => append(out, buffer.format(*number).as_bytes()),
-        Item::UInt64(number) => append(out, buffer.format(*number).as_bytes()),
+        Item::UInt8(number) => text.number(*number as u64),
+        Item::Int8(number) => text.signed(*number as i128),
+        Item::Char(byte) => add_char(text, byte.get()),
+        Item::UInt16(number) => text.number(*number as u64),
+        Item::Int16(number) => text.signed(*number as i128),
+        Item::UInt32(number) => text.number(*number as u64),
+        Item::Int32(number) => text.signed(*number as i128),
+        Item::Bool(true) => text.text(b"y"),
+        Item::Bool(false) => text.text(b"n"),
+        Item::Text(bytes) => text.text(bytes.as_slice()),
+        Item::Int64(number) => text.signed(*number as i128),
+        Item::UInt64(number) => text.number(*number),
     }
 }
 
-/// These bytes more.
-fn append(out: &mut Vec<u8>, bytes: &[u8]) -> Result<(), NoMemory>
-    ensures added { OnOk result (out.new.items ≡ out.old.items ++ bytes.now) }
-    ensures kept { OnErr result (out.new.items ≡ out.old.items) }
-{
-    out.extend_from_slice(bytes)?;
-    Ok(())
-}
-
 /// The byte of a CHAR more, and nothing for 0.
-fn append_char(out: &mut Vec<u8>, byte: u8) -> Result<(), NoMemory>
-    ensures added { OnOk result (out.new.items ≡ out.old.items ++ char_text byte) }
-    ensures kept { OnErr result (out.new.items ≡ out.old.items) }
+fn add_char(text: &mut TextBuffer, byte: u8) -> Result<(), NoMemory>
+    ensures added { OnOk result (text.new ≡ text.old ++ char_text byte) }
+    ensures kept { OnErr result (text.new ≡ text.old) }
 {
     if byte == 0 {
         return Ok(());
     }
-    append(out, [byte].as_slice())
+    text.text([byte].as_slice())
 }

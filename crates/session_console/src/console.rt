@@ -7,10 +7,9 @@ ghost use Rattle.odb_value.specs.ItemTexts.{item_text};
 
 use crate::records::{FileRecord, FrontTally};
 use crate::replies::Reply;
+use daq_text::TextBuffer;
 use daq_types::{ChannelState, NoMemory, RunState, Why};
-use itoa::Buffer;
-use odb_script::TextBuffer;
-use std::alloc::Global;
+use odb_value::{Item, print_item};
 
 /// The number of a run state.
 fn number_of_state(state: RunState) -> u64
@@ -45,65 +44,49 @@ fn name_of_client(client: u32) -> &'static [u8]
     if client == 0 { b"FE" } else { b"Logger" }
 }
 
-/// Adds the line of a refusal: the number of the script's line, then the refusal's name and the digits of its number.
-fn add_refused(
-    text: &mut TextBuffer,
-    alloc: Global,
-    line: u64,
-    name: &[u8],
-    digits: &[u8],
-) -> Result<(), NoMemory>
-    ensures { OnOk result (text.new ≡ text.old ++ refused_line line (name.now ++ digits.now)) }
+/// Adds the line of a refusal with this number.
+fn add_refusal(text: &mut TextBuffer, line: u64, name: &[u8], number: u64) -> Result<(), NoMemory>
+    ensures { OnOk result (text.new ≡ text.old ++ refused_line line (name.now ++ decimal number)) }
 {
     text.text(b"refused ")?;
-    text.number(alloc, line)?;
+    text.number(line)?;
     text.text(b": ")?;
     text.text(name)?;
-    text.text(digits)?;
+    text.number(number)?;
     text.text(b"\n")
 }
 
-/// Adds the line of a refusal with this number.
-fn add_refusal(
-    text: &mut TextBuffer,
-    alloc: Global,
-    line: u64,
-    name: &[u8],
-    number: u64,
-) -> Result<(), NoMemory>
-    ensures { OnOk result (text.new ≡ text.old ++ refused_line line (name.now ++ decimal number)) }
+/// Adds the run number that the database has.
+fn add_run_number(text: &mut TextBuffer, have: i32) -> Result<(), NoMemory>
+    ensures { OnOk result (text.new ≡ text.old ++ item_text (Int32 have)) }
 {
-    let mut digits = Buffer::new();
-    add_refused(text, alloc, line, name, digits.format(number).as_bytes())
+    print_item(&Item::Int32(have), text)
 }
 
 /// Adds the line of a start for which there is no run number.
-fn add_no_number(text: &mut TextBuffer, alloc: Global, line: u64, have: i32) -> Result<(), NoMemory>
+fn add_no_number(text: &mut TextBuffer, line: u64, have: i32) -> Result<(), NoMemory>
     ensures { OnOk result (text.new ≡ text.old ++ refused_line line (codes "RunNumber " ++ item_text (Int32 have))) }
 {
-    let mut digits = Buffer::new();
-    add_refused(
-        text,
-        alloc,
-        line,
-        b"RunNumber ",
-        digits.format(have).as_bytes(),
-    )
+    text.text(b"refused ")?;
+    text.number(line)?;
+    text.text(b": RunNumber ")?;
+    add_run_number(text, have)?;
+    text.text(b"\n")
 }
 
 /// Adds why a client refused a start.
-fn add_why(text: &mut TextBuffer, alloc: Global, why: &Why) -> Result<(), NoMemory>
+fn add_why(text: &mut TextBuffer, why: &Why) -> Result<(), NoMemory>
     ensures { OnOk result (text.new ≡ text.old ++ why_text why.now) }
 {
     match why {
         Why::NotReady => text.text(b"NotReady"),
         Why::Exists { channel } => {
             text.text(b"Exists ")?;
-            text.number(alloc, *channel as u64)
+            text.number(*channel as u64)
         }
         Why::Fault { channel } => {
             text.text(b"Fault ")?;
-            text.number(alloc, *channel as u64)
+            text.number(*channel as u64)
         }
         Why::BufferRefused => text.text(b"BufferRefused"),
     }
@@ -112,7 +95,6 @@ fn add_why(text: &mut TextBuffer, alloc: Global, why: &Why) -> Result<(), NoMemo
 /// Adds the line of a start that a client refused.
 fn add_start_refused(
     text: &mut TextBuffer,
-    alloc: Global,
     line: u64,
     client: u32,
     why: &Why,
@@ -120,43 +102,38 @@ fn add_start_refused(
     ensures { OnOk result (text.new ≡ text.old ++ refused_line line (codes "StartRefused " ++ (client_name client ++ (32 ∷ why_text why.now)))) }
 {
     text.text(b"refused ")?;
-    text.number(alloc, line)?;
+    text.number(line)?;
     text.text(b": StartRefused ")?;
-    add_refuser(text, alloc, client, why)?;
+    add_refuser(text, client, why)?;
     text.text(b"\n")
 }
 
 /// Adds which client refused a start, and why.
-fn add_refuser(text: &mut TextBuffer, alloc: Global, client: u32, why: &Why) -> Result<(), NoMemory>
+fn add_refuser(text: &mut TextBuffer, client: u32, why: &Why) -> Result<(), NoMemory>
     ensures { OnOk result (text.new ≡ text.old ++ (client_name client ++ (32 ∷ why_text why.now))) }
 {
     text.text(name_of_client(client))?;
     text.text(b" ")?;
-    add_why(text, alloc, why)
+    add_why(text, why)
 }
 
 /// Adds the line of a run's state: `run`, its number, and the word.
-fn add_run(text: &mut TextBuffer, alloc: Global, run: u32, word: &[u8]) -> Result<(), NoMemory>
+fn add_run(text: &mut TextBuffer, run: u32, word: &[u8]) -> Result<(), NoMemory>
     ensures { OnOk result (text.new ≡ text.old ++ (codes "run " ++ (decimal run ++ (word.now ++ 10 ∷ [])))) }
 {
     text.text(b"run ")?;
-    text.number(alloc, run as u64)?;
+    text.number(run as u64)?;
     text.text(word)?;
     text.text(b"\n")
 }
 
 /// Adds the lines of what a front-end sent and a channel wrote.
-fn add_tallies(
-    text: &mut TextBuffer,
-    alloc: Global,
-    front: &FrontTally,
-    file: &FileRecord,
-) -> Result<(), NoMemory>
+fn add_tallies(text: &mut TextBuffer, front: &FrontTally, file: &FileRecord) -> Result<(), NoMemory>
     ensures { OnOk result (text.new ≡ text.old ++ (front_line front.now ++ file_line file.now)) }
 {
     text.text(name_of_client(front.client))?;
     text.text(b" sent ")?;
-    text.number(alloc, front.sent)?;
+    text.number(front.sent)?;
     text.text(b"\n")?;
     text.text(file.name.as_slice())?;
     text.text(b" ")?;
@@ -166,25 +143,23 @@ fn add_tallies(
 
 impl Reply {
     /// Adds what the script's line of this number prints.
-    pub fn print(&self, alloc: Global, line: u64, text: &mut TextBuffer) -> Result<(), NoMemory>
+    pub fn print(&self, line: u64, text: &mut TextBuffer) -> Result<(), NoMemory>
         ensures { OnOk result (text.new ≡ text.old ++ text_of line self.now) }
     {
         match self {
             Reply::Silent => Ok(()),
-            Reply::BadCommand { at } => add_refusal(text, alloc, line, b"BadCommand ", *at as u64),
+            Reply::BadCommand { at } => add_refusal(text, line, b"BadCommand ", *at as u64),
             Reply::WrongState { state } => {
-                add_refusal(text, alloc, line, b"WrongState ", number_of_state(*state))
+                add_refusal(text, line, b"WrongState ", number_of_state(*state))
             }
-            Reply::RunNumber { have } => add_no_number(text, alloc, line, *have),
-            Reply::StartRefused { client, why } => add_start_refused(
-                text, alloc, line, *client, why,
-            ),
-            Reply::Started { run } => add_run(text, alloc, *run, b" started"),
+            Reply::RunNumber { have } => add_no_number(text, line, *have),
+            Reply::StartRefused { client, why } => add_start_refused(text, line, *client, why),
+            Reply::Started { run } => add_run(text, *run, b" started"),
             Reply::Stopped { run, front, file } => {
-                add_run(text, alloc, *run, b" stopped")?;
-                add_tallies(text, alloc, front, file)
+                add_run(text, *run, b" stopped")?;
+                add_tallies(text, front, file)
             }
-            Reply::Database { reply } => reply.print(alloc, line, text),
+            Reply::Database { reply } => reply.print(line, text),
         }
     }
 }

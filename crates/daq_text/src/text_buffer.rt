@@ -1,11 +1,13 @@
 ghost use Rattle.std.specs.Prelude.{◌≡◌, ◌∷◌, ◌++◌, [], OnOk, OnErr};
-ghost use Rattle.std.specs.Fmt.{decimal};
+ghost use Rattle.std.specs.Fmt.{decimal, signed_decimal};
 
 use daq_types::NoMemory;
+use itoa::Buffer;
 use std::alloc::Global;
 use std::marker::Model;
 
-/// Console text that grows at its end: what a command prints, before it is written.
+/// A text that grows at its end, before it is written. One that is used again takes no memory for as much text as it
+/// had before.
 #[derive(Drop)]
 pub struct TextBuffer {
     bytes: Vec<u8>,
@@ -53,11 +55,35 @@ impl TextBuffer {
     }
 
     /// This number more, in decimal digits.
-    pub fn number(&mut self, alloc: Global, number: u64) -> Result<(), NoMemory>
+    pub fn number(&mut self, number: u64) -> Result<(), NoMemory>
         ensures added { OnOk result (self.new ≡ self.old ++ decimal number) }
         ensures kept { OnErr result (self.new ≡ self.old) }
     {
-        let digits = format!(in alloc; "{number}")?;
-        self.text(digits.as_bytes())
+        let mut digits = Buffer::new();
+        self.text(digits.format(number).as_bytes())
+    }
+
+    /// This number more, in decimal digits, with a minus in front where it is below 0.
+    pub fn signed(&mut self, value: i128) -> Result<(), NoMemory>
+        ensures added { OnOk result (self.new ≡ self.old ++ signed_decimal value) }
+        ensures kept { OnErr result (self.new ≡ self.old) }
+    {
+        let mut digits = Buffer::new();
+        self.text(digits.format(value).as_bytes())
+    }
+
+    /// A blank and this number more.
+    pub fn blank_number(&mut self, number: u64) -> Result<(), NoMemory>
+        ensures { OnOk result (self.new ≡ self.old ++ 32 ∷ decimal number) }
+    {
+        self.text(b" ")?;
+        self.number(number)
+    }
+
+    /// The end of a line.
+    pub fn end_line(&mut self) -> Result<(), NoMemory>
+        ensures { OnOk result (self.new ≡ self.old ++ 10 ∷ []) }
+    {
+        self.text(b"\n")
     }
 }

@@ -3,7 +3,7 @@ use Rattle.std.specs.Prelude.{◌≡◌, ℕ, ◌+◌, ◌<◌, List, [], ◌∷
 use Rattle.std.proofs.Common.{sym, ap, ◌∙◌, append_assoc, arith, get_or}
 use Rattle.std.proofs.lemmas.List.{append-nil, take_more, length-take}
 use Rattle.odb_value.specs.declared.items.Item.{Item}
-use Rattle.odb_commands.specs.Texts.{item_line, item_lines}
+use Rattle.odb_value.specs.KeyTexts.{item_line, item_lines}
 
 pub item_lines-more : (size index : ℕ) (items : List Item) (item : Item) → item_lines size index (items ++ item ∷ []) ≡ item_lines size index items ++ item_line size (index + length items) item
 item_lines-more size index [] item = append-nil (item_line size index item) ∙ ap (λ (n : ℕ). item_line size n item) (omega arith)

@@ -1,6 +1,6 @@
 use Rattle.std.proofs.Common.{◌≡◌, length}
-use Rattle.odb_value.specs.Forms.{behind, is_blank}
-use Rattle.odb_value.proofs.forms.behind_blanks.Given as goal
+use Rattle.daq_text.specs.Numbers.{behind, is_blank}
+use Rattle.daq_text.proofs.numbers.behind_blanks.Given as goal
 
 abbrev pub invariant-loop-byte : goal.invariant-loop-byte
 invariant-loop-byte l = behind is_blank l.rest ≡ behind is_blank l.fn.text

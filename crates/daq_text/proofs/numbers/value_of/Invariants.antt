@@ -1,6 +1,6 @@
 use Rattle.std.proofs.Common.{◌≡◌, ◌<◌, ◌^◌, take}
 use Rattle.std.specs.Str.Parse.{digits_value}
-use Rattle.odb_value.proofs.forms.value_of.Given as goal
+use Rattle.daq_text.proofs.numbers.value_of.Given as goal
 
 abbrev pub invariant-loop-byte : goal.invariant-loop-byte
 invariant-loop-byte l = (l.value ≡ digits_value l.base (take l.byte-index l.digits)) × (l.value < 2 ^ 64)

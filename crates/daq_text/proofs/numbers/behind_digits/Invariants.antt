@@ -1,6 +1,6 @@
 use Rattle.std.proofs.Common.{◌≡◌, length}
-use Rattle.odb_value.specs.Forms.{behind, is_digit_in}
-use Rattle.odb_value.proofs.forms.behind_digits.Given as goal
+use Rattle.daq_text.specs.Numbers.{behind, is_digit_in}
+use Rattle.daq_text.proofs.numbers.behind_digits.Given as goal
 
 abbrev pub invariant-loop-byte : goal.invariant-loop-byte
 invariant-loop-byte l = behind (is_digit_in l.base) l.rest ≡ behind (is_digit_in l.base) l.fn.text

@@ -1,8 +1,8 @@
 use Rattle.std.proofs.Common.{◌≡◌, ℕ, ◌+◌, List, ◌++◌, take, get_or, ap, sym, ◌∙◌, append_assoc, arith}
 use Rattle.odb_value.specs.declared.items.Item.{Item}
-use Rattle.odb_commands.specs.Texts.{item_line, item_lines}
-use Rattle.odb_commands.proofs.TextLaws.{item_lines-next}
-use Rattle.odb_commands.proofs.texts.add_item_lines.Goals as goal
+use Rattle.odb_value.specs.KeyTexts.{item_line, item_lines}
+use Rattle.odb_value.proofs.KeyLines.{item_lines-next}
+use Rattle.odb_value.proofs.key_texts.add_item_lines.Goals as goal
 
 pub loop-index-preserved : goal.loop-index-preserved
 loop-index-preserved c =

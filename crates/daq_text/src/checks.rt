@@ -1,0 +1,55 @@
+//! Worked rows of texts and numbers.
+use crate::{TextBuffer, behind_blanks, ended, is_blank, number, unsigned};
+use std::test::Fail;
+
+#[test]
+fn texts(rt: HostRuntime) -> Result<(), Fail> {
+    let mut text = TextBuffer::new(rt.alloc());
+    text.text(b"run")?;
+    text.blank_number(18446744073709551615)?;
+    text.end_line()?;
+    text.signed(-12)?;
+    text.number(7)?;
+    assert_eq!(rt;
+        text.as_slice(),
+        b"run 18446744073709551615\n-127".as_slice()
+    );
+    text.clear();
+    assert!(rt; text.as_slice().is_empty());
+    Ok(())
+}
+
+#[test]
+fn numbers(rt: HostRuntime) {
+    for (text, most, spelled) in [
+        ("0", 0, Some(0)),
+        ("007", 7, Some(7)),
+        ("8", 7, None),
+        ("0xFf", 255, Some(255)),
+        ("65536", 65535, None),
+        ("18446744073709551615", u64::MAX, Some(u64::MAX)),
+        ("18446744073709551616", u64::MAX, None),
+        ("0X10", 99, None),
+        ("0x", 99, None),
+        ("5 ", 99, None),
+        ("", 99, None),
+    ] {
+        assert_eq!(rt; number(text.as_bytes(), most), spelled, "{text}");
+    }
+}
+
+#[test]
+fn numbers_and_what_is_behind_them(rt: HostRuntime) {
+    for (text, most, read) in [
+        ("12 \t", 99, Ok(Some(12))),
+        ("0x1F", 30, Ok(None)),
+        ("12 x", 99, Err(1)),
+        ("x", 99, Err(1)),
+        ("0x", 99, Err(0)),
+    ] {
+        assert_eq!(rt; unsigned(text.as_bytes(), most), read, "{text}");
+    }
+    assert_eq!(rt; ended(true, b" \t".as_slice()), Ok(true));
+    assert!(rt; is_blank(b'\t'));
+    assert_eq!(rt; behind_blanks(b"\t x ".as_slice()), b"x ".as_slice());
+}
