@@ -6,6 +6,7 @@ ghost use Rattle.daq_io.specs.Seen.{Extends};
 ghost use Rattle.buffer_core.specs.declared.gate.RunGate.TheVariants.{Shut, Running};
 ghost use Rattle.buffer_core.specs.ReadingLaws.{IsDrained};
 ghost use Rattle.buffer_core.specs.Window.{opening, accepted_of};
+ghost use Rattle.ring_bytes.specs.Rings.{most_bytes};
 ghost use Rattle.daq_session.specs.BufferEntries.{front_caller, logger_caller, opening_entries, begin_entry, passed_entries, end_entry, PassesFirst};
 ghost use Rattle.daq_session.specs.BufferRecords.{IsOneHistory, IsSystem};
 ghost use Rattle.daq_session.specs.RunsTold.{IsTold};
@@ -17,7 +18,8 @@ use daq_types::{Caller, FrontEnded, Kind, Name, NoMemory, Order};
 use event_header::EventBuf;
 use frontend_kit::{EVENT_ROOM, Generator};
 use local_port::LocalPort;
-use plain_buffer::PlainBuffer;
+use ring_buffer::RingBuffer;
+use ring_bytes::Ring;
 use session_console::{BufferRecord, Entries, FrontTally};
 use std::alloc::Global;
 
@@ -54,7 +56,7 @@ const EVENT_BYTES: u64 = 80;
 pub struct DataPath {
     generator: Generator,
     sent: EventBuf,
-    port: LocalPort<PlainBuffer>,
+    port: LocalPort<RingBuffer>,
     got: EventBuf,
     // Room for the record of the buffer.
     records: Vec<BufferRecord>,
@@ -69,21 +71,30 @@ pub struct DataPath {
 }
 
 /// The front-end's calls come next.
-fn front_calls(port: &mut LocalPort<PlainBuffer>)
+fn front_calls(port: &mut LocalPort<RingBuffer>)
     ensures { port.new ≡ record port.old { caller = front_caller } }
 {
     port.set_caller(Caller::of_client(FRONT_CLIENT));
 }
 
 /// The logger's calls come next.
-fn logger_calls(port: &mut LocalPort<PlainBuffer>)
+fn logger_calls(port: &mut LocalPort<RingBuffer>)
     ensures { port.new ≡ record port.old { caller = logger_caller } }
 {
     port.set_caller(Caller::of_client(LOGGER_CLIENT));
 }
 
+/// A buffer of this size in bytes, with no event and no client.
+fn new_buffer(alloc: Global, size: u32) -> Result<RingBuffer, NoMemory>
+    requires least { 256 ≤ size }
+    requires most { size ≤ most_bytes }
+    ensures { IfOk result (λ buffer. buffer ≡ opening size) }
+{
+    Ok(RingBuffer::over(Ring::new(alloc, size)?))
+}
+
 /// A port to the buffer SYSTEM, with the logger's client, which asks for all events.
-fn system_port(alloc: Global) -> Result<LocalPort<PlainBuffer>, NoMemory>
+fn system_port(alloc: Global) -> Result<LocalPort<RingBuffer>, NoMemory>
     ensures opens { IfOk result (λ port. port.start ≡ opening 1048576) }
     ensures drained { IfOk result (λ port. IsDrained port.window 0) }
     ensures shut { IfOk result (λ port. port.window.gate ≡ Shut) }
@@ -93,7 +104,7 @@ fn system_port(alloc: Global) -> Result<LocalPort<PlainBuffer>, NoMemory>
     ensures accepted { IfOk result (λ port. accepted_of port.window ≡ 0) }
     ensures history { IfOk result (λ port. port.history ≡ opening_entries (codes "Logger")) }
 {
-    let mut port = LocalPort::new(alloc, PlainBuffer::new(alloc, SYSTEM_BYTES)?);
+    let mut port = LocalPort::new(alloc, new_buffer(alloc, SYSTEM_BYTES)?);
     port.reserve(2, 0)?;
     logger_calls(&mut port);
     let _ = port.attach(logger_name());
