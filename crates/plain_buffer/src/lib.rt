@@ -6,6 +6,3 @@ mod plain;
 mod rows;
 
 pub use plain::PlainBuffer;
-
-#[cfg(test)]
-mod tests;
