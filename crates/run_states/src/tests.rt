@@ -27,6 +27,8 @@ fn transitions_by_state(rt: HostRuntime) {
             Some(RunState::Running),
         ),
         (RunState::Stopped, Transition::StartAbort, None),
+        (RunState::Running, Transition::StartAbort, None),
+        (RunState::Paused, Transition::StartAbort, None),
     ] {
         let found = if allowed(state, transition) {
             Some(after(state, transition))
@@ -37,17 +39,31 @@ fn transitions_by_state(rt: HostRuntime) {
     }
 }
 
+/// The numbers of the role, at start, stop, pause, resume and start-abort.
+fn numbers_of(role: Role) -> [Option<u32>; 5] {
+    let sequences = role.sequences();
+    [
+        sequences.get(Transition::Start),
+        sequences.get(Transition::Stop),
+        sequences.get(Transition::Pause),
+        sequences.get(Transition::Resume),
+        sequences.get(Transition::StartAbort),
+    ]
+}
+
 #[test]
 fn numbers_by_role(rt: HostRuntime) -> Result<(), Fail> {
-    let logger = Role::Logger.sequences();
-    assert_eq!(rt; logger.get(Transition::Start), Some(200));
-    assert_eq!(rt; logger.get(Transition::Stop), Some(800));
-    assert_eq!(rt; logger.get(Transition::Resume), Some(200));
-    let analyzer = Role::Analyzer.sequences();
-    assert_eq!(rt; analyzer.get(Transition::Start), Some(300));
-    assert_eq!(rt; analyzer.get(Transition::Pause), None);
-    assert_eq!(rt; analyzer.get(Transition::StartAbort), Some(900));
-    let front = Role::FrontEnd.sequences();
-    assert_eq!(rt; front.get(Transition::Pause), Some(500));
+    assert_eq!(rt;
+        numbers_of(Role::FrontEnd),
+        [Some(500), Some(500), Some(500), Some(500), Some(500)]
+    );
+    assert_eq!(rt;
+        numbers_of(Role::Logger),
+        [Some(200), Some(800), Some(800), Some(200), Some(800)]
+    );
+    assert_eq!(rt;
+        numbers_of(Role::Analyzer),
+        [Some(300), Some(900), None, None, Some(900)]
+    );
     Ok(())
 }
