@@ -26,6 +26,8 @@ enum Found {
 enum Call {
     Register(Result<u32, RegisterRefusal>),
     Begin(Transition, Result<u32, BeginRefusal>),
+    /// By a sheet without dump and blank reports.
+    BeginBare(Transition, Result<u32, BeginRefusal>),
     Poll(u32, Found),
     /// Whether the answer is accepted.
     Yes(u32, bool),
@@ -36,7 +38,7 @@ enum Call {
     Close(bool),
 }
 
-use Call::{Begin, Check, Close, No, Poll, Register, Yes};
+use Call::{Begin, BeginBare, Check, Close, No, Poll, Register, Yes};
 use Transition::{Pause, Start, StartAbort, Stop};
 
 const DONE: Progress = Progress::Done {
@@ -58,6 +60,19 @@ fn new_sheet(alloc: Global) -> Result<Sheet, NoMemory>
         dump: Some(Bytes::of(dump)),
         blanks: Reports::of(reports),
     })
+}
+
+/// A sheet without dump and blank reports.
+fn bare_sheet(alloc: Global) -> Sheet
+    ensures { IsSheet result }
+{
+    Sheet {
+        run: 1,
+        time: 1000,
+        quota: 0,
+        dump: None,
+        blanks: Reports::of(Vec::new(alloc)),
+    }
 }
 
 /// A client that is called by this number, and by that one for start-abort.
@@ -94,15 +109,12 @@ fn find_turn(polled: &Polled) -> Found {
     }
 }
 
-fn begin(
-    alloc: Global,
-    engine: &mut Engine,
-    transition: Transition,
-) -> Result<Result<u32, BeginRefusal>, NoMemory> {
-    let sheet = new_sheet(alloc)?;
+fn begin(engine: &mut Engine, transition: Transition, sheet: Sheet) -> Result<u32, BeginRefusal>
+    requires { IsSheet sheet }
+{
     match engine.begin(transition, sheet) {
-        Ok(start) => Ok(Ok(start)),
-        Err((refusal, _)) => Ok(Err(refusal)),
+        Ok(start) => Ok(start),
+        Err((refusal, _)) => Err(refusal),
     }
 }
 
@@ -116,7 +128,8 @@ fn check(alloc: Global, engine: &mut Engine) -> Result<(Progress, usize), NoMemo
 fn is_right(alloc: Global, engine: &mut Engine, call: Call) -> Result<bool, NoMemory> {
     match call {
         Register(reply) => Ok(add_client(engine, 500, 500, false) == reply),
-        Begin(transition, reply) => Ok(begin(alloc, engine, transition)? == reply),
+        Begin(transition, reply) => Ok(begin(engine, transition, new_sheet(alloc)?) == reply),
+        BeginBare(transition, reply) => Ok(begin(engine, transition, bare_sheet(alloc)) == reply),
         Poll(client, found) => Ok(find_turn(&engine.poll(client)) == found),
         Yes(client, accepted) => Ok(
             engine.answer(client, Answer::Yes(Tally::Plain)).is_ok() == accepted,
@@ -200,12 +213,10 @@ fn no_client(rt: HostRuntime) -> Result<(), Fail> {
         rt.alloc(),
         &mut engine,
         &[
-            Begin(Start, Ok(1)),
-            Register(Err(RegisterRefusal::InProgress { transition: Start })),
-            Begin(Stop, Err(BeginRefusal::InProgress { transition: Start })),
+            BeginBare(Start, Ok(1)),
             Check(DONE, 0),
             Check(Progress::None, 0),
-            Begin(
+            BeginBare(
                 Start,
                 Err(BeginRefusal::WrongState {
                     state: RunState::Running,
@@ -213,6 +224,24 @@ fn no_client(rt: HostRuntime) -> Result<(), Fail> {
             ),
             Close(true),
             Register(Err(RegisterRefusal::Closed)),
+        ],
+    )
+}
+
+#[test]
+fn refused_while_in_progress(rt: HostRuntime) -> Result<(), Fail> {
+    let mut engine = Engine::new(rt.alloc())?;
+    make_calls(
+        &rt,
+        rt.alloc(),
+        &mut engine,
+        &[
+            Begin(Start, Ok(1)),
+            Register(Err(RegisterRefusal::InProgress { transition: Start })),
+            Begin(Stop, Err(BeginRefusal::InProgress { transition: Start })),
+            Close(false),
+            Check(DONE, 0),
+            Close(true),
             Begin(Stop, Err(BeginRefusal::Closed)),
         ],
     )
