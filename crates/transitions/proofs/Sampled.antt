@@ -76,9 +76,9 @@ never_state_kept law =
     let same = law.right started [] 1 (Poll 0 (Idle Stopped)) refl in
     absurd (cc same)
 
-pub never_number_twice : TurnsInOrder (started ++ (0, Begin Start (sheet_with None) (Ok 1)) ∷ []) → ⊥
+pub never_number_twice : TurnsInOrder (refused_by_second ++ (0, Begin Start (sheet_with None) (Ok 1)) ∷ []) → ⊥
 never_number_twice law =
-    let right = law.right started [] 0 (Begin Start (sheet_with None) (Ok 1)) refl in
+    let right = law.right refused_by_second [] 0 (Begin Start (sheet_with None) (Ok 1)) refl in
     let same : 1 ≡ 2 = right.number in
     absurd (omega (arith, same))
 

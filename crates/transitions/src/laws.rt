@@ -107,5 +107,6 @@ pub fn tells_apart()
     ensures tallies { TurnsInOrder
         (both_answered ++ (0, Check (Done Completed) (plain 1 ∷ plain 0 ∷ [])) ∷ []) → ⊥ }
     ensures state { TurnsInOrder (started ++ (1, Poll 0 (Idle Stopped)) ∷ []) → ⊥ }
-    ensures number { TurnsInOrder (started ++ (0, Begin Start (sheet_with None) (Ok 1)) ∷ []) → ⊥ }
+    ensures number { TurnsInOrder
+        (refused_by_second ++ (0, Begin Start (sheet_with None) (Ok 1)) ∷ []) → ⊥ }
 {}
