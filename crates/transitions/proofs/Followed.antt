@@ -18,14 +18,14 @@ use Rattle.transitions.specs.declared.answers.Answer.TheVariants.{Yes, No}
 use Rattle.transitions.specs.declared.answers.Tally.TheVariants.{Plain}
 use Rattle.transitions.specs.declared.engine.Refusal.{Refusal}
 use Rattle.transitions.specs.declared.replies.BeginRefusal.TheVariants.{Closed as BeginClosed, InProgress as BeginInProgress, WrongState, LastStart}
-use Rattle.transitions.specs.declared.replies.RegisterRefusal.TheVariants.{Closed as RegisterClosed}
+use Rattle.transitions.specs.declared.replies.RegisterRefusal.TheVariants.{Closed as RegisterClosed, NoSlot}
 use Rattle.transitions.specs.declared.replies.Polled.{Polled}
 use Rattle.transitions.specs.declared.replies.Polled.TheVariants.{Turn, Idle, Closed as PollClosed, NoClient}
 use Rattle.transitions.specs.declared.replies.Progress.{Progress}
 use Rattle.transitions.specs.declared.replies.Progress.TheVariants.{Going, Done, None as NoneGoing}
 use Rattle.transitions.specs.declared.entry.EngineEntry.{EngineEntry}
 use Rattle.transitions.specs.declared.entry.EngineEntry.TheVariants.{Register, Begin, Poll, Answer, Check, Close}
-use Rattle.transitions.specs.Limits.{last_start_number}
+use Rattle.transitions.specs.Limits.{most_clients, last_start_number}
 use Rattle.transitions.specs.Engines.{Underway, EngineState, engine_opening}
 use Rattle.transitions.specs.EngineCalls.{turn_kind, turn_of, is_start, is_next, gets_dump, gets_blank, turn_reply, polled_by, told, refused_by, answered_by, outcome_of, register_reply, register_reply_in, begin_reply, begin_reply_in, start_reply, poll_reply, poll_reply_to, poll_reply_in, owes_answer, answer_reply, not_your_turn, check_reply, check_reply_in, progress_of, tallies_in, after_poll_by, after_answer_in, with_underway, IsEngineReply, engine_after}
 use Rattle.transitions.specs.EngineHistories.{IsLegalEngine}
@@ -45,6 +45,16 @@ pub register_free : (s : EngineState) (n : ℕ) → Ok n ≡ register_reply s �
 register_free s n e =
     split s.closed (λ b. Ok n ≡ (if b then Err RegisterClosed else register_reply_in s.underway (length s.clients)) → s.underway ≡ None)
     (λ h e'. absurd cc) (λ h e'. register_free_in s.underway (length s.clients) n e') e
+
+register_number_in : (o : Option Underway) (count n : ℕ) → Ok n ≡ register_reply_in o count → n ≡ count
+register_number_in None count n e =
+    split (ltb count most_clients) (λ b. Ok n ≡ (if b then Ok count else Err NoSlot) → n ≡ count) (λ h e'. cc) (λ h e'. absurd cc) e
+register_number_in (Some u) count n e = absurd cc
+
+register_number : (s : EngineState) (n : ℕ) → Ok n ≡ register_reply s → n ≡ length s.clients
+register_number s n e =
+    split s.closed (λ b. Ok n ≡ (if b then Err RegisterClosed else register_reply_in s.underway (length s.clients)) → n ≡ length s.clients)
+    (λ h e'. absurd cc) (λ h e'. register_number_in s.underway (length s.clients) n e') e
 
 pub record Begins (s : EngineState) (t : Transition) (n : ℕ) : Type 0 where
   pub free : s.underway ≡ None
@@ -193,7 +203,7 @@ tracks_answer past s by client (No why) done u t tu polled front =
     })
     refl
 
-tracks_step : (past : List (ℕ × EngineEntry)) (s : EngineState) (by : ℕ) (entry : EngineEntry) → Tracks past s → IsEngineReply s entry → Tracks ((by, entry) ∷ past) (engine_after s entry)
+pub tracks_step : (past : List (ℕ × EngineEntry)) (s : EngineState) (by : ℕ) (entry : EngineEntry) → Tracks past s → IsEngineReply s entry → Tracks ((by, entry) ∷ past) (engine_after s entry)
 tracks_step past s by (Register name sequences dump report (Ok n)) t reply =
     let e : ℕ × EngineEntry = (by, Register name sequences dump report (Ok n)) in
     let c : Registered = record { name = name; sequences = sequences; wants_dump = dump; wants_report = report } in
@@ -316,7 +326,8 @@ right_turn past s client turn order dump blank g t =
     }
 
 right_call : (past : List (ℕ × EngineEntry)) (s : EngineState) (entry : EngineEntry) → Tracks past s → IsEngineReply s entry → IsRightCall past entry
-right_call past s (Register name sequences dump report reply) t e = tt
+right_call past s (Register name sequences dump report (Ok n)) t e = register_number s n e ∙ ap length (sym t.clients)
+right_call past s (Register name sequences dump report (Err r)) t e = tt
 right_call past s (Begin transition sheet (Ok n)) t e =
     let b = begins s transition n e in
     let none : TracksNone past s.state = subst (TracksTransition past s.state s.clients) b.free t.transition in

@@ -1,6 +1,6 @@
 -- Laws of the turns that one client is given.
-use Rattle.std.proofs.Common.{◌≡◌, ℕ, suc, ◌<◌, ◌≤◌, Bool, true, false, eqb, List, [], ◌∷◌, ◌++◌, map, Option, Some, None, refl, ap, sym, subst, ◌∙◌, arith, inl, inr, append_assoc}
-use Rattle.std.specs.Prelude.{◌&&◌, ◌⊎◌, not, if◌then◌else◌, slice_get, Ok, Err}
+use Rattle.std.proofs.Common.{◌≡◌, ℕ, suc, ◌<◌, ◌≤◌, Bool, true, false, eqb, List, [], ◌∷◌, ◌++◌, map, Option, Some, None, refl, ap, sym, subst, ◌∙◌, arith, append_assoc}
+use Rattle.std.specs.Prelude.{◌&&◌, not, if◌then◌else◌, slice_get, Ok, Err}
 use Rattle.std.specs.Option.{option_map}
 use Rattle.std.specs.List.{filter}
 use Rattle.std.proofs.lemmas.Bool.{eqb-true, eq-eqb, both_ways}
@@ -20,13 +20,13 @@ use Rattle.transitions.specs.declared.replies.Progress.TheVariants.{Going, Done,
 use Rattle.transitions.specs.declared.entry.EngineEntry.{EngineEntry}
 use Rattle.transitions.specs.declared.entry.EngineEntry.TheVariants.{Register, Begin, Poll, Answer, Check, Close}
 use Rattle.transitions.specs.Engines.{Underway, EngineState, engine_opening}
-use Rattle.transitions.specs.EngineCalls.{turn_of, is_start, is_next, gets_dump, gets_blank, polled_by, told, refused_by, answered_by, order_for, after_poll_by, after_answer_in, IsEngineReply, engine_after}
+use Rattle.transitions.specs.EngineCalls.{turn_of, is_start, is_next, gets_dump, gets_blank, polled_by, told, refused_by, answered_by, after_poll_by, after_answer_in, IsEngineReply, engine_after}
 use Rattle.transitions.specs.EngineHistories.{IsLegalEngine}
-use Rattle.transitions.specs.EnginePoints.{EngineNews, Silence, Joined, Begun, GaveTurn, Answered, Ended, engine_news, engine_past_after, engine_past, starts_after, starts_at, order_at, dump_at, state_at, wants_dump, callable_at}
-use Rattle.transitions.specs.TurnOrder.{IsRightTurn}
-use Rattle.transitions.specs.GivenTurns.{OpenTurn, GivenTurn, open_after, open_at, turns_after, turns_at, calls_of, is_of_client, SpeaksFor, IsRepeated, IsFromBegin}
+use Rattle.transitions.specs.EnginePoints.{EngineNews, Silence, Joined, Begun, GaveTurn, Answered, Ended, engine_news, engine_past_after, engine_past, starts_after, starts_at}
+use Rattle.transitions.specs.GivenTurns.{OpenTurn, GivenTurn, open_after, open_at, turns_after, turns_at, calls_of, is_of_client, SpeaksFor, IsRepeated}
 use Rattle.transitions.proofs.Apart.{split}
-use Rattle.transitions.proofs.Followed.{begins, gives_turn, owes, finishes, history_in_order}
+use Rattle.transitions.proofs.Tracked.{Tracks}
+use Rattle.transitions.proofs.Followed.{begins, gives_turn, owes, finishes, history_in_order, tracks_step, opens}
 
 -- Start numbers.
 
@@ -114,11 +114,11 @@ own_turns by client (e ∷ past) alone =
 
 -- The open turn.
 
-abbrev opened : Transition → Order → Option OpenTurn
+abbrev pub opened : Transition → Order → Option OpenTurn
 opened turn order = Some (record { turn = turn; order = order })
 
 -- the open turn of a client in the engine
-open_in : Option Underway → (client : ℕ) → Option OpenTurn
+pub open_in : Option Underway → (client : ℕ) → Option OpenTurn
 open_in None client = None
 open_in (Some u) client = if u.has_polled && is_next u.called client then opened (turn_of u) u.order else None
 
@@ -167,7 +167,7 @@ open_done client u done =
     let away : is_next u.called client ≡ false = ap (λ (cs : List Called). is_next cs client) done in
     rw (not_open u.has_polled (is_next u.called client) away) refl
 
-open_none : (client : ℕ) → open_in None client ≡ None
+pub open_none : (client : ℕ) → open_in None client ≡ None
 unfolding open_in
 open_none client = refl
 
@@ -207,14 +207,17 @@ open_step client es s (Check NoneGoing tallies) is e = is
 open_step client es s (Close (Ok done)) is e = is
 open_step client es s (Close (Err r)) is e = is
 
-record OpenReached (client : ℕ) (es : List EngineEntry) (after : List (ℕ × EngineEntry)) : Type 0 where
-  state : EngineState
-  is : open_at client es ≡ open_in state.underway client
-  legal : IsLegalEngine state after
+pub record OpenReached (client : ℕ) (past after : List (ℕ × EngineEntry)) : Type 0 where
+  pub state : EngineState
+  pub tracks : Tracks past state
+  pub is : open_at client (calls_of past) ≡ open_in state.underway client
+  pub legal : IsLegalEngine state after
 
-open_reach : (client : ℕ) (past : List (ℕ × EngineEntry)) (s : EngineState) (before after : List (ℕ × EngineEntry)) → open_at client (calls_of past) ≡ open_in s.underway client → IsLegalEngine s (before ++ after) → OpenReached client (calls_of (engine_past_after past before)) after
-open_reach client past s [] after is legal = record { state = s; is = is; legal = legal }
-open_reach client past s (e ∷ es) after is legal = open_reach client (e ∷ past) (engine_after s e.1) es after (open_step client (calls_of past) s e.1 is legal.1) legal.2
+pub open_reach : (client : ℕ) (past : List (ℕ × EngineEntry)) (s : EngineState) (before after : List (ℕ × EngineEntry)) → Tracks past s → open_at client (calls_of past) ≡ open_in s.underway client → IsLegalEngine s (before ++ after)
+    → OpenReached client (engine_past_after past before) after
+open_reach client past s [] after tracks is legal = record { state = s; tracks = tracks; is = is; legal = legal }
+open_reach client past s (e ∷ es) after tracks is legal =
+    open_reach client (e ∷ past) (engine_after s e.1) es after (tracks_step past s e.0 e.1 tracks legal.1) (open_step client (calls_of past) s e.1 is legal.1) legal.2
 
 open_is : (u : Underway) (client : ℕ) (o : OpenTurn) → is_next u.called client ≡ true → open_in (Some u) client ≡ Some o → (u.has_polled ≡ true) × (turn_of u ≡ o.turn) × (u.order ≡ o.order)
 unfolding open_in
@@ -234,11 +237,15 @@ open_is u client o front e =
     order_or d None = d
     order_or d (Some x) = x.order
 
+pub open_owed : (u : Underway) (client : ℕ) → u.has_polled ≡ true → is_next u.called client ≡ true → open_in (Some u) client ≡ opened (turn_of u) u.order
+unfolding open_in
+open_owed u client polled front = rw (polled, front) refl
+
 -- a turn that is polled again is the same, and gives nothing more
 pub turn_repeats : (before after : List (ℕ × EngineEntry)) (caller client : ℕ) (turn : Transition) (order : Order) (dump : Option (List ℕ)) (blank : Option Totals) (o : OpenTurn)
     → IsLegalEngine engine_opening (before ++ (caller, Poll client (Turn turn order dump blank)) ∷ after) → open_at client (calls_of (engine_past before)) ≡ Some o → IsRepeated o turn order dump blank
 turn_repeats before after caller client turn order dump blank o legal is =
-    let r = open_reach client [] engine_opening before ((caller, Poll client (Turn turn order dump blank)) ∷ after) (sym (open_none client)) legal in
+    let r = open_reach client [] engine_opening before ((caller, Poll client (Turn turn order dump blank)) ∷ after) opens (sym (open_none client)) legal in
     let g = gives_turn r.state client turn order dump blank r.legal.1 in
     let same = g.reply_is in
     let turn_is : turn ≡ turn_of g.u = cc in
@@ -262,102 +269,3 @@ turn_repeats before after caller client turn order dump blank o legal is =
     no_blank false polled start bs e = refl
     no_blank true true start bs e = refl
     no_blank true false start bs e = absurd cc
-
--- Where a turn comes from.
-
-record BegunIn (past es : List (ℕ × EngineEntry)) (order : Order) (dump : Option (List ℕ)) : Type 0 where
-  earlier : List (ℕ × EngineEntry)
-  later : List (ℕ × EngineEntry)
-  caller : ℕ
-  transition : Transition
-  sheet : Sheet
-  start : ℕ
-  stands : es ≡ earlier ++ (caller, Begin transition sheet (Ok start)) ∷ later
-  order_is : order ≡ order_for sheet start (state_at (engine_past_after past earlier))
-  dump_is : (bytes : List ℕ) → dump ≡ Some bytes → sheet.dump ≡ Some bytes
-
--- the dump, if there is one, is the one of this point
-abbrev IsHere : List (ℕ × EngineEntry) → Option (List ℕ) → Type 0
-IsHere past dump = (bytes : List ℕ) → dump ≡ Some bytes → dump_at past ≡ Some bytes
-
-still_there : (wants : Bool) (d : Option (List ℕ)) (bytes : List ℕ) → (if wants then None else d) ≡ Some bytes → d ≡ Some bytes
-still_there false d bytes e = e
-still_there true d bytes e = absurd cc
-
-some_order : (a b : Order) → Some a ≡ Some b → b ≡ a
-some_order a b e = cc
-
-begun_at : (past es : List (ℕ × EngineEntry)) (by : ℕ) (entry : EngineEntry) (order : Order) (dump : Option (List ℕ)) → order_at ((by, entry) ∷ past) ≡ Some order → IsHere ((by, entry) ∷ past) dump
-    → ((order_at past ≡ Some order) × IsHere past dump) ⊎ BegunIn past ((by, entry) ∷ es) order dump
-begun_at past es by (Register name sequences wants report (Ok n)) order dump o d = inl (o, d)
-begun_at past es by (Register name sequences wants report (Err r)) order dump o d = inl (o, d)
-begun_at past es by (Begin t sheet (Ok n)) order dump o d = inr (record {
-  earlier = [];
-  later = es;
-  caller = by;
-  transition = t;
-  sheet = sheet;
-  start = n;
-  stands = refl;
-  order_is = some_order (order_for sheet n (state_at past)) order o;
-  dump_is = d;
-})
-begun_at past es by (Begin t sheet (Err r)) order dump o d = inl (o, d)
-begun_at past es by (Poll client (Turn turn told gave blank)) order dump o d =
-    inl (o, λ bytes e. still_there (wants_dump (callable_at past) client) (dump_at past) bytes (d bytes e))
-begun_at past es by (Poll client (Idle state)) order dump o d = inl (o, d)
-begun_at past es by (Poll client PollClosed) order dump o d = inl (o, d)
-begun_at past es by (Poll client NoClient) order dump o d = inl (o, d)
-begun_at past es by (Answer client answer (Ok done)) order dump o d = inl (o, d)
-begun_at past es by (Answer client answer (Err r)) order dump o d = inl (o, d)
-begun_at past es by (Check (Done outcome) tallies) order dump o d = inl (o, d)
-begun_at past es by (Check Going tallies) order dump o d = inl (o, d)
-begun_at past es by (Check NoneGoing tallies) order dump o d = inl (o, d)
-begun_at past es by (Close (Ok done)) order dump o d = inl (o, d)
-begun_at past es by (Close (Err r)) order dump o d = inl (o, d)
-
-begun_in : (past es : List (ℕ × EngineEntry)) (order : Order) (dump : Option (List ℕ)) → order_at (engine_past_after past es) ≡ Some order → IsHere (engine_past_after past es) dump
-    → ((order_at past ≡ Some order) × IsHere past dump) ⊎ BegunIn past es order dump
-begun_in past [] order dump o d = inl (o, d)
-begun_in past (e ∷ es) order dump o d =
-    elim (begun_in (e ∷ past) es order dump o d) [
-      | inl here ↦ begun_at past es e.0 e.1 order dump here.0 here.1
-      | inr b ↦ inr (record {
-        earlier = e ∷ b.earlier;
-        later = b.later;
-        caller = b.caller;
-        transition = b.transition;
-        sheet = b.sheet;
-        start = b.start;
-        stands = ap (λ (xs : List (ℕ × EngineEntry)). e ∷ xs) b.stands;
-        order_is = b.order_is;
-        dump_is = b.dump_is;
-      })
-    ]
-
-begun_before : (before : List (ℕ × EngineEntry)) (order : Order) (dump : Option (List ℕ)) → ((order_at [] ≡ Some order) × IsHere [] dump) ⊎ BegunIn [] before order dump → IsFromBegin before order dump
-begun_before before order dump (inl here) = let none : None ≡ Some order = here.0 in absurd cc
-begun_before before order dump (inr b) = record {
-  earlier = b.earlier;
-  later = b.later;
-  caller = b.caller;
-  transition = b.transition;
-  sheet = b.sheet;
-  start = b.start;
-  stands = b.stands;
-  order_is = b.order_is;
-  dump_is = b.dump_is;
-}
-
-was_there : (wants : Bool) (d : Option (List ℕ)) (bytes : List ℕ) → (if wants then d else None) ≡ Some bytes → d ≡ Some bytes
-was_there true d bytes e = e
-was_there false d bytes e = absurd cc
-
--- a turn comes from a begin before it, and so does the dump that it gives
-pub turn_begun : (before after : List (ℕ × EngineEntry)) (caller client : ℕ) (turn : Transition) (order : Order) (dump : Option (List ℕ)) (blank : Option Totals)
-    → IsLegalEngine engine_opening (before ++ (caller, Poll client (Turn turn order dump blank)) ∷ after) → IsFromBegin before order dump
-turn_begun before after caller client turn order dump blank legal =
-    let right : IsRightTurn (engine_past before) client turn order dump blank =
-    (history_in_order (before ++ (caller, Poll client (Turn turn order dump blank)) ∷ after) legal).right before after caller (Poll client (Turn turn order dump blank)) refl in
-    begun_before before order dump (begun_in [] before order dump right.order_is
-    (λ bytes e. was_there (wants_dump (callable_at (engine_past before)) client) (dump_at (engine_past before)) bytes (sym right.dump_is ∙ e)))

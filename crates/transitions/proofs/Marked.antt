@@ -1,21 +1,29 @@
 -- Where a transition is in progress, its begin is the last mark.
-use Rattle.std.proofs.Common.{◌≡◌, ℕ, true, false, List, [], ◌∷◌, ◌++◌, Some, None, refl, ap, sym, ◌∙◌, inl, inr}
-use Rattle.std.specs.Prelude.{◌⊎◌, Ok, Err}
+use Rattle.std.proofs.Common.{◌≡◌, ℕ, Bool, true, false, List, [], ◌∷◌, ◌++◌, Option, Some, None, refl, ap, sym, subst, ◌∙◌, inl, inr}
+use Rattle.std.specs.Prelude.{◌⊎◌, if◌then◌else◌, Ok, Err, ⊤}
+use Rattle.std.specs.Option.{option_map}
 use Rattle.daq_types.specs.declared.runs.Transition.{Transition}
+use Rattle.daq_types.specs.declared.runs.Order.{Order}
+use Rattle.event_report.specs.Reports.{Totals}
+use Rattle.transitions.specs.declared.answers.Answer.{Answer as ClientAnswer}
+use Rattle.transitions.specs.declared.engine.Refusal.{Refusal}
 use Rattle.daq_types.specs.declared.runs.StartOutcome.{StartOutcome}
 use Rattle.transitions.specs.declared.answers.ClientTally.{ClientTally}
 use Rattle.transitions.specs.declared.replies.Polled.TheVariants.{Turn, Idle, Closed as PollClosed, NoClient}
 use Rattle.transitions.specs.declared.replies.Progress.TheVariants.{Going, Done, None as NoneGoing}
 use Rattle.transitions.specs.declared.entry.EngineEntry.{EngineEntry}
 use Rattle.transitions.specs.declared.entry.EngineEntry.TheVariants.{Register, Begin, Poll, Answer, Check, Close}
-use Rattle.transitions.specs.Engines.{engine_opening}
+use Rattle.transitions.specs.Engines.{Underway, engine_opening}
+use Rattle.transitions.specs.EngineCalls.{turn_kind, turn_of, order_for}
 use Rattle.transitions.specs.EngineHistories.{IsLegalEngine}
-use Rattle.transitions.specs.EnginePoints.{engine_past, engine_past_after, transition_at, order_at}
-use Rattle.transitions.specs.TurnOrder.{IsRightEnd}
+use Rattle.transitions.specs.EnginePoints.{engine_past, engine_past_after, transition_at, order_at, refusal_at, dump_at, state_at, callable_at, wants_dump}
+use Rattle.transitions.specs.TurnOrder.{IsRightTurn, IsRightEnd}
 use Rattle.transitions.specs.Marks.{is_mark, HasNoMark, IsUnderway, IsEndOf}
 use Rattle.transitions.proofs.Apart.{split}
-use Rattle.transitions.proofs.Followed.{history_in_order}
-use Rattle.transitions.proofs.Given.{past_append}
+use Rattle.transitions.specs.GivenTurns.{IsFromBegin, ClosesTurn}
+use Rattle.transitions.proofs.Tracked.{TracksUnderway, TracksTransition}
+use Rattle.transitions.proofs.Followed.{history_in_order, owes, opens}
+use Rattle.transitions.proofs.Given.{past_append, open_in, open_none, open_owed, open_reach}
 
 record LastMark (es : List (ℕ × EngineEntry)) : Type 0 where
   earlier : List (ℕ × EngineEntry)
@@ -119,3 +127,89 @@ end_of before after caller outcome tallies legal =
     let right : IsRightEnd (engine_past before) outcome tallies =
     (history_in_order (before ++ (caller, Check (Done outcome) tallies) ∷ after) legal).right before after caller (Check (Done outcome) tallies) refl in
     (right.transition, record { underway = underway_begun before right.transition right.in_progress; tallies_is = right.tallies_is })
+
+-- Where a turn comes from.
+
+some_order : (a b : Order) → Some a ≡ Some b → b ≡ a
+some_order a b e = cc
+
+still_there : (wants : Bool) (d : Option (List ℕ)) (bytes : List ℕ) → (if wants then None else d) ≡ Some bytes → d ≡ Some bytes
+still_there false d bytes e = e
+still_there true d bytes e = absurd cc
+
+-- a dump that is there behind an entry that is no mark was there before it
+dump_unmarked : (past : List (ℕ × EngineEntry)) (by : ℕ) (entry : EngineEntry) (bytes : List ℕ) → is_mark entry ≡ false → dump_at ((by, entry) ∷ past) ≡ Some bytes → dump_at past ≡ Some bytes
+dump_unmarked past by (Register name sequences dump report (Ok n)) bytes h d = d
+dump_unmarked past by (Register name sequences dump report (Err r)) bytes h d = d
+dump_unmarked past by (Begin t sheet (Ok n)) bytes h d = absurd cc
+dump_unmarked past by (Begin t sheet (Err r)) bytes h d = d
+dump_unmarked past by (Poll client (Turn turn order dump blank)) bytes h d = still_there (wants_dump (callable_at past) client) (dump_at past) bytes d
+dump_unmarked past by (Poll client (Idle state)) bytes h d = d
+dump_unmarked past by (Poll client PollClosed) bytes h d = d
+dump_unmarked past by (Poll client NoClient) bytes h d = d
+dump_unmarked past by (Answer client answer (Ok done)) bytes h d = d
+dump_unmarked past by (Answer client answer (Err r)) bytes h d = d
+dump_unmarked past by (Check (Done outcome) tallies) bytes h d = absurd cc
+dump_unmarked past by (Check Going tallies) bytes h d = d
+dump_unmarked past by (Check NoneGoing tallies) bytes h d = d
+dump_unmarked past by (Close (Ok done)) bytes h d = d
+dump_unmarked past by (Close (Err r)) bytes h d = d
+
+dump_kept : (past es : List (ℕ × EngineEntry)) (bytes : List ℕ) → HasNoMark es → dump_at (engine_past_after past es) ≡ Some bytes → dump_at past ≡ Some bytes
+dump_kept past [] bytes none d = d
+dump_kept past (e ∷ es) bytes none d = dump_unmarked past e.0 e.1 bytes none.0 (dump_kept (e ∷ past) es bytes none.1 d)
+
+-- a dump that is there comes from the sheet of the transition in progress
+dump_begun : (before : List (ℕ × EngineEntry)) (t : Transition) (u : IsUnderway before t) (bytes : List ℕ) → dump_at (engine_past before) ≡ Some bytes → u.sheet.dump ≡ Some bytes
+dump_begun before t u bytes d =
+    let e : ℕ × EngineEntry = (u.caller, Begin t u.sheet (Ok u.start)) in
+    let past_is : engine_past before ≡ engine_past_after (e ∷ engine_past u.earlier) u.later = ap engine_past u.stands ∙ past_append [] u.earlier (e ∷ u.later) in
+    dump_kept (e ∷ engine_past u.earlier) u.later bytes u.on (sym (ap dump_at past_is) ∙ d)
+
+was_there : (wants : Bool) (d : Option (List ℕ)) (bytes : List ℕ) → (if wants then d else None) ≡ Some bytes → d ≡ Some bytes
+was_there true d bytes e = e
+was_there false d bytes e = absurd cc
+
+record TurnFrom (o : Option Transition) (r : Option Refusal) (turn : Transition) : Type 0 where
+  transition : Transition
+  is : o ≡ Some transition
+  turn_is : turn ≡ turn_kind transition r
+
+turn_from : (o : Option Transition) (r : Option Refusal) (turn : Transition) → option_map (λ t. turn_kind t r) o ≡ Some turn → TurnFrom o r turn
+turn_from None r turn e = absurd cc
+turn_from (Some t) r turn e = record { transition = t; is = refl; turn_is = some_same turn (turn_kind t r) (sym e) }
+
+-- a turn is one of the transition in progress, and so is the dump that it gives
+pub turn_begun : (before after : List (ℕ × EngineEntry)) (caller client : ℕ) (turn : Transition) (order : Order) (dump : Option (List ℕ)) (blank : Option Totals)
+    → IsLegalEngine engine_opening (before ++ (caller, Poll client (Turn turn order dump blank)) ∷ after) → IsFromBegin before turn order dump
+turn_begun before after caller client turn order dump blank legal =
+    let past : List (ℕ × EngineEntry) = engine_past before in
+    let right : IsRightTurn past client turn order dump blank =
+    (history_in_order (before ++ (caller, Poll client (Turn turn order dump blank)) ∷ after) legal).right before after caller (Poll client (Turn turn order dump blank)) refl in
+    let from : TurnFrom (transition_at past) (refusal_at past) turn = turn_from (transition_at past) (refusal_at past) turn right.turn_is in
+    let u : IsUnderway before from.transition = underway_begun before from.transition from.is in
+    record {
+      transition = from.transition;
+      underway = u;
+      turn_is = from.turn_is;
+      order_is = some_order (order_for u.sheet u.start (state_at (engine_past u.earlier))) order (sym u.order_is ∙ right.order_is);
+      dump_is = λ bytes e. dump_begun before from.transition u bytes (was_there (wants_dump (callable_at past) client) (dump_at past) bytes (sym right.dump_is ∙ e));
+    }
+
+-- an answer is one to the open turn of the client, which is of the transition in progress
+pub answer_closes : (before after : List (ℕ × EngineEntry)) (caller client : ℕ) (answer : ClientAnswer) (done : ⊤)
+    → IsLegalEngine engine_opening (before ++ (caller, Answer client answer (Ok done)) ∷ after) → ClosesTurn before client
+answer_closes before after caller client answer done legal =
+    let r = open_reach client [] engine_opening before ((caller, Answer client answer (Ok done)) ∷ after) opens (sym (open_none client)) legal in
+    let o = owes r.state client done r.legal.1 in
+    let tracks : TracksUnderway (engine_past before) r.state.state r.state.clients o.u =
+    subst (TracksTransition (engine_past before) r.state.state r.state.clients) o.underway_is r.tracks.transition in
+    let u : IsUnderway before o.u.transition = underway_begun before o.u.transition tracks.transition in
+    record {
+      transition = o.u.transition;
+      underway = u;
+      open_turn = record { turn = turn_of o.u; order = o.u.order };
+      open_is = r.is ∙ (ap (λ (x : Option Underway). open_in x client) o.underway_is ∙ open_owed o.u client o.polled o.front);
+      turn_is = ap (turn_kind o.u.transition) (sym tracks.refusal);
+      order_is = some_order (order_for u.sheet u.start (state_at (engine_past u.earlier))) o.u.order (sym u.order_is ∙ tracks.order);
+    }

@@ -14,7 +14,7 @@ use Rattle.transitions.specs.Called.{called_list}
 use Rattle.transitions.specs.Engines.{engine_opening}
 use Rattle.transitions.specs.EngineHistories.{IsLegalEngine, IsSheet}
 use Rattle.transitions.specs.TurnOrder.{TurnsInOrder}
-use Rattle.transitions.specs.EngineSamples.{sheet_with, turn_for, plain, with_dump, refused_by_second, out_of_order, before_the_answer, after_the_refusal, dump_given, both_answered, started, with_blank, blank_given, called_off}
+use Rattle.transitions.specs.EngineSamples.{sheet_with, turn_for, plain, with_dump, refused_by_second, out_of_order, before_the_answer, after_the_refusal, dump_given, both_answered, started, with_blank, blank_given, called_off, joins}
 
 bare : IsSheet (sheet_with None)
 bare = record { short = λ bytes e. absurd cc; blank = tt }
@@ -93,3 +93,8 @@ never_completed law =
     let right = law.right called_off [] 0 (Check (Done Completed) (plain 0 ∷ plain 1 ∷ [])) refl in
     let same : Completed ≡ Refused 0 NotReady = right.outcome_is in
     absurd cc
+
+pub never_numbered_twice : TurnsInOrder (joins 0 1 ∷ joins 0 2 ∷ []) → ⊥
+never_numbered_twice law =
+    let same : 0 ≡ 1 = law.right (joins 0 1 ∷ []) [] 0 (joins 0 2).1 refl in
+    absurd (omega (arith, same))

@@ -88,3 +88,7 @@ blank_given blank =
 -- the first client refused the start, and both answered to start-abort
 abbrev pub called_off : List (ℕ × EngineEntry)
 called_off = with_start_of None (turn_for 0 Start ∷ no_by 0 ∷ turn_for 0 StartAbort ∷ yes_by 0 ∷ turn_for 1 StartAbort ∷ yes_by 1 ∷ [])
+
+-- a client is registered for the start, by its sequence number
+abbrev pub joins : (number sequence : ℕ) → ℕ × EngineEntry
+joins number sequence = (0, Register [] (at_all sequence) true true (Ok number))

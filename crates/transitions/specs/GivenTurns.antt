@@ -3,12 +3,12 @@ use Rattle.std.specs.Prelude.{◌≡◌, ℕ, ◌==◌, Bool, true, false, ◌&&
 use Rattle.daq_types.specs.declared.runs.Transition.{Transition}
 use Rattle.daq_types.specs.declared.runs.Order.{Order}
 use Rattle.event_report.specs.Reports.{Totals}
-use Rattle.transitions.specs.declared.sheet.Sheet.{Sheet}
 use Rattle.transitions.specs.declared.replies.Polled.TheVariants.{Turn}
 use Rattle.transitions.specs.declared.entry.EngineEntry.{EngineEntry}
-use Rattle.transitions.specs.declared.entry.EngineEntry.TheVariants.{Begin, Poll, Answer}
-use Rattle.transitions.specs.EngineCalls.{order_for}
-use Rattle.transitions.specs.EnginePoints.{engine_past, state_at}
+use Rattle.transitions.specs.declared.entry.EngineEntry.TheVariants.{Poll, Answer}
+use Rattle.transitions.specs.EngineCalls.{turn_kind, order_for}
+use Rattle.transitions.specs.EnginePoints.{engine_past, state_at, refusal_at}
+use Rattle.transitions.specs.Marks.{IsUnderway}
 
 -- a turn that was given and is not answered
 pub record OpenTurn : Type 0 where
@@ -63,14 +63,20 @@ pub record IsRepeated (open_turn : OpenTurn) (turn : Transition) (order : Order)
   pub dump_is : dump ≡ None
   pub blank_is : blank ≡ None
 
--- an order comes from a begin among these entries, and the dump, if there is one, from its sheet
-pub record IsFromBegin (before : List (ℕ × EngineEntry)) (order : Order) (dump : Option (List ℕ)) : Type 0 where
-  pub earlier : List (ℕ × EngineEntry)
-  pub later : List (ℕ × EngineEntry)
-  pub caller : ℕ
+-- The transition in progress is the one that the turn is of, or its start was refused and the turn is one of start-abort. The
+-- order is that of its begin, and the dump, if there is one, that of its sheet.
+pub record IsFromBegin (before : List (ℕ × EngineEntry)) (turn : Transition) (order : Order) (dump : Option (List ℕ)) : Type 0 where
   pub transition : Transition
-  pub sheet : Sheet
-  pub start : ℕ
-  pub stands : before ≡ earlier ++ (caller, Begin transition sheet (Ok start)) ∷ later
-  pub order_is : order ≡ order_for sheet start (state_at (engine_past earlier))
-  pub dump_is : (bytes : List ℕ) → dump ≡ Some bytes → sheet.dump ≡ Some bytes
+  pub underway : IsUnderway before transition
+  pub turn_is : turn ≡ turn_kind transition (refusal_at (engine_past before))
+  pub order_is : order ≡ order_for underway.sheet underway.start (state_at (engine_past underway.earlier))
+  pub dump_is : (bytes : List ℕ) → dump ≡ Some bytes → underway.sheet.dump ≡ Some bytes
+
+-- An answer of the client here is the one to its open turn, which is one of the transition in progress, with its order.
+pub record ClosesTurn (before : List (ℕ × EngineEntry)) (client : ℕ) : Type 0 where
+  pub transition : Transition
+  pub underway : IsUnderway before transition
+  pub open_turn : OpenTurn
+  pub open_is : open_at client (calls_of (engine_past before)) ≡ Some open_turn
+  pub turn_is : open_turn.turn ≡ turn_kind transition (refusal_at (engine_past before))
+  pub order_is : open_turn.order ≡ order_for underway.sheet underway.start (state_at (engine_past underway.earlier))

@@ -10,9 +10,9 @@ use Rattle.transitions.specs.declared.replies.BeginRefusal.TheVariants.{WrongSta
 use Rattle.transitions.specs.declared.replies.Polled.TheVariants.{Turn, Idle}
 use Rattle.transitions.specs.declared.replies.Progress.TheVariants.{Done}
 use Rattle.transitions.specs.declared.entry.EngineEntry.{EngineEntry}
-use Rattle.transitions.specs.declared.entry.EngineEntry.TheVariants.{Begin, Poll, Answer, Check}
+use Rattle.transitions.specs.declared.entry.EngineEntry.TheVariants.{Register, Begin, Poll, Answer, Check}
 use Rattle.transitions.specs.EngineCalls.{is_start, outcome_of}
-use Rattle.transitions.specs.EnginePoints.{engine_past, transition_at, turn_at, order_at, callable_at, called_at, turned_at, answered_at, refusal_at, tallies_at, dump_at, blanks_at, wants_dump, wants_report, is_among, starts_at, state_at}
+use Rattle.transitions.specs.EnginePoints.{engine_past, clients_at, transition_at, turn_at, order_at, callable_at, called_at, turned_at, answered_at, refusal_at, tallies_at, dump_at, blanks_at, wants_dump, wants_report, is_among, starts_at, state_at}
 
 -- Those that were given a turn are the first ones of those that are called, those that answered the first ones of these,
 -- and none has its turn before the answer of the one in front of it.
@@ -57,8 +57,9 @@ pub record IsRightBegin (past : List (ℕ × EngineEntry)) (transition : Transit
   pub allowed : is_allowed (state_at past) transition ≡ true
   pub number : start ≡ number_with transition (starts_at past)
 
--- the entry is right at this point
+-- The entry is right at this point. Clients are numbered from 0, in order of registration.
 abbrev pub IsRightCall : List (ℕ × EngineEntry) → EngineEntry → Type 0
+IsRightCall past (Register name sequences dump report (Ok n)) = n ≡ length (clients_at past)
 IsRightCall past (Begin t sheet (Ok n)) = IsRightBegin past t n
 IsRightCall past (Begin t sheet (Err (WrongState state))) = state ≡ state_at past
 IsRightCall past (Poll client (Turn turn order dump blank)) = IsRightTurn past client turn order dump blank

@@ -1,7 +1,7 @@
 //! Laws of the histories of an engine: each function does nothing, and its contract is the law. They hold of every list of
 //! calls whose replies are those of an engine that opened stopped and without clients.
 
-ghost use Rattle.std.specs.Prelude.{◌≡◌, ◌<◌, ◌++◌, ◌∷◌, ℕ, List, [], Ok, Option, Some, None};
+ghost use Rattle.std.specs.Prelude.{◌≡◌, ◌<◌, ◌++◌, ◌∷◌, ℕ, List, [], Ok, Option, Some, None, ⊤};
 ghost use Rattle.daq_types.specs.Callers.{entries_by};
 ghost use Rattle.daq_types.specs.declared.runs.Transition.{Transition};
 ghost use Rattle.daq_types.specs.declared.runs.Order.{Order};
@@ -12,20 +12,21 @@ ghost use Rattle.transitions.specs.declared.replies.Polled.TheVariants.{Turn};
 ghost use Rattle.transitions.specs.Called.{called_list};
 ghost use Rattle.transitions.specs.CalledOrder.{IsCalledList};
 ghost use Rattle.transitions.specs.EnginePoints.{engine_past};
-ghost use Rattle.transitions.specs.GivenTurns.{OpenTurn, open_at, turns_at, calls_of, SpeaksFor, IsRepeated, IsFromBegin};
+ghost use Rattle.transitions.specs.GivenTurns.{OpenTurn, open_at, turns_at, calls_of, SpeaksFor, IsRepeated, IsFromBegin, ClosesTurn};
 ghost use Rattle.daq_types.specs.declared.runs.RunState.TheVariants.{Stopped};
 ghost use Rattle.daq_types.specs.declared.runs.Transition.TheVariants.{Start};
 ghost use Rattle.daq_types.specs.declared.runs.StartOutcome.TheVariants.{Completed};
 ghost use Rattle.transitions.specs.declared.replies.Polled.TheVariants.{Idle};
 ghost use Rattle.transitions.specs.declared.replies.Progress.TheVariants.{Done};
-ghost use Rattle.transitions.specs.declared.entry.EngineEntry.TheVariants.{Begin, Poll, Check};
+ghost use Rattle.transitions.specs.declared.entry.EngineEntry.TheVariants.{Begin, Poll, Answer, Check};
 ghost use Rattle.transitions.specs.Engines.{engine_opening};
 ghost use Rattle.transitions.specs.EngineHistories.{EngineHistory, IsLegalEngine};
 ghost use Rattle.transitions.specs.TurnOrder.{TurnsInOrder};
 ghost use Rattle.transitions.specs.Marks.{IsEndOf};
 ghost use Rattle.transitions.specs.declared.answers.ClientTally.{ClientTally};
+ghost use Rattle.transitions.specs.declared.answers.Answer.{Answer as ClientAnswer};
 ghost use Rattle.daq_types.specs.declared.runs.StartOutcome.{StartOutcome};
-ghost use Rattle.transitions.specs.EngineSamples.{sheet_with, turn_for, plain, with_dump, refused_by_second, out_of_order, before_the_answer, after_the_refusal, dump_given, both_answered, started, with_blank, blank_given, called_off};
+ghost use Rattle.transitions.specs.EngineSamples.{sheet_with, turn_for, plain, with_dump, refused_by_second, out_of_order, before_the_answer, after_the_refusal, dump_given, both_answered, started, with_blank, blank_given, called_off, joins};
 
 /// Turns are given in the order of the called list, each behind the answer to the one before; a refused start is called
 /// off; the dump and each blank report are given once; Done gives the answers in order; the start numbers rise by one, and
@@ -72,15 +73,24 @@ pub fn turn_repeats()
         IsRepeated open_turn turn order dump blank }
 {}
 
-/// Each turn has the order of a transition that was begun before it, and the dump, if it has one, is the one that this
-/// was begun with.
+/// Each turn is one of the transition in progress, or of start-abort once its start was refused. It has the order of the begin
+/// of that transition, and the dump, if it has one, is the one that this was begun with.
 pub fn turn_begun()
     ensures { (before after : EngineHistory) → (caller client : ℕ) →
         (turn : Transition) → (order : Order) →
         (dump : Option (List ℕ)) → (blank : Option Totals) →
         IsLegalEngine engine_opening
         (before ++ (caller, Poll client (Turn turn order dump blank)) ∷ after) →
-        IsFromBegin before order dump }
+        IsFromBegin before turn order dump }
+{}
+
+/// An answer that is accepted is the one to the client's open turn, which is one of the transition in progress and has its
+/// order.
+pub fn answer_closes()
+    ensures { (before after : EngineHistory) → (caller client : ℕ) →
+        (answer : ClientAnswer) → (done : ⊤) →
+        IsLegalEngine engine_opening (before ++ (caller, Answer client answer (Ok done)) ∷ after) →
+        ClosesTurn before client }
 {}
 
 /// Where Done is told, the transition's begin stands before it with no other begin and no other Done between, and the
@@ -95,6 +105,7 @@ pub fn tallies_belong()
 /// What the law asks is more than nothing: a history with a refused start, and one of each kind that it rules out.
 pub fn tells_apart()
     ensures refusal { IsLegalEngine engine_opening refused_by_second }
+    ensures client { TurnsInOrder (joins 0 1 ∷ joins 0 2 ∷ []) → ⊥ }
     ensures order { TurnsInOrder (out_of_order ++ turn_for 1 Start ∷ []) → ⊥ }
     ensures unanswered { TurnsInOrder (before_the_answer ++ turn_for 1 Start ∷ []) → ⊥ }
     ensures refused { TurnsInOrder (after_the_refusal ++ turn_for 1 Start ∷ []) → ⊥ }

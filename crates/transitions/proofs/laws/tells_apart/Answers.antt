@@ -1,4 +1,4 @@
-use Rattle.transitions.proofs.Sampled.{refused_is_legal, never_out_of_order, never_before_the_answer, never_after_the_refusal, never_dump_twice, never_blank_twice, never_completed, never_done_before_all, never_tallies_out_of_order, never_state_kept, never_number_twice}
+use Rattle.transitions.proofs.Sampled.{refused_is_legal, never_out_of_order, never_before_the_answer, never_after_the_refusal, never_dump_twice, never_blank_twice, never_completed, never_done_before_all, never_tallies_out_of_order, never_state_kept, never_number_twice, never_numbered_twice}
 use Rattle.transitions.proofs.laws.tells_apart.Goals as goal
 
 pub returns : goal.returns
@@ -14,4 +14,5 @@ returns c = record {
   tallies = never_tallies_out_of_order;
   state = never_state_kept;
   number = never_number_twice;
+  client = never_numbered_twice;
 }

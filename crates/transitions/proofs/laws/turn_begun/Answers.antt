@@ -1,4 +1,4 @@
-use Rattle.transitions.proofs.Given.{turn_begun}
+use Rattle.transitions.proofs.Marked.{turn_begun}
 use Rattle.transitions.proofs.laws.turn_begun.Goals as goal
 
 pub returns : goal.returns

@@ -1,0 +1,5 @@
+use Rattle.transitions.proofs.Marked.{answer_closes}
+use Rattle.transitions.proofs.laws.answer_closes.Goals as goal
+
+pub returns : goal.returns
+returns c = answer_closes
