@@ -1,4 +1,5 @@
-ghost use Rattle.std.specs.Prelude.{◌≡◌, ◌<◌, ◌++◌, ◌∷◌, [], length, IfOk};
+ghost use Rattle.std.specs.Prelude.{◌≡◌, ◌<◌, ◌++◌, ◌∷◌, [], length, slice_get, IfOk, IfNone};
+ghost use Rattle.std.specs.Option.{option_to_list, option_copied};
 ghost use Rattle.transitions.specs.Limits.{most_tallies};
 
 use daq_types::{ChannelState, FrontEnded, NoMemory, Why};
@@ -85,5 +86,34 @@ impl Tallies {
         ensures { result.now ≡ self.now }
     {
         self.tallies.as_slice()
+    }
+    /// How many tallies there are.
+    pub fn len(&self) -> usize
+        ensures { result ≡ length self.now }
+    {
+        self.tallies.len()
+    }
+
+    /// The tally at this place.
+    pub fn get(&self, place: usize) -> Option<&ClientTally>
+        ensures { option_copied result ≡ slice_get self.now place }
+    {
+        self.tallies.get(place)
+    }
+
+    /// The last tally, which is then gone.
+    pub fn pop(&mut self) -> Option<ClientTally>
+        ensures last { self.old ≡ self.new ++ option_to_list result }
+        ensures none { IfNone result (self.old ≡ []) }
+    {
+        self.tallies.pop()
+    }
+
+    /// The tallies, for themselves.
+    pub fn into_vec(self) -> Vec<ClientTally>
+        ensures { result.items ≡ self }
+    {
+        let Tallies { tallies } = self;
+        tallies
     }
 }

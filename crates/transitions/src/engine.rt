@@ -404,7 +404,8 @@ impl Engine {
         }
     }
 
-    /// No call but `poll` and `check` answers otherwise from now on. Takes no memory.
+    /// Closes the engine unless a transition is in progress: `register`, `begin` and a client's `poll` answer Closed from then
+    /// on. Takes no memory.
     pub fn close(&mut self) -> Result<(), InProgress>
         ensures reply { result ≡ close_reply self.old }
         ensures state { self.new ≡ engine_after self.old (Close result) }

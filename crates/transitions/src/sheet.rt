@@ -1,4 +1,5 @@
 ghost use Rattle.std.specs.Prelude.{◌≡◌, drop, length, slice_get};
+ghost use Rattle.std.specs.Option.{option_copied};
 
 use daq_types::Bytes;
 use event_report::Report;
@@ -54,6 +55,13 @@ impl Reports {
         ensures { result ≡ length self.now }
     {
         self.reports.len()
+    }
+
+    /// The report at this place.
+    pub fn get(&self, place: usize) -> Option<&Report>
+        ensures { option_copied result ≡ slice_get self.now place }
+    {
+        self.reports.get(place)
     }
 
     /// The report at the front, which is then gone.
