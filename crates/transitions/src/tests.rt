@@ -5,7 +5,7 @@ ghost use Rattle.transitions.specs.EngineHistories.{IsSheet};
 use crate::{
     Answer, BeginRefusal, Engine, Polled, Progress, RegisterRefusal, Reports, Sheet, Tallies, Tally,
 };
-use daq_types::{Bytes, Name, NoMemory, RunState, StartOutcome, Transition, Why};
+use daq_types::{Bytes, FrontEnded, Name, NoMemory, RunState, StartOutcome, Transition, Why};
 use event_report::Report;
 use run_states::Sequences;
 use std::alloc::Global;
@@ -45,11 +45,12 @@ const DONE: Progress = Progress::Done {
     outcome: StartOutcome::Completed,
 };
 
-/// A sheet with a dump and one blank report.
+/// A sheet with a dump and two blank reports.
 fn new_sheet(alloc: Global) -> Result<Sheet, NoMemory>
     ensures { IfOk result IsSheet }
 {
     let mut reports = Vec::new(alloc);
+    reports.push(Report::new(alloc)?)?;
     reports.push(Report::new(alloc)?)?;
     let mut dump = Vec::new(alloc);
     dump.push(7)?;
@@ -121,7 +122,7 @@ fn begin(engine: &mut Engine, transition: Transition, sheet: Sheet) -> Result<u3
 fn check(alloc: Global, engine: &mut Engine) -> Result<(Progress, usize), NoMemory> {
     let mut tallies = Tallies::new(alloc)?;
     let progress = engine.check(&mut tallies);
-    Ok((progress, tallies.as_slice().len()))
+    Ok((progress, tallies.len()))
 }
 
 /// Makes a call, and answers whether it answered as it is to.
@@ -164,6 +165,14 @@ fn three_clients(alloc: Global) -> Result<Engine, Fail> {
     let _second = add_client(&mut engine, 500, 500, false);
     let _third = add_client(&mut engine, 200, 800, true);
     Ok(engine)
+}
+
+/// The client of the tally at this place, and whether it is a plain one.
+fn told_at(tallies: &Tallies, place: usize) -> Option<(u32, bool)> {
+    match tallies.get(place) {
+        None => None,
+        Some(told) => Some((told.client, matches!(told.tally, Tally::Plain))),
+    }
 }
 
 /// What a lock guards crosses threads.
@@ -315,4 +324,132 @@ fn most_clients(rt: HostRuntime) -> Result<(), Fail> {
             Poll(63, Found::Idle(RunState::Stopped)),
         ],
     )
+}
+
+#[test]
+fn most_tallies(rt: HostRuntime) -> Result<(), Fail> {
+    let mut engine = Engine::new(rt.alloc())?;
+    for _ in 0..64u32 {
+        let _client = add_client(&mut engine, 500, 500, false);
+    }
+    let turn = Found::Turn(Start, false, false);
+    make_calls(&rt, rt.alloc(), &mut engine, &[Begin(Start, Ok(1))])?;
+    for client in 0..63u32 {
+        make_calls(
+            &rt,
+            rt.alloc(),
+            &mut engine,
+            &[Poll(client, turn), Yes(client, true)],
+        )?;
+    }
+    make_calls(
+        &rt,
+        rt.alloc(),
+        &mut engine,
+        &[Poll(63, turn), No(63, true)],
+    )?;
+    let call_off = Found::Turn(StartAbort, false, false);
+    for client in 0..64u32 {
+        make_calls(
+            &rt,
+            rt.alloc(),
+            &mut engine,
+            &[Poll(client, call_off), Yes(client, true)],
+        )?;
+    }
+    let outcome = StartOutcome::Refused {
+        client: 63,
+        why: Why::NotReady,
+    };
+    make_calls(
+        &rt,
+        rt.alloc(),
+        &mut engine,
+        &[
+            Check(Progress::Done { outcome }, 127),
+            Check(Progress::None, 0),
+        ],
+    )
+}
+
+#[test]
+fn dump_given_once(rt: HostRuntime) -> Result<(), Fail> {
+    let mut engine = Engine::new(rt.alloc())?;
+    let _first = add_client(&mut engine, 500, 500, true);
+    let _second = add_client(&mut engine, 600, 600, true);
+    make_calls(
+        &rt,
+        rt.alloc(),
+        &mut engine,
+        &[
+            Begin(Start, Ok(1)),
+            Poll(0, Found::Turn(Start, true, true)),
+            Poll(0, Found::Turn(Start, false, false)),
+            Yes(0, true),
+            Poll(1, Found::Turn(Start, false, true)),
+            Poll(1, Found::Turn(Start, false, false)),
+            Yes(1, true),
+            Check(DONE, 2),
+        ],
+    )
+}
+
+#[test]
+fn tallies_by_answer(rt: HostRuntime) -> Result<(), Fail> {
+    let mut engine = three_clients(rt.alloc())?;
+    let turn = Found::Turn(Stop, false, false);
+    make_calls(
+        &rt,
+        rt.alloc(),
+        &mut engine,
+        &[
+            Begin(Start, Ok(1)),
+            Poll(2, Found::Turn(Start, true, true)),
+            Yes(2, true),
+            Poll(0, Found::Turn(Start, false, false)),
+            Yes(0, true),
+            Poll(1, Found::Turn(Start, false, false)),
+            Yes(1, true),
+            Check(DONE, 3),
+            Begin(Stop, Ok(1)),
+            Poll(2, Found::Turn(Stop, true, false)),
+        ],
+    )?;
+    let counted = Tally::Front {
+        sent: 7,
+        ended: FrontEnded::Quota,
+    };
+    assert!(rt; engine.answer(2, Answer::Yes(counted)).is_ok());
+    make_calls(
+        &rt,
+        rt.alloc(),
+        &mut engine,
+        &[Poll(0, turn), No(0, true), Poll(1, turn), Yes(1, true)],
+    )?;
+    let mut tallies = Tallies::new(rt.alloc())?;
+    assert!(rt; engine.check(&mut tallies) == DONE);
+    assert_eq!(rt; told_at(&tallies, 0), Some((2, false)));
+    assert_eq!(rt; told_at(&tallies, 1), Some((0, true)));
+    assert_eq!(rt; told_at(&tallies, 2), Some((1, true)));
+    assert!(rt; told_at(&tallies, 3).is_none());
+    assert!(rt; tallies.pop().is_some());
+    assert_eq!(rt; tallies.into_vec().len(), 2);
+    Ok(())
+}
+
+#[test]
+fn sheet_handed_back(rt: HostRuntime) -> Result<(), Fail> {
+    let mut engine = Engine::new(rt.alloc())?;
+    match engine.begin(Pause, new_sheet(rt.alloc())?) {
+        Ok(_) => assert!(rt; false),
+        Err((_, sheet)) => {
+            assert!(rt; sheet.dump.is_some());
+            let mut blanks = sheet.blanks;
+            assert!(rt; blanks.get(1).is_some());
+            assert!(rt; blanks.take_first().is_some());
+            assert!(rt; blanks.get(1).is_none());
+            assert_eq!(rt; blanks.into_vec().len(), 1);
+        }
+    }
+    Ok(())
 }
