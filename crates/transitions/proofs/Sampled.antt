@@ -1,11 +1,14 @@
 -- What the law of turns rules out.
-use Rattle.std.proofs.Common.{◌≡◌, ℕ, List, [], ◌∷◌, ◌++◌, Some, None, refl, ap, arith}
-use Rattle.std.specs.Prelude.{Ok}
-use Rattle.daq_types.specs.declared.runs.RunState.TheVariants.{Stopped}
-use Rattle.daq_types.specs.declared.runs.Transition.TheVariants.{Start, StartAbort}
+use Rattle.std.proofs.Common.{◌≡◌, ℕ, ◌≤◌, true, false, List, [], ◌∷◌, ◌++◌, length, Some, None, refl, ap, sym, arith}
+use Rattle.std.specs.Prelude.{Ok, Err}
+use Rattle.daq_types.specs.declared.runs.RunState.TheVariants.{Stopped, Running}
+use Rattle.daq_types.specs.declared.runs.Transition.TheVariants.{Start, Pause, StartAbort}
+use Rattle.daq_types.specs.declared.runs.StartOutcome.{StartOutcome}
 use Rattle.daq_types.specs.declared.runs.StartOutcome.TheVariants.{Completed, Refused}
 use Rattle.daq_types.specs.declared.runs.Why.TheVariants.{NotReady}
-use Rattle.event_report.specs.Reports.{Totals}
+use Rattle.daq_model.specs.Events.{record_limit}
+use Rattle.event_report.specs.Reports.{Totals, report_of}
+use Rattle.transitions.specs.declared.replies.BeginRefusal.TheVariants.{WrongState}
 use Rattle.transitions.specs.declared.replies.Polled.TheVariants.{Idle}
 use Rattle.transitions.specs.declared.replies.Progress.TheVariants.{Done}
 use Rattle.transitions.specs.declared.answers.ClientTally.{ClientTally}
@@ -14,7 +17,7 @@ use Rattle.transitions.specs.Called.{called_list}
 use Rattle.transitions.specs.Engines.{engine_opening}
 use Rattle.transitions.specs.EngineHistories.{IsLegalEngine, IsSheet}
 use Rattle.transitions.specs.TurnOrder.{TurnsInOrder}
-use Rattle.transitions.specs.EngineSamples.{sheet_with, turn_for, plain, with_dump, refused_by_second, out_of_order, before_the_answer, after_the_refusal, dump_given, both_answered, started, with_blank, blank_given, called_off, joins}
+use Rattle.transitions.specs.EngineSamples.{sheet_with, turn_for, plain, with_dump, refused_by_second, out_of_order, before_the_answer, after_the_refusal, dump_given, both_answered, started, with_blank, blank_given, called_off, joins, equals_called, dump_waits, called_off_by, stop_answered_no}
 
 bare : IsSheet (sheet_with None)
 bare = record { short = λ bytes e. absurd cc; blank = tt }
@@ -23,6 +26,18 @@ pub refused_is_legal : IsLegalEngine engine_opening refused_by_second
 unfolding called_list
 refused_is_legal =
     (refl, refl, (refl, refl, ((refl, bare), refl, (tt, refl, (tt, refl, (tt, refl, (tt, refl, (tt, refl, (tt, refl, (tt, refl, (tt, refl, (refl, (refl, refl), tt))))))))))))
+
+pub stop_is_legal : IsLegalEngine engine_opening stop_answered_no
+unfolding called_list
+stop_is_legal =
+    let given : IsSheet (record { run = 1; time = 1000; quota = 0; dump = Some (7 ∷ []); blanks = report_of [] ∷ [] }) =
+    record { short = λ bytes e. seven_short bytes e; blank = (refl, tt) } in
+    (refl, refl, ((refl, given), refl, (tt, refl, (tt, refl, (refl, (refl, refl), ((refl, bare), refl, (tt, refl, (tt, refl, (refl, (refl, refl), tt)))))))))
+  where
+    seven_short : (bytes : List ℕ) → Some (7 ∷ []) ≡ Some bytes → length bytes ≤ record_limit
+    seven_short bytes e =
+        let same : 7 ∷ [] ≡ bytes = cc in
+        omega (arith, sym (ap length same))
 
 heads : (a b : ℕ) (xs ys : List ℕ) → a ∷ xs ≡ b ∷ ys → a ≡ b
 heads a b xs ys e = cc
@@ -98,3 +113,51 @@ pub never_numbered_twice : TurnsInOrder (joins 0 1 ∷ joins 0 2 ∷ []) → ⊥
 never_numbered_twice law =
     let same : 0 ≡ 1 = law.right (joins 0 1 ∷ []) [] 0 (joins 0 2).1 refl in
     absurd (omega (arith, same))
+
+pub never_equals_turned : TurnsInOrder (equals_called ++ turn_for 1 Start ∷ []) → ⊥
+unfolding called_list
+never_equals_turned law =
+    let right = law.right equals_called [] 1 (turn_for 1 Start).1 refl in
+    let same : 0 ≡ 1 = heads 0 1 _ _ right.next in
+    absurd (omega (arith, same))
+
+pub never_call_off_turned : TurnsInOrder (after_the_refusal ++ turn_for 1 StartAbort ∷ []) → ⊥
+unfolding called_list
+never_call_off_turned law =
+    let right = law.right after_the_refusal [] 1 (turn_for 1 StartAbort).1 refl in
+    let same : 0 ≡ 1 = heads 0 1 _ _ right.next in
+    absurd (omega (arith, same))
+
+refuser_in : StartOutcome → ℕ
+refuser_in Completed = 9
+refuser_in (Refused client why) = client
+
+pub never_other_named : TurnsInOrder (called_off ++ called_off_by 1 (plain 0 ∷ plain 1 ∷ []) ∷ []) → ⊥
+unfolding refuser_in
+never_other_named law =
+    let right = law.right called_off [] 0 (called_off_by 1 (plain 0 ∷ plain 1 ∷ [])).1 refl in
+    let same : 1 ≡ 0 = ap refuser_in right.outcome_is in
+    absurd (omega (arith, same))
+
+pub never_refusal_told : TurnsInOrder (called_off ++ called_off_by 0 (plain 0 ∷ plain 0 ∷ plain 1 ∷ []) ∷ []) → ⊥
+never_refusal_told law =
+    let right = law.right called_off [] 0 (called_off_by 0 (plain 0 ∷ plain 0 ∷ plain 1 ∷ [])).1 refl in
+    let count : 3 ≡ 2 = ap length right.tallies_is in
+    absurd (omega (arith, count))
+
+pub never_dump_withheld : TurnsInOrder (dump_waits ++ turn_for 0 Start ∷ []) → ⊥
+never_dump_withheld law =
+    let right = law.right dump_waits [] 0 (turn_for 0 Start).1 refl in
+    let same : None ≡ Some (7 ∷ []) = right.dump_is in
+    absurd cc
+
+pub never_pause_stopped : TurnsInOrder ((0, Begin Pause (sheet_with None) (Ok 0)) ∷ []) → ⊥
+never_pause_stopped law =
+    let right = law.right [] [] 0 (Begin Pause (sheet_with None) (Ok 0)) refl in
+    let same : false ≡ true = right.allowed in
+    absurd cc
+
+pub never_other_state : TurnsInOrder ((0, Begin Pause (sheet_with None) (Err (WrongState Running))) ∷ []) → ⊥
+never_other_state law =
+    let same : Running ≡ Stopped = law.right [] [] 0 (Begin Pause (sheet_with None) (Err (WrongState Running))) refl in
+    absurd cc

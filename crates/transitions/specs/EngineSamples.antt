@@ -1,11 +1,11 @@
--- A history that an engine has, and some that none has, each wrong in one way.
+-- Two histories that an engine has, and some that none has, each wrong in one way.
 use Rattle.std.specs.Prelude.{ℕ, List, [], ◌∷◌, ◌++◌, Option, Some, None, Ok, true}
-use Rattle.daq_types.specs.declared.runs.RunState.TheVariants.{Stopped}
+use Rattle.daq_types.specs.declared.runs.RunState.TheVariants.{Stopped, Running}
 use Rattle.daq_types.specs.declared.runs.Transition.{Transition}
-use Rattle.daq_types.specs.declared.runs.Transition.TheVariants.{Start, StartAbort}
+use Rattle.daq_types.specs.declared.runs.Transition.TheVariants.{Start, Stop, StartAbort}
 use Rattle.daq_types.specs.declared.runs.StartOutcome.TheVariants.{Completed, Refused}
 use Rattle.daq_types.specs.declared.runs.Why.TheVariants.{NotReady}
-use Rattle.event_report.specs.Reports.{Totals}
+use Rattle.event_report.specs.Reports.{Totals, report_of}
 use Rattle.run_states.specs.declared.sequences.Sequences.{Sequences}
 use Rattle.transitions.specs.declared.sheet.Sheet.{Sheet}
 use Rattle.transitions.specs.declared.answers.Answer.TheVariants.{Yes, No}
@@ -89,6 +89,29 @@ blank_given blank =
 abbrev pub called_off : List (ℕ × EngineEntry)
 called_off = with_start_of None (turn_for 0 Start ∷ no_by 0 ∷ turn_for 0 StartAbort ∷ yes_by 0 ∷ turn_for 1 StartAbort ∷ yes_by 1 ∷ [])
 
--- a client is registered for the start, by its sequence number
+-- a client registers by its sequence number
 abbrev pub joins : (number sequence : ℕ) → ℕ × EngineEntry
 joins number sequence = (0, Register [] (at_all sequence) true true (Ok number))
+
+-- two clients of equal sequence numbers, and a start
+abbrev pub equals_called : List (ℕ × EngineEntry)
+equals_called = joins 0 1 ∷ joins 1 1 ∷ (0, Begin Start (sheet_with None) (Ok 1)) ∷ []
+
+-- a start with a dump
+abbrev pub dump_waits : List (ℕ × EngineEntry)
+dump_waits = with_start_of (Some (7 ∷ [])) []
+
+-- the first client refused the start, and Done says who did
+abbrev pub called_off_by : (client : ℕ) → List ClientTally → ℕ × EngineEntry
+called_off_by client tallies = (0, Check (Done (Refused client NotReady)) tallies)
+
+-- a transition is done that no client refused
+abbrev pub done_with : List ClientTally → ℕ × EngineEntry
+done_with tallies = (0, Check (Done Completed) tallies)
+
+-- one client is given the dump and the report of no events, and takes the start; its No to the stop is a Yes
+abbrev pub stop_answered_no : List (ℕ × EngineEntry)
+stop_answered_no =
+    joins 0 1 ∷ (0, Begin Start (record { run = 1; time = 1000; quota = 0; dump = Some (7 ∷ []); blanks = report_of [] ∷ [] }) (Ok 1))
+    ∷ (0, Poll 0 (Turn Start (order_for (sheet_with None) 1 Stopped) (Some (7 ∷ [])) (Some (report_of [])))) ∷ yes_by 0 ∷ done_with (plain 0 ∷ [])
+    ∷ (0, Begin Stop (sheet_with None) (Ok 1)) ∷ (0, Poll 0 (Turn Stop (order_for (sheet_with None) 1 Running) None None)) ∷ no_by 0 ∷ done_with (plain 0 ∷ []) ∷ []

@@ -1,7 +1,7 @@
 //! Laws of the histories of an engine: each function does nothing, and its contract is the law. They hold of every list of
 //! calls whose replies are those of an engine that opened stopped and without clients.
 
-ghost use Rattle.std.specs.Prelude.{◌≡◌, ◌<◌, ◌++◌, ◌∷◌, ℕ, List, [], Ok, Option, Some, None, ⊤};
+ghost use Rattle.std.specs.Prelude.{◌≡◌, ◌<◌, ◌++◌, ◌∷◌, ℕ, List, [], Ok, Err, Option, Some, None, ⊤};
 ghost use Rattle.daq_types.specs.Callers.{entries_by};
 ghost use Rattle.daq_types.specs.declared.runs.Transition.{Transition};
 ghost use Rattle.daq_types.specs.declared.runs.Order.{Order};
@@ -13,9 +13,9 @@ ghost use Rattle.transitions.specs.Called.{called_list};
 ghost use Rattle.transitions.specs.CalledOrder.{IsCalledList};
 ghost use Rattle.transitions.specs.EnginePoints.{engine_past};
 ghost use Rattle.transitions.specs.GivenTurns.{OpenTurn, open_at, turns_at, calls_of, SpeaksFor, IsRepeated, IsFromBegin, ClosesTurn};
-ghost use Rattle.daq_types.specs.declared.runs.RunState.TheVariants.{Stopped};
-ghost use Rattle.daq_types.specs.declared.runs.Transition.TheVariants.{Start};
-ghost use Rattle.daq_types.specs.declared.runs.StartOutcome.TheVariants.{Completed};
+ghost use Rattle.daq_types.specs.declared.runs.RunState.TheVariants.{Stopped, Running};
+ghost use Rattle.daq_types.specs.declared.runs.Transition.TheVariants.{Start, Pause, StartAbort};
+ghost use Rattle.transitions.specs.declared.replies.BeginRefusal.TheVariants.{WrongState};
 ghost use Rattle.transitions.specs.declared.replies.Polled.TheVariants.{Idle};
 ghost use Rattle.transitions.specs.declared.replies.Progress.TheVariants.{Done};
 ghost use Rattle.transitions.specs.declared.entry.EngineEntry.TheVariants.{Begin, Poll, Answer, Check};
@@ -26,7 +26,7 @@ ghost use Rattle.transitions.specs.Marks.{IsEndOf};
 ghost use Rattle.transitions.specs.declared.answers.ClientTally.{ClientTally};
 ghost use Rattle.transitions.specs.declared.answers.Answer.{Answer as ClientAnswer};
 ghost use Rattle.daq_types.specs.declared.runs.StartOutcome.{StartOutcome};
-ghost use Rattle.transitions.specs.EngineSamples.{sheet_with, turn_for, plain, with_dump, refused_by_second, out_of_order, before_the_answer, after_the_refusal, dump_given, both_answered, started, with_blank, blank_given, called_off, joins};
+ghost use Rattle.transitions.specs.EngineSamples.{sheet_with, turn_for, plain, with_dump, refused_by_second, out_of_order, before_the_answer, after_the_refusal, dump_given, both_answered, started, with_blank, blank_given, called_off, joins, equals_called, dump_waits, called_off_by, done_with, stop_answered_no};
 
 /// Turns are given in the order of the called list, each behind the answer to the one before; a refused start is called
 /// off; the dump and each blank report are given once; Done gives the answers in order; the start numbers rise by one, and
@@ -102,22 +102,32 @@ pub fn tallies_belong()
         (transition : Transition) × IsEndOf before transition tallies }
 {}
 
-/// What the law asks is more than nothing: a history with a refused start, and one of each kind that it rules out.
+/// What the law asks is more than nothing: a history with a refused start, one with a dump, a report and a stop that was
+/// answered by No, and one of each kind that it rules out.
 pub fn tells_apart()
     ensures refusal { IsLegalEngine engine_opening refused_by_second }
+    ensures stop { IsLegalEngine engine_opening stop_answered_no }
     ensures client { TurnsInOrder (joins 0 1 ∷ joins 0 2 ∷ []) → ⊥ }
     ensures order { TurnsInOrder (out_of_order ++ turn_for 1 Start ∷ []) → ⊥ }
+    ensures equals { TurnsInOrder (equals_called ++ turn_for 1 Start ∷ []) → ⊥ }
     ensures unanswered { TurnsInOrder (before_the_answer ++ turn_for 1 Start ∷ []) → ⊥ }
     ensures refused { TurnsInOrder (after_the_refusal ++ turn_for 1 Start ∷ []) → ⊥ }
+    ensures call_off { TurnsInOrder (after_the_refusal ++ turn_for 1 StartAbort ∷ []) → ⊥ }
     ensures dump { TurnsInOrder (dump_given ++ with_dump 1 ∷ []) → ⊥ }
+    ensures withheld { TurnsInOrder (dump_waits ++ turn_for 0 Start ∷ []) → ⊥ }
     ensures blank { (report : Totals) →
         TurnsInOrder (blank_given report ++ with_blank report ∷ []) → ⊥ }
-    ensures outcome { TurnsInOrder
-        (called_off ++ (0, Check (Done Completed) (plain 0 ∷ plain 1 ∷ [])) ∷ []) → ⊥ }
-    ensures end { TurnsInOrder (before_the_answer ++ (0, Check (Done Completed) []) ∷ []) → ⊥ }
-    ensures tallies { TurnsInOrder
-        (both_answered ++ (0, Check (Done Completed) (plain 1 ∷ plain 0 ∷ [])) ∷ []) → ⊥ }
+    ensures outcome { TurnsInOrder (called_off ++ done_with (plain 0 ∷ plain 1 ∷ []) ∷ []) → ⊥ }
+    ensures refuser { TurnsInOrder
+        (called_off ++ called_off_by 1 (plain 0 ∷ plain 1 ∷ []) ∷ []) → ⊥ }
+    ensures end { TurnsInOrder (before_the_answer ++ done_with [] ∷ []) → ⊥ }
+    ensures tallies { TurnsInOrder (both_answered ++ done_with (plain 1 ∷ plain 0 ∷ []) ∷ []) → ⊥ }
+    ensures counted { TurnsInOrder
+        (called_off ++ called_off_by 0 (plain 0 ∷ plain 0 ∷ plain 1 ∷ []) ∷ []) → ⊥ }
     ensures state { TurnsInOrder (started ++ (1, Poll 0 (Idle Stopped)) ∷ []) → ⊥ }
+    ensures allowed { TurnsInOrder ((0, Begin Pause (sheet_with None) (Ok 0)) ∷ []) → ⊥ }
+    ensures other { TurnsInOrder
+        ((0, Begin Pause (sheet_with None) (Err (WrongState Running))) ∷ []) → ⊥ }
     ensures number { TurnsInOrder
         (refused_by_second ++ (0, Begin Start (sheet_with None) (Ok 1)) ∷ []) → ⊥ }
 {}
