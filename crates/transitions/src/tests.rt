@@ -432,24 +432,30 @@ fn tallies_by_answer(rt: HostRuntime) -> Result<(), Fail> {
     assert_eq!(rt; told_at(&tallies, 1), Some((0, true)));
     assert_eq!(rt; told_at(&tallies, 2), Some((1, true)));
     assert!(rt; told_at(&tallies, 3).is_none());
+    assert_eq!(rt; tallies.as_slice().len(), 3);
     assert!(rt; tallies.pop().is_some());
     assert_eq!(rt; tallies.into_vec().len(), 2);
     Ok(())
 }
 
 #[test]
-fn sheet_handed_back(rt: HostRuntime) -> Result<(), Fail> {
+fn handed_back(rt: HostRuntime) -> Result<(), Fail> {
     let mut engine = Engine::new(rt.alloc())?;
     match engine.begin(Pause, new_sheet(rt.alloc())?) {
         Ok(_) => assert!(rt; false),
         Err((_, sheet)) => {
             assert!(rt; sheet.dump.is_some());
             let mut blanks = sheet.blanks;
+            assert_eq!(rt; blanks.len(), 2);
             assert!(rt; blanks.get(1).is_some());
             assert!(rt; blanks.take_first().is_some());
             assert!(rt; blanks.get(1).is_none());
             assert_eq!(rt; blanks.into_vec().len(), 1);
         }
+    }
+    match engine.answer(0, Answer::No(Why::NotReady)) {
+        Ok(_) => assert!(rt; false),
+        Err((_, answer)) => assert!(rt; matches!(answer, Answer::No(Why::NotReady))),
     }
     Ok(())
 }
