@@ -4,3 +4,5 @@ pub mod Walking
 pub mod Sending
 pub mod GivenEvents
 pub mod Clients
+pub mod Lives
+pub mod ReadRows

@@ -3,3 +3,5 @@ pub mod Stored
 pub mod RingViews
 pub mod Walks
 pub mod Reads
+pub mod LifeReads
+pub mod ReadSamples

@@ -2,6 +2,7 @@
 #![tactic(auto)]
 
 mod calls;
+pub mod laws;
 mod receiving;
 mod ring_buffer;
 mod search;

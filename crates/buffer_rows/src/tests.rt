@@ -1,0 +1,427 @@
+//! One table of rows for both buffers.
+use buffer_core::{
+    EventBuffer, MarkRefusal, NoClient, NoSlot, Received, RequestRefusal, RunGate, SendRefusal,
+};
+use daq_types::{Kind, Name};
+use event_header::{EventBuf, Header};
+use plain_buffer::PlainBuffer;
+use ring_buffer::RingBuffer;
+use ring_bytes::Ring;
+use std::process::Abort;
+use std::test::Fail;
+
+/// A call with the reply that it must get.
+#[derive(Clone, Copy)]
+enum Step {
+    Attach(Result<u32, NoSlot>),
+    Detach(u32, Result<(), NoClient>),
+    /// The client, the id, the mask and the kind.
+    Request(u32, u16, u16, Kind, Result<u32, RequestRefusal>),
+    Cancel(u32, u32, Result<(), RequestRefusal>),
+    /// The id, the mask and the bytes of data.
+    Send(u16, u16, usize, Result<u64, SendRefusal>),
+    /// An event whose header states 8 bytes, with 7.
+    SendShort(Result<u64, SendRefusal>),
+    /// The start number.
+    SendInRun(u32, Result<u64, SendRefusal>),
+    Receive(u32, Received),
+    /// With room for so many bytes.
+    ReceiveInto(u32, u32, Received),
+    Begin(u32, Result<u64, MarkRefusal>),
+    Pause(u32, Result<u64, MarkRefusal>),
+    Resume(u32, Result<u64, MarkRefusal>),
+    End(u32, Result<u64, MarkRefusal>),
+    Level(u64),
+    Accepted(u64),
+}
+
+use Kind::{All, NonBlocking};
+use Step::*;
+
+const ANY: u16 = 0xFFFF;
+
+const DATA: [u8; 233] = [0; 233];
+
+fn header(id: u16, mask: u16, size: u32) -> Header {
+    Header {
+        event_id: id,
+        trigger_mask: mask,
+        serial_number: 1,
+        time_stamp: 0,
+        data_size: size,
+    }
+}
+
+fn sent<B: EventBuffer>(
+    rt: &impl Abort,
+    buffer: &mut B,
+    id: u16,
+    mask: u16,
+    size: usize,
+) -> Result<u64, SendRefusal> {
+    assert!(rt; size <= DATA.len());
+    buffer.send(&header(id, mask, size as u32), &DATA[..size])
+}
+
+/// Makes the call and compares its reply.
+fn run_step<R: Abort + AllocGlobal, B: EventBuffer>(
+    rt: &R,
+    buffer: &mut B,
+    step: Step,
+) -> Result<(), Fail> {
+    match step {
+        Attach(reply) => assert_eq!(rt; buffer.attach(name(rt)), reply),
+        Detach(client, reply) => assert_eq!(rt; buffer.detach(client), reply),
+        Request(client, id, mask, kind, reply) => assert_eq!(rt;
+            buffer.request(client, id, mask, kind),
+            reply
+        ),
+        Cancel(client, request, reply) => assert_eq!(rt; buffer.cancel(client, request), reply),
+        Send(id, mask, size, reply) => assert_eq!(rt; sent(rt, buffer, id, mask, size), reply),
+        SendShort(reply) => assert_eq!(rt; buffer.send(&header(1, 0, 8), &DATA[..7]), reply),
+        SendInRun(start, reply) => assert_eq!(rt;
+            buffer.send_in_run(start, &header(1, 0, 24), &DATA[..24]),
+            reply
+        ),
+        Receive(client, reply) => {
+            let mut into = EventBuf::new(rt.alloc(), 233)?;
+            assert_eq!(rt; buffer.receive(client, &mut into), reply);
+        }
+        ReceiveInto(client, room, reply) => {
+            let mut into = EventBuf::new(rt.alloc(), room)?;
+            assert_eq!(rt; buffer.receive(client, &mut into), reply);
+        }
+        Begin(start, reply) => assert_eq!(rt; buffer.begin(start), reply),
+        Pause(start, reply) => assert_eq!(rt; buffer.pause(start), reply),
+        Resume(start, reply) => assert_eq!(rt; buffer.resume(start), reply),
+        End(start, reply) => assert_eq!(rt; buffer.end(start), reply),
+        Level(level) => assert_eq!(rt; buffer.level(), level),
+        Accepted(accepted) => assert_eq!(rt; buffer.accepted(), accepted),
+    }
+    Ok(())
+}
+
+fn name(rt: &impl Abort) -> Name {
+    Name::new(b"ANA").expect(rt, "a name")
+}
+
+/// Makes the calls on a new buffer of 256 bytes, and compares their replies.
+fn run_all<R: Abort + AllocGlobal, B: EventBuffer>(
+    rt: &R,
+    buffer: &mut B,
+    steps: &[Step],
+) -> Result<(), Fail> {
+    for step in steps {
+        run_step(rt, buffer, *step)?;
+    }
+    Ok(())
+}
+
+/// What a receive finds where there is nothing more and no run was on.
+const NOTHING: Received = Received::Empty {
+    gate: RunGate::Shut,
+    last: 0,
+};
+
+/// An event of no run.
+fn got(place: u64) -> Received {
+    Received::Got { place, start: 0 }
+}
+
+const MUST_GET: [Step; 15] = [
+    Attach(Ok(0)),
+    Request(0, 1, ANY, All, Ok(0)),
+    Send(1, 0, 8, Ok(0)),
+    Send(1, 0, 8, Ok(1)),
+    Send(1, 0, 8, Ok(2)),
+    Send(1, 0, 8, Ok(3)),
+    Send(1, 0, 8, Ok(4)),
+    Send(1, 0, 8, Ok(5)),
+    Send(1, 0, 8, Ok(6)),
+    Send(1, 0, 8, Ok(7)),
+    Level(256),
+    Send(
+        1,
+        0,
+        8,
+        Err(SendRefusal::Full {
+            client: 0,
+            place: 0,
+        }),
+    ),
+    Receive(0, Received::Got { place: 0, start: 0 }),
+    Send(1, 0, 8, Ok(8)),
+    Accepted(9),
+];
+
+const PUSHED: [Step; 12] = [
+    Attach(Ok(0)),
+    Request(0, 1, ANY, NonBlocking, Ok(0)),
+    Send(1, 0, 8, Ok(0)),
+    Send(1, 0, 8, Ok(1)),
+    Send(1, 0, 8, Ok(2)),
+    Send(1, 0, 8, Ok(3)),
+    Send(1, 0, 8, Ok(4)),
+    Send(1, 0, 8, Ok(5)),
+    Send(1, 0, 8, Ok(6)),
+    Send(1, 0, 8, Ok(7)),
+    Send(1, 0, 8, Ok(8)),
+    Receive(0, Received::Got { place: 1, start: 0 }),
+];
+
+const NOT_OWED: [Step; 12] = [
+    Attach(Ok(0)),
+    Request(0, 2, ANY, All, Ok(0)),
+    Send(1, 0, 8, Ok(0)),
+    Send(2, 0, 8, Ok(1)),
+    Send(1, 0, 8, Ok(2)),
+    Send(1, 0, 8, Ok(3)),
+    Send(1, 0, 8, Ok(4)),
+    Send(1, 0, 8, Ok(5)),
+    Send(1, 0, 8, Ok(6)),
+    Send(1, 0, 8, Ok(7)),
+    Send(1, 0, 8, Ok(8)),
+    Send(
+        1,
+        0,
+        8,
+        Err(SendRefusal::Full {
+            client: 0,
+            place: 1,
+        }),
+    ),
+];
+
+const REFUSED: [Step; 8] = [
+    Send(
+        1,
+        0,
+        233,
+        Err(SendRefusal::TooLarge {
+            slot: 264,
+            size: 256,
+        }),
+    ),
+    Send(0x8000, 0, 8, Err(SendRefusal::ReservedId { id: 0x8000 })),
+    Send(0x8001, 0, 8, Err(SendRefusal::ReservedId { id: 0x8001 })),
+    Send(0xD123, 0, 8, Err(SendRefusal::ReservedId { id: 0xD123 })),
+    SendShort(Err(SendRefusal::BadSize {
+        stated: 8,
+        given: 7,
+    })),
+    Accepted(0),
+    Send(1, 0, 232, Ok(0)),
+    Level(256),
+];
+
+const SMALL_ROOM: [Step; 10] = [
+    Attach(Ok(0)),
+    Request(0, ANY, ANY, All, Ok(0)),
+    Send(1, 0, 72, Ok(0)),
+    Send(1, 0, 72, Ok(1)),
+    Receive(0, Received::Got { place: 0, start: 0 }),
+    Send(1, 0, 72, Ok(2)),
+    ReceiveInto(0, 71, Received::SmallBuf { need: 72 }),
+    Receive(0, Received::Got { place: 1, start: 0 }),
+    Receive(0, Received::Got { place: 2, start: 0 }),
+    Receive(0, NOTHING),
+];
+
+const MATCHED: [Step; 13] = [
+    Attach(Ok(0)),
+    Attach(Ok(1)),
+    Attach(Ok(2)),
+    Request(0, ANY, ANY, All, Ok(0)),
+    Request(1, ANY, 1, All, Ok(0)),
+    Request(2, ANY, 0, All, Ok(0)),
+    Send(1, 0, 8, Ok(0)),
+    Send(1, 2, 8, Ok(1)),
+    Send(1, 3, 8, Ok(2)),
+    Receive(0, Received::Got { place: 0, start: 0 }),
+    Receive(1, Received::Got { place: 2, start: 0 }),
+    Receive(2, NOTHING),
+    Receive(3, Received::NoClient),
+];
+
+const CANCELLED: [Step; 10] = [
+    Attach(Ok(0)),
+    Request(0, 1, ANY, All, Ok(0)),
+    Request(0, ANY, ANY, All, Ok(1)),
+    Send(1, 0, 8, Ok(0)),
+    Send(2, 0, 8, Ok(1)),
+    Receive(0, Received::Got { place: 0, start: 0 }),
+    Cancel(0, 1, Ok(())),
+    Cancel(0, 1, Err(RequestRefusal::NoRequest)),
+    Cancel(1, 0, Err(RequestRefusal::NoClient)),
+    Receive(0, NOTHING),
+];
+
+const PASSED_OVER: [Step; 12] = [
+    Attach(Ok(0)),
+    Request(0, 2, ANY, All, Ok(0)),
+    Send(1, 0, 8, Ok(0)),
+    Send(1, 0, 8, Ok(1)),
+    Send(1, 0, 8, Ok(2)),
+    Send(1, 0, 8, Ok(3)),
+    Send(1, 0, 8, Ok(4)),
+    Send(1, 0, 8, Ok(5)),
+    Send(1, 0, 8, Ok(6)),
+    Send(1, 0, 8, Ok(7)),
+    Receive(0, NOTHING),
+    Send(1, 0, 8, Ok(8)),
+];
+
+const GATED: [Step; 14] = [
+    Begin(1, Ok(0)),
+    Begin(2, Err(MarkRefusal::GateOpen { start: 1 })),
+    SendInRun(
+        2,
+        Err(SendRefusal::NotRunning {
+            gate: RunGate::Running(1),
+        }),
+    ),
+    Pause(1, Ok(0)),
+    SendInRun(
+        1,
+        Err(SendRefusal::NotRunning {
+            gate: RunGate::Paused(1),
+        }),
+    ),
+    Resume(1, Ok(0)),
+    SendInRun(1, Ok(0)),
+    Pause(1, Ok(1)),
+    End(1, Ok(1)),
+    Begin(1, Err(MarkRefusal::OldStart { last: 1 })),
+    Resume(
+        1,
+        Err(MarkRefusal::WrongGate {
+            gate: RunGate::Shut,
+        }),
+    ),
+    Begin(2, Ok(1)),
+    Resume(
+        2,
+        Err(MarkRefusal::WrongGate {
+            gate: RunGate::Running(2),
+        }),
+    ),
+    End(
+        1,
+        Err(MarkRefusal::WrongGate {
+            gate: RunGate::Running(2),
+        }),
+    ),
+];
+
+/// What events a buffer holds back and gives, and which calls it refuses.
+const ROWS: [&[Step]; 9] = [
+    // A client that must get all events holds back sends.
+    &MUST_GET,
+    // A client that need not get them is pushed.
+    &PUSHED,
+    // Events that nobody is owed are dropped.
+    &NOT_OWED,
+    // Events that are no good are refused.
+    &REFUSED,
+    // A small room leaves the event where it is.
+    &SMALL_ROOM,
+    // Requests match by id and mask.
+    &MATCHED,
+    // A cancelled request asks no more.
+    &CANCELLED,
+    // A client that has passed over all events holds back none.
+    &PASSED_OVER,
+    // The gate lets one run in.
+    &GATED,
+];
+
+fn use_numbers_again<R: Abort + AllocGlobal, B: EventBuffer>(
+    rt: &R,
+    buffer: &mut B,
+) -> Result<(), Fail> {
+    for client in 0..64 {
+        assert_eq!(rt; buffer.attach(name(rt)), Ok(client));
+    }
+    assert_eq!(rt; buffer.attach(name(rt)), Err(NoSlot));
+    for request in 0..10 {
+        assert_eq!(rt; buffer.request(7, 1, ANY, All), Ok(request));
+    }
+    for step in [
+        Request(7, 1, ANY, All, Err(RequestRefusal::NoRequestSlot)),
+        Cancel(7, 3, Ok(())),
+        Request(7, 1, ANY, All, Ok(3)),
+        Detach(5, Ok(())),
+        Detach(5, Err(NoClient)),
+        Request(5, 1, ANY, All, Err(RequestRefusal::NoClient)),
+        Attach(Ok(5)),
+        Request(5, 1, ANY, All, Ok(0)),
+    ] {
+        run_step(rt, buffer, step)?;
+    }
+    Ok(())
+}
+
+fn give_what_was_sent<R: Abort + AllocGlobal, B: EventBuffer>(
+    rt: &R,
+    buffer: &mut B,
+) -> Result<(), Fail> {
+    let mut into = EventBuf::new(rt.alloc(), 8)?;
+    assert_eq!(rt; buffer.attach(name(rt)), Ok(0));
+    assert_eq!(rt; buffer.request(0, ANY, ANY, All), Ok(0));
+    assert_eq!(rt; buffer.begin(4), Ok(0));
+    assert_eq!(rt; buffer.send(&header(1, 3, 8), &[7; 8]), Ok(0));
+    assert_eq!(rt; buffer.send_in_run(4, &header(2, 5, 3), &[1, 2, 3]), Ok(1));
+    assert_eq!(rt; buffer.receive(0, &mut into), got(0));
+    assert_eq!(rt; into.header(), header(1, 3, 8));
+    assert_eq!(rt; into.body(), [7; 8].as_slice());
+    assert_eq!(rt;
+        buffer.receive(0, &mut into),
+        Received::Got { place: 1, start: 4 }
+    );
+    assert_eq!(rt; into.header(), header(2, 5, 3));
+    assert_eq!(rt; into.body(), [1, 2, 3].as_slice());
+    Ok(())
+}
+
+/// A third event goes over the end of the ring, and is received whole.
+fn send_over_the_end<R: Abort + AllocGlobal, B: EventBuffer>(
+    rt: &R,
+    buffer: &mut B,
+) -> Result<(), Fail> {
+    let mut into = EventBuf::new(rt.alloc(), 72)?;
+    let mut small = EventBuf::new(rt.alloc(), 71)?;
+    assert_eq!(rt; buffer.attach(name(rt)), Ok(0));
+    assert_eq!(rt; buffer.request(0, ANY, ANY, All), Ok(0));
+    assert_eq!(rt; buffer.send(&header(1, 0, 72), &[1; 72]), Ok(0));
+    assert_eq!(rt; buffer.send(&header(2, 0, 72), &[2; 72]), Ok(1));
+    assert_eq!(rt; buffer.receive(0, &mut into), got(0));
+    assert_eq!(rt; buffer.send(&header(3, 0, 72), &[3; 72]), Ok(2));
+    assert_eq!(rt; buffer.receive(0, &mut into), got(1));
+    assert_eq!(rt;
+        buffer.receive(0, &mut small),
+        Received::SmallBuf { need: 72 }
+    );
+    assert_eq!(rt; buffer.receive(0, &mut into), got(2));
+    assert_eq!(rt; into.header(), header(3, 0, 72));
+    assert_eq!(rt; into.body(), [3; 72].as_slice());
+    assert_eq!(rt; buffer.detach(0), Ok(()));
+    Ok(())
+}
+
+#[test]
+fn both_buffers_reply_by_the_rows(rt: HostRuntime) -> Result<(), Fail> {
+    for steps in ROWS {
+        run_all(&rt, &mut PlainBuffer::new(rt.alloc(), 256)?, steps)?;
+        run_all(
+            &rt,
+            &mut RingBuffer::over(Ring::new(rt.alloc(), 256)?),
+            steps,
+        )?;
+    }
+    use_numbers_again(&rt, &mut PlainBuffer::new(rt.alloc(), 256)?)?;
+    use_numbers_again(&rt, &mut RingBuffer::over(Ring::new(rt.alloc(), 256)?))?;
+    give_what_was_sent(&rt, &mut PlainBuffer::new(rt.alloc(), 256)?)?;
+    give_what_was_sent(&rt, &mut RingBuffer::over(Ring::new(rt.alloc(), 256)?))?;
+    send_over_the_end(&rt, &mut PlainBuffer::new(rt.alloc(), 256)?)?;
+    send_over_the_end(&rt, &mut RingBuffer::over(Ring::new(rt.alloc(), 256)?))
+}
