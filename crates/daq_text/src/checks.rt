@@ -14,6 +14,8 @@ fn texts(rt: HostRuntime) -> Result<(), Fail> {
         text.as_slice(),
         b"run 18446744073709551615\n-127".as_slice()
     );
+    text.truncate(3);
+    assert_eq!(rt; text.as_slice(), b"run".as_slice());
     text.clear();
     assert!(rt; text.as_slice().is_empty());
     Ok(())

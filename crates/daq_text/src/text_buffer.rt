@@ -1,4 +1,4 @@
-ghost use Rattle.std.specs.Prelude.{◌≡◌, ◌∷◌, ◌++◌, [], OnOk, OnErr};
+ghost use Rattle.std.specs.Prelude.{◌≡◌, ◌∷◌, ◌++◌, [], take, OnOk, OnErr};
 ghost use Rattle.std.specs.Fmt.{decimal, signed_decimal};
 
 use daq_types::NoMemory;
@@ -45,6 +45,13 @@ impl TextBuffer {
         self.bytes.clear();
     }
 
+    /// Takes away all but so many bytes in front. A text that is no longer stays as it is.
+    pub fn truncate(&mut self, len: usize)
+        ensures { self.new ≡ take len self.old }
+    {
+        self.bytes.truncate(len);
+    }
+
     /// These bytes more.
     pub fn text(&mut self, bytes: &[u8]) -> Result<(), NoMemory>
         ensures added { OnOk result (self.new ≡ self.old ++ bytes.now) }
@@ -72,7 +79,7 @@ impl TextBuffer {
         self.text(digits.format(value).as_bytes())
     }
 
-    /// A blank and this number more.
+    /// A blank and this number more. Without memory the blank may be there already.
     pub fn blank_number(&mut self, number: u64) -> Result<(), NoMemory>
         ensures { OnOk result (self.new ≡ self.old ++ 32 ∷ decimal number) }
     {
@@ -82,7 +89,8 @@ impl TextBuffer {
 
     /// The end of a line.
     pub fn end_line(&mut self) -> Result<(), NoMemory>
-        ensures { OnOk result (self.new ≡ self.old ++ 10 ∷ []) }
+        ensures added { OnOk result (self.new ≡ self.old ++ 10 ∷ []) }
+        ensures kept { OnErr result (self.new ≡ self.old) }
     {
         self.text(b"\n")
     }

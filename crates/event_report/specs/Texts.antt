@@ -1,5 +1,5 @@
 -- The text of a report.
-use Rattle.std.specs.Prelude.{ℕ, List, [], ◌∷◌, ◌++◌, ◌&&◌, map, nat_le, codes, if◌then◌else◌}
+use Rattle.std.specs.Prelude.{◌≡◌, ℕ, List, [], ◌∷◌, ◌++◌, ◌&&◌, length, take, map, nat_le, codes, if◌then◌else◌}
 use Rattle.std.specs.List.{flat_map}
 use Rattle.std.specs.Fmt.{decimal, signed_decimal}
 use Rattle.daq_types.specs.Tids.{tid_name}
@@ -8,6 +8,10 @@ use Rattle.event_report.specs.declared.rows.IdRow.{IdRow}
 use Rattle.event_report.specs.declared.rows.BankRow.{BankRow}
 use Rattle.event_report.specs.Integers.{tid_of}
 use Rattle.event_report.specs.Reports.{Totals}
+
+-- The text has the first one in front.
+abbrev pub Begins : (first text : List ℕ) → Type 0
+Begins first text = take (length first) text ≡ first
 
 -- a byte of a bank's name as it is printed: a point where it is no visible character
 abbrev pub visible : ℕ → ℕ
@@ -23,13 +27,16 @@ events_text t = codes "events " ++ decimal t.events
 abbrev pub id_text : IdRow → List ℕ
 id_text r = codes "id " ++ (decimal r.id ++ (codes " count " ++ decimal r.count))
 
+abbrev pub kind_text : BankRow → List ℕ
+kind_text r = codes "bank " ++ (map visible r.name ++ (codes " " ++ tid_name (tid_of r.kind)))
+
 abbrev pub figures_text : Figures → List ℕ
 figures_text f =
     codes " count " ++ (decimal f.count ++ (codes " sum " ++ (signed_decimal f.sum
     ++ (codes " least " ++ (signed_decimal f.least ++ (codes " greatest " ++ signed_decimal f.greatest))))))
 
 abbrev pub bank_text : BankRow → List ℕ
-bank_text r = codes "bank " ++ (map visible r.name ++ (codes " " ++ (tid_name (tid_of r.kind) ++ figures_text r.figures)))
+bank_text r = kind_text r ++ figures_text r.figures
 
 abbrev pub rest_text : Totals → List ℕ
 rest_text t = codes "rest ids " ++ (decimal t.ids.rest ++ (codes " banks " ++ (decimal t.banks.rest ++ (codes " bad " ++ decimal t.bad))))

@@ -2,12 +2,13 @@ ghost use Rattle.std.specs.Prelude.{◌≡◌, ◌+◌, ◌≤◌, ◌^◌, ◌�
 ghost use Rattle.daq_types.specs.declared.events.Event.{Event};
 ghost use Rattle.event_header.specs.Headers.{event_of};
 ghost use Rattle.event_report.specs.Reports.{report_of};
-ghost use Rattle.event_report.specs.Texts.{report_text};
+ghost use Rattle.event_report.specs.Texts.{Begins, events_text, line, report_text, rest_text};
 
 use crate::banks::BankTable;
 use crate::ids::IdTable;
-use crate::texts::{append_banks, append_ids};
+use crate::texts::{append_banks, append_ids, append_named};
 use bank_format::Banks;
+use daq_text::TextBuffer;
 use daq_types::NoMemory;
 use event_header::{HEADER_BYTES, Header};
 use std::alloc::Global;
@@ -69,32 +70,49 @@ impl Report {
 
     /// Appends the text of the report, each line with `start` before it. Without memory enough for it nothing is
     /// appended.
-    pub fn print(&self, alloc: Global, start: &[u8], out: &mut Vec<u8>) -> Result<(), NoMemory>
-        ensures printed { OnOk result (out.new.items ≡ out.old.items ++ report_text start.now self.now) }
-        ensures kept { OnErr result (out.new.items ≡ out.old.items) }
+    pub fn print(&self, start: &[u8], out: &mut TextBuffer) -> Result<(), NoMemory>
+        ensures printed { OnOk result (out.new ≡ out.old ++ report_text start.now self.now) }
+        ensures kept { OnErr result (out.new ≡ out.old) }
     {
-        let text = self.text(alloc, start)?;
-        out.extend_from_slice(&text)?;
-        Ok(())
+        let len = out.as_slice().len();
+        let printed = self.append(start, out);
+        if printed.is_err() {
+            out.truncate(len);
+        }
+        printed
     }
 
-    /// The text, each line with `start` before it.
-    #[tactic(auto, unfolding(crate::specs::Texts::report_text))]
-    fn text(&self, alloc: Global, start: &[u8]) -> Result<Vec<u8>, NoMemory>
-        ensures { IfOk result (λ text. text.items ≡ report_text start.now self.now) }
+    /// Appends the line of the events.
+    fn append_events(&self, start: &[u8], out: &mut TextBuffer) -> Result<(), NoMemory>
+        ensures added { OnOk result (out.new ≡ out.old ++ line start.now (events_text self.now)) }
+        ensures begins { OnErr result (Begins out.old out.new) }
     {
-        let events = self.events;
-        let rest_ids = self.ids.rest();
-        let rest_banks = self.banks.rest();
-        let bad = self.bad;
-        let mut text = Vec::new(alloc);
-        text.extend_from_slice(start)?;
-        text.extend_from_slice(format!(in alloc; "events {events}\n")?.as_bytes())?;
-        append_ids(alloc, self.ids.rows(), start, &mut text)?;
-        append_banks(alloc, self.banks.rows(), start, &mut text)?;
-        let rest = format!(in alloc; "rest ids {rest_ids} banks {rest_banks} bad {bad}\n")?;
-        text.extend_from_slice(start)?;
-        text.extend_from_slice(rest.as_bytes())?;
-        Ok(text)
+        out.text(start)?;
+        append_named(b"events ", self.events, out)?;
+        out.end_line()
+    }
+
+    /// Appends the line of what has no row.
+    fn append_rest(&self, start: &[u8], out: &mut TextBuffer) -> Result<(), NoMemory>
+        ensures added { OnOk result (out.new ≡ out.old ++ line start.now (rest_text self.now)) }
+        ensures begins { OnErr result (Begins out.old out.new) }
+    {
+        out.text(start)?;
+        append_named(b"rest ids ", self.ids.rest(), out)?;
+        append_named(b" banks ", self.banks.rest(), out)?;
+        append_named(b" bad ", self.bad, out)?;
+        out.end_line()
+    }
+
+    /// Appends the text, each line with `start` before it, or some of it.
+    #[tactic(auto, unfolding(crate::specs::Texts::report_text))]
+    fn append(&self, start: &[u8], out: &mut TextBuffer) -> Result<(), NoMemory>
+        ensures added { OnOk result (out.new ≡ out.old ++ report_text start.now self.now) }
+        ensures begins { OnErr result (Begins out.old out.new) }
+    {
+        self.append_events(start, out)?;
+        append_ids(self.ids.rows(), start, out)?;
+        append_banks(self.banks.rows(), start, out)?;
+        self.append_rest(start, out)
     }
 }

@@ -1,5 +1,6 @@
 use crate::{Report, laws};
 use bank_format::{BankWriter, Format};
+use daq_text::TextBuffer;
 use event_header::Header;
 use std::test::Fail;
 
@@ -30,7 +31,7 @@ fn report_text(
     rt: &(impl AllocGlobal),
     events: &[(u16, &[u8])],
     start: &[u8],
-) -> Result<Vec<u8>, Fail> {
+) -> Result<TextBuffer, Fail> {
     let mut report = Report::new(rt.alloc())?;
     let mut left = 1 << 62;
     for (id, body) in events {
@@ -41,8 +42,8 @@ fn report_text(
         left -= need;
         report.fold(&header(*id), body);
     }
-    let mut text = Vec::new(rt.alloc());
-    report.print(rt.alloc(), start, &mut text)?;
+    let mut text = TextBuffer::new(rt.alloc());
+    report.print(start, &mut text)?;
     Ok(text)
 }
 
@@ -162,10 +163,10 @@ fn more_ids_and_banks_than_rows(rt: HostRuntime) -> Result<(), Fail> {
             }
         }
     }
-    let mut text = Vec::new(rt.alloc());
-    report.print(rt.alloc(), b"", &mut text)?;
+    let mut text = TextBuffer::new(rt.alloc());
+    report.print(b"", &mut text)?;
     let end = b"bank B0PP UINT8 count 2 sum 7 least 3 greatest 4\nrest ids 2 banks 2 bad 0\n";
-    assert!(rt; ends_with(&text, end));
+    assert!(rt; ends_with(text.as_slice(), end));
     assert_eq!(rt; text.as_slice().split(|b| *b == b'\n').count(), 515);
     Ok(())
 }

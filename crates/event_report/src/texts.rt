@@ -1,11 +1,12 @@
-ghost use Rattle.std.specs.Prelude.{◌≡◌, ◌++◌, OnOk, map};
+ghost use Rattle.std.specs.Prelude.{◌≡◌, ◌++◌, OnOk, OnErr, map};
+ghost use Rattle.std.specs.Fmt.{decimal};
 ghost use Rattle.std.specs.List.{flat_map};
 ghost use Rattle.event_report.specs.Texts as texts;
-ghost use Rattle.event_report.specs.Texts.{line, id_text, figures_text, bank_text};
+ghost use Rattle.event_report.specs.Texts.{Begins, bank_text, figures_text, id_text, kind_text, line};
 
 use crate::rows::{BankRow, Figures, IdRow};
+use daq_text::TextBuffer;
 use daq_types::NoMemory;
-use std::alloc::Global;
 
 /// A byte of a bank's name as it is printed: a point where it is no visible character.
 fn visible(byte: u8) -> u8
@@ -19,90 +20,88 @@ fn visible(byte: u8) -> u8
 }
 
 /// Appends a name of a bank.
-fn append_name(name: [u8; 4], text: &mut Vec<u8>) -> Result<(), NoMemory>
-    ensures { OnOk result (text.new.items ≡ text.old.items ++ map texts.visible name) }
+fn append_name(name: [u8; 4], text: &mut TextBuffer) -> Result<(), NoMemory>
+    ensures added { OnOk result (text.new ≡ text.old ++ map texts.visible name) }
+    ensures kept { OnErr result (text.new ≡ text.old) }
 {
     let [a, b, c, d] = name;
-    text.extend_from_slice(&[visible(a), visible(b), visible(c), visible(d)])?;
-    Ok(())
+    text.text(&[visible(a), visible(b), visible(c), visible(d)])
+}
+
+/// Appends words and a number.
+pub fn append_named(name: &[u8], number: u64, text: &mut TextBuffer) -> Result<(), NoMemory>
+    ensures added { OnOk result (text.new ≡ text.old ++ (name.now ++ decimal number)) }
+    ensures begins { OnErr result (Begins text.old text.new) }
+{
+    text.text(name)?;
+    text.number(number)
 }
 
 /// Appends the line of an id.
-pub fn append_id(
-    alloc: Global,
-    row: &IdRow,
-    start: &[u8],
-    text: &mut Vec<u8>,
-) -> Result<(), NoMemory>
-    ensures { OnOk result (text.new.items ≡ text.old.items ++ line start.now (id_text row.now)) }
+fn append_id(row: &IdRow, start: &[u8], text: &mut TextBuffer) -> Result<(), NoMemory>
+    ensures added { OnOk result (text.new ≡ text.old ++ line start.now (id_text row.now)) }
+    ensures begins { OnErr result (Begins text.old text.new) }
 {
-    let IdRow { id, count } = *row;
-    let words = format!(in alloc; "id {id} count {count}\n")?;
-    text.extend_from_slice(start)?;
-    text.extend_from_slice(words.as_bytes())?;
-    Ok(())
+    text.text(start)?;
+    append_named(b"id ", row.id as u64, text)?;
+    append_named(b" count ", row.count, text)?;
+    text.end_line()
+}
+
+/// Appends the name and the type of banks.
+fn append_kind(row: &BankRow, text: &mut TextBuffer) -> Result<(), NoMemory>
+    ensures added { OnOk result (text.new ≡ text.old ++ kind_text row.now) }
+    ensures begins { OnErr result (Begins text.old text.new) }
+{
+    text.text(b"bank ")?;
+    append_name(row.name, text)?;
+    text.text(b" ")?;
+    text.text(row.kind.tid().name().as_bytes())
 }
 
 /// Appends figures.
-fn append_figures(alloc: Global, figures: &Figures, text: &mut Vec<u8>) -> Result<(), NoMemory>
-    ensures { OnOk result (text.new.items ≡ text.old.items ++ figures_text figures.now) }
+fn append_figures(figures: &Figures, text: &mut TextBuffer) -> Result<(), NoMemory>
+    ensures added { OnOk result (text.new ≡ text.old ++ figures_text figures.now) }
+    ensures begins { OnErr result (Begins text.old text.new) }
 {
-    let Figures {
-        count,
-        sum,
-        least,
-        greatest,
-    } = *figures;
-    let words = format!(in alloc; " count {count} sum {sum} least {least} greatest {greatest}")?;
-    text.extend_from_slice(words.as_bytes())?;
-    Ok(())
+    append_named(b" count ", figures.count, text)?;
+    text.text(b" sum ")?;
+    text.signed(figures.sum)?;
+    text.text(b" least ")?;
+    text.signed(figures.least)?;
+    text.text(b" greatest ")?;
+    text.signed(figures.greatest)
 }
 
 /// Appends the line of a name and type of banks.
-pub fn append_bank(
-    alloc: Global,
-    row: &BankRow,
-    start: &[u8],
-    text: &mut Vec<u8>,
-) -> Result<(), NoMemory>
-    ensures { OnOk result (text.new.items ≡ text.old.items ++ line start.now (bank_text row.now)) }
+fn append_bank(row: &BankRow, start: &[u8], text: &mut TextBuffer) -> Result<(), NoMemory>
+    ensures added { OnOk result (text.new ≡ text.old ++ line start.now (bank_text row.now)) }
+    ensures begins { OnErr result (Begins text.old text.new) }
 {
-    text.extend_from_slice(start)?;
-    text.extend_from_slice(b"bank ")?;
-    append_name(row.name, text)?;
-    text.push(b' ')?;
-    text.extend_from_slice(row.kind.tid().name().as_bytes())?;
-    append_figures(alloc, &row.figures, text)?;
-    text.push(b'\n')?;
-    Ok(())
+    text.text(start)?;
+    append_kind(row, text)?;
+    append_figures(&row.figures, text)?;
+    text.end_line()
 }
 
 /// Appends the lines of ids.
-pub fn append_ids(
-    alloc: Global,
-    rows: &[IdRow],
-    start: &[u8],
-    text: &mut Vec<u8>,
-) -> Result<(), NoMemory>
-    ensures { OnOk result (text.new.items ≡ text.old.items ++ flat_map (λ r. line start.now (id_text r)) rows.now) }
+pub fn append_ids(rows: &[IdRow], start: &[u8], text: &mut TextBuffer) -> Result<(), NoMemory>
+    ensures added { OnOk result (text.new ≡ text.old ++ flat_map (λ r. line start.now (id_text r)) rows.now) }
+    ensures begins { OnErr result (Begins text.old text.new) }
 {
     for row in rows {
-        append_id(alloc, row, start, text)?;
+        append_id(row, start, text)?;
     }
     Ok(())
 }
 
 /// Appends the lines of names and types of banks.
-pub fn append_banks(
-    alloc: Global,
-    rows: &[BankRow],
-    start: &[u8],
-    text: &mut Vec<u8>,
-) -> Result<(), NoMemory>
-    ensures { OnOk result (text.new.items ≡ text.old.items ++ flat_map (λ r. line start.now (bank_text r)) rows.now) }
+pub fn append_banks(rows: &[BankRow], start: &[u8], text: &mut TextBuffer) -> Result<(), NoMemory>
+    ensures added { OnOk result (text.new ≡ text.old ++ flat_map (λ r. line start.now (bank_text r)) rows.now) }
+    ensures begins { OnErr result (Begins text.old text.new) }
 {
     for row in rows {
-        append_bank(alloc, row, start, text)?;
+        append_bank(row, start, text)?;
     }
     Ok(())
 }

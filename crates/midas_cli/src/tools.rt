@@ -19,7 +19,7 @@ fn cause_of<F: Files>(end: ToolEnd, files: &F) -> Cause
 {
     match end {
         ToolEnd::Done => Cause::Done,
-        ToolEnd::Input { fault } => Cause::BadInput { fault },
+        ToolEnd::Input(fault) => Cause::BadInput { fault },
         ToolEnd::FileFault => match files.first_fault() {
             Some(name) => Cause::FileFault { name },
             None => unreachable!(),

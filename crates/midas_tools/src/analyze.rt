@@ -6,10 +6,10 @@ ghost use Rattle.midas_tools.specs.Findings.{ClashCounts, Completes, FileCounts,
 
 use crate::ends::ToolEnd;
 use crate::lines::add_run;
-use crate::page::Page;
 use crate::summary::Summary;
 use crate::telling::tell_file;
 use daq_io::{Files, Sink};
+use daq_text::TextBuffer;
 use daq_types::{FileName, NoMemory};
 use event_header::EventBuf;
 use event_report::Report;
@@ -28,9 +28,9 @@ impl Summary for Report {
         self.fold(&event.header(), event.body());
     }
 
-    fn tell(&self, alloc: Global, run: u32, bytes: u64, page: &mut Page) -> Result<(), NoMemory> {
+    fn tell(&self, run: u32, bytes: u64, page: &mut TextBuffer) -> Result<(), NoMemory> {
         add_run(page, run)?;
-        page.report(alloc, self)
+        self.print(b"", page)
     }
 }
 

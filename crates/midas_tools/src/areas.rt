@@ -2,13 +2,13 @@ ghost use Rattle.std.specs.Prelude.{◌≡◌, ◌++◌, OnOk};
 ghost use Rattle.midas_tools.specs.Areas.{AreBankLines, AreEventLines, Adds, bank_lines};
 
 use crate::lines::{add_bank, add_event, add_no_banks};
-use crate::page::Page;
 use bank_format::Banks;
+use daq_text::TextBuffer;
 use daq_types::NoMemory;
 use event_header::EventBuf;
 
 /// Adds a line for each bank that was not given yet.
-fn add_banks(page: &mut Page, banks: &mut Banks) -> Result<(), NoMemory>
+fn add_banks(page: &mut TextBuffer, banks: &mut Banks) -> Result<(), NoMemory>
     ensures { OnOk result (page.new ≡ page.old ++ bank_lines banks.old.left) }
 {
     while let Some(bank) = banks.next() {
@@ -18,7 +18,7 @@ fn add_banks(page: &mut Page, banks: &mut Banks) -> Result<(), NoMemory>
 }
 
 /// Adds the lines of the banks of these data, or why they are no bank area.
-fn add_area(page: &mut Page, body: &[u8]) -> Result<(), NoMemory>
+fn add_area(page: &mut TextBuffer, body: &[u8]) -> Result<(), NoMemory>
     ensures { OnOk result (Adds (AreBankLines body.now) page.old page.new) }
 {
     match Banks::read(body) {
@@ -28,7 +28,7 @@ fn add_area(page: &mut Page, body: &[u8]) -> Result<(), NoMemory>
 }
 
 /// Adds the lines of an event and of its banks.
-pub fn add_whole_event(page: &mut Page, event: &EventBuf) -> Result<(), NoMemory>
+pub fn add_whole_event(page: &mut TextBuffer, event: &EventBuf) -> Result<(), NoMemory>
     ensures { OnOk result (Adds (AreEventLines event.now.event) page.old page.new) }
 {
     add_event(page, event)?;

@@ -5,10 +5,10 @@ ghost use Rattle.midas_tools.specs.Findings.{ClashCounts, Completes, FileCounts,
 
 use crate::ends::ToolEnd;
 use crate::lines::add_ok;
-use crate::page::Page;
 use crate::summary::Summary;
 use crate::telling::tell_file;
 use daq_io::{Files, Sink};
+use daq_text::TextBuffer;
 use daq_types::{FileName, NoMemory};
 use event_header::EventBuf;
 use std::alloc::Global;
@@ -32,7 +32,7 @@ impl Summary for EventCount {
         self.events += 1;
     }
 
-    fn tell(&self, alloc: Global, run: u32, bytes: u64, page: &mut Page) -> Result<(), NoMemory> {
+    fn tell(&self, run: u32, bytes: u64, page: &mut TextBuffer) -> Result<(), NoMemory> {
         add_ok(page, run, self.events, bytes)
     }
 }

@@ -4,8 +4,8 @@ ghost use Rattle.midas_tools.specs.Findings.{Closed, FaultEnds, FinishesFile, Pr
 use crate::ends::{InputFault, ToolEnd};
 use crate::lines::add_bad;
 use crate::opening::{Refused, close};
-use crate::page::Page;
 use daq_io::{FileSource, Files, Sink, write_all};
+use daq_text::TextBuffer;
 use mid_format::MidFault;
 
 /// Writes a text, and answers the end that it tells of, or that the sink failed.
@@ -24,19 +24,19 @@ pub fn refuse<K: Sink>(refused: Refused, out: &mut K) -> ToolEnd
 {
     match refused {
         Refused::NameCompressed => {
-            let fault = InputFault::Compressed;
-            print(ToolEnd::Input { fault }, b"bad Compressed\n", out)
+            let end = ToolEnd::Input(InputFault::Compressed);
+            print(end, b"bad Compressed\n", out)
         }
         Refused::NameMissing => {
-            let fault = InputFault::Missing;
-            print(ToolEnd::Input { fault }, b"bad Missing\n", out)
+            let end = ToolEnd::Input(InputFault::Missing);
+            print(end, b"bad Missing\n", out)
         }
         Refused::OpenFailed => ToolEnd::FileFault,
     }
 }
 
 /// The end at this fault of a file, whose line is put on the page.
-pub fn stop_at(fault: MidFault, page: &mut Page) -> ToolEnd
+pub fn stop_at(fault: MidFault, page: &mut TextBuffer) -> ToolEnd
     ensures { FaultEnds fault page.old page.new result }
 {
     match fault {
@@ -45,8 +45,7 @@ pub fn stop_at(fault: MidFault, page: &mut Page) -> ToolEnd
             if add_bad(page, fault).is_err() {
                 return ToolEnd::NoMemory;
             }
-            let fault = InputFault::Mid { fault };
-            ToolEnd::Input { fault }
+            ToolEnd::Input(InputFault::Mid(fault))
         }
     }
 }
@@ -55,7 +54,7 @@ pub fn stop_at(fault: MidFault, page: &mut Page) -> ToolEnd
 pub fn finish<F: Files, K: Sink>(
     end: ToolEnd,
     source: FileSource<F>,
-    page: &Page,
+    page: &TextBuffer,
     out: &mut K,
 ) -> (ToolEnd, F)
     ensures finished { FinishesFile page.now (K.written out.old) (K.written out.new) (K.faults out.old) (K.faults out.new) (F.faults source.files) (F.faults result.1) end result.0 }
@@ -63,11 +62,8 @@ pub fn finish<F: Files, K: Sink>(
 {
     let (closed, files) = close(source);
     match (end, closed) {
-        (ToolEnd::Done | ToolEnd::Input { .. }, Ok(())) => (
-            print(end, page.as_slice(), out),
-            files,
-        ),
-        (ToolEnd::Done | ToolEnd::Input { .. }, Err(_)) => (ToolEnd::FileFault, files),
+        (ToolEnd::Done | ToolEnd::Input(_), Ok(())) => (print(end, page.as_slice(), out), files),
+        (ToolEnd::Done | ToolEnd::Input(_), Err(_)) => (ToolEnd::FileFault, files),
         _ => (end, files),
     }
 }
@@ -79,7 +75,7 @@ pub fn close_dump<F: Files>(end: ToolEnd, source: FileSource<F>) -> (ToolEnd, F)
 {
     let (closed, files) = close(source);
     match (end, closed) {
-        (ToolEnd::Done | ToolEnd::Input { .. }, Err(_)) => (ToolEnd::FileFault, files),
+        (ToolEnd::Done | ToolEnd::Input(_), Err(_)) => (ToolEnd::FileFault, files),
         _ => (end, files),
     }
 }

@@ -11,15 +11,16 @@ use crate::ends::ToolEnd;
 use crate::halts::{Halt, halt_behind};
 use crate::lines::add_record;
 use crate::opening::open;
-use crate::page::{Page, flush, flush_full};
+use crate::page::{flush, flush_full};
 use daq_io::{Files, Sink, Source};
+use daq_text::TextBuffer;
 use daq_types::{FileName, NoMemory};
 use event_header::{EventBuf, Header, MAX_DATA};
 use mid_format::{MidFault, MidReader};
 use std::alloc::Global;
 
 /// Adds the line of the begin record, where it was read just now.
-fn add_begin(page: &mut Page, begun: bool, begin: Option<Header>) -> Result<(), NoMemory>
+fn add_begin(page: &mut TextBuffer, begun: bool, begin: Option<Header>) -> Result<(), NoMemory>
     ensures added { OnOk result (page.new ≡ page.old ++ new_begin begun begin) }
     ensures none { IsTrue begun → IsOk result }
 {
@@ -33,7 +34,7 @@ fn add_begin(page: &mut Page, begun: bool, begin: Option<Header>) -> Result<(), 
 }
 
 /// Adds the line of the end record, where it was read.
-fn add_end(page: &mut Page, last: Option<Header>) -> Result<(), NoMemory>
+fn add_end(page: &mut TextBuffer, last: Option<Header>) -> Result<(), NoMemory>
     ensures { OnOk result (page.new ≡ page.old ++ end_lines last) }
 {
     match last {
@@ -46,7 +47,7 @@ fn add_end(page: &mut Page, last: Option<Header>) -> Result<(), NoMemory>
 fn print_events<S: Source, K: Sink>(
     reader: &mut MidReader<S>,
     event: &mut EventBuf,
-    page: &mut Page,
+    page: &mut TextBuffer,
     out: &mut K,
 ) -> Result<(), Halt>
     requires new { reader.old.progress ≡ nothing_read }
@@ -78,7 +79,7 @@ fn print_events<S: Source, K: Sink>(
 fn end_dump<K: Sink>(
     last: Option<Header>,
     fault: Option<MidFault>,
-    page: &mut Page,
+    page: &mut TextBuffer,
     out: &mut K,
 ) -> ToolEnd
     ensures text { (first : Option (List ℕ)) → (text : List ℕ) → Prints first (K.written out.old) page.old text → EndsText last fault first (K.written out.new) text result }
@@ -98,7 +99,7 @@ fn end_dump<K: Sink>(
 
 /// Prints what is on the page, and then the line of the end record, where it was read and there is memory for it. The
 /// source failed behind that.
-fn end_unread<K: Sink>(last: Option<Header>, page: &mut Page, out: &mut K) -> ToolEnd
+fn end_unread<K: Sink>(last: Option<Header>, page: &mut TextBuffer, out: &mut K) -> ToolEnd
     ensures text { (first : Option (List ℕ)) → (text : List ℕ) → Prints first (K.written out.old) page.old text → EndsUnread last first (K.written out.new) text result }
     ensures sink { SinkCounts result (K.faults out.old) (K.faults out.new) }
 {
@@ -126,7 +127,7 @@ fn read_and_dump<S: Source, K: Sink>(
     let Ok(mut event) = EventBuf::new(alloc, MAX_DATA) else {
         return ToolEnd::NoMemory;
     };
-    let mut page = Page::new(alloc);
+    let mut page = TextBuffer::new(alloc);
     match print_events(reader, &mut event, &mut page, out) {
         Ok(()) => end_dump(reader.last(), None, &mut page, out),
         Err(Halt::Bad { fault }) => match fault {

@@ -4,7 +4,7 @@ use mid_format::MidFault;
 #[derive(Clone, Copy, Debug, PartialEq, Eq)]
 pub enum InputFault {
     /// The file is no run file. The fault is the first in the file, and never `ReadFault`.
-    Mid { fault: MidFault },
+    Mid(MidFault),
     /// The name of the file ends as those of compressed files do.
     Compressed,
     /// There is no file of that name.
@@ -19,7 +19,7 @@ pub enum ToolEnd {
     /// The file is a run file, and all of the text was written.
     Done,
     /// The file is none, or is not there; all of the text was written.
-    Input { fault: InputFault },
+    Input(InputFault),
     /// A call on the files failed.
     FileFault,
     /// A call on the sink failed.

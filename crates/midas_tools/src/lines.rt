@@ -3,22 +3,22 @@ ghost use Rattle.bank_format.specs.BankAreas.{BankValue, bank_value};
 ghost use Rattle.midas_tools.specs.Texts.{area_fault_text, bad_line, bank_line, event_line, fault_text, no_banks_line, number_text, ok_line, record_line, run_line, shown, type_of, type_text};
 
 use crate::ends::InputFault;
-use crate::page::Page;
 use bank_format::{Bank, BankFault};
+use daq_text::TextBuffer;
 use daq_types::{NoMemory, Tid};
 use event_header::{EventBuf, Header};
 use mid_format::MidFault;
 
 /// Adds a name and the number behind it.
-fn add_named(page: &mut Page, name: &[u8], value: u64) -> Result<(), NoMemory>
+fn add_named(page: &mut TextBuffer, name: &[u8], value: u64) -> Result<(), NoMemory>
     ensures { OnOk result (page.new ≡ page.old ++ (name.now ++ number_text value)) }
 {
     page.text(name)?;
-    page.number(value)
+    page.blank_number(value)
 }
 
 /// Adds the name of a fault of a run file, and its numbers.
-fn add_fault(page: &mut Page, fault: MidFault) -> Result<(), NoMemory>
+fn add_fault(page: &mut TextBuffer, fault: MidFault) -> Result<(), NoMemory>
     ensures { OnOk result (page.new ≡ page.old ++ fault_text fault) }
 {
     match fault {
@@ -28,7 +28,7 @@ fn add_fault(page: &mut Page, fault: MidFault) -> Result<(), NoMemory>
         MidFault::AfterEnd { at } => add_named(page, b"AfterEnd", at),
         MidFault::TooBig { at, size } => {
             add_named(page, b"TooBig", at)?;
-            page.number(size as u64)
+            page.blank_number(size as u64)
         }
         MidFault::ReadFault => page.text(b"ReadFault"),
         MidFault::BadRecord { at } => add_named(page, b"BadRecord", at),
@@ -37,7 +37,7 @@ fn add_fault(page: &mut Page, fault: MidFault) -> Result<(), NoMemory>
 }
 
 /// Adds the line that says what is wrong with a run file.
-pub fn add_bad(page: &mut Page, fault: MidFault) -> Result<(), NoMemory>
+pub fn add_bad(page: &mut TextBuffer, fault: MidFault) -> Result<(), NoMemory>
     ensures { OnOk result (page.new ≡ page.old ++ bad_line (InputFault.Mid fault)) }
 {
     page.text(b"bad ")?;
@@ -46,7 +46,7 @@ pub fn add_bad(page: &mut Page, fault: MidFault) -> Result<(), NoMemory>
 }
 
 /// Adds the line of a run file that is good.
-pub fn add_ok(page: &mut Page, run: u32, events: u64, bytes: u64) -> Result<(), NoMemory>
+pub fn add_ok(page: &mut TextBuffer, run: u32, events: u64, bytes: u64) -> Result<(), NoMemory>
     ensures { OnOk result (page.new ≡ page.old ++ ok_line run events bytes) }
 {
     add_named(page, b"ok run", run as u64)?;
@@ -56,7 +56,7 @@ pub fn add_ok(page: &mut Page, run: u32, events: u64, bytes: u64) -> Result<(), 
 }
 
 /// Adds the line that tells which run a file is of.
-pub fn add_run(page: &mut Page, run: u32) -> Result<(), NoMemory>
+pub fn add_run(page: &mut TextBuffer, run: u32) -> Result<(), NoMemory>
     ensures { OnOk result (page.new ≡ page.old ++ run_line run) }
 {
     add_named(page, b"run", run as u64)?;
@@ -64,25 +64,25 @@ pub fn add_run(page: &mut Page, run: u32) -> Result<(), NoMemory>
 }
 
 /// Adds the line of the begin record or the end record.
-pub fn add_record(page: &mut Page, word: &[u8], header: &Header) -> Result<(), NoMemory>
+pub fn add_record(page: &mut TextBuffer, word: &[u8], header: &Header) -> Result<(), NoMemory>
     ensures { OnOk result (page.new ≡ page.old ++ record_line word.now header.now) }
 {
     add_named(page, word, header.serial_number as u64)?;
-    page.number(header.time_stamp as u64)?;
-    page.number(header.data_size as u64)?;
+    page.blank_number(header.time_stamp as u64)?;
+    page.blank_number(header.data_size as u64)?;
     page.end_line()
 }
 
 /// Adds the line of an event.
-pub fn add_event(page: &mut Page, event: &EventBuf) -> Result<(), NoMemory>
+pub fn add_event(page: &mut TextBuffer, event: &EventBuf) -> Result<(), NoMemory>
     ensures { OnOk result (page.new ≡ page.old ++ event_line event.now.event) }
 {
     let header = event.header();
     add_named(page, b"event", header.event_id as u64)?;
-    page.number(header.trigger_mask as u64)?;
-    page.number(header.serial_number as u64)?;
-    page.number(header.time_stamp as u64)?;
-    page.number(header.data_size as u64)?;
+    page.blank_number(header.trigger_mask as u64)?;
+    page.blank_number(header.serial_number as u64)?;
+    page.blank_number(header.time_stamp as u64)?;
+    page.blank_number(header.data_size as u64)?;
     page.end_line()
 }
 
@@ -99,7 +99,7 @@ fn shown(byte: u8) -> u8
 }
 
 /// Adds a bank's name.
-fn add_name(page: &mut Page, name: [u8; 4]) -> Result<(), NoMemory>
+fn add_name(page: &mut TextBuffer, name: [u8; 4]) -> Result<(), NoMemory>
     ensures { OnOk result (page.new ≡ page.old ++ map shown name) }
 {
     let [a, b, c, d] = name;
@@ -107,7 +107,7 @@ fn add_name(page: &mut Page, name: [u8; 4]) -> Result<(), NoMemory>
 }
 
 /// Adds a type's name, or its number where it has none.
-fn add_type(page: &mut Page, code: u32) -> Result<(), NoMemory>
+fn add_type(page: &mut TextBuffer, code: u32) -> Result<(), NoMemory>
     ensures { OnOk result (page.new ≡ page.old ++ (32 ∷ type_text code)) }
 {
     match Tid::from_code(code) {
@@ -115,23 +115,23 @@ fn add_type(page: &mut Page, code: u32) -> Result<(), NoMemory>
             page.text(b" ")?;
             page.text(tid.name().as_bytes())
         }
-        None => page.number(code as u64),
+        None => page.blank_number(code as u64),
     }
 }
 
 /// Adds the line of a bank.
-pub fn add_bank(page: &mut Page, bank: &Bank) -> Result<(), NoMemory>
+pub fn add_bank(page: &mut TextBuffer, bank: &Bank) -> Result<(), NoMemory>
     ensures { OnOk result (page.new ≡ page.old ++ bank_line (bank_value bank.now.name bank.now.tid bank.now.body.now)) }
 {
     page.text(b"  bank ")?;
     add_name(page, bank.name)?;
     add_type(page, bank.tid)?;
-    page.number(bank.body.len() as u64)?;
+    page.blank_number(bank.body.len() as u64)?;
     page.end_line()
 }
 
 /// Adds why the data of an event are no bank area.
-fn add_area_fault(page: &mut Page, fault: BankFault) -> Result<(), NoMemory>
+fn add_area_fault(page: &mut TextBuffer, fault: BankFault) -> Result<(), NoMemory>
     ensures { OnOk result (page.new ≡ page.old ++ area_fault_text fault) }
 {
     match fault {
@@ -142,7 +142,7 @@ fn add_area_fault(page: &mut Page, fault: BankFault) -> Result<(), NoMemory>
 }
 
 /// Adds the line of data that are no bank area.
-pub fn add_no_banks(page: &mut Page, fault: BankFault) -> Result<(), NoMemory>
+pub fn add_no_banks(page: &mut TextBuffer, fault: BankFault) -> Result<(), NoMemory>
     ensures { OnOk result (page.new ≡ page.old ++ no_banks_line fault) }
 {
     page.text(b"  no banks ")?;

@@ -2,7 +2,7 @@ ghost use Rattle.std.specs.Prelude.{◌≡◌, ◌++◌, ◌∷◌, ℕ, List, [
 ghost use Rattle.daq_types.specs.declared.events.Event.{Event};
 ghost use Rattle.midas_tools.specs.Summaries.{HasRoom};
 
-use crate::page::Page;
+use daq_text::TextBuffer;
 use daq_types::NoMemory;
 use event_header::EventBuf;
 use std::alloc::Global;
@@ -25,6 +25,6 @@ pub trait Summary: Drop {
         ensures { (events : List Event) → sums self.old events → sums self.new (events ++ event.now.event ∷ []) };
 
     /// Adds to the page what is printed of a run file with these events.
-    fn tell(&self, alloc: Global, run: u32, bytes: u64, page: &mut Page) -> Result<(), NoMemory>
+    fn tell(&self, run: u32, bytes: u64, page: &mut TextBuffer) -> Result<(), NoMemory>
         ensures { (events : List Event) → sums self.now events → OnOk result (page.new ≡ page.old ++ text run events bytes) };
 }

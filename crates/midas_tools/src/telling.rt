@@ -8,9 +8,9 @@ ghost use Rattle.midas_tools.specs.Findings.{ClashCounts, Completes, FileCounts,
 use crate::closing::{finish, refuse, stop_at};
 use crate::ends::ToolEnd;
 use crate::opening::open;
-use crate::page::Page;
 use crate::summary::Summary;
 use daq_io::{Files, Sink, Source};
+use daq_text::TextBuffer;
 use daq_types::FileName;
 use event_header::{EventBuf, MAX_DATA};
 use mid_format::{MidFault, MidReader};
@@ -43,7 +43,7 @@ fn sum_events<S: Source, T: Summary>(
 fn read_and_tell<S: Source, T: Summary>(
     alloc: Global,
     reader: &mut MidReader<S>,
-    page: &mut Page,
+    page: &mut TextBuffer,
 ) -> ToolEnd
     requires new { reader.old.progress ≡ nothing_read }
     requires blank { page.old ≡ [] }
@@ -60,7 +60,7 @@ fn read_and_tell<S: Source, T: Summary>(
     match sum_events(reader, &mut event, &mut summary) {
         Ok(()) => {
             let run = reader.run().unwrap_or(0);
-            if summary.tell(alloc, run, reader.place(), page).is_err() {
+            if summary.tell(run, reader.place(), page).is_err() {
                 return ToolEnd::NoMemory;
             }
             ToolEnd::Done
@@ -87,7 +87,7 @@ pub fn tell_file<F: Files, K: Sink, T: Summary>(
     match open(files, name) {
         Ok(source) => {
             let mut reader = MidReader::new(source);
-            let mut page = Page::new(alloc);
+            let mut page = TextBuffer::new(alloc);
             let end = read_and_tell::<_, T>(alloc, &mut reader, &mut page);
             finish(end, reader.into_source(), &page, out)
         }

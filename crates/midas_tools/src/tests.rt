@@ -162,12 +162,12 @@ fn names_that_are_no_file(rt: HostRuntime) -> Result<(), Fail> {
         let files = MemFiles::new(alloc, 1, 1000, Vec::new(alloc))?;
         let mut out = MemSink::new(alloc, 1000, Vec::new(alloc))?;
         let (end, files) = check_file(alloc, files, &name, &mut out);
-        assert_eq!(rt; end, ToolEnd::Input { fault });
+        assert_eq!(rt; end, ToolEnd::Input(fault));
         assert_eq!(rt; out.bytes(), line.as_bytes());
         let (end, files) = dump_file(alloc, files, &name, &mut out);
-        assert_eq!(rt; end, ToolEnd::Input { fault });
+        assert_eq!(rt; end, ToolEnd::Input(fault));
         let (end, _files) = analyze_file(alloc, files, &name, &mut out);
-        assert_eq!(rt; end, ToolEnd::Input { fault });
+        assert_eq!(rt; end, ToolEnd::Input(fault));
     }
     Ok(())
 }

@@ -4,4 +4,5 @@ use Rattle.event_report.specs.Texts.{line, id_text}
 use Rattle.event_report.proofs.texts.append_ids.Given as goal
 
 abbrev pub invariant-loop-row : goal.invariant-loop-row
-invariant-loop-row l = l.text.items ≡ l.initial.text.items ++ flat_map (λ r. line l.start (id_text r)) (take l.row-index l.rows)
+invariant-loop-row l =
+    l.text ≡ l.initial.text ++ flat_map (λ r. line l.start (id_text r)) (take l.row-index l.rows)

@@ -15,4 +15,4 @@ returns-in_ok-text-in-Some c =
 
 pub returns-in-None : goal.returns-in-None
 returns-in-None c =
-    subst (λ (o : Option Tid). OnOk c.number.result (c.number.new.self ≡ c.args.page.now ++ (32 ∷ name_or o c.args.code))) (sym (type_is_none c.args.code c.in-None.ensures.none)) c.number.ensures
+    subst (λ (o : Option Tid). OnOk c.blank_number.result (c.blank_number.new.self ≡ c.args.page.now ++ (32 ∷ name_or o c.args.code))) (sym (type_is_none c.args.code c.in-None.ensures.none)) c.blank_number.ensures
