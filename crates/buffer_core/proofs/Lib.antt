@@ -12,3 +12,4 @@ pub mod Rising
 pub mod Reading
 pub mod Sampled
 pub mod Searching
+pub mod NewNumbers

@@ -12,6 +12,6 @@ pub mod Delivered
 pub mod Runs
 pub mod Continued
 pub mod Readers
-pub mod Samples
 pub mod Searches
 pub mod Ports
+pub mod Samples

@@ -1,5 +1,5 @@
 -- What a port to a buffer tells of its caller's own calls.
-use Rattle.std.specs.Prelude.{◌≡◌, ℕ, ◌+◌, ◌≤◌, ◌<◌, ◌==◌, ◌&&◌, nat_le, Bool, true, false, if◌then◌else◌, IsTrue, List, [], ◌∷◌, ◌++◌, length, Contains, Ok, ⊤}
+use Rattle.std.specs.Prelude.{◌≡◌, ℕ, ◌+◌, ◌≤◌, ◌<◌, ◌==◌, ◌&&◌, nat_le, true, false, if◌then◌else◌, List, [], ◌∷◌, ◌++◌, length, slice_get, Contains, Some, Ok, ⊤, ◌⊎◌}
 use Rattle.daq_types.specs.declared.events.Event.{Event}
 use Rattle.daq_model.specs.Events.{slot_size, is_reserved, event_limit}
 use Rattle.buffer_core.specs.declared.replies.SendRefusal.{SendRefusal}
@@ -23,9 +23,23 @@ pub record GotEvent : Type 0 where
   pub start : ℕ
   pub event : Event
 
--- One caller's access to a buffer: the caller's number; the buffer's size; the caller's own calls with their replies, in
--- order; the events that its clients got by them, in order; the numbers of the clients that other callers detached, as far as
--- is known; and room for so many calls more, which hand over so many bytes of data.
+-- which event that is: the client's number, the event's place, and its start number
+abbrev pub name_of : GotEvent → ℕ × ℕ × ℕ
+name_of g = (g.client, g.place, g.start)
+
+abbrev pub name_given : BufferEntry → List (ℕ × ℕ × ℕ)
+name_given (Receive client room (Got place start)) = (client, place, start) ∷ []
+name_given entry = []
+
+-- the events that these calls gave, as their replies name them
+abbrev pub names_given : List BufferEntry → List (ℕ × ℕ × ℕ)
+names_given [] = []
+names_given (e ∷ es) = name_given e ++ names_given es
+
+-- One caller's access to a buffer: the caller's number; the buffer's size; the caller's own calls
+-- with their replies, in order; the events that its clients got by them, in order; which of its own
+-- calls, counted from 0, gave it clients that other callers detached, as far as is known; and room
+-- for so many calls more, which hand over so many bytes of data.
 pub record Access : Type 0 where
   pub caller : ℕ
   pub size : ℕ
@@ -35,13 +49,32 @@ pub record Access : Type 0 where
   pub entries : ℕ
   pub bytes : ℕ
 
--- one call more, after which the clients have got these events
+-- this one of the own calls was an attach that gave the caller the client, and no own call detached
+-- the client since
+pub record IsGivenAt (own : List BufferEntry) (call client : ℕ) : Type 0 where
+  pub name : List ℕ
+  pub given : slice_get own call ≡ Some (Attach name (Ok client))
+  pub stays : (later : ℕ) → call < later → slice_get own later ≡ Some (Detach client (Ok tt)) → ⊥
+
+-- a number that an attach may give: another caller detached each client that the caller was given
+-- under this number and did not detach itself
+abbrev pub IsNewNumber : Access → (client : ℕ) → Type 0
+IsNewNumber a client = (call : ℕ) → IsGivenAt a.own call client → Contains a.taken_back call
+
+-- this access, with what is known of other callers by then
+abbrev pub knowing : Access → (later : Access) → Access
+knowing a later = record a { taken_back = later.taken_back }
+
+-- One call more, after which the clients have got these events. What was known of other callers
+-- stays known, and only of clients that the caller had there may more be known.
 pub record Called (a b : Access) (entry : BufferEntry) (got : List GotEvent) : Type 0 where
   pub caller : b.caller ≡ a.caller
   pub size : b.size ≡ a.size
   pub own : b.own ≡ a.own ++ entry ∷ []
   pub got_is : b.got ≡ got
-  pub taken_back : (client : ℕ) → Contains a.taken_back client → Contains b.taken_back client
+  pub still_known : (call : ℕ) → Contains a.taken_back call → Contains b.taken_back call
+  pub newly_known : (call : ℕ) → Contains b.taken_back call →
+      Contains a.taken_back call ⊎ ((client : ℕ) × IsGivenAt a.own call client)
   pub entries : a.entries ≤ b.entries + 1
   pub bytes : a.bytes ≤ b.bytes + data_of entry
 
@@ -62,24 +95,6 @@ Receives a b client room reply held = Called a b (Receive client room reply) (go
 abbrev pub slots_got : (client : ℕ) → List GotEvent → ℕ
 slots_got client [] = 0
 slots_got client (g ∷ gs) = (if g.client == client then slot_size g.event else 0) + slots_got client gs
-
--- whether the caller has the client of this number after a call, by whether it had it before
-abbrev pub has_after : (before : Bool) → BufferEntry → (client : ℕ) → Bool
-has_after before (Attach name (Ok n)) client = if n == client then true else before
-has_after before (Detach n (Ok u)) client = if n == client then false else before
-has_after before entry client = before
-
-abbrev pub has_behind : (before : Bool) → List BufferEntry → (client : ℕ) → Bool
-has_behind before [] client = before
-has_behind before (e ∷ es) client = has_behind (has_after before e client) es client
-
--- an attach among these calls gave the number, and no detach among them took it back since
-abbrev pub HasClient : List BufferEntry → (client : ℕ) → Type 0
-HasClient own client = IsTrue (has_behind false own client)
-
--- a number that an attach may give: the caller has no client of this number, unless another caller detached it
-abbrev pub IsNewNumber : Access → (client : ℕ) → Type 0
-IsNewNumber a client = HasClient a.own client → Contains a.taken_back client
 
 -- an event that a buffer may give
 pub record IsGiven (e : Event) : Type 0 where

@@ -3,10 +3,11 @@ use Rattle.std.specs.Prelude.{ℕ, List, [], ◌∷◌, length, Ok, Err}
 use Rattle.daq_types.specs.declared.events.Event.{Event}
 use Rattle.daq_types.specs.declared.runs.Kind.TheVariants.{All}
 use Rattle.buffer_core.specs.Window.{any}
+use Rattle.buffer_core.specs.Ports.{Access}
 use Rattle.buffer_core.specs.declared.replies.SendRefusal.TheVariants.{Full}
 use Rattle.buffer_core.specs.declared.replies.Received.TheVariants.{Got}
 use Rattle.buffer_core.specs.declared.entry.BufferEntry.{BufferEntry}
-use Rattle.buffer_core.specs.declared.entry.BufferEntry.TheVariants.{Attach, Request, Send, SendInRun, Receive, Begin, Pause, End}
+use Rattle.buffer_core.specs.declared.entry.BufferEntry.TheVariants.{Attach, Detach, Request, Send, SendInRun, Receive, Begin, Pause, End}
 
 -- an event without data
 abbrev pub sample_event : Event
@@ -54,3 +55,28 @@ sent_behind = (1, Begin 1 (Ok 0)) ∷ (1, End 1 (Ok 0)) ∷ (1, SendInRun 1 0 sa
 -- an event of a run is sent in a pause
 abbrev pub sent_in_pause : List (ℕ × BufferEntry)
 sent_in_pause = (1, Begin 1 (Ok 0)) ∷ (1, Pause 1 (Ok 0)) ∷ (1, SendInRun 1 0 sample_event (Ok 0)) ∷ []
+
+-- the access of a caller that made these calls, where these of them gave clients that others
+-- detached
+abbrev pub access_after : List BufferEntry → (taken_back : List ℕ) → Access
+access_after own taken_back = record {
+  caller = 1;
+  size = 256;
+  own = own;
+  got = [];
+  taken_back = taken_back;
+  entries = 1;
+  bytes = 0;
+}
+
+-- a caller that was given client 0
+abbrev pub given_once : List BufferEntry
+given_once = Attach [] (Ok 0) ∷ []
+
+-- and that detached it
+abbrev pub given_and_detached : List BufferEntry
+given_and_detached = Attach [] (Ok 0) ∷ Detach 0 (Ok tt) ∷ []
+
+-- a caller that was given client 0 twice
+abbrev pub given_twice : List BufferEntry
+given_twice = Attach [] (Ok 0) ∷ Attach [] (Ok 0) ∷ []

@@ -1,7 +1,7 @@
 //! Laws of the histories of a buffer: each function does nothing, and its contract is the law. They hold of every list
 //! of calls, whoever made them, whose replies are those of a buffer that opened empty.
 
-ghost use Rattle.std.specs.Prelude.{◌≡◌, ◌+◌, ◌^◌, ◌<◌, ◌++◌, ◌∷◌, ℕ, List, Some, None, Ok};
+ghost use Rattle.std.specs.Prelude.{◌≡◌, ◌+◌, ◌^◌, ◌<◌, ◌++◌, ◌∷◌, ℕ, List, [], Some, None, Ok};
 ghost use Rattle.daq_types.specs.declared.events.Event.{Event};
 ghost use Rattle.daq_model.specs.Events.{slot_size};
 ghost use Rattle.buffer_core.specs.declared.gate.RunGate.{RunGate};
@@ -15,8 +15,9 @@ ghost use Rattle.buffer_core.specs.Delivered.{Delivers, FailsAlone, InOrder, Com
 ghost use Rattle.buffer_core.specs.Runs.{KeepsRuns, begun_at, ended_at, segment, events_between};
 ghost use Rattle.buffer_core.specs.Continued.{sent_in, RepliesCount, GivesSent};
 ghost use Rattle.buffer_core.specs.Readers.{KeepsLife, HasRead, ReadsAll, places_got, places_of, among, wanted};
+ghost use Rattle.buffer_core.specs.Ports.{IsNewNumber};
 ghost use Rattle.buffer_core.specs.Searches.{FoundIsFirst, FirstIsFound, NotFoundIsNone, NoneIsNotFound, OwedIsLeast, LeastIsOwed, NotOwedIsNone, NoneIsNotOwed, DropIsLeast, LeastIsDrop};
-ghost use Rattle.buffer_core.specs.Samples.{refused_once, got_twice, left_out, reached_back, refused_for_nobody, got_too_much, dropped, sent_behind, sent_in_pause};
+ghost use Rattle.buffer_core.specs.Samples.{refused_once, got_twice, left_out, reached_back, refused_for_nobody, got_too_much, dropped, sent_behind, sent_in_pause, access_after, given_once, given_and_detached, given_twice};
 
 /// Each client gets only what its requests want, in order and once, and all of what its requests for all events want;
 /// a send is refused as full exactly where such an event is still to be got.
@@ -125,4 +126,15 @@ pub fn tells_apart()
     ensures owed { Delivers 24 dropped → ⊥ }
     ensures behind { KeepsRuns sent_behind → ⊥ }
     ensures pause { KeepsRuns sent_in_pause → ⊥ }
+{}
+
+/// What a port tells of the numbers that it gives is more than nothing: a caller that has a client
+/// is not given its number again, nor a third time where another caller detached it once; but it
+/// may be where each such client was detached.
+pub fn tells_numbers_apart()
+    ensures again { IsNewNumber (access_after given_once []) 0 → ⊥ }
+    ensures third { IsNewNumber (access_after given_twice (0 ∷ [])) 0 → ⊥ }
+    ensures other { IsNewNumber (access_after given_once []) 1 }
+    ensures detached { IsNewNumber (access_after given_and_detached []) 0 }
+    ensures taken_back { IsNewNumber (access_after given_once (0 ∷ [])) 0 }
 {}

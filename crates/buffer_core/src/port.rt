@@ -1,8 +1,8 @@
-ghost use Rattle.std.specs.Prelude.{◌≡◌, ◌-◌, ◌^◌, ◌≤◌, ℕ, [], length, min, IfOk, IfErr};
+ghost use Rattle.std.specs.Prelude.{◌≡◌, ◌-◌, ◌^◌, ◌≤◌, ℕ, length, map, min, IfOk, IfErr};
 ghost use Rattle.daq_model.specs.Events.{event_limit};
 ghost use Rattle.event_header.specs.Headers.{event_of};
 ghost use Rattle.buffer_core.specs.declared.entry.BufferEntry.TheVariants.{Attach, Detach, Request, Cancel, Send, SendInRun, Receive, Begin, Pause, Resume, End, Level, Accepted};
-ghost use Rattle.buffer_core.specs.Ports.{Calls, Receives, KeepsUnlessGot, GivesSound, IsSmallBuf, IsSendFault, IsNewNumber, slots_got};
+ghost use Rattle.buffer_core.specs.Ports.{Calls, Receives, KeepsUnlessGot, GivesSound, IsSmallBuf, IsSendFault, IsNewNumber, knowing, slots_got, name_of, names_given};
 
 use crate::replies::{MarkRefusal, NoClient, NoSlot, Received, RequestRefusal, SendRefusal};
 use daq_types::{Kind, Name};
@@ -16,11 +16,13 @@ pub trait BufferPort {
 
     ghost access: { Self → Access };
 
-    /// As `EventBuffer::attach`.
+    /// As `EventBuffer::attach`. The number is not that of a client that the caller has: of one
+    /// that an attach by this port gave, and that no detach took back since, be it by this port or,
+    /// as the port then knows, by another caller.
     fn attach<R: Wait>(&mut self, rt: &R, name: Name) -> Result<u32, NoSlot>
         requires room { 1 ≤ (access self.old).entries }
         ensures called { Calls (access self.old) (access self.new) (Attach name result) }
-        ensures number { IfOk result (IsNewNumber (access self.old)) };
+        ensures number { IfOk result (IsNewNumber (knowing (access self.old) (access self.new))) };
 
     /// As `EventBuffer::detach`.
     fn detach<R: Wait>(&mut self, rt: &R, client: u32) -> Result<(), NoClient>
@@ -104,6 +106,7 @@ pub trait BufferPort {
         requires room { 1 ≤ (access self.old).entries }
         ensures { Calls (access self.old) (access self.new) (Accepted result) };
 
-    // Who called nothing got nothing.
-    ghost silent: { (port : Self) → (access port).own ≡ [] → (access port).got ≡ [] };
+    // The events got are those that the own calls gave, one for one: who called nothing got
+    // nothing.
+    ghost named: { (port : Self) → map name_of (access port).got ≡ names_given (access port).own };
 }

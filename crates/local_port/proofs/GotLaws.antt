@@ -20,7 +20,7 @@ use Rattle.buffer_core.specs.Histories.{IsLegal, replay}
 use Rattle.buffer_core.specs.WindowLaws.{found_stands, found_kept}
 use Rattle.buffer_core.specs.WindowKept.{found_got}
 use Rattle.buffer_core.specs.Ports.{GotEvent, slots_got}
-use Rattle.local_port.specs.Ported.{event_given, given_by, given_in}
+use Rattle.local_port.specs.Ported.{no_event, given_by, given_in}
 
 -- Sums of the rest of a list.
 
@@ -157,11 +157,17 @@ got_is w room (Some c) place start e =
       is = stands.is;
     }
 
+-- the event that is given is the kept one of its place
+pub given_is : (w : Window) (client room place start : ℕ) (s : Sent) → kept_at w place ≡ Some s
+    → given_by w (Receive client room (Got place start)) ≡ record { client = client; place = place; start = start; event = s.event } ∷ []
+given_is w client room place start s kept =
+    ap (λ (o : Option Sent). record { client = client; place = place; start = start; event = unwrap_or (option_map (λ (x : Sent). x.event) o) no_event } ∷ []) kept
+
 pays_got : (w : Window) (client by room place start : ℕ) → Got place start ≡ receive_reply_to w room (slot_at w.clients by) → Pays w client (Receive by room (Got place start))
 pays_got w client by room place start reply =
     let got : IsGot w place (slot_at w.clients by) = got_is w room (slot_at w.clients by) place start reply in
     let slot : ℕ = slot_of_sent got.sent in
-    let given : given_by w (Receive by room (Got place start)) ≡ record { client = by; place = place; start = start; event = got.sent.event } ∷ [] = ap (event_given by place start) got.kept in
+    let given : given_by w (Receive by room (Got place start)) ≡ record { client = by; place = place; start = start; event = got.sent.event } ∷ [] = given_is w by room place start got.sent got.kept in
     let slots : slots_got client (given_by w (Receive by room (Got place start))) ≡ (if by == client then slot else 0) + 0 = ap (slots_got client) given in
     let rest : ℕ = sum_by slot_of_sent (drop (place + 1 - w.first) w.kept) in
     let next_is : place + 1 - w.first ≡ suc got.index = omega (arith, got.place_is) in

@@ -4,8 +4,9 @@ use Rattle.std.proofs.Common.{get_or, ap, sym, subst, ◌∙◌, arith}
 use Rattle.std.proofs.lemmas.List.{take-append-le, drop-append-le, length-drop, drop-drop, take_all, nil_from_length}
 use Rattle.std.proofs.lemmas.List.Sums.{sum_by-cons}
 use Rattle.buffer_core.specs.declared.entry.BufferEntry.{BufferEntry}
+use Rattle.buffer_core.specs.declared.entry.BufferEntry.TheVariants.{Send, SendInRun}
 use Rattle.local_port.specs.declared.journal.Line.{Line}
-use Rattle.local_port.specs.Journals.{entries_of, entry_with, size_of_line, AreBehind}
+use Rattle.local_port.specs.Journals.{entries_of, entry_with, size_of_line, AreBehind, IsApart, AreApart}
 
 pub length-entries_of : (lines : List Line) (bytes : List ℕ) → length (entries_of lines bytes) ≡ length lines
 length-entries_of [] bytes = refl
@@ -27,6 +28,25 @@ entries_of-push (q ∷ qs) bytes l body whole stated =
 pub behind_push : (from : ℕ) (lines : List Line) (l : Line) → AreBehind from lines → l.from ≡ from + sum_by size_of_line lines → AreBehind from (lines ++ l ∷ [])
 behind_push from [] l behind is = (omega (arith, is), tt)
 behind_push from (q ∷ qs) l behind is = (behind.0, behind_push (from + q.size) qs l behind.1 (omega (arith, is, sum_by-cons size_of_line q qs)))
+
+-- Data beside their calls.
+
+-- other data of as many bytes may stand beside the call
+pub apart_same : (entry : BufferEntry) (body other : List ℕ) → length other ≡ length body → IsApart entry body → IsApart entry other
+apart_same (Send stated e reply) body other same apart = record { bare = apart.bare; whole = refl }
+apart_same (SendInRun start stated e reply) body other same apart = record { bare = apart.bare; whole = refl }
+apart_same entry body other same apart = record { bare = apart.bare; whole = same ∙ apart.whole }
+
+pub apart_push : (lines : List Line) (l : Line) → AreApart lines → ((body : List ℕ) → length body ≡ l.size → IsApart l.entry body) → AreApart (lines ++ l ∷ [])
+apart_push [] l apart here = (here, tt)
+apart_push (q ∷ qs) l apart here = (apart.0, apart_push qs l apart.1 here)
+
+apart_at : (lines : List Line) (number : ℕ) (l : Line) (body : List ℕ) → AreApart lines → slice_get lines number ≡ Some l → length body ≡ l.size → IsApart l.entry body
+apart_at [] number l body apart is stated = absurd (cc)
+apart_at (q ∷ qs) zero l body apart is stated =
+    let same : q ≡ l = cc in
+    subst (λ (x : Line). length body ≡ x.size → IsApart x.entry body) same (apart.0 body) stated
+apart_at (q ∷ qs) (suc number) l body apart is stated = apart_at qs number l body apart.1 is stated
 
 -- what a line of a journal stands for
 pub record IsLine (lines : List Line) (bytes : List ℕ) (from number : ℕ) (l : Line) : Type 0 where
@@ -62,3 +82,6 @@ pub line_is : (lines : List Line) (bytes : List ℕ) (number : ℕ) (l : Line) �
     → l ≡ get_or lines number l → IsLine lines bytes 0 number l
 line_is lines bytes number l behind whole within is =
     line_at lines bytes 0 number l behind (omega (arith, whole)) (get_at lines number l within ∙ ap (λ (x : Line). Some x) (sym is))
+
+pub line_apart : (lines : List Line) (number : ℕ) (l : Line) (body : List ℕ) → AreApart lines → number < length lines → l ≡ get_or lines number l → length body ≡ l.size → IsApart l.entry body
+line_apart lines number l body apart within is stated = apart_at lines number l body apart (get_at lines number l within ∙ ap (λ (x : Line). Some x) (sym is)) stated

@@ -1,8 +1,8 @@
--- The numbers of a caller's clients, read off its own calls: each lives, unless another caller detached it.
-use Rattle.std.specs.Prelude.{◌≡◌, ℕ, ◌+◌, ◌<◌, ◌==◌, Bool, true, false, if◌then◌else◌, IsTrue, is_some, is_none, List, [], ◌∷◌, ◌++◌, length, map, Contains, Option, Some, None, Result, Ok, Err, IfOk, refl, ◌⊎◌, slice_set}
+-- A number that is given is free, so each client that had it was detached, by this caller or by another.
+use Rattle.std.specs.Prelude.{◌≡◌, ℕ, zero, suc, ◌+◌, ◌<◌, ◌==◌, Bool, true, false, not, if◌then◌else◌, IsTrue, is_some, is_none, List, [], ◌∷◌, ◌++◌, length, map, Contains, Option, Some, None, Result, Ok, Err, IfOk, refl, slice_get, slice_set}
 use Rattle.std.specs.Option.{option_map, ok_or}
 use Rattle.std.specs.List.{filter}
-use Rattle.std.proofs.Common.{ap, sym, subst, arith, inl, inr}
+use Rattle.std.proofs.Common.{ap, sym, subst, ◌∙◌, arith, eq-eqb, append-nil, zero-add}
 use Rattle.std.proofs.lemmas.Bool.{eqb-true, eqb-false}
 use Rattle.std.proofs.lemmas.List.Elements.{Contains-append_left, Contains-append_right}
 use Rattle.std.proofs.lemmas.List.Quantifiers.{position-Some}
@@ -17,8 +17,8 @@ use Rattle.buffer_core.specs.SlotLaws.{split, slot_set_same, slot_change_all}
 use Rattle.buffer_core.specs.Window.{Window, accepted_of}
 use Rattle.buffer_core.specs.Calls.{IsReply, window_after, no_slot, joined, with_request, going_on, pushed, gone_of}
 use Rattle.buffer_core.specs.Histories.{IsLegal, replay}
-use Rattle.buffer_core.specs.Ports.{has_after, has_behind, IsNewNumber}
-use Rattle.local_port.specs.Ported.{Ported, Does, access_of, detached_by, taken_back_in}
+use Rattle.buffer_core.specs.Ports.{IsGivenAt, IsNewNumber, knowing}
+use Rattle.local_port.specs.Ported.{Ported, Does, access_of, detaches, is_taken_back, taken_back_of, taken_back_in}
 use Rattle.local_port.proofs.GotLaws.{set_either}
 
 -- the client of this number lives
@@ -41,42 +41,35 @@ change_all_lives : (f : Client → Client) (clients : List (Option Client)) (n :
 change_all_lives f clients n lives =
     subst (λ (o : Option Client). IsTrue (is_some o)) (sym (slot_change_all f clients n)) (mapped_lives f (slot_at clients n) lives)
 
--- what becomes of a client by a call: it lives on, unless the call detached it
-abbrev pub Stays : Window → BufferEntry → ℕ → Type 0
-Stays w entry n = Contains (detached_by entry) n ⊎ LivesIn (window_after w entry).clients n
-
-stays : (w : Window) (entry : BufferEntry) (n : ℕ) → LivesIn w.clients n → Stays w entry n
-stays w (Attach name (Ok m)) n lives = inr (set_lives w.clients m n (Some (joined name (accepted_of w))) (λ e. refl) lives)
-stays w (Attach name (Err r)) n lives = inr lives
-stays w (Detach m (Ok u)) n lives =
-    split (n == m) (λ b. (n == m) ≡ b → Stays w (Detach m (Ok u)) n)
-    (λ h same. inl (0, omega arith, sym (eqb-true n m same)))
-    (λ h other. inr (set_lives w.clients m n None (λ e. absurd (eqb-false n m other e)) lives))
-    refl
-stays w (Detach m (Err r)) n lives = inr lives
-stays w (Request m id mask kind (Ok k)) n lives =
-    inr (change_lives (with_request k (Some (record { id = id; mask = mask; kind = kind; since = accepted_of w }))) w.clients m n lives)
-stays w (Request m id mask kind (Err r)) n lives = inr lives
-stays w (Cancel m request (Ok u)) n lives = inr (change_lives (with_request request None) w.clients m n lives)
-stays w (Cancel m request (Err r)) n lives = inr lives
-stays w (Send stated e (Ok k)) n lives = inr (change_all_lives (pushed (w.first + gone_of w e)) w.clients n lives)
-stays w (Send stated e (Err r)) n lives = inr lives
-stays w (SendInRun start stated e (Ok k)) n lives = inr (change_all_lives (pushed (w.first + gone_of w e)) w.clients n lives)
-stays w (SendInRun start stated e (Err r)) n lives = inr lives
-stays w (Receive m room (Got place start)) n lives = inr (change_lives (going_on (place + 1)) w.clients m n lives)
-stays w (Receive m room (Empty gate last)) n lives = inr (change_lives (going_on (accepted_of w)) w.clients m n lives)
-stays w (Receive m room NoReader) n lives = inr lives
-stays w (Receive m room (SmallBuf need)) n lives = inr lives
-stays w (Begin start (Ok k)) n lives = inr lives
-stays w (Begin start (Err r)) n lives = inr lives
-stays w (Pause start (Ok k)) n lives = inr lives
-stays w (Pause start (Err r)) n lives = inr lives
-stays w (Resume start (Ok k)) n lives = inr lives
-stays w (Resume start (Err r)) n lives = inr lives
-stays w (End start (Ok k)) n lives = inr lives
-stays w (End start (Err r)) n lives = inr lives
-stays w (Level reply) n lives = inr lives
-stays w (Accepted reply) n lives = inr lives
+-- a client lives on, unless the call detaches it
+lives_on : (w : Window) (entry : BufferEntry) (n : ℕ) → detaches entry n ≡ false → LivesIn w.clients n → LivesIn (window_after w entry).clients n
+lives_on w (Attach name (Ok m)) n kept lives = set_lives w.clients m n (Some (joined name (accepted_of w))) (λ e. refl) lives
+lives_on w (Attach name (Err r)) n kept lives = lives
+lives_on w (Detach m (Ok u)) n kept lives = set_lives w.clients m n None (λ e. absurd (eqb-false m n kept (sym e))) lives
+lives_on w (Detach m (Err r)) n kept lives = lives
+lives_on w (Request m id mask kind (Ok k)) n kept lives =
+    change_lives (with_request k (Some (record { id = id; mask = mask; kind = kind; since = accepted_of w }))) w.clients m n lives
+lives_on w (Request m id mask kind (Err r)) n kept lives = lives
+lives_on w (Cancel m request (Ok u)) n kept lives = change_lives (with_request request None) w.clients m n lives
+lives_on w (Cancel m request (Err r)) n kept lives = lives
+lives_on w (Send stated e (Ok k)) n kept lives = change_all_lives (pushed (w.first + gone_of w e)) w.clients n lives
+lives_on w (Send stated e (Err r)) n kept lives = lives
+lives_on w (SendInRun start stated e (Ok k)) n kept lives = change_all_lives (pushed (w.first + gone_of w e)) w.clients n lives
+lives_on w (SendInRun start stated e (Err r)) n kept lives = lives
+lives_on w (Receive m room (Got place start)) n kept lives = change_lives (going_on (place + 1)) w.clients m n lives
+lives_on w (Receive m room (Empty gate last)) n kept lives = change_lives (going_on (accepted_of w)) w.clients m n lives
+lives_on w (Receive m room NoReader) n kept lives = lives
+lives_on w (Receive m room (SmallBuf need)) n kept lives = lives
+lives_on w (Begin start (Ok k)) n kept lives = lives
+lives_on w (Begin start (Err r)) n kept lives = lives
+lives_on w (Pause start (Ok k)) n kept lives = lives
+lives_on w (Pause start (Err r)) n kept lives = lives
+lives_on w (Resume start (Ok k)) n kept lives = lives
+lives_on w (Resume start (Err r)) n kept lives = lives
+lives_on w (End start (Ok k)) n kept lives = lives
+lives_on w (End start (Err r)) n kept lives = lives
+lives_on w (Level reply) n kept lives = lives
+lives_on w (Accepted reply) n kept lives = lives
 
 -- Free numbers.
 
@@ -94,76 +87,105 @@ dead : (o : Option Client) → is_none o ≡ true → IsTrue (is_some o) → ⊥
 dead None free lives = cc
 dead (Some c) free lives = cc
 
--- The caller's own calls.
+-- Detached clients.
 
--- a client that the caller has after its own call lives then, if one that it had before did
-own_step : (w : Window) (entry : BufferEntry) (b : Bool) (n : ℕ) → IsReply w entry → (IsTrue b → LivesIn w.clients n) → IsTrue (has_after b entry n) → LivesIn (window_after w entry).clients n
-own_step w (Attach name (Ok m)) b n reply had has =
-    split (m == n) (λ o. (m == n) ≡ o → IsTrue (if o then true else b) → LivesIn (window_after w (Attach name (Ok m))).clients n)
-    (λ h same _.
-    let within : m < length w.clients = (free_place w.clients m reply).0 in
-    subst (λ (k : ℕ). LivesIn (slice_set w.clients m (Some (joined name (accepted_of w)))) k) (eqb-true m n same)
-    (subst (λ (o : Option Client). IsTrue (is_some o)) (sym (slot_set_same w.clients m (Some (joined name (accepted_of w))) within)) refl))
-    (λ h other before. set_lives w.clients m n (Some (joined name (accepted_of w))) (λ e. refl) (had before))
-    refl has
-own_step w (Attach name (Err r)) b n reply had has = had has
-own_step w (Detach m (Ok u)) b n reply had has =
-    split (m == n) (λ o. (m == n) ≡ o → IsTrue (if o then false else b) → LivesIn (window_after w (Detach m (Ok u))).clients n)
-    (λ h same never. absurd (cc (never)))
-    (λ h other before. set_lives w.clients m n None (λ e. absurd (eqb-false m n other (sym e))) (had before))
-    refl has
-own_step w (Detach m (Err r)) b n reply had has = had has
-own_step w (Request m id mask kind (Ok k)) b n reply had has =
-    change_lives (with_request k (Some (record { id = id; mask = mask; kind = kind; since = accepted_of w }))) w.clients m n (had has)
-own_step w (Request m id mask kind (Err r)) b n reply had has = had has
-own_step w (Cancel m request (Ok u)) b n reply had has = change_lives (with_request request None) w.clients m n (had has)
-own_step w (Cancel m request (Err r)) b n reply had has = had has
-own_step w (Send stated e (Ok k)) b n reply had has = change_all_lives (pushed (w.first + gone_of w e)) w.clients n (had has)
-own_step w (Send stated e (Err r)) b n reply had has = had has
-own_step w (SendInRun start stated e (Ok k)) b n reply had has = change_all_lives (pushed (w.first + gone_of w e)) w.clients n (had has)
-own_step w (SendInRun start stated e (Err r)) b n reply had has = had has
-own_step w (Receive m room (Got place start)) b n reply had has = change_lives (going_on (place + 1)) w.clients m n (had has)
-own_step w (Receive m room (Empty gate last)) b n reply had has = change_lives (going_on (accepted_of w)) w.clients m n (had has)
-own_step w (Receive m room NoReader) b n reply had has = had has
-own_step w (Receive m room (SmallBuf need)) b n reply had has = had has
-own_step w (Begin start (Ok k)) b n reply had has = had has
-own_step w (Begin start (Err r)) b n reply had has = had has
-own_step w (Pause start (Ok k)) b n reply had has = had has
-own_step w (Pause start (Err r)) b n reply had has = had has
-own_step w (Resume start (Ok k)) b n reply had has = had has
-own_step w (Resume start (Err r)) b n reply had has = had has
-own_step w (End start (Ok k)) b n reply had has = had has
-own_step w (End start (Err r)) b n reply had has = had has
-own_step w (Level reply) b n is had has = had has
-own_step w (Accepted reply) b n is had has = had has
+detach_is : (entry : BufferEntry) (n : ℕ) → detaches entry n ≡ true → entry ≡ Detach n (Ok tt)
+detach_is (Detach m (Ok u)) n e = ap (λ (k : ℕ). Detach k (Ok tt)) (eqb-true m n e)
+detach_is entry n e = absurd (cc (e))
 
-other_step : (w : Window) (entry : BufferEntry) (b : Bool) (n : ℕ) → (IsTrue b → LivesIn w.clients n) → Contains (detached_by entry) n ⊎ (IsTrue b → LivesIn (window_after w entry).clients n)
-other_step w entry true n had = elim (stays w entry n (had refl)) [ inl c ↦ inl c | inr lives ↦ inr (λ _. lives) ]
-other_step w entry false n had = inr (λ never. absurd (cc (never)))
+-- a client that lives at first and not in the end, and that the caller does not detach, is taken back
+taken_back : (by n : ℕ) (w : Window) (h : List (ℕ × BufferEntry)) → LivesIn w.clients n → (LivesIn (replay w h).clients n → ⊥)
+    → ((later : ℕ) → slice_get (entries_by by h) later ≡ Some (Detach n (Ok tt)) → ⊥) → is_taken_back by n h ≡ true
+taken_back by n w [] lives gone kept = absurd (gone lives)
+taken_back by n w (x ∷ xs) lives gone kept =
+    split (x.0 == by) (λ o. ((later : ℕ) → slice_get (map (λ (e : ℕ × BufferEntry). e.1) (if o then x ∷ filter (λ (e : ℕ × BufferEntry). e.0 == by) xs else filter (λ (e : ℕ × BufferEntry). e.0 == by) xs)) later ≡ Some (Detach n (Ok tt)) → ⊥)
+    → (if detaches x.1 n then not o else is_taken_back by n xs) ≡ true)
+    (λ h kept'.
+    split (detaches x.1 n) (λ d. detaches x.1 n ≡ d → (if d then false else is_taken_back by n xs) ≡ true)
+    (λ h' is. absurd (kept' 0 (ap (λ (e : BufferEntry). Some e) (detach_is x.1 n is))))
+    (λ h' other. taken_back by n (window_after w x.1) xs (lives_on w x.1 n other lives) gone (λ later. kept' (suc later)))
+    refl)
+    (λ h kept'.
+    split (detaches x.1 n) (λ d. detaches x.1 n ≡ d → (if d then true else is_taken_back by n xs) ≡ true)
+    (λ h' is. refl)
+    (λ h' other. taken_back by n (window_after w x.1) xs (lives_on w x.1 n other lives) gone kept')
+    refl)
+    kept
 
--- Whole histories.
+-- so is the one that an attach gave
+attach_taken_back : (by n call : ℕ) (name : List ℕ) (w : Window) (h : List (ℕ × BufferEntry)) (entry : BufferEntry) → Attach name (Ok n) ≡ entry → IsReply w entry
+    → (LivesIn (replay (window_after w entry) h).clients n → ⊥)
+    → ((later : ℕ) → slice_get (entries_by by h) later ≡ Some (Detach n (Ok tt)) → ⊥) → Contains (taken_back_of by call entry h) call
+attach_taken_back by n call name w h entry is reply gone kept =
+    subst (λ (e : BufferEntry). IsReply w e → (LivesIn (replay (window_after w e) h).clients n → ⊥) → Contains (taken_back_of by call e h) call) is
+    (λ reply' gone'.
+    let within : n < length w.clients = (free_place w.clients n reply').0 in
+    let lives : LivesIn (slice_set w.clients n (Some (joined name (accepted_of w)))) n =
+    subst (λ (o : Option Client). IsTrue (is_some o)) (sym (slot_set_same w.clients n (Some (joined name (accepted_of w))) within)) refl in
+    subst (λ (b : Bool). Contains (if b then call ∷ [] else []) call) (sym (taken_back by n (window_after w (Attach name (Ok n))) h lives gone' kept)) (0, omega arith, refl))
+    reply gone
 
-had_lives : (by n : ℕ) (w : Window) (h : List (ℕ × BufferEntry)) (b : Bool) → IsLegal w h → (IsTrue b → LivesIn w.clients n) → IsTrue (has_behind b (entries_by by h) n) → Contains (taken_back_in by h) n ⊎ LivesIn (replay w h).clients n
-had_lives by n w [] b legal had has = inr (had has)
-had_lives by n w (x ∷ xs) b legal had has =
-    let w' : Window = window_after w x.1 in
-    split (x.0 == by) (λ o. IsTrue (has_behind b (map (λ (e : ℕ × BufferEntry). e.1) (if o then x ∷ filter (λ (e : ℕ × BufferEntry). e.0 == by) xs else filter (λ (e : ℕ × BufferEntry). e.0 == by) xs)) n) → Contains ((if o then [] else detached_by x.1) ++ taken_back_in by xs) n ⊎ LivesIn (replay w' xs).clients n)
-    (λ h own. had_lives by n w' xs (has_after b x.1 n) legal.1 (own_step w x.1 b n legal.0 had) own)
-    (λ h others.
-    elim (other_step w x.1 b n had) [
-      | inl taken ↦ inl (Contains-append_left (detached_by x.1) (taken_back_in by xs) n taken)
-      | inr goes_on ↦ elim (had_lives by n w' xs b legal.1 goes_on others) [
-        | inl taken ↦ inl (Contains-append_right (detached_by x.1) (taken_back_in by xs) n taken)
-        | inr lives ↦ inr lives
-      ]
-    ])
-    has
+-- each client that the caller was given under a number that is free, and did not detach, is taken back
+all_taken_back : (by n call : ℕ) (w : Window) (h : List (ℕ × BufferEntry)) → IsLegal w h → (LivesIn (replay w h).clients n → ⊥)
+    → (own : ℕ) → IsGivenAt (entries_by by h) own n → Contains (taken_back_in by call h) (call + own)
+all_taken_back by n call w [] legal gone own given = absurd (cc (given.given))
+all_taken_back by n call w (x ∷ xs) legal gone zero given =
+    split (x.0 == by) (λ o. IsGivenAt (map (λ (e : ℕ × BufferEntry). e.1) (if o then x ∷ filter (λ (e : ℕ × BufferEntry). e.0 == by) xs else filter (λ (e : ℕ × BufferEntry). e.0 == by) xs)) 0 n
+    → Contains (if o then taken_back_of by call x.1 xs ++ taken_back_in by (suc call) xs else taken_back_in by call xs) (call + 0))
+    (λ h given'.
+    let is : Attach given'.name (Ok n) ≡ x.1 = cc (given'.given) in
+    let here : Contains (taken_back_of by call x.1 xs) call =
+    attach_taken_back by n call given'.name w xs x.1 is legal.0 gone (λ later. given'.stays (suc later) (omega arith)) in
+    let number : call ≡ call + 0 = omega arith in
+    subst (λ (k : ℕ). Contains (taken_back_of by call x.1 xs ++ taken_back_in by (suc call) xs) k) number
+    (Contains-append_left (taken_back_of by call x.1 xs) (taken_back_in by (suc call) xs) call here))
+    (λ h given'. all_taken_back by n call (window_after w x.1) xs legal.1 gone zero given')
+    given
+all_taken_back by n call w (x ∷ xs) legal gone (suc own) given =
+    split (x.0 == by) (λ o. IsGivenAt (map (λ (e : ℕ × BufferEntry). e.1) (if o then x ∷ filter (λ (e : ℕ × BufferEntry). e.0 == by) xs else filter (λ (e : ℕ × BufferEntry). e.0 == by) xs)) (suc own) n
+    → Contains (if o then taken_back_of by call x.1 xs ++ taken_back_in by (suc call) xs else taken_back_in by call xs) (call + suc own))
+    (λ h given'.
+    let later : IsGivenAt (entries_by by xs) own n =
+    record { name = given'.name; given = given'.given; stays = λ k behind. given'.stays (suc k) (omega (arith, behind)) } in
+    let number : suc call + own ≡ call + suc own = omega arith in
+    subst (λ (k : ℕ). Contains (taken_back_of by call x.1 xs ++ taken_back_in by (suc call) xs) k) number
+    (Contains-append_right (taken_back_of by call x.1 xs) (taken_back_in by (suc call) xs) (suc call + own)
+    (all_taken_back by n (suc call) (window_after w x.1) xs legal.1 gone own later)))
+    (λ h given'. all_taken_back by n call (window_after w x.1) xs legal.1 gone (suc own) given')
+    given
 
--- the number that an attach gives is none that the caller has, unless another caller detached it
-pub new_number : (p q : Ported) (name : List ℕ) (reply : Result ℕ NoSlot) → Does p q (Attach name reply) → IfOk reply (IsNewNumber (access_of p))
+-- A call of the caller takes nothing back.
+
+is_taken_back-push : (by n : ℕ) (h : List (ℕ × BufferEntry)) (e : BufferEntry) → is_taken_back by n (h ++ (by, e) ∷ []) ≡ is_taken_back by n h
+is_taken_back-push by n [] e =
+    split (detaches e n) (λ d. (if d then not (by == by) else false) ≡ false) (λ h. ap not (eq-eqb by by refl)) (λ h. refl)
+is_taken_back-push by n (x ∷ xs) e = ap (λ (b : Bool). if detaches x.1 n then not (x.0 == by) else b) (is_taken_back-push by n xs e)
+
+taken_back_of-nil : (by call : ℕ) (e : BufferEntry) → taken_back_of by call e [] ≡ []
+taken_back_of-nil by call (Attach name (Ok n)) = refl
+taken_back_of-nil by call e = refl
+
+taken_back_of-push : (by call : ℕ) (first : BufferEntry) (h : List (ℕ × BufferEntry)) (e : BufferEntry) → taken_back_of by call first (h ++ (by, e) ∷ []) ≡ taken_back_of by call first h
+taken_back_of-push by call (Attach name (Ok n)) h e = ap (λ (b : Bool). if b then call ∷ [] else []) (is_taken_back-push by n h e)
+taken_back_of-push by call first h e = refl
+
+taken_back_in-push : (by call : ℕ) (h : List (ℕ × BufferEntry)) (e : BufferEntry) → taken_back_in by call (h ++ (by, e) ∷ []) ≡ taken_back_in by call h
+taken_back_in-push by call [] e =
+    ap (λ (b : Bool). if b then taken_back_of by call e [] ++ [] else []) (eq-eqb by by refl) ∙ (append-nil (taken_back_of by call e []) ∙ taken_back_of-nil by call e)
+taken_back_in-push by call (x ∷ xs) e =
+    ap (λ (ns : List ℕ). if x.0 == by then ns ++ taken_back_in by (suc call) (xs ++ (by, e) ∷ []) else taken_back_in by call (xs ++ (by, e) ∷ [])) (taken_back_of-push by call x.1 xs e)
+    ∙ (ap (λ (ns : List ℕ). if x.0 == by then taken_back_of by call x.1 xs ++ ns else taken_back_in by call (xs ++ (by, e) ∷ [])) (taken_back_in-push by (suc call) xs e)
+    ∙ ap (λ (ns : List ℕ). if x.0 == by then taken_back_of by call x.1 xs ++ taken_back_in by (suc call) xs else ns) (taken_back_in-push by call xs e))
+
+pub taken_back_same : (p q : Ported) (e : BufferEntry) → Does p q e → taken_back_in q.caller 0 q.history ≡ taken_back_in p.caller 0 p.history
+taken_back_same p q e does =
+    ap (λ (n : ℕ). taken_back_in n 0 q.history) does.caller ∙ (ap (taken_back_in p.caller 0) does.history ∙ taken_back_in-push p.caller 0 p.history e)
+
+-- the number that an attach gives is none of a client that the caller has
+pub new_number : (p q : Ported) (name : List ℕ) (reply : Result ℕ NoSlot) → Does p q (Attach name reply) → IfOk reply (IsNewNumber (knowing (access_of p) (access_of q)))
 new_number p q name (Err r) does = tt
-new_number p q name (Ok n) does = λ has.
-    elim (had_lives p.caller n p.start p.history false does.from.legal (λ never. absurd (cc (never))) has) [
-      | inl taken ↦ taken
-      | inr lives ↦ absurd (dead (slot_at p.window.clients n) (free_place p.window.clients n does.reply).1 (subst (λ (w : Window). LivesIn w.clients n) (sym does.from.replayed) lives))
-    ]
+new_number p q name (Ok n) does = λ call given.
+    let gone : LivesIn (replay p.start p.history).clients n → ⊥ =
+    λ lives. dead (slot_at p.window.clients n) (free_place p.window.clients n does.reply).1 (subst (λ (w : Window). LivesIn w.clients n) (sym does.from.replayed) lives) in
+    subst (λ (ns : List ℕ). Contains ns call) (sym (taken_back_same p q (Attach name (Ok n)) does))
+    (subst (λ (k : ℕ). Contains (taken_back_in p.caller 0 p.history) k) (zero-add call) (all_taken_back p.caller n 0 p.start p.history does.from.legal gone call given))

@@ -1,7 +1,7 @@
 -- Laws of ports.
 use Rattle.std.specs.Prelude.{◌≡◌, ℕ, ◌-◌, ◌^◌, ◌≤◌, ◌==◌, Bool, false, if◌then◌else◌, List, [], ◌∷◌, ◌++◌, length, Contains, min, Option, unwrap_or, Ok, Err, refl}
 use Rattle.std.specs.Option.{option_map}
-use Rattle.std.proofs.Common.{ap, sym, subst, ◌∙◌, eq-eqb, append-nil, append_assoc}
+use Rattle.std.proofs.Common.{ap, sym, subst, ◌∙◌, inl, eq-eqb, append-nil, append_assoc}
 use Rattle.daq_types.specs.declared.events.Event.{Event}
 use Rattle.daq_model.specs.Events.{is_reserved, event_limit}
 use Rattle.daq_types.specs.Callers.{entries_by, entries_by-own}
@@ -15,8 +15,9 @@ use Rattle.buffer_core.specs.Calls.{IsReply, window_after, event_after}
 use Rattle.buffer_core.specs.Histories.{IsLegal, replay}
 use Rattle.buffer_core.specs.HistoryLaws.{replay-push, legal_push, window_replays, room_enough}
 use Rattle.buffer_core.specs.Ports.{GotEvent, Called, Calls, Receives, got_after, slots_got, GivesSound, IsSmallBuf}
-use Rattle.local_port.specs.Ported.{Ported, IsPorted, Does, access_of, event_given, given_by, given_in, detached_by, taken_back_in}
-use Rattle.local_port.proofs.GotLaws.{IsGot, got_is, slots_few}
+use Rattle.local_port.specs.Ported.{Ported, IsPorted, Does, access_of, given_by, given_in, taken_back_in}
+use Rattle.local_port.proofs.GotLaws.{IsGot, got_is, given_is, slots_few}
+use Rattle.local_port.proofs.NumberLaws.{taken_back_same}
 
 -- a call more
 pub ported_push : (start w w' : Window) (h h' : List (ℕ × BufferEntry)) (by : ℕ) (e : BufferEntry) → IsLegal start h → w ≡ replay start h → IsReply w e → w' ≡ window_after w e
@@ -56,10 +57,6 @@ given_in-push by w (x ∷ xs) e =
     let w' : Window = window_after w x.1 in
     ap (λ (gs : List GotEvent). first ++ gs) (given_in-push by w' xs e) ∙ sym (append_assoc first (given_in by w' xs) (given_by (replay w' xs) e))
 
-pub taken_back_in-push : (by : ℕ) (h : List (ℕ × BufferEntry)) (e : BufferEntry) → taken_back_in by (h ++ (by, e) ∷ []) ≡ taken_back_in by h
-taken_back_in-push by [] e = append-nil (if by == by then [] else detached_by e) ∙ ap (λ (b : Bool). if b then [] else detached_by e) (eq-eqb by by refl)
-taken_back_in-push by (x ∷ xs) e = ap (λ (ns : List ℕ). (if x.0 == by then [] else detached_by x.1) ++ ns) (taken_back_in-push by xs e)
-
 -- no call changes the size
 pub size_stays : (w : Window) (entry : BufferEntry) → (window_after w entry).size ≡ w.size
 size_stays w (Attach name (Ok n)) = refl
@@ -94,15 +91,15 @@ pub called : (p q : Ported) (e : BufferEntry) → Does p q e → Called (access_
 called p q e does =
     let given : given_in p.caller p.start (p.history ++ (p.caller, e) ∷ []) ≡ given_in p.caller p.start p.history ++ given_by p.window e =
     given_in-push p.caller p.start p.history e ∙ ap (λ (w : Window). given_in p.caller p.start p.history ++ given_by w e) (sym does.from.replayed) in
-    let taken_back : taken_back_in q.caller q.history ≡ taken_back_in p.caller p.history =
-    ap (λ (n : ℕ). taken_back_in n q.history) does.caller ∙ (ap (taken_back_in p.caller) does.history ∙ taken_back_in-push p.caller p.history e) in
+    let same : taken_back_in q.caller 0 q.history ≡ taken_back_in p.caller 0 p.history = taken_back_same p q e does in
     record {
       caller = does.caller;
       size = ap (λ (w : Window). w.size) does.window ∙ size_stays p.window e;
       own = ap (λ (n : ℕ). entries_by n q.history) does.caller ∙ (ap (entries_by p.caller) does.history ∙ entries_by-own p.caller p.history e);
       got_is = ap (λ (n : ℕ). given_in n q.start q.history) does.caller
           ∙ (ap (λ (w : Window). given_in p.caller w q.history) does.start ∙ (ap (given_in p.caller p.start) does.history ∙ given));
-      taken_back = λ client had. subst (λ (ns : List ℕ). Contains ns client) (sym taken_back) had;
+      still_known = λ call had. subst (λ (ns : List ℕ). Contains ns call) (sym same) had;
+      newly_known = λ call has. inl (subst (λ (ns : List ℕ). Contains ns call) same has);
       entries = does.entries;
       bytes = does.bytes;
     }
@@ -123,7 +120,7 @@ giving w client room (Got place start) held held' is reply after =
     let event : held' ≡ got.sent.event = after ∙ ap (λ (o : Option Sent). unwrap_or (option_map (λ (x : Sent). x.event) o) held) got.kept in
     let keepable : IsKeepable got.sent = is.keepable got.index got.sent got.is in
     record {
-      got = λ gs. ap (λ (more : List GotEvent). gs ++ more) (ap (event_given client place start) got.kept ∙ ap (λ (e : Event). record { client = client; place = place; start = start; event = e } ∷ []) (sym event));
+      got = λ gs. ap (λ (more : List GotEvent). gs ++ more) (given_is w client 0 place start got.sent got.kept ∙ ap (λ (e : Event). record { client = client; place = place; start = start; event = e } ∷ []) (sym event));
       sound = record {
         small = subst (λ (e : Event). length e.body ≤ event_limit) (sym event) keepable.small;
         free = subst (λ (e : Event). is_reserved e.id ≡ false) (sym event) keepable.free;

@@ -1,8 +1,9 @@
 -- A journal of a buffer's calls, kept as lines, with the data of all events that were sent one after the other.
-use Rattle.std.specs.Prelude.{◌≡◌, ℕ, ◌+◌, List, [], ◌∷◌, take, drop, slice_get, Some, ⊤}
+use Rattle.std.specs.Prelude.{◌≡◌, ℕ, ◌+◌, List, [], ◌∷◌, length, take, drop, slice_get, Some, ⊤}
 use Rattle.daq_types.specs.declared.events.Event.{Event}
 use Rattle.buffer_core.specs.declared.entry.BufferEntry.{BufferEntry}
 use Rattle.buffer_core.specs.declared.entry.BufferEntry.TheVariants.{Send, SendInRun}
+use Rattle.buffer_core.specs.Ports.{data_of}
 use Rattle.local_port.specs.declared.journal.Line.{Line}
 
 -- the event with these data
@@ -23,9 +24,23 @@ abbrev pub entries_of : List Line → List ℕ → List (ℕ × BufferEntry)
 entries_of [] bytes = []
 entries_of (l ∷ ls) bytes = (l.caller, entry_with (take l.size bytes) l.entry) ∷ entries_of ls (drop l.size bytes)
 
+-- the call stands without data, and these are the data of the event that it sends; none, if it
+-- sends no event
+pub record IsApart (entry : BufferEntry) (body : List ℕ) : Type 0 where
+  pub bare : data_of entry ≡ 0
+  pub whole : length body ≡ data_of (entry_with body entry)
+
 -- the entry of this number, with the number of its caller, is this one with these data
 abbrev pub IsEntryAt : List (ℕ × BufferEntry) → (number caller : ℕ) → BufferEntry → (body : List ℕ) → Type 0
 IsEntryAt entries number caller entry body = slice_get entries number ≡ Some (caller, entry_with body entry)
+
+-- the call of the line stands without data, and what it handed over are so many bytes
+abbrev pub IsSized : Line → Type 0
+IsSized l = (body : List ℕ) → length body ≡ l.size → IsApart l.entry body
+
+abbrev pub AreApart : List Line → Type 0
+AreApart [] = ⊤
+AreApart (l ∷ ls) = IsSized l × AreApart ls
 
 -- the data of each line begin where those of the lines before it end; those of the first begin here
 abbrev pub AreBehind : (from : ℕ) → List Line → Type 0

@@ -1,4 +1,4 @@
 pub mod Journals
 pub mod JournalViews
 pub mod Ported
-pub mod Silence
+pub mod GotNames

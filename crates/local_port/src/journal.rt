@@ -1,5 +1,5 @@
 ghost use Rattle.std.specs.Prelude.{◌≡◌, ◌+◌, ◌≤◌, ◌<◌, ◌++◌, ◌∷◌, [], length, OnOk};
-ghost use Rattle.local_port.specs.Journals.{entry_with, IsEntryAt};
+ghost use Rattle.local_port.specs.Journals.{entry_with, IsApart, IsEntryAt};
 
 use buffer_core::BufferEntry;
 use daq_types::{Caller, NoMemory};
@@ -24,7 +24,7 @@ pub struct NotedCall<'a> {
     pub caller: Caller,
     /// The call with its reply. An event that it sends stands here without its data.
     pub entry: &'a BufferEntry,
-    /// The data of the event that it sends.
+    /// The data of the event that it sends; none, if it sends no event.
     pub body: &'a [u8],
 }
 
@@ -72,10 +72,12 @@ impl BufferJournal {
         Ok(())
     }
 
-    /// One entry more, behind the others. It stands without the data of its event, which are given beside it.
+    /// One entry more, behind the others. It stands without the data of its event, which are given
+    /// beside it; there are none for a call that sends no event.
     pub fn push(&mut self, caller: Caller, entry: BufferEntry, body: &[u8])
         requires room { 1 ≤ self.old.room }
         requires bytes { length body.now ≤ self.old.bytes }
+        requires apart { IsApart entry body.now }
         ensures entries { self.new.entries ≡ self.old.entries ++ (caller, entry_with body.now entry) ∷ [] }
         ensures room { self.old.room ≤ self.new.room + 1 }
         ensures bytes { self.old.bytes ≤ self.new.bytes + length body.now }
@@ -99,7 +101,8 @@ impl BufferJournal {
     /// The entry of this number, counted from 0.
     pub fn get(&self, number: usize) -> NotedCall<'_>
         requires { number < length self.now.entries }
-        ensures { IsEntryAt self.now.entries number result.caller result.entry.now result.body.now }
+        ensures is { IsEntryAt self.now.entries number result.caller result.entry.now result.body.now }
+        ensures apart { IsApart result.entry.now result.body.now }
     {
         let line = &self.lines[number];
         let (_, behind) = self.bytes.as_slice().split_at(line.from);

@@ -11,9 +11,9 @@ impl<B: EventBuffer> BufferPort for LocalPort<B> {
 
     ghost access = { access_of };
 
-    ghost use Rattle.local_port.specs.Silence.{silent_in};
+    ghost use Rattle.local_port.specs.GotNames.{named_in};
 
-    ghost silent = { λ port none. silent_in port.caller port.start port.history none };
+    ghost named = { λ port. named_in port.caller port.start port.history };
 
     fn attach<R: Wait>(&mut self, _rt: &R, name: Name) -> Result<u32, NoSlot> {
         LocalPort::attach(self, name)
