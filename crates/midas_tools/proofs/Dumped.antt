@@ -13,7 +13,9 @@ use Rattle.midas_tools.specs.declared.opening.Refused.TheVariants.{NameCompresse
 use Rattle.midas_tools.specs.declared.ends.InputFault.TheVariants.{Mid, Compressed, Missing, ScriptTooLong}
 use Rattle.midas_tools.specs.declared.ends.ToolEnd.{ToolEnd}
 use Rattle.midas_tools.specs.declared.ends.ToolEnd.TheVariants.{Done, Input, FileFault, SinkFault, NoMemory}
+use Rattle.mid_format.specs.declared.progress.Progress.{Progress}
 use Rattle.midas_tools.proofs.Ending.{there}
+use Rattle.midas_tools.proofs.Dumping.{lines_of_read}
 
 no_part : (old new : Option (List ℕ)) → Keeps old new → Appends old new []
 no_part None new k = tt
@@ -66,15 +68,16 @@ module _ (seen : Seen) (name : List ℕ) (told_old told_new : Option (List ℕ))
     closed_all files_old files_new end result text finds written all (inr failed) =
         subst (λ (e : ToolEnd). WritesOn seen name told_old told_new e) (sym failed.0) (o.plain, inl (end, record { text = text; finds = finds; written = written }))
 
-    pub dump_read : (files_old files_new : ℕ) (end result : ToolEnd) → DumpsTo (told_left opened number) told_old told_new end → Closed end files_old files_new result → WritesOn seen name told_old told_new result
-    dump_read files_old files_new Done result d c =
+    pub dump_read : (now : Option (List ℕ)) (p : Progress) (files_old files_new : ℕ) (end result : ToolEnd) → DumpsTo (told_left opened number) now p told_old told_new end → Closed end files_old files_new result → WritesOn seen name told_old told_new result
+    dump_read now p files_old files_new Done result d c =
         closed_all files_old files_new Done result d.0 (o.plain, λ told. there seen opened name number (λ bytes. IsDump bytes None d.0) o d.1 told) d.2 (λ all. all) c
-    dump_read files_old files_new (Input (Mid f)) result d c =
+    dump_read now p files_old files_new (Input (Mid f)) result d c =
         closed_all files_old files_new (Input (Mid f)) result d.0 (o.plain, d.1, λ told. there seen opened name number (λ bytes. IsDump bytes (Some f) d.0) o d.2 told) d.3 (λ all. all) c
-    dump_read files_old files_new (Input Compressed) result d c = absurd d
-    dump_read files_old files_new (Input Missing) result d c = absurd d
-    dump_read files_old files_new (Input ScriptTooLong) result d c = absurd d
-    dump_read files_old files_new FileFault result d c = subst (λ (e : ToolEnd). WritesOn seen name told_old told_new e) (sym c.0) (o.plain, inr (lines_written d))
-    dump_read files_old files_new SinkFault result (inl d) c = subst (λ (e : ToolEnd). WritesOn seen name told_old told_new e) (sym c) (inr (o.plain, some_written d))
-    dump_read files_old files_new SinkFault result (inr d) c = subst (λ (e : ToolEnd). WritesOn seen name told_old told_new e) (sym c) (inl (part_written d))
-    dump_read files_old files_new NoMemory result d c = subst (λ (e : ToolEnd). WritesOn seen name told_old told_new e) (sym c) (o.plain, some_written d)
+    dump_read now p files_old files_new (Input Compressed) result d c = absurd d
+    dump_read now p files_old files_new (Input Missing) result d c = absurd d
+    dump_read now p files_old files_new (Input ScriptTooLong) result d c = absurd d
+    dump_read now p files_old files_new FileFault result d c = subst (λ (e : ToolEnd). WritesOn seen name told_old told_new e) (sym c.0) (o.plain, inr (lines_written (lines_of_read (told_left opened number) now p told_old told_new d)))
+    dump_read now p files_old files_new SinkFault result (inl d) c = subst (λ (e : ToolEnd). WritesOn seen name told_old told_new e) (sym c) (inr (o.plain, some_written d))
+    dump_read now p files_old files_new SinkFault result (inr d) c = subst (λ (e : ToolEnd). WritesOn seen name told_old told_new e) (sym c) (inl (part_written d))
+    dump_read now p files_old files_new NoMemory result d (inl well) = subst (λ (e : ToolEnd). WritesOn seen name told_old told_new e) (sym well.0) (o.plain, lines_written d)
+    dump_read now p files_old files_new NoMemory result d (inr failed) = subst (λ (e : ToolEnd). WritesOn seen name told_old told_new e) (sym failed.0) (o.plain, inr (lines_written d))

@@ -19,9 +19,9 @@ use Rattle.mid_format.specs.declared.faults.MidFault.{MidFault}
 use Rattle.mid_format.specs.declared.faults.MidFault.TheVariants.{Truncated, NoBegin, NoEnd, AfterEnd, TooBig, ReadFault, BadRecord, TooLong}
 use Rattle.mid_format.specs.declared.progress.Progress.{Progress}
 use Rattle.midas_tools.specs.Areas.{AreEventLines, AreLinesOf, AreLinesOf-more, Adds}
-use Rattle.midas_tools.specs.Dumps.{HaltsBehind, ListsTo, SourceHalts, SinkHalts, ReadCounts, EndsUnread, PrintsLines, begin_lines, end_lines, fault_lines, new_begin, EndsAt, IsPart, IsDump, Listing, Printing, PrintsUpTo, PrintsSome, PrintsDump, ended_text, EndsText, DumpsTo}
+use Rattle.midas_tools.specs.Dumps.{HaltsBehind, ListsTo, SourceHalts, SinkHalts, ReadCounts, EndsUnread, PrintsLines, begin_lines, end_lines, fault_lines, new_begin, EndsAt, IsPart, IsDump, Listing, Printing, PrintsUpTo, PrintsRead, PrintsSome, PrintsDump, ended_text, EndsText, DumpsTo}
 use Rattle.midas_tools.specs.Findings.{FaultEnds, Printed, SinkCounts}
-use Rattle.midas_tools.specs.Printing.{Prints, Prints-none, Prints-more, Prints-all, Prints-part, Prints-fails, PassesPage}
+use Rattle.midas_tools.specs.Printing.{Prints, Prints-none, Prints-more, Prints-written, Prints-all, Prints-fails, PassesPage}
 use Rattle.midas_tools.specs.Texts.{bad_line}
 use Rattle.midas_tools.specs.declared.ends.InputFault.TheVariants.{Mid, Compressed, Missing, ScriptTooLong}
 use Rattle.midas_tools.specs.declared.halts.Halt.{Halt}
@@ -155,6 +155,25 @@ dump_fault bytes now p text f l is_fault ne =
       text_is = refl;
     }
 
+-- Nothing was printed.
+nothing_part : (bytes : List ℕ) → IsPart bytes []
+nothing_part bytes = record {
+  begin = None;
+  last = None;
+  rest = bytes;
+  lists = record { front = []; bytes_are = refl; events = []; is_done = (refl, refl); lines = []; lines_are = refl; text_is = refl };
+}
+
+pub nothing_listed : (bytes text : List ℕ) → text ≡ [] → IsPart bytes text
+nothing_listed bytes text e = subst (λ (t : List ℕ). IsPart bytes t) (sym e) (nothing_part bytes)
+
+told_nothing : (first : Option (List ℕ)) → IfSome first (λ bytes. IsPart bytes [])
+told_nothing None = tt
+told_nothing (Some bytes) = nothing_part bytes
+
+pub prints_nothing : (first told : Option (List ℕ)) → PrintsLines first told told
+prints_nothing first told = record { text = []; part = told_nothing first; written = Appends-nil told }
+
 -- Reading on
 
 pub printing_none : (first told : Option (List ℕ)) (p : Progress) (page : List ℕ) → p ≡ nothing_read → page ≡ [] → Printing first first p told told page
@@ -168,6 +187,7 @@ printing_none first told p page e blank = record {
     text_is = ap (λ (q : Progress). begin_lines q.begin ++ []) (sym e);
   };
   prints = subst (λ (q : List ℕ). Prints told told q []) (sym blank) (Prints-none told);
+  whole = prints_nothing first told;
   sound = ap (λ (q : Progress). q.fault) e;
   going = ap (λ (q : Progress). q.last) e;
 }
@@ -196,6 +216,7 @@ pub record Stepped (first after : Option (List ℕ)) (new : Progress) (told_firs
   pub lines_are : AreLinesOf events lines
   pub text_is : text ≡ begin_lines new.begin ++ lines
   pub prints : Prints told_first told_now page text
+  pub whole : PrintsLines first told_first told_now
 
 pub stepped : (first before after : Option (List ℕ)) (old new : Progress) (told_first told_now : Option (List ℕ)) (page page1 : List ℕ) (begun : Bool) (given : Result (Option (Unit {0})) MidFault) (event : Event)
     → Printing first before old told_first told_now page → ReadsOn before after old new given event → begun ≡ is_some old.begin → (IsSome old.begin → new.begin ≡ old.begin) → page1 ≡ page ++ new_begin begun new.begin
@@ -209,6 +230,7 @@ stepped first before after old new told_first told_now page page1 begun given ev
   text_is = ap (λ (t : List ℕ). t ++ new_begin begun new.begin) p.listing.text_is ∙ ap (λ (b : Bool). (begin_lines old.begin ++ p.listing.lines) ++ new_begin b new.begin) is_begun
       ∙ begun_text p.listing.read.done old.begin old.last new.begin p.listing.events p.listing.lines p.listing.read.is_done p.going p.listing.lines_are kept;
   prints = subst (λ (q : List ℕ). Prints told_first told_now q (p.text ++ new_begin begun new.begin)) (sym page_is) (Prints-more told_first told_now page p.text (new_begin begun new.begin) p.prints);
+  whole = p.whole;
 }
 
 pub up_to_end : (first after : Option (List ℕ)) (new : Progress) (told_first told_now : Option (List ℕ)) (page : List ℕ) (event : Event) → Stepped first after new told_first told_now page (Ok None) event → new.fault ≡ None
@@ -217,6 +239,7 @@ up_to_end first after new told_first told_now page event s sound = record {
   text = s.text;
   listing = record { events = s.events; read = s.read; lines = s.lines; lines_are = s.lines_are; text_is = s.text_is };
   prints = s.prints;
+  whole = s.whole;
   fault_is = sound;
 }
 
@@ -226,6 +249,7 @@ up_to_fault first after new told_first told_now page f event s is_fault = record
   text = s.text;
   listing = record { events = s.events; read = s.read; lines = s.lines; lines_are = s.lines_are; text_is = s.text_is };
   prints = s.prints;
+  whole = s.whole;
   fault_is = is_fault;
 }
 
@@ -244,28 +268,40 @@ more_printed : (first after : Option (List ℕ)) (new : Progress) (told_first to
 more_printed first after new told_first told_now page page1 one event s a =
     subst (λ (q : List ℕ). Prints told_first told_now q (s.text ++ a.lines)) (sym a.page_is) (Prints-more told_first told_now page s.text a.lines s.prints)
 
+-- a page that passes leaves the text printed, and what went to the sink whole lines
+passed : (first now new : Option (List ℕ)) (page1 page2 text : List ℕ) (done : Unit {0}) → Prints first now page1 text → PassesPage now new page1 page2 (Ok done) → Prints first new page2 text
+passed first now new page1 page2 text done p (inl kept) =
+    subst (λ (q : List ℕ). Prints first new q text) (sym kept.0) (subst (λ (t : Option (List ℕ)). Prints first t page1 text) (sym kept.1) p)
+passed first now new page1 page2 text done p (inr flushed) =
+    subst (λ (q : List ℕ). Prints first new q text) (sym flushed.0) (Prints-written first now new page1 text p flushed.1)
+
+passed_whole : (first told_first now new : Option (List ℕ)) (page1 page2 text : List ℕ) (done : Unit {0}) → IfSome first (λ bytes. IsPart bytes text) → Prints told_first now page1 text → PrintsLines first told_first now
+    → PassesPage now new page1 page2 (Ok done) → PrintsLines first told_first new
+passed_whole first told_first now new page1 page2 text done part p whole (inl kept) = subst (λ (t : Option (List ℕ)). PrintsLines first told_first t) (sym kept.1) whole
+passed_whole first told_first now new page1 page2 text done part p whole (inr flushed) = record { text = text; part = part; written = Prints-all told_first now new page1 text p flushed.1 }
+
 pub one_more : (first after : Option (List ℕ)) (new : Progress) (told_first told_now told_new : Option (List ℕ)) (page page1 page2 : List ℕ) (one : Unit {0}) (done : Unit {0}) (event : Event)
     → Stepped first after new told_first told_now page (Ok (Some one)) event → Adds (AreEventLines event) page page1 → PassesPage told_now told_new page1 page2 (Ok done) → new.fault ≡ None → new.last ≡ None
     → Printing first after new told_first told_new page2
-one_more first after new told_first told_now told_new page page1 page2 one done event s a passes sound going = record {
-  text = s.text ++ a.lines;
-  listing = more_listed first after new told_first told_now page page1 one event s a;
-  prints = passes told_first (s.text ++ a.lines) (more_printed first after new told_first told_now page page1 one event s a);
-  sound = sound;
-  going = going;
-}
+one_more first after new told_first told_now told_new page page1 page2 one done event s a passes sound going =
+    let listing = more_listed first after new told_first told_now page page1 one event s a in
+    let printed = more_printed first after new told_first told_now page page1 one event s a in
+    record {
+      text = s.text ++ a.lines;
+      listing = listing;
+      prints = passed told_first told_now told_new page1 page2 (s.text ++ a.lines) done printed passes;
+      whole = passed_whole first told_first told_now told_new page1 page2 (s.text ++ a.lines) done (part_listed first after new (s.text ++ a.lines) listing) printed s.whole passes;
+      sound = sound;
+      going = going;
+    }
 
 pub one_cut : (first after : Option (List ℕ)) (new : Progress) (told_first told_now told_new : Option (List ℕ)) (page page1 page2 : List ℕ) (one : Unit {0}) (failed : Failed) (event : Event)
     → Stepped first after new told_first told_now page (Ok (Some one)) event → Adds (AreEventLines event) page page1 → PassesPage told_now told_new page1 page2 (Err failed) → PrintsSome first told_first told_new
 one_cut first after new told_first told_now told_new page page1 page2 one failed event s a passes = record {
   text = s.text ++ a.lines;
   part = part_listed first after new (s.text ++ a.lines) (more_listed first after new told_first told_now page page1 one event s a);
-  written = passes told_first (s.text ++ a.lines) (more_printed first after new told_first told_now page page1 one event s a);
+  written = Prints-fails told_first told_now told_new page1 (s.text ++ a.lines) (more_printed first after new told_first told_now page page1 one event s a) passes;
 }
-
--- nothing more was printed
-pub stays_part : (first before : Option (List ℕ)) (old : Progress) (told_first told_now : Option (List ℕ)) (page : List ℕ) → Printing first before old told_first told_now page → PrintsSome first told_first told_now
-stays_part first before old told_first told_now page p = record { text = p.text; part = part_listed first before old p.text p.listing; written = Prints-part told_first told_now page p.text p.prints }
 
 -- The last lines
 
@@ -290,23 +326,23 @@ read_or_not (BadRecord at) = inr (λ e. cc)
 read_or_not (TooLong at) = inr (λ e. cc)
 
 module _ (last : Option Header) (fault : Option MidFault) (first now new : Option (List ℕ)) (sink_old sink_new : ℕ) (text page : List ℕ) where
-  ends_by : (end result : ToolEnd) → Prints first now page (ended_text text last fault) → (Appends first new (ended_text text last fault) → EndsText last fault first new text end)
-      → Printed page now new sink_old sink_new end result → EndsText last fault first new text result
-  ends_by end result p all (inl whole) = subst (λ (e : ToolEnd). EndsText last fault first new text e) (sym whole.0) (all (Prints-all first now new page (ended_text text last fault) p whole.1))
-  ends_by end result p all (inr part) = subst (λ (e : ToolEnd). EndsText last fault first new text e) (sym part.0) (Prints-fails first now new page (ended_text text last fault) p part.1)
+  ends_by : (end result : ToolEnd) → Prints first now page (ended_text text last fault) → (Appends first new (ended_text text last fault) → EndsText last fault now first new text end)
+      → Printed page now new sink_old sink_new end result → EndsText last fault now first new text result
+  ends_by end result p all (inl whole) = subst (λ (e : ToolEnd). EndsText last fault now first new text e) (sym whole.0) (all (Prints-all first now new page (ended_text text last fault) p whole.1))
+  ends_by end result p all (inr part) = subst (λ (e : ToolEnd). EndsText last fault now first new text e) (sym part.0) (Prints-fails first now new page (ended_text text last fault) p part.1)
 
 -- the page with the end record's line
 pub ended_page : (last : Option Header) (first now : Option (List ℕ)) (text page page1 : List ℕ) → Prints first now page text → page1 ≡ page ++ end_lines last → Prints first now page1 (text ++ end_lines last)
 ended_page last first now text page page1 p e = subst (λ (q : List ℕ). Prints first now q (text ++ end_lines last)) (sym e) (Prints-more first now page text (end_lines last) p)
 
 pub ends_well : (last : Option Header) (fault : Option MidFault) (first now new : Option (List ℕ)) (sink_old sink_new : ℕ) (text page : List ℕ) (result : ToolEnd) → fault ≡ None → Prints first now page (text ++ end_lines last)
-    → Printed page now new sink_old sink_new Done result → EndsText last fault first new text result
+    → Printed page now new sink_old sink_new Done result → EndsText last fault now first new text result
 ends_well last fault first now new sink_old sink_new text page result none p printed =
     let same : ended_text text last fault ≡ text ++ end_lines last = ap (λ (f : Option MidFault). ended_text text last f) none ∙ append-nil (text ++ end_lines last) in
     ends_by last fault first now new sink_old sink_new text page Done result (subst (λ (t : List ℕ). Prints first now page t) (sym same) p) (λ all. (none, all)) printed
 
 pub ends_badly : (last : Option Header) (fault : Option MidFault) (f : MidFault) (first now new : Option (List ℕ)) (sink_old sink_new : ℕ) (text page page1 : List ℕ) (end result : ToolEnd) → fault ≡ Some f → Prints first now page (text ++ end_lines last)
-    → FaultEnds f page page1 end → end ≢ NoMemory → Printed page1 now new sink_old sink_new end result → EndsText last fault first new text result
+    → FaultEnds f page page1 end → end ≢ NoMemory → Printed page1 now new sink_old sink_new end result → EndsText last fault now first new text result
 ends_badly last fault f first now new sink_old sink_new text page page1 Done result is_fault p e some printed = absurd e
 ends_badly last fault f first now new sink_old sink_new text page page1 (Input (Mid g)) result is_fault p e some printed =
     let line : fault_lines fault ≡ bad_line (Mid g) = ap fault_lines (is_fault ∙ ap Some (sym e.0)) ∙ fault_line_is g e.1 in
@@ -355,7 +391,7 @@ told_ended None now p text l = tt
 told_ended (Some bytes) now p text l = with_end bytes now p text l
 
 pub dumps_good : (first now : Option (List ℕ)) (p : Progress) (told_first told_now told_new : Option (List ℕ)) (page : List ℕ) (end : Header) (u : PrintsUpTo first now p told_first told_now page None) → p.last ≡ Some end
-    → (result : ToolEnd) → EndsText p.last None told_first told_new u.text result → DumpsTo first told_first told_new result
+    → (result : ToolEnd) → EndsText p.last None told_now told_first told_new u.text result → DumpsTo first now p told_first told_new result
 dumps_good first now p told_first told_now told_new page end u last_is Done e = (ended_text u.text p.last None, told_good first now p u.text end u.listing u.fault_is last_is, e.1)
 dumps_good first now p told_first told_now told_new page end u last_is (Input (Mid g)) e = some_is_none g (sym e.0)
 dumps_good first now p told_first told_now told_new page end u last_is (Input Compressed) e = absurd e
@@ -364,7 +400,7 @@ dumps_good first now p told_first told_now told_new page end u last_is (Input Sc
 dumps_good first now p told_first told_now told_new page end u last_is FileFault e = some_is_none ReadFault (sym e.0)
 dumps_good first now p told_first told_now told_new page end u last_is SinkFault e =
     inr (record { text = ended_text u.text p.last None; fault = None; sound = λ clash. some_is_none ReadFault (sym clash); dump = told_good first now p u.text end u.listing u.fault_is last_is; written = e })
-dumps_good first now p told_first told_now told_new page end u last_is NoMemory e = record { text = u.text; part = part_listed first now p u.text u.listing; written = e }
+dumps_good first now p told_first told_now told_new page end u last_is NoMemory e = subst (λ (t : Option (List ℕ)). PrintsLines first told_first t) (sym e) u.whole
 
 cut_fault : (first now : Option (List ℕ)) (p : Progress) (told_first told_now told_new : Option (List ℕ)) (page : List ℕ) (f : MidFault) (u : PrintsUpTo first now p told_first told_now page (Some f))
     → AppendsPart told_first told_new (ended_text u.text p.last (Some f)) → (f ≡ ReadFault) ⊎ (f ≢ ReadFault) → PrintsSome first told_first told_new ⊎ PrintsDump first told_first told_new
@@ -374,7 +410,7 @@ cut_fault first now p told_first told_now told_new page f u e (inr ne) =
     inr (record { text = ended_text u.text p.last (Some f); fault = Some f; sound = λ same. ne (same_fault f ReadFault same); dump = told_fault first now p u.text f u.listing u.fault_is ne; written = e })
 
 pub dumps_fault : (first now : Option (List ℕ)) (p : Progress) (told_first told_now told_new : Option (List ℕ)) (page : List ℕ) (f : MidFault) (u : PrintsUpTo first now p told_first told_now page (Some f))
-    → (result : ToolEnd) → EndsText p.last (Some f) told_first told_new u.text result → DumpsTo first told_first told_new result
+    → (result : ToolEnd) → EndsText p.last (Some f) told_now told_first told_new u.text result → DumpsTo first now p told_first told_new result
 dumps_fault first now p told_first told_now told_new page f u Done e = some_is_none f e.0
 dumps_fault first now p told_first told_now told_new page f u (Input (Mid g)) e =
     let same : f ≡ g = same_fault f g e.0 in (
@@ -387,31 +423,15 @@ dumps_fault first now p told_first told_now told_new page f u (Input Compressed)
 dumps_fault first now p told_first told_now told_new page f u (Input Missing) e = absurd e
 dumps_fault first now p told_first told_now told_new page f u (Input ScriptTooLong) e = absurd e
 dumps_fault first now p told_first told_now told_new page f u FileFault e = record {
-  text = ended_text u.text p.last (Some ReadFault);
-  part = told_part first now p u.text u.listing;
-  written = (subst (λ (o : Option MidFault). Appends told_first told_new (ended_text u.text p.last o)) e.0 e.1);
+  text = u.text;
+  listing = u.listing;
+  shown = u.text ++ end_lines p.last;
+  shows = inl refl;
+  written = subst (λ (t : List ℕ). Appends told_first told_new t) (append-nil (u.text ++ end_lines p.last))
+      (subst (λ (o : Option MidFault). Appends told_first told_new (ended_text u.text p.last o)) e.0 e.1);
 }
 dumps_fault first now p told_first told_now told_new page f u SinkFault e = cut_fault first now p told_first told_now told_new page f u e (read_or_not f)
-dumps_fault first now p told_first told_now told_new page f u NoMemory e = record { text = u.text; part = part_listed first now p u.text u.listing; written = e }
-
--- Nothing was printed.
-nothing_part : (bytes : List ℕ) → IsPart bytes []
-nothing_part bytes = record {
-  begin = None;
-  last = None;
-  rest = bytes;
-  lists = record { front = []; bytes_are = refl; events = []; is_done = (refl, refl); lines = []; lines_are = refl; text_is = refl };
-}
-
-pub nothing_listed : (bytes text : List ℕ) → text ≡ [] → IsPart bytes text
-nothing_listed bytes text e = subst (λ (t : List ℕ). IsPart bytes t) (sym e) (nothing_part bytes)
-
-told_nothing : (first : Option (List ℕ)) → IfSome first (λ bytes. IsPart bytes [])
-told_nothing None = tt
-told_nothing (Some bytes) = nothing_part bytes
-
-pub prints_nothing : (first told : Option (List ℕ)) → PrintsSome first told told
-prints_nothing first told = record { text = []; part = told_nothing first; written = record { count = 0; appends = Appends-nil told } }
+dumps_fault first now p told_first told_now told_new page f u NoMemory e = subst (λ (t : Option (List ℕ)). PrintsLines first told_first t) (sym e) u.whole
 
 -- The source's count of faults
 
@@ -446,21 +466,44 @@ front_nil : (xs ys : List ℕ) → xs ++ ys ≡ [] → xs ≡ []
 front_nil [] ys e = refl
 front_nil (x ∷ xs) ys e = absurd (let l : length (x ∷ xs ++ ys) ≡ 0 = ap (length {A = ℕ}) e in omega arith)
 
--- where no begin record was read before, nothing was printed
-begins_printing : (first before : Option (List ℕ)) (old : Progress) (told_first told_now : Option (List ℕ)) (page : List ℕ) → Printing first before old told_first told_now page → old.begin ≡ None → PrintsLines first told_first told_now
-begins_printing first before old told_first told_now page p fresh =
+-- where no begin record was read before, nothing was printed, and the line of the record is all that there is
+begins_printing : (first before now : Option (List ℕ)) (old new : Progress) (told_first told_now : Option (List ℕ)) (page : List ℕ) (given : Result (Option (Unit {0})) MidFault) (event : Event)
+    → Printing first before old told_first told_now page → old.begin ≡ None → ReadsOn before now old new given event → given ≡ Err ReadFault → PrintsRead first now new told_first told_now
+begins_printing first before now old new told_first told_now page given event p fresh reads is =
     let none : p.listing.events ≡ [] = no_events p.listing.read.done old.last p.listing.events (subst (λ (b : Option Header). IsDone p.listing.read.done b old.last p.listing.events) fresh p.listing.read.is_done) p.going in
     let lines : p.listing.lines ≡ [] = no_lines p.listing.events p.listing.lines none p.listing.lines_are in
     let text : p.text ≡ [] = p.listing.text_is ∙ ap (λ (b : Option Header). begin_lines b ++ p.listing.lines) fresh ∙ lines in
     let done : p.prints.done ≡ [] = front_nil p.prints.done page (sym p.prints.text_is ∙ text) in
-    record { text = []; part = told_nothing first; written = subst (λ (t : List ℕ). Appends told_first told_now t) done p.prints.written }
+    record {
+      text = begin_lines new.begin ++ p.listing.lines;
+      listing = record {
+        events = p.listing.events;
+        read = subst (λ (r : Result (Option (Unit {0})) MidFault). HasRead first now new (events_after p.listing.events r event)) is (reads first p.listing.events p.listing.read);
+        lines = p.listing.lines;
+        lines_are = p.listing.lines_are;
+        text_is = refl;
+      };
+      shown = [];
+      shows = inr (inr (refl, ap (λ (t : List ℕ). begin_lines new.begin ++ t) lines ∙ append-nil (begin_lines new.begin)));
+      written = subst (λ (t : List ℕ). Appends told_first told_now t) done p.prints.written;
+    }
 
-pub halts_unread : (first before now : Option (List ℕ)) (old new : Progress) (told_first told_now : Option (List ℕ)) (page page1 : List ℕ) (given : Result (Option (Unit {0})) MidFault) (halt : Halt)
-    → Printing first before old told_first told_now page → old.begin ≡ None → HaltsBehind given halt → ListsTo first now new told_first told_now page1 (Err halt)
-halts_unread first before now old new told_first told_now page page1 given halt p fresh (inl b) =
-    subst (λ (h : Halt). ListsTo first now new told_first told_now page1 (Err h)) (sym b.1) (begins_printing first before old told_first told_now page p fresh)
-halts_unread first before now old new told_first told_now page page1 given halt p fresh (inr b) =
-    subst (λ (h : Halt). ListsTo first now new told_first told_now page1 (Err h)) (sym b.1) (stays_part first before old told_first told_now page p)
+pub halts_unread : (first before now : Option (List ℕ)) (old new : Progress) (told_first told_now : Option (List ℕ)) (page page1 : List ℕ) (given : Result (Option (Unit {0})) MidFault) (event : Event) (halt : Halt)
+    → Printing first before old told_first told_now page → old.begin ≡ None → ReadsOn before now old new given event → HaltsBehind given halt → ListsTo first now new told_first told_now page1 (Err halt)
+halts_unread first before now old new told_first told_now page page1 given event halt p fresh reads (inl b) =
+    subst (λ (h : Halt). ListsTo first now new told_first told_now page1 (Err h)) (sym b.1) (begins_printing first before now old new told_first told_now page given event p fresh reads b.0)
+halts_unread first before now old new told_first told_now page page1 given event halt p fresh reads (inr b) =
+    subst (λ (h : Halt). ListsTo first now new told_first told_now page1 (Err h)) (sym b.1) p.whole
+
+-- the lines of what was read are whole lines
+shown_part : (first now : Option (List ℕ)) (p : Progress) (text shown : List ℕ) → Listing first now p text
+    → (shown ≡ text ++ end_lines p.last) ⊎ ((shown ≡ text) ⊎ ((shown ≡ []) × (text ≡ begin_lines p.begin))) → IfSome first (λ bytes. IsPart bytes shown)
+shown_part first now p text shown l (inl all) = subst (λ (t : List ℕ). IfSome first (λ bytes. IsPart bytes t)) (sym all) (told_ended first now p text l)
+shown_part first now p text shown l (inr (inl no_end)) = subst (λ (t : List ℕ). IfSome first (λ bytes. IsPart bytes t)) (sym no_end) (part_listed first now p text l)
+shown_part first now p text shown l (inr (inr none)) = subst (λ (t : List ℕ). IfSome first (λ bytes. IsPart bytes t)) (sym none.0) (told_nothing first)
+
+pub lines_of_read : (first now : Option (List ℕ)) (p : Progress) (told_first told_now : Option (List ℕ)) → PrintsRead first now p told_first told_now → PrintsLines first told_first told_now
+lines_of_read first now p told_first told_now r = record { text = r.shown; part = shown_part first now p r.text r.shown r.listing r.shows; written = r.written }
 
 pub sinks_behind : (given : Result (Option (Unit {0})) MidFault) (halt : Halt) (old new : ℕ) → HaltsBehind given halt → new ≡ old → SinkHalts (Err halt) old new
 sinks_behind given halt old new (inl b) same = subst (λ (h : Halt). SinkHalts (Err h) old new) (sym b.1) same
@@ -472,11 +515,11 @@ not_begun begun o is fresh = none_of o (λ some. fresh (is ∙ some))
 
 -- the last lines behind a fault of the source
 pub dumps_unread : (first now : Option (List ℕ)) (p : Progress) (told_first told_now told_new : Option (List ℕ)) (page : List ℕ) (u : PrintsUpTo first now p told_first told_now page (Some ReadFault)) (result : ToolEnd)
-    → EndsUnread p.last told_first told_new u.text result → DumpsTo first told_first told_new result
+    → EndsUnread p.last told_first told_new u.text result → DumpsTo first now p told_first told_new result
 dumps_unread first now p told_first told_now told_new page u Done e = absurd e
 dumps_unread first now p told_first told_now told_new page u (Input g) e = absurd e
-dumps_unread first now p told_first told_now told_new page u FileFault (inl e) = record { text = u.text ++ end_lines p.last; part = told_ended first now p u.text u.listing; written = e }
-dumps_unread first now p told_first told_now told_new page u FileFault (inr e) = record { text = u.text; part = part_listed first now p u.text u.listing; written = e }
+dumps_unread first now p told_first told_now told_new page u FileFault (inl e) = record { text = u.text; listing = u.listing; shown = u.text ++ end_lines p.last; shows = inl refl; written = e }
+dumps_unread first now p told_first told_now told_new page u FileFault (inr e) = record { text = u.text; listing = u.listing; shown = u.text; shows = inr (inl refl); written = e }
 dumps_unread first now p told_first told_now told_new page u SinkFault (inr e) = inl (record { text = u.text; part = part_listed first now p u.text u.listing; written = e })
 dumps_unread first now p told_first told_now told_new page u SinkFault (inl e) = inl (record { text = u.text ++ end_lines p.last; part = told_ended first now p u.text u.listing; written = e })
 dumps_unread first now p told_first told_now told_new page u NoMemory e = absurd e
@@ -496,25 +539,25 @@ unread_printed last first now new sink_old sink_new text page result p (inl whol
 unread_printed last first now new sink_old sink_new text page result p (inr part) =
     subst (λ (e : ToolEnd). EndsUnread last first new text e) (sym part.0) (inl (Prints-fails first now new page (text ++ end_lines last) p part.1))
 
-pub source_good : (last : Option Header) (first now : Option (List ℕ)) (text : List ℕ) (result : ToolEnd) (old new : ℕ) → EndsText last None first now text result → new ≡ old → ReadCounts result old new
-source_good last first now text Done old new e same = same
-source_good last first now text (Input (Mid g)) old new e same = same
-source_good last first now text (Input Compressed) old new e same = absurd e
-source_good last first now text (Input Missing) old new e same = absurd e
-source_good last first now text (Input ScriptTooLong) old new e same = absurd e
-source_good last first now text FileFault old new e same = some_is_none ReadFault (sym e.0)
-source_good last first now text SinkFault old new e same = tt
-source_good last first now text NoMemory old new e same = same
+pub source_good : (last : Option Header) (before first now : Option (List ℕ)) (text : List ℕ) (result : ToolEnd) (old new : ℕ) → EndsText last None before first now text result → new ≡ old → ReadCounts result old new
+source_good last before first now text Done old new e same = same
+source_good last before first now text (Input (Mid g)) old new e same = same
+source_good last before first now text (Input Compressed) old new e same = absurd e
+source_good last before first now text (Input Missing) old new e same = absurd e
+source_good last before first now text (Input ScriptTooLong) old new e same = absurd e
+source_good last before first now text FileFault old new e same = some_is_none ReadFault (sym e.0)
+source_good last before first now text SinkFault old new e same = tt
+source_good last before first now text NoMemory old new e same = same
 
-pub source_bad : (last : Option Header) (f : MidFault) (first now : Option (List ℕ)) (text : List ℕ) (result : ToolEnd) (old new : ℕ) → EndsText last (Some f) first now text result → f ≢ ReadFault → CountedBy f old new → ReadCounts result old new
-source_bad last f first now text Done old new e ne counted = some_is_none f e.0
-source_bad last f first now text (Input (Mid g)) old new e ne counted = counted_same f old new ne counted
-source_bad last f first now text (Input Compressed) old new e ne counted = absurd e
-source_bad last f first now text (Input Missing) old new e ne counted = absurd e
-source_bad last f first now text (Input ScriptTooLong) old new e ne counted = absurd e
-source_bad last f first now text FileFault old new e ne counted = absurd (ne (same_fault f ReadFault e.0))
-source_bad last f first now text SinkFault old new e ne counted = tt
-source_bad last f first now text NoMemory old new e ne counted = counted_same f old new ne counted
+pub source_bad : (last : Option Header) (f : MidFault) (before first now : Option (List ℕ)) (text : List ℕ) (result : ToolEnd) (old new : ℕ) → EndsText last (Some f) before first now text result → f ≢ ReadFault → CountedBy f old new → ReadCounts result old new
+source_bad last f before first now text Done old new e ne counted = some_is_none f e.0
+source_bad last f before first now text (Input (Mid g)) old new e ne counted = counted_same f old new ne counted
+source_bad last f before first now text (Input Compressed) old new e ne counted = absurd e
+source_bad last f before first now text (Input Missing) old new e ne counted = absurd e
+source_bad last f before first now text (Input ScriptTooLong) old new e ne counted = absurd e
+source_bad last f before first now text FileFault old new e ne counted = absurd (ne (same_fault f ReadFault e.0))
+source_bad last f before first now text SinkFault old new e ne counted = tt
+source_bad last f before first now text NoMemory old new e ne counted = counted_same f old new ne counted
 
 -- What the reader's answer says
 

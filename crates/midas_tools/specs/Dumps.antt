@@ -98,13 +98,13 @@ WritesFound seen name told_old told_new = (found : ToolEnd) × WritesAll IsDump 
 
 -- What `dump` writes, which prints as it reads: its text. Where a call on the files fails, that too, or whole lines of
 -- what was read in front of it; where the sink fails a part of the text, or of the lines of what was read; where memory
--- is wanting a part of these lines.
+-- is wanting whole lines of what was read.
 abbrev pub WritesOn : (seen : Seen) (name : List ℕ) (told_old told_new : Option (List ℕ)) → ToolEnd → Type 0
 WritesOn seen name told_old told_new Done = WritesAll IsDump seen name told_old told_new Done
 WritesOn seen name told_old told_new (Input fault) = WritesAll IsDump seen name told_old told_new (Input fault)
 WritesOn seen name told_old told_new FileFault = (is_compressed name ≡ false) × (WritesFound seen name told_old told_new ⊎ WritesLines seen name told_old told_new)
 WritesOn seen name told_old told_new SinkFault = WritesPart IsDump seen name told_old told_new ⊎ ((is_compressed name ≡ false) × WritesSome seen name told_old told_new)
-WritesOn seen name told_old told_new NoMemory = (is_compressed name ≡ false) × WritesSome seen name told_old told_new
+WritesOn seen name told_old told_new NoMemory = (is_compressed name ≡ false) × WritesLines seen name told_old told_new
 
 -- The text so far: the lines of the begin record and of the events that were read.
 pub record Listing (first now : Option (List ℕ)) (progress : Progress) (text : List ℕ) : Type 0 where
@@ -118,11 +118,29 @@ pub record Listing (first now : Option (List ℕ)) (progress : Progress) (text :
 abbrev pub new_begin : (begun : Bool) → Option Header → List ℕ
 new_begin begun begin = if begun then [] else begin_lines begin
 
--- The text so far was printed, and the file goes on.
+-- Some of the lines were printed whole.
+pub record PrintsLines (first told_first told_now : Option (List ℕ)) : Type 0 where
+  pub text : List ℕ
+  pub part : IfSome first (λ bytes. IsPart bytes text)
+  pub written : Appends told_first told_now text
+
+-- The source failed behind these records and events, of which `text` is the lines without the end record's. The lines of
+-- all of them were printed, up to the record whose line found no memory: the end record's, or that of the begin record
+-- where no event was read.
+pub record PrintsRead (first now : Option (List ℕ)) (progress : Progress) (told_first told_now : Option (List ℕ)) : Type 0 where
+  pub text : List ℕ
+  pub listing : Listing first now progress text
+  pub shown : List ℕ
+  pub shows : (shown ≡ text ++ end_lines progress.last)
+      ⊎ ((shown ≡ text) ⊎ ((shown ≡ []) × (text ≡ begin_lines progress.begin)))
+  pub written : Appends told_first told_now shown
+
+-- The text so far was printed, and the file goes on. What went to the sink is whole lines.
 pub record Printing (first now : Option (List ℕ)) (progress : Progress) (told_first told_now : Option (List ℕ)) (page : List ℕ) : Type 0 where
   pub text : List ℕ
   pub listing : Listing first now progress text
   pub prints : Prints told_first told_now page text
+  pub whole : PrintsLines first told_first told_now
   pub sound : progress.fault ≡ None
   pub going : progress.last ≡ None
 
@@ -131,6 +149,7 @@ pub record PrintsUpTo (first now : Option (List ℕ)) (progress : Progress) (tol
   pub text : List ℕ
   pub listing : Listing first now progress text
   pub prints : Prints told_first told_now page text
+  pub whole : PrintsLines first told_first told_now
   pub fault_is : progress.fault ≡ fault
 
 -- Some of the lines were printed.
@@ -138,12 +157,6 @@ pub record PrintsSome (first told_first told_now : Option (List ℕ)) : Type 0 w
   pub text : List ℕ
   pub part : IfSome first (λ bytes. IsPart bytes text)
   pub written : AppendsPart told_first told_now text
-
--- Some of the lines were printed whole.
-pub record PrintsLines (first told_first told_now : Option (List ℕ)) : Type 0 where
-  pub text : List ℕ
-  pub part : IfSome first (λ bytes. IsPart bytes text)
-  pub written : Appends told_first told_now text
 
 -- A part of the whole text was printed.
 pub record PrintsDump (first told_first told_now : Option (List ℕ)) : Type 0 where
@@ -158,8 +171,8 @@ abbrev pub ListsTo : (first now : Option (List ℕ)) (progress : Progress) (told
 ListsTo first now progress told_first told_now page (Ok done) = PrintsUpTo first now progress told_first told_now page None × ((end : Header) × (progress.last ≡ Some end))
 ListsTo first now progress told_first told_now page (Err (Bad fault)) = PrintsUpTo first now progress told_first told_now page (Some fault)
 ListsTo first now progress told_first told_now page (Err SinkFailed) = PrintsSome first told_first told_now
-ListsTo first now progress told_first told_now page (Err Short) = PrintsSome first told_first told_now
-ListsTo first now progress told_first told_now page (Err Unread) = PrintsLines first told_first told_now
+ListsTo first now progress told_first told_now page (Err Short) = PrintsLines first told_first told_now
+ListsTo first now progress told_first told_now page (Err Unread) = PrintsRead first now progress told_first told_now
 
 -- A line found no memory behind this answer of the reader: a fault of the source was met before.
 abbrev pub HaltsBehind : Result (Option (Unit {0})) MidFault → Halt → Type 0
@@ -192,16 +205,16 @@ ReadCounts NoMemory old new = new ≡ old
 abbrev pub ended_text : List ℕ → Option Header → Option MidFault → List ℕ
 ended_text text last fault = (text ++ end_lines last) ++ fault_lines fault
 
--- What the last lines make of a text: all of it was written, or a part of it.
-abbrev pub EndsText : (last : Option Header) (fault : Option MidFault) (first now : Option (List ℕ)) (text : List ℕ) → ToolEnd → Type 0
-EndsText last fault first now text Done = (fault ≡ None) × Appends first now (ended_text text last fault)
-EndsText last fault first now text (Input (Mid found)) = (fault ≡ Some found) × (found ≢ ReadFault) × Appends first now (ended_text text last fault)
-EndsText last fault first now text (Input Compressed) = ⊥
-EndsText last fault first now text (Input Missing) = ⊥
-EndsText last fault first now text (Input ScriptTooLong) = ⊥
-EndsText last fault first now text FileFault = (fault ≡ Some ReadFault) × Appends first now (ended_text text last fault)
-EndsText last fault first now text SinkFault = AppendsPart first now (ended_text text last fault)
-EndsText last fault first now text NoMemory = AppendsPart first now text
+-- What the last lines make of a text: all of it was written, or a part of it; without memory nothing more than before.
+abbrev pub EndsText : (last : Option Header) (fault : Option MidFault) (before first now : Option (List ℕ)) (text : List ℕ) → ToolEnd → Type 0
+EndsText last fault before first now text Done = (fault ≡ None) × Appends first now (ended_text text last fault)
+EndsText last fault before first now text (Input (Mid found)) = (fault ≡ Some found) × (found ≢ ReadFault) × Appends first now (ended_text text last fault)
+EndsText last fault before first now text (Input Compressed) = ⊥
+EndsText last fault before first now text (Input Missing) = ⊥
+EndsText last fault before first now text (Input ScriptTooLong) = ⊥
+EndsText last fault before first now text FileFault = (fault ≡ Some ReadFault) × Appends first now (ended_text text last fault)
+EndsText last fault before first now text SinkFault = AppendsPart first now (ended_text text last fault)
+EndsText last fault before first now text NoMemory = now ≡ before
 
 -- What the last lines make of a text where the source failed: all of it was written, but for the line of the end record
 -- where there was no memory for that.
@@ -212,13 +225,13 @@ EndsUnread last first now text FileFault = Appends first now (text ++ end_lines 
 EndsUnread last first now text SinkFault = AppendsPart first now (text ++ end_lines last) ⊎ AppendsPart first now text
 EndsUnread last first now text NoMemory = ⊥
 
--- What was printed of a source, by the end that it leads to.
-abbrev pub DumpsTo : (source told_old told_new : Option (List ℕ)) → ToolEnd → Type 0
-DumpsTo source told_old told_new Done = (text : List ℕ) × IfSome source (λ bytes. IsDump bytes None text) × Appends told_old told_new text
-DumpsTo source told_old told_new (Input (Mid fault)) = (text : List ℕ) × (fault ≢ ReadFault) × IfSome source (λ bytes. IsDump bytes (Some fault) text) × Appends told_old told_new text
-DumpsTo source told_old told_new (Input Compressed) = ⊥
-DumpsTo source told_old told_new (Input Missing) = ⊥
-DumpsTo source told_old told_new (Input ScriptTooLong) = ⊥
-DumpsTo source told_old told_new FileFault = PrintsLines source told_old told_new
-DumpsTo source told_old told_new SinkFault = PrintsSome source told_old told_new ⊎ PrintsDump source told_old told_new
-DumpsTo source told_old told_new NoMemory = PrintsSome source told_old told_new
+-- What was printed of a source, by the end that it leads to: where the source failed, all that was read in front of it.
+abbrev pub DumpsTo : (source now : Option (List ℕ)) (progress : Progress) (told_old told_new : Option (List ℕ)) → ToolEnd → Type 0
+DumpsTo source now progress told_old told_new Done = (text : List ℕ) × IfSome source (λ bytes. IsDump bytes None text) × Appends told_old told_new text
+DumpsTo source now progress told_old told_new (Input (Mid fault)) = (text : List ℕ) × (fault ≢ ReadFault) × IfSome source (λ bytes. IsDump bytes (Some fault) text) × Appends told_old told_new text
+DumpsTo source now progress told_old told_new (Input Compressed) = ⊥
+DumpsTo source now progress told_old told_new (Input Missing) = ⊥
+DumpsTo source now progress told_old told_new (Input ScriptTooLong) = ⊥
+DumpsTo source now progress told_old told_new FileFault = PrintsRead source now progress told_old told_new
+DumpsTo source now progress told_old told_new SinkFault = PrintsSome source told_old told_new ⊎ PrintsDump source told_old told_new
+DumpsTo source now progress told_old told_new NoMemory = PrintsLines source told_old told_new

@@ -1,7 +1,7 @@
 -- Text that goes to a sink by way of a page, which is written when it is full.
-use Rattle.std.specs.Prelude.{◌≡◌, ℕ, ◌+◌, List, [], ◌++◌, length, take, Option, Result, Ok, Err}
+use Rattle.std.specs.Prelude.{◌≡◌, ◌⊎◌, ℕ, ◌+◌, List, [], ◌++◌, length, take, Option, Result, Ok, Err}
 use Rattle.std.proofs.Common.{◌∙◌, refl, ap, sym, subst, append_assoc}
-use Rattle.std.proofs.Math.Seq.{take-append_seam, take-append-add}
+use Rattle.std.proofs.Math.Seq.{take-append-add}
 use Rattle.std.proofs.lemmas.List.{append-nil}
 use Rattle.std.specs.Io.KnownBytes.{Appends}
 use Rattle.daq_io.specs.declared.faults.Failed.{Failed}
@@ -29,13 +29,6 @@ Prints-written first now new page text p w = record { done = p.done ++ page; wri
 pub Prints-all : (first now new : Option (List ℕ)) (page text : List ℕ) → Prints first now page text → Appends now new page → Appends first new text
 Prints-all first now new page text p w = subst (λ (t : List ℕ). Appends first new t) (sym p.text_is) (Appends-trans first now new p.done page p.written w)
 
--- so far a part of the text was written
-pub Prints-part : (first now : Option (List ℕ)) (page text : List ℕ) → Prints first now page text → AppendsPart first now text
-Prints-part first now page text p = record {
-  count = length p.done;
-  appends = subst (λ (t : List ℕ). Appends first now (take (length p.done) t)) (sym p.text_is) (subst (λ (t : List ℕ). Appends first now t) (sym (take-append_seam p.done page)) p.written);
-}
-
 -- where the page was not written whole, a part of the text was
 pub Prints-fails : (first now new : Option (List ℕ)) (page text : List ℕ) → Prints first now page text → AppendsPart now new page → AppendsPart first new text
 Prints-fails first now new page text p w = record {
@@ -44,8 +37,9 @@ Prints-fails first now new page text p w = record {
       (subst (λ (t : List ℕ). Appends first new t) (sym (take-append-add p.done page w.count)) (Appends-trans first now new p.done (take w.count page) p.written w.appends));
 }
 
--- A page goes to the sink, if it is full: of any text as much as before was written and is on the page; where the sink
--- fails, a part of it was written.
+-- A page goes to the sink, if it is full: it stays, and nothing is written; or all of it was written, and it is empty.
+-- Where the sink fails, a part of it was written.
 abbrev pub PassesPage : (now new : Option (List ℕ)) (page_old page_new : List ℕ) → Result (Unit {0}) Failed → Type 0
-PassesPage now new page_old page_new (Ok done) = (first : Option (List ℕ)) (text : List ℕ) → Prints first now page_old text → Prints first new page_new text
-PassesPage now new page_old page_new (Err failed) = (first : Option (List ℕ)) (text : List ℕ) → Prints first now page_old text → AppendsPart first new text
+PassesPage now new page_old page_new (Ok done) =
+    ((page_new ≡ page_old) × (new ≡ now)) ⊎ ((page_new ≡ []) × Appends now new page_old)
+PassesPage now new page_old page_new (Err failed) = AppendsPart now new page_old

@@ -63,7 +63,9 @@ pub fn finish<F: Files, K: Sink>(
     let (closed, files) = close(source);
     match (end, closed) {
         (ToolEnd::Done | ToolEnd::Input(_), Ok(())) => (print(end, page.as_slice(), out), files),
-        (ToolEnd::Done | ToolEnd::Input(_), Err(_)) => (ToolEnd::FileFault, files),
+        (ToolEnd::Done | ToolEnd::Input(_) | ToolEnd::NoMemory, Err(_)) => {
+            (ToolEnd::FileFault, files)
+        }
         _ => (end, files),
     }
 }
@@ -75,7 +77,9 @@ pub fn close_dump<F: Files>(end: ToolEnd, source: FileSource<F>) -> (ToolEnd, F)
 {
     let (closed, files) = close(source);
     match (end, closed) {
-        (ToolEnd::Done | ToolEnd::Input(_), Err(_)) => (ToolEnd::FileFault, files),
+        (ToolEnd::Done | ToolEnd::Input(_) | ToolEnd::NoMemory, Err(_)) => {
+            (ToolEnd::FileFault, files)
+        }
         _ => (end, files),
     }
 }

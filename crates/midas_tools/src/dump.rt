@@ -82,7 +82,7 @@ fn end_dump<K: Sink>(
     page: &mut TextBuffer,
     out: &mut K,
 ) -> ToolEnd
-    ensures text { (first : Option (List ℕ)) → (text : List ℕ) → Prints first (K.written out.old) page.old text → EndsText last fault first (K.written out.new) text result }
+    ensures text { (first : Option (List ℕ)) → (text : List ℕ) → Prints first (K.written out.old) page.old text → EndsText last fault (K.written out.old) first (K.written out.new) text result }
     ensures sink { SinkCounts result (K.faults out.old) (K.faults out.new) }
 {
     let Ok(()) = add_end(page, last) else {
@@ -119,7 +119,7 @@ fn read_and_dump<S: Source, K: Sink>(
     out: &mut K,
 ) -> ToolEnd
     requires { reader.old.progress ≡ nothing_read }
-    ensures dumps { DumpsTo (S.left reader.old.source) (K.written out.old) (K.written out.new) result }
+    ensures dumps { DumpsTo (S.left reader.old.source) (S.left reader.new.source) reader.new.progress (K.written out.old) (K.written out.new) result }
     ensures source { ReadCounts result (S.faults reader.old.source) (S.faults reader.new.source) }
     ensures sink { SinkCounts result (K.faults out.old) (K.faults out.new) }
     ensures origin { S.origin reader.new.source ≡ S.origin reader.old.source }

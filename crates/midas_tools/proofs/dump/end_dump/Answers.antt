@@ -1,12 +1,11 @@
-use Rattle.std.proofs.Common.{ℕ, List, subst}
+use Rattle.std.proofs.Common.{ℕ, List, refl, subst}
 use Rattle.midas_tools.specs.Findings.{Printed}
-use Rattle.midas_tools.specs.Printing.{Prints-part}
 use Rattle.midas_tools.specs.declared.ends.ToolEnd.TheVariants.{Done}
 use Rattle.midas_tools.proofs.Dumping.{ended_page, ends_well, ends_badly, sink_of}
 use Rattle.midas_tools.proofs.dump.end_dump.Goals as goal
 
 pub returns-in_default-clause-text : goal.returns-in_default-clause-text
-returns-in_default-clause-text g c = λ first text p. Prints-part first _ _ text p
+returns-in_default-clause-text g c = λ first text p. refl
 
 pub returns-in-None-clause-text : goal.returns-in-None-clause-text
 returns-in-None-clause-text g c = λ first text p.
@@ -14,7 +13,7 @@ returns-in-None-clause-text g c = λ first text p.
     (subst (λ (q : List ℕ). Printed q (g.K.Sink.written c.args.out.now) (g.K.Sink.written c.print.new.out) (g.K.Sink.faults c.args.out.now) (g.K.Sink.faults c.print.new.out) Done c.print.result) c.as_slice.ensures c.print.ensures)
 
 pub returns-in-NoMemory-clause-text : goal.returns-in-NoMemory-clause-text
-returns-in-NoMemory-clause-text g c = λ first text p. Prints-part first _ _ text p
+returns-in-NoMemory-clause-text g c = λ first text p. refl
 
 pub returns-in_default-stop_at : goal.returns-in_default-stop_at
 returns-in_default-stop_at g c =

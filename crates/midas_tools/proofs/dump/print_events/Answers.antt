@@ -5,7 +5,7 @@ use Rattle.event_header.specs.declared.head.Header.{Header}
 use Rattle.mid_format.specs.Opened.{fault_of}
 use Rattle.mid_format.specs.declared.faults.MidFault.{MidFault}
 use Rattle.midas_tools.specs.Dumps.{new_begin, SourceHalts}
-use Rattle.midas_tools.proofs.Dumping.{halts_behind, halts_unread, sinks_behind, not_begun, Stepped, printing_none, stepped, stays_part, one_more, one_cut, up_to_end, up_to_fault, counts_ok, not_ended, ended_at}
+use Rattle.midas_tools.proofs.Dumping.{halts_behind, halts_unread, sinks_behind, not_begun, Stepped, printing_none, stepped, one_more, one_cut, up_to_end, up_to_fault, counts_ok, not_ended, ended_at}
 use Rattle.midas_tools.proofs.dump.print_events.Goals as goal
 
 pub loop-given-init : goal.loop-given-init
@@ -14,7 +14,7 @@ loop-given-init g c = record { printing = printing_none _ _ _ _ c.requires.new c
 pub returns-in_err-add_whole_event-in-Ok-Some-clause-lists : goal.returns-in_err-add_whole_event-in-Ok-Some-clause-lists
 returns-in_err-add_whole_event-in-Ok-Some-clause-lists g c =
     let p = err_from_is_err_and c.from_residual.result c.from_residual.ensures.1 in
-    rw (p.1, p.2) (stays_part _ _ _ _ _ _ c.loop-given.invariant.printing)
+    rw (p.1, p.2) c.loop-given.invariant.printing.whole
 
 pub loop-given-preserved : goal.loop-given-preserved
 loop-given-preserved g c =
@@ -71,7 +71,7 @@ pub returns-in_default-clause-lists : goal.returns-in_default-clause-lists
 returns-in_default-clause-lists g c =
     let fresh : c.loop-given.reader.progress.begin ≡ None =
     not_begun c.is_some-begun.result c.loop-given.reader.progress.begin (c.is_some-begun.ensures ∙ ap (is_some {T = Header}) c.begin.ensures) (λ h. let clash : false ≡ true = c.in_default.ensures.none h in cc) in
-    halts_unread _ _ _ c.loop-given.reader.progress _ _ _ _ _ c.next-given.result c.halt_behind.result c.loop-given.invariant.printing fresh c.halt_behind.ensures
+    halts_unread _ _ _ c.loop-given.reader.progress _ _ _ _ _ c.next-given.result c.next-given.new.into.event c.halt_behind.result c.loop-given.invariant.printing fresh c.next-given.ensures.reads c.halt_behind.ensures
 
 pub returns-in_default-clause-source : goal.returns-in_default-clause-source
 returns-in_default-clause-source g c =

@@ -13,13 +13,13 @@ returns-in_default-clause-dumps g c = prints_nothing _ _
 pub returns-in-Ok-print_events-clause-dumps : goal.returns-in-Ok-print_events-clause-dumps
 returns-in-Ok-print_events-clause-dumps g c =
     let u = c.in-Ok-print_events.ensures.lists in
-    let e = subst (λ (o : Option Header). EndsText o None (g.K.Sink.written c.args.out.now) (g.K.Sink.written c.end_dump.new.out) u.0.text c.end_dump.result) c.last.ensures (c.end_dump.ensures.text (g.K.Sink.written c.args.out.now) u.0.text u.0.prints) in
+    let e = subst (λ (o : Option Header). EndsText o None (g.K.Sink.written c.print_events.new.out) (g.K.Sink.written c.args.out.now) (g.K.Sink.written c.end_dump.new.out) u.0.text c.end_dump.result) c.last.ensures (c.end_dump.ensures.text (g.K.Sink.written c.args.out.now) u.0.text u.0.prints) in
     dumps_good _ _ c.print_events.new.reader.progress _ _ _ _ u.1.0 u.0 u.1.1 c.end_dump.result e
 
 pub returns-in-Ok-print_events-clause-source : goal.returns-in-Ok-print_events-clause-source
 returns-in-Ok-print_events-clause-source g c =
     let u = c.in-Ok-print_events.ensures.lists in
-    source_good _ _ _ _ c.end_dump.result _ _ (c.end_dump.ensures.text (g.K.Sink.written c.args.out.now) u.0.text u.0.prints) c.in-Ok-print_events.ensures.source
+    source_good _ _ _ _ _ c.end_dump.result _ _ (c.end_dump.ensures.text (g.K.Sink.written c.args.out.now) u.0.text u.0.prints) c.in-Ok-print_events.ensures.source
 
 pub returns-in-ReadFault-clause-dumps : goal.returns-in-ReadFault-clause-dumps
 returns-in-ReadFault-clause-dumps g c =
@@ -38,11 +38,11 @@ returns-in-ReadFault-clause-source g c =
 pub returns-in-Err-Bad-clause-dumps : goal.returns-in-Err-Bad-clause-dumps
 returns-in-Err-Bad-clause-dumps g c =
     let u = subst (λ (h : Halt). ListsTo (g.S.Source.left c.args.reader.now.source) (g.S.Source.left c.print_events.new.reader.source) c.print_events.new.reader.progress (g.K.Sink.written c.args.out.now) (g.K.Sink.written c.print_events.new.out) c.print_events.new.page (Err h)) c.in-Err-Bad.field-0-is c.in-Err-Bad.ensures.lists in
-    let e = subst (λ (o : Option Header). EndsText o (Some c.in-Err-Bad.fault) (g.K.Sink.written c.args.out.now) (g.K.Sink.written c.end_dump-in_default-fault.new.out) u.text c.end_dump-in_default-fault.result) c.last-in_default-fault.ensures (c.end_dump-in_default-fault.ensures.text (g.K.Sink.written c.args.out.now) u.text u.prints) in
+    let e = subst (λ (o : Option Header). EndsText o (Some c.in-Err-Bad.fault) (g.K.Sink.written c.print_events.new.out) (g.K.Sink.written c.args.out.now) (g.K.Sink.written c.end_dump-in_default-fault.new.out) u.text c.end_dump-in_default-fault.result) c.last-in_default-fault.ensures (c.end_dump-in_default-fault.ensures.text (g.K.Sink.written c.args.out.now) u.text u.prints) in
     dumps_fault _ _ c.print_events.new.reader.progress _ _ _ _ c.in-Err-Bad.fault u c.end_dump-in_default-fault.result e
 
 pub returns-in-Err-Bad-clause-source : goal.returns-in-Err-Bad-clause-source
 returns-in-Err-Bad-clause-source g c =
     let u = subst (λ (h : Halt). ListsTo (g.S.Source.left c.args.reader.now.source) (g.S.Source.left c.print_events.new.reader.source) c.print_events.new.reader.progress (g.K.Sink.written c.args.out.now) (g.K.Sink.written c.print_events.new.out) c.print_events.new.page (Err h)) c.in-Err-Bad.field-0-is c.in-Err-Bad.ensures.lists in
     let counted = subst (λ (h : Halt). SourceHalts (Err h) (g.S.Source.faults c.args.reader.now.source) (g.S.Source.faults c.print_events.new.reader.source)) c.in-Err-Bad.field-0-is c.in-Err-Bad.ensures.source in
-    source_bad c.last-in_default-fault.result c.in-Err-Bad.fault (g.K.Sink.written c.args.out.now) (g.K.Sink.written c.end_dump-in_default-fault.new.out) u.text c.end_dump-in_default-fault.result _ _ (c.end_dump-in_default-fault.ensures.text (g.K.Sink.written c.args.out.now) u.text u.prints) c.in_default-fault.not-ReadFault counted
+    source_bad c.last-in_default-fault.result c.in-Err-Bad.fault (g.K.Sink.written c.print_events.new.out) (g.K.Sink.written c.args.out.now) (g.K.Sink.written c.end_dump-in_default-fault.new.out) u.text c.end_dump-in_default-fault.result _ _ (c.end_dump-in_default-fault.ensures.text (g.K.Sink.written c.args.out.now) u.text u.prints) c.in_default-fault.not-ReadFault counted
