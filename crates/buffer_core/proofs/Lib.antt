@@ -11,5 +11,7 @@ pub mod Continuing
 pub mod Rising
 pub mod Reading
 pub mod Sampled
+pub mod SampledReceives
+pub mod SampledSends
 pub mod Searching
 pub mod NewNumbers

@@ -1,7 +1,7 @@
 -- The laws tell wrong histories from right ones.
 use Rattle.std.specs.Prelude.{◌≡◌, ◌≢◌, ℕ, ◌+◌, ◌^◌, ◌<◌, ◌≤◌, ◌==◌, Bool, true, false, if◌then◌else◌, List, [], ◌∷◌, Option, Some, None, Ok, refl}
 use Rattle.std.specs.Option.{option_map}
-use Rattle.std.proofs.Common.{ap, subst, arith, inl}
+use Rattle.std.proofs.Common.{subst, arith, inl}
 use Rattle.daq_types.specs.declared.events.Event.{Event}
 use Rattle.daq_types.specs.declared.runs.Kind.TheVariants.{All}
 use Rattle.daq_model.specs.Events.{Matches, matches, slot_of_length, slot_size}
@@ -12,38 +12,38 @@ use Rattle.buffer_core.specs.Window.{Sent, slot_of_sent, opening, no_clients, no
 use Rattle.buffer_core.specs.Histories.{IsLegal}
 use Rattle.buffer_core.specs.SlotLaws.{split}
 use Rattle.buffer_core.specs.Points.{Life, life_got, sent}
-use Rattle.buffer_core.specs.Delivered.{IsIn, HasWay, slots_of_places, DeliveryPart, InOrder, Complete, HeldBack, Bounded, MeetsPart, FailsAlone, Delivers}
+use Rattle.buffer_core.specs.Delivered.{IsIn, HasWay, slots_of_places, DeliveryPart, InOrder, Complete, HeldBack, Bounded, MeetsPart, FailsAlone}
 use Rattle.buffer_core.specs.Runs.{KeepsRuns}
-use Rattle.buffer_core.specs.Samples.{sample_event, refused_once, got_twice, left_out, reached_back, refused_for_nobody, got_too_much, dropped, sent_behind, sent_in_pause}
+use Rattle.buffer_core.specs.Samples.{sample_event, refused_once, got_twice, left_out, refused_for_nobody, got_too_much, sent_behind, sent_in_pause}
 use Rattle.buffer_core.proofs.Places.{drop_sum}
 
 pub refused_once_is_legal : IsLegal (opening 48) refused_once
 unfolding no_clients no_requests slot_of_length matches
 refused_once_is_legal = (refl, (refl, (refl, (refl, (refl, (refl, (refl, tt)))))))
 
-matches_all : Matches any any sample_event
+pub matches_all : Matches any any sample_event
 unfolding matches
 matches_all = refl
 
-abbrev all_events : EventRequest
+abbrev pub all_events : EventRequest
 all_events = record { id = any; mask = any; kind = All; since = 0 }
 
-abbrev sample_sent : Sent
+abbrev pub sample_sent : Sent
 sample_sent = record { event = sample_event; start = 0 }
 
 -- What a client got, where the entries tell only of client 0.
 
-abbrev reader_at : (drained : ℕ) → List ℕ → Life
+abbrev pub reader_at : (drained : ℕ) → List ℕ → Life
 reader_at drained places = record { joined = 0; places = places; drained = drained }
 
-life_is : (k l : Life) → Some k ≡ Some l → k ≡ l
+pub life_is : (k l : Life) → Some k ≡ Some l → k ≡ l
 life_is k l e = cc
 
 -- nothing was sent yet
-no_due : (past : List (ℕ × BufferEntry)) → sent past ≡ [] → (e : Event) (size : ℕ) → HasWay size past e
+pub no_due : (past : List (ℕ × BufferEntry)) → sent past ≡ [] → (e : Event) (size : ℕ) → HasWay size past e
 no_due past none e size client place due much = cc (due.wanted.is_sent, none)
 
-few : (lives : Bool → Option Life) (ss : List Sent) (client : ℕ) (life : Life) → lives (0 == client) ≡ Some life → lives false ≡ None
+pub few : (lives : Bool → Option Life) (ss : List Sent) (client : ℕ) (life : Life) → lives (0 == client) ≡ Some life → lives false ≡ None
     → ((l : Life) → lives true ≡ Some l → slots_of_places ss l.places ≤ 2 ^ 62) → slots_of_places ss life.places ≤ 2 ^ 62
 few lives ss client life is nobody reader =
     split (0 == client) (λ b. lives b ≡ Some life → slots_of_places ss life.places ≤ 2 ^ 62)
@@ -53,22 +53,22 @@ few lives ss client life is nobody reader =
 
 -- Samples, each of which fails one part alone.
 
-abbrev asked : List (ℕ × BufferEntry)
+abbrev pub asked : List (ℕ × BufferEntry)
 asked = (0, Request 0 any any All (Ok 0)) ∷ (0, Attach [] (Ok 0)) ∷ []
 
-abbrev attached : Bool → Option Life
+abbrev pub attached : Bool → Option Life
 attached b = if b then Some (reader_at 0 []) else None
 
-abbrev after_got : (place : ℕ) → (Bool → Option Life) → Bool → Option Life
+abbrev pub after_got : (place : ℕ) → (Bool → Option Life) → Bool → Option Life
 after_got place before b = if b then option_map (life_got place) (before b) else before b
 
-nothing_got : (ss : List Sent) (client : ℕ) (life : Life) → attached (0 == client) ≡ Some life → slots_of_places ss life.places ≤ 2 ^ 62
+pub nothing_got : (ss : List Sent) (client : ℕ) (life : Life) → attached (0 == client) ≡ Some life → slots_of_places ss life.places ≤ 2 ^ 62
 nothing_got ss client life is =
     few attached ss client life is refl (λ l e.
     let same : reader_at 0 [] ≡ l = life_is (reader_at 0 []) l e in
     subst (λ (x : Life). slots_of_places ss x.places ≤ 2 ^ 62) same (omega arith))
 
-one_got : (ss : List Sent) (place client : ℕ) (life : Life) → after_got place attached (0 == client) ≡ Some life → slots_of_places ss (place ∷ []) ≤ 2 ^ 62 → slots_of_places ss life.places ≤ 2 ^ 62
+pub one_got : (ss : List Sent) (place client : ℕ) (life : Life) → after_got place attached (0 == client) ≡ Some life → slots_of_places ss (place ∷ []) ≤ 2 ^ 62 → slots_of_places ss life.places ≤ 2 ^ 62
 one_got ss place client life is small =
     few (after_got place attached) ss client life is refl (λ l e.
     let same : reader_at 0 (place ∷ []) ≡ l = life_is (reader_at 0 (place ∷ [])) l e in
@@ -186,29 +186,6 @@ much_alone size e long =
     }
 
 -- More samples.
-
-pub never_reached_back : (size : ℕ) → Delivers size reached_back → ⊥
-never_reached_back size d =
-    let got = d.in_order.0 in
-    let late : EventRequest = record { id = any; mask = any; kind = All; since = 1 } in
-    split (0 == got.number) (λ b. (if b then Some late else None) ≡ Some got.request → ⊥)
-    (λ h is. let same : late ≡ got.request = cc (is) in omega (arith, ap (λ (q : EventRequest). q.since) same, got.wanted.since))
-    (λ h none. cc (none))
-    got.wanted.lives
-
-pub never_dropped : Delivers 24 dropped → ⊥
-unfolding slot_of_length
-never_dropped d =
-    d.held_back.0 0 0 (record {
-      life = reader_at 0 [];
-      number = 0;
-      request = all_events;
-      event = sample_sent;
-      lives = refl;
-      ahead = omega arith;
-      wanted = record { lives = refl; since = omega arith; is_sent = refl; matched = matches_all };
-      all = refl;
-    }) (omega arith)
 
 pub never_sent_behind : KeepsRuns sent_behind → ⊥
 never_sent_behind k =

@@ -1,13 +1,14 @@
 -- A history that a buffer has, and some that none has, each wrong in one way.
 use Rattle.std.specs.Prelude.{ℕ, List, [], ◌∷◌, length, Ok, Err}
 use Rattle.daq_types.specs.declared.events.Event.{Event}
-use Rattle.daq_types.specs.declared.runs.Kind.TheVariants.{All}
+use Rattle.daq_types.specs.declared.runs.Kind.TheVariants.{All, NonBlocking}
+use Rattle.buffer_core.specs.declared.gate.RunGate.TheVariants.{Shut}
 use Rattle.buffer_core.specs.Window.{any}
 use Rattle.buffer_core.specs.Ports.{Access}
 use Rattle.buffer_core.specs.declared.replies.SendRefusal.TheVariants.{Full}
-use Rattle.buffer_core.specs.declared.replies.Received.TheVariants.{Got}
+use Rattle.buffer_core.specs.declared.replies.Received.TheVariants.{Got, Empty}
 use Rattle.buffer_core.specs.declared.entry.BufferEntry.{BufferEntry}
-use Rattle.buffer_core.specs.declared.entry.BufferEntry.TheVariants.{Attach, Detach, Request, Send, SendInRun, Receive, Begin, Pause, End}
+use Rattle.buffer_core.specs.declared.entry.BufferEntry.TheVariants.{Attach, Detach, Request, Cancel, Send, SendInRun, Receive, Begin, Pause, End}
 
 -- an event without data
 abbrev pub sample_event : Event
@@ -47,6 +48,53 @@ dropped = with_reader ((1, Send 0 sample_event (Ok 0)) ∷ (1, Send 0 sample_eve
 -- an event is got that takes more than any client may get
 abbrev pub got_too_much : Event → List (ℕ × BufferEntry)
 got_too_much e = with_reader ((1, Send (length e.body) e (Ok 0)) ∷ (0, Receive 0 (length e.body) (Got 0 0)) ∷ [])
+
+-- two events are got that take more together
+abbrev pub got_too_much_together : Event → Event → List (ℕ × BufferEntry)
+got_too_much_together e f =
+    with_reader
+    ((1, Send (length e.body) e (Ok 0)) ∷ (0, Receive 0 (length e.body) (Got 0 0))
+    ∷ (1, Send (length f.body) f (Ok 1)) ∷ (0, Receive 0 (length f.body) (Got 1 0)) ∷ [])
+
+-- an event is got with a start number that it was not sent with
+abbrev pub got_with_other_start : List (ℕ × BufferEntry)
+got_with_other_start =
+    with_reader ((1, Send 0 sample_event (Ok 0)) ∷ (0, Receive 0 0 (Got 0 1)) ∷ [])
+
+-- an event is got whose request was cancelled
+abbrev pub got_of_cancelled : List (ℕ × BufferEntry)
+got_of_cancelled =
+    with_reader
+    ((1, Send 0 sample_event (Ok 0)) ∷ (0, Cancel 0 0 (Ok tt)) ∷ (0, Receive 0 0 (Got 0 0)) ∷ [])
+
+-- none is found though an event is to be got
+abbrev pub missed : List (ℕ × BufferEntry)
+missed = with_reader ((1, Send 0 sample_event (Ok 0)) ∷ (0, Receive 0 0 (Empty Shut 0)) ∷ [])
+
+-- a send is refused as full for a client that need not get all
+abbrev pub refused_for_optional : List (ℕ × BufferEntry)
+refused_for_optional =
+    (0, Attach [] (Ok 0)) ∷ (0, Request 0 any any NonBlocking (Ok 0))
+    ∷ (1, Send 0 sample_event (Ok 0)) ∷ (1, Send 0 sample_event (Err (Full 0 0))) ∷ []
+
+-- an event with one byte of data, which takes 32 bytes
+abbrev pub longer_event : Event
+longer_event = record { id = 1; mask = 1; serial = 1; time = 0; body = 0 ∷ [] }
+
+-- in 48 bytes two events are in the way of a third, and the refusal names the second of them
+abbrev pub refused_at_second : List (ℕ × BufferEntry)
+refused_at_second =
+    with_reader
+    ((1, Send 0 sample_event (Ok 0)) ∷ (1, Send 0 sample_event (Ok 1))
+    ∷ (1, Send 1 longer_event (Err (Full 0 1))) ∷ [])
+
+-- in 24 bytes an event is in the way that two clients have to get, and the refusal names the second
+-- of them
+abbrev pub refused_for_second : List (ℕ × BufferEntry)
+refused_for_second =
+    with_reader
+    ((1, Attach [] (Ok 1)) ∷ (1, Request 1 any any All (Ok 0))
+    ∷ (2, Send 0 sample_event (Ok 0)) ∷ (2, Send 0 sample_event (Err (Full 1 0))) ∷ [])
 
 -- an event of a run is sent behind its end
 abbrev pub sent_behind : List (ℕ × BufferEntry)

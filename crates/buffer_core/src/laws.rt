@@ -17,7 +17,7 @@ ghost use Rattle.buffer_core.specs.Continued.{sent_in, RepliesCount, GivesSent};
 ghost use Rattle.buffer_core.specs.Readers.{KeepsLife, HasRead, ReadsAll, places_got, places_of, among, wanted};
 ghost use Rattle.buffer_core.specs.Ports.{IsNewNumber};
 ghost use Rattle.buffer_core.specs.Searches.{FoundIsFirst, FirstIsFound, NotFoundIsNone, NoneIsNotFound, OwedIsLeast, LeastIsOwed, NotOwedIsNone, NoneIsNotOwed, DropIsLeast, LeastIsDrop};
-ghost use Rattle.buffer_core.specs.Samples.{refused_once, got_twice, left_out, reached_back, refused_for_nobody, got_too_much, dropped, sent_behind, sent_in_pause, access_after, given_once, given_and_detached, given_twice};
+ghost use Rattle.buffer_core.specs.Samples.{refused_once, got_twice, left_out, reached_back, refused_for_nobody, got_too_much, got_too_much_together, got_with_other_start, got_of_cancelled, missed, refused_for_optional, refused_at_second, refused_for_second, dropped, sent_behind, sent_in_pause, access_after, given_once, given_and_detached, given_twice};
 
 /// Each client gets only what its requests want, in order and once, and all of what its requests for all events want;
 /// a send is refused as full exactly where such an event is still to be got.
@@ -114,18 +114,42 @@ pub fn drops_least()
     ensures least { LeastIsDrop }
 {}
 
-/// What the laws ask is more than nothing: a history in which a send is refused as full; of each part of what a buffer
-/// delivers a history that fails that part alone; and others that they rule out.
+/// What the laws ask is more than nothing: a history in which a send is refused as full, and others
+/// that the laws of runs rule out.
 pub fn tells_apart()
     ensures refusal { IsLegal (opening 48) refused_once }
-    ensures twice { (size : ℕ) → FailsAlone InOrder size got_twice }
-    ensures less { FailsAlone Complete 48 left_out }
-    ensures nobody { (size : ℕ) → FailsAlone HeldBack size refused_for_nobody }
-    ensures much { (size : ℕ) → (event : Event) → 2 ^ 62 < slot_size event → FailsAlone Bounded size (got_too_much event) }
-    ensures before { (size : ℕ) → Delivers size reached_back → ⊥ }
-    ensures owed { Delivers 24 dropped → ⊥ }
     ensures behind { KeepsRuns sent_behind → ⊥ }
     ensures pause { KeepsRuns sent_in_pause → ⊥ }
+{}
+
+/// Of each part of what a buffer delivers, histories that fail that part alone.
+pub fn fails_alone()
+    // What is got: twice, from before its request, by a request that was cancelled, with another
+    // start number.
+    ensures twice { (size : ℕ) → FailsAlone InOrder size got_twice }
+    ensures before { (size : ℕ) → FailsAlone InOrder size reached_back }
+    ensures cancelled { (size : ℕ) → FailsAlone InOrder size got_of_cancelled }
+    ensures start { (size : ℕ) → FailsAlone InOrder size got_with_other_start }
+
+    // What is not got: passed over for a later event, and for none.
+    ensures less { FailsAlone Complete 48 left_out }
+    ensures missed { (size : ℕ) → FailsAlone Complete size missed }
+
+    // Who is waited for: nobody, one who need not get all, not the first event in the way, not the
+    // first client; and an event that goes in place of a refusal.
+    ensures nobody { (size : ℕ) → FailsAlone HeldBack size refused_for_nobody }
+    ensures optional { (size : ℕ) → FailsAlone HeldBack size refused_for_optional }
+    ensures place { FailsAlone HeldBack 48 refused_at_second }
+    ensures client { FailsAlone HeldBack 24 refused_for_second }
+    ensures owed { FailsAlone HeldBack 24 dropped }
+
+    // How much is got: by one event, and by two together.
+    ensures much { (size : ℕ) → (event : Event) →
+        2 ^ 62 < slot_size event →
+        FailsAlone Bounded size (got_too_much event) }
+    ensures together { (size : ℕ) → (first second : Event) →
+        2 ^ 62 < slot_size first + slot_size second →
+        FailsAlone Bounded size (got_too_much_together first second) }
 {}
 
 /// What a port tells of the numbers that it gives is more than nothing: a caller that has a client
