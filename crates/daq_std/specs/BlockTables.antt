@@ -1,5 +1,5 @@
 -- Files in blocks, each under a number.
-use Rattle.std.specs.Prelude.{◌≡◌, ◌≢◌, ℕ, List, [], Option, Some, None, false, slice_get}
+use Rattle.std.specs.Prelude.{◌≡◌, ◌≢◌, ℕ, List, [], Option, Some, None, Bool, true, false, slice_get}
 use Rattle.daq_std.specs.Blocks.{bytes_given, left_of}
 use Rattle.daq_std.specs.declared.blocks.BlockFile.{BlockFile}
 
@@ -27,6 +27,15 @@ left_by remaining (Some block) = left_of remaining block.file block.ahead
 -- the bytes that are left to read of the file of a number, where it tells them
 abbrev pub ahead_at : {F : Type 0} → (F → Option (List ℕ)) → List (BlockFile F) → ℕ → Option (List ℕ)
 ahead_at remaining blocks number = left_by remaining (slice_get blocks number)
+
+-- whether a write of the file in a block failed; where there is no block, no byte is taken
+abbrev pub is_broken_by : {F : Type 0} → Option (BlockFile F) → Bool
+is_broken_by None = true
+is_broken_by (Some block) = block.broken
+
+-- whether a write of the file of a number failed since it was opened
+abbrev pub is_broken_at : {F : Type 0} → List (BlockFile F) → ℕ → Bool
+is_broken_at blocks number = is_broken_by (slice_get blocks number)
 
 -- At most the blocks of one number are others.
 pub record ChangesBlock {F : Type 0} (old new : List (BlockFile F)) (number : ℕ) : Type 0 where

@@ -1,7 +1,7 @@
-ghost use Rattle.std.specs.Prelude.{◌≡◌, IfOk, IfSome, OnOk, slice_get};
+ghost use Rattle.std.specs.Prelude.{◌≡◌, IfOk, IfSome, IsErr, IsTrue, OnErr, OnOk, length, slice_get};
 ghost use Rattle.std.specs.Io.{ReadsAtMost};
 ghost use Rattle.std.specs.Io.KnownBytes.{Appends, Keeps, ReadConsumes};
-ghost use Rattle.daq_std.specs.BlockTables.{ChangesBlock, IsOpened, bytes_given_at, ahead_at};
+ghost use Rattle.daq_std.specs.BlockTables.{ChangesBlock, IsOpened, ahead_at, bytes_given_at, is_broken_at};
 
 use crate::blocks::BlockFile;
 use daq_io::Failed;
@@ -18,7 +18,9 @@ pub struct BlockTable<F> {
 
 impl<F: Read + Write + OpenFile + Drop> BlockTable<F> {
     /// Blocks for so many numbers.
-    pub fn new(alloc: Global, count: u32) -> Result<BlockTable<F>, NoMemory> {
+    pub fn new(alloc: Global, count: u32) -> Result<BlockTable<F>, NoMemory>
+        ensures { IfOk result (λ made. length made.blocks.items ≡ count) }
+    {
         let mut blocks = Vec::new(alloc);
         for _ in 0..count {
             blocks.push(BlockFile::new(alloc)?)?;
@@ -38,9 +40,11 @@ impl<F: Read + Write + OpenFile + Drop> BlockTable<F> {
         block.open(file);
     }
 
-    /// Appends to the file of this number.
+    /// Appends to the file of this number. Once a write failed, it takes no byte.
     pub fn append(&mut self, number: u32, bytes: &[u8]) -> Result<(), Failed>
         ensures grown { OnOk result (Appends (bytes_given_at F.contents self.old.blocks.items number) (bytes_given_at F.contents self.new.blocks.items number) bytes.now) }
+        ensures never_again { IsTrue (is_broken_at self.old.blocks.items number) → IsErr result }
+        ensures breaks { OnErr result (IsTrue (is_broken_at self.new.blocks.items number)) }
         ensures others { ChangesBlock self.old.blocks.items self.new.blocks.items number }
     {
         if number as usize >= self.blocks.as_slice().len() {
@@ -63,9 +67,11 @@ impl<F: Read + Write + OpenFile + Drop> BlockTable<F> {
         block.read(into)
     }
 
-    /// Writes what is left of the file of this number, has all of it put on the disk, and hands the file out.
+    /// Writes what is left of the file of this number, has all of it put on the disk, and hands the file out. It does not
+    /// where a write failed before.
     pub fn finish(&mut self, number: u32) -> Result<F, Failed>
         ensures whole { IfOk result (λ file. Keeps (bytes_given_at F.contents self.old.blocks.items number) (F.contents file)) }
+        ensures broken { IsTrue (is_broken_at self.old.blocks.items number) → IsErr result }
         ensures others { ChangesBlock self.old.blocks.items self.new.blocks.items number }
     {
         if number as usize >= self.blocks.as_slice().len() {

@@ -1,8 +1,10 @@
 //! One row for each real object.
 use super::*;
+use crate::table::BlockTable;
 use daq_io::{Clock, Failed, Files, NameRefused, Pick, Sink, Source, write_all};
 use daq_types::FileName;
-use std::fs;
+use std::fs::{self, Metadata, OpenFile};
+use std::io::{self, ErrorKind, Read, Write};
 use std::test::Fail;
 
 /// Makes a file of these bytes, reads it back into `into`, and answers how many bytes came.
@@ -86,6 +88,96 @@ fn files_of_a_folder(rt: HostRuntime) -> Result<(), Fail> {
     assert_eq!(rt; files.first_fault(), Some(below));
     is_send(&files);
     fs::remove_dir(&rt, folder)?;
+    Ok(())
+}
+
+/// A file on a disk that has room for so many bytes more, and may fail to keep what it was given.
+#[derive(Drop)]
+struct DiskFile {
+    room: usize,
+    keeps: bool,
+}
+
+impl Read for DiskFile {
+    fn read(&mut self, _into: &mut [u8]) -> io::Result<usize> {
+        Ok(0)
+    }
+}
+
+impl Write for DiskFile {
+    fn write(&mut self, bytes: &[u8]) -> io::Result<usize> {
+        if self.room < bytes.len() {
+            return Err(io::Error::from(ErrorKind::StorageFull));
+        }
+        self.room -= bytes.len();
+        Ok(bytes.len())
+    }
+
+    fn flush(&mut self) -> io::Result<()> {
+        Ok(())
+    }
+}
+
+impl OpenFile for DiskFile {
+    fn metadata(&self) -> io::Result<Metadata> {
+        Err(io::Error::from(ErrorKind::Unsupported))
+    }
+
+    fn set_len(&self, _size: u64) -> io::Result<()> {
+        Ok(())
+    }
+
+    fn sync_all(&self) -> io::Result<()> {
+        if self.keeps {
+            return Ok(());
+        }
+        Err(io::Error::from(ErrorKind::StorageFull))
+    }
+
+    fn sync_data(&self) -> io::Result<()> {
+        self.sync_all()
+    }
+}
+
+#[test]
+fn files_that_fail_at_their_close(rt: HostRuntime) -> Result<(), Fail> {
+    let mut table = BlockTable::new(rt.alloc(), 1)?;
+    for (room, keeps, left) in [(8, true, Some(3)), (4, true, None), (8, false, None)] {
+        table.open(0, DiskFile { room, keeps });
+        assert_eq!(rt; table.append(0, b"MIDAS"), Ok(()));
+        let closed = match table.finish(0) {
+            Ok(file) => Some(file.room),
+            Err(Failed) => None,
+        };
+        assert_eq!(rt; closed, left);
+    }
+    Ok(())
+}
+
+#[test]
+fn a_file_whose_write_failed(rt: HostRuntime) -> Result<(), Fail> {
+    let mut table = BlockTable::new(rt.alloc(), 1)?;
+    table.open(
+        0,
+        DiskFile {
+            room: 8,
+            keeps: true,
+        },
+    );
+    let mut taken = 0;
+    for count in 0..20_000 {
+        if table.append(0, b"MIDAS").is_err() {
+            taken = count;
+            break;
+        }
+    }
+    assert_eq!(rt;
+        taken,
+        13_107,
+        "a block of 65,536 bytes is written out when it is full"
+    );
+    assert_eq!(rt; table.append(0, b""), Err(Failed));
+    assert!(rt; table.finish(0).is_err());
     Ok(())
 }
 
