@@ -18,7 +18,7 @@ enum Step {
     /// The client, the id, the mask and the kind.
     Request(u32, u16, u16, Kind, Result<u32, RequestRefusal>),
     Cancel(u32, u32, Result<(), RequestRefusal>),
-    /// The id, the mask and the bytes of data.
+    /// The id, the mask and the length of the data.
     Send(u16, u16, usize, Result<u64, SendRefusal>),
     /// An event whose header states 8 bytes, with 7.
     SendShort(Result<u64, SendRefusal>),
@@ -27,6 +27,9 @@ enum Step {
     Receive(u32, Received),
     /// With room for so many bytes.
     ReceiveInto(u32, u32, Received),
+    /// The first client gets the event of this place and start number, with this id and mask and so
+    /// many bytes of data.
+    Given(u64, u32, u16, u16, usize),
     Begin(u32, Result<u64, MarkRefusal>),
     Pause(u32, Result<u64, MarkRefusal>),
     Resume(u32, Result<u64, MarkRefusal>),
@@ -40,7 +43,10 @@ use Step::*;
 
 const ANY: u16 = 0xFFFF;
 
-const DATA: [u8; 233] = [0; 233];
+/// The bytes of the data of an event of this id.
+fn data_of(id: u16) -> [u8; 233] {
+    [id.to_le_bytes()[0]; 233]
+}
 
 fn header(id: u16, mask: u16, size: u32) -> Header {
     Header {
@@ -59,8 +65,24 @@ fn sent<B: EventBuffer>(
     mask: u16,
     size: usize,
 ) -> Result<u64, SendRefusal> {
-    assert!(rt; size <= DATA.len());
-    buffer.send(&header(id, mask, size as u32), &DATA[..size])
+    let data = data_of(id);
+    assert!(rt; size <= data.len());
+    buffer.send(&header(id, mask, size as u32), &data[..size])
+}
+
+/// Receives an event, which has to be this one.
+fn receive_given<R: Abort + AllocGlobal, B: EventBuffer>(
+    rt: &R,
+    buffer: &mut B,
+    reply: Received,
+    header: Header,
+    data: &[u8],
+) -> Result<(), Fail> {
+    let mut into = EventBuf::new(rt.alloc(), 233)?;
+    assert_eq!(rt; buffer.receive(0, &mut into), reply);
+    assert_eq!(rt; into.header(), header);
+    assert_eq!(rt; into.body(), data);
+    Ok(())
 }
 
 /// Makes the call and compares its reply.
@@ -78,9 +100,9 @@ fn run_step<R: Abort + AllocGlobal, B: EventBuffer>(
         ),
         Cancel(client, request, reply) => assert_eq!(rt; buffer.cancel(client, request), reply),
         Send(id, mask, size, reply) => assert_eq!(rt; sent(rt, buffer, id, mask, size), reply),
-        SendShort(reply) => assert_eq!(rt; buffer.send(&header(1, 0, 8), &DATA[..7]), reply),
+        SendShort(reply) => assert_eq!(rt; buffer.send(&header(1, 0, 8), &data_of(1)[..7]), reply),
         SendInRun(start, reply) => assert_eq!(rt;
-            buffer.send_in_run(start, &header(1, 0, 24), &DATA[..24]),
+            buffer.send_in_run(start, &header(1, 0, 24), &data_of(1)[..24]),
             reply
         ),
         Receive(client, reply) => {
@@ -90,6 +112,18 @@ fn run_step<R: Abort + AllocGlobal, B: EventBuffer>(
         ReceiveInto(client, room, reply) => {
             let mut into = EventBuf::new(rt.alloc(), room)?;
             assert_eq!(rt; buffer.receive(client, &mut into), reply);
+        }
+        Given(place, start, id, mask, size) => {
+            let data = data_of(id);
+            assert!(rt; size <= data.len());
+            let reply = Received::Got { place, start };
+            receive_given(
+                rt,
+                buffer,
+                reply,
+                header(id, mask, size as u32),
+                &data[..size],
+            )?;
         }
         Begin(start, reply) => assert_eq!(rt; buffer.begin(start), reply),
         Pause(start, reply) => assert_eq!(rt; buffer.pause(start), reply),
@@ -105,7 +139,7 @@ fn name(rt: &impl Abort) -> Name {
     Name::new(b"ANA").expect(rt, "a name")
 }
 
-/// Makes the calls on a new buffer of 256 bytes, and compares their replies.
+/// Makes the calls, and compares their replies.
 fn run_all<R: Abort + AllocGlobal, B: EventBuffer>(
     rt: &R,
     buffer: &mut B,
@@ -122,11 +156,6 @@ const NOTHING: Received = Received::Empty {
     gate: RunGate::Shut,
     last: 0,
 };
-
-/// An event of no run.
-fn got(place: u64) -> Received {
-    Received::Got { place, start: 0 }
-}
 
 const MUST_GET: [Step; 15] = [
     Attach(Ok(0)),
@@ -214,17 +243,29 @@ const REFUSED: [Step; 8] = [
     Level(256),
 ];
 
-const SMALL_ROOM: [Step; 10] = [
+/// The third event lies over the end of the ring, at the offsets 192 to 287.
+const OVER_THE_END: [Step; 11] = [
     Attach(Ok(0)),
     Request(0, ANY, ANY, All, Ok(0)),
     Send(1, 0, 72, Ok(0)),
-    Send(1, 0, 72, Ok(1)),
-    Receive(0, Received::Got { place: 0, start: 0 }),
-    Send(1, 0, 72, Ok(2)),
+    Send(2, 0, 72, Ok(1)),
+    Given(0, 0, 1, 0, 72),
+    Send(3, 0, 72, Ok(2)),
+    Given(1, 0, 2, 0, 72),
     ReceiveInto(0, 71, Received::SmallBuf { need: 72 }),
-    Receive(0, Received::Got { place: 1, start: 0 }),
-    Receive(0, Received::Got { place: 2, start: 0 }),
+    Given(2, 0, 3, 0, 72),
     Receive(0, NOTHING),
+    Detach(0, Ok(())),
+];
+
+const GIVEN_AS_SENT: [Step; 7] = [
+    Attach(Ok(0)),
+    Request(0, ANY, ANY, All, Ok(0)),
+    Begin(4, Ok(0)),
+    Send(2, 3, 8, Ok(0)),
+    SendInRun(4, Ok(1)),
+    Given(0, 0, 2, 3, 8),
+    Given(1, 4, 1, 0, 24),
 ];
 
 const MATCHED: [Step; 13] = [
@@ -314,7 +355,7 @@ const GATED: [Step; 14] = [
 ];
 
 /// What events a buffer holds back and gives, and which calls it refuses.
-const ROWS: [&[Step]; 9] = [
+const ROWS: [&[Step]; 10] = [
     // A client that must get all events holds back sends.
     &MUST_GET,
     // A client that need not get them is pushed.
@@ -323,8 +364,10 @@ const ROWS: [&[Step]; 9] = [
     &NOT_OWED,
     // Events that are no good are refused.
     &REFUSED,
-    // A small room leaves the event where it is.
-    &SMALL_ROOM,
+    // An event over the end of the ring is given whole, and stays where the room is too small.
+    &OVER_THE_END,
+    // An event is given with its header, its data and its start number.
+    &GIVEN_AS_SENT,
     // Requests match by id and mask.
     &MATCHED,
     // A cancelled request asks no more.
@@ -361,67 +404,21 @@ fn use_numbers_again<R: Abort + AllocGlobal, B: EventBuffer>(
     Ok(())
 }
 
-fn give_what_was_sent<R: Abort + AllocGlobal, B: EventBuffer>(
-    rt: &R,
-    buffer: &mut B,
-) -> Result<(), Fail> {
-    let mut into = EventBuf::new(rt.alloc(), 8)?;
-    assert_eq!(rt; buffer.attach(name(rt)), Ok(0));
-    assert_eq!(rt; buffer.request(0, ANY, ANY, All), Ok(0));
-    assert_eq!(rt; buffer.begin(4), Ok(0));
-    assert_eq!(rt; buffer.send(&header(1, 3, 8), &[7; 8]), Ok(0));
-    assert_eq!(rt; buffer.send_in_run(4, &header(2, 5, 3), &[1, 2, 3]), Ok(1));
-    assert_eq!(rt; buffer.receive(0, &mut into), got(0));
-    assert_eq!(rt; into.header(), header(1, 3, 8));
-    assert_eq!(rt; into.body(), [7; 8].as_slice());
-    assert_eq!(rt;
-        buffer.receive(0, &mut into),
-        Received::Got { place: 1, start: 4 }
-    );
-    assert_eq!(rt; into.header(), header(2, 5, 3));
-    assert_eq!(rt; into.body(), [1, 2, 3].as_slice());
-    Ok(())
-}
-
-/// A third event goes over the end of the ring, and is received whole.
-fn send_over_the_end<R: Abort + AllocGlobal, B: EventBuffer>(
-    rt: &R,
-    buffer: &mut B,
-) -> Result<(), Fail> {
-    let mut into = EventBuf::new(rt.alloc(), 72)?;
-    let mut small = EventBuf::new(rt.alloc(), 71)?;
-    assert_eq!(rt; buffer.attach(name(rt)), Ok(0));
-    assert_eq!(rt; buffer.request(0, ANY, ANY, All), Ok(0));
-    assert_eq!(rt; buffer.send(&header(1, 0, 72), &[1; 72]), Ok(0));
-    assert_eq!(rt; buffer.send(&header(2, 0, 72), &[2; 72]), Ok(1));
-    assert_eq!(rt; buffer.receive(0, &mut into), got(0));
-    assert_eq!(rt; buffer.send(&header(3, 0, 72), &[3; 72]), Ok(2));
-    assert_eq!(rt; buffer.receive(0, &mut into), got(1));
-    assert_eq!(rt;
-        buffer.receive(0, &mut small),
-        Received::SmallBuf { need: 72 }
-    );
-    assert_eq!(rt; buffer.receive(0, &mut into), got(2));
-    assert_eq!(rt; into.header(), header(3, 0, 72));
-    assert_eq!(rt; into.body(), [3; 72].as_slice());
-    assert_eq!(rt; buffer.detach(0), Ok(()));
-    Ok(())
+/// Makes the calls on a new buffer of 256 bytes of each kind.
+fn both_run<R: Abort + AllocGlobal>(rt: &R, steps: &[Step]) -> Result<(), Fail> {
+    run_all(rt, &mut PlainBuffer::new(rt.alloc(), 256)?, steps)?;
+    run_all(
+        rt,
+        &mut RingBuffer::over(Ring::new(rt.alloc(), 256)?),
+        steps,
+    )
 }
 
 #[test]
 fn both_buffers_reply_by_the_rows(rt: HostRuntime) -> Result<(), Fail> {
     for steps in ROWS {
-        run_all(&rt, &mut PlainBuffer::new(rt.alloc(), 256)?, steps)?;
-        run_all(
-            &rt,
-            &mut RingBuffer::over(Ring::new(rt.alloc(), 256)?),
-            steps,
-        )?;
+        both_run(&rt, steps)?;
     }
     use_numbers_again(&rt, &mut PlainBuffer::new(rt.alloc(), 256)?)?;
-    use_numbers_again(&rt, &mut RingBuffer::over(Ring::new(rt.alloc(), 256)?))?;
-    give_what_was_sent(&rt, &mut PlainBuffer::new(rt.alloc(), 256)?)?;
-    give_what_was_sent(&rt, &mut RingBuffer::over(Ring::new(rt.alloc(), 256)?))?;
-    send_over_the_end(&rt, &mut PlainBuffer::new(rt.alloc(), 256)?)?;
-    send_over_the_end(&rt, &mut RingBuffer::over(Ring::new(rt.alloc(), 256)?))
+    use_numbers_again(&rt, &mut RingBuffer::over(Ring::new(rt.alloc(), 256)?))
 }
