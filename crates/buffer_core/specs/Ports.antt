@@ -116,11 +116,17 @@ abbrev pub IsSmallBuf : Received → Type 0
 IsSmallBuf (SmallBuf need) = ⊤
 IsSmallBuf reply = ⊥
 
--- a refusal of this event by a buffer of this size, as far as event and size decide
+-- a refusal of this event, sent in no run, by a buffer of this size, as far as event and size
+-- decide
 abbrev pub IsSendFault : (size stated : ℕ) → Event → SendRefusal → Type 0
-IsSendFault size stated e (NotRunning gate) = ⊤
+IsSendFault size stated e (NotRunning gate) = ⊥
 IsSendFault size stated e (BadSize s given) = (s ≡ stated) × (given ≡ length e.body) × (((stated == length e.body) && nat_le stated event_limit) ≡ false)
 IsSendFault size stated e (ReservedId id) = (id ≡ e.id) × (is_reserved e.id ≡ true)
 IsSendFault size stated e (TooLarge slot whole) = (slot ≡ slot_size e) × (whole ≡ size) × (size < slot_size e)
 IsSendFault size stated e (Spent total) = ⊤
 IsSendFault size stated e (Full client place) = ⊤
+
+-- the same, sent in a run, which may be off
+abbrev pub IsRunSendFault : (size stated : ℕ) → Event → SendRefusal → Type 0
+IsRunSendFault size stated e (NotRunning gate) = ⊤
+IsRunSendFault size stated e refusal = IsSendFault size stated e refusal

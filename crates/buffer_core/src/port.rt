@@ -2,7 +2,7 @@ ghost use Rattle.std.specs.Prelude.{◌≡◌, ◌-◌, ◌^◌, ◌≤◌, ℕ,
 ghost use Rattle.daq_model.specs.Events.{event_limit};
 ghost use Rattle.event_header.specs.Headers.{event_of};
 ghost use Rattle.buffer_core.specs.declared.entry.BufferEntry.TheVariants.{Attach, Detach, Request, Cancel, Send, SendInRun, Receive, Begin, Pause, Resume, End, Level, Accepted};
-ghost use Rattle.buffer_core.specs.Ports.{Calls, Receives, KeepsUnlessGot, GivesSound, IsSmallBuf, IsSendFault, IsNewNumber, knowing, slots_got, name_of, names_given};
+ghost use Rattle.buffer_core.specs.Ports.{Calls, Receives, KeepsUnlessGot, GivesSound, IsSmallBuf, IsSendFault, IsRunSendFault, IsNewNumber, knowing, slots_got, name_of, names_given};
 
 use crate::replies::{MarkRefusal, NoClient, NoSlot, Received, RequestRefusal, SendRefusal};
 use daq_types::{Kind, Name};
@@ -64,7 +64,7 @@ pub trait BufferPort {
         requires room { 1 ≤ (access self.old).entries }
         requires bytes { length body.now ≤ (access self.old).bytes }
         ensures called { Calls (access self.old) (access self.new) (SendInRun start header.now.data_size (event_of header.now body.now) result) }
-        ensures refused { IfErr result (IsSendFault (access self.old).size header.now.data_size (event_of header.now body.now)) };
+        ensures refused { IfErr result (IsRunSendFault (access self.old).size header.now.data_size (event_of header.now body.now)) };
 
     /// As `EventBuffer::receive`.
     fn receive<R: Wait>(&mut self, rt: &R, client: u32, into: &mut EventBuf) -> Received

@@ -7,16 +7,13 @@ ghost use Rattle.buffer_core.specs.Calls.{send_reply, after_send, gone_of};
 use crate::clients::Clients;
 use crate::rows::{Row, count_to_drop, data_len, drop_front, first_owed, first_wanted, slots_len};
 use buffer_core::{
-    EventBuffer, MarkRefusal, NoClient, NoSlot, Received, Request, RequestRefusal, RunGate,
-    SendRefusal, free_number,
+    EventBuffer, MAX_TOTAL, MarkRefusal, NoClient, NoSlot, Received, Request, RequestRefusal,
+    RunGate, SendRefusal, free_number, is_id_reserved,
 };
 use daq_types::{Kind, Name, NoMemory};
 use event_header::{EventBuf, Header, MAX_DATA, append_within, slot_len};
 use std::alloc::Global;
 use std::marker::Model;
-
-/// The most bytes that all events of a buffer take together, whether still kept or not.
-const MAX_TOTAL: u64 = 1 << 62;
 
 /// An event buffer over rows and their data, in room that `new` takes. Where kept events are dropped, the others are
 /// moved down.
@@ -43,13 +40,6 @@ impl Model for PlainBuffer {
     ghost view = { window_of };
 
     ghost invariant = { IsPlain };
-}
-
-/// Whether the id is one that no front-end may send: that of a run record or of a fragment.
-fn is_id_reserved(id: u16) -> bool
-    ensures { result ≡ is_reserved id }
-{
-    id == 0x8000 || id == 0x8001 || id / 4096 == 12 || id / 4096 == 13
 }
 
 impl PlainBuffer {

@@ -1,5 +1,5 @@
 ghost use Rattle.std.specs.Prelude.{◌≡◌, ◌≤◌, ◌+◌, ◌^◌, ℕ, length, drop, sum_by, IfOk, IfErr, OnOk, OnErr, Ok, Err};
-ghost use Rattle.daq_model.specs.Events.{slot_size, is_reserved, event_limit};
+ghost use Rattle.daq_model.specs.Events.{slot_size, event_limit};
 ghost use Rattle.event_header.specs.Headers.{event_of};
 ghost use Rattle.buffer_core.specs.Window.{opening, accepted_of, slot_of_sent, IsWindow};
 ghost use Rattle.buffer_core.specs.Calls.{send_reply, after_send, gone_of};
@@ -8,16 +8,13 @@ ghost use Rattle.ring_buffer.specs.Reads.{reads_of_send};
 use crate::search::find_way;
 use crate::slot::{FRONT, front_bytes_of};
 use crate::walk::{Owed, Position};
-use buffer_core::{RunGate, SendRefusal};
+use buffer_core::{MAX_TOTAL, RunGate, SendRefusal, is_id_reserved};
 use client_pointers::Pointers;
 use daq_types::Steps;
 use event_header::{Header, MAX_DATA, slot_len};
 use ring_bytes::Ring;
 use std::marker::Model;
 use std::sync::ledger::Ledger;
-
-/// The most bytes that all events of a buffer take together, whether still kept or not.
-const MAX_TOTAL: u64 = 1 << 62;
 
 /// An event buffer over the bytes of a ring. No call takes memory, so that the kept events have no other room.
 #[derive(Drop)]
@@ -46,13 +43,6 @@ impl Model for RingBuffer {
     ghost view = { window_of };
 
     ghost invariant = { IsRingBuffer };
-}
-
-/// Whether the id is one that no front-end may send: that of a run record or of a fragment.
-fn is_id_reserved(id: u16) -> bool
-    ensures { result ≡ is_reserved id }
-{
-    id == 0x8000 || id == 0x8001 || id / 4096 == 12 || id / 4096 == 13
 }
 
 impl RingBuffer {
