@@ -4,6 +4,7 @@ use Rattle.daq_types.specs.declared.events.Event.{Event}
 use Rattle.daq_types.specs.declared.runs.Kind.{Kind}
 use Rattle.daq_types.specs.declared.runs.Kind.TheVariants.{All, NonBlocking}
 use Rattle.daq_model.specs.Events.{slot_size, matches, is_reserved, event_limit}
+pub use Rattle.daq_model.specs.Events.{any}
 use Rattle.buffer_core.specs.declared.gate.RunGate.{RunGate}
 use Rattle.buffer_core.specs.declared.gate.RunGate.TheVariants.{Shut, Running, Paused}
 use Rattle.buffer_core.specs.declared.client.Request.{Request}
@@ -61,10 +62,6 @@ pub record StandsAt (ss : List Sent) (first place : ℕ) (s : Sent) : Type 0 whe
   pub is : slice_get ss index ≡ Some s
 
 -- What clients want.
-
--- the id, or the mask, of a request for events of any
-abbrev pub any : ℕ
-any = 65535
 
 -- the request wants this event, which was sent after it
 abbrev pub covers : (place : ℕ) → Event → Request → Bool

@@ -39,10 +39,15 @@ slot_of_length size = 24 + (size + 7) / 8 * 8
 abbrev pub slot_size : Event → ℕ
 slot_size e = slot_of_length (length e.body)
 
--- whether a request for this id and mask wants the event: the id is 0xFFFF or the event's, and the mask is 0xFFFF or
--- has a bit in common with the event's
+-- the id, or the mask, of a request for events of any
+abbrev pub any : ℕ
+any = 65535
+
+-- whether a request for this id and mask wants the event: the id is that of any or the event's, and
+-- the mask is that of any or has a bit in common with the event's
 unfoldable pub matches : (id mask : ℕ) → Event → Bool
-matches id mask e = ((id == 65535) || (id == e.id)) && ((mask == 65535) || nat_lt 0 (bit_and mask e.mask))
+matches id mask e =
+    ((id == any) || (id == e.id)) && ((mask == any) || nat_lt 0 (bit_and mask e.mask))
 
 abbrev pub Matches : (id mask : ℕ) → Event → Type 0
 Matches id mask e = IsTrue (matches id mask e)
