@@ -15,3 +15,4 @@ pub mod SampledReceives
 pub mod SampledSends
 pub mod Searching
 pub mod NewNumbers
+pub mod OwnClients

@@ -1,13 +1,13 @@
 //! Laws of the histories of a buffer: each function does nothing, and its contract is the law. They hold of every list
 //! of calls, whoever made them, whose replies are those of a buffer that opened empty.
 
-ghost use Rattle.std.specs.Prelude.{◌≡◌, ◌+◌, ◌^◌, ◌<◌, ◌++◌, ◌∷◌, ℕ, List, [], Some, None, Ok};
+ghost use Rattle.std.specs.Prelude.{◌≡◌, ◌≢◌, ◌+◌, ◌^◌, ◌<◌, ◌++◌, ◌∷◌, ℕ, List, [], length, Some, None, Ok};
 ghost use Rattle.daq_types.specs.declared.events.Event.{Event};
 ghost use Rattle.daq_model.specs.Events.{slot_size};
 ghost use Rattle.buffer_core.specs.declared.gate.RunGate.{RunGate};
 ghost use Rattle.buffer_core.specs.declared.replies.Received.TheVariants.{Got, Empty};
 ghost use Rattle.buffer_core.specs.declared.entry.BufferEntry.{BufferEntry};
-ghost use Rattle.buffer_core.specs.declared.entry.BufferEntry.TheVariants.{Attach, Receive};
+ghost use Rattle.buffer_core.specs.declared.entry.BufferEntry.TheVariants.{Attach, Detach, Receive};
 ghost use Rattle.buffer_core.specs.Window.{opening};
 ghost use Rattle.buffer_core.specs.Histories.{History, IsLegal, replay};
 ghost use Rattle.buffer_core.specs.Points.{sent, count_at, life_at, past_of};
@@ -15,7 +15,7 @@ ghost use Rattle.buffer_core.specs.Delivered.{Delivers, FailsAlone, InOrder, Com
 ghost use Rattle.buffer_core.specs.Runs.{KeepsRuns, begun_at, ended_at, segment, events_between};
 ghost use Rattle.buffer_core.specs.Continued.{sent_in, RepliesCount, GivesSent};
 ghost use Rattle.buffer_core.specs.Readers.{KeepsLife, HasRead, ReadsAll, places_got, places_of, among, wanted};
-ghost use Rattle.buffer_core.specs.Ports.{IsNewNumber};
+ghost use Rattle.buffer_core.specs.Ports.{Access, GotEvent, Called, IsGivenAt, IsNewNumber, knowing};
 ghost use Rattle.buffer_core.specs.Searches.{FoundIsFirst, FirstIsFound, NotFoundIsNone, NoneIsNotFound, OwedIsLeast, LeastIsOwed, NotOwedIsNone, NoneIsNotOwed, DropIsLeast, LeastIsDrop};
 ghost use Rattle.buffer_core.specs.Samples.{refused_once, got_twice, left_out, reached_back, refused_for_nobody, got_too_much, got_too_much_together, got_with_other_start, got_of_cancelled, missed, refused_for_optional, refused_at_second, refused_for_second, dropped, sent_behind, sent_in_pause, access_after, given_once, given_and_detached, given_twice};
 
@@ -161,4 +161,24 @@ pub fn tells_numbers_apart()
     ensures other { IsNewNumber (access_after given_once []) 1 }
     ensures detached { IsNewNumber (access_after given_and_detached []) 0 }
     ensures taken_back { IsNewNumber (access_after given_once (0 ∷ [])) 0 }
+{}
+
+/// What a port's calls tell of the caller's clients: an attach gives one, which the caller has until
+/// it detaches it. Where no client of the caller is known to be detached by another, each attach
+/// gives a number that none of the caller's clients has.
+pub fn keeps_numbers()
+    ensures given { (before after : Access) → (name : List ℕ) → (client : ℕ) → (got : List GotEvent) →
+        Called before after (Attach name (Ok client)) got →
+        IsGivenAt after.own (length before.own) client }
+    ensures stays { (before after : Access) → (entry : BufferEntry) → (got : List GotEvent) →
+        (call client : ℕ) →
+        Called before after entry got →
+        (entry ≡ Detach client (Ok tt) → ⊥) →
+        IsGivenAt before.own call client →
+        IsGivenAt after.own call client }
+    ensures differ { (before after : Access) → (number call client : ℕ) →
+        IsNewNumber (knowing before after) number →
+        after.taken_back ≡ [] →
+        IsGivenAt before.own call client →
+        client ≢ number }
 {}
