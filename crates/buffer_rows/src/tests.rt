@@ -43,9 +43,12 @@ use Step::*;
 
 const ANY: u16 = 0xFFFF;
 
+/// The least length of data whose event does not fit into a buffer of 256 bytes.
+const TOO_LONG: usize = 233;
+
 /// The bytes of the data of an event of this id.
-fn data_of(id: u16) -> [u8; 233] {
-    [id.to_le_bytes()[0]; 233]
+fn data_of(id: u16) -> [u8; TOO_LONG] {
+    [id.to_le_bytes()[0]; TOO_LONG]
 }
 
 fn header(id: u16, mask: u16, size: u32) -> Header {
@@ -70,18 +73,34 @@ fn sent<B: EventBuffer>(
     buffer.send(&header(id, mask, size as u32), &data[..size])
 }
 
-/// Receives an event, which has to be this one.
+/// Receives with room for so many bytes, and compares the reply.
+fn receive_into<R: Abort + AllocGlobal, B: EventBuffer>(
+    rt: &R,
+    buffer: &mut B,
+    client: u32,
+    room: u32,
+    reply: Received,
+) -> Result<(), Fail> {
+    let mut into = EventBuf::new(rt.alloc(), room)?;
+    assert_eq!(rt; buffer.receive(client, &mut into), reply);
+    Ok(())
+}
+
+/// The first client receives an event of this id and mask and with so many bytes of data.
 fn receive_given<R: Abort + AllocGlobal, B: EventBuffer>(
     rt: &R,
     buffer: &mut B,
     reply: Received,
-    header: Header,
-    data: &[u8],
+    id: u16,
+    mask: u16,
+    size: usize,
 ) -> Result<(), Fail> {
-    let mut into = EventBuf::new(rt.alloc(), 233)?;
+    let data = data_of(id);
+    assert!(rt; size <= data.len());
+    let mut into = EventBuf::new(rt.alloc(), TOO_LONG as u32)?;
     assert_eq!(rt; buffer.receive(0, &mut into), reply);
-    assert_eq!(rt; into.header(), header);
-    assert_eq!(rt; into.body(), data);
+    assert_eq!(rt; into.header(), header(id, mask, size as u32));
+    assert_eq!(rt; into.body(), &data[..size]);
     Ok(())
 }
 
@@ -105,25 +124,10 @@ fn run_step<R: Abort + AllocGlobal, B: EventBuffer>(
             buffer.send_in_run(start, &header(1, 0, 24), &data_of(1)[..24]),
             reply
         ),
-        Receive(client, reply) => {
-            let mut into = EventBuf::new(rt.alloc(), 233)?;
-            assert_eq!(rt; buffer.receive(client, &mut into), reply);
-        }
-        ReceiveInto(client, room, reply) => {
-            let mut into = EventBuf::new(rt.alloc(), room)?;
-            assert_eq!(rt; buffer.receive(client, &mut into), reply);
-        }
+        Receive(client, reply) => receive_into(rt, buffer, client, TOO_LONG as u32, reply)?,
+        ReceiveInto(client, room, reply) => receive_into(rt, buffer, client, room, reply)?,
         Given(place, start, id, mask, size) => {
-            let data = data_of(id);
-            assert!(rt; size <= data.len());
-            let reply = Received::Got { place, start };
-            receive_given(
-                rt,
-                buffer,
-                reply,
-                header(id, mask, size as u32),
-                &data[..size],
-            )?;
+            receive_given(rt, buffer, Received::Got { place, start }, id, mask, size)?;
         }
         Begin(start, reply) => assert_eq!(rt; buffer.begin(start), reply),
         Pause(start, reply) => assert_eq!(rt; buffer.pause(start), reply),
@@ -225,7 +229,7 @@ const REFUSED: [Step; 8] = [
     Send(
         1,
         0,
-        233,
+        TOO_LONG,
         Err(SendRefusal::TooLarge {
             slot: 264,
             size: 256,
