@@ -26,13 +26,8 @@ fn header(id: u16) -> Header {
 fn send_over_the_end<L: Ledger, R: Abort + AllocGlobal>(
     rt: &R,
     buffer: &mut RingBuffer,
-    blank: Blank,
-) -> Result<(), Fail>
-    requires name { blank.name ≡ L.name }
-    requires parts { blank.parts ≡ L.parts }
-    requires some { 0 < blank.parts }
-{
-    let mut steps = Steps::<L>::new(blank);
+    steps: &mut Steps<L>,
+) -> Result<(), Fail> {
     let mut into = EventBuf::new(rt.alloc(), 72)?;
     assert_eq!(rt;
         buffer.attach(Name::new(b"ANA").expect(rt, "a name")),
@@ -40,24 +35,27 @@ fn send_over_the_end<L: Ledger, R: Abort + AllocGlobal>(
     );
     assert_eq!(rt; buffer.request(0, 0xFFFF, 0xFFFF, Kind::All), Ok(0));
     assert_eq!(rt; buffer.begin(7), Ok(0));
+    assert_eq!(rt; buffer.send_counted(&header(1), &[1; 72], steps), Ok(0));
     assert_eq!(rt;
-        buffer.send_counted(&header(1), &[1; 72], &mut steps),
-        Ok(0)
-    );
-    assert_eq!(rt;
-        buffer.send_in_run_counted(7, &header(2), &[2; 72], &mut steps),
+        buffer.send_in_run_counted(7, &header(2), &[2; 72], steps),
         Ok(1)
     );
     assert_eq!(rt;
-        buffer.receive_counted(0, &mut into, &mut steps),
+        buffer.receive_counted(0, &mut into, steps),
         Received::Got { place: 0, start: 0 }
     );
     assert_eq!(rt;
-        buffer.send_in_run_counted(7, &header(3), &[3; 72], &mut steps),
+        buffer.send_in_run_counted(7, &header(3), &[3; 72], steps),
         Ok(2)
     );
+    Ok(())
+}
+
+/// Finds the third event in the ring, and behind its end there what it left of the first.
+fn find_over_the_end<L: Ledger>(rt: &impl Abort, ring: &Ring, steps: &mut Steps<L>) {
+    assert_eq!(rt; ring.size(), 256);
     let mut front = [0; 24];
-    buffer.ring.get_at(192, &mut front, &mut steps);
+    ring.get_at(192, &mut front, steps);
     assert_eq!(rt;
         front,
         [
@@ -65,19 +63,29 @@ fn send_over_the_end<L: Ledger, R: Abort + AllocGlobal>(
         ]
     );
     let mut data = [0; 72];
-    buffer.ring.get_at(216, &mut data, &mut steps);
+    ring.get_at(216, &mut data, steps);
     assert_eq!(rt; data, [3; 72]);
     let mut beginning = [0; 34];
-    buffer.ring.get_at(0, &mut beginning, &mut steps);
+    ring.get_at(0, &mut beginning, steps);
     assert_eq!(rt;
         beginning.split_at(32),
         ([3; 32].as_slice(), [1, 1].as_slice())
     );
+}
+
+fn go_over_the_end<L: Ledger, R: Abort + AllocGlobal>(rt: &R, blank: Blank) -> Result<(), Fail>
+    requires name { blank.name ≡ L.name }
+    requires parts { blank.parts ≡ L.parts }
+    requires some { 0 < blank.parts }
+{
+    let mut steps = Steps::<L>::new(blank);
+    let mut buffer = RingBuffer::over(Ring::new(rt.alloc(), 256)?);
+    send_over_the_end(rt, &mut buffer, &mut steps)?;
+    find_over_the_end(rt, &buffer.ring, &mut steps);
     Ok(())
 }
 
 #[test]
 fn an_event_lies_over_the_end_of_the_ring(rt: HostRuntime) -> Result<(), Fail> {
-    let mut buffer = RingBuffer::over(Ring::new(rt.alloc(), 256)?);
-    send_over_the_end::<Brand, _>(&rt, &mut buffer, Blank::new(1))
+    go_over_the_end::<Brand, _>(&rt, Blank::new(1))
 }
