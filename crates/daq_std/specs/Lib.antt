@@ -2,3 +2,4 @@
 pub mod Blocks
 pub mod BlockTables
 pub mod Paths
+pub mod InBlocks

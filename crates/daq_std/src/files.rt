@@ -1,11 +1,14 @@
-ghost use Rattle.std.specs.Prelude.{◌≡◌, ℕ, IfOk};
-ghost use Rattle.daq_io.specs.Seen.{IsFree};
+ghost use Rattle.std.specs.Prelude.{◌≡◌, ℕ, [], IfOk, IsErr, IsTrue, OnErr, OnOk};
+ghost use Rattle.daq_io.specs.Seen.{Closes, Ends, Extends, ExtendsPart, InUse, IsFree};
+ghost use Rattle.daq_std.specs.InBlocks.{CountsOne, GivesBytes, HasAll, IsBroken, NamesFirstAt, told};
 
+use crate::faults::{counted, refused};
 use crate::folder::SystemFolder;
 use crate::table::BlockTable;
 use daq_io::{Failed, Files, NameRefused, Tally, Usage, UseTable};
 use daq_types::{FileName, NoMemory};
 use std::alloc::Global;
+use std::marker::Model;
 use std::rt;
 
 /// How many files of one folder are in use at a time, at most.
@@ -21,6 +24,14 @@ pub struct StdFiles<R: rt::Files + Drop> {
     numbers: UseTable,
     blocks: BlockTable<R::File>,
     tally: Tally,
+}
+
+impl<R: rt::Files + Drop> Model for StdFiles<R> {
+    ghost use Rattle.daq_std.specs.InBlocks.{InBlocks};
+
+    ghost Value = { InBlocks R.File };
+
+    ghost view = { λ s. record { uses = s.numbers.uses.items; blocks = s.blocks.blocks.items; tallied = s.tally } };
 }
 
 impl<R: rt::Files + Drop> StdFiles<R> {
@@ -43,64 +54,68 @@ impl<R: rt::Files + Drop> StdFiles<R> {
 }
 
 impl<R: rt::Files + Drop> Files for StdFiles<R> {
-    ghost use Rattle.daq_io.specs.Uses.{told_numbers};
+    ghost use Rattle.daq_std.specs.InBlocks.{told};
 
-    ghost seen = { λ s. told_numbers s.numbers.uses.items };
+    ghost seen = { λ s. told s };
 
-    ghost faults = { λ s. s.tally.faults };
+    ghost faults = { λ s. s.tallied.faults };
 
-    ghost clashes = { λ s. s.tally.clashes };
+    ghost clashes = { λ s. s.tallied.clashes };
 
-    ghost first = { λ s. s.tally.first };
+    ghost first = { λ s. s.tallied.first };
 
     fn create(&mut self, name: &FileName) -> Result<u32, NameRefused> {
-        match self.numbers.free() {
-            Some(number) => match self.folder.create(name) {
-                Ok(file) => {
-                    self.blocks.open(number, file);
-                    self.numbers.assign(number, Usage::Writing(*name));
-                    Ok(number)
-                }
-                Err(NameRefused::Exists) => {
-                    self.tally.clash();
-                    Err(NameRefused::Exists)
-                }
-                Err(_) => {
-                    self.tally.fault(name);
-                    Err(NameRefused::Failed)
-                }
-            },
-            None => {
-                self.tally.fault(name);
-                Err(NameRefused::Failed)
+        let Some(number) = self.numbers.free() else {
+            return Err(refused(&mut self.tally, name, NameRefused::Failed));
+        };
+        match self.folder.create(name) {
+            Ok(file) => {
+                self.blocks.open(number, file);
+                self.numbers.assign(number, Usage::Writing(*name));
+                Ok(number)
             }
+            Err(why) => Err(refused(&mut self.tally, name, why)),
         }
     }
 
-    fn append(&mut self, file: u32, bytes: &[u8]) -> Result<(), Failed> {
+    /// Once a write failed, no byte of that file is taken.
+    fn append(&mut self, file: u32, bytes: &[u8]) -> Result<(), Failed>
+        requires { IsTrue ((told self.old).writes file) }
+        ensures written { OnOk result (Extends (told self.old) (told self.new) file bytes.now) }
+        ensures part { OnErr result (ExtendsPart (told self.old) (told self.new) file bytes.now) }
+        ensures faults { CountsOne self.old self.new result }
+        ensures clashes { self.new.tallied.clashes ≡ self.old.tallied.clashes }
+        ensures first { NamesFirstAt file self.old self.new result }
+        ensures given { OnOk result (GivesBytes R.File.contents self.old self.new file bytes.now) }
+        ensures never_again { IsBroken self.old file → IsErr result }
+        ensures breaks { OnErr result (IsBroken self.new file) }
+    {
         match self.numbers.usage(file) {
-            Usage::Writing(name) => match self.blocks.append(file, bytes) {
-                Ok(()) => Ok(()),
-                Err(Failed) => {
-                    self.tally.fault(&name);
-                    Err(Failed)
-                }
-            },
+            Usage::Writing(name) => {
+                let appended = self.blocks.append(file, bytes);
+                counted(&mut self.tally, &name, appended)
+            }
             _ => unreachable!(),
         }
     }
 
-    fn close(&mut self, file: u32) -> Result<(), Failed> {
+    /// A written file is closed well where the system has put all of its bytes on the disk.
+    fn close(&mut self, file: u32) -> Result<(), Failed>
+        requires { InUse (told self.old) file }
+        ensures written { IsTrue ((told self.old).writes file) → Closes (told self.old) (told self.new) file [] }
+        ensures read { IsTrue ((told self.old).reads file) → Ends (told self.old) (told self.new) file }
+        ensures faults { CountsOne self.old self.new result }
+        ensures clashes { self.new.tallied.clashes ≡ self.old.tallied.clashes }
+        ensures first { NamesFirstAt file self.old self.new result }
+        ensures all { IsTrue ((told self.old).writes file) → OnOk result (HasAll R.File.contents self.old file) }
+        ensures broken { IsTrue ((told self.old).writes file) → IsBroken self.old file → IsErr result }
+    {
         match self.numbers.usage(file) {
             Usage::Writing(name) => {
                 self.numbers.assign(file, Usage::Free);
-                match self.blocks.finish(file) {
-                    Ok(_file) => Ok(()),
-                    Err(Failed) => {
-                        self.tally.fault(&name);
-                        Err(Failed)
-                    }
-                }
+                let finished = self.blocks.finish(file);
+                let _file = counted(&mut self.tally, &name, finished)?;
+                Ok(())
             }
             Usage::Reading(_) => {
                 self.numbers.assign(file, Usage::Free);
@@ -112,48 +127,30 @@ impl<R: rt::Files + Drop> Files for StdFiles<R> {
     }
 
     fn remove(&mut self, name: &FileName) -> Result<(), Failed> {
-        match self.folder.remove(name) {
-            Ok(()) => Ok(()),
-            Err(Failed) => {
-                self.tally.fault(name);
-                Err(Failed)
-            }
-        }
+        let removed = self.folder.remove(name);
+        counted(&mut self.tally, name, removed)
     }
 
     fn open_read(&mut self, name: &FileName) -> Result<u32, NameRefused> {
-        match self.numbers.free() {
-            Some(number) => match self.folder.open(name) {
-                Ok(file) => {
-                    self.blocks.open(number, file);
-                    self.numbers.assign(number, Usage::Reading(*name));
-                    Ok(number)
-                }
-                Err(NameRefused::Missing) => {
-                    self.tally.clash();
-                    Err(NameRefused::Missing)
-                }
-                Err(_) => {
-                    self.tally.fault(name);
-                    Err(NameRefused::Failed)
-                }
-            },
-            None => {
-                self.tally.fault(name);
-                Err(NameRefused::Failed)
+        let Some(number) = self.numbers.free() else {
+            return Err(refused(&mut self.tally, name, NameRefused::Failed));
+        };
+        match self.folder.open(name) {
+            Ok(file) => {
+                self.blocks.open(number, file);
+                self.numbers.assign(number, Usage::Reading(*name));
+                Ok(number)
             }
+            Err(why) => Err(refused(&mut self.tally, name, why)),
         }
     }
 
     fn read(&mut self, file: u32, into: &mut [u8]) -> Result<usize, Failed> {
         match self.numbers.usage(file) {
-            Usage::Reading(name) => match self.blocks.read(file, into) {
-                Ok(count) => Ok(count),
-                Err(Failed) => {
-                    self.tally.fault(&name);
-                    Err(Failed)
-                }
-            },
+            Usage::Reading(name) => {
+                let count = self.blocks.read(file, into);
+                counted(&mut self.tally, &name, count)
+            }
             _ => unreachable!(),
         }
     }

@@ -1,4 +1,4 @@
-ghost use Rattle.std.specs.Prelude.{◌≡◌, IfOk, OnOk, string_bytes};
+ghost use Rattle.std.specs.Prelude.{◌≡◌, IfOk, IsErrOf, OnOk, string_bytes};
 ghost use Rattle.daq_std.specs.Paths.{is_rooted, path_in};
 
 use daq_io::{ByteRoom, Failed, NameRefused};
@@ -69,7 +69,9 @@ impl<R: rt::Files + Drop> SystemFolder<R> {
     }
 
     /// Makes a file of this name, where there is none.
-    pub fn create(&mut self, name: &FileName) -> Result<R::File, NameRefused> {
+    pub fn create(&mut self, name: &FileName) -> Result<R::File, NameRefused>
+        ensures { ¬ IsErrOf result NameRefused.Missing }
+    {
         self.enter(name)?;
         match File::create_new(&self.system, self.path()?) {
             Ok(file) => Ok(file),
@@ -81,7 +83,9 @@ impl<R: rt::Files + Drop> SystemFolder<R> {
     }
 
     /// Opens the file of this name to read it.
-    pub fn open(&mut self, name: &FileName) -> Result<R::File, NameRefused> {
+    pub fn open(&mut self, name: &FileName) -> Result<R::File, NameRefused>
+        ensures { ¬ IsErrOf result NameRefused.Exists }
+    {
         self.enter(name)?;
         match File::open(&self.system, self.path()?) {
             Ok(file) => Ok(file),

@@ -5,6 +5,7 @@
 mod ahead;
 mod blocks;
 mod choices;
+mod faults;
 mod files;
 mod folder;
 mod streams;

@@ -67,7 +67,7 @@ fn files_of_a_folder(rt: HostRuntime) -> Result<(), Fail> {
         write_and_read(&mut files, &run, b"MIDAS", &mut into),
         Ok(5)
     );
-    assert_eq!(rt; &into[..5], b"MIDAS".as_slice());
+    assert!(rt; into.starts_with(b"MIDAS"));
     assert_eq!(rt; files.create(&run), Err(NameRefused::Exists));
     assert_eq!(rt; files.remove(&run), Ok(()));
     assert_eq!(rt; files.open_read(&run), Err(NameRefused::Missing));
