@@ -1,3 +1,4 @@
 pub mod Opens
 pub mod NumberKept
 pub mod RunSetLaws
+pub mod OpeningLaws

@@ -1,5 +1,5 @@
 -- What a session reads from the run's parameters, and writes to them.
-use Rattle.std.specs.Prelude.{ℕ, ◌+◌, ◌-◌, nat_lt, if◌then◌else◌, Bool, true, false, ℤ, pos, negsuc, List, [], ◌∷◌, Result, Ok, Err}
+use Rattle.std.specs.Prelude.{◌≡◌, ◌⊎◌, ◌++◌, ℕ, ◌+◌, ◌-◌, nat_lt, if◌then◌else◌, Bool, true, false, ℤ, pos, negsuc, List, [], ◌∷◌, Result, Ok, Err}
 use Rattle.daq_types.specs.declared.types.Tid.TheVariants as tid
 use Rattle.odb_value.specs.declared.items.Item.{Item}
 use Rattle.odb_value.specs.declared.items.Item.TheVariants.{Int32, UInt32, UInt64, Text}
@@ -7,6 +7,7 @@ use Rattle.odb_value.specs.Values.{Held}
 use Rattle.odb_tree.specs.declared.entry.DatabaseEntry.{DatabaseEntry}
 use Rattle.odb_tree.specs.declared.entry.DatabaseEntry.TheVariants.{Create, Get, Set}
 use Rattle.odb_tree.specs.declared.refusals.OdbRefusal.{OdbRefusal}
+use Rattle.odb_tree.specs.declared.refusals.OdbRefusal.TheVariants.{NoMemory as no_memory}
 use Rattle.odb_tree.specs.declared.rows.NewKey.TheVariants.{Keys}
 use Rattle.odb_tree.specs.Rows.{Rows}
 use Rattle.odb_tree.specs.Calls.{create_reply, get_reply, set_reply, rows_after}
@@ -90,3 +91,7 @@ stopped_sets front sent = by_front front sent ∷ by_main State (Int32 (pos 1)) 
 -- the call that makes it, with one number, by the main thread
 abbrev pub front_made : Rows → (front : List ℕ) → List (ℕ × DatabaseEntry)
 front_made s front = (0, Create (sent_path front) (Keys tid.UInt64 1) (create_reply s (sent_path front) (Keys tid.UInt64 1))) ∷ []
+
+-- The key was not made: it was not asked for, or memory was wanting for it.
+abbrev pub MakesNoKey : (before after : List (ℕ × DatabaseEntry)) → (front : List ℕ) → Type 0
+MakesNoKey before after front = (after ≡ before) ⊎ (after ≡ before ++ (0, Create (sent_path front) (Keys tid.UInt64 1) (Err no_memory)) ∷ [])

@@ -3,7 +3,7 @@ ghost use Rattle.odb_tree.specs.Calls.{get_reply};
 ghost use Rattle.odb_journal.specs.Noted.{EndsEarly, Grows};
 ghost use Rattle.odb_runinfo.specs.declared.keys.RunKey.TheVariants as key;
 ghost use Rattle.odb_runinfo.specs.RunKeys.{key_path};
-ghost use Rattle.odb_runinfo.specs.RunSets.{have_of, number_in, next_run, number_got, front_made, is_number, assignments, start_sets, started_sets, refused_sets, stopping_sets, stopped_sets};
+ghost use Rattle.odb_runinfo.specs.RunSets.{MakesNoKey, have_of, number_in, next_run, number_got, front_made, is_number, assignments, start_sets, started_sets, refused_sets, stopping_sets, stopped_sets};
 
 use crate::keys::{RunKey, sent_path};
 use crate::paths::{StartPaths, StartedPaths, StoppedPaths, StoppingPaths};
@@ -89,6 +89,7 @@ pub fn open_front<D: Database>(
 ) -> Result<(), NoMemory>
     ensures calls { OnOk result (Grows database.old database.new (front_made database.old.rows front)) }
     ensures interrupted { OnErr result (EndsEarly database.old database.new (front_made database.old.rows front)) }
+    ensures unmade { OnErr result (MakesNoKey database.old.history database.new.history front) }
     ensures start { database.new.start ≡ database.old.start }
 {
     let path = sent_path(alloc, front)?;

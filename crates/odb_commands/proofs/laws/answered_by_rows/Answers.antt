@@ -1,0 +1,5 @@
+use Rattle.odb_commands.specs.CommandCallLaws.{performs_answer}
+use Rattle.odb_commands.proofs.laws.answered_by_rows.Goals as goal
+
+pub returns : goal.returns
+returns c = performs_answer

@@ -1,0 +1,5 @@
+use Rattle.odb_commands.specs.CommandCallLaws.{performs_spares}
+use Rattle.odb_commands.proofs.laws.calls_spare_runinfo.Goals as goal
+
+pub returns : goal.returns
+returns c = performs_spares
