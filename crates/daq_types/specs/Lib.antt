@@ -1,5 +1,6 @@
 pub mod Names
 pub mod FileNameBack
+pub mod Lends
 pub mod NameBack
 pub mod NameFaults
 pub mod Tids

@@ -1,13 +1,13 @@
 //! Names, identifiers, run states and the other small types that every crate of the system shares.
 #![tactic(auto)]
 
+mod bounded_list;
 mod byte_list;
 mod callers;
 #[cfg(test)]
 mod checks;
 mod events;
 mod file_names;
-mod journal;
 mod memory;
 mod names;
 mod padding;
@@ -16,11 +16,11 @@ mod steps;
 mod types;
 mod word_list;
 
+pub use bounded_list::{BoundedList, Journal};
 pub use byte_list::Bytes;
 pub use callers::Caller;
 pub use events::Event;
 pub use file_names::{BadFileName, FileName};
-pub use journal::Journal;
 pub use memory::NoMemory;
 pub use names::{Name, NameRefusal};
 pub use runs::{ChannelState, FrontEnded, Kind, Order, RunState, StartOutcome, Transition, Why};

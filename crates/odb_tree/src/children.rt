@@ -1,7 +1,4 @@
-ghost use Rattle.std.specs.Prelude.{◌≡◌};
-
-use daq_types::Name;
-use std::marker::Model;
+use daq_types::{BoundedList, Name};
 
 /// What stands in a directory under one name.
 #[derive(Clone, Copy, Debug)]
@@ -13,32 +10,4 @@ pub struct Child {
 }
 
 /// What stands in a directory: its keys, and then its directories, each in order of making.
-#[derive(Debug, Drop)]
-pub struct Children {
-    children: Vec<Child>,
-}
-
-impl Model for Children {
-    ghost use Rattle.std.specs.Prelude.{List};
-    ghost use Rattle.odb_tree.specs.declared.children.Child.{Child};
-
-    ghost Value = { List Child };
-
-    ghost view = { λ c. c.children.items };
-}
-
-impl Children {
-    /// These children. Takes no memory.
-    pub fn of(children: Vec<Child>) -> Children
-        ensures { result ≡ children.items }
-    {
-        Children { children }
-    }
-
-    /// The children.
-    pub fn as_slice(&self) -> &[Child]
-        ensures { result.now ≡ self.now }
-    {
-        self.children.as_slice()
-    }
-}
+pub type Children = BoundedList<Child, 0>;

@@ -197,7 +197,7 @@ fn parts_of_items(rt: HostRuntime) -> Result<(), Fail> {
     let mut list = Vec::new(rt.alloc());
     list.push(Item::Char(CharByte::none()))?;
     list.push(Item::Text(TextBytes::empty(rt.alloc())))?;
-    let items = Items::of(list).try_clone(rt.alloc())?;
+    let items = Items::of(list);
     assert_eq!(rt; items.len(), 2);
     assert_eq!(rt; items.as_slice().len(), 2);
     Ok(())

@@ -5,105 +5,15 @@ ghost use Rattle.odb_value.specs.ValueChanges.{default_item, default_size, new_h
 
 use crate::items::Item;
 use crate::parts::{CharByte, TextBytes};
-use daq_types::{NoMemory, Tid};
+use daq_types::{BoundedList, NoMemory, Tid};
 use std::alloc::Global;
 use std::marker::Model;
 
 /// The item size of a new STRING.
 const NEW_TEXT_SIZE: u32 = 32;
 
-/// A list of items.
-#[derive(Debug, Drop)]
-pub struct Items {
-    items: Vec<Item>,
-}
-
-impl Model for Items {
-    ghost use Rattle.std.specs.Prelude.{List};
-    ghost use Rattle.odb_value.specs.declared.items.Item.{Item};
-
-    ghost Value = { List Item };
-
-    ghost view = { λ l. l.items.items };
-}
-
-impl Items {
-    /// These items. Takes no memory.
-    pub fn of(items: Vec<Item>) -> Items
-        ensures { result ≡ items.items }
-    {
-        Items { items }
-    }
-
-    /// The items.
-    pub fn as_slice(&self) -> &[Item]
-        ensures { result.now ≡ self.now }
-    {
-        self.items.as_slice()
-    }
-
-    /// The items, given back.
-    pub fn into_vec(self) -> Vec<Item>
-        ensures { result.items ≡ self }
-    {
-        self.items
-    }
-
-    /// How many items there are.
-    pub fn len(&self) -> usize
-        ensures { result ≡ length self.now }
-    {
-        self.items.len()
-    }
-
-    /// Another item at this index. Takes no memory.
-    fn put(&mut self, index: usize, item: Item)
-        requires { index < length self.old }
-        ensures { self.new ≡ slice_set self.old index item }
-    {
-        self.items[index] = item;
-    }
-
-    /// Only the first items.
-    fn truncate(&mut self, len: usize)
-        ensures { self.new ≡ take len self.old }
-    {
-        self.items.truncate(len);
-    }
-
-    /// These items behind the others.
-    fn append(&mut self, more: Items) -> Result<(), NoMemory>
-        ensures ok { OnOk result (self.new ≡ self.old ++ more) }
-        ensures err { OnErr result (self.new ≡ self.old) }
-    {
-        let mut more = more.items;
-        self.items.append(&mut more)?;
-        Ok(())
-    }
-
-    /// So many items of a new key.
-    fn new_items(alloc: Global, tid: Tid, count: usize) -> Result<Items, NoMemory>
-        requires { IsTrue (is_kept tid) }
-        ensures { IfOk result (λ items. items ≡ replicate count (default_item tid)) }
-    {
-        let mut items = Vec::with_capacity(alloc, count)?;
-        for i in 0..count {
-            items.push(new_item(alloc, tid))?;
-        }
-        Ok(Items { items })
-    }
-
-    /// The same items once more.
-    pub fn try_clone(&self, alloc: Global) -> Result<Items, NoMemory>
-        ensures { IfOk result (λ items. items ≡ self.now) }
-    {
-        let mut items = Vec::with_capacity(alloc, self.items.len())?;
-        for item in self.items.iter() {
-            items.push(item.try_clone(alloc)?)?;
-        }
-        Ok(Items { items })
-    }
-}
+/// The items of a key.
+pub type Items = BoundedList<Item, 0>;
 
 /// The item of a new key of this type: 0, n or the empty text. Takes no memory.
 fn new_item(alloc: Global, tid: Tid) -> Item
@@ -123,6 +33,29 @@ fn new_item(alloc: Global, tid: Tid) -> Item
         Tid::UInt64 => Item::UInt64(0),
         _ => Item::Bool(false),
     }
+}
+
+/// So many items of a new key.
+fn new_items(alloc: Global, tid: Tid, count: usize) -> Result<Items, NoMemory>
+    requires { IsTrue (is_kept tid) }
+    ensures { IfOk result (λ items. items ≡ replicate count (default_item tid)) }
+{
+    let mut items = Vec::with_capacity(alloc, count)?;
+    for i in 0..count {
+        items.push(new_item(alloc, tid))?;
+    }
+    Ok(Items::of(items))
+}
+
+/// The same items once more.
+fn cloned(alloc: Global, items: &[Item]) -> Result<Items, NoMemory>
+    ensures { IfOk result (λ copy. copy ≡ items.now) }
+{
+    let mut copy = Vec::with_capacity(alloc, items.len())?;
+    for item in items.iter() {
+        copy.push(item.try_clone(alloc)?)?;
+    }
+    Ok(Items::of(copy))
 }
 
 /// The item size of a new key of this type.
@@ -183,7 +116,7 @@ impl Value {
         requires many { len ≤ items_limit }
         ensures { IfOk result (λ value. value ≡ new_held tid len) }
     {
-        let items = Items::new_items(alloc, tid, len as usize)?;
+        let items = new_items(alloc, tid, len as usize)?;
         Ok(Value {
             tid,
             size: new_size(tid),
@@ -200,7 +133,7 @@ impl Value {
     {
         let _ = item.tid();
         self.size = raised_size(self.size, &item);
-        self.items.put(index as usize, item);
+        self.items.set(index as usize, item);
     }
 
     /// So many items: cut at the end, or with those of a new key behind.
@@ -211,7 +144,7 @@ impl Value {
         ensures err { OnErr result (self.new ≡ self.old) }
     {
         let len = len as usize;
-        let more = Items::new_items(alloc, self.tid, len.saturating_sub(self.items.len()))?;
+        let more = new_items(alloc, self.tid, len.saturating_sub(self.items.len()))?;
         self.items.append(more)?;
         self.items.truncate(len);
         Ok(())
@@ -251,7 +184,7 @@ impl Value {
     pub fn try_clone(&self, alloc: Global) -> Result<Value, NoMemory>
         ensures { IfOk result (λ value. value ≡ self.now) }
     {
-        let items = self.items.try_clone(alloc)?;
+        let items = cloned(alloc, self.items.as_slice())?;
         Ok(Value::of(self.tid, self.size, items))
     }
 }

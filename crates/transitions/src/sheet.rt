@@ -1,9 +1,5 @@
-ghost use Rattle.std.specs.Prelude.{◌≡◌, drop, length, slice_get};
-ghost use Rattle.std.specs.Option.{option_copied};
-
-use daq_types::Bytes;
+use daq_types::{BoundedList, Bytes};
 use event_report::Report;
-use std::marker::Model;
 
 /// What a transition is begun with.
 #[derive(Debug, Drop)]
@@ -20,58 +16,4 @@ pub struct Sheet {
 }
 
 /// Reports in a list, given out from its front.
-#[derive(Debug, Drop)]
-pub struct Reports {
-    reports: Vec<Report>,
-}
-
-impl Model for Reports {
-    ghost use Rattle.std.specs.Prelude.{List};
-    ghost use Rattle.event_report.specs.Reports.{Totals};
-
-    ghost Value = { List Totals };
-
-    ghost view = { λ r. r.reports.items };
-}
-
-impl Reports {
-    /// These reports. Takes no memory.
-    pub fn of(reports: Vec<Report>) -> Reports
-        ensures { result ≡ reports.items }
-    {
-        Reports { reports }
-    }
-
-    /// The reports.
-    pub fn into_vec(self) -> Vec<Report>
-        ensures { result.items ≡ self }
-    {
-        let Reports { reports } = self;
-        reports
-    }
-
-    /// How many reports there are.
-    pub fn len(&self) -> usize
-        ensures { result ≡ length self.now }
-    {
-        self.reports.len()
-    }
-
-    /// The report at this place.
-    pub fn get(&self, place: usize) -> Option<&Report>
-        ensures { option_copied result ≡ slice_get self.now place }
-    {
-        self.reports.get(place)
-    }
-
-    /// The report at the front, which is then gone.
-    pub fn take_first(&mut self) -> Option<Report>
-        ensures first { result ≡ slice_get self.old 0 }
-        ensures rest { self.new ≡ drop 1 self.old }
-    {
-        if self.reports.is_empty() {
-            return None;
-        }
-        Some(self.reports.remove(0))
-    }
-}
+pub type Reports = BoundedList<Report, 0>;

@@ -17,6 +17,6 @@ invariant_of-self-2 c =
     let more : c.in_ok-more.more ≡ replicate (c.args.len - length c.self.inside.items) (default_item c.self.inside.tid) =
     c.in_ok-more.ensures ∙ ap (λ (n : ℕ). replicate n (default_item c.self.inside.tid)) count in
     let items : c.truncate.new.self ≡ (resized (held_of c.self.inside) c.args.len).items =
-    c.truncate.ensures ∙ ap (take c.args.len) (c.in_ok-append.ensures.ok ∙ ap (λ (l : List Item). c.self.inside.items ++ l) more) in
+    c.truncate.ensures ∙ ap (take c.args.len) (c.in_ok-append.ensures.appended ∙ ap (λ (l : List Item). c.self.inside.items ++ l) more) in
     subst (λ (l : List Item). IsValue (record { tid = c.self.inside.tid; size = c.self.inside.size; items = l })) (sym items)
     (is_value-resized (held_of c.self.inside) c.args.len c.requires.some c.requires.many c.self.invariant)
