@@ -21,7 +21,7 @@ fn place_at(rows: &[Row], names: &[Name]) -> Option<usize>
 }
 
 /// Puts an item into the row's value.
-fn put_row(row: &mut Row, index: u32, item: Item)
+pub fn put_row(row: &mut Row, index: u32, item: Item)
     requires { (v : Held) → row.old.value ≡ Some v → CanPut v index item }
     ensures { row.new ≡ change_row (λ v. put_in v index item) row.old }
 {
@@ -31,7 +31,7 @@ fn put_row(row: &mut Row, index: u32, item: Item)
 }
 
 /// Gives the row so many items.
-fn resize_row(row: &mut Row, alloc: Global, len: u32) -> Result<(), NoMemory>
+pub fn resize_row(row: &mut Row, alloc: Global, len: u32) -> Result<(), NoMemory>
     requires some { 1 ≤ len }
     requires many { len ≤ items_limit }
     ensures ok { OnOk result (row.new ≡ change_row (λ v. resized v len) row.old) }
@@ -44,7 +44,7 @@ fn resize_row(row: &mut Row, alloc: Global, len: u32) -> Result<(), NoMemory>
 }
 
 /// Replaces the row's value.
-fn replace_row(row: &mut Row, value: Value)
+pub fn replace_row(row: &mut Row, value: Value)
     ensures { row.new ≡ change_row (λ _. value) row.old }
 {
     if row.value.is_some() {
@@ -100,7 +100,7 @@ pub fn remove_at(rows: &mut Vec<Row>, names: &[Name]) -> usize
 }
 
 /// The same row once more.
-fn copy_row(row: &Row, alloc: Global) -> Result<Row, NoMemory>
+pub fn copy_row(row: &Row, alloc: Global) -> Result<Row, NoMemory>
     ensures { IfOk result (λ copy. copy ≡ row.now) }
 {
     let path = row.path.try_clone(alloc)?;
