@@ -1,4 +1,4 @@
-use Rattle.std.proofs.Common.{◌≡◌, Option, Some, ap, subst, true, ◌∙◌}
+use Rattle.std.proofs.Common.{arith, ◌≡◌, Option, Some, ap, subst, true, ◌∙◌}
 use Rattle.transitions.specs.declared.engine.Stage.{Stage}
 use Rattle.transitions.specs.Engines.{EngineState}
 use Rattle.transitions.specs.EngineCalls.{owes_answer}
@@ -14,4 +14,4 @@ push-requires c =
     let owes_here : owes_answer (underway (Some c.in-Some.stage)) c.args.client ≡ true =
     subst (λ (o : Option Stage). owes_answer (underway o) c.args.client ≡ true) c.in-Some.is owes in
     let some = owes_front c.self.inside.dump c.self.inside.blanks c.self.inside.called.items c.self.inside.tallies c.in-Some.stage c.args.client owes_here in
-    tally_fits c.self.inside.tallies c.self.inside.called.items c.in-Some.stage some (kept.tallies_fit c.in-Some.stage c.in-Some.is)
+    (omega arith, tally_fits c.self.inside.tallies c.self.inside.called.items c.in-Some.stage some (kept.tallies_fit c.in-Some.stage c.in-Some.is))
