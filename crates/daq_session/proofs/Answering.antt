@@ -1,101 +1,147 @@
 -- A line was answered, or was broken off, and neither the files nor the clock nor the records changed.
-use Rattle.std.proofs.Common.{◌≡◌, ℕ, inl, List, [], ◌∷◌, ◌++◌, Ok, Err, Result, refl, sym, subst, arith}
+use Rattle.std.proofs.Common.{◌≡◌, ℕ, List, [], ◌∷◌, ◌++◌, Option, Some, None, Ok, Err, Result, refl, ap, sym, subst, ◌∙◌, arith}
 use Rattle.std.specs.Prelude.{IfOk, IfErr, IsSome, OnErr}
 use Rattle.std.proofs.lemmas.List.{append-nil}
+use Rattle.daq_types.specs.Callers.{entries_by}
 use Rattle.odb_tree.specs.declared.entry.DatabaseEntry.{DatabaseEntry}
 use Rattle.odb_tree.specs.Rows.{Rows}
-use Rattle.odb_journal.specs.Noted.{Noted, KeepsCalls, EndsEarly}
-use Rattle.odb_journal.specs.HistoryLaws.{ends_kept}
+use Rattle.odb_journal.specs.Noted.{Noted, Grows, KeepsCalls, EndsEarly, by_main}
+use Rattle.odb_journal.specs.HistoryLaws.{ends_kept, ends_none}
 use Rattle.odb_script.specs.declared.forms.Command.{Command}
 use Rattle.odb_script.specs.declared.forms.Command.TheVariants.{Nothing, Events, Start, Stop, Create, CreateDir, Set, Get, List as Ls, Remove, Exit}
 use Rattle.odb_script.specs.declared.refusals.LineRefusal.{LineRefusal}
-use Rattle.odb_commands.specs.Answers.{answer_of, calls_of}
+use Rattle.odb_commands.specs.declared.replies.CommandReply.{CommandReply}
+use Rattle.odb_commands.specs.Answers.{Answer, Answers, AnswersIf, answer_of, calls_of}
+use Rattle.odb_commands.specs.CommandCalls.{Performs}
+use Rattle.odb_commands.specs.CommandCallLaws.{PerformsIf, performs_answer, own_main, none_main}
 use Rattle.daq_session.specs.declared.halts.Halt.{Halt}
 use Rattle.daq_session.specs.declared.halts.Halt.TheVariants.{NoMemory}
 use Rattle.session_console.specs.declared.replies.Reply.{Reply}
+use Rattle.session_console.specs.declared.replies.Reply.TheVariants.{Database}
 use Rattle.daq_session.specs.declared.state.State.{State}
-use Rattle.daq_session.specs.Stages.{Outset, Stage, Does, DoesAnswer, Interrupts, line_calls}
-use Rattle.daq_session.specs.Standing.{stage_of, IsReady, AnswersBy, LineDoes, Handles, calls_of_line}
+use Rattle.daq_session.specs.FrontSets.{AreCallers}
+use Rattle.daq_session.specs.Stages.{Outset, Stage, Does, DoesCommand, Interrupts, answered, called}
+use Rattle.daq_session.specs.Standing.{Course, behind_reply, stage_of, IsReady, AnswersBy, LineDoes, Handles, Breaks}
 use Rattle.daq_session.specs.Halts.{CountsHalt}
-use Rattle.daq_session.proofs.Interrupting.{at_same, breaks_by, interrupts_ends}
+use Rattle.daq_session.proofs.OwnCalls.{own_grown, callers_grown, main_called}
+use Rattle.daq_session.proofs.Interrupting.{at_same, cut_own, interrupts_command, with_calls}
 
--- no call was made on the database
-pub interrupted_none : {T E : Type 0} (calls : Stage → List (ℕ × DatabaseEntry)) (result : Result T E) (old : State) (q : Noted) → KeepsCalls old.database q
-    → OnErr result ((readings : ℕ) (replies : List Reply) → Interrupts (calls (stage_of old readings replies)) (stage_of old readings replies) (record (stage_of old readings replies) { rows = q.rows; calls = q.history }))
-interrupted_none calls (Ok t) old q same = tt
-interrupted_none calls (Err why) old q same = λ readings replies. record {
-  made = [];
-  short = tt;
-  opened = old.opened;
-  opened_by = inl refl;
-  leads = rw (same.rows, same.history, append-nil old.database.history) refl;
-}
+-- the answer of a command of the database
+record AnswerIs (s : Rows) (command : Command) : Type 0 where
+  pub answer : Answer
+  pub is : answer_of s command ≡ Some answer
+  pub performs : Performs command answer.calls answer.reply
 
--- the calls of a line are those of its command's answer, where it has one
-pub calls_answered : (old : Stage) (command : Command) → IsSome (answer_of old.rows command) → line_calls old (Ok command) ≡ calls_of (answer_of old.rows command)
-calls_answered old Nothing some = refl
-calls_answered old (Events count) some = refl
-calls_answered old Start some = absurd (cc)
-calls_answered old Stop some = refl
-calls_answered old (Create tid path len) some = refl
-calls_answered old (CreateDir path) some = refl
-calls_answered old (Set path index value) some = refl
-calls_answered old (Get path index) some = refl
-calls_answered old (Ls path) some = refl
-calls_answered old (Remove path) some = refl
-calls_answered old Exit some = refl
+answer_some : (command : Command) (o : Option Answer) → IsSome o → PerformsIf command o → (answer : Answer) × (o ≡ Some answer) × Performs command answer.calls answer.reply
+answer_some command None some performs = absurd (cc)
+answer_some command (Some answer) some performs = (answer, refl, performs)
 
--- the first of them were made
+answer_is : (s : Rows) (command : Command) → IsSome (answer_of s command) → AnswerIs s command
+answer_is s command some = let found = answer_some command (answer_of s command) some (performs_answer s command) in record { answer = found.0; is = found.1; performs = found.2 }
+
+-- the first of its calls were made, or none
+pub interrupted_none : {T E : Type 0} (result : Result T E) (command : Command) (old : State) (q : Noted) → IsSome (answer_of old.database.rows command) → KeepsCalls old.database q
+    → OnErr result ((c : Course) → Interrupts (Ok command) (stage_of old c) (with_calls (stage_of old c) q))
+interrupted_none (Ok t) command old q some same = tt
+interrupted_none (Err why) command old q some same =
+    let found = answer_is old.database.rows command some in
+    interrupts_command command old q found.answer.calls found.answer.reply found.performs (cut_own old.database q found.answer.calls (ends_none old.database q (by_main found.answer.calls) same))
+
+ends_answer : (command : Command) (p between q : Noted) (answer : Answer) → KeepsCalls p between → answer_of p.rows command ≡ Some answer → EndsEarly between q (calls_of (answer_of between.rows command)) → EndsEarly p q (by_main answer.calls)
+ends_answer command p between q answer same is ends =
+    ends_kept p between q (by_main answer.calls) same
+    (subst (λ (o : Option Answer). EndsEarly between q (calls_of o)) (ap (λ (rows : Rows). answer_of rows command) same.rows ∙ is) ends)
+
 pub interrupted_answer : {T E : Type 0} (result : Result T E) (command : Command) (old : State) (between q : Noted) → IsSome (answer_of old.database.rows command) → KeepsCalls old.database between
     → EndsEarly between q (calls_of (answer_of between.rows command))
-    → OnErr result ((readings : ℕ) (replies : List Reply) → Interrupts (line_calls (stage_of old readings replies) (Ok command)) (stage_of old readings replies) (record (stage_of old readings replies) { rows = q.rows; calls = q.history }))
+    → OnErr result ((c : Course) → Interrupts (Ok command) (stage_of old c) (with_calls (stage_of old c) q))
 interrupted_answer (Ok t) command old between q some same ends = tt
-interrupted_answer (Err why) command old between q some same ends = λ readings replies.
-    let all : EndsEarly old.database q (calls_of (answer_of old.database.rows command)) =
-    ends_kept old.database between q (calls_of (answer_of old.database.rows command)) same (subst (λ (rows : Rows). EndsEarly between q (calls_of (answer_of rows command))) same.rows ends) in
-    subst (λ (calls : List (ℕ × DatabaseEntry)). Interrupts calls (stage_of old readings replies) (record (stage_of old readings replies) { rows = q.rows; calls = q.history }))
-    (sym (calls_answered (stage_of old readings replies) command some)) (interrupts_ends (calls_of (answer_of old.database.rows command)) old q readings replies all)
+interrupted_answer (Err why) command old between q some same ends =
+    let found = answer_is old.database.rows command some in
+    interrupts_command command old q found.answer.calls found.answer.reply found.performs
+    (cut_own old.database q found.answer.calls (ends_answer command old.database between q found.answer same found.is ends))
+
+pub interrupted_callers : (command : Command) (p between q : Noted) → IsSome (answer_of p.rows command) → KeepsCalls p between → EndsEarly between q (calls_of (answer_of between.rows command)) → AreCallers p.history → AreCallers q.history
+interrupted_callers command p between q some same ends =
+    let found = answer_is p.rows command some in
+    (cut_own p q found.answer.calls (ends_answer command p between q found.answer same found.is ends)).callers
+
+-- it made its calls
+pub answers_calls : (command : Command) (p between q : Noted) (reply : CommandReply) → IsSome (answer_of p.rows command) → KeepsCalls p between → AnswersIf between q (answer_of between.rows command) (Some reply)
+    → (calls : List DatabaseEntry) × Performs command calls reply × Grows between q (by_main calls)
+answers_calls command p between q reply some same answers =
+    let found = answer_is p.rows command some in
+    let is : Answers between q found.answer reply = subst (λ (o : Option Answer). AnswersIf between q o (Some reply)) (ap (λ (rows : Rows). answer_of rows command) same.rows ∙ found.is) answers in
+    (found.answer.calls, subst (λ (r : CommandReply). Performs command found.answer.calls r) (sym is.answered) found.performs, is.calls)
+
+pub command_done : (command : Command) (old : State) (between q : Noted) (reply : CommandReply) → IsSome (answer_of old.database.rows command) → KeepsCalls old.database between
+    → AnswersIf between q (answer_of between.rows command) (Some reply)
+    → (c : Course) → DoesCommand (stage_of old c) command (record (with_calls (stage_of old c) q) { replies = c.replies ++ Database reply ∷ [] })
+command_done command old between q reply some same answers c =
+    let made = answers_calls command old.database between q reply some same answers in
+    let own : entries_by 0 q.history ≡ entries_by 0 old.database.history ++ made.0 =
+    own_grown between q (by_main made.0) 0 made.2 ∙ ap (λ (es : List DatabaseEntry). entries_by 0 between.history ++ es) (own_main made.0) ∙ ap (λ (h : List (ℕ × DatabaseEntry)). entries_by 0 h ++ made.0) same.history in
+    let front : entries_by 1 q.history ≡ entries_by 1 old.database.history =
+    own_grown between q (by_main made.0) 1 made.2 ∙ ap (λ (es : List DatabaseEntry). entries_by 1 between.history ++ es) (none_main made.0) ∙ append-nil (entries_by 1 between.history) ∙ ap (λ (h : List (ℕ × DatabaseEntry)). entries_by 1 h) same.history in (
+      made.0,
+      reply,
+      made.1,
+      ap (λ (es : List DatabaseEntry). record (stage_of old c) { own = es; front = entries_by 1 q.history; replies = c.replies ++ Database reply ∷ [] }) own
+          ∙ ap (λ (es : List DatabaseEntry). record (stage_of old c) { own = entries_by 0 old.database.history ++ made.0; front = es; replies = c.replies ++ Database reply ∷ [] }) front,
+    )
+
+pub command_callers : (command : Command) (p between q : Noted) (reply : CommandReply) → IsSome (answer_of p.rows command) → KeepsCalls p between → AnswersIf between q (answer_of between.rows command) (Some reply)
+    → AreCallers p.history → AreCallers q.history
+command_callers command p between q reply some same answers before =
+    let made = answers_calls command p between q reply some same answers in
+    callers_grown between q (by_main made.0) made.2 (main_called made.0) (subst AreCallers (sym same.history) before)
 
 -- the line was answered in this way
 pub answers_inside : (Way : Outset → Stage → Stage → Type 0) (reply : Reply) (old new : State) (outside : Outset) → new.runs.items ≡ old.runs.items → new.current ≡ old.current
-    → ((o : Outset) (readings : ℕ) (replies : List Reply) → Way o (stage_of old readings replies) (stage_of new readings (replies ++ reply ∷ [])))
+    → (AreCallers old.database.history → AreCallers new.database.history)
+    → ((o : Outset) (c : Course) → Way o (stage_of old c) (stage_of new (behind_reply c c.readings c.clashes reply)))
     → AnswersBy Way reply old new outside outside
-answers_inside Way reply old new outside runs current does = λ o readings replies at. record {
-  readings_after = readings;
-  does = does o readings replies;
-  at = at_same old new outside runs current o readings at;
-}
+answers_inside Way reply old new outside runs current callers does = λ o c at.
+    let same = at_same old new outside runs current callers o c at in
+    record {
+      readings = c.readings;
+      clashes = c.clashes;
+      does = does o c;
+      at = record { kept = same.kept; clock = same.clock; clashes = same.clashes; callers = same.callers };
+    }
 
 -- a command of the database does what its answer says
-call_does : (o : Outset) (old new : Stage) (command : Command) → DoesAnswer old (answer_of old.rows command) new → Does o old (Ok command) new
-call_does o old new Nothing does = absurd does
-call_does o old new (Events count) does = absurd does
-call_does o old new Start does = absurd does
-call_does o old new Stop does = absurd does
+call_does : (o : Outset) (old new : Stage) (command : Command) → DoesCommand old command new → Does o old (Ok command) new
+call_does o old new Nothing does = absurd does.2
+call_does o old new (Events count) does = absurd does.2
+call_does o old new Start does = absurd does.2
+call_does o old new Stop does = absurd does.2
 call_does o old new (Create tid path len) does = does
 call_does o old new (CreateDir path) does = does
 call_does o old new (Set path index value) does = does
 call_does o old new (Get path index) does = does
 call_does o old new (Ls path) does = does
 call_does o old new (Remove path) does = does
-call_does o old new Exit does = absurd does
+call_does o old new Exit does = absurd does.2
 
 -- a command of the database was answered, or found no memory
 pub handles_call : (line : Result Command LineRefusal) (command : Command) (old new : State) (outside : Outset) (result : Result Reply Halt) → line ≡ Ok command
-    → new.runs.items ≡ old.runs.items → new.current ≡ old.current → IsReady outside.files old.current
-    → IfOk result (λ reply. (readings : ℕ) (replies : List Reply) → DoesAnswer (stage_of old readings replies) (answer_of old.database.rows command) (stage_of new readings (replies ++ reply ∷ [])))
+    → new.runs.items ≡ old.runs.items → new.current ≡ old.current → IsReady outside.files old.current → (AreCallers old.database.history → AreCallers new.database.history)
+    → IfOk result (λ reply. (c : Course) → DoesCommand (stage_of old c) command (stage_of new (behind_reply c c.readings c.clashes reply)))
     → IfErr result (λ halt. halt ≡ NoMemory)
-    → OnErr result ((readings : ℕ) (replies : List Reply) → Interrupts (line_calls (stage_of old readings replies) (Ok command)) (stage_of old readings replies) (stage_of new readings replies))
+    → OnErr result ((c : Course) → Interrupts (Ok command) (stage_of old c) (stage_of new c))
     → Handles line old new outside outside result
-handles_call line command old new outside (Ok reply) is runs current ready answered halted interrupted = (
-  answers_inside (LineDoes line) reply old new outside runs current
-      (λ o readings replies. rw is (call_does o (stage_of old readings replies) (stage_of new readings (replies ++ reply ∷ [])) command (answered readings replies))),
+handles_call line command old new outside (Ok reply) is runs current ready callers answered halted interrupted = (
+  answers_inside (LineDoes line) reply old new outside runs current callers
+      (λ o c. rw is (call_does o (stage_of old c) (stage_of new (behind_reply c c.readings c.clashes reply)) command (answered c))),
   rw current ready,
 )
-handles_call line command old new outside (Err halt) is runs current ready answered halted interrupted =
+handles_call line command old new outside (Err halt) is runs current ready callers answered halted interrupted =
     rw halted (
-      breaks_by (calls_of_line line) old new outside
-          (subst (λ (l : Result Command LineRefusal). (readings : ℕ) (replies : List Reply) → Interrupts (line_calls (stage_of old readings replies) l) (stage_of old readings replies) (stage_of new readings replies)) (sym is) interrupted) runs current,
+      record {
+        stage = subst (λ (l : Result Command LineRefusal). (c : Course) → Interrupts l (stage_of old c) (stage_of new c)) (sym is) interrupted;
+        at = at_same old new outside runs current callers;
+      },
       rw current ready,
     )
 

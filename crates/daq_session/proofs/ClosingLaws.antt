@@ -30,8 +30,9 @@ use Rattle.daq_session.specs.RunRecords.{IsKept}
 use Rattle.daq_session.specs.Endings.{SinkCounts}
 use Rattle.daq_session.specs.Halts.{SinkBy}
 use Rattle.daq_session.specs.Stages.{Outset, Stage, Does}
-use Rattle.daq_session.specs.Standing.{order_in, stage_of, Answers}
-use Rattle.daq_session.specs.Playing.{AreLines, CutBy, Wrote, Played, Prints}
+use Rattle.daq_session.specs.FrontSets.{AreCallers}
+use Rattle.daq_session.specs.Standing.{Course, IsAt, behind_reply, order_in, stage_of, Answers}
+use Rattle.daq_session.specs.Playing.{course_of, AreLines, CutBy, Wrote, Played, Prints}
 use Rattle.daq_session.specs.Sessions.{IsPlayed}
 use Rattle.daq_session.specs.Closing.{prints, earlier, Finished}
 use Rattle.daq_session.proofs.GivenLines.{given_first}
@@ -109,19 +110,23 @@ closes_some o (Some run) old new some does = does
 
 stopped : (o : Outset) (ending : Ending) (source left told_first told : Option (List ℕ)) (reply : Reply) (old new : State) (before after : Outset) (refusals : Refusals)
     → (played : Played o ending source left told_first told old before refusals) → IsSome old.current → Answers (Ok Stop) reply old new before after → new.current ≡ None
-    → (readings : ℕ) × IsPlayed o after (CutBy ending source played.lines) played.lines (stage_of new readings (played.replies ++ reply ∷ []))
+    → (readings : ℕ) × (clashes : ℕ) × IsPlayed o after (CutBy ending source played.lines) played.lines (stage_of new (course_of readings clashes (played.replies ++ reply ∷ []))) × AreCallers new.database.history
 stopped o ending source left told_first told reply old new before after refusals played running answers idle =
-    let leads = answers o played.readings played.replies played.at in (
-      leads.readings_after,
+    let course : Course = course_of played.readings played.clashes played.replies in
+    let leads = answers o course played.at in (
+      leads.readings,
+      leads.clashes,
       record {
         behind = played.behind;
         plays = played.plays;
-        cut = stage_of old played.readings played.replies;
+        cut = stage_of old course;
         is_cut = played.cut;
-        closes = closes_some o old.current (stage_of old played.readings played.replies) (stage_of new leads.readings_after (played.replies ++ reply ∷ [])) running leads.does;
+        closes = closes_some o old.current (stage_of old course) (stage_of new (behind_reply course leads.readings leads.clashes reply)) running leads.does;
         kept = subst (λ (on : Option OpenRun). IsKept o.files after.files new.runs.items on) idle leads.at.kept;
         clock = leads.at.clock;
+        clashes = leads.at.clashes;
       },
+      leads.at.callers,
     )
 
 -- The four ways to close.
@@ -134,15 +139,18 @@ finished_idle o ending source left told_first told sink_first sink s now refusal
   lines = played.lines;
   replies = played.replies;
   readings = played.readings;
+  clashes = played.clashes;
   played = record {
     behind = played.behind;
     plays = played.plays;
-    cut = stage_of s played.readings played.replies;
+    cut = stage_of s (course_of played.readings played.clashes played.replies);
     is_cut = played.cut;
-    closes = closes_none o s.current (stage_of s played.readings played.replies) idle;
+    closes = closes_none o s.current (stage_of s (course_of played.readings played.clashes played.replies)) idle;
     kept = subst (λ (on : Option OpenRun). IsKept o.files now.files s.runs.items on) idle played.at.kept;
     clock = played.at.clock;
+    clashes = played.at.clashes;
   };
+  callers = played.at.callers;
   counts = played.counts;
   are_lines = played.are_lines;
   wrote = λ memory calm. whole_of ending told_first told (console_text 1 played.replies) sink_first sink sound played.wrote counts memory calm;
@@ -160,7 +168,9 @@ finished_silent o ending source left told_first told sink_first sink old new bef
       lines = played.lines;
       replies = played.replies ++ reply ∷ [];
       readings = is_stopped.0;
-      played = is_stopped.1;
+      clashes = is_stopped.1;
+      played = is_stopped.2;
+      callers = is_stopped.3;
       counts = counts_accepted played.replies reply refusals accepted played.counts;
       are_lines = played.are_lines;
       wrote = λ memory calm. absurd (no_print ending sink_first sink sound silent counts memory calm);
@@ -194,7 +204,9 @@ finished_printed o ending source left told_first told_old told_new sink_first si
       lines = played.lines;
       replies = played.replies ++ reply ∷ [];
       readings = is_stopped.0;
-      played = is_stopped.1;
+      clashes = is_stopped.1;
+      played = is_stopped.2;
+      callers = is_stopped.3;
       counts = counts_accepted played.replies reply refusals accepted played.counts;
       are_lines = played.are_lines;
       wrote = λ memory calm. all;
@@ -235,7 +247,7 @@ cut_earlier (Halted FileFault) halt source lines old new cut = cut_halted halt s
 
 -- with another word of what is cut off
 pub played_by : (o after : Outset) (Was Now : Stage → Stage → Type 0) (lines : List (List ℕ)) (final : Stage) → ((old new : Stage) → Was old new → Now old new) → IsPlayed o after Was lines final → IsPlayed o after Now lines final
-played_by o after Was Now lines final so played = record { behind = played.behind; plays = played.plays; cut = played.cut; is_cut = so played.behind played.cut played.is_cut; closes = played.closes; kept = played.kept; clock = played.clock }
+played_by o after Was Now lines final so played = record { behind = played.behind; plays = played.plays; cut = played.cut; is_cut = so played.behind played.cut played.is_cut; closes = played.closes; kept = played.kept; clock = played.clock; clashes = played.clashes }
 
 -- the run was ended, and that was not printed whole
 pub finished_cut : (o : Outset) (ending : Ending) (halt : Halt) (source left told_first told_old told_new : Option (List ℕ)) (sink_first sink_old sink_new : ℕ) (old new : State) (before after : Outset) (refusals : Refusals) (reply : Reply)
@@ -250,7 +262,9 @@ finished_cut o ending halt source left told_first told_old told_new sink_first s
       lines = played.lines;
       replies = played.replies ++ reply ∷ [];
       readings = is_stopped.0;
-      played = played_by o after (CutBy ending source played.lines) (CutBy (earlier ending halt) source played.lines) played.lines (stage_of new is_stopped.0 (played.replies ++ reply ∷ [])) (cut_earlier ending halt source played.lines) is_stopped.1;
+      clashes = is_stopped.1;
+      played = played_by o after (CutBy ending source played.lines) (CutBy (earlier ending halt) source played.lines) played.lines (stage_of new (course_of is_stopped.0 is_stopped.1 (played.replies ++ reply ∷ []))) (cut_earlier ending halt source played.lines) is_stopped.2;
+      callers = is_stopped.3;
       counts = counts_accepted played.replies reply refusals accepted played.counts;
       are_lines = λ text told. lines_earlier ending halt text left played.lines (played.are_lines text told);
       wrote = λ memory calm. absurd (no_calm ending halt sink_first sink_old sink_new printing by counts memory calm here);

@@ -1,6 +1,7 @@
 mod Sending
 mod Keeping
 mod Interrupting
+mod OwnCalls
 mod Leading
 mod Starting
 mod Options
@@ -15,5 +16,6 @@ mod RunsTelling
 mod RunsHeld
 mod RunsKept
 mod Answering
+mod PlayedLaws
 mod FrontLaws
 mod FitLaws

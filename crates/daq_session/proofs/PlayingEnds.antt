@@ -17,12 +17,12 @@ use Rattle.session_console.specs.declared.replies.Reply.{Reply}
 use Rattle.session_console.specs.declared.refusals.Refusals.{Refusals}
 use Rattle.daq_session.specs.declared.state.State.{State}
 use Rattle.session_console.specs.Console.{text_of, console_text}
-use Rattle.daq_session.specs.Stages.{Outset, Stage, Interrupts, line_calls}
+use Rattle.daq_session.specs.Stages.{Outset, Stage, Interrupts}
 use Rattle.odb_script.specs.declared.forms.Command.{Command}
 use Rattle.odb_script.specs.declared.refusals.LineRefusal.{LineRefusal}
 use Rattle.odb_script.specs.KeptForms.{command_of-kept}
-use Rattle.daq_session.specs.Standing.{stage_of, IsReady}
-use Rattle.daq_session.specs.Playing.{Moment, Replied, Unanswered, DoesLine, AreFirst, AreLines, CutBy, Wrote, Played, PlaysTo}
+use Rattle.daq_session.specs.Standing.{Course, stage_of, IsReady}
+use Rattle.daq_session.specs.Playing.{course_of, Moment, Replied, Unanswered, DoesLine, AreFirst, AreLines, CutBy, Wrote, Played, PlaysTo}
 use Rattle.daq_session.proofs.PlayingLaws.{SoFar, moment_more, stops, wrote_more, wrote_part, wrote_none, wrote_whole}
 
 -- what was read of a source that told this text
@@ -45,10 +45,11 @@ answered_played : (o : Outset) (ending : Ending) (source left told_first told_no
 answered_played o ending source left told_first told_now lines replies s now refusals moment ready are wrote = record {
   lines = lines;
   replies = replies;
-  behind = stage_of s moment.readings replies;
+  behind = stage_of s (course_of moment.readings moment.clashes replies);
   plays = moment.plays;
   readings = moment.readings;
-  cut = cut_none ending source lines (stage_of s moment.readings replies);
+  clashes = moment.clashes;
+  cut = cut_none ending source lines (stage_of s (course_of moment.readings moment.clashes replies));
   at = moment.at;
   counts = moment.counts;
   ready = ready;
@@ -146,16 +147,17 @@ broken_played : (o : Outset) (source_first source_old left told_first told_old t
 broken_played o source_first source_old left told_first told_old told_new reading old new before after was now number line so_far first unanswered = record {
   lines = so_far.lines;
   replies = so_far.replies;
-  behind = stage_of old so_far.moment.readings so_far.replies;
+  behind = stage_of old (course_of so_far.moment.readings so_far.moment.clashes so_far.replies);
   plays = so_far.moment.plays;
   readings = so_far.moment.readings;
+  clashes = so_far.moment.clashes;
   cut = inr (record {
     line = line;
     next = first;
-    interrupts = subst (λ (c : Result Command LineRefusal). Interrupts (line_calls (stage_of old so_far.moment.readings so_far.replies) c) (stage_of old so_far.moment.readings so_far.replies) (stage_of new so_far.moment.readings so_far.replies))
-        (command_of-kept line) (unanswered.breaks.stage so_far.moment.readings so_far.replies);
+    interrupts = let course : Course = course_of so_far.moment.readings so_far.moment.clashes so_far.replies in
+        subst (λ (c : Result Command LineRefusal). Interrupts c (stage_of old course) (stage_of new course)) (command_of-kept line) (unanswered.breaks.stage course);
   });
-  at = unanswered.breaks.at o so_far.moment.readings so_far.moment.at;
+  at = unanswered.breaks.at o (course_of so_far.moment.readings so_far.moment.clashes so_far.replies) so_far.moment.at;
   counts = rw unanswered.same so_far.moment.counts;
   ready = unanswered.ready;
   are_lines = λ text told. lines_first text source_old reading so_far.lines (told_read source_first source_old reading so_far.lines text told so_far.read) so_far.go_on;

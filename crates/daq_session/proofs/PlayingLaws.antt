@@ -7,6 +7,8 @@ use Rattle.std.proofs.lemmas.List.Elements.{All-nil}
 use Rattle.std.proofs.Math.Seq.{take-append-add, take-append_seam}
 use Rattle.std.specs.Io.KnownBytes.{Appends, Keeps}
 use Rattle.daq_io.specs.Streams.{AppendsPart, Appends-nil, Appends-trans, Appends-kept}
+use Rattle.daq_types.specs.Callers.{entries_by}
+use Rattle.odb_tree.specs.declared.entry.DatabaseEntry.{DatabaseEntry}
 use Rattle.odb_script.specs.declared.forms.Command.{Command}
 use Rattle.odb_script.specs.declared.refusals.LineRefusal.{LineRefusal}
 use Rattle.odb_script.specs.Forms.{command_of}
@@ -22,11 +24,14 @@ use Rattle.session_console.specs.Console.{text_of, console_text, console_text-mo
 use Rattle.session_console.specs.Refused.{counts_noted}
 use Rattle.daq_session.specs.RunRecords.{IsFiled}
 use Rattle.daq_session.specs.Stages.{Outset, Stage, opening, Does, Plays}
-use Rattle.daq_session.specs.Standing.{stage_of, IsReady}
+use Rattle.daq_session.specs.FrontSets.{AreCallers}
+use Rattle.daq_session.specs.Standing.{Course, behind_reply, order_in, stage_of, IsReady}
 use Rattle.odb_script.specs.Lines.{Reading, nothing_read, ReadsLine}
 use Rattle.odb_script.specs.ReadLines.{HasRead, has_read_none, has_read_line}
 use Rattle.daq_session.specs.declared.desk.Going.TheVariants.{On, Exit}
-use Rattle.daq_session.specs.Playing.{Moment, IsNew, Replied, GoesBehind, DoesLine, Prints}
+use Rattle.daq_session.proofs.OwnCalls.{none_called}
+use Rattle.daq_session.proofs.Leading.{stage_is}
+use Rattle.daq_session.specs.Playing.{course_of, Moment, IsNew, Replied, GoesBehind, DoesLine, Prints}
 
 -- one line more
 pub Plays-more : (o : Outset) (lines : List (Result Command LineRefusal)) (line : Result Command LineRefusal) (old between new : Stage) → Plays o old lines between → Does o between line new → Plays o old (lines ++ line ∷ []) new
@@ -37,10 +42,13 @@ Plays-more o (first ∷ lines) line old between new plays does = (plays.0, plays
 pub moment_new : (o : Outset) (s : State) (refusals : Refusals) → IsNew s → refusals ≡ record { count = 0; first = 0 } → Moment o [] [] s o refusals
 moment_new o s refusals new none = record {
   readings = 0;
-  plays = rw (new.quota, new.starts, new.opened, new.runs, new.current, new.rows, new.calls) refl;
+  clashes = o.clashes;
+  plays = stage_is new.quota new.starts refl refl new.opened (ap order_in new.current) new.runs (ap (λ (h : List (ℕ × DatabaseEntry)). entries_by 0 h) new.calls) (ap (λ (h : List (ℕ × DatabaseEntry)). entries_by 1 h) new.calls) refl;
   at = record {
     kept = rw (new.runs, new.current) (record { tells = refl; filed = λ told. All-nil (IsFiled o.files.at); begun = λ told. tt; others = λ told name avoids ne. refl });
     clock = record { tells = refl; ahead = λ told n. ap o.ahead (sym (zero-add n)) };
+    clashes = refl;
+    callers = subst AreCallers (sym new.calls) none_called;
   };
   counts = rw none (record { count = refl; first = refl });
   numbered = refl;
@@ -51,13 +59,16 @@ pub moment_more : (o : Outset) (lines : List (List ℕ)) (line : List ℕ) (repl
     → Moment o lines replies old before was → Replied (kept line) number reply old new before after was now → number ≡ length lines + 1
     → Moment o (lines ++ line ∷ []) (replies ++ reply ∷ []) new after now
 moment_more o lines line replies reply number old new before after was now moment replied is_number =
-    let leads = replied.answers o moment.readings replies moment.at in
-    let does : Does o (stage_of old moment.readings replies) (command_of line) (stage_of new leads.readings_after (replies ++ reply ∷ [])) =
-    subst (λ (c : Result Command LineRefusal). Does o (stage_of old moment.readings replies) c (stage_of new leads.readings_after (replies ++ reply ∷ []))) (command_of-kept line) leads.does in
+    let before_it : Course = course_of moment.readings moment.clashes replies in
+    let leads = replied.answers o before_it moment.at in
+    let behind : Course = behind_reply before_it leads.readings leads.clashes reply in
+    let does : Does o (stage_of old before_it) (command_of line) (stage_of new behind) =
+    subst (λ (c : Result Command LineRefusal). Does o (stage_of old before_it) c (stage_of new behind)) (command_of-kept line) leads.does in
     let place : number ≡ 1 + length replies = omega (arith, is_number, moment.numbered) in
     record {
-      readings = leads.readings_after;
-      plays = rw (map-append command_of lines (line ∷ [])) (Plays-more o (map command_of lines) (command_of line) opening (stage_of old moment.readings replies) (stage_of new leads.readings_after (replies ++ reply ∷ [])) moment.plays does);
+      readings = leads.readings;
+      clashes = leads.clashes;
+      plays = rw (map-append command_of lines (line ∷ [])) (Plays-more o (map command_of lines) (command_of line) (opening o.clashes) (stage_of old before_it) (stage_of new behind) moment.plays does);
       at = leads.at;
       counts = rw (replied.is_noted, place) (counts_noted replies reply was moment.counts);
       numbered = omega (arith, moment.numbered, length-append replies (reply ∷ []), length-append lines (line ∷ []));

@@ -17,9 +17,9 @@ use Rattle.session_console.specs.Refused.{Counts}
 use Rattle.session_console.specs.declared.records.SessionRecord.{SessionRecord}
 use Rattle.session_console.specs.declared.replies.Reply.{Reply}
 use Rattle.daq_session.specs.Stages.{Outset, Stage, opening}
-use Rattle.daq_session.specs.Standing.{stage_of}
+use Rattle.daq_session.specs.Standing.{Course, stage_of}
 use Rattle.daq_session.specs.Endings.{FileCounts}
-use Rattle.daq_session.specs.Playing.{AreLines, CutBy, Played, PlaysTo}
+use Rattle.daq_session.specs.Playing.{course_of, AreLines, CutBy, Played, PlaysTo}
 use Rattle.daq_session.specs.Sessions.{Count, CutsBy, ReadBy, RefusedBy, FaultsBy, IsRecorded, IsSession}
 use Rattle.daq_session.specs.Closing.{Finished, FaultsOf, CauseBy}
 use Rattle.daq_session.proofs.ClosingLaws.{played_by}
@@ -99,15 +99,15 @@ memory_by ending cause refusals first by enough is = enough (subst (λ (e : Endi
 
 -- What a session is that was finished so, with this record.
 pub session_by : (o : Outset) (ending : Ending) (cause : Cause) (first : Option (List ℕ)) (source left told_first told_now : Option (List ℕ)) (sink : Count) (s : State) (after : Outset) (refusals shown : Refusals) (session : Option SessionRecord)
-    → shown ≡ refusals → CauseBy ending shown first cause → ((readings : ℕ) (replies : List Reply) → IsRecorded (stage_of s readings replies) session)
+    → shown ≡ refusals → CauseBy ending shown first cause → ((c : Course) → IsRecorded (stage_of s c) session)
     → Finished o ending source left told_first told_now sink s after refusals → IsSession o after source left told_first told_now sink cause session
 session_by o ending cause first source left told_first told_now sink s after refusals shown session same is_cause recorded finished =
     let by : CauseBy ending refusals first cause = subst (λ (r : Refusals). CauseBy ending r first cause) same is_cause in
     record {
       lines = finished.lines;
-      final = stage_of s finished.readings finished.replies;
-      played = played_by o after (CutBy ending source finished.lines) (CutsBy cause source finished.lines) finished.lines (stage_of s finished.readings finished.replies) (cut_by ending cause refusals first by source finished.lines) finished.played;
-      recorded = recorded finished.readings finished.replies;
+      final = stage_of s (course_of finished.readings finished.clashes finished.replies);
+      played = played_by o after (CutBy ending source finished.lines) (CutsBy cause source finished.lines) finished.lines (stage_of s (course_of finished.readings finished.clashes finished.replies)) (cut_by ending cause refusals first by source finished.lines) finished.played;
+      recorded = recorded (course_of finished.readings finished.clashes finished.replies);
       read = λ text told. read_by ending cause refusals first by text left finished.lines (finished.are_lines text told);
       refused = refused_by ending cause refusals first by (refused_lines 1 finished.replies) finished.counts;
       wrote = λ enough calm. finished.wrote (memory_by ending cause refusals first by enough) calm;
@@ -131,15 +131,16 @@ faults_by (Halted FileFault) cause refusals first source sink files by counts = 
 pub session_none : (o : Outset) (source left told : Option (List ℕ)) (sink : Count) → IsSession o o source left told told sink no_memory None
 session_none o source left told sink = record {
   lines = [];
-  final = opening;
+  final = opening o.clashes;
   played = record {
-    behind = opening;
+    behind = opening o.clashes;
     plays = refl;
-    cut = opening;
+    cut = opening o.clashes;
     is_cut = inl refl;
     closes = refl;
     kept = record { tells = refl; filed = λ known. All-nil (IsFiled o.files.at); begun = λ known. tt; others = λ known name avoids ne. refl };
     clock = record { tells = refl; ahead = λ told n. ap o.ahead (sym (zero-add n)) };
+    clashes = refl;
   };
   recorded = refl;
   read = λ text known. refl;

@@ -1,118 +1,189 @@
 -- From the parts of a start to the command.
-use Rattle.std.proofs.Common.{◌≡◌, ℕ, List, [], ◌∷◌, ◌++◌, Option, None, true, refl, ap, sym, subst, ◌∙◌}
+use Rattle.std.proofs.Common.{◌≡◌, ℕ, Bool, inl, List, [], ◌∷◌, ◌++◌, Option, None, true, refl, ap, sym, subst, ◌∙◌}
 use Rattle.std.specs.Prelude.{Result, Ok, Err, OnErr, false}
 use Rattle.std.specs.Result.{IsErr, IsErrAnd}
-use Rattle.odb_journal.specs.Noted.{Noted, Grows, EndsEarly}
+use Rattle.std.proofs.lemmas.List.{append-nil}
+use Rattle.daq_types.specs.Callers.{entries_by}
 use Rattle.daq_types.specs.declared.runs.Order.{Order}
-use Rattle.odb_tree.specs.Calls.{get_reply}
+use Rattle.odb_value.specs.Values.{Held}
+use Rattle.odb_journal.specs.Noted.{Noted, Grows, KeepsCalls, EndsEarly, by_main}
+use Rattle.odb_tree.specs.declared.entry.DatabaseEntry.{DatabaseEntry}
+use Rattle.odb_tree.specs.declared.refusals.OdbRefusal.{OdbRefusal}
+use Rattle.odb_tree.specs.Rows.{Rows}
+use Rattle.odb_tree.specs.Calls.{get_reply, create_reply}
+use Rattle.odb_tree.specs.declared.rows.NewKey.TheVariants.{Keys}
+use Rattle.daq_types.specs.declared.types.Tid.TheVariants.{UInt64}
 use Rattle.odb_runinfo.specs.declared.keys.RunKey.TheVariants.{RunNumber as number_key}
 use Rattle.odb_runinfo.specs.declared.sets.RunNumber.{RunNumber as NoNext}
-use Rattle.odb_runinfo.specs.RunKeys.{key_path}
+use Rattle.odb_runinfo.specs.RunKeys.{key_path, sent_path}
 use Rattle.odb_runinfo.specs.RunSets.{have_of, next_run, number_got, front_made}
 use Rattle.odb_script.specs.declared.forms.Command.TheVariants.{Start}
+use Rattle.odb_commands.specs.CommandCalls.{IsSettled}
+use Rattle.odb_commands.specs.CommandCallLaws.{get_settled, create_settled}
 use Rattle.daq_session.specs.declared.halts.Halt.{Halt}
 use Rattle.daq_session.specs.declared.halts.Halt.TheVariants.{NoMemory, SinkFault, FileFault}
+use Rattle.session_console.specs.FrontNames.{front_name}
 use Rattle.session_console.specs.declared.replies.Reply.{Reply}
 use Rattle.session_console.specs.declared.replies.Reply.TheVariants.{RunNumber}
 use Rattle.daq_session.specs.declared.state.State.{State}
 use Rattle.daq_session.specs.declared.state.OpenRun.{OpenRun}
-use Rattle.daq_session.specs.Stages.{Outset, Stage, Does, DoesStart, StartsFrom, StartsRun, Interrupts, called, line_calls, opens}
-use Rattle.daq_session.specs.Standing.{stage_of, order_in, IsReady, Breaks, HandlesBy, LineDoes, RunStarts, calls_of_line, no_calls}
-use Rattle.session_console.specs.FrontNames.{front_name}
-use Rattle.daq_session.proofs.Interrupting.{interrupts_start, interrupts_opening, interrupts_asked, interrupts_ends, interrupts_state, breaks_trans, breaks_by, memory_handled, at_same}
+use Rattle.daq_session.specs.FrontSets.{AreCallers}
+use Rattle.daq_session.specs.RunCalls.{key_made, number_asked}
+use Rattle.daq_session.specs.Stages.{Outset, Stage, Does, DoesStart, Opens, StartsFrom, StartsRun, Interrupts, called}
+use Rattle.daq_session.specs.Standing.{Course, behind_reply, stage_of, order_in, IsAt, IsReady, Breaks, Stays, LineDoes, Handles, HandlesRun}
+use Rattle.daq_session.proofs.OwnCalls.{own_grown, callers_grown, main_called}
+use Rattle.daq_session.proofs.Leading.{stage_is}
+use Rattle.daq_session.proofs.Interrupting.{at_same, cut_own, interrupts_start, memory_handled, with_calls}
 
--- a start is that of a run, or none for want of a number, behind the opening and the number that was got
-pub starts_from : (o : Outset) (old opened asked new : Stage) (next : Result ℕ NoNext) → old.on ≡ None → opened ≡ opens old.opened old → next_run (have_of (get_reply opened.rows (key_path number_key))) ≡ next
-    → asked ≡ called opened (number_got opened.rows) → StartsRun o next asked new → Does o old (Ok Start) new
-starts_from o old opened asked new next idle is_opened is_next is_asked starts =
-    subst (λ (on : Option Order). DoesStart o old on new) (sym idle)
-    (subst (λ (s : Stage). StartsFrom o s new) is_opened
-    (subst (λ (n : Result ℕ NoNext). StartsRun o n (called opened (number_got opened.rows)) new) (sym is_next)
-    (subst (λ (s : Stage). StartsRun o next s new) is_asked starts)))
+-- the number that the rows give, as a reply
+abbrev pub number_of : Rows → Result Held OdbRefusal
+number_of s = get_reply s (key_path number_key)
 
--- the number was got
-pub asked_stage : (opened asked : State) → asked.quota ≡ opened.quota → asked.starts ≡ opened.starts → asked.opened ≡ opened.opened → asked.runs.items ≡ opened.runs.items → asked.current ≡ opened.current
-    → Grows opened.database asked.database (number_got opened.database.rows)
-    → (readings : ℕ) (replies : List Reply) → stage_of asked readings replies ≡ called (stage_of opened readings replies) (number_got opened.database.rows)
-asked_stage opened asked is_quota is_starts is_opened is_runs is_current grows readings replies = rw (is_quota, is_starts, is_opened, is_runs, is_current, grows.rows, grows.history) refl
+-- The session was opened: it is open now, and where it was not, its key was made.
 
--- no memory was found for it
-pub start_broken : (old opened new : State) (now : Outset) (result : Result Reply Halt) → IsErr result → IsErrAnd result (λ (h : Halt). h ≡ NoMemory) → old.current ≡ None
-    → ((readings : ℕ) (replies : List Reply) → stage_of opened readings replies ≡ opens old.opened (stage_of old readings replies)) → opened.runs.items ≡ old.runs.items → opened.current ≡ old.current
-    → new.quota ≡ opened.quota → new.starts ≡ opened.starts → new.opened ≡ opened.opened → new.runs.items ≡ opened.runs.items → new.current ≡ opened.current
-    → EndsEarly opened.database new.database (number_got opened.database.rows) → HandlesBy (LineDoes (Ok Start)) (calls_of_line (Ok Start)) old new now now result
-start_broken old opened new now result err is idle is_opened is_runs is_current new_quota new_starts new_opened new_runs new_current ends =
-    memory_handled (LineDoes (Ok Start)) (calls_of_line (Ok Start)) old new now now result err is
-    (breaks_by (calls_of_line (Ok Start)) old new now
-    (λ readings replies.
-    interrupts_start (stage_of old readings replies) (stage_of opened readings replies) (stage_of new readings replies) (ap order_in idle) (is_opened readings replies)
-    (interrupts_state (number_got opened.database.rows) opened new new_quota new_starts new_opened new_runs new_current ends readings replies))
-    (new_runs ∙ is_runs) (new_current ∙ is_current))
-    (subst (λ (on : Option OpenRun). IsReady now.files on) (sym (new_current ∙ (is_current ∙ idle))) tt)
+pub opened_before : (opened : Bool) (s : Stage) → opened ≡ true → Opens opened s s
+opened_before true s is = refl
+opened_before false s is = let clash : false ≡ true = is in cc
 
--- nor for its opening
-pub opening_broken : {T E : Type 0} (old : State) (q : Noted) (result : Result T E) → old.current ≡ None → old.opened ≡ false → EndsEarly old.database q (front_made old.database.rows front_name)
-    → OnErr result ((readings : ℕ) (replies : List Reply) → Interrupts (line_calls (stage_of old readings replies) (Ok Start)) (stage_of old readings replies) (record (stage_of old readings replies) { rows = q.rows; calls = q.history }))
-opening_broken old q (Ok t) idle shut ends = tt
-opening_broken old q (Err why) idle shut ends = λ readings replies.
-    interrupts_opening (stage_of old readings replies) (record (stage_of old readings replies) { rows = q.rows; calls = q.history }) (ap order_in idle) shut
-    (interrupts_ends (front_made old.database.rows front_name) old q readings replies ends)
+pub opened_now : (opened : Bool) (old : State) (q : Noted) (front : List ℕ) → opened ≡ false → front ≡ front_name → Grows old.database q (front_made old.database.rows front)
+    → (c : Course) → Opens opened (stage_of old c) (record (with_calls (stage_of old c) q) { opened = true })
+opened_now true old q front shut is_front grows c = let clash : true ≡ false = shut in cc
+opened_now false old q front shut is_front grows c =
+    let reply : Result ℕ OdbRefusal = create_reply old.database.rows (sent_path front_name) (Keys UInt64 1) in
+    let made : Grows old.database q (by_main (key_made reply ∷ [])) = subst (λ (name : List ℕ). Grows old.database q (front_made old.database.rows name)) is_front grows in (
+      reply,
+      create_settled old.database.rows (sent_path front_name) (Keys UInt64 1),
+      ap (λ (es : List DatabaseEntry). record (stage_of old c) { own = es; front = entries_by 1 q.history; opened = true }) (own_grown old.database q (by_main (key_made reply ∷ [])) 0 made)
+          ∙ ap (λ (es : List DatabaseEntry). record (stage_of old c) { own = entries_by 0 old.database.history ++ key_made reply ∷ []; front = es; opened = true })
+          (own_grown old.database q (by_main (key_made reply ∷ [])) 1 made ∙ append-nil (entries_by 1 old.database.history)),
+    )
 
--- what the opening and the number leave
-pub breaks_asked : (old opened asked : State) (now : Outset) → old.current ≡ None → ((readings : ℕ) (replies : List Reply) → stage_of opened readings replies ≡ opens old.opened (stage_of old readings replies))
-    → ((readings : ℕ) (replies : List Reply) → stage_of asked readings replies ≡ called (stage_of opened readings replies) (number_got opened.database.rows))
-    → asked.runs.items ≡ old.runs.items → asked.current ≡ old.current → Breaks (calls_of_line (Ok Start)) old asked now now
-breaks_asked old opened asked now idle is_opened is_asked is_runs is_current = record {
-  stage = λ readings replies.
-      subst (λ (s : Stage). Interrupts (line_calls (stage_of old readings replies) (Ok Start)) (stage_of old readings replies) s) (sym (is_asked readings replies))
-      (interrupts_asked (stage_of old readings replies) (stage_of opened readings replies) (ap order_in idle) (is_opened readings replies));
-  at = at_same old asked now is_runs is_current;
+-- nothing was done but that room was made
+pub stays_by : (old new : State) (now : Outset) → new.quota ≡ old.quota → new.starts ≡ old.starts → new.opened ≡ old.opened → new.runs.items ≡ old.runs.items → new.current ≡ old.current
+    → KeepsCalls old.database new.database → Stays old new now now
+stays_by old new now is_quota is_starts is_opened is_runs is_current same = record {
+  stage = λ c. stage_is is_quota is_starts refl refl is_opened (ap order_in is_current) is_runs
+      (ap (λ (h : List (ℕ × DatabaseEntry)). entries_by 0 h) same.history) (ap (λ (h : List (ℕ × DatabaseEntry)). entries_by 1 h) same.history) refl;
+  at = at_same old new now is_runs is_current (λ before. subst AreCallers (sym same.history) before);
 }
 
--- a start of a run that has a number
-pub start_handled : (old opened asked new : State) (run : ℕ) (before after : Outset) (result : Result Reply Halt) → old.current ≡ None
-    → ((readings : ℕ) (replies : List Reply) → stage_of opened readings replies ≡ opens old.opened (stage_of old readings replies))
-    → ((readings : ℕ) (replies : List Reply) → stage_of asked readings replies ≡ called (stage_of opened readings replies) (number_got opened.database.rows))
-    → next_run (have_of (get_reply opened.database.rows (key_path number_key))) ≡ Ok run
-    → Breaks (calls_of_line (Ok Start)) old asked before before → HandlesBy (RunStarts run) no_calls asked new before after result → HandlesBy (LineDoes (Ok Start)) (calls_of_line (Ok Start)) old new before after result
-start_handled old opened asked new run before after (Ok reply) idle is_opened is_asked is_next breaks handles = (
-  λ o readings replies at.
-      let leads = handles.0 o readings replies (breaks.at o readings at) in
+-- Behind the opening, which left this state.
+pub record IsOpened (old opened : State) : Type 0 where
+  pub idle : old.current ≡ None
+  pub opens : (c : Course) → Opens old.opened (stage_of old c) (stage_of opened c)
+  pub runs : opened.runs.items ≡ old.runs.items
+  pub current : opened.current ≡ old.current
+  pub callers : AreCallers old.database.history → AreCallers opened.database.history
+
+idle_stage : (old : State) (c : Course) → old.current ≡ None → (stage_of old c).on ≡ None
+idle_stage old c idle = ap order_in idle
+
+-- The number was got, or not for want of memory.
+
+pub asked_stage : (opened : State) (q : Noted) → Grows opened.database q (number_got opened.database.rows)
+    → (c : Course) → with_calls (stage_of opened c) q ≡ called (stage_of opened c) (number_asked (number_of opened.database.rows) ∷ [])
+asked_stage opened q grows c =
+    let asked : List DatabaseEntry = number_asked (number_of opened.database.rows) ∷ [] in
+    ap (λ (es : List DatabaseEntry). record (stage_of opened c) { own = es; front = entries_by 1 q.history }) (own_grown opened.database q (by_main asked) 0 grows)
+    ∙ ap (λ (es : List DatabaseEntry). record (stage_of opened c) { own = entries_by 0 opened.database.history ++ asked; front = es })
+    (own_grown opened.database q (by_main asked) 1 grows ∙ append-nil (entries_by 1 opened.database.history))
+
+pub number_broken : (old opened : State) (q : Noted) → IsOpened old opened → EndsEarly opened.database q (number_got opened.database.rows)
+    → (c : Course) → Interrupts (Ok Start) (stage_of old c) (with_calls (stage_of opened c) q)
+number_broken old opened q is ends c =
+    let cut = cut_own opened.database q (number_asked (number_of opened.database.rows) ∷ []) ends in
+    interrupts_start (stage_of old c) (stage_of opened c) (with_calls (stage_of opened c) q) (number_of opened.database.rows) cut.made (idle_stage old c is.idle) (is.opens c) cut.short
+    (ap (λ (es : List DatabaseEntry). record (stage_of opened c) { own = es; front = entries_by 1 q.history }) cut.own
+    ∙ ap (λ (es : List DatabaseEntry). record (stage_of opened c) { own = entries_by 0 opened.database.history ++ cut.made; front = es }) cut.front)
+
+-- a start with this next number, behind the opening and the number that was got
+starts_from : (o : Outset) (old opened asked new : State) (q : Noted) (next : Result ℕ NoNext) (c d : Course) → IsOpened old opened → Grows opened.database q (number_got opened.database.rows)
+    → next_run (have_of (number_of opened.database.rows)) ≡ next → stage_of asked c ≡ with_calls (stage_of opened c) q → StartsRun o next (stage_of asked c) (stage_of new d) → Does o (stage_of old c) (Ok Start) (stage_of new d)
+starts_from o old opened asked new q next c d is grows is_next is_asked starts =
+    subst (λ (on : Option Order). DoesStart o (stage_of old c) on (stage_of new d)) (sym (idle_stage old c is.idle)) (
+      stage_of opened c,
+      is.opens c,
       record {
-        readings_after = leads.readings_after;
-        does = starts_from o (stage_of old readings replies) (stage_of opened readings replies) (stage_of asked readings replies) (stage_of new leads.readings_after (replies ++ reply ∷ [])) (Ok run)
-            (ap order_in idle) (is_opened readings replies) is_next (is_asked readings replies) leads.does;
+        got = number_of opened.database.rows;
+        settled = get_settled opened.database.rows (key_path number_key);
+        starts = subst (λ (n : Result ℕ NoNext). StartsRun o n (called (stage_of opened c) (number_asked (number_of opened.database.rows) ∷ [])) (stage_of new d)) (sym is_next)
+            (subst (λ (s : Stage). StartsRun o next s (stage_of new d)) (is_asked ∙ asked_stage opened q grows c) starts);
+      },
+    )
+
+asked_callers : (old opened : State) (q : Noted) → IsOpened old opened → Grows opened.database q (number_got opened.database.rows) → AreCallers old.database.history → AreCallers q.history
+asked_callers old opened q is grows before = callers_grown opened.database q (number_got opened.database.rows) grows (main_called (number_asked (number_of opened.database.rows) ∷ [])) (is.callers before)
+
+-- the number was got, and that alone was done since the opening
+pub record IsAsked (opened asked : State) : Type 0 where
+  pub quota : asked.quota ≡ opened.quota
+  pub starts : asked.starts ≡ opened.starts
+  pub opened_is : asked.opened ≡ opened.opened
+  pub runs : asked.runs.items ≡ opened.runs.items
+  pub current : asked.current ≡ opened.current
+  pub grows : Grows opened.database asked.database (number_got opened.database.rows)
+
+asked_is : (opened asked : State) → IsAsked opened asked → (c : Course) → stage_of asked c ≡ with_calls (stage_of opened c) asked.database
+asked_is opened asked is c = stage_is is.quota is.starts refl refl is.opened_is (ap order_in is.current) is.runs refl refl refl
+
+-- a start that has no number
+pub unnumbered_handled : (old opened asked : State) (no_next : NoNext) (now : Outset) → IsOpened old opened → IsAsked opened asked
+    → next_run (have_of (number_of opened.database.rows)) ≡ Err no_next → IsReady now.files asked.current → Handles (Ok Start) old asked now now (Ok (RunNumber no_next.have))
+unnumbered_handled old opened asked no_next now is is_asked is_next ready = (
+  λ o c at.
+      let same = at_same old asked now (is_asked.runs ∙ is.runs) (is_asked.current ∙ is.current) (asked_callers old opened asked.database is is_asked.grows) o c at in
+      record {
+        readings = c.readings;
+        clashes = c.clashes;
+        does = starts_from o old opened asked asked asked.database (Err no_next) c (behind_reply c c.readings c.clashes (RunNumber no_next.have)) is is_asked.grows is_next (asked_is opened asked is_asked c) refl;
+        at = record { kept = same.kept; clock = same.clock; clashes = same.clashes; callers = same.callers };
+      },
+  ready,
+)
+
+pub unnumbered_shown : (old opened asked : State) (no_next : NoNext) (reply : Reply) (now : Outset) → reply ≡ RunNumber no_next.have → IsOpened old opened → IsAsked opened asked
+    → next_run (have_of (number_of opened.database.rows)) ≡ Err no_next → IsReady now.files asked.current → Handles (Ok Start) old asked now now (Ok reply)
+unnumbered_shown old opened asked no_next reply now same is is_asked is_next ready =
+    subst (λ (r : Reply). Handles (Ok Start) old asked now now (Ok r)) (sym same) (unnumbered_handled old opened asked no_next now is is_asked is_next ready)
+
+-- a start of a run that has a number
+pub run_handled : (old opened asked new : State) (run : ℕ) (before after : Outset) (result : Result Reply Halt) → IsOpened old opened → IsAsked opened asked
+    → next_run (have_of (number_of opened.database.rows)) ≡ Ok run → HandlesRun run asked new before after result → Handles (Ok Start) old new before after result
+run_handled old opened asked new run before after (Ok reply) is is_asked is_next handles = (
+  λ o c at.
+      let leads = handles.0 o c (at_same old asked before (is_asked.runs ∙ is.runs) (is_asked.current ∙ is.current) (asked_callers old opened asked.database is is_asked.grows) o c at) in
+      record {
+        readings = leads.readings;
+        clashes = leads.clashes;
+        does = starts_from o old opened asked new asked.database (Ok run) c (behind_reply c leads.readings leads.clashes reply) is is_asked.grows is_next (asked_is opened asked is_asked c) leads.does;
         at = leads.at;
       },
   handles.1,
 )
-start_handled old opened asked new run before after (Err NoMemory) idle is_opened is_asked is_next breaks handles = (breaks_trans (calls_of_line (Ok Start)) old asked new before before after breaks handles.0, handles.1)
-start_handled old opened asked new run before after (Err SinkFault) idle is_opened is_asked is_next breaks handles = handles
-start_handled old opened asked new run before after (Err FileFault) idle is_opened is_asked is_next breaks handles = tt
-
--- a start that has none
-pub unnumbered_handled : (old opened asked : State) (no_next : NoNext) (now : Outset) → old.current ≡ None
-    → ((readings : ℕ) (replies : List Reply) → stage_of opened readings replies ≡ opens old.opened (stage_of old readings replies))
-    → ((readings : ℕ) (replies : List Reply) → stage_of asked readings replies ≡ called (stage_of opened readings replies) (number_got opened.database.rows))
-    → next_run (have_of (get_reply opened.database.rows (key_path number_key))) ≡ Err no_next
-    → Breaks (calls_of_line (Ok Start)) old asked now now → IsReady now.files asked.current → HandlesBy (LineDoes (Ok Start)) (calls_of_line (Ok Start)) old asked now now (Ok (RunNumber no_next.have))
-unnumbered_handled old opened asked no_next now idle is_opened is_asked is_next breaks ready = (
-  λ o readings replies at. record {
-    readings_after = readings;
-    does = starts_from o (stage_of old readings replies) (stage_of opened readings replies) (stage_of asked readings replies) (stage_of asked readings (replies ++ RunNumber no_next.have ∷ [])) (Err no_next)
-        (ap order_in idle) (is_opened readings replies) is_next (is_asked readings replies) refl;
-    at = breaks.at o readings at;
+run_handled old opened asked new run before after (Err NoMemory) is is_asked is_next handles = (
+  record {
+    stage = λ c.
+        interrupts_start (stage_of old c) (stage_of opened c) (stage_of new c) (number_of opened.database.rows) (number_asked (number_of opened.database.rows) ∷ []) (idle_stage old c is.idle) (is.opens c)
+        (inl (refl, tt)) (handles.0.stage c ∙ asked_is opened asked is_asked c ∙ asked_stage opened asked.database is_asked.grows c);
+    at = λ o c at. handles.0.at o c (at_same old asked before (is_asked.runs ∙ is.runs) (is_asked.current ∙ is.current) (asked_callers old opened asked.database is is_asked.grows) o c at);
   },
-  ready,
+  handles.1,
 )
+run_handled old opened asked new run before after (Err SinkFault) is is_asked is_next handles = handles
+run_handled old opened asked new run before after (Err FileFault) is is_asked is_next handles = tt
 
--- the same, from what the parts say
-pub start_run_handled : (old opened asked new : State) (run : ℕ) (before after : Outset) (result : Result Reply Halt) → HandlesBy (RunStarts run) no_calls asked new before after result → old.current ≡ None
-    → ((readings : ℕ) (replies : List Reply) → stage_of opened readings replies ≡ opens old.opened (stage_of old readings replies)) → opened.runs.items ≡ old.runs.items → opened.current ≡ old.current
-    → asked.quota ≡ opened.quota → asked.starts ≡ opened.starts → asked.opened ≡ opened.opened → asked.runs.items ≡ opened.runs.items → asked.current ≡ opened.current
-    → Grows opened.database asked.database (number_got opened.database.rows) → next_run (have_of (get_reply opened.database.rows (key_path number_key))) ≡ Ok run
-    → HandlesBy (LineDoes (Ok Start)) (calls_of_line (Ok Start)) old new before after result
-start_run_handled old opened asked new run before after result handles idle is_opened is_runs is_current new_quota new_starts new_opened new_runs new_current grows is_next =
-    let is_asked = asked_stage opened asked new_quota new_starts new_opened new_runs new_current grows in
-    start_handled old opened asked new run before after result idle is_opened is_asked is_next
-    (breaks_asked old opened asked before idle is_opened is_asked (new_runs ∙ is_runs) (new_current ∙ is_current)) handles
+-- a start that found no memory for the number
+pub start_broken : (old opened new : State) (now : Outset) (result : Result Reply Halt) → IsErr result → IsErrAnd result (λ (h : Halt). h ≡ NoMemory) → IsOpened old opened
+    → new.quota ≡ opened.quota → new.starts ≡ opened.starts → new.opened ≡ opened.opened → new.runs.items ≡ opened.runs.items → new.current ≡ opened.current
+    → EndsEarly opened.database new.database (number_got opened.database.rows) → Handles (Ok Start) old new now now result
+start_broken old opened new now result err wanting is is_quota is_starts is_opened is_runs is_current ends =
+    let cut = cut_own opened.database new.database (number_asked (number_of opened.database.rows) ∷ []) ends in
+    memory_handled (LineDoes (Ok Start)) (Breaks (Ok Start)) old new now now result err wanting
+    (record {
+      stage = λ c. subst (λ (s : Stage). Interrupts (Ok Start) (stage_of old c) s) (sym (same c)) (number_broken old opened new.database is ends c);
+      at = at_same old new now (is_runs ∙ is.runs) (is_current ∙ is.current) (λ before. cut.callers (is.callers before));
+    })
+    (subst (λ (on : Option OpenRun). IsReady now.files on) (sym (is_current ∙ (is.current ∙ is.idle))) tt)
+  where
+    same : (c : Course) → stage_of new c ≡ with_calls (stage_of opened c) new.database
+    same c = stage_is is_quota is_starts refl refl is_opened (ap order_in is_current) is_runs refl refl refl

@@ -15,7 +15,8 @@ use Rattle.session_console.specs.declared.replies.Reply.{Reply}
 use Rattle.daq_session.specs.declared.state.State.{State}
 use Rattle.session_console.specs.Console.{console_text, refused_lines}
 use Rattle.daq_session.specs.Endings.{SourceCounts, SinkCounts, FileCounts}
-use Rattle.daq_session.specs.Playing.{AreLines, CutBy, Played}
+use Rattle.daq_session.specs.FrontSets.{AreCallers}
+use Rattle.daq_session.specs.Playing.{AreLines, CutBy, Played, course_of}
 use Rattle.session_console.specs.Refused.{Counts}
 use Rattle.daq_session.specs.Sessions.{IsPlayed, Count, Rises, Stands}
 use Rattle.daq_session.specs.Stages.{Outset}
@@ -47,7 +48,9 @@ pub record Finished (o : Outset) (ending : Ending) (source left told_first told_
   pub lines : List (List ℕ)
   pub replies : List Reply
   pub readings : ℕ
-  pub played : IsPlayed o after (CutBy ending source lines) lines (stage_of s readings replies)
+  pub clashes : ℕ
+  pub played : IsPlayed o after (CutBy ending source lines) lines (stage_of s (course_of readings clashes replies))
+  pub callers : AreCallers s.database.history
   pub counts : Counts (refused_lines 1 replies) refusals
   pub are_lines : (text : List ℕ) → source ≡ Some text → AreLines ending text left lines
   pub wrote : ending ≢ Halted NoMemory → ¬ Rises sink → Appends told_first told_now (console_text 1 replies)

@@ -1,6 +1,7 @@
 -- What the front-end's pass does to the online database.
-use Rattle.std.specs.Prelude.{◌≡◌, ℕ, ◌==◌, ◌≤◌, if◌then◌else◌, List, [], ◌∷◌, Some, None, Result, All, ⊤}
-use Rattle.std.specs.List.{filter_map, flat_map}
+use Rattle.std.specs.Prelude.{◌≡◌, ℕ, ◌≤◌, List, [], ◌∷◌, Result, All, ⊤}
+use Rattle.std.specs.List.{flat_map}
+use Rattle.daq_types.specs.Callers.{entries_by}
 use Rattle.odb_value.specs.declared.items.Item.TheVariants.{UInt64}
 use Rattle.odb_tree.specs.declared.entry.DatabaseEntry.{DatabaseEntry}
 use Rattle.odb_tree.specs.declared.entry.DatabaseEntry.TheVariants.{Set}
@@ -9,10 +10,6 @@ use Rattle.odb_runinfo.specs.RunKeys.{sent_path}
 use Rattle.session_console.specs.declared.records.RunRecord.{RunRecord}
 use Rattle.session_console.specs.declared.records.FrontTally.{FrontTally}
 use Rattle.session_console.specs.FrontNames.{front_name}
-
--- the calls that this caller made, in order
-abbrev pub made_by : (caller : ℕ) → (calls : List (ℕ × DatabaseEntry)) → List DatabaseEntry
-made_by caller calls = filter_map (λ e. if e.0 == caller then Some e.1 else None) calls
 
 -- the call that sets how many events the front-end sent to this number, whatever the reply
 pub record IsSentSet (number : ℕ) (entry : DatabaseEntry) : Type 0 where
@@ -37,7 +34,7 @@ set_numbers r = numbers_of r.fronts
 
 -- the calls of the front-end, caller 1, are those that set these numbers, run by run
 abbrev pub IsFrontsPass : (calls : List (ℕ × DatabaseEntry)) → (runs : List RunRecord) → Type 0
-IsFrontsPass calls runs = AreSentSets (flat_map set_numbers runs) (made_by 1 calls)
+IsFrontsPass calls runs = AreSentSets (flat_map set_numbers runs) (entries_by 1 calls)
 
 -- every caller is the main thread, 0, or the front-end, 1
 abbrev pub AreCallers : List (ℕ × DatabaseEntry) → Type 0

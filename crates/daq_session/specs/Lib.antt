@@ -1,5 +1,7 @@
 pub mod RunNames
 pub mod RunRecords
+pub mod FrontSets
+pub mod RunCalls
 pub mod Stages
 pub mod RecordBytes
 pub mod Tallies
@@ -14,5 +16,4 @@ pub mod BufferEntries
 pub mod BufferRecords
 pub mod RunHistories
 pub mod RunsTold
-pub mod FrontSets
 pub mod RunRecordFits

@@ -2,7 +2,6 @@
 use Rattle.std.specs.Prelude.{◌≡◌, ℕ, ◌<◌, ◌≤◌, true, false, List, [], ◌∷◌, ◌++◌, length, map, take, Option, Some, None, Result, Ok, Err, ◌⊎◌, ⊤}
 use Rattle.std.specs.Io.KnownBytes.{Appends, Keeps}
 use Rattle.daq_io.specs.Streams.{AppendsPart}
-use Rattle.odb_runinfo.specs.RunKeys.{session_rows}
 use Rattle.odb_script.specs.declared.forms.Command.{Command}
 use Rattle.odb_script.specs.declared.refusals.LineRefusal.{LineRefusal}
 use Rattle.odb_script.specs.Forms.{command_of}
@@ -20,14 +19,18 @@ use Rattle.session_console.specs.declared.refusals.Refusals.{Refusals}
 use Rattle.daq_session.specs.declared.state.State.{State}
 use Rattle.session_console.specs.Console.{text_of, console_text, is_refusal, refused_lines}
 use Rattle.session_console.specs.Refused.{noted, Counts}
-use Rattle.daq_session.specs.Stages.{Outset, Stage, opening, Plays, Interrupts, line_calls}
-use Rattle.daq_session.specs.Standing.{stage_of, IsAt, IsReady, Answers, Breaks, calls_of_line}
+use Rattle.daq_session.specs.Stages.{Outset, Stage, opening, Plays, Interrupts}
+use Rattle.daq_session.specs.Standing.{Course, stage_of, IsAt, IsReady, Answers, Breaks}
+
+abbrev pub course_of : (readings clashes : ℕ) → List Reply → Course
+course_of readings clashes replies = record { readings = readings; clashes = clashes; replies = replies }
 
 -- The session after some lines of its script: what they did, where the outside is, and which were refused.
 pub record Moment (o : Outset) (lines : List (List ℕ)) (replies : List Reply) (s : State) (now : Outset) (refusals : Refusals) : Type 0 where
   pub readings : ℕ
-  pub plays : Plays o opening (map command_of lines) (stage_of s readings replies)
-  pub at : IsAt o readings s now
+  pub clashes : ℕ
+  pub plays : Plays o (opening o.clashes) (map command_of lines) (stage_of s (course_of readings clashes replies))
+  pub at : IsAt o (course_of readings clashes replies) s now
   pub counts : Counts (refused_lines 1 replies) refusals
   pub numbered : length replies ≡ length lines
 
@@ -38,7 +41,6 @@ pub record IsNew (s : State) : Type 0 where
   pub opened : s.opened ≡ false
   pub runs : s.runs.items ≡ []
   pub current : s.current ≡ None
-  pub rows : s.database.rows ≡ session_rows
   pub calls : s.database.history ≡ []
 
 -- A line was answered, and noted where it was refused.
@@ -49,7 +51,7 @@ pub record Replied (line : List ℕ) (number : ℕ) (reply : Reply) (old new : S
 
 -- The line was not answered, for want of memory.
 pub record Unanswered (line : List ℕ) (old new : State) (before after : Outset) (told_old told_new : Option (List ℕ)) (was now : Refusals) : Type 0 where
-  pub breaks : Breaks (calls_of_line (command_of line)) old new before after
+  pub breaks : Breaks (command_of line) old new before after
   pub ready : IsReady after.files new.current
   pub same : now ≡ was
   pub kept : Keeps told_old told_new
@@ -110,7 +112,7 @@ IsNext source lines line = (text : List ℕ) → source ≡ Some text → AreFir
 pub record StopsAt (source : Option (List ℕ)) (lines : List (List ℕ)) (old new : Stage) : Type 0 where
   pub line : List ℕ
   pub next : IsNext source lines line
-  pub interrupts : Interrupts (line_calls old (command_of line)) old new
+  pub interrupts : Interrupts (command_of line) old new
 
 -- Behind the last line that was answered the next one may have found no memory.
 abbrev pub CutBy : Ending → (source : Option (List ℕ)) → (lines : List (List ℕ)) → Stage → Stage → Type 0
@@ -133,10 +135,11 @@ pub record Played (o : Outset) (ending : Ending) (source left told_first told_no
   pub lines : List (List ℕ)
   pub replies : List Reply
   pub behind : Stage
-  pub plays : Plays o opening (map command_of lines) behind
+  pub plays : Plays o (opening o.clashes) (map command_of lines) behind
   pub readings : ℕ
-  pub cut : CutBy ending source lines behind (stage_of s readings replies)
-  pub at : IsAt o readings s now
+  pub clashes : ℕ
+  pub cut : CutBy ending source lines behind (stage_of s (course_of readings clashes replies))
+  pub at : IsAt o (course_of readings clashes replies) s now
   pub counts : Counts (refused_lines 1 replies) refusals
   pub ready : IsReady now.files s.current
   pub are_lines : (text : List ℕ) → source ≡ Some text → AreLines ending text left lines

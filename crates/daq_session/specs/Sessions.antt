@@ -1,6 +1,7 @@
 -- A script and what a session made of it: the records of its runs, the run files, the text written, and the cause.
 use Rattle.std.specs.Prelude.{◌≡◌, ◌≢◌, ◌⊎◌, ℕ, ◌<◌, true, false, List, [], length, map, Option, Some, None, Ok, MatchOption, ⊤}
 use Rattle.std.specs.Io.KnownBytes.{Appends}
+use Rattle.daq_types.specs.Callers.{entries_by}
 use Rattle.daq_io.specs.Counts.{Rose}
 use Rattle.daq_io.specs.Streams.{AppendsPart}
 use Rattle.odb_script.specs.declared.forms.Command.TheVariants.{Stop}
@@ -20,21 +21,22 @@ abbrev pub ClosesRun : Outset → Stage → Stage → Type 0
 ClosesRun o old new = MatchOption old.on (new ≡ old) (λ order. Does o old (Ok Stop) new)
 
 -- The lines were played from the opening on; then maybe a command was cut off; and the run was ended that was still on.
--- The files are as the records say, and the clock was read as often as the lines ask for.
+-- The files are as the records say, the clock was read as often as the lines ask for, and no name clashed but for the starts that were refused.
 pub record IsPlayed (o after : Outset) (IsCut : Stage → Stage → Type 0) (lines : List (List ℕ)) (final : Stage) : Type 0 where
   pub behind : Stage
-  pub plays : Plays o opening (map command_of lines) behind
+  pub plays : Plays o (opening o.clashes) (map command_of lines) behind
   pub cut : Stage
   pub is_cut : IsCut behind cut
   pub closes : ClosesRun o cut final
   pub kept : IsKept o.files after.files final.runs None
   pub clock : IsClock o final.readings after
+  pub clashes : after.clashes ≡ final.clashes
 
 -- The record of a session that ended so: there is one exactly where a start opened the session, and it has the records of
--- the runs and all calls on the database.
+-- the runs, and the calls on the database: the main thread's, caller 0, and the front-end's, caller 1.
 abbrev pub IsRecorded : Stage → Option SessionRecord → Type 0
 IsRecorded final None = final.opened ≡ false
-IsRecorded final (Some session) = (final.opened ≡ true) × (session.runs ≡ final.runs) × (session.database ≡ final.calls)
+IsRecorded final (Some session) = (final.opened ≡ true) × (session.runs ≡ final.runs) × (entries_by 0 session.database ≡ final.own) × (entries_by 1 session.database ≡ final.front)
 
 -- A command is cut off where it found no memory, and then alone.
 abbrev pub CutsBy : Cause → (source : Option (List ℕ)) → (lines : List (List ℕ)) → Stage → Stage → Type 0

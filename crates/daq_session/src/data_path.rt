@@ -252,6 +252,7 @@ impl DataPath {
         ensures history { PassesFirst self.old.port.history self.new.port.history order.now self.old.got.room (accepted_of self.old.port.window) (accepted_of self.new.port.window) result }
         ensures room { self.new.got.room ≡ self.old.got.room }
         ensures entries { self.old.port.entries ≤ self.new.port.entries + 2 * order.now.quota }
+        ensures clashes { F.clashes files.new ≡ F.clashes files.old }
         ensures faults { CountsFault (F.faults files.old) (F.faults files.new) result }
     {
         for count in 0..order.quota {

@@ -3,10 +3,9 @@ ghost use Rattle.daq_io.specs.Counts.{Rose};
 ghost use Rattle.daq_session.specs.BufferRecords.{IsOneHistory, IsSystem, history_in};
 ghost use Rattle.daq_session.specs.FrontSets.{AreCallers, IsFrontsPass};
 ghost use Rattle.daq_session.specs.RunHistories.{IsHeldRun, HoldSegments, AreSentByFronts};
-ghost use Rattle.daq_session.specs.RunRecordFits.{RunRecordFits};
+ghost use Rattle.daq_session.specs.RunRecordFits.{FitsHistory};
 ghost use Rattle.daq_session.specs.Sessions.{FaultsBy, IsRecorded, IsSession};
-ghost use Rattle.daq_session.specs.Standing.{stage_of};
-ghost use Rattle.session_console.specs.declared.replies.Reply.{Reply};
+ghost use Rattle.daq_session.specs.Standing.{Course, stage_of};
 ghost use Rattle.odb_tree.specs.Histories.{IsLegal};
 ghost use Rattle.odb_runinfo.specs.RunKeys.{session_rows};
 
@@ -24,7 +23,8 @@ use std::thread::Threads;
 
 /// The record of a session that is over; none where no start opened it.
 fn record_of(session: Session) -> Option<SessionRecord>
-    ensures recorded { (readings : ℕ) (replies : List Reply) → IsRecorded (stage_of session.state readings replies) result }
+    ensures recorded { (c : Course) → IsRecorded (stage_of session.state c) result }
+    ensures history { IfSome result (λ s. s.database ≡ session.state.database.history) }
     ensures database { IfSome result (λ s. IsLegal session_rows s.database) }
     ensures buffers { IfSome result (λ s. IsSystem (history_in s.buffers) s.buffers) }
     ensures one_history { IfSome result (λ s. All IsOneHistory s.buffers) }
@@ -47,7 +47,7 @@ fn run<S: Source, K: Sink, F: Files, E, C: Clock, P>(
     alloc: Global,
     outside: &mut Outside<S, K, F, E, C, P>,
 ) -> (Cause, Option<SessionRecord>)
-    ensures session { ¬ Rose (F.faults outside.old.run_files) (F.faults outside.new.run_files) → IsSession (record { files = F.seen outside.old.run_files; clock_tells = C.tells outside.old.clock; ahead = C.ahead outside.old.clock }) (record { files = F.seen outside.new.run_files; clock_tells = C.tells outside.new.clock; ahead = C.ahead outside.new.clock }) (S.left outside.old.src) (S.left outside.new.src) (K.written outside.old.out) (K.written outside.new.out) (record { old = K.faults outside.old.out; new = K.faults outside.new.out }) result.0 result.1 }
+    ensures session { ¬ Rose (F.faults outside.old.run_files) (F.faults outside.new.run_files) → IsSession (record { files = F.seen outside.old.run_files; clashes = F.clashes outside.old.run_files; clock_tells = C.tells outside.old.clock; ahead = C.ahead outside.old.clock }) (record { files = F.seen outside.new.run_files; clashes = F.clashes outside.new.run_files; clock_tells = C.tells outside.new.clock; ahead = C.ahead outside.new.clock }) (S.left outside.old.src) (S.left outside.new.src) (K.written outside.old.out) (K.written outside.new.out) (record { old = K.faults outside.old.out; new = K.faults outside.new.out }) result.0 result.1 }
     ensures faults { FaultsBy result.0 (record { old = S.faults outside.old.src; new = S.faults outside.new.src }) (record { old = K.faults outside.old.out; new = K.faults outside.new.out }) (record { old = F.faults outside.old.run_files; new = F.faults outside.new.run_files }) (F.first outside.new.run_files) }
     ensures broken { F.faults outside.new.run_files ≢ F.faults outside.old.run_files → result.1 ≡ None }
     ensures database { IfSome result.1 (λ s. IsLegal session_rows s.database) }
@@ -57,7 +57,7 @@ fn run<S: Source, K: Sink, F: Files, E, C: Clock, P>(
     ensures front_end_sends { IfSome result.1 (λ s. All (AreSentByFronts s.buffers) s.runs) }
     ensures front_end_sets { IfSome result.1 (λ s. IsFrontsPass s.database s.runs) }
     ensures callers { IfSome result.1 (λ s. AreCallers s.database) }
-    ensures record_fits { IfSome result.1 (λ s. All (RunRecordFits s.database) s.runs) }
+    ensures record_fits { IfSome result.1 (λ s. All (FitsHistory s.database) s.runs) }
     ensures database_files { outside.new.odb_files ≡ outside.old.odb_files }
     ensures picks { outside.new.pick ≡ outside.old.pick }
 {
@@ -105,7 +105,7 @@ pub fn run_script<
     _gate: &G,
 ) -> (Cause, Option<SessionRecord>, Outside<S, K, F, E, C, P>)
     // The records, the run files, the text and the cause are what the script asks for.
-    ensures session { ¬ Rose (F.faults outside.run_files) (F.faults result.2.run_files) → IsSession (record { files = F.seen outside.run_files; clock_tells = C.tells outside.clock; ahead = C.ahead outside.clock }) (record { files = F.seen result.2.run_files; clock_tells = C.tells result.2.clock; ahead = C.ahead result.2.clock }) (S.left outside.src) (S.left result.2.src) (K.written outside.out) (K.written result.2.out) (record { old = K.faults outside.out; new = K.faults result.2.out }) result.0 result.1 }
+    ensures session { ¬ Rose (F.faults outside.run_files) (F.faults result.2.run_files) → IsSession (record { files = F.seen outside.run_files; clashes = F.clashes outside.run_files; clock_tells = C.tells outside.clock; ahead = C.ahead outside.clock }) (record { files = F.seen result.2.run_files; clashes = F.clashes result.2.run_files; clock_tells = C.tells result.2.clock; ahead = C.ahead result.2.clock }) (S.left outside.src) (S.left result.2.src) (K.written outside.out) (K.written result.2.out) (record { old = K.faults outside.out; new = K.faults result.2.out }) result.0 result.1 }
     // A fault is the cause exactly where the count of its object rose, and no earlier cause holds.
     ensures faults { FaultsBy result.0 (record { old = S.faults outside.src; new = S.faults result.2.src }) (record { old = K.faults outside.out; new = K.faults result.2.out }) (record { old = F.faults outside.run_files; new = F.faults result.2.run_files }) (F.first result.2.run_files) }
     // There is no record where a call on the run files failed.
@@ -123,9 +123,9 @@ pub fn run_script<
     // number that it sent as the run ends, and nothing else; all other calls are the main thread's.
     ensures front_end_sets { IfSome result.1 (λ s. IsFrontsPass s.database s.runs) }
     ensures callers { IfSome result.1 (λ s. AreCallers s.database) }
-    // Each run's record stands to that history of the online database: its start got the run number before it and set the
-    // run's keys, its stop set them, in order and with nothing between.
-    ensures record_fits { IfSome result.1 (λ s. All (RunRecordFits s.database) s.runs) }
+    // Each run's record stands to the main thread's own calls in that history: its start got the run number before it and
+    // set the run's keys, its stop set them, in order and with none of its calls between.
+    ensures record_fits { IfSome result.1 (λ s. All (FitsHistory s.database) s.runs) }
     ensures database_files { result.2.odb_files ≡ outside.odb_files }
     ensures picks { result.2.pick ≡ outside.pick }
 {

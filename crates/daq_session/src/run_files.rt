@@ -3,7 +3,7 @@ ghost use Rattle.daq_model.specs.Events.{encoding};
 ghost use Rattle.daq_model.specs.RunFile.{begin_record, end_record, begun_file};
 ghost use Rattle.daq_io.specs.Counts.{CountsFault};
 ghost use Rattle.daq_io.specs.Seen.{Closes};
-ghost use Rattle.daq_session.specs.BegunFiles.{BeginsFile};
+ghost use Rattle.daq_session.specs.BegunFiles.{BeginsFile, ClashesBegun};
 ghost use Rattle.daq_session.specs.RecordBytes.{IsRecordOf};
 
 use daq_io::{Failed, Files, NameRefused};
@@ -50,6 +50,7 @@ pub fn begin_file<F: Files>(
     run: u32,
     time: u32,
 ) -> Result<Begun, Failed>
+    ensures clashes { IfOk result (ClashesBegun (F.clashes files.old) (F.clashes files.new)) }
     ensures begun { IfOk result (BeginsFile (F.seen files.old) (F.seen files.new) name.now (begun_file run time [] [])) }
     ensures faults { CountsFault (F.faults files.old) (F.faults files.new) result }
 {
@@ -68,6 +69,7 @@ pub fn begin_file<F: Files>(
 pub fn end_file<F: Files>(files: &mut F, file: u32, run: u32, time: u32) -> Result<(), Failed>
     requires { IsTrue ((F.seen files.old).writes file) }
     ensures ended { OnOk result (Closes (F.seen files.old) (F.seen files.new) file (encoding (end_record run time []))) }
+    ensures clashes { F.clashes files.new ≡ F.clashes files.old }
     ensures faults { CountsFault (F.faults files.old) (F.faults files.new) result }
 {
     files.append(file, &record_bytes(END_ID, run, time))?;

@@ -5,8 +5,9 @@ ghost use Rattle.daq_io.specs.Counts.{CountsFault};
 ghost use Rattle.odb_script.specs.declared.forms.Command.TheVariants.{Nothing, Stop};
 ghost use Rattle.session_console.specs.Console.{is_refusal};
 ghost use Rattle.daq_session.specs.Halts.{CountsHalt};
-ghost use Rattle.daq_session.specs.Standing.{Answers, Handles, IsReady, stage_of};
-ghost use Rattle.daq_session.specs.Stages.{DoesAnswer, Interrupts, line_calls};
+ghost use Rattle.daq_session.specs.Standing.{Answers, Course, Handles, IsReady, behind_reply, stage_of};
+ghost use Rattle.daq_session.specs.Stages.{DoesCommand, Interrupts};
+ghost use Rattle.daq_session.specs.FrontSets.{AreCallers};
 ghost use Rattle.daq_session.specs.declared.halts.Halt.TheVariants.{NoMemory as no_memory};
 ghost use Rattle.odb_commands.specs.Answers.{answer_of};
 ghost use Rattle.odb_runinfo.specs.RunKeys.{session_rows};
@@ -65,9 +66,11 @@ fn open_database(alloc: Global) -> Result<LocalDatabase<PlainTree>, NoMemory>
 /// Answers a command of the database.
 fn call(alloc: Global, state: &mut State, command: &Command<'_>) -> Result<Reply, Halt>
     requires is_call { IsSome (answer_of state.old.database.rows command.now) }
-    ensures answered { IfOk result (λ reply. (readings : ℕ) (replies : List Reply) → DoesAnswer (stage_of state.old readings replies) (answer_of state.old.database.rows command.now) (stage_of state.new readings (replies ++ reply ∷ []))) }
+    ensures answered { IfOk result (λ reply. (c : Course)
+        → DoesCommand (stage_of state.old c) command.now (stage_of state.new (behind_reply c c.readings c.clashes reply))) }
     ensures halted { IfErr result (λ halt. halt ≡ no_memory) }
-    ensures interrupted { OnErr result ((readings : ℕ) (replies : List Reply) → Interrupts (line_calls (stage_of state.old readings replies) (Ok command.now)) (stage_of state.old readings replies) (stage_of state.new readings replies)) }
+    ensures interrupted { OnErr result ((c : Course) → Interrupts (Ok command.now) (stage_of state.old c) (stage_of state.new c)) }
+    ensures callers { AreCallers state.old.database.history → AreCallers state.new.database.history }
     ensures current { state.new.current ≡ state.old.current }
     ensures runs { state.new.runs.items ≡ state.old.runs.items }
     ensures starts { state.new.starts ≡ state.old.starts }
@@ -115,7 +118,7 @@ impl Session {
     ) -> Result<Reply, Halt>
         requires few { self.old.state.starts + 1 ≤ most_starts }
         requires ready { IsReady (F.seen files.old) self.old.state.current }
-        ensures did { Handles line.entry self.old.state self.new.state (record { files = F.seen files.old; clock_tells = C.tells clock.old; ahead = C.ahead clock.old }) (record { files = F.seen files.new; clock_tells = C.tells clock.new; ahead = C.ahead clock.new }) result }
+        ensures did { Handles line.entry self.old.state self.new.state (record { files = F.seen files.old; clashes = F.clashes files.old; clock_tells = C.tells clock.old; ahead = C.ahead clock.old }) (record { files = F.seen files.new; clashes = F.clashes files.new; clock_tells = C.tells clock.new; ahead = C.ahead clock.new }) result }
         ensures starts { self.new.state.starts ≤ self.old.state.starts + 1 }
         ensures nothing { line.entry ≡ Ok Nothing → self.new.state.starts ≡ self.old.state.starts }
         ensures faults { CountsHalt (F.faults files.old) (F.faults files.new) result }
@@ -141,7 +144,7 @@ impl Session {
         clock: &mut C,
     ) -> Result<Reply, Failed>
         requires ready { IsReady (F.seen files.old) self.old.state.current }
-        ensures did { IfOk result (λ reply. Answers (Ok Stop) reply self.old.state self.new.state (record { files = F.seen files.old; clock_tells = C.tells clock.old; ahead = C.ahead clock.old }) (record { files = F.seen files.new; clock_tells = C.tells clock.new; ahead = C.ahead clock.new })) }
+        ensures did { IfOk result (λ reply. Answers (Ok Stop) reply self.old.state self.new.state (record { files = F.seen files.old; clashes = F.clashes files.old; clock_tells = C.tells clock.old; ahead = C.ahead clock.old }) (record { files = F.seen files.new; clashes = F.clashes files.new; clock_tells = C.tells clock.new; ahead = C.ahead clock.new })) }
         ensures idle { OnOk result (self.new.state.current ≡ None) }
         ensures accepted { IfOk result (λ reply. IsSome self.old.state.current → is_refusal reply ≡ false) }
         ensures faults { CountsFault (F.faults files.old) (F.faults files.new) result }

@@ -13,8 +13,9 @@ ghost use Rattle.session_console.specs.Console.{is_refusal};
 ghost use Rattle.odb_journal.specs.Noted.{KeepsCalls};
 ghost use Rattle.session_console.specs.FrontNames.{front_name};
 ghost use Rattle.daq_session.specs.RunNames.{run_name};
-ghost use Rattle.daq_session.specs.Stages.{Interrupts, completed_record, file_record, line_calls, opens, refused_record};
-ghost use Rattle.daq_session.specs.Standing.{Answers, Handles, HandlesBy, IsReady, RunStarts, no_calls, stage_of};
+ghost use Rattle.daq_session.specs.FrontSets.{AreCallers};
+ghost use Rattle.daq_session.specs.Stages.{Interrupts, Opens, completed_record, file_record, refused_record};
+ghost use Rattle.daq_session.specs.Standing.{Answers, Course, Handles, HandlesRun, IsReady, stage_of};
 ghost use Rattle.odb_script.specs.declared.forms.Command.TheVariants.{Start, Stop};
 ghost use Rattle.daq_session.specs.Halts.{CountsHalt};
 
@@ -69,8 +70,9 @@ fn front_name() -> Name
 /// Opens the session, where no start did so before. No run is on.
 fn open_session(alloc: Global, state: &mut State) -> Result<(), NoMemory>
     requires idle { state.old.current ≡ None }
-    ensures opens { OnOk result ((readings : ℕ) (replies : List Reply) → stage_of state.new readings replies ≡ opens state.old.opened (stage_of state.old readings replies)) }
-    ensures interrupted { OnErr result ((readings : ℕ) (replies : List Reply) → Interrupts (line_calls (stage_of state.old readings replies) (Ok Start)) (stage_of state.old readings replies) (stage_of state.new readings replies)) }
+    ensures opens { OnOk result ((c : Course) → Opens state.old.opened (stage_of state.old c) (stage_of state.new c)) }
+    ensures interrupted { OnErr result ((c : Course) → Interrupts (Ok Start) (stage_of state.old c) (stage_of state.new c)) }
+    ensures callers { AreCallers state.old.database.history → AreCallers state.new.database.history }
     ensures current { state.new.current ≡ state.old.current }
     ensures runs { state.new.runs.items ≡ state.old.runs.items }
     ensures starts { state.new.starts ≡ state.old.starts }
@@ -144,7 +146,7 @@ fn start_run<F: Files, C: Clock>(
     requires bytes { ForSome state.old.current (λ r. 80 * r.order.quota ≤ path.old.port.bytes) }
     requires told { ∥ IsStanding path.old.port.history (accepted_of path.old.port.window) state.old.starts state.old.runs.items state.old.current ∥₁ }
     requires ready { IsReady (F.seen files.old) state.old.current }
-    ensures did { HandlesBy (RunStarts run) no_calls state.old state.new (record { files = F.seen files.old; clock_tells = C.tells clock.old; ahead = C.ahead clock.old }) (record { files = F.seen files.new; clock_tells = C.tells clock.new; ahead = C.ahead clock.new }) result }
+    ensures did { HandlesRun run state.old state.new (record { files = F.seen files.old; clashes = F.clashes files.old; clock_tells = C.tells clock.old; ahead = C.ahead clock.old }) (record { files = F.seen files.new; clashes = F.clashes files.new; clock_tells = C.tells clock.new; ahead = C.ahead clock.new }) result }
     ensures shut { ForNone state.new.current (path.new.port.window.gate ≡ Shut) }
     ensures open_gate { ForSome state.new.current (λ r. path.new.port.window.gate ≡ Running r.order.start) }
     ensures later { path.new.port.window.last ≤ state.new.starts }
@@ -193,6 +195,13 @@ fn start_run<F: Files, C: Clock>(
     }
 }
 
+/// The reply where the database's run number has no next one.
+fn no_number(refusal: RunNumber) -> Reply
+    ensures { result ≡ Reply.RunNumber refusal.have }
+{
+    Reply::RunNumber { have: refusal.have }
+}
+
 /// Answers `start`.
 pub fn start<F: Files, C: Clock>(
     alloc: Global,
@@ -212,7 +221,7 @@ pub fn start<F: Files, C: Clock>(
     requires bytes { ForSome state.old.current (λ r. 80 * r.order.quota ≤ path.old.port.bytes) }
     requires told { ∥ IsStanding path.old.port.history (accepted_of path.old.port.window) state.old.starts state.old.runs.items state.old.current ∥₁ }
     requires ready { IsReady (F.seen files.old) state.old.current }
-    ensures did { Handles (Ok Start) state.old state.new (record { files = F.seen files.old; clock_tells = C.tells clock.old; ahead = C.ahead clock.old }) (record { files = F.seen files.new; clock_tells = C.tells clock.new; ahead = C.ahead clock.new }) result }
+    ensures did { Handles (Ok Start) state.old state.new (record { files = F.seen files.old; clashes = F.clashes files.old; clock_tells = C.tells clock.old; ahead = C.ahead clock.old }) (record { files = F.seen files.new; clashes = F.clashes files.new; clock_tells = C.tells clock.new; ahead = C.ahead clock.new }) result }
     ensures shut { ForNone state.new.current (path.new.port.window.gate ≡ Shut) }
     ensures open_gate { ForSome state.new.current (λ r. path.new.port.window.gate ≡ Running r.order.start) }
     ensures later { path.new.port.window.last ≤ state.new.starts }
@@ -232,7 +241,7 @@ pub fn start<F: Files, C: Clock>(
     }
     open_session(alloc, state)?;
     match next_run(alloc, &mut state.database)? {
-        Err(RunNumber { have }) => Ok(Reply::RunNumber { have }),
+        Err(refusal) => Ok(no_number(refusal)),
         Ok(run) => start_run(alloc, state, path, files, clock, run),
     }
 }
@@ -256,7 +265,7 @@ pub fn stop<F: Files, C: Clock>(
     requires bytes { ForSome state.old.current (λ r. 80 * r.order.quota ≤ path.old.port.bytes) }
     requires told { ∥ IsStanding path.old.port.history (accepted_of path.old.port.window) state.old.starts state.old.runs.items state.old.current ∥₁ }
     requires ready { IsReady (F.seen files.old) state.old.current }
-    ensures did { IfOk result (λ reply. Answers (Ok Stop) reply state.old state.new (record { files = F.seen files.old; clock_tells = C.tells clock.old; ahead = C.ahead clock.old }) (record { files = F.seen files.new; clock_tells = C.tells clock.new; ahead = C.ahead clock.new })) }
+    ensures did { IfOk result (λ reply. Answers (Ok Stop) reply state.old state.new (record { files = F.seen files.old; clashes = F.clashes files.old; clock_tells = C.tells clock.old; ahead = C.ahead clock.old }) (record { files = F.seen files.new; clashes = F.clashes files.new; clock_tells = C.tells clock.new; ahead = C.ahead clock.new })) }
     ensures idle { OnOk result (state.new.current ≡ None) }
     ensures accepted { IfOk result (λ reply. IsSome state.old.current → is_refusal reply ≡ false) }
     ensures shut { ForNone state.new.current (path.new.port.window.gate ≡ Shut) }
@@ -333,6 +342,7 @@ fn end_run<F: Files>(
     ensures spent { path.new.port.window.total ≤ most_spent order.start }
     ensures told { KeepsTold path.old.port.history path.new.port.history (accepted_of path.old.port.window) (accepted_of path.new.port.window) order }
     ensures done { IfOk result (λ e. EndsTold path.old.port.history path.new.port.history (accepted_of path.old.port.window) order e.front.sent) }
+    ensures clashes { F.clashes files.new ≡ F.clashes files.old }
     ensures faults { CountsFault (F.faults files.old) (F.faults files.new) result }
 {
     let sent = path.send_events(files, file, &order);

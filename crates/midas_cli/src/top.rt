@@ -5,7 +5,7 @@ ghost use Rattle.daq_io.specs.Streams.{AppendsPart};
 ghost use Rattle.daq_session.specs.BufferRecords.{IsOneHistory, IsSystem, history_in};
 ghost use Rattle.daq_session.specs.FrontSets.{AreCallers, IsFrontsPass};
 ghost use Rattle.daq_session.specs.RunHistories.{AreSentByFronts, HoldSegments};
-ghost use Rattle.daq_session.specs.RunRecordFits.{RunRecordFits};
+ghost use Rattle.daq_session.specs.RunRecordFits.{FitsHistory};
 ghost use Rattle.daq_session.specs.Sessions.{FaultsBy, IsSession};
 ghost use Rattle.odb_tree.specs.Histories.{IsLegal};
 ghost use Rattle.odb_runinfo.specs.RunKeys.{session_rows};
@@ -91,7 +91,7 @@ pub fn midas<
     ensures usage_files { ¬ HasForm words.now → result.1.run_files ≡ outside.run_files }
     ensures usage_clock { ¬ HasForm words.now → result.1.clock ≡ outside.clock }
     // What the session made of the script: its records, the run files, the text and the cause.
-    ensures session { IsRunWord words.now → ¬ Rose (F.faults outside.run_files) (F.faults result.1.run_files) → IsSession (record { files = F.seen outside.run_files; clock_tells = C.tells outside.clock; ahead = C.ahead outside.clock }) (record { files = F.seen result.1.run_files; clock_tells = C.tells result.1.clock; ahead = C.ahead result.1.clock }) (S.left outside.src) (S.left result.1.src) (K.written outside.out) (K.written result.1.out) (record { old = K.faults outside.out; new = K.faults result.1.out }) result.0.cause result.0.session }
+    ensures session { IsRunWord words.now → ¬ Rose (F.faults outside.run_files) (F.faults result.1.run_files) → IsSession (record { files = F.seen outside.run_files; clashes = F.clashes outside.run_files; clock_tells = C.tells outside.clock; ahead = C.ahead outside.clock }) (record { files = F.seen result.1.run_files; clashes = F.clashes result.1.run_files; clock_tells = C.tells result.1.clock; ahead = C.ahead result.1.clock }) (S.left outside.src) (S.left result.1.src) (K.written outside.out) (K.written result.1.out) (record { old = K.faults outside.out; new = K.faults result.1.out }) result.0.cause result.0.session }
     // There is no record where a call on the run files failed.
     ensures broken { F.faults result.1.run_files ≢ F.faults outside.run_files → result.0.session ≡ None }
     // A fault is the cause exactly where its count rose and no earlier cause holds.
@@ -111,9 +111,9 @@ pub fn midas<
     // number that it sent as the run ends, and nothing else; all other calls are the main thread's.
     ensures front_end_sets { IfSome result.0.session (λ s. IsFrontsPass s.database s.runs) }
     ensures callers { IfSome result.0.session (λ s. AreCallers s.database) }
-    // Each run's record stands to that history of the online database: its start got the run number before it and set the
-    // run's keys, its stop set them, in order and with nothing between.
-    ensures record_fits { IfSome result.0.session (λ s. All (RunRecordFits s.database) s.runs) }
+    // Each run's record stands to the main thread's own calls in that history: its start got the run number before it and
+    // set the run's keys, its stop set them, in order and with none of its calls between.
+    ensures record_fits { IfSome result.0.session (λ s. All (FitsHistory s.database) s.runs) }
     ensures database_files { result.1.odb_files ≡ outside.odb_files }
     ensures picks { result.1.pick ≡ outside.pick }
 {

@@ -3,10 +3,10 @@ use Rattle.std.specs.Prelude.{All, IfSome}
 use Rattle.daq_session.specs.declared.endings.Ending.TheVariants.{Halted}
 use Rattle.daq_session.specs.declared.halts.Halt.TheVariants.{FileFault}
 use Rattle.daq_session.specs.FrontSets.{AreCallers, IsFrontsPass}
-use Rattle.daq_session.specs.RunRecordFits.{RunRecordFits}
+use Rattle.daq_session.specs.RunRecordFits.{FitsHistory}
 use Rattle.daq_session.proofs.FitLaws.{session_fits}
 use Rattle.daq_session.proofs.Options.{true_if}
-use Rattle.daq_session.proofs.FrontLaws.{session_fronts}
+use Rattle.daq_session.proofs.FrontLaws.{session_fronts, callers_by}
 use Rattle.daq_session.proofs.RunLaws.{plays_played, files_stand, risen_some, session_by, faults_by, session_none}
 use Rattle.daq_session.proofs.RunsKept.{session_filed, session_sent}
 use Rattle.daq_session.proofs.run.run.Given.{Over}
@@ -53,14 +53,16 @@ returns-clause-front_end_sends g c = session_sent c.record_of.result c.record_of
 
 -- what the records say of the calls on the database
 database : (g : Over) (c : goal.After-drop-desk-2 g)
-    → IfSome c.record_of.result (λ s. IsFrontsPass s.database s.runs) × IfSome c.record_of.result (λ s. AreCallers s.database) × IfSome c.record_of.result (λ s. All (RunRecordFits s.database) s.runs)
+    → IfSome c.record_of.result (λ s. IsFrontsPass s.database s.runs) × IfSome c.record_of.result (λ s. AreCallers s.database) × IfSome c.record_of.result (λ s. All (FitsHistory s.database) s.runs)
 database g c =
     let sound : c.play-ending.result ≢ Halted FileFault = λ e. let clash : true ≡ false = sym (c.is_file_fault.ensures.1 e) ∙ c.if-is_file_fault.false in cc in
     let played = plays_played _ c.play-ending.result _ _ _ _ _ _ _ sound c.play-ending.ensures.did in
-    let session = session_by _ c.close_run-closed.result.ending _ _ _ _ _ _ _ _ _ _ _ _ c.close_run-closed.ensures.refusals c.cause_of-cause.ensures c.record_of.ensures.recorded
-    (c.close_run-closed.ensures.finishes (true_if c.close_run-closed.result.whole c.if-not-closed.false) _ _ _ _ _ played c.play-ending.ensures.sink) in
-    let fronts = session_fronts _ _ _ _ _ _ _ _ _ session in
-    (fronts.0, fronts.1, session_fits _ _ _ _ _ _ _ _ _ session c.record_of.ensures.database)
+    let finished = c.close_run-closed.ensures.finishes (true_if c.close_run-closed.result.whole c.if-not-closed.false) _ _ _ _ _ played c.play-ending.ensures.sink in
+    let session = session_by _ c.close_run-closed.result.ending _ _ _ _ _ _ _ _ _ _ _ _ c.close_run-closed.ensures.refusals c.cause_of-cause.ensures c.record_of.ensures.recorded finished in (
+      session_fronts _ _ _ _ session.lines session.final _ session.played session.recorded,
+      callers_by c.record_of.result _ c.record_of.ensures.history finished.callers,
+      session_fits _ _ _ _ session.lines session.final _ session.played session.recorded c.record_of.ensures.database,
+    )
 
 pub returns-clause-front_end_sets : goal.returns-clause-front_end_sets
 returns-clause-front_end_sets g c = (database g c).0

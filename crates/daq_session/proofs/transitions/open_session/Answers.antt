@@ -1,10 +1,14 @@
 use Rattle.std.proofs.Common.{List, ℕ, subst}
-use Rattle.odb_journal.specs.Noted.{EndsEarly}
-use Rattle.odb_runinfo.specs.RunSets.{front_made}
-use Rattle.daq_session.proofs.Starting.{opening_broken}
+use Rattle.odb_runinfo.specs.RunSets.{MakesNoKey}
+use Rattle.daq_session.proofs.Interrupting.{opening_halted}
+use Rattle.daq_session.proofs.Starting.{opened_now}
 use Rattle.daq_session.proofs.transitions.open_session.Goals as goal
 
 pub returns-in_err-open_front-clause-interrupted : goal.returns-in_err-open_front-clause-interrupted
 returns-in_err-open_front-clause-interrupted c =
-    opening_broken c.args.state.now c.open_front.new.database c.from_residual.result c.requires.idle c.if-not-state.true
-    (subst (λ (name : List ℕ). EndsEarly c.args.state.now.database c.open_front.new.database (front_made c.args.state.now.database.rows name)) c.front_name.ensures c.in_err-open_front.ensures.interrupted)
+    opening_halted c.from_residual.result c.args.state.now c.open_front.new.database c.requires.idle c.if-not-state.true
+    (subst (λ (name : List ℕ). MakesNoKey c.args.state.now.database.history c.open_front.new.database.history name) c.front_name.ensures c.in_err-open_front.ensures.unmade)
+
+pub returns-in_ok-open_front-clause-opens : goal.returns-in_ok-open_front-clause-opens
+returns-in_ok-open_front-clause-opens c =
+    opened_now c.args.state.now.opened c.args.state.now c.open_front.new.database c.front_name.result c.if-not-state.true c.front_name.ensures c.in_ok-open_front.ensures.calls

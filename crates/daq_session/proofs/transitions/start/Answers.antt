@@ -1,16 +1,28 @@
-use Rattle.std.proofs.Common.{◌≡◌, None, refl, sym, ◌∙◌}
+use Rattle.std.proofs.Common.{◌≡◌, Option, None, refl, sym, subst, ◌∙◌}
+use Rattle.daq_session.specs.declared.state.OpenRun.{OpenRun}
+use Rattle.daq_session.specs.Standing.{IsReady}
 use Rattle.daq_session.proofs.Options.{none_from}
-use Rattle.daq_session.proofs.Starting.{start_broken, start_run_handled}
+use Rattle.daq_session.proofs.Starting.{start_broken, run_handled, unnumbered_shown}
 use Rattle.daq_session.proofs.transitions.start.Goals as goal
 
-pub returns-in_err-have-clause-did : goal.returns-in_err-have-clause-did
-returns-in_err-have-clause-did g c =
+pub returns-in_err-refusal-clause-did : goal.returns-in_err-refusal-clause-did
+returns-in_err-refusal-clause-did g c =
     let idle : c.args.state.now.current ≡ None = none_from c.args.state.now.current (sym c.if-is_some.false ∙ c.is_some.ensures) in
-    start_broken c.args.state.now c.open_session.new.state _ _ c.from_residual-in_err-have.result c.from_residual-in_err-have.ensures.0 c.from_residual-in_err-have.ensures.1 idle
-    c.in_ok-open_session.ensures.opens c.open_session.ensures.runs c.open_session.ensures.current refl refl refl refl refl c.in_err-have.ensures.interrupted
+    start_broken c.args.state.now c.open_session.new.state _ _ c.from_residual-in_err-refusal.result c.from_residual-in_err-refusal.ensures.0 c.from_residual-in_err-refusal.ensures.1
+    (record { idle = idle; opens = c.in_ok-open_session.ensures.opens; runs = c.open_session.ensures.runs; current = c.open_session.ensures.current; callers = c.open_session.ensures.callers })
+    refl refl refl refl refl c.in_err-refusal.ensures.interrupted
+
+pub returns-in-Err-clause-did : goal.returns-in-Err-clause-did
+returns-in-Err-clause-did g c =
+    let idle : c.args.state.now.current ≡ None = none_from c.args.state.now.current (sym c.if-is_some.false ∙ c.is_some.ensures) in
+    unnumbered_shown c.args.state.now c.open_session.new.state _ c.in-Err.refusal c.no_number.result _ c.no_number.ensures
+    (record { idle = idle; opens = c.in_ok-open_session.ensures.opens; runs = c.open_session.ensures.runs; current = c.open_session.ensures.current; callers = c.open_session.ensures.callers })
+    (record { quota = refl; starts = refl; opened_is = refl; runs = refl; current = refl; grows = c.in_ok-refusal.ensures.calls }) (sym c.in_ok-refusal.ensures.run ∙ c.in-Err.is)
+    (subst (λ (on : Option OpenRun). IsReady (g.F.Files.seen c.args.files.now) on) (sym (c.open_session.ensures.current ∙ idle)) tt)
 
 pub returns-in-Ok-clause-did : goal.returns-in-Ok-clause-did
 returns-in-Ok-clause-did g c =
     let idle : c.args.state.now.current ≡ None = none_from c.args.state.now.current (sym c.if-is_some.false ∙ c.is_some.ensures) in
-    start_run_handled c.args.state.now c.open_session.new.state _ c.start_run.new.state c.in-Ok.run' _ _ c.start_run.result c.start_run.ensures.did idle
-    c.in_ok-open_session.ensures.opens c.open_session.ensures.runs c.open_session.ensures.current refl refl refl refl refl c.in_ok-have.ensures.calls (sym c.in_ok-have.ensures.run ∙ c.in-Ok.is)
+    run_handled c.args.state.now c.open_session.new.state _ c.start_run.new.state c.in-Ok.run' _ _ c.start_run.result
+    (record { idle = idle; opens = c.in_ok-open_session.ensures.opens; runs = c.open_session.ensures.runs; current = c.open_session.ensures.current; callers = c.open_session.ensures.callers })
+    (record { quota = refl; starts = refl; opened_is = refl; runs = refl; current = refl; grows = c.in_ok-refusal.ensures.calls }) (sym c.in_ok-refusal.ensures.run ∙ c.in-Ok.is) c.start_run.ensures.did

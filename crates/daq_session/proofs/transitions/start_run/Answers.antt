@@ -4,57 +4,55 @@ use Rattle.daq_types.specs.declared.runs.Order.{Order}
 use Rattle.daq_types.specs.declared.runs.RunState.TheVariants.{Stopped}
 use Rattle.buffer_core.specs.declared.entry.BufferEntry.{BufferEntry}
 use Rattle.buffer_core.specs.Window.{Window, accepted_of}
-use Rattle.odb_runinfo.specs.RunSets.{start_sets, started_sets, refused_sets}
 use Rattle.daq_session.specs.RunsTold.{IsStanding}
-use Rattle.session_console.specs.FrontNames.{front_name}
 use Rattle.daq_session.specs.BufferEntries.{begin_entry}
 use Rattle.daq_session.proofs.RunsKept.{standing_begun, standing_refused}
 use Rattle.session_console.specs.declared.records.RunRecord.{RunRecord}
 use Rattle.daq_session.specs.declared.state.OpenRun.{OpenRun}
-use Rattle.daq_session.specs.Standing.{IsReady, RunStarts, no_calls}
-use Rattle.daq_session.proofs.Interrupting.{memory_handled, breaks_none}
-use Rattle.daq_session.proofs.Leading.{begun_leads, refused_leads, rows_after_two, calls_after_two}
+use Rattle.daq_session.specs.Standing.{IsReady, RunStarts, Stays}
+use Rattle.daq_session.proofs.OwnCalls.{begun_calls, refused_calls}
+use Rattle.daq_session.proofs.Interrupting.{memory_handled}
+use Rattle.daq_session.proofs.Starting.{stays_by}
+use Rattle.daq_session.proofs.Leading.{begun_leads, refused_leads}
 use Rattle.daq_session.proofs.transitions.start_run.Goals as goal
 
 pub returns-in_err-name-clause-did : goal.returns-in_err-name-clause-did
 returns-in_err-name-clause-did g c =
     let idle : c.prepare_run.new.state.current ≡ None = c.prepare_run.ensures.current ∙ c.requires.idle in
-    memory_handled (RunStarts c.args.run) no_calls c.args.state.now c.prepare_run.new.state _ _ c.from_residual.result c.from_residual.ensures.0 c.from_residual.ensures.1
-    (breaks_none no_calls c.args.state.now c.prepare_run.new.state _ c.prepare_run.ensures.quota c.prepare_run.ensures.starts c.prepare_run.ensures.opened c.prepare_run.ensures.runs c.prepare_run.ensures.current
+    memory_handled (RunStarts c.args.run) Stays c.args.state.now c.prepare_run.new.state _ _ c.from_residual.result c.from_residual.ensures.0 c.from_residual.ensures.1
+    (stays_by c.args.state.now c.prepare_run.new.state _ c.prepare_run.ensures.quota c.prepare_run.ensures.starts c.prepare_run.ensures.opened c.prepare_run.ensures.runs c.prepare_run.ensures.current
     c.prepare_run.ensures.calls)
     (subst (λ (on : Option OpenRun). IsReady (g.F.Files.seen c.args.files.now) on) (sym idle) tt)
 
 pub returns-in-Writing-clause-did : goal.returns-in-Writing-clause-did
 returns-in-Writing-clause-did g c =
     let writing = rw c.in-Writing.is at c.in_ok-begun.ensures.begun in
-    let front : started_sets c.in_ok-name.field-0.paths.started.front ≡ started_sets front_name = ap started_sets (c.in_ok-name.field-0.paths.started_front ∙ c.in_ok-name.ensures.front) in (
-      λ o readings replies at.
-          begun_leads o readings replies c.args.state.now _ _ _ c.args.run c.now.result _ at c.requires.idle
+    let clashes = rw c.in-Writing.is at c.in_ok-begun.ensures.clashes in
+    let calls = begun_calls c.args.state.now.database c.prepare_run.new.state.database c.set_start.new.database c.set_started.new.database c.args.run c.now.result c.in_ok-name.field-0.paths.started.front
+    c.prepare_run.ensures.calls c.set_start.ensures.calls c.set_started.ensures.calls (c.in_ok-name.field-0.paths.started_front ∙ c.in_ok-name.ensures.front) in (
+      λ o course at.
+          begun_leads o course c.args.state.now _ _ _ c.args.run c.now.result _ calls.sets calls.sent at c.requires.idle
           (record { tells = c.now.ensures.tells; value = c.now.ensures.value; later = c.now.ensures.later })
-          writing (rw (c.prepare_run.ensures.starts, c.prepare_run.ensures.quota) refl) c.prepare_run.ensures.quota (ap (λ (n : ℕ). n + 1) c.prepare_run.ensures.starts) c.prepare_run.ensures.opened c.prepare_run.ensures.runs refl
-          (rows_after_two c.args.state.now.database c.prepare_run.new.state.database c.set_start.new.database c.set_started.new.database (start_sets c.args.run c.now.result) (started_sets c.in_ok-name.field-0.paths.started.front) (started_sets front_name)
-          c.prepare_run.ensures.calls c.set_start.ensures.calls c.set_started.ensures.calls front)
-          (calls_after_two c.args.state.now.database c.prepare_run.new.state.database c.set_start.new.database c.set_started.new.database (start_sets c.args.run c.now.result) (started_sets c.in_ok-name.field-0.paths.started.front) (started_sets front_name)
-          c.prepare_run.ensures.calls c.set_start.ensures.calls c.set_started.ensures.calls front),
+          writing clashes (rw (c.prepare_run.ensures.starts, c.prepare_run.ensures.quota) refl) c.prepare_run.ensures.quota (ap (λ (n : ℕ). n + 1) c.prepare_run.ensures.starts) c.prepare_run.ensures.opened c.prepare_run.ensures.runs refl
+          calls.are_sets calls.sent_none calls.own calls.front (calls.callers at.callers),
       writing.writes,
     )
 
 pub returns-in-Taken-clause-did : goal.returns-in-Taken-clause-did
 returns-in-Taken-clause-did g c =
     let taken = rw c.in-Taken.is at c.in_ok-begun.ensures.begun in
+    let clashed = rw c.in-Taken.is at c.in_ok-begun.ensures.clashes in
     let idle : c.prepare_run.new.state.current ≡ None = c.prepare_run.ensures.current ∙ c.requires.idle in
     let order : Order = record { run = c.args.run; start = c.prepare_run.new.state.starts + 1; time = c.now.result; from = Stopped; quota = c.prepare_run.new.state.quota } in
-    let runs : c.push_reserved.new.self.items ≡ c.args.state.now.runs.items ++ c.refused_run.result ∷ [] = c.push_reserved.ensures.items ∙ ap (λ (runs : List RunRecord). runs ++ c.refused_run.result ∷ []) c.prepare_run.ensures.runs in (
-      λ o readings replies at.
-          refused_leads o readings replies c.args.state.now _ _ _ c.args.run c.now.result order c.in_ok-name.field-0.name at c.requires.idle
+    let runs : c.push_reserved.new.self.items ≡ c.args.state.now.runs.items ++ c.refused_run.result ∷ [] = c.push_reserved.ensures.items ∙ ap (λ (runs : List RunRecord). runs ++ c.refused_run.result ∷ []) c.prepare_run.ensures.runs in
+    let calls = refused_calls c.args.state.now.database c.prepare_run.new.state.database c.set_start.new.database c.set_refused.new.database c.args.run c.now.result
+    c.prepare_run.ensures.calls c.set_start.ensures.calls c.set_refused.ensures.calls in (
+      λ o course at.
+          refused_leads o course c.args.state.now _ _ _ c.args.run c.now.result order c.in_ok-name.field-0.name calls.sets at c.requires.idle
           (record { tells = c.now.ensures.tells; value = c.now.ensures.value; later = c.now.ensures.later })
-          taken.0 taken.1 c.in_ok-name.ensures.named (rw (c.prepare_run.ensures.starts, c.prepare_run.ensures.quota) refl) c.prepare_run.ensures.quota (ap (λ (n : ℕ). n + 1) c.prepare_run.ensures.starts) c.prepare_run.ensures.opened
+          taken.0 taken.1 clashed c.in_ok-name.ensures.named (rw (c.prepare_run.ensures.starts, c.prepare_run.ensures.quota) refl) c.prepare_run.ensures.quota (ap (λ (n : ℕ). n + 1) c.prepare_run.ensures.starts) c.prepare_run.ensures.opened
           (runs ∙ ap (λ (r : RunRecord). c.args.state.now.runs.items ++ r ∷ []) c.refused_run.ensures)
-          idle
-          (rows_after_two c.args.state.now.database c.prepare_run.new.state.database c.set_start.new.database c.set_refused.new.database (start_sets c.args.run c.now.result) (refused_sets c.args.run) (refused_sets c.args.run)
-          c.prepare_run.ensures.calls c.set_start.ensures.calls c.set_refused.ensures.calls refl)
-          (calls_after_two c.args.state.now.database c.prepare_run.new.state.database c.set_start.new.database c.set_refused.new.database (start_sets c.args.run c.now.result) (refused_sets c.args.run) (refused_sets c.args.run)
-          c.prepare_run.ensures.calls c.set_start.ensures.calls c.set_refused.ensures.calls refl),
+          idle calls.are_sets calls.own calls.front (calls.callers at.callers),
       subst (λ (on : Option OpenRun). IsReady (g.F.Files.seen c.begin_file.new.files) on) (sym idle) tt,
     )
 

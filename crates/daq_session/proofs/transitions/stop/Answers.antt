@@ -3,22 +3,19 @@ use Rattle.std.proofs.Math.Logic.{∥∥₁_map}
 use Rattle.buffer_core.specs.Window.{accepted_of}
 use Rattle.daq_session.proofs.RunsKept.{standing_broken, standing_ended}
 use Rattle.session_console.specs.declared.records.RunRecord.{RunRecord}
-use Rattle.odb_runinfo.specs.RunSets.{stopping_sets, stopped_sets}
-use Rattle.session_console.specs.FrontNames.{front_name}
-use Rattle.daq_session.proofs.Leading.{ended_leads, rows_after_two, calls_after_two, keeps_itself}
+use Rattle.daq_session.proofs.OwnCalls.{ended_calls}
+use Rattle.daq_session.proofs.Leading.{ended_leads}
 use Rattle.daq_session.proofs.transitions.stop.Goals as goal
 
 pub returns-in_ok-ended-in-Some-clause-did : goal.returns-in_ok-ended-in-Some-clause-did
-returns-in_ok-ended-in-Some-clause-did g c = λ o readings replies at.
-    let front = ap (λ (name : List ℕ). stopped_sets name c.in_ok-ended-in-Some.ended.front.sent) c.in-Some.run'.front in
-    ended_leads o readings replies c.args.state.now _ _ _ c.now-time.result c.in-Some.run' c.in_ok-ended-in-Some.ended.front c.in_ok-ended-in-Some.ended.file at
+returns-in_ok-ended-in-Some-clause-did g c = λ o course at.
+    let calls = ended_calls c.args.state.now.database c.set_stopping.new.database c.set_stopped.new.database c.now-time.result c.in_ok-ended-in-Some.ended.front.sent c.in-Some.run'.stopped.front
+    c.set_stopping.ensures.calls c.set_stopped.ensures.calls c.in-Some.run'.front in
+    ended_leads o course c.args.state.now _ _ _ c.now-time.result c.in-Some.run' c.in_ok-ended-in-Some.ended.front c.in_ok-ended-in-Some.ended.file calls.sets calls.sent_call at
     (sym c.take.ensures.value ∙ c.in-Some.is) (record { tells = c.now-time.ensures.tells; value = c.now-time.ensures.value; later = c.now-time.ensures.later })
-    c.in_ok-ended-in-Some.ensures.file c.in_ok-ended-in-Some.ensures.tally c.in_ok-ended-in-Some.ensures.named refl refl refl
+    c.in_ok-ended-in-Some.ensures.file c.end_run.ensures.clashes c.in_ok-ended-in-Some.ensures.tally c.in_ok-ended-in-Some.ensures.named refl refl refl
     (c.push_reserved.ensures.items ∙ ap (λ (r : RunRecord). c.args.state.now.runs.items ++ r ∷ []) c.in_ok-ended-in-Some.ensures.recorded) c.take.ensures.after
-    (rows_after_two c.args.state.now.database c.args.state.now.database c.set_stopping.new.database c.set_stopped.new.database (stopping_sets c.now-time.result)
-    (stopped_sets c.in-Some.run'.stopped.front c.in_ok-ended-in-Some.ended.front.sent) (stopped_sets front_name c.in_ok-ended-in-Some.ended.front.sent) (keeps_itself c.args.state.now.database) c.set_stopping.ensures.calls c.set_stopped.ensures.calls front)
-    (calls_after_two c.args.state.now.database c.args.state.now.database c.set_stopping.new.database c.set_stopped.new.database (stopping_sets c.now-time.result)
-    (stopped_sets c.in-Some.run'.stopped.front c.in_ok-ended-in-Some.ended.front.sent) (stopped_sets front_name c.in_ok-ended-in-Some.ended.front.sent) (keeps_itself c.args.state.now.database) c.set_stopping.ensures.calls c.set_stopped.ensures.calls front)
+    calls.are_sets calls.sent_all calls.own calls.front (calls.callers at.callers)
 
 pub returns-in_err-ended-in-Some-clause-told : goal.returns-in_err-ended-in-Some-clause-told
 returns-in_err-ended-in-Some-clause-told g c =

@@ -34,6 +34,7 @@ loop-count-preserved g c =
       room = c.pass_on.ensures.room ∙ c.loop-count.invariant.room;
       entries = omega (arith, c.pass_on.ensures.entries, c.loop-count.invariant.entries);
       bytes = omega (arith, c.pass_on.ensures.bytes, c.loop-count.invariant.bytes);
+      clashes = c.append.ensures.clashes ∙ c.loop-count.invariant.clashes;
       faults = c.in_ok-append.ensures.faults.done ∙ c.loop-count.invariant.faults;
     }
 

@@ -18,5 +18,6 @@ invariant-loop-count g l = record {
   room : l.self.got.room ≡ l.fn.self.got.room;
   entries : l.fn.self.port.entries ≤ l.self.port.entries + 2 * l.count;
   bytes : l.fn.self.port.bytes ≤ l.self.port.bytes + 80 * l.count;
+  clashes : g.F.Files.clashes l.files ≡ g.F.Files.clashes l.fn.files;
   faults : g.F.Files.faults l.files ≡ g.F.Files.faults l.fn.files;
 }
