@@ -14,6 +14,7 @@ mod Passing
 mod BufferLaws
 mod RunsTelling
 mod RunsHeld
+mod CallsKept
 mod RunsKept
 mod Answering
 mod PlayedLaws

@@ -25,11 +25,12 @@ use Rattle.daq_session.specs.Sessions.{IsRecorded}
 use Rattle.session_console.specs.declared.records.FrontTally.{FrontTally}
 use Rattle.session_console.specs.declared.records.FileRecord.{FileRecord}
 use Rattle.daq_session.specs.declared.state.OpenRun.{OpenRun}
-use Rattle.daq_session.specs.BufferEntries.{front_caller, logger_caller, opening_entries, begin_entry, passed_entries, end_entry, PassesFirst}
+use Rattle.daq_session.specs.BufferEntries.{front_caller, logger_caller, begin_entry, passed_entries, end_entry, PassesFirst}
 use Rattle.daq_session.specs.RunRecords.{order_of, sent_in, file_of, IsFiled, generated_events-by}
 use Rattle.daq_session.specs.Stages.{Stage, completed_record}
 use Rattle.daq_session.specs.RunHistories.{sent_by, wanted_of, events_of, segment_file, HoldsSegment, HoldSegments, IsSentByFront, AreSentByFronts, IsHeldRun}
 use Rattle.daq_session.specs.RunsTold.{IsRead, IsFresh, IsOn, IsDone, TellsRun, IsTold, IsOnRun, IsEnded, IsStanding, KeepsTold, EndsTold}
+use Rattle.daq_session.proofs.CallsKept.{calls_push}
 use Rattle.daq_session.proofs.RunsHeld.{IsHeld, is_held}
 use Rattle.daq_session.proofs.RunsTelling.{past_of-push, SentMore, sent_by-push, read_begun, fresh_begun, on_begun, done_begun, read_passed, fresh_passed, on_passed, done_passed, read_ended, fresh_ended, done_on, done_ended}
 
@@ -42,13 +43,6 @@ still_told h more goes_on r (front ∷ fronts) told = (record { from = told.0.fr
 all_still : (h more : List (ℕ × BufferEntry)) (runs : List RunRecord) → ((start from : ℕ) (events : List Event) → IsDone (past_of h) (sent_by h front_caller) start from events → IsDone (past_of more) (sent_by more front_caller) start from events)
     → All (λ r. TellsRun h r r.fronts) runs → All (λ r. TellsRun more r r.fronts) runs
 all_still h more runs goes_on told = λ k d less. still_told h more goes_on _ _ (told k d less)
-
-pub told_opens : (name : List ℕ) → IsTold (opening_entries name) 0 0 []
-told_opens name = record {
-  read = record { counted = refl; got = refl };
-  fresh = record { begun = λ start h. refl; ended = λ start h. refl; sent = λ start h. refl };
-  done = All-nil (λ r. TellsRun (opening_entries name) r r.fronts);
-}
 
 -- What holds of the entries with one more in front holds at the end of the history with that entry.
 at_push : (h : List (ℕ × BufferEntry)) (e : ℕ × BufferEntry) (P : List (ℕ × BufferEntry) → Type 0) → P (e ∷ past_of h) → P (past_of (h ++ e ∷ []))
@@ -68,6 +62,7 @@ told_begun h count last start place runs later t =
     let e : ℕ × BufferEntry = begin_entry start place in
     let more : List (ℕ × BufferEntry) = h ++ e ∷ [] in
     record {
+      calls = calls_push h e refl t.calls;
       read = at_push h e (λ p. IsRead p count) (read_begun (past_of h) count start place t.read);
       fresh = at_push h e (λ p. IsFresh p (sent_by more front_caller) start) (fresh_begun (past_of h) (sent_by h front_caller) (sent_by more front_caller) last start place later t.fresh (sent_by-push h e));
       done = all_still h more runs (λ other from events d. at_push h e (λ p. IsDone p (sent_by more front_caller) other from events)
@@ -109,6 +104,7 @@ passes_one h count last runs start from room events e p =
     let lay : (P : List (ℕ × BufferEntry) → Type 0) → P (gets ∷ sends ∷ past_of h) → P (past_of more) = λ P holds. at_push between gets P (subst (λ (past : List (ℕ × BufferEntry)). P (gets ∷ past)) (sym (past_of-push h sends)) holds) in
     record {
       told = record {
+        calls = calls_push between gets refl (calls_push h sends refl p.told.calls);
         read = lay (λ past. IsRead past (suc count)) (read_passed (past_of h) count start (length e.body) room count e refl p.told.read);
         fresh = lay (λ past. IsFresh past (sent_by more front_caller) last) (fresh_passed (past_of h) (sent_by h front_caller) (sent_by between front_caller) (sent_by more front_caller) last start (length e.body) room count e p.early one two p.told.fresh);
         done = all_still h more runs (λ other at done d. lay (λ past. IsDone past (sent_by more front_caller) other at done)
@@ -145,6 +141,7 @@ told_ended h count last start from place runs events p =
     let e : ℕ × BufferEntry = end_entry start place in
     let more : List (ℕ × BufferEntry) = h ++ e ∷ [] in
     record {
+      calls = calls_push h e refl p.told.calls;
       read = at_push h e (λ past. IsRead past count) (read_ended (past_of h) count start place p.told.read);
       fresh = at_push h e (λ past. IsFresh past (sent_by more front_caller) last) (fresh_ended (past_of h) (sent_by h front_caller) (sent_by more front_caller) last start place p.early (sent_by-push h e) p.told.fresh);
       done = all_still h more runs (λ other at done d. at_push h e (λ past. IsDone past (sent_by more front_caller) other at done)
@@ -165,6 +162,7 @@ told_completed h count last from time runs order front client done t =
     let r : RunRecord = completed_record order time front in
     let same : generated_events order 1 0 front.sent ≡ generated_events (order_of r) 1 0 front.sent = generated_events-by order (order_of r) 1 0 front.sent refl refl in
     record {
+      calls = t.calls;
       read = t.read;
       fresh = t.fresh;
       done = All-push (λ x. TellsRun h x x.fronts) runs r t.done
@@ -173,6 +171,7 @@ told_completed h count last from time runs order front client done t =
 
 pub told_refused : (h : List (ℕ × BufferEntry)) (count last after : ℕ) (runs : List RunRecord) (r : RunRecord) → last ≤ after → r.fronts ≡ [] → r.files ≡ [] → IsTold h count last runs → IsTold h count after (runs ++ r ∷ [])
 told_refused h count last after runs r later no_fronts no_files t = record {
+  calls = t.calls;
   read = t.read;
   fresh = record {
     begun = λ start h. t.fresh.begun start (omega (arith, h, later));

@@ -15,5 +15,6 @@ pub mod Closing
 pub mod BufferEntries
 pub mod BufferRecords
 pub mod RunHistories
+pub mod SystemCalls
 pub mod RunsTold
 pub mod RunRecordFits

@@ -13,6 +13,7 @@ use Rattle.daq_session.specs.BufferEntries.{front_caller}
 use Rattle.daq_session.specs.declared.state.OpenRun.{OpenRun}
 use Rattle.daq_session.specs.RunRecords.{order_of}
 use Rattle.daq_session.specs.RunHistories.{sent_by}
+use Rattle.daq_session.specs.SystemCalls.{AreSystemCalls}
 
 -- the events as they were sent in the run
 abbrev pub in_run : (start : ℕ) → Event → Sent
@@ -63,8 +64,10 @@ abbrev pub TellsRun : List (ℕ × BufferEntry) → RunRecord → List FrontTall
 TellsRun h r [] = r.files ≡ []
 TellsRun h r (front ∷ fronts) = IsDoneRun h r front × (fronts ≡ [])
 
--- the history with so many events tells the recorded runs, and of no other run with a higher start number
+-- the history with so many events tells the recorded runs, and of no other run with a higher start number; each of its
+-- calls is that of its caller
 pub record IsTold (h : List (ℕ × BufferEntry)) (count starts : ℕ) (runs : List RunRecord) : Type 0 where
+  pub calls : AreSystemCalls h
   pub read : IsRead (past_of h) count
   pub fresh : IsFresh (past_of h) (sent_by h front_caller) starts
   pub done : All (λ r. TellsRun h r r.fronts) runs

@@ -4,6 +4,7 @@ ghost use Rattle.daq_session.specs.BufferRecords.{IsOneHistory, IsSystem, histor
 ghost use Rattle.daq_session.specs.FrontSets.{AreCallers, IsFrontsPass};
 ghost use Rattle.daq_session.specs.RunHistories.{IsHeldRun, HoldSegments, AreSentByFronts};
 ghost use Rattle.daq_session.specs.RunRecordFits.{FitsHistory};
+ghost use Rattle.daq_session.specs.SystemCalls.{AreSystemCalls};
 ghost use Rattle.daq_session.specs.Sessions.{FaultsBy, IsRecorded, IsSession};
 ghost use Rattle.daq_session.specs.Standing.{Course, stage_of};
 ghost use Rattle.odb_tree.specs.Histories.{IsLegal};
@@ -28,6 +29,7 @@ fn record_of(session: Session) -> Option<SessionRecord>
     ensures database { IfSome result (λ s. IsLegal session_rows s.database) }
     ensures buffers { IfSome result (λ s. IsSystem (history_in s.buffers) s.buffers) }
     ensures one_history { IfSome result (λ s. All IsOneHistory s.buffers) }
+    ensures system_calls { IfSome result (λ s. AreSystemCalls (history_in s.buffers)) }
     ensures held { IfSome result (λ s. All (IsHeldRun (history_in s.buffers)) s.runs) }
 {
     let state = session.state;
@@ -53,6 +55,7 @@ fn run<S: Source, K: Sink, F: Files, E, C: Clock, P>(
     ensures database { IfSome result.1 (λ s. IsLegal session_rows s.database) }
     ensures buffers { IfSome result.1 (λ s. IsSystem (history_in s.buffers) s.buffers) }
     ensures one_history { IfSome result.1 (λ s. All IsOneHistory s.buffers) }
+    ensures system_calls { IfSome result.1 (λ s. AreSystemCalls (history_in s.buffers)) }
     ensures run_files { ¬ Rose (F.faults outside.old.run_files) (F.faults outside.new.run_files) → IsTrue (F.seen outside.old.run_files).tells → IfSome result.1 (λ s. All (HoldSegments s.buffers (F.seen outside.new.run_files).at) s.runs) }
     ensures front_end_sends { IfSome result.1 (λ s. All (AreSentByFronts s.buffers) s.runs) }
     ensures front_end_sets { IfSome result.1 (λ s. IsFrontsPass s.database s.runs) }
@@ -115,6 +118,9 @@ pub fn run_script<
     // There is one buffer, SYSTEM, and its history is that of one buffer.
     ensures buffers { IfSome result.1 (λ s. IsSystem (history_in s.buffers) s.buffers) }
     ensures one_history { IfSome result.1 (λ s. All IsOneHistory s.buffers) }
+    // Whose calls stand in that history: first the logger attaches the channel's client and makes its one request, for
+    // all events; then the front-end only sends in runs, and the logger marks the runs and receives for its client.
+    ensures system_calls { IfSome result.1 (λ s. AreSystemCalls (history_in s.buffers)) }
     // Each file of a run holds the events between the run's marks, of which the channel's client got just those that it
     // asked for; and these are the events that the front-end sent in that run.
     ensures run_files { ¬ Rose (F.faults outside.run_files) (F.faults result.2.run_files) → IsTrue (F.seen outside.run_files).tells → IfSome result.1 (λ s. All (HoldSegments s.buffers (F.seen result.2.run_files).at) s.runs) }

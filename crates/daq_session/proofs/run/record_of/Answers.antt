@@ -6,6 +6,7 @@ use Rattle.buffer_core.specs.declared.entry.BufferEntry.{BufferEntry}
 use Rattle.session_console.specs.declared.records.RunRecord.{RunRecord}
 use Rattle.daq_session.specs.BufferRecords.{history_in}
 use Rattle.daq_session.specs.RunHistories.{IsHeldRun}
+use Rattle.daq_session.specs.SystemCalls.{AreSystemCalls}
 use Rattle.daq_session.proofs.BufferLaws.{system_again}
 use Rattle.daq_session.proofs.RunsKept.{held_runs}
 use Rattle.daq_session.proofs.run.record_of.Goals as goal
@@ -20,3 +21,12 @@ returns-clause-held c =
 
 pub returns-clause-buffers : goal.returns-clause-buffers
 returns-clause-buffers c = system_again c.args.session.path.port.history c.into_records.result c.into_records.ensures.system
+
+pub returns-clause-system_calls : goal.returns-clause-system_calls
+returns-clause-system_calls c =
+    let history : List (ℕ × BufferEntry) = c.args.session.path.port.history in
+    let is_history : history_in c.into_records.result ≡ history =
+    ap history_in c.into_records.ensures.system.alone
+    ∙ c.into_records.ensures.system.history_is in
+    ∥∥₁_elim c.args.session.told (hlevel props)
+    (λ s. subst AreSystemCalls (sym is_history) s.told.calls)
