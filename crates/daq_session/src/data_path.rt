@@ -23,12 +23,15 @@ use ring_bytes::Ring;
 use session_console::{BufferRecord, Entries, FrontTally};
 use std::alloc::Global;
 
-/// The front-end FE: its client number, its event id and its trigger mask.
+/// The client number of the front-end FE.
 const FRONT_CLIENT: u32 = 0;
 
-const FRONT_ID: u16 = 1;
-
-const FRONT_MASK: u16 = 0;
+/// What the front-end FE sends: as many events as a run wants.
+const FRONT_END: Generator = Generator {
+    id: 1,
+    mask: 0,
+    limit: u32::MAX,
+};
 
 /// The size of the buffer SYSTEM, in bytes.
 const SYSTEM_BYTES: u32 = 1_048_576;
@@ -54,7 +57,6 @@ const EVENT_BYTES: u64 = 80;
 /// The way of the events from the front-end to the run file: through the buffer SYSTEM, of which the logger gets all.
 #[derive(Drop)]
 pub struct DataPath {
-    generator: Generator,
     sent: EventBuf,
     port: LocalPort<RingBuffer>,
     got: EventBuf,
@@ -140,13 +142,11 @@ impl DataPath {
         ensures total { IfOk result (λ path. path.port.window.total ≡ 0) }
         ensures told { IfOk result (λ path. IsTold path.port.history (accepted_of path.port.window) 0 []) }
     {
-        let generator = Generator::new(alloc)?;
         let sent = EventBuf::new(alloc, EVENT_ROOM)?;
         let port = system_port(alloc)?;
         let got = EventBuf::new(alloc, EVENT_ROOM)?;
         let records = Vec::with_capacity(alloc, 1)?;
         Ok(DataPath {
-            generator,
             sent,
             port,
             got,
@@ -256,8 +256,7 @@ impl DataPath {
         ensures faults { CountsFault (F.faults files.old) (F.faults files.new) result }
     {
         for count in 0..order.quota {
-            self.generator
-                .write(order, FRONT_ID, FRONT_MASK, count + 1, &mut self.sent);
+            FRONT_END.event(order, count + 1, &mut self.sent);
             self.pass_on(order.start);
             files.append(file, self.got.bytes())?;
         }

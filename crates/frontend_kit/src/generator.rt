@@ -1,57 +1,73 @@
-ghost use Rattle.std.specs.Prelude.{◌≡◌, ◌≤◌, ◌+◌, ◌*◌, ◌-◌, ◌++◌, ℕ, length, vec_len, vec_capacity};
+ghost use Rattle.std.specs.Prelude.{◌≡◌, ◌≤◌, ◌+◌, ◌*◌, ◌-◌, ◌++◌, ◌↔◌, IsTrue, ℕ, length};
+ghost use Rattle.arrayvec.specs.ArrayVec.{array_vec_len};
 ghost use Rattle.daq_model.specs.Generator.{generated_body, generated_event, next_state, words_from, words_encoded};
 ghost use Rattle.frontend_kit.specs.BankHeads.{heads};
 
-use daq_types::{NoMemory, Order};
-use event_header::{EventBuf, Header, append_within};
-use std::alloc::Global;
+use arrayvec::ArrayVec;
+use daq_types::Order;
+use event_header::{EventBuf, Header};
 
 /// The most bytes of data that an event of the generator has.
 pub const EVENT_ROOM: u32 = 80;
 
-/// Writes the events of a front-end that generates its data.
-#[derive(Drop)]
+/// A front-end that generates its data. It needs no memory.
+#[derive(Clone, Copy, Debug, PartialEq, Eq)]
 pub struct Generator {
-    body: Vec<u8>,
-    ghost room: { 80 ≤ vec_capacity body },
+    /// The id of its events, 1 to 32,767.
+    pub id: u16,
+    /// The trigger mask of its events.
+    pub mask: u16,
+    /// The most events of a run that it sends.
+    pub limit: u32,
 }
 
 impl Generator {
-    /// A generator. No other call takes memory.
-    pub fn new(alloc: Global) -> Result<Generator, NoMemory> {
-        let body = Vec::with_capacity(alloc, EVENT_ROOM as usize)?;
-        Ok(Generator { body })
+    /// Whether it can send as many events as a run of this order wants.
+    pub fn check(&self, order: &Order) -> bool
+        ensures { IsTrue result ↔ (order.now.quota ≤ self.now.limit) }
+    {
+        order.quota <= self.limit
     }
 
-    /// Puts event k of the front-end with this id and mask, in the run of this order, into the room. The events of a
-    /// run are numbered from 1.
-    pub fn write(&mut self, order: &Order, id: u16, mask: u16, k: u32, into: &mut EventBuf)
-        requires id { 1 ≤ id }
+    /// Puts event k of a run of this order into the room. The events of a run are numbered from 1.
+    pub fn event(&self, order: &Order, k: u32, into: &mut EventBuf)
+        requires id { 1 ≤ self.now.id }
         requires k { 1 ≤ k }
         requires room { EVENT_ROOM ≤ into.old.room }
-        ensures event { into.new.event ≡ generated_event order.now id mask k }
+        ensures event { into.new.event ≡ generated_event order.now self.now.id self.now.mask k }
         ensures room { into.new.room ≡ into.old.room }
     {
-        write_body(&mut self.body, id, order.start, k);
+        let mut body = ArrayVec::new();
+        write_body(&mut body, self.id, order.start, k);
         let header = Header {
-            event_id: id,
-            trigger_mask: mask,
+            event_id: self.id,
+            trigger_mask: self.mask,
             serial_number: k,
             time_stamp: order.time,
-            data_size: self.body.len() as u32,
+            data_size: body.len() as u32,
         };
-        let _ = into.fill(&header, self.body.as_slice());
+        let _ = into.fill(&header, body.as_slice());
     }
 }
 
+/// The data of an event while they are written.
+type Body = ArrayVec<u8, 80>;
+
+/// Puts these bytes behind those that are there.
+fn append(body: &mut Body, bytes: &[u8])
+    requires { array_vec_len body.old + length bytes.now ≤ 80 }
+    ensures items { body.new.items ≡ body.old.items ++ bytes.now }
+    ensures length { array_vec_len body.new ≡ array_vec_len body.old + length bytes.now }
+{
+    let _ = body.try_extend_from_slice(bytes);
+}
+
 /// Writes the data of an event: a bank area with one bank of words.
-fn write_body(body: &mut Vec<u8>, id: u16, start: u32, k: u32)
+fn write_body(body: &mut Body, id: u16, start: u32, k: u32)
     requires id { 1 ≤ id }
     requires k { 1 ≤ k }
-    requires room { 80 ≤ vec_capacity body.old }
     ensures bytes { body.new.items ≡ generated_body id start k }
-    ensures length { vec_len body.new ≤ 80 }
-    ensures room { vec_capacity body.old ≤ vec_capacity body.new }
+    ensures length { array_vec_len body.new ≤ 80 }
 {
     let count = 1 + (k - 1) % 16;
     write_heads(body, 4 * count);
@@ -61,37 +77,34 @@ fn write_body(body: &mut Vec<u8>, id: u16, start: u32, k: u32)
         count,
     );
     let zeros = [0; 4];
-    append_within(body, &zeros[..(4 * (count % 2)) as usize]);
+    append(body, &zeros[..(4 * (count % 2)) as usize]);
 }
 
 /// Writes the heads of a bank area with one bank of so many bytes: the length and the flags of the area, and the
 /// bank's name, type and length.
-fn write_heads(body: &mut Vec<u8>, size: u32)
+fn write_heads(body: &mut Body, size: u32)
     requires size { size ≤ 64 }
-    requires room { 80 ≤ vec_capacity body.old }
     ensures bytes { body.new.items ≡ heads size }
-    ensures length { vec_len body.new ≡ 16 }
-    ensures room { vec_capacity body.old ≤ vec_capacity body.new }
+    ensures length { array_vec_len body.new ≡ 16 }
 {
     body.clear();
-    append_within(body, &(8 + (size + 7) / 8 * 8).to_le_bytes());
-    append_within(body, &1u32.to_le_bytes());
-    append_within(body, b"GEN0");
-    append_within(body, &6u16.to_le_bytes());
-    append_within(body, &(size as u16).to_le_bytes());
+    append(body, &(8 + (size + 7) / 8 * 8).to_le_bytes());
+    append(body, &1u32.to_le_bytes());
+    append(body, b"GEN0");
+    append(body, &6u16.to_le_bytes());
+    append(body, &(size as u16).to_le_bytes());
 }
 
 /// Appends so many words: the upper halves of the states of a linear congruential generator behind this state.
-fn append_words(body: &mut Vec<u8>, state: u64, count: u32)
-    requires room { vec_len body.old + 4 * count ≤ vec_capacity body.old }
+fn append_words(body: &mut Body, state: u64, count: u32)
+    requires room { array_vec_len body.old + 4 * count ≤ 80 }
     ensures bytes { body.new.items ≡ body.old.items ++ words_encoded (words_from count state) }
-    ensures length { vec_len body.new ≡ vec_len body.old + 4 * count }
-    ensures room { vec_capacity body.old ≤ vec_capacity body.new }
+    ensures length { array_vec_len body.new ≡ array_vec_len body.old + 4 * count }
 {
     let mut x = state;
     for _made in 0..count {
         x = advanced(x);
-        append_within(body, &((x >> 32) as u32).to_le_bytes());
+        append(body, &((x >> 32) as u32).to_le_bytes());
     }
 }
 

@@ -12,10 +12,15 @@ fn first_events_of_two_front_ends(rt: HostRuntime) -> Result<(), Fail> {
         from: RunState::Stopped,
         quota: 3,
     };
-    let mut generator = Generator::new(rt.alloc())?;
     for (id, word) in [(1, 1817669548u32), (2, 3102535385)] {
         let mut event = EventBuf::new(rt.alloc(), EVENT_ROOM)?;
-        generator.write(&order, id, 0, 1, &mut event);
+        let generator = Generator {
+            id,
+            mask: 0,
+            limit: 3,
+        };
+        assert!(rt; generator.check(&order));
+        generator.event(&order, 1, &mut event);
         let body = event.body();
         assert_eq!(rt; body.len(), 24);
         assert_eq!(rt; &body[16..20], word.to_le_bytes().as_slice());

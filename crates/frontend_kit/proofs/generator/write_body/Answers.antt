@@ -8,5 +8,5 @@ pub returns-clause-bytes : goal.returns-clause-bytes
 returns-clause-bytes c =
     let count : ℕ = word_count c.args.k in
     let front : List ℕ = heads (4 * count) ++ words_encoded (words_from count (first_state c.args.id c.args.start c.args.k)) in
-    rw (c.append_within.ensures.items, c.append_words.ensures.bytes, c.write_heads.ensures.bytes)
+    rw (c.append.ensures.items, c.append_words.ensures.bytes, c.write_heads.ensures.bytes)
     (ap (λ (zeros : List ℕ). front ++ zeros) (take-replicate (4 * (count % 2)) 4 0 (omega arith)) ∙ sym (generated_body_is c.args.id c.args.start c.args.k))

@@ -6,12 +6,12 @@ pub returns-clause-bytes : goal.returns-clause-bytes
 unfolding heads
 returns-clause-bytes c =
     rw (
-      c.append_within-5.ensures.items,
-      c.append_within-4.ensures.items,
-      c.append_within-3.ensures.items,
-      c.append_within-2.ensures.items,
-      c.append_within.ensures.items,
-      c.clear.ensures.items,
+      c.append-5.ensures.items,
+      c.append-4.ensures.items,
+      c.append-3.ensures.items,
+      c.append-2.ensures.items,
+      c.append.ensures.items,
+      c.clear.ensures,
       c.to_le_bytes-4.ensures,
       c.to_le_bytes-3.ensures,
       c.to_le_bytes-2.ensures,
