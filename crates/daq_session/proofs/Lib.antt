@@ -1,4 +1,5 @@
 mod Sending
+mod BrokenFiles
 mod Keeping
 mod Interrupting
 mod OwnCalls

@@ -8,7 +8,7 @@ use Rattle.daq_model.specs.GeneratorLaws.{generated_events-more}
 use Rattle.daq_io.specs.Seen.{Seen, Extends}
 use Rattle.daq_io.specs.SeenLaws.{Extends-trans}
 
-all_encoded-more : (order : Order) (id mask k : ℕ) → all_encoded (generated_events order id mask k) ++ encoding (generated_event order id mask (k + 1)) ≡ all_encoded (generated_events order id mask (k + 1))
+pub all_encoded-more : (order : Order) (id mask k : ℕ) → all_encoded (generated_events order id mask k) ++ encoding (generated_event order id mask (k + 1)) ≡ all_encoded (generated_events order id mask (k + 1))
 all_encoded-more order id mask k = rw (generated_events-more order id mask k, all_encoded-append (generated_events order id mask k) (generated_event order id mask (k + 1) ∷ []))
     (ap (λ (bytes : List ℕ). all_encoded (generated_events order id mask k) ++ bytes) (sym (append-nil (encoding (generated_event order id mask (k + 1))))))
 

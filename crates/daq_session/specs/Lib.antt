@@ -8,6 +8,7 @@ pub mod Tallies
 pub mod Halts
 pub mod Standing
 pub mod BegunFiles
+pub mod FileFaults
 pub mod Playing
 pub mod Endings
 pub mod Sessions

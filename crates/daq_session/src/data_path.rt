@@ -1,8 +1,8 @@
-ghost use Rattle.std.specs.Prelude.{◌≡◌, ◌≤◌, ◌<◌, ◌+◌, ◌*◌, ◌^◌, ◌++◌, ◌∷◌, [], ℕ, suc, All, IsTrue, IfOk, OnOk, codes, false, length, vec_len, vec_capacity};
+ghost use Rattle.std.specs.Prelude.{◌≡◌, ◌≤◌, ◌<◌, ◌+◌, ◌*◌, ◌^◌, ◌++◌, ◌∷◌, [], ℕ, suc, All, IsTrue, IfOk, OnOk, OnErr, codes, false, length, vec_len, vec_capacity};
 ghost use Rattle.daq_model.specs.Events.{all_encoded, is_reserved, slot_size};
 ghost use Rattle.daq_model.specs.Generator.{generated_events};
 ghost use Rattle.daq_io.specs.Counts.{CountsFault};
-ghost use Rattle.daq_io.specs.Seen.{Extends};
+ghost use Rattle.daq_io.specs.Seen.{Extends, ExtendsPart};
 ghost use Rattle.buffer_core.specs.declared.gate.RunGate.TheVariants.{Shut, Running};
 ghost use Rattle.buffer_core.specs.ReadingLaws.{IsDrained};
 ghost use Rattle.buffer_core.specs.Window.{opening, accepted_of};
@@ -245,6 +245,7 @@ impl DataPath {
         requires entries { 2 * order.now.quota ≤ self.old.port.entries }
         requires bytes { 80 * order.now.quota ≤ self.old.port.bytes }
         ensures written { IfOk result (λ front. Extends (F.seen files.old) (F.seen files.new) file (all_encoded (generated_events order.now 1 0 front.sent))) }
+        ensures broken { OnErr result (ExtendsPart (F.seen files.old) (F.seen files.new) file (all_encoded (generated_events order.now 1 0 order.now.quota))) }
         ensures tally { IfOk result (IsTally order.now.quota) }
         ensures gate { self.new.port.window.gate ≡ self.old.port.window.gate }
         ensures last { self.new.port.window.last ≡ self.old.port.window.last }

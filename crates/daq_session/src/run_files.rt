@@ -4,6 +4,7 @@ ghost use Rattle.daq_model.specs.RunFile.{begin_record, end_record, begun_file};
 ghost use Rattle.daq_io.specs.Counts.{CountsFault};
 ghost use Rattle.daq_io.specs.Seen.{Closes};
 ghost use Rattle.daq_session.specs.BegunFiles.{BeginsFile, ClashesBegun};
+ghost use Rattle.daq_session.specs.FileFaults.{BeginBreaks, BreaksFile};
 ghost use Rattle.daq_session.specs.RecordBytes.{IsRecordOf};
 
 use daq_io::{Failed, Files, NameRefused};
@@ -52,6 +53,7 @@ pub fn begin_file<F: Files>(
 ) -> Result<Begun, Failed>
     ensures clashes { IfOk result (ClashesBegun (F.clashes files.old) (F.clashes files.new)) }
     ensures begun { IfOk result (BeginsFile (F.seen files.old) (F.seen files.new) name.now (begun_file run time [] [])) }
+    ensures broken { OnErr result (BeginBreaks (F.seen files.old) (F.seen files.new) name.now (begun_file run time [] [])) }
     ensures faults { CountsFault (F.faults files.old) (F.faults files.new) result }
 {
     match files.create(name) {
@@ -70,6 +72,7 @@ pub fn end_file<F: Files>(files: &mut F, file: u32, run: u32, time: u32) -> Resu
     requires { IsTrue ((F.seen files.old).writes file) }
     ensures ended { OnOk result (Closes (F.seen files.old) (F.seen files.new) file (encoding (end_record run time []))) }
     ensures clashes { F.clashes files.new ≡ F.clashes files.old }
+    ensures broken { OnErr result (BreaksFile (F.seen files.old) (F.seen files.new) ((F.seen files.old).name_of file) (encoding (end_record run time []))) }
     ensures faults { CountsFault (F.faults files.old) (F.faults files.new) result }
 {
     files.append(file, &record_bytes(END_ID, run, time))?;

@@ -7,6 +7,7 @@ ghost use Rattle.daq_model.specs.RunFile.{end_record};
 ghost use Rattle.daq_io.specs.Counts.{CountsFault};
 ghost use Rattle.daq_io.specs.Seen.{Closes};
 ghost use Rattle.buffer_core.specs.Window.{accepted_of};
+ghost use Rattle.daq_session.specs.FileFaults.{BreaksFile};
 ghost use Rattle.daq_session.specs.RunsTold.{IsStanding, KeepsTold, EndsTold};
 ghost use Rattle.daq_session.specs.Tallies.{IsTally, most_spent, most_starts};
 ghost use Rattle.session_console.specs.Console.{is_refusal};
@@ -334,6 +335,7 @@ fn end_run<F: Files>(
     requires entries { 2 * order.quota + 1 ≤ path.old.port.entries }
     requires bytes { 80 * order.quota ≤ path.old.port.bytes }
     ensures file { IfOk result (λ e. Closes (F.seen files.old) (F.seen files.new) file (all_encoded (generated_events order 1 0 e.front.sent) ++ encoding (end_record order.run time []))) }
+    ensures broken { OnErr result (BreaksFile (F.seen files.old) (F.seen files.new) ((F.seen files.old).name_of file) (all_encoded (generated_events order 1 0 order.quota) ++ encoding (end_record order.run time []))) }
     ensures tally { IfOk result (λ e. IsTally order.quota e.front) }
     ensures recorded { IfOk result (λ e. e.run ≡ completed_record order time e.front) }
     ensures named { IfOk result (λ e. e.file ≡ file_record order.run) }

@@ -5,6 +5,7 @@ use Rattle.daq_model.specs.GeneratorLaws.{generated_body_is_small, generated_slo
 use Rattle.buffer_core.specs.Window.{accepted_of}
 use Rattle.daq_session.specs.BufferEntries.{passed_entries}
 use Rattle.daq_session.proofs.Sending.{sent_more}
+use Rattle.daq_session.proofs.BrokenFiles.{on_err, part_sent}
 use Rattle.daq_session.proofs.Passing.{passed_more}
 use Rattle.daq_session.proofs.data_path.DataPath.send_events.Goals as goal
 
@@ -53,3 +54,10 @@ returns-in_err-append-clause-history g c =
       accepted_is = omega (arith, c.pass_on.ensures.accepted, c.loop-count.invariant.accepted);
       all = search rules;
     }
+
+pub returns-in_err-append-clause-broken : goal.returns-in_err-append-clause-broken
+returns-in_err-append-clause-broken g c =
+    on_err c.from_residual.result
+    (part_sent c.args.order.now 1 0 c.loop-count.count c.args.order.now.quota c.bytes.result.now
+    (omega arith) c.loop-count.invariant.written c.in_err-append.ensures.part
+    (c.bytes.ensures ∙ ap encoding (c.pass_on.ensures.event ∙ c.event.ensures.event)))
