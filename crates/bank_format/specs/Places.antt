@@ -57,12 +57,12 @@ unfoldable pub banks_in : Format → List ℕ → List BankValue
 banks_in f bytes = banks_within (length bytes) f bytes
 
 -- what a reader sees: the banks of the area, and those that it has not given yet
-pub record Reading : Type 0 where
+pub record BankReading : Type 0 where
   pub all : List BankValue
   pub left : List BankValue
 
 -- a reader that has given nothing
-abbrev pub unread : List BankValue → Reading
+abbrev pub unread : List BankValue → BankReading
 unread bs = record { all = bs; left = bs }
 
 -- the first bank of a name

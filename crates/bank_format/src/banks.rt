@@ -30,9 +30,9 @@ pub struct Banks<'a> {
 }
 
 impl<'a> Model for Banks<'a> {
-    ghost use Rattle.bank_format.specs.Places.{Reading, banks_in};
+    ghost use Rattle.bank_format.specs.Places.{BankReading, banks_in};
 
-    ghost Value = { Reading };
+    ghost Value = { BankReading };
 
     ghost use Rattle.std.specs.Prelude.{[]};
     ghost use Rattle.bank_format.specs.BankAreas.{BanksBefore};

@@ -21,7 +21,7 @@ use Rattle.buffer_core.specs.SlotLaws.{split}
 use Rattle.buffer_core.specs.Points.{News, Nothing, Attached, Detached, Requested, Cancelled, Taken, Gave, Drained, Life, news_of, reached, life_got, life_drained, life_after, life_at, request_after, request_at, sent, sent_after, count_at, IsWanted, past_after, past_of}
 use Rattle.buffer_core.specs.Delivered.{IsIn, IsRightGot}
 use Rattle.buffer_core.specs.Runs.{begun_at, ended_at, segment, events_between}
-use Rattle.buffer_core.specs.Readers.{places_in, places_got, places_of, among, wanted, LeavesLife, LeavesRequests, KeepsLife, KeepsRequests, HasRead, ReadsAll}
+use Rattle.buffer_core.specs.Readers.{places_in, places_got, places_of, among, wanted, LeavesLife, LeavesRequests, KeepsLife, KeepsRequests, HasReadBelow, ReadsAll}
 use Rattle.buffer_core.proofs.Places.{get_push, get_old}
 use Rattle.buffer_core.proofs.Replied.{request_given}
 use Rattle.buffer_core.proofs.Following.{Follows, wants_next}
@@ -388,7 +388,7 @@ read_after size past (e ∷ es) was client to l lives far keeps =
 
 -- a history whose entry at some point left the client with such a life
 read_since : (size : ℕ) (before : List (ℕ × BufferEntry)) (e : ℕ × BufferEntry) (after : List (ℕ × BufferEntry)) → IsLegal (opening size) (before ++ e ∷ after) → (client to : ℕ) (l : Life) → life_at (e ∷ past_of before) client ≡ Some l → to ≤ reached l →
-    KeepsLife client after → HasRead (before ++ e ∷ after) client to
+    KeepsLife client after → HasReadBelow (before ++ e ∷ after) client to
 read_since size before e after legal client to l lives far keeps =
     let whole : past_of (before ++ e ∷ after) ≡ past_after (e ∷ past_of before) after = past_join [] before (e ∷ after) in
     let was : WasLegal size (past_after (e ∷ past_of before) after) = subst (WasLegal size) whole (legal_after size [] (before ++ e ∷ after) tt legal) in
@@ -396,7 +396,7 @@ read_since size before e after legal client to l lives far keeps =
     record { life = it.0; lives = subst (λ (past : List (ℕ × BufferEntry)). life_at past client ≡ Some it.0) (sym whole) it.1; far = it.2 }
 
 pub got_read : (size : ℕ) (before after : List (ℕ × BufferEntry)) (caller client room place start : ℕ) → IsLegal (opening size) (before ++ (caller, Receive client room (Got place start)) ∷ after) → KeepsLife client after →
-    HasRead (before ++ (caller, Receive client room (Got place start)) ∷ after) client (place + 1)
+    HasReadBelow (before ++ (caller, Receive client room (Got place start)) ∷ after) client (place + 1)
 got_read size before after caller client room place start legal keeps =
     let e : ℕ × BufferEntry = (caller, Receive client room (Got place start)) in
     let past : List (ℕ × BufferEntry) = past_of before in
@@ -411,7 +411,7 @@ drained_client w room gate last None e = absurd (cc)
 drained_client w room gate last (Some c) e = (c, refl)
 
 pub drained_read : (size : ℕ) (before after : List (ℕ × BufferEntry)) (caller client room : ℕ) (gate : RunGate) (last : ℕ) → IsLegal (opening size) (before ++ (caller, Receive client room (Empty gate last)) ∷ after) → KeepsLife client after →
-    HasRead (before ++ (caller, Receive client room (Empty gate last)) ∷ after) client (count_at (past_of before))
+    HasReadBelow (before ++ (caller, Receive client room (Empty gate last)) ∷ after) client (count_at (past_of before))
 drained_read size before after caller client room gate last legal keeps =
     let e : ℕ × BufferEntry = (caller, Receive client room (Empty gate last)) in
     let past : List (ℕ × BufferEntry) = past_of before in

@@ -52,7 +52,7 @@ KeepsRequests client [] = ⊤
 KeepsRequests client (e ∷ es) = LeavesRequests client (news_of e.1) × KeepsRequests client es
 
 -- the client has read all places below this one in the life that goes on at the history's end
-pub record HasRead (history : List (ℕ × BufferEntry)) (client to : ℕ) : Type 0 where
+pub record HasReadBelow (history : List (ℕ × BufferEntry)) (client to : ℕ) : Type 0 where
   pub life : Life
   pub lives : life_at (past_of history) client ≡ Some life
   pub far : to ≤ reached life
@@ -69,5 +69,5 @@ pub record ReadsAll (history : List (ℕ × BufferEntry)) (client id mask from t
   pub alone : (n : ℕ) → request_at (past_of before) client n ≡ None
   pub early : count_at (past_of before) ≤ from
   pub keeps : KeepsRequests client during
-  pub has_read : HasRead (before ++ (caller, Request client id mask All (Ok number)) ∷ during) client to
+  pub has_read : HasReadBelow (before ++ (caller, Request client id mask All (Ok number)) ∷ during) client to
   pub stays : KeepsLife client after

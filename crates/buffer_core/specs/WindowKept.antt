@@ -144,11 +144,11 @@ found_got gate last room (Some f) place start e =
     e
 
 -- the place that was got is one of those kept
-pub record IsKept (w : Window) (place : ℕ) : Type 0 where
+pub record IsKeptPlace (w : Window) (place : ℕ) : Type 0 where
   pub from : w.first ≤ place
   pub to : place < accepted_of w
 
-got_kept : (w : Window) (room : ℕ) (o : Option Client) (place start : ℕ) → Got place start ≡ receive_reply_to w room o → IsKept w place
+got_kept : (w : Window) (room : ℕ) (o : Option Client) (place start : ℕ) → Got place start ≡ receive_reply_to w room o → IsKeptPlace w place
 got_kept w room None place start e = absurd (cc)
 got_kept w room (Some c) place start e =
     let found = found_got w.gate w.last room (found_in c w.first w.kept) place start e in
@@ -285,7 +285,7 @@ window_stays w (SendInRun start stated e (Ok n)) is reply =
     send_kept w start stated e is (sent_taken w stated e n runs.1) (omega (arith, running_last w.gate w.last start is.gate runs.0))
 window_stays w (SendInRun start stated e (Err r)) is reply = is
 window_stays w (Receive client room (Got place start)) is reply =
-    let kept : IsKept w place = got_kept w room (slot_at w.clients client) place start reply in
+    let kept : IsKeptPlace w place = got_kept w room (slot_at w.clients client) place start reply in
     change_kept w client (going_on (place + 1)) is (λ c h. going_kept w.first (accepted_of w) (place + 1) c (omega (arith, kept.from)) (omega (arith, kept.to)) h)
 window_stays w (Receive client room (Empty gate last)) is reply = change_kept w client (going_on (accepted_of w)) is (λ c h. going_kept w.first (accepted_of w) (accepted_of w) c (omega arith) (omega arith) h)
 window_stays w (Receive client room NoReader) is reply = is

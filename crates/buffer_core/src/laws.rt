@@ -14,7 +14,7 @@ ghost use Rattle.buffer_core.specs.Points.{sent, count_at, life_at, past_of};
 ghost use Rattle.buffer_core.specs.Delivered.{Delivers, FailsAlone, InOrder, Complete, HeldBack, Bounded};
 ghost use Rattle.buffer_core.specs.Runs.{KeepsRuns, begun_at, ended_at, segment, events_between};
 ghost use Rattle.buffer_core.specs.Continued.{sent_in, RepliesCount, GivesSent};
-ghost use Rattle.buffer_core.specs.Readers.{KeepsLife, HasRead, ReadsAll, places_got, places_of, among, wanted};
+ghost use Rattle.buffer_core.specs.Readers.{KeepsLife, HasReadBelow, ReadsAll, places_got, places_of, among, wanted};
 ghost use Rattle.buffer_core.specs.Ports.{Access, GotEvent, Called, IsGivenAt, IsNewNumber, knowing};
 ghost use Rattle.buffer_core.specs.Searches.{FoundIsFirst, FirstIsFound, NotFoundIsNone, NoneIsNotFound, OwedIsLeast, LeastIsOwed, NotOwedIsNone, NoneIsNotOwed, DropIsLeast, LeastIsDrop};
 ghost use Rattle.buffer_core.specs.Samples.{refused_once, got_twice, left_out, reached_back, refused_for_nobody, got_too_much, got_too_much_together, got_with_other_start, got_of_cancelled, missed, refused_for_optional, refused_at_second, refused_for_second, dropped, sent_behind, sent_in_pause, access_after, given_once, given_and_detached, given_twice};
@@ -67,11 +67,11 @@ pub fn has_read()
     ensures got { (size : ℕ) → (before after : History) → (caller client room place start : ℕ) →
         IsLegal (opening size) (before ++ (caller, Receive client room (Got place start)) ∷ after) →
         KeepsLife client after →
-        HasRead (before ++ (caller, Receive client room (Got place start)) ∷ after) client (place + 1) }
+        HasReadBelow (before ++ (caller, Receive client room (Got place start)) ∷ after) client (place + 1) }
     ensures drained { (size : ℕ) → (before after : History) → (caller client room : ℕ) → (gate : RunGate) → (last : ℕ) →
         IsLegal (opening size) (before ++ (caller, Receive client room (Empty gate last)) ∷ after) →
         KeepsLife client after →
-        HasRead (before ++ (caller, Receive client room (Empty gate last)) ∷ after) client (count_at (past_of before)) }
+        HasReadBelow (before ++ (caller, Receive client room (Empty gate last)) ∷ after) client (count_at (past_of before)) }
 {}
 
 /// A client that reads by one request for all events gets, of the places from the request on that it has read, just

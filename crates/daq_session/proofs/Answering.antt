@@ -20,7 +20,7 @@ use Rattle.session_console.specs.declared.replies.Reply.{Reply}
 use Rattle.session_console.specs.declared.replies.Reply.TheVariants.{Database}
 use Rattle.daq_session.specs.declared.state.State.{State}
 use Rattle.daq_session.specs.FrontSets.{AreCallers}
-use Rattle.daq_session.specs.Stages.{Outset, Stage, Does, DoesCommand, Interrupts, answered, called}
+use Rattle.daq_session.specs.Stages.{Outset, Stage, DoesByLine, DoesCommand, Interrupts, answered, called}
 use Rattle.daq_session.specs.Standing.{Course, behind_reply, stage_of, IsReady, AnswersBy, LineDoes, Handles, Breaks}
 use Rattle.daq_session.specs.Halts.{CountsHalt}
 use Rattle.daq_session.proofs.OwnCalls.{own_grown, callers_grown, main_called}
@@ -111,7 +111,7 @@ answers_inside Way reply old new outside runs current callers does = λ o c at.
     }
 
 -- a command of the database does what its answer says
-call_does : (o : Outset) (old new : Stage) (command : Command) → DoesCommand old command new → Does o old (Ok command) new
+call_does : (o : Outset) (old new : Stage) (command : Command) → DoesCommand old command new → DoesByLine o old (Ok command) new
 call_does o old new Nothing does = absurd does.2
 call_does o old new (Events count) does = absurd does.2
 call_does o old new Start does = absurd does.2

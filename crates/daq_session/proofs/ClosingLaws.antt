@@ -29,9 +29,9 @@ use Rattle.session_console.specs.Refused.{Counts}
 use Rattle.daq_session.specs.RunRecords.{IsKept}
 use Rattle.daq_session.specs.Endings.{SinkCounts}
 use Rattle.daq_session.specs.Halts.{SinkBy}
-use Rattle.daq_session.specs.Stages.{Outset, Stage, Does}
+use Rattle.daq_session.specs.Stages.{Outset, Stage, DoesByLine}
 use Rattle.daq_session.specs.FrontSets.{AreCallers}
-use Rattle.daq_session.specs.Standing.{Course, IsAt, behind_reply, order_in, stage_of, Answers}
+use Rattle.daq_session.specs.Standing.{Course, IsAt, behind_reply, order_in, stage_of, AnswersLine}
 use Rattle.daq_session.specs.Playing.{course_of, AreLines, CutBy, Wrote, Played, Prints}
 use Rattle.daq_session.specs.Sessions.{IsPlayed}
 use Rattle.daq_session.specs.Closing.{prints, earlier, Finished}
@@ -101,15 +101,15 @@ counts_accepted replies reply refusals accepted counts =
 
 -- The stop at the end.
 
-closes_none : (o : Outset) (on : Option OpenRun) (s : Stage) → on ≡ None → MatchOption (order_in on) (s ≡ s) (λ (order : Order). Does o s (Ok Stop) s)
-closes_none o on s idle = subst (λ (run : Option OpenRun). MatchOption (order_in run) (s ≡ s) (λ (order : Order). Does o s (Ok Stop) s)) (sym idle) refl
+closes_none : (o : Outset) (on : Option OpenRun) (s : Stage) → on ≡ None → MatchOption (order_in on) (s ≡ s) (λ (order : Order). DoesByLine o s (Ok Stop) s)
+closes_none o on s idle = subst (λ (run : Option OpenRun). MatchOption (order_in run) (s ≡ s) (λ (order : Order). DoesByLine o s (Ok Stop) s)) (sym idle) refl
 
-closes_some : (o : Outset) (on : Option OpenRun) (old new : Stage) → IsSome on → Does o old (Ok Stop) new → MatchOption (order_in on) (new ≡ old) (λ (order : Order). Does o old (Ok Stop) new)
+closes_some : (o : Outset) (on : Option OpenRun) (old new : Stage) → IsSome on → DoesByLine o old (Ok Stop) new → MatchOption (order_in on) (new ≡ old) (λ (order : Order). DoesByLine o old (Ok Stop) new)
 closes_some o None old new some does = absurd (cc)
 closes_some o (Some run) old new some does = does
 
 stopped : (o : Outset) (ending : Ending) (source left told_first told : Option (List ℕ)) (reply : Reply) (old new : State) (before after : Outset) (refusals : Refusals)
-    → (played : Played o ending source left told_first told old before refusals) → IsSome old.current → Answers (Ok Stop) reply old new before after → new.current ≡ None
+    → (played : Played o ending source left told_first told old before refusals) → IsSome old.current → AnswersLine (Ok Stop) reply old new before after → new.current ≡ None
     → (readings : ℕ) × (clashes : ℕ) × IsPlayed o after (CutBy ending source played.lines) played.lines (stage_of new (course_of readings clashes (played.replies ++ reply ∷ []))) × AreCallers new.database.history
 stopped o ending source left told_first told reply old new before after refusals played running answers idle =
     let course : Course = course_of played.readings played.clashes played.replies in
@@ -159,7 +159,7 @@ finished_idle o ending source left told_first told sink_first sink s now refusal
 
 -- the run was ended, and nothing was printed
 pub finished_silent : (o : Outset) (ending : Ending) (source left told_first told : Option (List ℕ)) (sink_first sink : ℕ) (old new : State) (before after : Outset) (refusals : Refusals) (reply : Reply)
-    → ending ≢ Halted FileFault → prints ending ≡ false → IsSome old.current → Answers (Ok Stop) reply old new before after → new.current ≡ None → is_refusal reply ≡ false
+    → ending ≢ Halted FileFault → prints ending ≡ false → IsSome old.current → AnswersLine (Ok Stop) reply old new before after → new.current ≡ None → is_refusal reply ≡ false
     → Played o ending source left told_first told old before refusals → SinkCounts ending sink_first sink
     → Finished o ending source left told_first told (record { old = sink_first; new = sink }) new after refusals
 finished_silent o ending source left told_first told sink_first sink old new before after refusals reply sound silent running answers idle accepted played counts =
@@ -193,7 +193,7 @@ printed (Halted halt) first now text printing wrote = absurd (cc)
 
 -- the run was ended, and that was printed
 pub finished_printed : (o : Outset) (ending : Ending) (source left told_first told_old told_new : Option (List ℕ)) (sink_first sink : ℕ) (old new : State) (before after : Outset) (refusals : Refusals) (reply : Reply)
-    → prints ending ≡ true → IsSome old.current → Answers (Ok Stop) reply old new before after → new.current ≡ None → is_refusal reply ≡ false → Appends told_old told_new (text_of 0 reply)
+    → prints ending ≡ true → IsSome old.current → AnswersLine (Ok Stop) reply old new before after → new.current ≡ None → is_refusal reply ≡ false → Appends told_old told_new (text_of 0 reply)
     → Played o ending source left told_first told_old old before refusals
     → Finished o ending source left told_first told_new (record { old = sink_first; new = sink }) new after refusals
 finished_printed o ending source left told_first told_old told_new sink_first sink old new before after refusals reply printing running answers idle accepted here played =
@@ -251,7 +251,7 @@ played_by o after Was Now lines final so played = record { behind = played.behin
 
 -- the run was ended, and that was not printed whole
 pub finished_cut : (o : Outset) (ending : Ending) (halt : Halt) (source left told_first told_old told_new : Option (List ℕ)) (sink_first sink_old sink_new : ℕ) (old new : State) (before after : Outset) (refusals : Refusals) (reply : Reply)
-    → prints ending ≡ true → IsSome old.current → Answers (Ok Stop) reply old new before after → new.current ≡ None → is_refusal reply ≡ false
+    → prints ending ≡ true → IsSome old.current → AnswersLine (Ok Stop) reply old new before after → new.current ≡ None → is_refusal reply ≡ false
     → Prints told_old told_new (text_of 0 reply) (Err halt) → SinkBy halt sink_old sink_new → SinkCounts ending sink_first sink_old
     → Played o ending source left told_first told_old old before refusals
     → Finished o (earlier ending halt) source left told_first told_new (record { old = sink_first; new = sink_new }) new after refusals

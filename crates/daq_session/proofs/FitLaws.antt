@@ -5,7 +5,7 @@ use Rattle.std.proofs.lemmas.List.{append-nil}
 use Rattle.std.proofs.lemmas.List.Elements.{All-nil, All-push, All-weaker}
 use Rattle.daq_types.specs.Callers.{entries_by}
 use Rattle.daq_types.specs.declared.runs.Order.{Order}
-use Rattle.odb_value.specs.Values.{Held}
+use Rattle.odb_value.specs.Values.{HeldValue}
 use Rattle.odb_value.specs.declared.items.Item.{Item}
 use Rattle.odb_value.specs.declared.items.Item.TheVariants.{Int32}
 use Rattle.odb_tree.specs.declared.entry.DatabaseEntry.{DatabaseEntry}
@@ -32,7 +32,7 @@ use Rattle.daq_session.specs.declared.causes.Cause.{Cause}
 use Rattle.daq_session.specs.RunCalls.{IsSet, AreSets, number_asked, running_set, stopped_set}
 use Rattle.daq_session.specs.RunRecordFits.{GivesNumber, StartsIn, StopsBy, RunRecordFits, FitsHistory}
 use Rattle.daq_session.specs.Sessions.{CutsBy, IsPlayed, IsRecorded}
-use Rattle.daq_session.specs.Stages.{Outset, Stage, opening, called, Begins, Refuses, Ends, completed_record, refused_record, next_order}
+use Rattle.daq_session.specs.Stages.{Outset, Stage, opening, called, Begins, Refuses, EndsRun, completed_record, refused_record, next_order}
 use Rattle.daq_session.proofs.PlayedLaws.{IsKeptByLines, script_keeps}
 
 -- Calls more.
@@ -78,12 +78,12 @@ on_more own more (Some order) fits = starts_on own more _ _ _ fits
 
 -- What the history makes sure of: each run number that was got is one.
 
-record GivesOne (got : Result Held OdbRefusal) : Type 0 where
+record GivesOne (got : Result HeldValue OdbRefusal) : Type 0 where
   pub number : ℤ
   pub gives : GivesNumber got number
 
 abbrev GivesNumbers : List DatabaseEntry → Type 0
-GivesNumbers own = (before after : List DatabaseEntry) (got : Result Held OdbRefusal) → own ≡ before ++ number_asked got ∷ after → IsSettled got → GivesOne got
+GivesNumbers own = (before after : List DatabaseEntry) (got : Result HeldValue OdbRefusal) → own ≡ before ++ number_asked got ∷ after → IsSettled got → GivesOne got
 
 first_give : (own more : List DatabaseEntry) → GivesNumbers (own ++ more) → GivesNumbers own
 first_give own more gives before after got is settled =
@@ -120,12 +120,12 @@ sets_spare (a ∷ sets) [] are = absurd are
 sets_spare (a ∷ sets) (entry ∷ entries) are = (subst SparesRuninfo (sym are.0.is) tt, sets_spare sets entries are.1)
 
 -- the number that was got is the one before the run's
-got_before : (got : Result Held OdbRefusal) (run : ℕ) → next_run (have_of got) ≡ Ok run → GivesOne got → GivesNumber got (pos (run - 1))
+got_before : (got : Result HeldValue OdbRefusal) (run : ℕ) → next_run (have_of got) ≡ Ok run → GivesOne got → GivesNumber got (pos (run - 1))
 got_before got run next one =
     let number : have_of got ≡ one.number = ap have_of one.gives.is ∙ ap number_in one.gives.items in
     subst (λ (n : ℤ). GivesNumber got n) (before_next one.number run (sym (ap next_run number) ∙ next)) one.gives
 
-starts_here : (own sets : List DatabaseEntry) (run time : ℕ) (got : Result Held OdbRefusal) (outcome : List Assignment) → IsSettled got → next_run (have_of got) ≡ Ok run → AreSets (start_sets run time ++ outcome) sets
+starts_here : (own sets : List DatabaseEntry) (run time : ℕ) (got : Result HeldValue OdbRefusal) (outcome : List Assignment) → IsSettled got → next_run (have_of got) ≡ Ok run → AreSets (start_sets run time ++ outcome) sets
     → GivesNumbers ((own ++ number_asked got ∷ []) ++ sets) → StartsIn ((own ++ number_asked got ∷ []) ++ sets) run time outcome
 starts_here own sets run time got outcome settled next are gives =
     let stands : (own ++ number_asked got ∷ []) ++ sets ≡ own ++ number_asked got ∷ sets = append_assoc own (number_asked got ∷ []) sets in
@@ -140,13 +140,13 @@ starts_here own sets run time got outcome settled next are gives =
       calls = stands ∙ ap (λ (es : List DatabaseEntry). own ++ number_asked got ∷ es) (sym (append-nil sets));
     }
 
-run_spares : (own sets : List DatabaseEntry) (got : Result Held OdbRefusal) → Spares own → Spares sets → Spares ((own ++ number_asked got ∷ []) ++ sets)
+run_spares : (own sets : List DatabaseEntry) (got : Result HeldValue OdbRefusal) → Spares own → Spares sets → Spares ((own ++ number_asked got ∷ []) ++ sets)
 run_spares own sets got spares are = more_spares (own ++ number_asked got ∷ []) sets (more_spares own (number_asked got ∷ []) spares (tt, tt)) are
 
-run_fits : (own sets : List DatabaseEntry) (got : Result Held OdbRefusal) (runs : List RunRecord) (on : Option Order) → Fits own runs on → Fits ((own ++ number_asked got ∷ []) ++ sets) runs on
+run_fits : (own sets : List DatabaseEntry) (got : Result HeldValue OdbRefusal) (runs : List RunRecord) (on : Option Order) → Fits own runs on → Fits ((own ++ number_asked got ∷ []) ++ sets) runs on
 run_fits own sets got runs on fits = more_fits (own ++ number_asked got ∷ []) sets runs on (more_fits own (number_asked got ∷ []) runs on fits)
 
-begins_stands : (o : Outset) (run : ℕ) (s new : Stage) (got : Result Held OdbRefusal) → IsSettled got → next_run (have_of got) ≡ Ok run → Begins o run (called s (number_asked got ∷ [])) new → Stands s → Stands new
+begins_stands : (o : Outset) (run : ℕ) (s new : Stage) (got : Result HeldValue OdbRefusal) → IsSettled got → next_run (have_of got) ≡ Ok run → Begins o run (called s (number_asked got ∷ [])) new → Stands s → Stands new
 begins_stands o run s new got settled next b stands = subst Stands (sym b.leads) (record {
   fits = record {
     runs_fit = (run_fits s.own b.sets got s.runs s.on stands.fits).runs_fit;
@@ -155,7 +155,7 @@ begins_stands o run s new got settled next b stands = subst Stands (sym b.leads)
   spares = run_spares s.own b.sets got stands.spares (sets_spare (start_sets run b.time ++ running_set) b.sets b.are_sets);
 })
 
-refuses_stands : (o : Outset) (run : ℕ) (s new : Stage) (got : Result Held OdbRefusal) → IsSettled got → next_run (have_of got) ≡ Ok run → Refuses o run (called s (number_asked got ∷ [])) new → Stands s → Stands new
+refuses_stands : (o : Outset) (run : ℕ) (s new : Stage) (got : Result HeldValue OdbRefusal) → IsSettled got → next_run (have_of got) ≡ Ok run → Refuses o run (called s (number_asked got ∷ [])) new → Stands s → Stands new
 refuses_stands o run s new got settled next r stands =
     let fits = run_fits s.own r.sets got s.runs s.on stands.fits in
     let last : RunRecord = refused_record (next_order s run r.time) in
@@ -168,7 +168,7 @@ refuses_stands o run s new got settled next r stands =
       spares = run_spares s.own r.sets got stands.spares (sets_spare (start_sets run r.time ++ refused_sets run) r.sets r.are_sets);
     })
 
-ends_stands : (o : Outset) (s new : Stage) (order : Order) → s.on ≡ Some order → Ends o s order new → Stands s → Stands new
+ends_stands : (o : Outset) (s new : Stage) (order : Order) → s.on ≡ Some order → EndsRun o s order new → Stands s → Stands new
 ends_stands o s new order on e stands =
     let fits = more_fits s.own e.sets s.runs s.on stands.fits in
     let done : RunRecord = completed_record order e.time e.front in
@@ -234,19 +234,19 @@ history_spares s (e ∷ h) legal spares =
     (parts.0, history_spares (rows_after s e.1) h legal.1 parts.1)
 
 -- the reply that a legal `get` of the run number got
-gives_one : (s : Rows) (got : Result Held OdbRefusal) → HasRunNumber s.rows → IsReply s (number_asked got) → IsSettled got → GivesOne got
+gives_one : (s : Rows) (got : Result HeldValue OdbRefusal) → HasRunNumber s.rows → IsReply s (number_asked got) → IsSettled got → GivesOne got
 gives_one s (Ok v) has reply settled =
-    let same : ◌≡◌ {A = Result Held OdbRefusal} (Ok v) (Ok has.held) = sym reply ∙ number_given s has in
+    let same : ◌≡◌ {A = Result HeldValue OdbRefusal} (Ok v) (Ok has.held) = sym reply ∙ number_given s has in
     record { number = has.number.first; gives = record { held = has.held; others = has.number.more; is = same; items = has.number.items } }
 gives_one s (Err why) has reply settled =
-    let clash : ◌≡◌ {A = Result Held OdbRefusal} (Err why) (Ok has.held) = sym (reply settled) ∙ number_given s has in cc
+    let clash : ◌≡◌ {A = Result HeldValue OdbRefusal} (Err why) (Ok has.held) = sym (reply settled) ∙ number_given s has in cc
 
-gives_first : (s : Rows) (e : ℕ × DatabaseEntry) (own before after : List DatabaseEntry) (got : Result Held OdbRefusal) → HasRunNumber s.rows → IsReply s e.1 → e.1 ∷ own ≡ before ++ number_asked got ∷ after → IsSettled got
+gives_first : (s : Rows) (e : ℕ × DatabaseEntry) (own before after : List DatabaseEntry) (got : Result HeldValue OdbRefusal) → HasRunNumber s.rows → IsReply s e.1 → e.1 ∷ own ≡ before ++ number_asked got ∷ after → IsSettled got
     → ((rest : List DatabaseEntry) → own ≡ rest ++ number_asked got ∷ after → GivesOne got) → GivesOne got
 gives_first s e own [] after got has reply is settled later = let first : e.1 ≡ number_asked got = cc is in gives_one s got has (subst (IsReply s) first reply) settled
 gives_first s e own (b ∷ before) after got has reply is settled later = let rest : own ≡ before ++ number_asked got ∷ after = cc is in later before rest
 
-gives_by : (b : Bool) (s : Rows) (e : ℕ × DatabaseEntry) (own before after : List DatabaseEntry) (got : Result Held OdbRefusal) → HasRunNumber s.rows → IsReply s e.1
+gives_by : (b : Bool) (s : Rows) (e : ℕ × DatabaseEntry) (own before after : List DatabaseEntry) (got : Result HeldValue OdbRefusal) → HasRunNumber s.rows → IsReply s e.1
     → (if b then e.1 ∷ own else own) ≡ before ++ number_asked got ∷ after → IsSettled got → ((rest : List DatabaseEntry) → own ≡ rest ++ number_asked got ∷ after → GivesOne got) → GivesOne got
 gives_by true s e own before after got has reply is settled later = gives_first s e own before after got has reply is settled later
 gives_by false s e own before after got has reply is settled later = later before is

@@ -6,7 +6,7 @@ use Rattle.std.proofs.lemmas.List.{append-nil}
 use Rattle.std.proofs.lemmas.List.Concat.{flat_map-append}
 use Rattle.daq_types.specs.Callers.{entries_by}
 use Rattle.daq_types.specs.declared.runs.Order.{Order}
-use Rattle.odb_value.specs.Values.{Held}
+use Rattle.odb_value.specs.Values.{HeldValue}
 use Rattle.odb_tree.specs.declared.entry.DatabaseEntry.{DatabaseEntry}
 use Rattle.odb_tree.specs.declared.refusals.OdbRefusal.{OdbRefusal}
 use Rattle.daq_session.specs.declared.causes.Cause.{Cause}
@@ -15,7 +15,7 @@ use Rattle.session_console.specs.declared.records.SessionRecord.{SessionRecord}
 use Rattle.daq_session.specs.FrontSets.{AreCallers, IsSentSet, AreSentSets, set_numbers, IsFrontsPass}
 use Rattle.daq_session.specs.RunCalls.{number_asked}
 use Rattle.daq_session.specs.Sessions.{CutsBy, IsPlayed, IsRecorded}
-use Rattle.daq_session.specs.Stages.{Outset, Stage, opening, called, Begins, Refuses, Ends, completed_record, refused_record, next_order}
+use Rattle.daq_session.specs.Stages.{Outset, Stage, opening, called, Begins, Refuses, EndsRun, completed_record, refused_record, next_order}
 use Rattle.daq_session.proofs.PlayedLaws.{IsKeptByLines, script_keeps, script_idle}
 
 sets_push : (numbers : List ℕ) (entries : List DatabaseEntry) (number : ℕ) (entry : DatabaseEntry) → AreSentSets numbers entries → IsSentSet number entry → AreSentSets (numbers ++ number ∷ []) (entries ++ entry ∷ [])
@@ -40,12 +40,12 @@ record Stands (s : Stage) : Type 0 where
 at_rest : (s : Stage) → s.on ≡ None → numbers_at s ≡ flat_map set_numbers s.runs
 at_rest s idle = ap (λ (on : Option Order). flat_map set_numbers s.runs ++ numbers_on on) idle ∙ append-nil (flat_map set_numbers s.runs)
 
-begins_stands : (o : Outset) (run : ℕ) (s new : Stage) (got : Result Held OdbRefusal) → s.on ≡ None → Begins o run (called s (number_asked got ∷ [])) new → Stands s → Stands new
+begins_stands : (o : Outset) (run : ℕ) (s new : Stage) (got : Result HeldValue OdbRefusal) → s.on ≡ None → Begins o run (called s (number_asked got ∷ [])) new → Stands s → Stands new
 begins_stands o run s new got idle b stands = subst Stands (sym b.leads) (record {
   sets = sets_push (flat_map set_numbers s.runs) s.front 0 b.sent (subst (λ (ns : List ℕ). AreSentSets ns s.front) (at_rest s idle) stands.sets) b.sent_none;
 })
 
-refuses_stands : (o : Outset) (run : ℕ) (s new : Stage) (got : Result Held OdbRefusal) → s.on ≡ None → Refuses o run (called s (number_asked got ∷ [])) new → Stands s → Stands new
+refuses_stands : (o : Outset) (run : ℕ) (s new : Stage) (got : Result HeldValue OdbRefusal) → s.on ≡ None → Refuses o run (called s (number_asked got ∷ [])) new → Stands s → Stands new
 refuses_stands o run s new got idle r stands =
     let none : RunRecord = refused_record (next_order s run r.time) in
     let same : flat_map set_numbers s.runs ≡ flat_map set_numbers (s.runs ++ none ∷ []) = sym (flat_map-append set_numbers s.runs (none ∷ []) ∙ append-nil (flat_map set_numbers s.runs)) in
@@ -53,7 +53,7 @@ refuses_stands o run s new got idle r stands =
       sets = subst (λ (ns : List ℕ). AreSentSets (ns ++ numbers_on s.on) s.front) same stands.sets;
     })
 
-ends_stands : (o : Outset) (s new : Stage) (order : Order) → s.on ≡ Some order → Ends o s order new → Stands s → Stands new
+ends_stands : (o : Outset) (s new : Stage) (order : Order) → s.on ≡ Some order → EndsRun o s order new → Stands s → Stands new
 ends_stands o s new order on e stands =
     let runs : List ℕ = flat_map set_numbers s.runs in
     let done : RunRecord = completed_record order e.time e.front in

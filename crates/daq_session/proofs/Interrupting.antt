@@ -6,7 +6,7 @@ use Rattle.std.proofs.lemmas.List.{append-nil}
 use Rattle.std.proofs.lemmas.Bool.{false≢true}
 use Rattle.daq_types.specs.Callers.{entries_by, entries_by-append}
 use Rattle.daq_types.specs.declared.runs.Order.{Order}
-use Rattle.odb_value.specs.Values.{Held}
+use Rattle.odb_value.specs.Values.{HeldValue}
 use Rattle.odb_tree.specs.declared.entry.DatabaseEntry.{DatabaseEntry}
 use Rattle.odb_tree.specs.declared.refusals.OdbRefusal.{OdbRefusal}
 use Rattle.odb_tree.specs.declared.refusals.OdbRefusal.TheVariants.{NoKey, Exists, NotDir, NotValue, TypeMismatch, BadIndex, Limit, NotKept, NoMemory as no_memory}
@@ -25,7 +25,7 @@ use Rattle.session_console.specs.declared.replies.Reply.{Reply}
 use Rattle.daq_session.specs.declared.state.State.{State}
 use Rattle.daq_session.specs.FrontSets.{AreCallers}
 use Rattle.daq_session.specs.RunCalls.{key_made, number_asked, is_settled, opens_session}
-use Rattle.daq_session.specs.Stages.{Outset, Stage, Opens, CallsLine, CallsStart, Interrupts, called, opened_by}
+use Rattle.daq_session.specs.Stages.{Outset, Stage, OpensSession, CallsLine, CallsStart, Interrupts, called, opened_by}
 use Rattle.daq_session.specs.Standing.{Course, stage_of, IsAt, IsReady, HandlesBy}
 use Rattle.daq_session.proofs.OwnCalls.{own_grown, callers_grown, main_called, none_called}
 
@@ -121,7 +121,7 @@ or_right true other is = let clash : true ≡ false = is in cc
 or_right false other is = refl
 
 -- of a stage that is open, or was not and was opened
-interrupts_by : (opened : Bool) (old ready new : Stage) (got : Result Held OdbRefusal) (made : List DatabaseEntry) → old.opened ≡ opened → old.on ≡ None → Opens opened old ready
+interrupts_by : (opened : Bool) (old ready new : Stage) (got : Result HeldValue OdbRefusal) (made : List DatabaseEntry) → old.opened ≡ opened → old.on ≡ None → OpensSession opened old ready
     → IsCutShort (number_asked got ∷ []) made → new ≡ called ready made → Interrupts (Ok Start) old new
 interrupts_by false old ready new got made shut idle opens short leads = record {
   calls = key_made opens.0 ∷ number_asked got ∷ [];
@@ -143,7 +143,7 @@ interrupts_by true old ready new got made is_open idle opens short leads = recor
       ∙ ap (λ (b : Bool). record (called old made) { opened = b }) (sym (or_left old.opened (opens_session made) is_open));
 }
 
-pub interrupts_start : (old ready new : Stage) (got : Result Held OdbRefusal) (made : List DatabaseEntry) → old.on ≡ None → Opens old.opened old ready
+pub interrupts_start : (old ready new : Stage) (got : Result HeldValue OdbRefusal) (made : List DatabaseEntry) → old.on ≡ None → OpensSession old.opened old ready
     → IsCutShort (number_asked got ∷ []) made → new ≡ called ready made → Interrupts (Ok Start) old new
 interrupts_start old ready new got made idle opens short leads = interrupts_by old.opened old ready new got made refl idle opens short leads
 

@@ -25,7 +25,7 @@ use Rattle.daq_session.specs.RunNames.{run_name}
 use Rattle.daq_session.specs.RunRecords.{IsKept}
 use Rattle.daq_session.specs.Tallies.{IsTally}
 use Rattle.daq_session.specs.Stages.{Outset, Stage, IsReading, IsFreeName, DoesStop, next_order, refused_record, completed_record, file_record}
-use Rattle.daq_session.specs.Standing.{Course, behind_reply, order_in, stage_of, IsClock, IsAt, Leads, LineDoes, RunStarts}
+use Rattle.daq_session.specs.Standing.{Course, behind_reply, order_in, stage_of, IsClock, IsAt, LeadsOutside, LineDoes, RunStarts}
 use Rattle.daq_session.proofs.Keeping.{kept_begun, kept_same, kept_refused, kept_ended, kept_free, kept_taken}
 
 -- two stages whose parts are the same
@@ -58,7 +58,7 @@ pub begun_leads : (o : Outset) (c : Course) (old new : State) (before after : Ou
     → new.quota ≡ old.quota → new.starts ≡ old.starts + 1 → new.opened ≡ old.opened → new.runs.items ≡ old.runs.items → new.current ≡ Some run
     → AreSets (start_sets number time ++ running_set) sets → IsSentSet 0 sent
     → entries_by 0 new.database.history ≡ entries_by 0 old.database.history ++ sets → entries_by 1 new.database.history ≡ entries_by 1 old.database.history ++ sent ∷ [] → AreCallers new.database.history
-    → Leads (RunStarts number) o c (Started number) old new after
+    → LeadsOutside (RunStarts number) o c (Started number) old new after
 begun_leads o c old new before after number time run sets sent at idle reads made clashes is_order is_quota is_starts is_opened is_runs is_current are_sets sent_none is_own is_front callers =
     let kept : IsKept o.files before.files old.runs.items None = subst (λ (on : Option OpenRun). IsKept o.files before.files old.runs.items on) idle at.kept in
     let free : IsTrue o.files.tells → IsFreeName o old.runs.items (run_name number) = λ told.
@@ -92,7 +92,7 @@ pub refused_leads : (o : Outset) (c : Course) (old new : State) (before after : 
     → new.quota ≡ old.quota → new.starts ≡ old.starts + 1 → new.opened ≡ old.opened → new.runs.items ≡ old.runs.items ++ refused_record order ∷ [] → new.current ≡ None
     → AreSets (start_sets number time ++ refused_sets number) sets
     → entries_by 0 new.database.history ≡ entries_by 0 old.database.history ++ sets → entries_by 1 new.database.history ≡ entries_by 1 old.database.history → AreCallers new.database.history
-    → Leads (RunStarts number) o c (StartRefused 1 (Exists 0)) old new after
+    → LeadsOutside (RunStarts number) o c (StartRefused 1 (Exists 0)) old new after
 refused_leads o c old new before after number time order name sets at idle reads same there clashed is_name is_order is_quota is_starts is_opened is_runs is_current are_sets is_own is_front callers =
     let kept : IsKept o.files before.files old.runs.items None = subst (λ (on : Option OpenRun). IsKept o.files before.files old.runs.items on) idle at.kept in
     let taken : IsTrue o.files.tells → ¬ IsFreeName o old.runs.items (run_name number) = λ told.
@@ -126,7 +126,7 @@ pub ended_leads : (o : Outset) (c : Course) (old new : State) (before after : Ou
     → new.quota ≡ old.quota → new.starts ≡ old.starts → new.opened ≡ old.opened → new.runs.items ≡ old.runs.items ++ completed_record run.order time front ∷ [] → new.current ≡ None
     → AreSets (stopping_sets time ++ stopped_set) sets → IsSentSet front.sent sent
     → entries_by 0 new.database.history ≡ entries_by 0 old.database.history ++ sets → entries_by 1 new.database.history ≡ entries_by 1 old.database.history ++ sent ∷ [] → AreCallers new.database.history
-    → Leads (LineDoes (Ok Stop)) o c (run_stopped run.order.run front file) old new after
+    → LeadsOutside (LineDoes (Ok Stop)) o c (run_stopped run.order.run front file) old new after
 ended_leads o c old new before after time run front file sets sent at running reads closed clashes tally is_file is_quota is_starts is_opened is_runs is_current are_sets sent_all is_own is_front callers =
     let kept : IsKept o.files before.files old.runs.items (Some run) = subst (λ (on : Option OpenRun). IsKept o.files before.files old.runs.items on) running at.kept in
     record {

@@ -24,7 +24,7 @@ use Rattle.buffer_core.specs.Slots.{slot_at}
 use Rattle.buffer_core.specs.Calls.{IsReply, window_after, event_after, request_reply_to, with_gate}
 use Rattle.buffer_core.specs.WindowLaws.{IsSendable}
 use Rattle.buffer_core.specs.ReadingLaws.{IsDrained, AfterSend, attach_opens, request_opens, opening_attach, drained_opens, drained_send, fed_reply, fed_event, fed_again, run_begins, run_ends, running_is}
-use Rattle.local_port.specs.Ported.{Ported, Does}
+use Rattle.local_port.specs.Ported.{Ported, AppendsCall}
 use Rattle.daq_session.specs.BufferEntries.{front_caller, logger_caller, opening_entries, passed_entries}
 
 -- an event is sent
@@ -39,8 +39,8 @@ sent_facts w w' start e h body reply is_header is_body running may replied after
 
 -- A port whose caller was set.
 
-as_caller : (p p1 q : Ported) (caller : ℕ) (e : BufferEntry) → p1 ≡ record p { caller = caller } → Does p1 q e → Does (record p { caller = caller }) q e
-as_caller p p1 q caller e is does = subst (λ (x : Ported). Does x q e) is does
+as_caller : (p p1 q : Ported) (caller : ℕ) (e : BufferEntry) → p1 ≡ record p { caller = caller } → AppendsCall p1 q e → AppendsCall (record p { caller = caller }) q e
+as_caller p p1 q caller e is does = subst (λ (x : Ported). AppendsCall x q e) is does
 
 -- what a mark of a run does to the port
 pub record Marked (p q : Ported) (gate : RunGate) (last : ℕ) (entry : BufferEntry) : Type 0 where
@@ -55,10 +55,10 @@ pub record Marked (p q : Ported) (gate : RunGate) (last : ℕ) (entry : BufferEn
   pub entries : p.entries ≤ q.entries + 1
   pub bytes : p.bytes ≤ q.bytes
 
-pub begun : (p p1 q : Ported) (start : ℕ) (reply : Result ℕ MarkRefusal) → p.window.gate ≡ Shut → p.window.last < start → p1 ≡ record p { caller = logger_caller } → Does p1 q (Begin start reply)
+pub begun : (p p1 q : Ported) (start : ℕ) (reply : Result ℕ MarkRefusal) → p.window.gate ≡ Shut → p.window.last < start → p1 ≡ record p { caller = logger_caller } → AppendsCall p1 q (Begin start reply)
     → Marked p q (Running start) start (Begin start (Ok (accepted_of p.window)))
 begun p p1 q start reply shut later is did =
-    let does : Does (record p { caller = logger_caller }) q (Begin start reply) = as_caller p p1 q logger_caller (Begin start reply) is did in
+    let does : AppendsCall (record p { caller = logger_caller }) q (Begin start reply) = as_caller p p1 q logger_caller (Begin start reply) is did in
     let marks = run_begins p.window 0 start reply shut later does.reply in
     let window : q.window ≡ with_gate p.window (Running start) start = does.window ∙ marks.1 in
     record {
@@ -74,10 +74,10 @@ begun p p1 q start reply shut later is did =
       bytes = omega (arith, does.bytes);
     }
 
-pub ended : (p p1 q : Ported) (start : ℕ) (reply : Result ℕ MarkRefusal) → p.window.gate ≡ Running start → p1 ≡ record p { caller = logger_caller } → Does p1 q (End start reply)
+pub ended : (p p1 q : Ported) (start : ℕ) (reply : Result ℕ MarkRefusal) → p.window.gate ≡ Running start → p1 ≡ record p { caller = logger_caller } → AppendsCall p1 q (End start reply)
     → Marked p q Shut p.window.last (End start (Ok (accepted_of p.window)))
 ended p p1 q start reply running is did =
-    let does : Does (record p { caller = logger_caller }) q (End start reply) = as_caller p p1 q logger_caller (End start reply) is did in
+    let does : AppendsCall (record p { caller = logger_caller }) q (End start reply) = as_caller p p1 q logger_caller (End start reply) is did in
     let marks = run_ends p.window 0 start reply running does.reply in
     let window : q.window ≡ with_gate p.window Shut p.window.last = does.window ∙ marks.1 in
     record {
@@ -109,13 +109,13 @@ pub record Passed (p q : Ported) (start room : ℕ) (e held : Event) : Type 0 wh
 
 pub passed : (p p1 p2 p3 q : Ported) (start place room : ℕ) (e held held' : Event) (h : Header) (body : List ℕ) (reply : Received) → h ≡ fields_of e → body ≡ e.body → p.window.gate ≡ Running start
     → IsSendable p.window (length e.body) e → length e.body ≤ room
-    → p1 ≡ record p { caller = front_caller } → Does p1 p2 (SendInRun start h.data_size (event_of h body) (Ok place))
-    → p3 ≡ record p2 { caller = logger_caller } → Does p3 q (Receive 0 room reply) → held' ≡ event_after held p3.window reply
+    → p1 ≡ record p { caller = front_caller } → AppendsCall p1 p2 (SendInRun start h.data_size (event_of h body) (Ok place))
+    → p3 ≡ record p2 { caller = logger_caller } → AppendsCall p3 q (Receive 0 room reply) → held' ≡ event_after held p3.window reply
     → IsDrained p.window 0 → Passed p q start room e held'
 passed p p1 p2 p3 q start place room e held held' h body reply is_header is_body running may fits one did two gave held_is drained =
     let sent_entry : ℕ → Event → ℕ → BufferEntry = λ stated x n. SendInRun start stated x (Ok n) in
-    let does : Does (record p { caller = front_caller }) p2 (sent_entry h.data_size (event_of h body) place) = as_caller p p1 p2 front_caller (sent_entry h.data_size (event_of h body) place) one did in
-    let gives : Does (record p2 { caller = logger_caller }) q (Receive 0 room reply) = as_caller p2 p3 q logger_caller (Receive 0 room reply) two gave in
+    let does : AppendsCall (record p { caller = front_caller }) p2 (sent_entry h.data_size (event_of h body) place) = as_caller p p1 p2 front_caller (sent_entry h.data_size (event_of h body) place) one did in
+    let gives : AppendsCall (record p2 { caller = logger_caller }) q (Receive 0 room reply) = as_caller p2 p3 q logger_caller (Receive 0 room reply) two gave in
     let sent : AfterSend p.window p2.window 0 start e (Ok place) = sent_facts p.window p2.window start e h body (Ok place) is_header is_body running may does.reply does.window drained in
     let got : reply ≡ Got place start = fed_reply p2.window 0 place start room e reply sent.1 fits gives.reply in
     let behind : q.window ≡ window_after p2.window (Receive 0 room (Got place start)) = gives.window ∙ ap (λ (r : Received). window_after p2.window (Receive 0 room r)) got in
@@ -181,9 +181,9 @@ pub record Opened (q : Ported) (size : ℕ) (name : List ℕ) : Type 0 where
   pub start : q.start ≡ opening size
 
 pub opened : (p p1 p2 p3 : Ported) (size : ℕ) (name : List ℕ) (one : Result ℕ NoSlot) (two : Result ℕ RequestRefusal) → p.start ≡ opening size → p.window ≡ opening size → p.history ≡ []
-    → p1 ≡ record p { caller = logger_caller } → Does p1 p2 (Attach name one) → Does p2 p3 (Request 0 any any All two) → Opened p3 size name
+    → p1 ≡ record p { caller = logger_caller } → AppendsCall p1 p2 (Attach name one) → AppendsCall p2 p3 (Request 0 any any All two) → Opened p3 size name
 opened p p1 p2 p3 size name one two starts opens none set first second =
-    let does : Does (record p { caller = logger_caller }) p2 (Attach name one) = as_caller p p1 p2 logger_caller (Attach name one) set first in
+    let does : AppendsCall (record p { caller = logger_caller }) p2 (Attach name one) = as_caller p p1 p2 logger_caller (Attach name one) set first in
     let attached : one ≡ Ok 0 = subst (λ (w : Window). IsReply w (Attach name one)) opens does.reply ∙ attach_opens size in
     let joined_window : p2.window ≡ window_after (opening size) (Attach name (Ok 0)) =
     does.window ∙ (ap (λ (w : Window). window_after w (Attach name one)) opens ∙ ap (λ (r : Result ℕ NoSlot). window_after (opening size) (Attach name r)) attached) in
@@ -211,7 +211,7 @@ opened p p1 p2 p3 size name one two starts opens none set first second =
 
 -- a send that has room, while the logger has got all, is never refused
 pub not_refused : (p p1 p2 : Ported) (start : ℕ) (e : Event) (h : Header) (body : List ℕ) (refusal : SendRefusal) → h ≡ fields_of e → body ≡ e.body → p.window.gate ≡ Running start
-    → IsSendable p.window (length e.body) e → p.window.total + slot_size e ≤ 2 ^ 62 → p1 ≡ record p { caller = front_caller } → Does p1 p2 (SendInRun start h.data_size (event_of h body) (Err refusal)) → IsDrained p.window 0 → ⊥
+    → IsSendable p.window (length e.body) e → p.window.total + slot_size e ≤ 2 ^ 62 → p1 ≡ record p { caller = front_caller } → AppendsCall p1 p2 (SendInRun start h.data_size (event_of h body) (Err refusal)) → IsDrained p.window 0 → ⊥
 not_refused p p1 p2 start e h body refusal is_header is_body running may unspent one did drained =
     let does = as_caller p p1 p2 front_caller (SendInRun start h.data_size (event_of h body) (Err refusal)) one did in
     let sent : AfterSend p.window p2.window 0 start e (Err refusal) = sent_facts p.window p2.window start e h body (Err refusal) is_header is_body running may does.reply does.window drained in

@@ -3,7 +3,7 @@ use Rattle.std.proofs.Common.{◌≡◌, ℕ, inl, inr, List, [], ◌∷◌, ◌
 use Rattle.std.specs.Prelude.{◌⊎◌, map, MatchOption}
 use Rattle.std.proofs.Math.Logic.{⊎_elim}
 use Rattle.daq_types.specs.declared.runs.Order.{Order}
-use Rattle.odb_value.specs.Values.{Held}
+use Rattle.odb_value.specs.Values.{HeldValue}
 use Rattle.odb_tree.specs.declared.entry.DatabaseEntry.{DatabaseEntry}
 use Rattle.odb_tree.specs.declared.entry.DatabaseEntry.TheVariants as call
 use Rattle.odb_tree.specs.declared.refusals.OdbRefusal.{OdbRefusal}
@@ -26,7 +26,7 @@ use Rattle.daq_types.specs.declared.runs.RunState.TheVariants.{Stopped, Running}
 use Rattle.daq_session.specs.Playing.{StopsAt}
 use Rattle.daq_session.specs.Sessions.{CutsBy, IsPlayed}
 use Rattle.daq_session.specs.RunCalls.{AreSets, key_made, number_asked}
-use Rattle.daq_session.specs.Stages.{Outset, Stage, opening, answered, called, Opens, Begins, Refuses, Ends, StartsRun, StartsFrom, DoesStart, DoesStop, DoesCommand, Does, Plays, CallsStart, CallsLine, opened_by, Interrupts}
+use Rattle.daq_session.specs.Stages.{Outset, Stage, opening, answered, called, OpensSession, Begins, Refuses, EndsRun, StartsRun, StartsFrom, DoesStart, DoesStop, DoesCommand, DoesByLine, Plays, CallsStart, CallsLine, opened_by, Interrupts}
 
 -- what keeps a fact: a reply, another quota, calls of the main thread that remove nothing of `/Runinfo`, a run that begins
 -- or is refused behind the number that was got, and a run that ends
@@ -34,23 +34,23 @@ pub record IsKeptByLines (P : Stage → Type 0) : Type 0 where
   pub reply : (s : Stage) (reply : Reply) → P s → P (answered s reply)
   pub quota : (s : Stage) (count : ℕ) → P s → P (record s { quota = count })
   pub calls : (s : Stage) (calls : List DatabaseEntry) (opened : Bool) → Spares calls → P s → P (record (called s calls) { opened = opened })
-  pub begins : (o : Outset) (run : ℕ) (s new : Stage) (got : Result Held OdbRefusal) → s.on ≡ None → IsSettled got → next_run (have_of got) ≡ Ok run → Begins o run (called s (number_asked got ∷ [])) new → P s → P new
-  pub refuses : (o : Outset) (run : ℕ) (s new : Stage) (got : Result Held OdbRefusal) → s.on ≡ None → IsSettled got → next_run (have_of got) ≡ Ok run → Refuses o run (called s (number_asked got ∷ [])) new → P s → P new
-  pub ends : (o : Outset) (s new : Stage) (order : Order) → s.on ≡ Some order → Ends o s order new → P s → P new
+  pub begins : (o : Outset) (run : ℕ) (s new : Stage) (got : Result HeldValue OdbRefusal) → s.on ≡ None → IsSettled got → next_run (have_of got) ≡ Ok run → Begins o run (called s (number_asked got ∷ [])) new → P s → P new
+  pub refuses : (o : Outset) (run : ℕ) (s new : Stage) (got : Result HeldValue OdbRefusal) → s.on ≡ None → IsSettled got → next_run (have_of got) ≡ Ok run → Refuses o run (called s (number_asked got ∷ [])) new → P s → P new
+  pub ends : (o : Outset) (s new : Stage) (order : Order) → s.on ≡ Some order → EndsRun o s order new → P s → P new
 
 -- a reply alone
 replies : (P : Stage → Type 0) (old new : Stage) (reply : Reply) → IsKeptByLines P → new ≡ answered old reply → P old → P new
 replies P old new reply k leads here = subst P (sym leads) (k.reply old reply here)
 
-opens_keep : (P : Stage → Type 0) (opened : Bool) (old new : Stage) → IsKeptByLines P → Opens opened old new → P old → P new
+opens_keep : (P : Stage → Type 0) (opened : Bool) (old new : Stage) → IsKeptByLines P → OpensSession opened old new → P old → P new
 opens_keep P false old new k opens here = subst P (sym opens.2) (k.calls old (key_made opens.0 ∷ []) true (tt, tt) here)
 opens_keep P true old new k opens here = subst P (sym opens) here
 
-opens_idle : (opened : Bool) (old new : Stage) → Opens opened old new → old.on ≡ None → new.on ≡ None
+opens_idle : (opened : Bool) (old new : Stage) → OpensSession opened old new → old.on ≡ None → new.on ≡ None
 opens_idle false old new opens idle = ap (λ (s : Stage). s.on) opens.2 ∙ idle
 opens_idle true old new opens idle = ap (λ (s : Stage). s.on) opens ∙ idle
 
-run_keeps : (P : Stage → Type 0) (o : Outset) (next : Result ℕ NoNext) (s new : Stage) (got : Result Held OdbRefusal) → IsKeptByLines P → s.on ≡ None → IsSettled got → next_run (have_of got) ≡ next
+run_keeps : (P : Stage → Type 0) (o : Outset) (next : Result ℕ NoNext) (s new : Stage) (got : Result HeldValue OdbRefusal) → IsKeptByLines P → s.on ≡ None → IsSettled got → next_run (have_of got) ≡ next
     → StartsRun o next (called s (number_asked got ∷ [])) new → P s → P new
 run_keeps P o (Err no_next) s new got k idle settled is starts here =
     replies P (called s (number_asked got ∷ [])) new (RunNumber no_next.have) k starts (k.calls s (number_asked got ∷ []) s.opened (tt, tt) here)
@@ -72,7 +72,7 @@ command_keeps P command old new k does here =
     replies P (called old does.0) new (Database does.1) k does.3 (k.calls old does.0 old.opened (performs_spares command does.0 does.1 does.2) here)
 
 -- each line does
-pub line_keeps : (P : Stage → Type 0) (o : Outset) (line : Result Command LineRefusal) (old new : Stage) → IsKeptByLines P → Does o old line new → P old → P new
+pub line_keeps : (P : Stage → Type 0) (o : Outset) (line : Result Command LineRefusal) (old new : Stage) → IsKeptByLines P → DoesByLine o old line new → P old → P new
 line_keeps P o (Err (no_command at)) old new k does here = replies P old new (BadCommand at) k does here
 line_keeps P o (Ok Nothing) old new k does here = replies P old new Silent k does here
 line_keeps P o (Ok (Events count)) old new k does here = subst P (sym does) (k.quota (answered old Silent) count (k.reply old Silent here))
@@ -109,7 +109,7 @@ cut_spares [] (e ∷ made) short spares = absurd short
 cut_spares (c ∷ calls) (e ∷ made) (inl here) spares = (subst SparesRuninfo (sym here.0) spares.0, cut_spares calls made here.1 spares.1)
 cut_spares (c ∷ calls) (e ∷ made) (inr last) spares = (subst SparesRuninfo (sym last.0) (unanswered_spares c spares.0), subst Spares (sym last.1) tt)
 
-asked_spares : (got : Result Held OdbRefusal) → Spares (number_asked got ∷ [])
+asked_spares : (got : Result HeldValue OdbRefusal) → Spares (number_asked got ∷ [])
 asked_spares got = (tt, tt)
 
 start_spares : (opened : Bool) (calls : List DatabaseEntry) → CallsStart opened calls → Spares calls
@@ -148,7 +148,7 @@ cut_keeps P SinkFault source lines old new k cut here = subst P (sym cut) here
 cut_keeps P (FileFault name) source lines old new k cut here = subst P (sym cut) here
 cut_keeps P NoMemory source lines old new k cut here = stops_keep P source lines old new k cut here
 
-closes_keep : (P : Stage → Type 0) (o : Outset) (on : Option Order) (old new : Stage) → IsKeptByLines P → old.on ≡ on → MatchOption on (new ≡ old) (λ (order : Order). Does o old (Ok Stop) new) → P old → P new
+closes_keep : (P : Stage → Type 0) (o : Outset) (on : Option Order) (old new : Stage) → IsKeptByLines P → old.on ≡ on → MatchOption on (new ≡ old) (λ (order : Order). DoesByLine o old (Ok Stop) new) → P old → P new
 closes_keep P o None old new k idle same here = subst P (sym same) here
 closes_keep P o (Some order) old new k on does here = line_keeps P o (Ok Stop) old new k does here
 
@@ -160,10 +160,10 @@ script_keeps P o after cause source lines final k played here =
     (cut_keeps P cause source lines played.behind played.cut k played.is_cut (plays_keep P o (map command_of lines) (opening o.clashes) played.behind k played.plays here))
 
 -- no run is on at its end
-closes_idle : (o : Outset) (on : Option Order) (old new : Stage) → old.on ≡ on → MatchOption on (new ≡ old) (λ (order : Order). Does o old (Ok Stop) new) → new.on ≡ None
+closes_idle : (o : Outset) (on : Option Order) (old new : Stage) → old.on ≡ on → MatchOption on (new ≡ old) (λ (order : Order). DoesByLine o old (Ok Stop) new) → new.on ≡ None
 closes_idle o None old new idle same = ap (λ (s : Stage). s.on) same ∙ idle
 closes_idle o (Some order) old new on does =
-    let ends : Ends o old order new = subst (λ (on : Option Order). DoesStop o old on new) on does in ap (λ (s : Stage). s.on) ends.leads
+    let ends : EndsRun o old order new = subst (λ (on : Option Order). DoesStop o old on new) on does in ap (λ (s : Stage). s.on) ends.leads
 
 pub script_idle : (o after : Outset) (IsCut : Stage → Stage → Type 0) (lines : List (List ℕ)) (final : Stage) → IsPlayed o after IsCut lines final → final.on ≡ None
 script_idle o after IsCut lines final played = closes_idle o played.cut.on played.cut final refl played.closes

@@ -5,7 +5,7 @@ use Rattle.std.proofs.Math.Logic.{⊎_elim}
 use Rattle.std.specs.Io.KnownBytes.{Appends}
 use Rattle.daq_io.specs.Streams.{Appends-kept}
 use Rattle.odb_script.specs.Lines.{Reading, kept, ReadsLine, ReadsLast, ReadsNone, ReadsTooMuch, ReadsPart}
-use Rattle.odb_script.specs.ReadLines.{HasRead, lines_at_fault, text_within_end, text_within_last}
+use Rattle.odb_script.specs.ReadLines.{HasReadLines, lines_at_fault, text_within_end, text_within_last}
 use Rattle.odb_script.specs.Exits.{GoOn, stop_at_exit, lines_first, lines_first_line, lines_first_last, lines_at_exit, lines_until_end, lines_until_last, lines_until_limit}
 use Rattle.daq_session.specs.declared.desk.Going.{Going}
 use Rattle.daq_session.specs.declared.desk.Going.TheVariants.{Exit}
@@ -26,8 +26,8 @@ use Rattle.daq_session.specs.Playing.{course_of, Moment, Replied, Unanswered, Do
 use Rattle.daq_session.proofs.PlayingLaws.{SoFar, moment_more, stops, wrote_more, wrote_part, wrote_none, wrote_whole}
 
 -- what was read of a source that told this text
-told_read : (first now : Option (List ℕ)) (reading : Reading) (lines : List (List ℕ)) (text : List ℕ) → first ≡ Some text → HasRead first now reading lines → HasRead (Some text) now reading lines
-told_read first now reading lines text told read = subst (λ (f : Option (List ℕ)). HasRead f now reading lines) told read
+told_read : (first now : Option (List ℕ)) (reading : Reading) (lines : List (List ℕ)) (text : List ℕ) → first ≡ Some text → HasReadLines first now reading lines → HasReadLines (Some text) now reading lines
+told_read first now reading lines text told read = subst (λ (f : Option (List ℕ)). HasReadLines f now reading lines) told read
 
 -- nothing was cut off
 pub cut_none : (ending : Ending) (source : Option (List ℕ)) (lines : List (List ℕ)) (s : Stage) → CutBy ending source lines s s
@@ -134,10 +134,10 @@ exit_played o source_first source_old source_new told_first told_old told_new re
 abbrev pub AreFirstOf : (source : Option (List ℕ)) → List (List ℕ) → Type 0
 AreFirstOf source lines = (text : List ℕ) → source ≡ Some text → AreFirst text lines
 
-pub first_by_line : (source_first source_old source_new : Option (List ℕ)) (old new : Reading) (lines : List (List ℕ)) (line : List ℕ) → HasRead source_first source_old old lines → GoOn lines → ReadsLine old new source_old source_new line → AreFirstOf source_first (lines ++ line ∷ [])
+pub first_by_line : (source_first source_old source_new : Option (List ℕ)) (old new : Reading) (lines : List (List ℕ)) (line : List ℕ) → HasReadLines source_first source_old old lines → GoOn lines → ReadsLine old new source_old source_new line → AreFirstOf source_first (lines ++ line ∷ [])
 first_by_line source_first source_old source_new old new lines line read on reads text told = lines_first_line text source_old source_new old new lines line (told_read source_first source_old old lines text told read) on reads
 
-pub first_by_last : (source_first source_old source_new : Option (List ℕ)) (old new : Reading) (lines : List (List ℕ)) (line : List ℕ) → HasRead source_first source_old old lines → GoOn lines → ReadsLast old new source_old source_new line → AreFirstOf source_first (lines ++ line ∷ [])
+pub first_by_last : (source_first source_old source_new : Option (List ℕ)) (old new : Reading) (lines : List (List ℕ)) (line : List ℕ) → HasReadLines source_first source_old old lines → GoOn lines → ReadsLast old new source_old source_new line → AreFirstOf source_first (lines ++ line ∷ [])
 first_by_last source_first source_old source_new old new lines line read on reads text told = lines_first_last text source_old source_new old new lines line (told_read source_first source_old old lines text told read) on reads
 
 -- a line was not answered

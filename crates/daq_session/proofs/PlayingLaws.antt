@@ -23,19 +23,19 @@ use Rattle.daq_session.specs.declared.state.State.{State}
 use Rattle.session_console.specs.Console.{text_of, console_text, console_text-more}
 use Rattle.session_console.specs.Refused.{counts_noted}
 use Rattle.daq_session.specs.RunRecords.{IsFiled}
-use Rattle.daq_session.specs.Stages.{Outset, Stage, opening, Does, Plays}
+use Rattle.daq_session.specs.Stages.{Outset, Stage, opening, DoesByLine, Plays}
 use Rattle.daq_session.specs.FrontSets.{AreCallers}
 use Rattle.daq_session.specs.Standing.{Course, behind_reply, order_in, stage_of, IsReady}
 use Rattle.odb_script.specs.Lines.{Reading, nothing_read, ReadsLine}
-use Rattle.odb_script.specs.ReadLines.{HasRead, has_read_none, has_read_line}
+use Rattle.odb_script.specs.ReadLines.{HasReadLines, has_read_none, has_read_line}
 use Rattle.daq_session.specs.declared.desk.Going.TheVariants.{On, Exit}
 use Rattle.daq_session.proofs.OwnCalls.{none_called}
 use Rattle.daq_session.proofs.Leading.{stage_is}
 use Rattle.daq_session.specs.Playing.{course_of, Moment, IsNew, Replied, GoesBehind, DoesLine, Prints}
 
 -- one line more
-pub Plays-more : (o : Outset) (lines : List (Result Command LineRefusal)) (line : Result Command LineRefusal) (old between new : Stage) → Plays o old lines between → Does o between line new → Plays o old (lines ++ line ∷ []) new
-Plays-more o [] line old between new same does = (new, subst (λ (s : Stage). Does o s line new) same does, refl)
+pub Plays-more : (o : Outset) (lines : List (Result Command LineRefusal)) (line : Result Command LineRefusal) (old between new : Stage) → Plays o old lines between → DoesByLine o between line new → Plays o old (lines ++ line ∷ []) new
+Plays-more o [] line old between new same does = (new, subst (λ (s : Stage). DoesByLine o s line new) same does, refl)
 Plays-more o (first ∷ lines) line old between new plays does = (plays.0, plays.1, Plays-more o lines line plays.0 between new plays.2 does)
 
 -- no line yet
@@ -62,8 +62,8 @@ moment_more o lines line replies reply number old new before after was now momen
     let before_it : Course = course_of moment.readings moment.clashes replies in
     let leads = replied.answers o before_it moment.at in
     let behind : Course = behind_reply before_it leads.readings leads.clashes reply in
-    let does : Does o (stage_of old before_it) (command_of line) (stage_of new behind) =
-    subst (λ (c : Result Command LineRefusal). Does o (stage_of old before_it) c (stage_of new behind)) (command_of-kept line) leads.does in
+    let does : DoesByLine o (stage_of old before_it) (command_of line) (stage_of new behind) =
+    subst (λ (c : Result Command LineRefusal). DoesByLine o (stage_of old before_it) c (stage_of new behind)) (command_of-kept line) leads.does in
     let place : number ≡ 1 + length replies = omega (arith, is_number, moment.numbered) in
     record {
       readings = leads.readings;
@@ -105,7 +105,7 @@ pub record SoFar (o : Outset) (source_first source_now told_first told_now : Opt
   pub lines : List (List ℕ)
   pub replies : List Reply
   pub moment : Moment o lines replies s now refusals
-  pub read : HasRead source_first source_now reading lines
+  pub read : HasReadLines source_first source_now reading lines
   pub go_on : GoOn lines
   pub wrote : Appends told_first told_now (console_text 1 replies)
   pub ready : IsReady now.files s.current

@@ -5,7 +5,7 @@ use Rattle.std.specs.Result.{IsErr, IsErrAnd}
 use Rattle.std.proofs.lemmas.List.{append-nil}
 use Rattle.daq_types.specs.Callers.{entries_by}
 use Rattle.daq_types.specs.declared.runs.Order.{Order}
-use Rattle.odb_value.specs.Values.{Held}
+use Rattle.odb_value.specs.Values.{HeldValue}
 use Rattle.odb_journal.specs.Noted.{Noted, Grows, KeepsCalls, EndsEarly, by_main}
 use Rattle.odb_tree.specs.declared.entry.DatabaseEntry.{DatabaseEntry}
 use Rattle.odb_tree.specs.declared.refusals.OdbRefusal.{OdbRefusal}
@@ -29,24 +29,24 @@ use Rattle.daq_session.specs.declared.state.State.{State}
 use Rattle.daq_session.specs.declared.state.OpenRun.{OpenRun}
 use Rattle.daq_session.specs.FrontSets.{AreCallers}
 use Rattle.daq_session.specs.RunCalls.{key_made, number_asked}
-use Rattle.daq_session.specs.Stages.{Outset, Stage, Does, DoesStart, Opens, StartsFrom, StartsRun, Interrupts, called}
+use Rattle.daq_session.specs.Stages.{Outset, Stage, DoesByLine, DoesStart, OpensSession, StartsFrom, StartsRun, Interrupts, called}
 use Rattle.daq_session.specs.Standing.{Course, behind_reply, stage_of, order_in, IsAt, IsReady, Breaks, Stays, LineDoes, Handles, HandlesRun}
 use Rattle.daq_session.proofs.OwnCalls.{own_grown, callers_grown, main_called}
 use Rattle.daq_session.proofs.Leading.{stage_is}
 use Rattle.daq_session.proofs.Interrupting.{at_same, cut_own, interrupts_start, memory_handled, with_calls}
 
 -- the number that the rows give, as a reply
-abbrev pub number_of : Rows → Result Held OdbRefusal
+abbrev pub number_of : Rows → Result HeldValue OdbRefusal
 number_of s = get_reply s (key_path number_key)
 
 -- The session was opened: it is open now, and where it was not, its key was made.
 
-pub opened_before : (opened : Bool) (s : Stage) → opened ≡ true → Opens opened s s
+pub opened_before : (opened : Bool) (s : Stage) → opened ≡ true → OpensSession opened s s
 opened_before true s is = refl
 opened_before false s is = let clash : false ≡ true = is in cc
 
 pub opened_now : (opened : Bool) (old : State) (q : Noted) (front : List ℕ) → opened ≡ false → front ≡ front_name → Grows old.database q (front_made old.database.rows front)
-    → (c : Course) → Opens opened (stage_of old c) (record (with_calls (stage_of old c) q) { opened = true })
+    → (c : Course) → OpensSession opened (stage_of old c) (record (with_calls (stage_of old c) q) { opened = true })
 opened_now true old q front shut is_front grows c = let clash : true ≡ false = shut in cc
 opened_now false old q front shut is_front grows c =
     let reply : Result ℕ OdbRefusal = create_reply old.database.rows (sent_path front_name) (Keys UInt64 1) in
@@ -70,7 +70,7 @@ stays_by old new now is_quota is_starts is_opened is_runs is_current same = reco
 -- Behind the opening, which left this state.
 pub record IsOpened (old opened : State) : Type 0 where
   pub idle : old.current ≡ None
-  pub opens : (c : Course) → Opens old.opened (stage_of old c) (stage_of opened c)
+  pub opens : (c : Course) → OpensSession old.opened (stage_of old c) (stage_of opened c)
   pub runs : opened.runs.items ≡ old.runs.items
   pub current : opened.current ≡ old.current
   pub callers : AreCallers old.database.history → AreCallers opened.database.history
@@ -98,7 +98,7 @@ number_broken old opened q is ends c =
 
 -- a start with this next number, behind the opening and the number that was got
 starts_from : (o : Outset) (old opened asked new : State) (q : Noted) (next : Result ℕ NoNext) (c d : Course) → IsOpened old opened → Grows opened.database q (number_got opened.database.rows)
-    → next_run (have_of (number_of opened.database.rows)) ≡ next → stage_of asked c ≡ with_calls (stage_of opened c) q → StartsRun o next (stage_of asked c) (stage_of new d) → Does o (stage_of old c) (Ok Start) (stage_of new d)
+    → next_run (have_of (number_of opened.database.rows)) ≡ next → stage_of asked c ≡ with_calls (stage_of opened c) q → StartsRun o next (stage_of asked c) (stage_of new d) → DoesByLine o (stage_of old c) (Ok Start) (stage_of new d)
 starts_from o old opened asked new q next c d is grows is_next is_asked starts =
     subst (λ (on : Option Order). DoesStart o (stage_of old c) on (stage_of new d)) (sym (idle_stage old c is.idle)) (
       stage_of opened c,

@@ -20,7 +20,7 @@ use Rattle.daq_session.specs.declared.state.State.{State}
 use Rattle.session_console.specs.Console.{text_of, console_text, is_refusal, refused_lines}
 use Rattle.session_console.specs.Refused.{noted, Counts}
 use Rattle.daq_session.specs.Stages.{Outset, Stage, opening, Plays, Interrupts}
-use Rattle.daq_session.specs.Standing.{Course, stage_of, IsAt, IsReady, Answers, Breaks}
+use Rattle.daq_session.specs.Standing.{Course, stage_of, IsAt, IsReady, AnswersLine, Breaks}
 
 abbrev pub course_of : (readings clashes : ℕ) → List Reply → Course
 course_of readings clashes replies = record { readings = readings; clashes = clashes; replies = replies }
@@ -45,7 +45,7 @@ pub record IsNew (s : State) : Type 0 where
 
 -- A line was answered, and noted where it was refused.
 pub record Replied (line : List ℕ) (number : ℕ) (reply : Reply) (old new : State) (before after : Outset) (was now : Refusals) : Type 0 where
-  pub answers : Answers (command_of line) reply old new before after
+  pub answers : AnswersLine (command_of line) reply old new before after
   pub ready : IsReady after.files new.current
   pub is_noted : now ≡ noted was number (is_refusal reply)
 

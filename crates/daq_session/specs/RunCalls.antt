@@ -3,7 +3,7 @@ use Rattle.std.specs.Prelude.{◌≡◌, ℕ, Bool, true, false, ◌||◌, pos, 
 use Rattle.daq_types.specs.declared.types.Tid.TheVariants as tid
 use Rattle.odb_value.specs.declared.items.Item.{Item}
 use Rattle.odb_value.specs.declared.items.Item.TheVariants.{Int32}
-use Rattle.odb_value.specs.Values.{Held}
+use Rattle.odb_value.specs.Values.{HeldValue}
 use Rattle.odb_tree.specs.declared.entry.DatabaseEntry.{DatabaseEntry}
 use Rattle.odb_tree.specs.declared.entry.DatabaseEntry.TheVariants.{Create, Get, Set}
 use Rattle.odb_tree.specs.declared.refusals.OdbRefusal.{OdbRefusal}
@@ -19,7 +19,7 @@ abbrev pub key_made : Result ℕ OdbRefusal → DatabaseEntry
 key_made reply = Create (sent_path front_name) (Keys tid.UInt64 1) reply
 
 -- the call that gets the run number
-abbrev pub number_asked : Result Held OdbRefusal → DatabaseEntry
+abbrev pub number_asked : Result HeldValue OdbRefusal → DatabaseEntry
 number_asked reply = Get (key_path RunNumber) reply
 
 -- the call sets this number in item 0 of this key

@@ -3,7 +3,7 @@ use Rattle.std.specs.Prelude.{◌≡◌, ℕ, ◌-◌, ℤ, pos, List, [], ◌�
 use Rattle.daq_types.specs.Callers.{entries_by}
 use Rattle.odb_value.specs.declared.items.Item.{Item}
 use Rattle.odb_value.specs.declared.items.Item.TheVariants.{Int32}
-use Rattle.odb_value.specs.Values.{Held}
+use Rattle.odb_value.specs.Values.{HeldValue}
 use Rattle.odb_tree.specs.declared.entry.DatabaseEntry.{DatabaseEntry}
 use Rattle.odb_tree.specs.declared.refusals.OdbRefusal.{OdbRefusal}
 use Rattle.odb_runinfo.specs.RunSets.{Assignment, have_of, next_run, start_sets, refused_sets, stopping_sets}
@@ -12,8 +12,8 @@ use Rattle.session_console.specs.declared.records.FrontTally.{FrontTally}
 use Rattle.daq_session.specs.RunCalls.{AreSets, number_asked, running_set, stopped_set}
 
 -- the reply of a `get` is a value with this number in item 0
-pub record GivesNumber (reply : Result Held OdbRefusal) (number : ℤ) : Type 0 where
-  pub held : Held
+pub record GivesNumber (reply : Result HeldValue OdbRefusal) (number : ℤ) : Type 0 where
+  pub held : HeldValue
   pub others : List Item
   pub is : reply ≡ Ok held
   pub items : held.items ≡ Int32 number ∷ others
@@ -23,7 +23,7 @@ pub record GivesNumber (reply : Result Held OdbRefusal) (number : ℤ) : Type 0 
 pub record StartsIn (own : List DatabaseEntry) (run time : ℕ) (outcome : List Assignment) : Type 0 where
   pub before : List DatabaseEntry
   pub after : List DatabaseEntry
-  pub got : Result Held OdbRefusal
+  pub got : Result HeldValue OdbRefusal
   pub held : GivesNumber got (pos (run - 1))
   pub number : next_run (have_of got) ≡ Ok run
   pub sets : List DatabaseEntry

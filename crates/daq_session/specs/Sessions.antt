@@ -14,11 +14,11 @@ use Rattle.daq_session.specs.Playing.{AreWhole, AreTooMany, AreGiven, AreFirst, 
 use Rattle.daq_session.specs.RunRecords.{IsKept}
 use Rattle.midas_tools.specs.declared.ends.InputFault.TheVariants.{ScriptTooLong}
 use Rattle.daq_session.specs.Standing.{IsClock}
-use Rattle.daq_session.specs.Stages.{Outset, Stage, opening, Does, Plays}
+use Rattle.daq_session.specs.Stages.{Outset, Stage, opening, DoesByLine, Plays}
 
 -- the stop at the script's end, which is given where a run is on
 abbrev pub ClosesRun : Outset → Stage → Stage → Type 0
-ClosesRun o old new = MatchOption old.on (new ≡ old) (λ order. Does o old (Ok Stop) new)
+ClosesRun o old new = MatchOption old.on (new ≡ old) (λ order. DoesByLine o old (Ok Stop) new)
 
 -- The lines were played from the opening on; then maybe a command was cut off; and the run was ended that was still on.
 -- The files are as the records say, the clock was read as often as the lines ask for, and no name clashed but for the starts that were refused.

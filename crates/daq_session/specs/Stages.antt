@@ -8,7 +8,7 @@ use Rattle.daq_io.specs.Counts.{Rose}
 use Rattle.daq_io.specs.Seen.{Seen}
 use Rattle.odb_tree.specs.declared.entry.DatabaseEntry.{DatabaseEntry}
 use Rattle.odb_tree.specs.declared.refusals.OdbRefusal.{OdbRefusal}
-use Rattle.odb_value.specs.Values.{Held}
+use Rattle.odb_value.specs.Values.{HeldValue}
 use Rattle.odb_runinfo.specs.declared.sets.RunNumber.{RunNumber as NoNext}
 use Rattle.odb_runinfo.specs.RunSets.{have_of, next_run, start_sets, refused_sets, stopping_sets}
 use Rattle.odb_script.specs.declared.forms.Command.{Command}
@@ -100,9 +100,9 @@ abbrev pub completed_record : Order → (time : ℕ) → FrontTally → RunRecor
 completed_record order time front = record { run = order.run; start = order.start; time0 = order.time; time1 = time; outcome = Completed; fronts = front ∷ []; files = file_record order.run ∷ [] }
 
 -- The first start opens the session: the key is made in which the front-end says how many events it sent.
-abbrev pub Opens : (opened : Bool) → Stage → Stage → Type 0
-Opens false old new = (reply : Result ℕ OdbRefusal) × IsSettled reply × (new ≡ record (called old (key_made reply ∷ [])) { opened = true })
-Opens true old new = new ≡ old
+abbrev pub OpensSession : (opened : Bool) → Stage → Stage → Type 0
+OpensSession false old new = (reply : Result ℕ OdbRefusal) × IsSettled reply × (new ≡ record (called old (key_made reply ∷ [])) { opened = true })
+OpensSession true old new = new ≡ old
 
 -- a start that came about: its file's name was free
 pub record Begins (o : Outset) (run : ℕ) (old new : Stage) : Type 0 where
@@ -128,7 +128,7 @@ pub record Refuses (o : Outset) (run : ℕ) (old new : Stage) : Type 0 where
   pub leads : new ≡ record (answered (called old sets) (StartRefused 1 (Exists 0))) { starts = old.starts + 1; readings = old.readings + 1; clashes = clashes; runs = old.runs ++ refused_record (next_order old run time) ∷ [] }
 
 -- a stop of a run
-pub record Ends (o : Outset) (old : Stage) (order : Order) (new : Stage) : Type 0 where
+pub record EndsRun (o : Outset) (old : Stage) (order : Order) (new : Stage) : Type 0 where
   pub time : ℕ
   pub reading : IsReading o old.readings time
   pub front : FrontTally
@@ -146,50 +146,50 @@ StartsRun o (Ok run) old new = Begins o run old new ⊎ Refuses o run old new
 
 -- a start from an open session, where no run is on: the run number is got
 pub record StartsFrom (o : Outset) (old new : Stage) : Type 0 where
-  pub got : Result Held OdbRefusal
+  pub got : Result HeldValue OdbRefusal
   pub settled : IsSettled got
   pub starts : StartsRun o (next_run (have_of got)) (called old (number_asked got ∷ [])) new
 
 -- the command `start`
 abbrev pub DoesStart : Outset → Stage → Option Order → Stage → Type 0
-DoesStart o old None new = (ready : Stage) × Opens old.opened old ready × StartsFrom o ready new
+DoesStart o old None new = (ready : Stage) × OpensSession old.opened old ready × StartsFrom o ready new
 DoesStart o old (Some order) new = new ≡ answered old (WrongState Running)
 
 -- the command `stop`
 abbrev pub DoesStop : Outset → Stage → Option Order → Stage → Type 0
 DoesStop o old None new = new ≡ answered old (WrongState Stopped)
-DoesStop o old (Some order) new = Ends o old order new
+DoesStop o old (Some order) new = EndsRun o old order new
 
 -- a command of the database: its calls are the main thread's, and it has its reply
 abbrev pub DoesCommand : Stage → Command → Stage → Type 0
 DoesCommand old command new = (calls : List DatabaseEntry) × (reply : CommandReply) × Performs command calls reply × (new ≡ answered (called old calls) (Database reply))
 
 -- what a line does: nothing but its reply where it is no command
-abbrev pub Does : Outset → Stage → Result Command LineRefusal → Stage → Type 0
-Does o old (Err (no_command at)) new = new ≡ answered old (BadCommand at)
-Does o old (Ok Nothing) new = new ≡ answered old Silent
-Does o old (Ok (Events count)) new = new ≡ record (answered old Silent) { quota = count }
-Does o old (Ok Start) new = DoesStart o old old.on new
-Does o old (Ok Stop) new = DoesStop o old old.on new
-Does o old (Ok (Create tid path len)) new = DoesCommand old (Create tid path len) new
-Does o old (Ok (CreateDir path)) new = DoesCommand old (CreateDir path) new
-Does o old (Ok (Set path index value)) new = DoesCommand old (Set path index value) new
-Does o old (Ok (Get path index)) new = DoesCommand old (Get path index) new
-Does o old (Ok (Ls path)) new = DoesCommand old (Ls path) new
-Does o old (Ok (Remove path)) new = DoesCommand old (Remove path) new
-Does o old (Ok Exit) new = new ≡ answered old Silent
+abbrev pub DoesByLine : Outset → Stage → Result Command LineRefusal → Stage → Type 0
+DoesByLine o old (Err (no_command at)) new = new ≡ answered old (BadCommand at)
+DoesByLine o old (Ok Nothing) new = new ≡ answered old Silent
+DoesByLine o old (Ok (Events count)) new = new ≡ record (answered old Silent) { quota = count }
+DoesByLine o old (Ok Start) new = DoesStart o old old.on new
+DoesByLine o old (Ok Stop) new = DoesStop o old old.on new
+DoesByLine o old (Ok (Create tid path len)) new = DoesCommand old (Create tid path len) new
+DoesByLine o old (Ok (CreateDir path)) new = DoesCommand old (CreateDir path) new
+DoesByLine o old (Ok (Set path index value)) new = DoesCommand old (Set path index value) new
+DoesByLine o old (Ok (Get path index)) new = DoesCommand old (Get path index) new
+DoesByLine o old (Ok (Ls path)) new = DoesCommand old (Ls path) new
+DoesByLine o old (Ok (Remove path)) new = DoesCommand old (Remove path) new
+DoesByLine o old (Ok Exit) new = new ≡ answered old Silent
 
 -- what lines do, one after the other
 abbrev pub Plays : Outset → Stage → List (Result Command LineRefusal) → Stage → Type 0
 Plays o old [] new = new ≡ old
-Plays o old (line ∷ lines) new = (between : Stage) × Does o old line between × Plays o between lines new
+Plays o old (line ∷ lines) new = (between : Stage) × DoesByLine o old line between × Plays o between lines new
 
 -- The calls that a line makes up to where it may find no memory, with whatever replies.
 
 -- a start: the session's opening, where it is not open, and the run number
 abbrev pub CallsStart : (opened : Bool) → List DatabaseEntry → Type 0
-CallsStart false calls = (reply : Result ℕ OdbRefusal) × (got : Result Held OdbRefusal) × IsSettled reply × (calls ≡ key_made reply ∷ number_asked got ∷ [])
-CallsStart true calls = (got : Result Held OdbRefusal) × (calls ≡ number_asked got ∷ [])
+CallsStart false calls = (reply : Result ℕ OdbRefusal) × (got : Result HeldValue OdbRefusal) × IsSettled reply × (calls ≡ key_made reply ∷ number_asked got ∷ [])
+CallsStart true calls = (got : Result HeldValue OdbRefusal) × (calls ≡ number_asked got ∷ [])
 
 -- of the other lines those alone find none that are commands of the database
 abbrev pub CallsLine : Stage → Result Command LineRefusal → List DatabaseEntry → Type 0

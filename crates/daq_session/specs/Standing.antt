@@ -13,7 +13,7 @@ use Rattle.daq_session.specs.declared.state.State.{State}
 use Rattle.daq_session.specs.declared.state.OpenRun.{OpenRun}
 use Rattle.daq_session.specs.FrontSets.{AreCallers}
 use Rattle.daq_session.specs.RunRecords.{IsKept}
-use Rattle.daq_session.specs.Stages.{Outset, Stage, Does, StartsRun, Interrupts}
+use Rattle.daq_session.specs.Stages.{Outset, Stage, DoesByLine, StartsRun, Interrupts}
 
 -- the order of the run that is on
 abbrev pub order_in : Option OpenRun → Option Order
@@ -51,25 +51,25 @@ abbrev pub IsReady : Seen → Option OpenRun → Type 0
 IsReady now on = MatchOption on ⊤ (λ r. IsTrue (now.writes r.file))
 
 -- What a state and the outside become in this way and with this reply, wherever the script began and whatever came before.
-pub record Leads (Way : Outset → Stage → Stage → Type 0) (o : Outset) (c : Course) (reply : Reply) (old new : State) (after : Outset) : Type 0 where
+pub record LeadsOutside (Way : Outset → Stage → Stage → Type 0) (o : Outset) (c : Course) (reply : Reply) (old new : State) (after : Outset) : Type 0 where
   pub readings : ℕ
   pub clashes : ℕ
   pub does : Way o (stage_of old c) (stage_of new (behind_reply c readings clashes reply))
   pub at : IsAt o (behind_reply c readings clashes reply) new after
 
 abbrev pub AnswersBy : (Outset → Stage → Stage → Type 0) → Reply → (old new : State) → (before after : Outset) → Type 0
-AnswersBy Way reply old new before after = (o : Outset) (c : Course) → IsAt o c old before → Leads Way o c reply old new after
+AnswersBy Way reply old new before after = (o : Outset) (c : Course) → IsAt o c old before → LeadsOutside Way o c reply old new after
 
 -- what this line does to a stage
 abbrev pub LineDoes : Result Command LineRefusal → Outset → Stage → Stage → Type 0
-LineDoes line o old new = Does o old line new
+LineDoes line o old new = DoesByLine o old line new
 
 -- how a run of this number is started
 abbrev pub RunStarts : (run : ℕ) → Outset → Stage → Stage → Type 0
 RunStarts run o old new = StartsRun o (Ok run) old new
 
-abbrev pub Answers : Result Command LineRefusal → Reply → (old new : State) → (before after : Outset) → Type 0
-Answers line = AnswersBy (LineDoes line)
+abbrev pub AnswersLine : Result Command LineRefusal → Reply → (old new : State) → (before after : Outset) → Type 0
+AnswersLine line = AnswersBy (LineDoes line)
 
 -- The line found no memory: the state is what it was but for the first of the line's calls on the database, and so is the
 -- outside.

@@ -5,7 +5,7 @@ ghost use Rattle.daq_io.specs.Counts.{CountsFault};
 ghost use Rattle.odb_script.specs.declared.forms.Command.TheVariants.{Nothing, Stop};
 ghost use Rattle.session_console.specs.Console.{is_refusal};
 ghost use Rattle.daq_session.specs.Halts.{CountsHalt};
-ghost use Rattle.daq_session.specs.Standing.{Answers, Course, Handles, IsReady, behind_reply, stage_of};
+ghost use Rattle.daq_session.specs.Standing.{AnswersLine, Course, Handles, IsReady, behind_reply, stage_of};
 ghost use Rattle.daq_session.specs.Stages.{DoesCommand, Interrupts};
 ghost use Rattle.daq_session.specs.FrontSets.{AreCallers};
 ghost use Rattle.daq_session.specs.declared.halts.Halt.TheVariants.{NoMemory as no_memory};
@@ -63,7 +63,7 @@ fn open_database(alloc: Global) -> Result<LocalDatabase<PlainTree>, NoMemory>
     Ok(LocalDatabase::new(alloc, tree))
 }
 
-/// Answers a command of the database.
+/// AnswersLine a command of the database.
 fn call(alloc: Global, state: &mut State, command: &Command<'_>) -> Result<Reply, Halt>
     requires is_call { IsSome (answer_of state.old.database.rows command.now) }
     ensures answered { IfOk result (λ reply. (c : Course)
@@ -108,7 +108,7 @@ impl Session {
         })
     }
 
-    /// Answers a line of the script: its command, or the refusal of a line that is none.
+    /// AnswersLine a line of the script: its command, or the refusal of a line that is none.
     pub fn answer<F: Files, C: Clock>(
         &mut self,
         alloc: Global,
@@ -144,7 +144,7 @@ impl Session {
         clock: &mut C,
     ) -> Result<Reply, Failed>
         requires ready { IsReady (F.seen files.old) self.old.state.current }
-        ensures did { IfOk result (λ reply. Answers (Ok Stop) reply self.old.state self.new.state (record { files = F.seen files.old; clashes = F.clashes files.old; clock_tells = C.tells clock.old; ahead = C.ahead clock.old }) (record { files = F.seen files.new; clashes = F.clashes files.new; clock_tells = C.tells clock.new; ahead = C.ahead clock.new })) }
+        ensures did { IfOk result (λ reply. AnswersLine (Ok Stop) reply self.old.state self.new.state (record { files = F.seen files.old; clashes = F.clashes files.old; clock_tells = C.tells clock.old; ahead = C.ahead clock.old }) (record { files = F.seen files.new; clashes = F.clashes files.new; clock_tells = C.tells clock.new; ahead = C.ahead clock.new })) }
         ensures idle { OnOk result (self.new.state.current ≡ None) }
         ensures accepted { IfOk result (λ reply. IsSome self.old.state.current → is_refusal reply ≡ false) }
         ensures faults { CountsFault (F.faults files.old) (F.faults files.new) result }

@@ -15,8 +15,8 @@ ghost use Rattle.odb_journal.specs.Noted.{KeepsCalls};
 ghost use Rattle.session_console.specs.FrontNames.{front_name};
 ghost use Rattle.daq_session.specs.RunNames.{run_name};
 ghost use Rattle.daq_session.specs.FrontSets.{AreCallers};
-ghost use Rattle.daq_session.specs.Stages.{Interrupts, Opens, completed_record, file_record, refused_record};
-ghost use Rattle.daq_session.specs.Standing.{Answers, Course, Handles, HandlesRun, IsReady, stage_of};
+ghost use Rattle.daq_session.specs.Stages.{Interrupts, OpensSession, completed_record, file_record, refused_record};
+ghost use Rattle.daq_session.specs.Standing.{AnswersLine, Course, Handles, HandlesRun, IsReady, stage_of};
 ghost use Rattle.odb_script.specs.declared.forms.Command.TheVariants.{Start, Stop};
 ghost use Rattle.daq_session.specs.Halts.{CountsHalt};
 
@@ -68,10 +68,10 @@ fn front_name() -> Name
     }
 }
 
-/// Opens the session, where no start did so before. No run is on.
+/// OpensSession the session, where no start did so before. No run is on.
 fn open_session(alloc: Global, state: &mut State) -> Result<(), NoMemory>
     requires idle { state.old.current ≡ None }
-    ensures opens { OnOk result ((c : Course) → Opens state.old.opened (stage_of state.old c) (stage_of state.new c)) }
+    ensures opens { OnOk result ((c : Course) → OpensSession state.old.opened (stage_of state.old c) (stage_of state.new c)) }
     ensures interrupted { OnErr result ((c : Course) → Interrupts (Ok Start) (stage_of state.old c) (stage_of state.new c)) }
     ensures callers { AreCallers state.old.database.history → AreCallers state.new.database.history }
     ensures current { state.new.current ≡ state.old.current }
@@ -203,7 +203,7 @@ fn no_number(refusal: RunNumber) -> Reply
     Reply::RunNumber { have: refusal.have }
 }
 
-/// Answers `start`.
+/// AnswersLine `start`.
 pub fn start<F: Files, C: Clock>(
     alloc: Global,
     state: &mut State,
@@ -247,7 +247,7 @@ pub fn start<F: Files, C: Clock>(
     }
 }
 
-/// Answers `stop`: the front-end sends its events, and the run's file is ended.
+/// AnswersLine `stop`: the front-end sends its events, and the run's file is ended.
 pub fn stop<F: Files, C: Clock>(
     alloc: Global,
     state: &mut State,
@@ -266,7 +266,7 @@ pub fn stop<F: Files, C: Clock>(
     requires bytes { ForSome state.old.current (λ r. 80 * r.order.quota ≤ path.old.port.bytes) }
     requires told { ∥ IsStanding path.old.port.history (accepted_of path.old.port.window) state.old.starts state.old.runs.items state.old.current ∥₁ }
     requires ready { IsReady (F.seen files.old) state.old.current }
-    ensures did { IfOk result (λ reply. Answers (Ok Stop) reply state.old state.new (record { files = F.seen files.old; clashes = F.clashes files.old; clock_tells = C.tells clock.old; ahead = C.ahead clock.old }) (record { files = F.seen files.new; clashes = F.clashes files.new; clock_tells = C.tells clock.new; ahead = C.ahead clock.new })) }
+    ensures did { IfOk result (λ reply. AnswersLine (Ok Stop) reply state.old state.new (record { files = F.seen files.old; clashes = F.clashes files.old; clock_tells = C.tells clock.old; ahead = C.ahead clock.old }) (record { files = F.seen files.new; clashes = F.clashes files.new; clock_tells = C.tells clock.new; ahead = C.ahead clock.new })) }
     ensures idle { OnOk result (state.new.current ≡ None) }
     ensures accepted { IfOk result (λ reply. IsSome state.old.current → is_refusal reply ≡ false) }
     ensures shut { ForNone state.new.current (path.new.port.window.gate ≡ Shut) }

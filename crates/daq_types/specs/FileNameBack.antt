@@ -4,12 +4,12 @@ use Rattle.daq_types.specs.Names.{IsPadded, IsFileName, padded_back, length-take
 use Rattle.daq_types.specs.declared.file_names.FileName.TheInside.{Inside}
 
 -- what every name of a file keeps
-pub record IsStored (n : Inside) : Type 0 where
+pub record IsStoredFileName (n : Inside) : Type 0 where
   pub padded : IsPadded 255 n.bytes n.len
   pub name : IsFileName (take n.len n.bytes)
 
 abbrev pub stored : List ℕ → Inside
 stored text = record { bytes = text ++ replicate (255 - length text) 0; len = length text }
 
-pub stored_back : (n : Inside) → IsStored n → stored (take n.len n.bytes) ≡ n
+pub stored_back : (n : Inside) → IsStoredFileName n → stored (take n.len n.bytes) ≡ n
 stored_back n h = rw (padded_back 255 n.bytes n.len h.padded, length-take-padded 255 n.bytes n.len h.padded) refl

@@ -4,12 +4,12 @@ use Rattle.daq_types.specs.Names.{IsPadded, IsName, padded_back, length-take-pad
 use Rattle.daq_types.specs.declared.names.Name.TheInside.{Inside}
 
 -- what every name keeps
-pub record IsStored (n : Inside) : Type 0 where
+pub record IsStoredName (n : Inside) : Type 0 where
   pub padded : IsPadded 31 n.bytes n.len
   pub name : IsName (take n.len n.bytes)
 
 abbrev pub stored : List ℕ → Inside
 stored text = record { bytes = text ++ replicate (31 - length text) 0; len = length text }
 
-pub stored_back : (n : Inside) → IsStored n → stored (take n.len n.bytes) ≡ n
+pub stored_back : (n : Inside) → IsStoredName n → stored (take n.len n.bytes) ≡ n
 stored_back n h = rw (padded_back 31 n.bytes n.len h.padded, length-take-padded 31 n.bytes n.len h.padded) refl

@@ -23,11 +23,11 @@ impl Model for FileName {
 
     ghost Value = { List ℕ };
 
-    ghost use Rattle.daq_types.specs.FileNameBack.{IsStored, stored, stored_back};
+    ghost use Rattle.daq_types.specs.FileNameBack.{IsStoredFileName, stored, stored_back};
 
     ghost view = { λ n. take n.len n.bytes };
 
-    ghost invariant = { IsStored };
+    ghost invariant = { IsStoredFileName };
 
     ghost inverse = { stored };
 

@@ -32,11 +32,11 @@ impl Model for Name {
 
     ghost Value = { List ℕ };
 
-    ghost use Rattle.daq_types.specs.NameBack.{IsStored, stored, stored_back};
+    ghost use Rattle.daq_types.specs.NameBack.{IsStoredName, stored, stored_back};
 
     ghost view = { λ n. take n.len n.bytes };
 
-    ghost invariant = { IsStored };
+    ghost invariant = { IsStoredName };
 
     ghost inverse = { stored };
 

@@ -1,11 +1,11 @@
 -- Room that was filled with a header and data.
 use Rattle.std.proofs.Common.{◌≡◌, ℕ, ◌+◌, List, [], ◌++◌, length, drop, refl, sym, ap, ◌∙◌, length-append}
 use Rattle.daq_types.specs.declared.events.Event.{Event}
-use Rattle.event_header.specs.Held.{Held}
+use Rattle.event_header.specs.Held.{HeldEvent}
 use Rattle.event_header.specs.Headers.{event_of, header_encoding, length-header_encoding, drop-header_encoding}
 use Rattle.event_header.specs.declared.head.Header.{Header}
 
-abbrev pub held : Event → ℕ → Held
+abbrev pub held : Event → ℕ → HeldEvent
 held event room = record { event = event; room = room }
 
 pub filled_items : (h : Header) (cleared head middle body items : List ℕ) → cleared ≡ [] → head ≡ header_encoding h → middle ≡ cleared ++ head → items ≡ middle ++ body → items ≡ header_encoding h ++ body

@@ -2,7 +2,7 @@
 use Rattle.std.proofs.Common.{◌≡◌, ◌∙◌, ℕ, List, ◌++◌, length, drop, take, Option, Result, IfOk, Ok, Err, ap, sym}
 use Rattle.std.proofs.lemmas.List.{drop_at, take_at}
 use Rattle.daq_types.specs.declared.events.Event.{Event}
-use Rattle.event_header.specs.Held.{Held}
+use Rattle.event_header.specs.Held.{HeldEvent}
 use Rattle.event_header.specs.Pieces.{Gathers, GathersBody}
 use Rattle.event_header.specs.Headers.{event_of, header_encoding, length-header_encoding}
 use Rattle.event_header.specs.declared.head.Header.{Header}
@@ -20,11 +20,11 @@ pub head_of : (h : Header) (items front : List ℕ) → items ≡ header_encodin
 head_of h items front e is_front = is_front ∙ ap (take 16) e ∙ take_at (header_encoding h) (drop 16 items) 16 (length-header_encoding h)
 
 -- The header was taken before, with some data, and then these data were gathered.
-pub gathered : (before after : Option (List ℕ)) (h own : Header) (held : Held) (room : ℕ) (old stale body : List ℕ) (count : ℕ)
+pub gathered : (before after : Option (List ℕ)) (h own : Header) (held : HeldEvent) (room : ℕ) (old stale body : List ℕ) (count : ℕ)
     → record { event = event_of own old; room = room } ≡ record held { event = event_of h stale } → length stale ≡ h.data_size → length body ≡ length old
     → Gathers before after body count → GathersBody before after h (record { event = event_of own body; room = room }) count
 gathered before after h own held room old stale body count e len same p =
-    let events : event_of own old ≡ event_of h stale = ap (λ (x : Held). x.event) e in
+    let events : event_of own old ≡ event_of h stale = ap (λ (x : HeldEvent). x.event) e in
     record {
       body = body;
       event = ap (λ (x : Event). record x { body = body }) events;

@@ -1,10 +1,10 @@
 -- How an event's room holds it.
 use Rattle.std.specs.Prelude.{◌≡◌, ◌≤◌, ◌+◌, ◌++◌, length, drop, vec_capacity}
 use Rattle.event_header.specs.Headers.{event_of, header_encoding}
-use Rattle.event_header.specs.Held.{Held}
+use Rattle.event_header.specs.Held.{HeldEvent}
 use Rattle.event_header.specs.declared.event_buf.EventBuf.TheInside.{Inside}
 
-abbrev pub held_of : Inside → Held
+abbrev pub held_of : Inside → HeldEvent
 held_of b = record { event = event_of b.header (drop 16 b.bytes.items); room = b.room }
 
 -- the bytes are the header's and the data behind them, and there is room for the longest event

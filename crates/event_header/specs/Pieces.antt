@@ -2,7 +2,7 @@
 use Rattle.std.specs.Prelude.{◌≡◌, ℕ, ◌≤◌, ◌<◌, List, length, take, Option}
 use Rattle.std.specs.Io.KnownBytes.{Consumes, IsAtEnd}
 use Rattle.event_header.specs.Headers.{event_of}
-use Rattle.event_header.specs.Held.{Held}
+use Rattle.event_header.specs.Held.{HeldEvent}
 use Rattle.event_header.specs.declared.head.Header.{Header}
 
 -- So many of these bytes, from the front, were taken from a source: all of them, or all that the source had.
@@ -12,7 +12,7 @@ pub record Gathers (before after : Option (List ℕ)) (bytes : List ℕ) (count 
   pub ended : count < length bytes → IsAtEnd after
 
 -- Room that holds an event with this header, of whose data so many bytes were taken from a source.
-pub record GathersBody (before after : Option (List ℕ)) (header : Header) (held : Held) (count : ℕ) : Type 0 where
+pub record GathersBody (before after : Option (List ℕ)) (header : Header) (held : HeldEvent) (count : ℕ) : Type 0 where
   pub body : List ℕ
   pub event : held.event ≡ event_of header body
   pub stated : length body ≡ header.data_size

@@ -30,9 +30,9 @@ pub struct TooSmall {
 }
 
 impl Model for EventBuf {
-    ghost use Rattle.event_header.specs.Held.{Held};
+    ghost use Rattle.event_header.specs.Held.{HeldEvent};
 
-    ghost Value = { Held };
+    ghost Value = { HeldEvent };
 
     ghost use Rattle.event_header.specs.Filled.{held_of, IsFilled};
 

@@ -17,7 +17,7 @@ use Rattle.std.proofs.lemmas.List.Elements.{All-append, All-take, All-drop, All-
 use Rattle.event_report.specs.Listing.{row_limit, has, placed}
 use Rattle.event_report.specs.Steps.{takes, changed, rows_after}
 use Rattle.event_report.specs.Held.{IsRising, IsTable}
-use Rattle.event_report.specs.Found.{StandsAt, FitsAt}
+use Rattle.event_report.specs.Found.{IsRowAt, FitsAt}
 
 pub unequal : (a b : ℕ) → a ≢ b → eqb a b ≡ false
 unequal a b ne = elim (eqb_tells a b) [ inl h ↦ absurd (ne h.1) | inr h ↦ h.0 ]
@@ -58,7 +58,7 @@ searchable number n rows up i j d le below =
 -- what the search answers
 pub found_or_fits : {R : Type 0} (number : R → ℕ) (n : ℕ) (rows : List R) (r : Result ℕ ℕ) → IsRising number rows
     → IsBinarySearchResult (λ y. nat_cmp (number y) n) rows r → IsSearchInRange r (length rows)
-    → MatchResult r (StandsAt number n rows) (FitsAt number n rows)
+    → MatchResult r (IsRowAt number n rows) (FitsAt number n rows)
 found_or_fits number n rows (Ok i) up is range =
     record { below = range; is = λ d. equal_if (number (get_or rows i d)) n _ refl (is d) }
 found_or_fits number n rows (Err i) up is range =
@@ -180,7 +180,7 @@ or_true : (b : Bool) → (b || true) ≡ true
 or_true true = refl
 or_true false = refl
 
-has_at : {R : Type 0} (number : R → ℕ) (n : ℕ) (rows : List R) (at : ℕ) → StandsAt number n rows at → has number n rows ≡ true
+has_at : {R : Type 0} (number : R → ℕ) (n : ℕ) (rows : List R) (at : ℕ) → IsRowAt number n rows at → has number n rows ≡ true
 has_at number n [] at stands = absurd (omega (arith, stands.below))
 has_at number n (r ∷ rows) zero stands = let e : eqb (number r) n ≡ true = eq-eqb _ _ (stands.is r) in rw e refl
 has_at number n (r ∷ rows) (suc at) stands =
@@ -201,10 +201,10 @@ not_there number n rows at fits =
     ])
 
 -- a row that was found is changed
-pub takes_found : {R : Type 0} (number : R → ℕ) (n : ℕ) (rows : List R) (at : ℕ) → StandsAt number n rows at → takes number n rows ≡ true
+pub takes_found : {R : Type 0} (number : R → ℕ) (n : ℕ) (rows : List R) (at : ℕ) → IsRowAt number n rows at → takes number n rows ≡ true
 takes_found number n rows at stands = let e = has_at number n rows at stands in rw e refl
 
-pub after_found : {R : Type 0} (number : R → ℕ) (n : ℕ) (change : R → R) (fresh : R) (rows : List R) (at : ℕ) (v d : R) → IsRising number rows → StandsAt number n rows at
+pub after_found : {R : Type 0} (number : R → ℕ) (n : ℕ) (change : R → R) (fresh : R) (rows : List R) (at : ℕ) (v d : R) → IsRising number rows → IsRowAt number n rows at
     → v ≡ change (get_or rows at d) → slice_set rows at v ≡ rows_after number n change fresh rows
 after_found number n change fresh rows at v d up stands is =
     let e = has_at number n rows at stands in

@@ -2,7 +2,7 @@
 use Rattle.std.specs.Prelude.{◌≡◌, ℕ, ◌<◌, ◌≤◌, List, length, slice_index_or}
 
 -- the row at this index has this number
-pub record StandsAt {R : Type 0} (number : R → ℕ) (n : ℕ) (rows : List R) (at : ℕ) : Type 0 where
+pub record IsRowAt {R : Type 0} (number : R → ℕ) (n : ℕ) (rows : List R) (at : ℕ) : Type 0 where
   pub below : at < length rows
   pub is : (d : R) → number (slice_index_or rows at d) ≡ n
 

@@ -37,7 +37,7 @@ abbrev pub weight : List BankValue → ℕ
 weight banks = sum_by (λ b. 1 + length b.body) banks
 
 -- the bytes of the events bound each count
-pub record IsHeld (bytes events : ℕ) (ids : IdTally) (banks : BankTally) (bad : ℕ) : Type 0 where
+pub record IsWithinBytes (bytes events : ℕ) (ids : IdTally) (banks : BankTally) (bad : ℕ) : Type 0 where
   pub most : bytes ≤ 2 ^ 62
   pub events_within : events ≤ bytes
   pub ids_within : IdsWithin bytes ids

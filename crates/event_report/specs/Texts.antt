@@ -10,8 +10,8 @@ use Rattle.event_report.specs.Integers.{tid_of}
 use Rattle.event_report.specs.Reports.{Totals}
 
 -- The text has the first one in front.
-abbrev pub Begins : (first text : List ℕ) → Type 0
-Begins first text = take (length first) text ≡ first
+abbrev pub HasInFront : (first text : List ℕ) → Type 0
+HasInFront first text = take (length first) text ≡ first
 
 -- a byte of a bank's name as it is printed: a point where it is no visible character
 abbrev pub visible : ℕ → ℕ

@@ -6,7 +6,7 @@ ghost use Rattle.event_report.specs.EventBanks.{integer_bank};
 ghost use Rattle.event_report.specs.Tallies.{bank_tally};
 ghost use Rattle.event_report.specs.Steps.{takes, row_number, bank_rows_after, banks_after};
 ghost use Rattle.event_report.specs.Held.{IsRising, IsTable, FiguresWithin, BanksWithin, weight};
-ghost use Rattle.event_report.specs.Found.{StandsAt, FitsAt};
+ghost use Rattle.event_report.specs.Found.{IsRowAt, FitsAt};
 
 use crate::figures::{join, read_figures};
 use crate::integers::IntegerType;
@@ -39,7 +39,7 @@ impl Model for BankTable {
 /// Where the row with this number stands, or where it would.
 fn find_row(rows: &[BankRow], number: u64) -> Result<usize, usize>
     requires { IsRising row_number rows.now }
-    ensures { MatchResult result (StandsAt row_number number rows.now) (FitsAt row_number number rows.now) }
+    ensures { MatchResult result (IsRowAt row_number number rows.now) (FitsAt row_number number rows.now) }
 {
     rows.binary_search_by_key(&number, |row| order_number(row.name, row.kind))
 }

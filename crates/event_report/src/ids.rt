@@ -3,7 +3,7 @@ ghost use Rattle.event_report.specs.Listing.{row_limit};
 ghost use Rattle.event_report.specs.Tallies.{id_tally};
 ghost use Rattle.event_report.specs.Steps.{takes, id_of, id_rows_after, id_tally_after};
 ghost use Rattle.event_report.specs.Held.{IsRising, IsTable, IdsWithin};
-ghost use Rattle.event_report.specs.Found.{StandsAt, FitsAt};
+ghost use Rattle.event_report.specs.Found.{IsRowAt, FitsAt};
 
 use crate::rows::{IdRow, ROW_LIMIT};
 use daq_types::NoMemory;
@@ -33,7 +33,7 @@ impl Model for IdTable {
 /// Where the row of an id stands, or where it would.
 fn find_id(rows: &[IdRow], id: u16) -> Result<usize, usize>
     requires { IsRising id_of rows.now }
-    ensures { MatchResult result (StandsAt id_of id rows.now) (FitsAt id_of id rows.now) }
+    ensures { MatchResult result (IsRowAt id_of id rows.now) (FitsAt id_of id rows.now) }
 {
     rows.binary_search_by_key(&id, |row| row.id)
 }

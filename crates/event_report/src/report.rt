@@ -2,7 +2,7 @@ ghost use Rattle.std.specs.Prelude.{◌≡◌, ◌+◌, ◌≤◌, ◌^◌, ◌�
 ghost use Rattle.daq_types.specs.declared.events.Event.{Event};
 ghost use Rattle.event_header.specs.Headers.{event_of};
 ghost use Rattle.event_report.specs.Reports.{report_of};
-ghost use Rattle.event_report.specs.Texts.{Begins, events_text, line, report_text, rest_text};
+ghost use Rattle.event_report.specs.Texts.{HasInFront, events_text, line, report_text, rest_text};
 
 use crate::banks::BankTable;
 use crate::ids::IdTable;
@@ -29,11 +29,11 @@ impl Model for Report {
 
     ghost Value = { Totals };
 
-    ghost use Rattle.event_report.specs.Held.{IsHeld};
+    ghost use Rattle.event_report.specs.Held.{IsWithinBytes};
 
     ghost view = { λ r. record { bytes = r.bytes; events = r.events; ids = r.ids; banks = r.banks; bad = r.bad } };
 
-    ghost invariant = { λ r. IsHeld r.bytes r.events r.ids r.banks r.bad };
+    ghost invariant = { λ r. IsWithinBytes r.bytes r.events r.ids r.banks r.bad };
 }
 
 impl Report {
@@ -85,7 +85,7 @@ impl Report {
     /// Appends the line of the events.
     fn append_events(&self, start: &[u8], out: &mut TextBuffer) -> Result<(), NoMemory>
         ensures added { OnOk result (out.new ≡ out.old ++ line start.now (events_text self.now)) }
-        ensures begins { OnErr result (Begins out.old out.new) }
+        ensures begins { OnErr result (HasInFront out.old out.new) }
     {
         out.text(start)?;
         append_named(b"events ", self.events, out)?;
@@ -95,7 +95,7 @@ impl Report {
     /// Appends the line of what has no row.
     fn append_rest(&self, start: &[u8], out: &mut TextBuffer) -> Result<(), NoMemory>
         ensures added { OnOk result (out.new ≡ out.old ++ line start.now (rest_text self.now)) }
-        ensures begins { OnErr result (Begins out.old out.new) }
+        ensures begins { OnErr result (HasInFront out.old out.new) }
     {
         out.text(start)?;
         append_named(b"rest ids ", self.ids.rest(), out)?;
@@ -108,7 +108,7 @@ impl Report {
     #[tactic(auto, unfolding(crate::specs::Texts::report_text))]
     fn append(&self, start: &[u8], out: &mut TextBuffer) -> Result<(), NoMemory>
         ensures added { OnOk result (out.new ≡ out.old ++ report_text start.now self.now) }
-        ensures begins { OnErr result (Begins out.old out.new) }
+        ensures begins { OnErr result (HasInFront out.old out.new) }
     {
         self.append_events(start, out)?;
         append_ids(self.ids.rows(), start, out)?;

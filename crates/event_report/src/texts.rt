@@ -2,7 +2,7 @@ ghost use Rattle.std.specs.Prelude.{◌≡◌, ◌++◌, OnOk, OnErr, map};
 ghost use Rattle.std.specs.Fmt.{decimal};
 ghost use Rattle.std.specs.List.{flat_map};
 ghost use Rattle.event_report.specs.Texts as texts;
-ghost use Rattle.event_report.specs.Texts.{Begins, bank_text, figures_text, id_text, kind_text, line};
+ghost use Rattle.event_report.specs.Texts.{HasInFront, bank_text, figures_text, id_text, kind_text, line};
 
 use crate::rows::{BankRow, Figures, IdRow};
 use daq_text::TextBuffer;
@@ -31,7 +31,7 @@ fn append_name(name: [u8; 4], text: &mut TextBuffer) -> Result<(), NoMemory>
 /// Appends words and a number.
 pub fn append_named(name: &[u8], number: u64, text: &mut TextBuffer) -> Result<(), NoMemory>
     ensures added { OnOk result (text.new ≡ text.old ++ (name.now ++ decimal number)) }
-    ensures begins { OnErr result (Begins text.old text.new) }
+    ensures begins { OnErr result (HasInFront text.old text.new) }
 {
     text.text(name)?;
     text.number(number)
@@ -40,7 +40,7 @@ pub fn append_named(name: &[u8], number: u64, text: &mut TextBuffer) -> Result<(
 /// Appends the line of an id.
 fn append_id(row: &IdRow, start: &[u8], text: &mut TextBuffer) -> Result<(), NoMemory>
     ensures added { OnOk result (text.new ≡ text.old ++ line start.now (id_text row.now)) }
-    ensures begins { OnErr result (Begins text.old text.new) }
+    ensures begins { OnErr result (HasInFront text.old text.new) }
 {
     text.text(start)?;
     append_named(b"id ", row.id as u64, text)?;
@@ -51,7 +51,7 @@ fn append_id(row: &IdRow, start: &[u8], text: &mut TextBuffer) -> Result<(), NoM
 /// Appends the name and the type of banks.
 fn append_kind(row: &BankRow, text: &mut TextBuffer) -> Result<(), NoMemory>
     ensures added { OnOk result (text.new ≡ text.old ++ kind_text row.now) }
-    ensures begins { OnErr result (Begins text.old text.new) }
+    ensures begins { OnErr result (HasInFront text.old text.new) }
 {
     text.text(b"bank ")?;
     append_name(row.name, text)?;
@@ -62,7 +62,7 @@ fn append_kind(row: &BankRow, text: &mut TextBuffer) -> Result<(), NoMemory>
 /// Appends figures.
 fn append_figures(figures: &Figures, text: &mut TextBuffer) -> Result<(), NoMemory>
     ensures added { OnOk result (text.new ≡ text.old ++ figures_text figures.now) }
-    ensures begins { OnErr result (Begins text.old text.new) }
+    ensures begins { OnErr result (HasInFront text.old text.new) }
 {
     append_named(b" count ", figures.count, text)?;
     text.text(b" sum ")?;
@@ -76,7 +76,7 @@ fn append_figures(figures: &Figures, text: &mut TextBuffer) -> Result<(), NoMemo
 /// Appends the line of a name and type of banks.
 fn append_bank(row: &BankRow, start: &[u8], text: &mut TextBuffer) -> Result<(), NoMemory>
     ensures added { OnOk result (text.new ≡ text.old ++ line start.now (bank_text row.now)) }
-    ensures begins { OnErr result (Begins text.old text.new) }
+    ensures begins { OnErr result (HasInFront text.old text.new) }
 {
     text.text(start)?;
     append_kind(row, text)?;
@@ -87,7 +87,7 @@ fn append_bank(row: &BankRow, start: &[u8], text: &mut TextBuffer) -> Result<(),
 /// Appends the lines of ids.
 pub fn append_ids(rows: &[IdRow], start: &[u8], text: &mut TextBuffer) -> Result<(), NoMemory>
     ensures added { OnOk result (text.new ≡ text.old ++ flat_map (λ r. line start.now (id_text r)) rows.now) }
-    ensures begins { OnErr result (Begins text.old text.new) }
+    ensures begins { OnErr result (HasInFront text.old text.new) }
 {
     for row in rows {
         append_id(row, start, text)?;
@@ -98,7 +98,7 @@ pub fn append_ids(rows: &[IdRow], start: &[u8], text: &mut TextBuffer) -> Result
 /// Appends the lines of names and types of banks.
 pub fn append_banks(rows: &[BankRow], start: &[u8], text: &mut TextBuffer) -> Result<(), NoMemory>
     ensures added { OnOk result (text.new ≡ text.old ++ flat_map (λ r. line start.now (bank_text r)) rows.now) }
-    ensures begins { OnErr result (Begins text.old text.new) }
+    ensures begins { OnErr result (HasInFront text.old text.new) }
 {
     for row in rows {
         append_bank(row, start, text)?;

@@ -6,7 +6,7 @@ use Rattle.std.proofs.lemmas.List.Sums.{sum_by-cons}
 use Rattle.buffer_core.specs.declared.entry.BufferEntry.{BufferEntry}
 use Rattle.buffer_core.specs.declared.entry.BufferEntry.TheVariants.{Send, SendInRun}
 use Rattle.local_port.specs.declared.journal.Line.{Line}
-use Rattle.local_port.specs.Journals.{entries_of, entry_with, size_of_line, AreBehind, IsApart, AreApart}
+use Rattle.local_port.specs.Journals.{entries_of, entry_with, size_of_line, AreBehind, IsApart, AreSized}
 
 pub length-entries_of : (lines : List Line) (bytes : List ℕ) → length (entries_of lines bytes) ≡ length lines
 length-entries_of [] bytes = refl
@@ -37,11 +37,11 @@ apart_same (Send stated e reply) body other same apart = record { bare = apart.b
 apart_same (SendInRun start stated e reply) body other same apart = record { bare = apart.bare; whole = refl }
 apart_same entry body other same apart = record { bare = apart.bare; whole = same ∙ apart.whole }
 
-pub apart_push : (lines : List Line) (l : Line) → AreApart lines → ((body : List ℕ) → length body ≡ l.size → IsApart l.entry body) → AreApart (lines ++ l ∷ [])
+pub apart_push : (lines : List Line) (l : Line) → AreSized lines → ((body : List ℕ) → length body ≡ l.size → IsApart l.entry body) → AreSized (lines ++ l ∷ [])
 apart_push [] l apart here = (here, tt)
 apart_push (q ∷ qs) l apart here = (apart.0, apart_push qs l apart.1 here)
 
-apart_at : (lines : List Line) (number : ℕ) (l : Line) (body : List ℕ) → AreApart lines → slice_get lines number ≡ Some l → length body ≡ l.size → IsApart l.entry body
+apart_at : (lines : List Line) (number : ℕ) (l : Line) (body : List ℕ) → AreSized lines → slice_get lines number ≡ Some l → length body ≡ l.size → IsApart l.entry body
 apart_at [] number l body apart is stated = absurd (cc)
 apart_at (q ∷ qs) zero l body apart is stated =
     let same : q ≡ l = cc in
@@ -83,5 +83,5 @@ pub line_is : (lines : List Line) (bytes : List ℕ) (number : ℕ) (l : Line) �
 line_is lines bytes number l behind whole within is =
     line_at lines bytes 0 number l behind (omega (arith, whole)) (get_at lines number l within ∙ ap (λ (x : Line). Some x) (sym is))
 
-pub line_apart : (lines : List Line) (number : ℕ) (l : Line) (body : List ℕ) → AreApart lines → number < length lines → l ≡ get_or lines number l → length body ≡ l.size → IsApart l.entry body
+pub line_apart : (lines : List Line) (number : ℕ) (l : Line) (body : List ℕ) → AreSized lines → number < length lines → l ≡ get_or lines number l → length body ≡ l.size → IsApart l.entry body
 line_apart lines number l body apart within is stated = apart_at lines number l body apart (get_at lines number l within ∙ ap (λ (x : Line). Some x) (sym is)) stated

@@ -18,7 +18,7 @@ use Rattle.buffer_core.specs.Window.{Window, accepted_of}
 use Rattle.buffer_core.specs.Calls.{IsReply, window_after, no_slot, joined, with_request, going_on, pushed, gone_of}
 use Rattle.buffer_core.specs.Histories.{IsLegal, replay}
 use Rattle.buffer_core.specs.Ports.{IsGivenAt, IsNewNumber, knowing}
-use Rattle.local_port.specs.Ported.{Ported, Does, access_of, detaches, is_taken_back, taken_back_of, taken_back_in}
+use Rattle.local_port.specs.Ported.{Ported, AppendsCall, access_of, detaches, is_taken_back, taken_back_of, taken_back_in}
 use Rattle.local_port.proofs.GotLaws.{set_either}
 
 -- the client of this number lives
@@ -177,12 +177,12 @@ taken_back_in-push by call (x ∷ xs) e =
     ∙ (ap (λ (ns : List ℕ). if x.0 == by then taken_back_of by call x.1 xs ++ ns else taken_back_in by call (xs ++ (by, e) ∷ [])) (taken_back_in-push by (suc call) xs e)
     ∙ ap (λ (ns : List ℕ). if x.0 == by then taken_back_of by call x.1 xs ++ taken_back_in by (suc call) xs else ns) (taken_back_in-push by call xs e))
 
-pub taken_back_same : (p q : Ported) (e : BufferEntry) → Does p q e → taken_back_in q.caller 0 q.history ≡ taken_back_in p.caller 0 p.history
+pub taken_back_same : (p q : Ported) (e : BufferEntry) → AppendsCall p q e → taken_back_in q.caller 0 q.history ≡ taken_back_in p.caller 0 p.history
 taken_back_same p q e does =
     ap (λ (n : ℕ). taken_back_in n 0 q.history) does.caller ∙ (ap (taken_back_in p.caller 0) does.history ∙ taken_back_in-push p.caller 0 p.history e)
 
 -- the number that an attach gives is none of a client that the caller has
-pub new_number : (p q : Ported) (name : List ℕ) (reply : Result ℕ NoSlot) → Does p q (Attach name reply) → IfOk reply (IsNewNumber (knowing (access_of p) (access_of q)))
+pub new_number : (p q : Ported) (name : List ℕ) (reply : Result ℕ NoSlot) → AppendsCall p q (Attach name reply) → IfOk reply (IsNewNumber (knowing (access_of p) (access_of q)))
 new_number p q name (Err r) does = tt
 new_number p q name (Ok n) does = λ call given.
     let gone : LivesIn (replay p.start p.history).clients n → ⊥ =

@@ -15,7 +15,7 @@ use Rattle.buffer_core.specs.Calls.{IsReply, window_after, event_after}
 use Rattle.buffer_core.specs.Histories.{IsLegal, replay}
 use Rattle.buffer_core.specs.HistoryLaws.{replay-push, legal_push, window_replays, room_enough}
 use Rattle.buffer_core.specs.Ports.{GotEvent, Called, Calls, Receives, got_after, slots_got, GivesSound, IsSmallBuf}
-use Rattle.local_port.specs.Ported.{Ported, IsPorted, Does, access_of, given_by, given_in, taken_back_in}
+use Rattle.local_port.specs.Ported.{Ported, IsPorted, AppendsCall, access_of, given_by, given_in, taken_back_in}
 use Rattle.local_port.proofs.GotLaws.{IsGot, got_is, given_is, slots_few}
 use Rattle.local_port.proofs.NumberLaws.{taken_back_same}
 
@@ -35,7 +35,7 @@ ported_next p w' h' entries bytes e is reply after pushed =
     let both = ported_push p.start p.window w' p.history h' p.caller e is.legal is.replayed reply after pushed in
     record { opens = is.opens; legal = both.0; replayed = both.1 }
 
-pub ported_does : (p q : Ported) (e : BufferEntry) → Does p q e → IsPorted q
+pub ported_does : (p q : Ported) (e : BufferEntry) → AppendsCall p q e → IsPorted q
 ported_does p q e does =
     let both = ported_push p.start p.window q.window p.history q.history p.caller e does.from.legal does.from.replayed does.reply does.window does.history in
     record {
@@ -87,7 +87,7 @@ size_stays w (Level reply) = refl
 size_stays w (Accepted reply) = refl
 
 -- each call is one of its caller
-pub called : (p q : Ported) (e : BufferEntry) → Does p q e → Called (access_of p) (access_of q) e (given_in p.caller p.start p.history ++ given_by p.window e)
+pub called : (p q : Ported) (e : BufferEntry) → AppendsCall p q e → Called (access_of p) (access_of q) e (given_in p.caller p.start p.history ++ given_by p.window e)
 called p q e does =
     let given : given_in p.caller p.start (p.history ++ (p.caller, e) ∷ []) ≡ given_in p.caller p.start p.history ++ given_by p.window e =
     given_in-push p.caller p.start p.history e ∙ ap (λ (w : Window). given_in p.caller p.start p.history ++ given_by w e) (sym does.from.replayed) in
@@ -105,7 +105,7 @@ called p q e does =
     }
 
 -- a call that gives no event
-pub calls : (p q : Ported) (e : BufferEntry) → given_by p.window e ≡ [] → Does p q e → Calls (access_of p) (access_of q) e
+pub calls : (p q : Ported) (e : BufferEntry) → given_by p.window e ≡ [] → AppendsCall p q e → Calls (access_of p) (access_of q) e
 calls p q e none does =
     subst (Called (access_of p) (access_of q) e) (ap (λ (gs : List GotEvent). given_in p.caller p.start p.history ++ gs) none ∙ append-nil (given_in p.caller p.start p.history)) (called p q e does)
 
@@ -131,13 +131,13 @@ giving w client room NoReader held held' is reply after = record { got = append-
 giving w client room (SmallBuf need) held held' is reply after = record { got = append-nil; sound = tt }
 
 -- a receive
-pub receives : (p q : Ported) (client room : ℕ) (reply : Received) (held held' : Event) → Does p q (Receive client room reply) → held' ≡ event_after held p.window reply
+pub receives : (p q : Ported) (client room : ℕ) (reply : Received) (held held' : Event) → AppendsCall p q (Receive client room reply) → held' ≡ event_after held p.window reply
     → Receives (access_of p) (access_of q) client room reply held'
 receives p q client room reply held held' does after =
     let giving' : IsGiving p.window client reply held held' = giving p.window client room reply held held' (ported_window p does.from) does.reply after in
     subst (Called (access_of p) (access_of q) (Receive client room reply)) (giving'.got (given_in p.caller p.start p.history)) (called p q (Receive client room reply) does)
 
-pub gives_sound : (p q : Ported) (client room : ℕ) (reply : Received) (held held' : Event) → Does p q (Receive client room reply) → held' ≡ event_after held p.window reply → GivesSound reply held'
+pub gives_sound : (p q : Ported) (client room : ℕ) (reply : Received) (held held' : Event) → AppendsCall p q (Receive client room reply) → held' ≡ event_after held p.window reply → GivesSound reply held'
 gives_sound p q client room reply held held' does after =
     let giving' : IsGiving p.window client reply held held' = giving p.window client room reply held held' (ported_window p does.from) does.reply after in
     giving'.sound
@@ -149,11 +149,11 @@ small_buf w client room (Empty gate last) is enough reply small = small
 small_buf w client room NoReader is enough reply small = small
 small_buf w client room (SmallBuf need) is enough reply small = room_enough w client room need is enough reply
 
-pub gives_whole : (p q : Ported) (client room : ℕ) (reply : Received) → Does p q (Receive client room reply) → min event_limit (p.window.size - 24) ≤ room → ¬ (IsSmallBuf reply)
+pub gives_whole : (p q : Ported) (client room : ℕ) (reply : Received) → AppendsCall p q (Receive client room reply) → min event_limit (p.window.size - 24) ≤ room → ¬ (IsSmallBuf reply)
 gives_whole p q client room reply does enough = small_buf p.window client room reply (ported_window p does.from) enough does.reply
 
 -- each client gets events of at most 2^62 bytes
-pub gets_few : (p q : Ported) (e : BufferEntry) → Does p q e → (client : ℕ) → slots_got client (access_of q).got ≤ 2 ^ 62
+pub gets_few : (p q : Ported) (e : BufferEntry) → AppendsCall p q e → (client : ℕ) → slots_got client (access_of q).got ≤ 2 ^ 62
 gets_few p q e does client =
     let is : IsPorted q = ported_does p q e does in
     slots_few q.caller client q.start q.history is.opens is.legal (window_replays q.start q.history is.opens is.legal)

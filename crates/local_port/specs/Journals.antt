@@ -38,9 +38,9 @@ IsEntryAt entries number caller entry body = slice_get entries number ≡ Some (
 abbrev pub IsSized : Line → Type 0
 IsSized l = (body : List ℕ) → length body ≡ l.size → IsApart l.entry body
 
-abbrev pub AreApart : List Line → Type 0
-AreApart [] = ⊤
-AreApart (l ∷ ls) = IsSized l × AreApart ls
+abbrev pub AreSized : List Line → Type 0
+AreSized [] = ⊤
+AreSized (l ∷ ls) = IsSized l × AreSized ls
 
 -- the data of each line begin where those of the lines before it end; those of the first begin here
 abbrev pub AreBehind : (from : ℕ) → List Line → Type 0

@@ -80,7 +80,7 @@ access_of p = record {
 }
 
 -- one call more, by the caller whose calls come
-pub record Does (p q : Ported) (entry : BufferEntry) : Type 0 where
+pub record AppendsCall (p q : Ported) (entry : BufferEntry) : Type 0 where
   pub from : IsPorted p
   pub reply : IsReply p.window entry
   pub window : q.window ≡ window_after p.window entry

@@ -4,7 +4,7 @@ ghost use Rattle.event_header.specs.Headers.{event_of};
 ghost use Rattle.buffer_core.specs.declared.entry.BufferEntry.TheVariants.{Attach, Detach, Request, Cancel, Send, SendInRun, Receive, Begin, Pause, Resume, End, Level, Accepted};
 ghost use Rattle.buffer_core.specs.Calls.{event_after};
 ghost use Rattle.buffer_core.specs.Histories.{IsLegal, replay};
-ghost use Rattle.local_port.specs.Ported.{IsPorted, Does, KeepsPort};
+ghost use Rattle.local_port.specs.Ported.{IsPorted, AppendsCall, KeepsPort};
 
 use crate::journal::BufferJournal;
 use buffer_core::{
@@ -106,7 +106,7 @@ impl<B: EventBuffer> LocalPort<B> {
     /// As `EventBuffer::attach`.
     pub fn attach(&mut self, name: Name) -> Result<u32, NoSlot>
         requires room { 1 ≤ self.old.entries }
-        ensures did { Does self.old self.new (Attach name result) }
+        ensures did { AppendsCall self.old self.new (Attach name result) }
     {
         let reply = self.buffer.attach(name);
         let entry = BufferEntry::Attach { name, reply };
@@ -117,7 +117,7 @@ impl<B: EventBuffer> LocalPort<B> {
     /// As `EventBuffer::detach`.
     pub fn detach(&mut self, client: u32) -> Result<(), NoClient>
         requires room { 1 ≤ self.old.entries }
-        ensures did { Does self.old self.new (Detach client result) }
+        ensures did { AppendsCall self.old self.new (Detach client result) }
     {
         let reply = self.buffer.detach(client);
         let entry = BufferEntry::Detach { client, reply };
@@ -134,7 +134,7 @@ impl<B: EventBuffer> LocalPort<B> {
         kind: Kind,
     ) -> Result<u32, RequestRefusal>
         requires room { 1 ≤ self.old.entries }
-        ensures did { Does self.old self.new (Request client id mask kind result) }
+        ensures did { AppendsCall self.old self.new (Request client id mask kind result) }
     {
         let reply = self.buffer.request(client, id, mask, kind);
         let entry = BufferEntry::Request {
@@ -151,7 +151,7 @@ impl<B: EventBuffer> LocalPort<B> {
     /// As `EventBuffer::cancel`.
     pub fn cancel(&mut self, client: u32, request: u32) -> Result<(), RequestRefusal>
         requires room { 1 ≤ self.old.entries }
-        ensures did { Does self.old self.new (Cancel client request result) }
+        ensures did { AppendsCall self.old self.new (Cancel client request result) }
     {
         let reply = self.buffer.cancel(client, request);
         let entry = BufferEntry::Cancel {
@@ -167,7 +167,7 @@ impl<B: EventBuffer> LocalPort<B> {
     pub fn send(&mut self, header: &Header, body: &[u8]) -> Result<u64, SendRefusal>
         requires room { 1 ≤ self.old.entries }
         requires bytes { length body.now ≤ self.old.bytes }
-        ensures did { Does self.old self.new (Send header.now.data_size (event_of header.now body.now) result) }
+        ensures did { AppendsCall self.old self.new (Send header.now.data_size (event_of header.now body.now) result) }
     {
         let reply = self.buffer.send(header, body);
         let entry = BufferEntry::Send {
@@ -188,7 +188,7 @@ impl<B: EventBuffer> LocalPort<B> {
     ) -> Result<u64, SendRefusal>
         requires room { 1 ≤ self.old.entries }
         requires bytes { length body.now ≤ self.old.bytes }
-        ensures did { Does self.old self.new (SendInRun start header.now.data_size (event_of header.now body.now) result) }
+        ensures did { AppendsCall self.old self.new (SendInRun start header.now.data_size (event_of header.now body.now) result) }
     {
         let reply = self.buffer.send_in_run(start, header, body);
         let entry = BufferEntry::SendInRun {
@@ -204,7 +204,7 @@ impl<B: EventBuffer> LocalPort<B> {
     /// As `EventBuffer::receive`.
     pub fn receive(&mut self, client: u32, into: &mut EventBuf) -> Received
         requires room { 1 ≤ self.old.entries }
-        ensures did { Does self.old self.new (Receive client into.old.room result) }
+        ensures did { AppendsCall self.old self.new (Receive client into.old.room result) }
         ensures event { into.new.event ≡ event_after into.old.event self.old.window result }
         ensures room { into.new.room ≡ into.old.room }
     {
@@ -222,7 +222,7 @@ impl<B: EventBuffer> LocalPort<B> {
     /// As `EventBuffer::begin`.
     pub fn begin(&mut self, start: u32) -> Result<u64, MarkRefusal>
         requires room { 1 ≤ self.old.entries }
-        ensures did { Does self.old self.new (Begin start result) }
+        ensures did { AppendsCall self.old self.new (Begin start result) }
     {
         let reply = self.buffer.begin(start);
         let entry = BufferEntry::Begin { start, reply };
@@ -233,7 +233,7 @@ impl<B: EventBuffer> LocalPort<B> {
     /// As `EventBuffer::pause`.
     pub fn pause(&mut self, start: u32) -> Result<u64, MarkRefusal>
         requires room { 1 ≤ self.old.entries }
-        ensures did { Does self.old self.new (Pause start result) }
+        ensures did { AppendsCall self.old self.new (Pause start result) }
     {
         let reply = self.buffer.pause(start);
         let entry = BufferEntry::Pause { start, reply };
@@ -244,7 +244,7 @@ impl<B: EventBuffer> LocalPort<B> {
     /// As `EventBuffer::resume`.
     pub fn resume(&mut self, start: u32) -> Result<u64, MarkRefusal>
         requires room { 1 ≤ self.old.entries }
-        ensures did { Does self.old self.new (Resume start result) }
+        ensures did { AppendsCall self.old self.new (Resume start result) }
     {
         let reply = self.buffer.resume(start);
         let entry = BufferEntry::Resume { start, reply };
@@ -255,7 +255,7 @@ impl<B: EventBuffer> LocalPort<B> {
     /// As `EventBuffer::end`.
     pub fn end(&mut self, start: u32) -> Result<u64, MarkRefusal>
         requires room { 1 ≤ self.old.entries }
-        ensures did { Does self.old self.new (End start result) }
+        ensures did { AppendsCall self.old self.new (End start result) }
     {
         let reply = self.buffer.end(start);
         let entry = BufferEntry::End { start, reply };
@@ -266,7 +266,7 @@ impl<B: EventBuffer> LocalPort<B> {
     /// As `EventBuffer::level`.
     pub fn level(&mut self) -> u64
         requires room { 1 ≤ self.old.entries }
-        ensures did { Does self.old self.new (Level result) }
+        ensures did { AppendsCall self.old self.new (Level result) }
     {
         let reply = self.buffer.level();
         let entry = BufferEntry::Level { reply };
@@ -277,7 +277,7 @@ impl<B: EventBuffer> LocalPort<B> {
     /// As `EventBuffer::accepted`.
     pub fn accepted(&mut self) -> u64
         requires room { 1 ≤ self.old.entries }
-        ensures did { Does self.old self.new (Accepted result) }
+        ensures did { AppendsCall self.old self.new (Accepted result) }
     {
         let reply = self.buffer.accepted();
         let entry = BufferEntry::Accepted { reply };

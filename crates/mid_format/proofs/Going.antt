@@ -9,13 +9,13 @@ use Rattle.std.proofs.KnownBytes.{Consumes-trans}
 use Rattle.daq_types.specs.declared.events.Event.{Event}
 use Rattle.daq_model.specs.Events.{encoding, all_encoded, all_encoded-append, begin_id, end_id}
 use Rattle.daq_model.specs.RunFile.{begin_record, end_record, record_mask, IsFileEvent}
-use Rattle.event_header.specs.Held.{Held}
+use Rattle.event_header.specs.Held.{HeldEvent}
 use Rattle.event_header.specs.Headers.{header_encoding, length-header_encoding, event_of, fields_of, header_back}
 use Rattle.event_header.specs.declared.head.Header.{Header}
 use Rattle.mid_format.specs.Faults.{fault_at, OfBytes}
 use Rattle.mid_format.specs.Parts.{IsInRange, ReadsHead, ReadsBody, IsCut, IsBehindEnd}
-use Rattle.mid_format.specs.HasRead.{IsStorable, IsBegun, IsEnded, IsMidFault, BeginsWith, IsDone, StandsAt, StandsBehind, HasRead}
-use Rattle.mid_format.specs.Steps.{IsGoing, BeginsNow, Begins, BeginStops, Finishes, FinishStops}
+use Rattle.mid_format.specs.HasRead.{IsStorable, IsBegunFile, IsEndedFile, IsMidFault, BeginsWith, IsReadSoFar, IsFaultAt, StandsBehind, HasRead}
+use Rattle.mid_format.specs.Steps.{IsGoing, BeginsNow, BeginsReading, BeginStops, FinishesReading, FinishStops}
 use Rattle.mid_format.specs.declared.faults.MidFault.{MidFault}
 use Rattle.mid_format.specs.declared.faults.MidFault.TheVariants.{AfterEnd}
 use Rattle.mid_format.specs.declared.progress.Progress.{Progress}
@@ -53,18 +53,18 @@ encoded h e p = ap (λ (x : Header). header_encoding x ++ e.body) p
 length_encoded : (h : Header) (body : List ℕ) → length body ≡ h.data_size → length (header_encoding h ++ body) ≡ 16 + h.data_size
 length_encoded h body e = length-append (header_encoding h) body ∙ omega (arith, length-header_encoding h, e)
 
-done_of : (done : List ℕ) (p : Progress) (b : Option Header) (events : List Event) → IsDone done p.begin p.last events → p.begin ≡ b → p.last ≡ None → IsDone done b None events
-done_of done p b events d eb el = subst (λ (o : Option Header). IsDone done o None events) eb (subst (λ (o : Option Header). IsDone done p.begin o events) el d)
+done_of : (done : List ℕ) (p : Progress) (b : Option Header) (events : List Event) → IsReadSoFar done p.begin p.last events → p.begin ≡ b → p.last ≡ None → IsReadSoFar done b None events
+done_of done p b events d eb el = subst (λ (o : Option Header). IsReadSoFar done o None events) eb (subst (λ (o : Option Header). IsReadSoFar done p.begin o events) el d)
 
 -- a fault at the first header, and at a later one
-stands_first : (p : Progress) (at place : ℕ) (rest : List ℕ) (f : MidFault) → p.last ≡ None → p.begin ≡ None → at ≡ place → fault_at None at rest ≡ Some f → StandsAt p.last p.begin place rest f
+stands_first : (p : Progress) (at place : ℕ) (rest : List ℕ) (f : MidFault) → p.last ≡ None → p.begin ≡ None → at ≡ place → fault_at None at rest ≡ Some f → IsFaultAt p.last p.begin place rest f
 stands_first p at place rest f no_end none same e =
-    subst (λ (o : Option Header). StandsAt o p.begin place rest f) (sym no_end) (subst (λ (o : Option Header). StandsAt None o place rest f) (sym none) (subst (λ (n : ℕ). fault_at None n rest ≡ Some f) same e))
+    subst (λ (o : Option Header). IsFaultAt o p.begin place rest f) (sym no_end) (subst (λ (o : Option Header). IsFaultAt None o place rest f) (sym none) (subst (λ (n : ℕ). fault_at None n rest ≡ Some f) same e))
 
-stands_later : (p : Progress) (b : Header) (at place : ℕ) (rest : List ℕ) (f : MidFault) → p.last ≡ None → p.begin ≡ Some b → at ≡ place → fault_at (Some b.serial_number) at rest ≡ Some f → StandsAt p.last p.begin place rest f
+stands_later : (p : Progress) (b : Header) (at place : ℕ) (rest : List ℕ) (f : MidFault) → p.last ≡ None → p.begin ≡ Some b → at ≡ place → fault_at (Some b.serial_number) at rest ≡ Some f → IsFaultAt p.last p.begin place rest f
 stands_later p b at place rest f no_end has_begun same e =
-    subst (λ (o : Option Header). StandsAt o p.begin place rest f) (sym no_end)
-    (subst (λ (o : Option Header). StandsAt None o place rest f) (sym has_begun) (subst (λ (n : ℕ). fault_at (Some b.serial_number) n rest ≡ Some f) same e))
+    subst (λ (o : Option Header). IsFaultAt o p.begin place rest f) (sym no_end)
+    (subst (λ (o : Option Header). IsFaultAt None o place rest f) (sym has_begun) (subst (λ (n : ℕ). fault_at (Some b.serial_number) n rest ≡ Some f) same e))
 
 -- The begin record.
 
@@ -83,7 +83,7 @@ module _ (first before : Option (List ℕ)) (old : Progress) (events : List Even
       subst (λ front. Consumes first after (front ++ (header_encoding h ++ b.dump))) empty.0 (Consumes-trans first before after r.done (header_encoding h ++ b.dump) (r.consumed going.no_fault) b.consumed) in
       let header : h ≡ fields_of (begin_record h.serial_number h.time_stamp b.dump) =
       same_header h begin_id record_mask h.serial_number (length b.dump) allowed.id allowed.mask refl (sym b.length) in
-      let begun : IsBegun (header_encoding h ++ b.dump) h.serial_number h.time_stamp b.dump [] = record {
+      let begun : IsBegunFile (header_encoding h ++ b.dump) h.serial_number h.time_stamp b.dump [] = record {
         bytes_are = encoded h (begin_record h.serial_number h.time_stamp b.dump) header ∙ sym (append-nil (encoding (begin_record h.serial_number h.time_stamp b.dump)));
         small = omega (arith, b.length, allowed.sized.small);
         storable = subst IsInRange header b.in_range;
@@ -96,7 +96,7 @@ module _ (first before : Option (List ℕ)) (old : Progress) (events : List Even
         consumed = λ n. taken;
         place = omega (arith, at_begin, length_encoded h b.dump b.length);
         within = allowed.sized.within;
-        is_done = subst (λ (o : Option Header). IsDone (header_encoding h ++ b.dump) (Some h) o events) (sym going.no_end)
+        is_done = subst (λ (o : Option Header). IsReadSoFar (header_encoding h ++ b.dump) (Some h) o events) (sym going.no_end)
             (subst (BeginsWith (header_encoding h ++ b.dump) h) (sym empty.1) (record { dump = b.dump; header = header; begun = begun }));
         at_end = λ n end is_last. none_some old.last end going.no_end is_last;
         fault_is = λ fault is_fault. none_some old.fault fault going.no_fault is_fault;
@@ -131,18 +131,18 @@ pub record AfterBegin (first after : Option (List ℕ)) (new : Progress) (events
   pub going : IsGoing new
   pub begin : new.begin ≡ Some h
 
-pub going_after : (before after : Option (List ℕ)) (old new : Progress) (h : Header) → IsGoing old → Begins before after old new h → IsGoing new × (new.begin ≡ Some h)
+pub going_after : (before after : Option (List ℕ)) (old new : Progress) (h : Header) → IsGoing old → BeginsReading before after old new h → IsGoing new × (new.begin ≡ Some h)
 going_after before after old new h going (inl b) = (
   record { no_fault = ap (λ (p : Progress). p.fault) b.progress ∙ going.no_fault; no_end = ap (λ (p : Progress). p.last) b.progress ∙ going.no_end },
   ap (λ (p : Progress). p.begin) b.progress,
 )
 going_after before after old new h going (inr s) = (subst IsGoing (sym s.progress) going, ap (λ (p : Progress). p.begin) s.progress ∙ s.begin)
 
-read_after : (first before after : Option (List ℕ)) (old new : Progress) (events : List Event) (h : Header) → HasRead first before old events → IsGoing old → Begins before after old new h → HasRead first after new events
+read_after : (first before after : Option (List ℕ)) (old new : Progress) (events : List Event) (h : Header) → HasRead first before old events → IsGoing old → BeginsReading before after old new h → HasRead first after new events
 read_after first before after old new events h r going (inl b) = begun_now first before old events r going b.none after new h b
 read_after first before after old new events h r going (inr s) = subst (λ p. HasRead first after p events) (sym s.progress) (subst (λ left. HasRead first left old events) (sym s.same) r)
 
-pub after_begin : (first before after : Option (List ℕ)) (old new : Progress) (events : List Event) (h : Header) → HasRead first before old events → IsGoing old → Begins before after old new h
+pub after_begin : (first before after : Option (List ℕ)) (old new : Progress) (events : List Event) (h : Header) → HasRead first before old events → IsGoing old → BeginsReading before after old new h
     → AfterBegin first after new events h
 after_begin first before after old new events h r going b = record {
   read = read_after first before after old new events h r going b;
@@ -194,7 +194,7 @@ module _ (first before : Option (List ℕ)) (old : Progress) (events : List Even
     pub data_stopped : (after : Option (List ℕ)) (f : MidFault) → IsCut middle (old.at + 16) h.data_size f → HasRead first after (record old { fault = Some f }) events
     data_stopped after f cut = stopped after f (cut_behind before middle (Some b.serial_number) old.at h f head.consumed head.fine head.in_range cut)
 
-    pub one_more : (after : Option (List ℕ)) (held : Held) → h.event_id ≢ end_id → ReadsBody middle after h held
+    pub one_more : (after : Option (List ℕ)) (held : HeldEvent) → h.event_id ≢ end_id → ReadsBody middle after h held
         → HasRead first after (record old { at = old.at + 16 + h.data_size }) (events ++ held.event ∷ [])
     one_more after held ne body =
         let allowed : IsEventHeader old.at h = event_allowed b.serial_number old.at h head.fine ne in
@@ -204,7 +204,7 @@ module _ (first before : Option (List ℕ)) (old : Progress) (events : List Even
         let taken : Consumes first after (r.done ++ encoding (event_of h body.body)) =
         subst (λ more. Consumes first after (r.done ++ more)) bytes
         (Consumes-trans first before after r.done (header_encoding h ++ body.body) (r.consumed going.no_fault) (Consumes-trans before middle after (header_encoding h) body.body head.consumed body.consumed)) in
-        let begun : IsBegun (r.done ++ encoding (event_of h body.body)) b.serial_number b.time_stamp so_far.dump (events ++ event_of h body.body ∷ []) = record {
+        let begun : IsBegunFile (r.done ++ encoding (event_of h body.body)) b.serial_number b.time_stamp so_far.dump (events ++ event_of h body.body ∷ []) = record {
           bytes_are = ap (λ front. front ++ encoding (event_of h body.body)) so_far.begun.bytes_are
               ∙ append_assoc (encoding (begin_record b.serial_number b.time_stamp so_far.dump)) (all_encoded events) (encoding (event_of h body.body))
               ∙ ap (λ more. encoding (begin_record b.serial_number b.time_stamp so_far.dump) ++ more)
@@ -221,8 +221,8 @@ module _ (first before : Option (List ℕ)) (old : Progress) (events : List Even
           consumed = λ n. taken;
           place = omega (arith, r.place, length-append r.done (encoding (event_of h body.body)), ap (length {A = ℕ}) bytes, length_encoded h body.body body.length);
           within = allowed.sized.within;
-          is_done = subst (λ (o : Option Header). IsDone (r.done ++ encoding (event_of h body.body)) old.begin o (events ++ event_of h body.body ∷ [])) (sym going.no_end)
-              (subst (λ (o : Option Header). IsDone (r.done ++ encoding (event_of h body.body)) o None (events ++ event_of h body.body ∷ [])) (sym has_begun)
+          is_done = subst (λ (o : Option Header). IsReadSoFar (r.done ++ encoding (event_of h body.body)) old.begin o (events ++ event_of h body.body ∷ [])) (sym going.no_end)
+              (subst (λ (o : Option Header). IsReadSoFar (r.done ++ encoding (event_of h body.body)) o None (events ++ event_of h body.body ∷ [])) (sym has_begun)
               (record { dump = so_far.dump; header = so_far.header; begun = begun }));
           at_end = λ n end is_last. none_some old.last end going.no_end is_last;
           fault_is = λ fault is_fault. none_some old.fault fault going.no_fault is_fault;
@@ -242,7 +242,7 @@ module _ (first before : Option (List ℕ)) (old : Progress) (events : List Even
       abbrev whole : List ℕ
       whole = r.done ++ encoding (end_record b.serial_number h.time_stamp dump)
 
-      ended : IsEnded (r.done ++ encoding (end_record b.serial_number h.time_stamp dump)) b.serial_number b.time_stamp so_far.dump events h.time_stamp dump
+      ended : IsEndedFile (r.done ++ encoding (end_record b.serial_number h.time_stamp dump)) b.serial_number b.time_stamp so_far.dump events h.time_stamp dump
       ended = record { front = r.done; begun = so_far.begun; bytes_are = refl; small = omega (arith, sized, allowed.sized.small); storable = subst IsInRange last_is head.in_range }
 
       taken_to : (after : Option (List ℕ)) → Consumes middle after dump → Consumes first after (r.done ++ encoding (end_record b.serial_number h.time_stamp dump))
@@ -252,8 +252,8 @@ module _ (first before : Option (List ℕ)) (old : Progress) (events : List Even
       place_of : old.at + 16 + h.data_size ≡ length (r.done ++ encoding (end_record b.serial_number h.time_stamp dump))
       place_of = omega (arith, r.place, length-append r.done (encoding (end_record b.serial_number h.time_stamp dump)), ap (length {A = ℕ}) last_bytes, length_encoded h dump sized)
 
-      is_ended : IsDone (r.done ++ encoding (end_record b.serial_number h.time_stamp dump)) old.begin (Some h) events
-      is_ended = subst (λ (o : Option Header). IsDone (r.done ++ encoding (end_record b.serial_number h.time_stamp dump)) o (Some h) events) (sym has_begun)
+      is_ended : IsReadSoFar (r.done ++ encoding (end_record b.serial_number h.time_stamp dump)) old.begin (Some h) events
+      is_ended = subst (λ (o : Option Header). IsReadSoFar (r.done ++ encoding (end_record b.serial_number h.time_stamp dump)) o (Some h) events) (sym has_begun)
           (record { dump0 = so_far.dump; dump1 = dump; header = so_far.header; last = last_is; ended = ended })
 
       pub finished : (after : Option (List ℕ)) → Consumes middle after dump → IsAtEnd after → HasRead first after (record old { last = Some h; at = old.at + 16 + h.data_size }) events
@@ -310,7 +310,7 @@ module _ (first before : Option (List ℕ)) (old : Progress) (events : List Even
 
 -- The end record, by what its step did.
 pub last_read : (first before middle after : Option (List ℕ)) (old new : Progress) (events : List Event) (b h : Header) → AfterBegin first before old events b → ReadsHead before middle (Some b.serial_number) old.at h
-    → h.event_id ≡ end_id → Finishes middle after old new h → HasRead first after new events
+    → h.event_id ≡ end_id → FinishesReading middle after old new h → HasRead first after new events
 last_read first before middle after old new events b h a head is_end f =
     subst (λ p. HasRead first after p events) (sym f.progress) (finished first before old events a.read a.going b a.begin middle h head is_end f.dump f.length after f.consumed f.ended)
 

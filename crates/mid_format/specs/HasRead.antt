@@ -17,7 +17,7 @@ abbrev pub IsStorable : Event → Type 0
 IsStorable e = IsInRange (fields_of e)
 
 -- The begin record of a run file and some of its events.
-pub record IsBegun (bytes : List ℕ) (run time : ℕ) (dump : List ℕ) (events : List Event) : Type 0 where
+pub record IsBegunFile (bytes : List ℕ) (run time : ℕ) (dump : List ℕ) (events : List Event) : Type 0 where
   pub bytes_are : bytes ≡ begun_file run time dump events
   pub small : length dump ≤ record_limit
   pub storable : IsStorable (begin_record run time dump)
@@ -25,9 +25,9 @@ pub record IsBegun (bytes : List ℕ) (run time : ℕ) (dump : List ℕ) (events
   pub all_storable : All IsStorable events
 
 -- A whole run file, but for its length.
-pub record IsEnded (bytes : List ℕ) (run time0 : ℕ) (dump0 : List ℕ) (events : List Event) (time1 : ℕ) (dump1 : List ℕ) : Type 0 where
+pub record IsEndedFile (bytes : List ℕ) (run time0 : ℕ) (dump0 : List ℕ) (events : List Event) (time1 : ℕ) (dump1 : List ℕ) : Type 0 where
   pub front : List ℕ
-  pub begun : IsBegun front run time0 dump0 events
+  pub begun : IsBegunFile front run time0 dump0 events
   pub bytes_are : bytes ≡ front ++ encoding (end_record run time1 dump1)
   pub small : length dump1 ≤ record_limit
   pub storable : IsStorable (end_record run time1 dump1)
@@ -41,7 +41,7 @@ pub record IsFaultBehind (text : List ℕ) (fault : MidFault) : Type 0 where
   pub time : ℕ
   pub dump : List ℕ
   pub events : List Event
-  pub begun : IsBegun front run time dump events
+  pub begun : IsBegunFile front run time dump events
   pub counted : length front ≤ 2 ^ 62
   pub fault_is : fault_at (Some run) (length front) rest ≡ Some fault
 
@@ -56,7 +56,7 @@ pub record IsFaultAfter (text : List ℕ) (fault : MidFault) : Type 0 where
   pub events : List Event
   pub time1 : ℕ
   pub dump1 : List ℕ
-  pub ended : IsEnded front run time0 dump0 events time1 dump1
+  pub ended : IsEndedFile front run time0 dump0 events time1 dump1
   pub counted : length front ≤ 2 ^ 62
   pub more : 0 < length rest
   pub fault_is : fault ≡ AfterEnd (length front)
@@ -70,7 +70,7 @@ IsMidFault text fault = (fault_at None 0 text ≡ Some fault) ⊎ (IsFaultBehind
 pub record BeginsWith (done : List ℕ) (begin : Header) (events : List Event) : Type 0 where
   pub dump : List ℕ
   pub header : begin ≡ fields_of (begin_record begin.serial_number begin.time_stamp dump)
-  pub begun : IsBegun done begin.serial_number begin.time_stamp dump events
+  pub begun : IsBegunFile done begin.serial_number begin.time_stamp dump events
 
 -- The bytes of records with these headers and of these events between them.
 pub record EndsWith (done : List ℕ) (begin end : Header) (events : List Event) : Type 0 where
@@ -78,27 +78,27 @@ pub record EndsWith (done : List ℕ) (begin end : Header) (events : List Event)
   pub dump1 : List ℕ
   pub header : begin ≡ fields_of (begin_record begin.serial_number begin.time_stamp dump0)
   pub last : end ≡ fields_of (end_record begin.serial_number end.time_stamp dump1)
-  pub ended : IsEnded done begin.serial_number begin.time_stamp dump0 events end.time_stamp dump1
+  pub ended : IsEndedFile done begin.serial_number begin.time_stamp dump0 events end.time_stamp dump1
 
 -- the bytes of what was read, by the headers of the two records that were read, and the events
-abbrev pub IsDone : List ℕ → Option Header → Option Header → List Event → Type 0
-IsDone done None None events = (done ≡ []) × (events ≡ [])
-IsDone done None (Some end) events = ⊥
-IsDone done (Some begin) None events = BeginsWith done begin events
-IsDone done (Some begin) (Some end) events = EndsWith done begin end events
+abbrev pub IsReadSoFar : List ℕ → Option Header → Option Header → List Event → Type 0
+IsReadSoFar done None None events = (done ≡ []) × (events ≡ [])
+IsReadSoFar done None (Some end) events = ⊥
+IsReadSoFar done (Some begin) None events = BeginsWith done begin events
+IsReadSoFar done (Some begin) (Some end) events = EndsWith done begin end events
 
 -- This fault is the first of the bytes at this place, by the headers of the two records that were read in front of it:
 -- behind the end record any byte is one, and else it is that of the next header and its data.
-abbrev pub StandsAt : (last begin : Option Header) (at : ℕ) → List ℕ → MidFault → Type 0
-StandsAt (Some end) begin at rest fault = (0 < length rest) × (fault ≡ AfterEnd at)
-StandsAt None None at rest fault = fault_at None at rest ≡ Some fault
-StandsAt None (Some begin) at rest fault = fault_at (Some begin.serial_number) at rest ≡ Some fault
+abbrev pub IsFaultAt : (last begin : Option Header) (at : ℕ) → List ℕ → MidFault → Type 0
+IsFaultAt (Some end) begin at rest fault = (0 < length rest) × (fault ≡ AfterEnd at)
+IsFaultAt None None at rest fault = fault_at None at rest ≡ Some fault
+IsFaultAt None (Some begin) at rest fault = fault_at (Some begin.serial_number) at rest ≡ Some fault
 
 -- A fault stands right behind what was read of the bytes.
 pub record StandsBehind (text done : List ℕ) (last begin : Option Header) (fault : MidFault) : Type 0 where
   pub rest : List ℕ
   pub text_is : text ≡ done ++ rest
-  pub stands : StandsAt last begin (length done) rest fault
+  pub stands : IsFaultAt last begin (length done) rest fault
 
 -- Where the source first told its bytes: these events were read of it, and it has `now` left.
 pub record HasRead (first now : Option (List ℕ)) (progress : Progress) (events : List Event) : Type 0 where
@@ -110,7 +110,7 @@ pub record HasRead (first now : Option (List ℕ)) (progress : Progress) (events
   pub place : progress.at ≡ length done
   pub within : progress.at ≤ 2 ^ 62
   -- it is the records and the events
-  pub is_done : IsDone done progress.begin progress.last events
+  pub is_done : IsReadSoFar done progress.begin progress.last events
   -- behind the end record nothing is left, or there is a fault
   pub at_end : progress.fault ≡ None → (end : Header) → progress.last ≡ Some end → IsAtEnd now
   -- a fault is the first one of the bytes, or the source's

@@ -3,7 +3,7 @@ use Rattle.std.specs.Prelude.{◌≡◌, ℕ, ◌+◌, ◌^◌, ◌<◌, ◌≤�
 use Rattle.std.specs.Io.KnownBytes.{Consumes, IsAtEnd}
 use Rattle.daq_io.specs.Counts.{Rose}
 use Rattle.event_header.specs.Headers.{header_encoding, event_of}
-use Rattle.event_header.specs.Held.{Held}
+use Rattle.event_header.specs.Held.{HeldEvent}
 use Rattle.event_header.specs.declared.head.Header.{Header}
 use Rattle.mid_format.specs.Faults.{header_fault, OfBytes}
 use Rattle.mid_format.specs.declared.faults.MidFault.{MidFault}
@@ -38,7 +38,7 @@ pub record PassesAll (before after : Option (List ℕ)) (size : ℕ) : Type 0 wh
   pub consumed : Consumes before after bytes
 
 -- The data of this header were read, and the room holds the event.
-pub record ReadsBody (before after : Option (List ℕ)) (h : Header) (held : Held) : Type 0 where
+pub record ReadsBody (before after : Option (List ℕ)) (h : Header) (held : HeldEvent) : Type 0 where
   pub body : List ℕ
   pub length : length body ≡ h.data_size
   pub consumed : Consumes before after body

@@ -8,7 +8,7 @@ use Rattle.daq_model.specs.Events.{encoding, all_encoded, length-encoding, recor
 use Rattle.daq_model.specs.RunFile.{begin_record, end_record, begun_file, IsRunFile}
 use Rattle.event_header.specs.declared.head.Header.{Header}
 use Rattle.mid_format.specs.Faults.{fault_at, OfBytes}
-use Rattle.mid_format.specs.HasRead.{IsStorable, IsBegun, IsFaultBehind, IsFaultAfter, IsMidFault, IsDone, HasRead, nothing_read}
+use Rattle.mid_format.specs.HasRead.{IsStorable, IsBegunFile, IsFaultBehind, IsFaultAfter, IsMidFault, IsReadSoFar, HasRead, nothing_read}
 use Rattle.mid_format.specs.OneReading.{IsFine, BeginsNone, IsOneEvent, AreOne, one_event, one_list, is_fine, end_begins_none, fault_begins_none, no_fault, begin_no_fault, end_no_fault, some_none}
 use Rattle.mid_format.specs.declared.faults.MidFault.{MidFault}
 use Rattle.mid_format.specs.declared.faults.MidFault.TheVariants.{Truncated, NoBegin, NoEnd, AfterEnd, TooBig, ReadFault, BadRecord, TooLong}
@@ -50,7 +50,7 @@ all_of_it : (text done : List ℕ) (now : Option (List ℕ)) → Consumes (Some 
 all_of_it text done None c e = absurd c
 all_of_it text done (Some left) c e = c ∙ ap (λ l. done ++ l) e ∙ append-nil done
 
-whole_by : (text done : List ℕ) (p : Progress) (begin : Option Header) (end : Header) (events : List Event) → text ≡ done → length done ≤ 2 ^ 62 → p.begin ≡ begin → IsDone done begin (Some end) events
+whole_by : (text done : List ℕ) (p : Progress) (begin : Option Header) (end : Header) (events : List Event) → text ≡ done → length done ≤ 2 ^ 62 → p.begin ≡ begin → IsReadSoFar done begin (Some end) events
     → ReadsWhole text p end events
 whole_by text done p None end events e counted b d = absurd d
 whole_by text done p (Some begin) end events e counted b d = record {
@@ -75,7 +75,7 @@ whole_by text done p (Some begin) end events e counted b d = record {
 pub read_whole : (text : List ℕ) (now : Option (List ℕ)) (p : Progress) (end : Header) (events : List Event) → HasRead (Some text) now p events → p.fault ≡ None → p.last ≡ Some end → ReadsWhole text p end events
 read_whole text now p end events h none last =
     whole_by text h.done p p.begin end events (all_of_it text h.done now (h.consumed none) (h.at_end none end last)) (omega (arith, h.place, h.within)) refl
-    (subst (λ (o : Option Header). IsDone h.done p.begin o events) last h.is_done)
+    (subst (λ (o : Option Header). IsReadSoFar h.done p.begin o events) last h.is_done)
 
 -- What was read up to a fault.
 
@@ -98,7 +98,7 @@ read_fault text now p f events h is_fault ne = of_bytes_is f (IsMidFault text f)
 -- The begin record and events, up to what is no event, stand in front of bytes.
 record IsFront (text front rest : List ℕ) (run time : ℕ) (dump : List ℕ) (events : List Event) : Type 0 where
   pub text_is : text ≡ front ++ rest
-  pub begun : IsBegun front run time dump events
+  pub begun : IsBegunFile front run time dump events
   pub counted : length front ≤ 2 ^ 62
   pub ends : BeginsNone (length front) rest
 
@@ -108,7 +108,7 @@ record SameFront (front rest : List ℕ) (run : ℕ) (events : List Event) (fron
   pub run_is : run ≡ run'
   pub events_are : events ≡ events'
 
-front_length : (front : List ℕ) (run time : ℕ) (dump : List ℕ) (events : List Event) → IsBegun front run time dump events
+front_length : (front : List ℕ) (run time : ℕ) (dump : List ℕ) (events : List Event) → IsBegunFile front run time dump events
     → length front ≡ length (encoding (begin_record run time dump)) + length (all_encoded events)
 front_length front run time dump events b = ap (length {A = ℕ}) b.bytes_are ∙ length-append (encoding (begin_record run time dump)) (all_encoded events)
 
@@ -265,7 +265,7 @@ first_events (e ∷ es) (f ∷ fs) x y at he hf we ny p =
     (more.0, ap (λ (g : Event). g ∷ fs) (sym one.event) ∙ ap (λ gs. e ∷ gs) more.1)
 
 begun_events : (text : List ℕ) (run time0 : ℕ) (dump0 : List ℕ) (events : List Event) (time1 : ℕ) (dump1 front rest : List ℕ) (run' time' : ℕ) (dump' : List ℕ) (given : List Event)
-    → IsWholeFile text run time0 dump0 events time1 dump1 → text ≡ front ++ rest → length front ≤ 2 ^ 62 → IsBegun front run' time' dump' given → (more : List Event) × (events ≡ given ++ more)
+    → IsWholeFile text run time0 dump0 events time1 dump1 → text ≡ front ++ rest → length front ≤ 2 ^ 62 → IsBegunFile front run' time' dump' given → (more : List Event) × (events ≡ given ++ more)
 begun_events text run time0 dump0 events time1 dump1 front rest run' time' dump' given w is counted b =
     let a : IsFront text (begun_file run time0 dump0 events) (encoding (end_record run time1 dump1) ++ []) run time0 dump0 events = whole_front text run time0 dump0 events time1 dump1 w in
     let spelled : text ≡ encoding (begin_record run time0 dump0) ++ (all_encoded events ++ (encoding (end_record run time1 dump1) ++ [])) =
@@ -281,7 +281,7 @@ begun_events text run time0 dump0 events time1 dump1 front rest run' time' dump'
     (subst (λ n. BeginsNone n (encoding (end_record run time1 dump1) ++ [])) (front_length (begun_file run time0 dump0 events) run time0 dump0 events a.begun) a.ends) begin.rest
 
 done_events : (text : List ℕ) (run time0 : ℕ) (dump0 : List ℕ) (events : List Event) (time1 : ℕ) (dump1 done rest : List ℕ) (begin end : Option Header) (given : List Event)
-    → IsWholeFile text run time0 dump0 events time1 dump1 → text ≡ done ++ rest → length done ≤ 2 ^ 62 → IsDone done begin end given → (more : List Event) × (events ≡ given ++ more)
+    → IsWholeFile text run time0 dump0 events time1 dump1 → text ≡ done ++ rest → length done ≤ 2 ^ 62 → IsReadSoFar done begin end given → (more : List Event) × (events ≡ given ++ more)
 done_events text run time0 dump0 events time1 dump1 done rest None None given w is counted d = (events, ap (λ es. es ++ events) (sym d.1))
 done_events text run time0 dump0 events time1 dump1 done rest None (Some end) given w is counted d = absurd d
 done_events text run time0 dump0 events time1 dump1 done rest (Some begin) None given w is counted d =
@@ -297,10 +297,10 @@ pub events_so_far : (text : List ℕ) (run time0 : ℕ) (dump0 : List ℕ) (even
 events_so_far text run time0 dump0 events time1 dump1 now p given w h =
     done_events text run time0 dump0 events time1 dump1 h.done h.begins.0 p.begin p.last given w h.begins.1 (omega (arith, h.place, h.within)) h.is_done
 
-begun_within : (front : List ℕ) (run time : ℕ) (dump : List ℕ) (events : List Event) → IsBegun front run time dump events → length (all_encoded events) ≤ length front
+begun_within : (front : List ℕ) (run time : ℕ) (dump : List ℕ) (events : List Event) → IsBegunFile front run time dump events → length (all_encoded events) ≤ length front
 begun_within front run time dump events b = omega (arith, front_length front run time dump events b)
 
-done_within : (done : List ℕ) (begin end : Option Header) (events : List Event) → IsDone done begin end events → length (all_encoded events) ≤ length done
+done_within : (done : List ℕ) (begin end : Option Header) (events : List Event) → IsReadSoFar done begin end events → length (all_encoded events) ≤ length done
 done_within done None None events d = omega (arith, ap (λ es. length (all_encoded es)) d.1)
 done_within done None (Some end) events d = absurd d
 done_within done (Some begin) None events d = begun_within done begin.serial_number begin.time_stamp d.dump events d.begun

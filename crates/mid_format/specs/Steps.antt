@@ -31,8 +31,8 @@ pub record HasBegun (before after : Option (List ℕ)) (old new : Progress) (h :
   pub same : after ≡ before
   pub progress : new ≡ old
 
-abbrev pub Begins : Option (List ℕ) → Option (List ℕ) → Progress → Progress → Header → Type 0
-Begins before after old new h = BeginsNow before after old new h ⊎ HasBegun before after old new h
+abbrev pub BeginsReading : Option (List ℕ) → Option (List ℕ) → Progress → Progress → Header → Type 0
+BeginsReading before after old new h = BeginsNow before after old new h ⊎ HasBegun before after old new h
 
 -- The begin record was not read.
 pub record BeginStops (before : Option (List ℕ)) (old new : Progress) (fault : MidFault) : Type 0 where
@@ -41,7 +41,7 @@ pub record BeginStops (before : Option (List ℕ)) (old new : Progress) (fault :
   pub fault_is : OfBytes fault (IfSome before (λ rest. fault_at None old.at rest ≡ Some fault))
 
 -- The data of the end record were passed, and nothing is left.
-pub record Finishes (before after : Option (List ℕ)) (old new : Progress) (h : Header) : Type 0 where
+pub record FinishesReading (before after : Option (List ℕ)) (old new : Progress) (h : Header) : Type 0 where
   pub dump : List ℕ
   pub length : length dump ≡ h.data_size
   pub consumed : Consumes before after dump

@@ -1,7 +1,7 @@
 ghost use Rattle.std.specs.Prelude.{◌≡◌, ◌≤◌, ◌<◌, ◌^◌, ◌+◌, ◌↔◌, ℕ, List, Some, None, IfOk, IfErr, OnOk, OnErr, IsSome, IsNone};
 ghost use Rattle.daq_types.specs.declared.events.Event.{Event};
 ghost use Rattle.mid_format.specs.Parts.{CountsReads};
-ghost use Rattle.mid_format.specs.Steps.{Begins, BeginStops, Finishes, FinishStops, IsGoing, StepReads, Stops};
+ghost use Rattle.mid_format.specs.Steps.{BeginsReading, BeginStops, FinishesReading, FinishStops, IsGoing, StepReads, Stops};
 
 use crate::faults::MidFault;
 use crate::parts::{pass_data, read_data, read_end, read_head};
@@ -13,7 +13,7 @@ use event_header::{EventBuf, HEADER_BYTES, Header};
 /// Reads the begin record where it was not read yet, and answers its header.
 fn begin<S: Source>(source: &mut S, progress: &mut Progress) -> Result<Header, MidFault>
     requires { progress.old.at ≤ 2 ^ 62 }
-    ensures begins { IfOk result (Begins (S.left source.old) (S.left source.new) progress.old progress.new) }
+    ensures begins { IfOk result (BeginsReading (S.left source.old) (S.left source.new) progress.old progress.new) }
     ensures stops { IfErr result (BeginStops (S.left source.old) progress.old progress.new) }
     ensures counted { CountsReads (S.faults source.old) (S.faults source.new) result }
     ensures origin { S.origin source.new ≡ S.origin source.old }
@@ -36,7 +36,7 @@ fn finish<S: Source>(
     header: Header,
 ) -> Result<(), MidFault>
     requires { progress.old.at + 16 + header.data_size ≤ 2 ^ 62 }
-    ensures finishes { OnOk result (Finishes (S.left source.old) (S.left source.new) progress.old progress.new header) }
+    ensures finishes { OnOk result (FinishesReading (S.left source.old) (S.left source.new) progress.old progress.new header) }
     ensures stops { IfErr result (FinishStops (S.left source.old) progress.old progress.new header) }
     ensures counted { CountsReads (S.faults source.old) (S.faults source.new) result }
     ensures origin { S.origin source.new ≡ S.origin source.old }

@@ -6,7 +6,7 @@ use Rattle.daq_session.specs.declared.causes.Cause.TheVariants as causes
 use Rattle.midas_tools.specs.Analyses.{Analyzes}
 use Rattle.midas_tools.specs.Checks.{Checks}
 use Rattle.midas_tools.specs.Dumps.{WritesOn}
-use Rattle.midas_tools.specs.Findings.{Writes, Completes, SinkCounts, FileCounts, ClashCounts}
+use Rattle.midas_tools.specs.Findings.{Writes, Completes, SinkByEnd, FilesByEnd, ClashCounts}
 use Rattle.midas_tools.specs.declared.ends.ToolEnd.{ToolEnd}
 use Rattle.midas_tools.specs.declared.ends.ToolEnd.TheVariants.{Done, Input, FileFault, SinkFault, NoMemory}
 use Rattle.midas_cli.specs.declared.words.Tool.{Tool}
@@ -40,7 +40,7 @@ pub record ToolRan (tool : Tool) (seen : Seen) (name : List ℕ) (told_old told_
   pub end : ToolEnd
   pub cause_is : IsCauseOf end first cause
   pub writes : ToolWrites tool seen name told_old told_new end
-  pub sink : SinkCounts end counts.sink_old counts.sink_new
-  pub files : FileCounts end counts.files_old counts.files_new
+  pub sink : SinkByEnd end counts.sink_old counts.sink_new
+  pub files : FilesByEnd end counts.files_old counts.files_new
   pub complete : Completes seen name counts.sink_old counts.sink_new counts.files_old counts.files_new end
   pub clashes : ClashCounts end counts.clashes_old counts.clashes_new

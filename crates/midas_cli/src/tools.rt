@@ -2,7 +2,7 @@ ghost use Rattle.std.specs.Prelude.{◌≡◌, ◌≢◌, None};
 ghost use Rattle.daq_io.specs.Seen.{Same};
 ghost use Rattle.midas_cli.specs.Outcomes.{status_of};
 ghost use Rattle.midas_cli.specs.Tools.{IsCauseOf, ToolRan, ToolWrites};
-ghost use Rattle.midas_tools.specs.Findings.{ClashCounts, Completes, FileCounts, SinkCounts};
+ghost use Rattle.midas_tools.specs.Findings.{ClashCounts, Completes, FilesByEnd, SinkByEnd};
 
 use crate::outcome::{Outcome, status};
 use crate::words::{Tool, ToolCall};
@@ -38,8 +38,8 @@ fn call_tool<F: Files, K: Sink>(
     out: &mut K,
 ) -> (ToolEnd, F)
     ensures writes { ToolWrites tool (F.seen files) name.now (K.written out.old) (K.written out.new) result.0 }
-    ensures sink { SinkCounts result.0 (K.faults out.old) (K.faults out.new) }
-    ensures faults { FileCounts result.0 (F.faults files) (F.faults result.1) }
+    ensures sink { SinkByEnd result.0 (K.faults out.old) (K.faults out.new) }
+    ensures faults { FilesByEnd result.0 (F.faults files) (F.faults result.1) }
     ensures complete { Completes (F.seen files) name.now (K.faults out.old) (K.faults out.new) (F.faults files) (F.faults result.1) result.0 }
     ensures clashes { ClashCounts result.0 (F.clashes files) (F.clashes result.1) }
     ensures same { Same (F.seen files) (F.seen result.1) }

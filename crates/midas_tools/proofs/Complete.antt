@@ -5,12 +5,12 @@ use Rattle.daq_types.specs.declared.events.Event.{Event}
 use Rattle.daq_io.specs.Seen.{Stored, Seen}
 use Rattle.event_header.specs.declared.head.Header.{Header}
 use Rattle.mid_format.specs.Faults.{fault_at}
-use Rattle.mid_format.specs.HasRead.{IsDone, StandsAt, IsMidFault}
+use Rattle.mid_format.specs.HasRead.{IsReadSoFar, IsFaultAt, IsMidFault}
 use Rattle.mid_format.specs.ReadLaws.{whole_no_fault}
 use Rattle.mid_format.specs.declared.faults.MidFault.{MidFault}
 use Rattle.midas_tools.specs.Summaries.{Tells}
 use Rattle.midas_tools.specs.Dumps.{IsDump, WritesOn}
-use Rattle.midas_tools.specs.Findings.{IsThere, IsRun, HasRun, Completes, Finds, Writes, SinkCounts, FileCounts}
+use Rattle.midas_tools.specs.Findings.{IsThere, IsRun, HasRun, Completes, Finds, Writes, SinkByEnd, FilesByEnd}
 use Rattle.midas_tools.specs.declared.ends.InputFault.{InputFault}
 use Rattle.midas_tools.specs.declared.ends.InputFault.TheVariants.{Mid, Compressed, Missing, ScriptTooLong}
 use Rattle.midas_tools.specs.declared.ends.ToolEnd.{ToolEnd}
@@ -39,14 +39,14 @@ module _ (Text : ℕ → List Event → ℕ → List ℕ) where
   tells_faults bytes f text c = c.0
 
   pub tells_completes : (seen : Seen) (name : List ℕ) (told_old told_new : Option (List ℕ)) (sink_old sink_new files_old files_new : ℕ) (end : ToolEnd) → Writes (Tells Text) seen name told_old told_new end
-      → SinkCounts end sink_old sink_new → FileCounts end files_old files_new → Completes seen name sink_old sink_new files_old files_new end
+      → SinkByEnd end sink_old sink_new → FilesByEnd end files_old files_new → Completes seen name sink_old sink_new files_old files_new end
   tells_completes seen name told_old told_new sink_old sink_new files_old files_new Done w s f = λ h calm_sink calm_files. inl refl
   tells_completes seen name told_old told_new sink_old sink_new files_old files_new (Input fault) w s f = λ h calm_sink calm_files. absurd (no_input (Tells Text) tells_faults seen name w.text fault h w.finds)
   tells_completes seen name told_old told_new sink_old sink_new files_old files_new FileFault w s f = λ h calm_sink calm_files. absurd (calm_files f)
   tells_completes seen name told_old told_new sink_old sink_new files_old files_new SinkFault w s f = λ h calm_sink calm_files. absurd (calm_sink s)
   tells_completes seen name told_old told_new sink_old sink_new files_old files_new NoMemory w s f = λ h calm_sink calm_files. inr refl
 
-stands_fault : (bytes front rest : List ℕ) (last begin : Option Header) (events : List Event) (f : MidFault) → bytes ≡ front ++ rest → IsDone front begin last events → length front ≤ 2 ^ 62 → StandsAt last begin (length front) rest f → IsMidFault bytes f
+stands_fault : (bytes front rest : List ℕ) (last begin : Option Header) (events : List Event) (f : MidFault) → bytes ≡ front ++ rest → IsReadSoFar front begin last events → length front ≤ 2 ^ 62 → IsFaultAt last begin (length front) rest f → IsMidFault bytes f
 stands_fault bytes front rest None None events f is d counted s =
     inl (subst (λ (x : List ℕ). fault_at None 0 x ≡ Some f) (sym is) (subst (λ (x : List ℕ). fault_at None 0 (x ++ rest) ≡ Some f) (sym d.0) (subst (λ (x : List ℕ). fault_at None (length x) rest ≡ Some f) d.0 s)))
 stands_fault bytes front rest None (Some b) events f is d counted s =
@@ -59,7 +59,7 @@ dump_faults : (bytes : List ℕ) (f : MidFault) (text : List ℕ) → IsDump byt
 dump_faults bytes f text d = stands_fault bytes d.lists.front d.rest d.last d.begin d.lists.events f d.lists.bytes_are d.lists.is_done d.counted d.ends
 
 pub dump_completes : (seen : Seen) (name : List ℕ) (told_old told_new : Option (List ℕ)) (sink_old sink_new files_old files_new : ℕ) (end : ToolEnd) → WritesOn seen name told_old told_new end
-    → SinkCounts end sink_old sink_new → FileCounts end files_old files_new → Completes seen name sink_old sink_new files_old files_new end
+    → SinkByEnd end sink_old sink_new → FilesByEnd end files_old files_new → Completes seen name sink_old sink_new files_old files_new end
 dump_completes seen name told_old told_new sink_old sink_new files_old files_new Done w s f = λ h calm_sink calm_files. inl refl
 dump_completes seen name told_old told_new sink_old sink_new files_old files_new (Input fault) w s f = λ h calm_sink calm_files. absurd (no_input IsDump dump_faults seen name w.text fault h w.finds)
 dump_completes seen name told_old told_new sink_old sink_new files_old files_new FileFault w s f = λ h calm_sink calm_files. absurd (calm_files f)

@@ -7,7 +7,7 @@ use Rattle.daq_io.specs.FileLeft.{told_left}
 use Rattle.mid_format.specs.declared.faults.MidFault.{MidFault}
 use Rattle.mid_format.specs.declared.faults.MidFault.TheVariants.{ReadFault}
 use Rattle.midas_tools.specs.Dumps.{IsPart, IsDump, WritesSome, WritesLines, WritesOn, PrintsSome, PrintsLines, PrintsDump, DumpsTo}
-use Rattle.midas_tools.specs.Findings.{Finds, WritesAll, WritesPart, IsOpened, Refuses, SaysWhy, ClosesWell, Closed}
+use Rattle.midas_tools.specs.Findings.{Finds, WritesAll, WritesPart, IsFileOpened, RefusesFile, SaysWhy, ClosesWell, Closed}
 use Rattle.midas_tools.specs.declared.opening.Refused.{Refused}
 use Rattle.midas_tools.specs.declared.opening.Refused.TheVariants.{NameCompressed, NameMissing, OpenFailed}
 use Rattle.midas_tools.specs.declared.ends.InputFault.TheVariants.{Mid, Compressed, Missing, ScriptTooLong}
@@ -23,7 +23,7 @@ no_part (Some xs) None k = absurd k
 no_part (Some xs) (Some ys) k = k ∙ sym (append-nil xs)
 
 module _ (seen : Seen) (name : List ℕ) (told_old told_new : Option (List ℕ)) where
-  pub dump_refused : (faults_old faults_new clashes_old clashes_new sink_old sink_new : ℕ) (refused : Refused) (result : ToolEnd) → Refuses seen name faults_old faults_new clashes_old clashes_new refused
+  pub dump_refused : (faults_old faults_new clashes_old clashes_new sink_old sink_new : ℕ) (refused : Refused) (result : ToolEnd) → RefusesFile seen name faults_old faults_new clashes_old clashes_new refused
       → SaysWhy refused told_old told_new sink_old sink_new result → WritesOn seen name told_old told_new result
   dump_refused faults_old faults_new clashes_old clashes_new sink_old sink_new NameCompressed result r (inl whole) =
       subst (λ (e : ToolEnd). WritesOn seen name told_old told_new e) (sym whole.0) (record { text = _; finds = (r.0, refl); written = whole.1 })
@@ -37,7 +37,7 @@ module _ (seen : Seen) (name : List ℕ) (told_old told_new : Option (List ℕ))
       subst (λ (e : ToolEnd). WritesOn seen name told_old told_new e) (sym s.0)
       (r.0, inr (record { text = []; lists = inl refl; written = no_part told_old told_new s.1 }))
 
-  module _ (opened : Seen) (number : ℕ) (o : IsOpened seen opened name number) where
+  module _ (opened : Seen) (number : ℕ) (o : IsFileOpened seen opened name number) where
     some_written : PrintsSome (told_left opened number) told_old told_new → WritesSome seen name told_old told_new
     some_written p = record {
       text = p.text;

@@ -11,7 +11,7 @@ use Rattle.daq_io.specs.Streams.{AppendsPart, Appends-nil}
 use Rattle.daq_io.specs.declared.faults.Failed.{Failed}
 use Rattle.event_header.specs.declared.head.Header.{Header}
 use Rattle.mid_format.specs.Faults.{OfBytes}
-use Rattle.mid_format.specs.HasRead.{IsDone, StandsBehind, HasRead, nothing_read}
+use Rattle.mid_format.specs.HasRead.{IsReadSoFar, StandsBehind, HasRead, nothing_read}
 use Rattle.mid_format.specs.Parts.{CountedBy}
 use Rattle.mid_format.specs.Opened.{ReadsOn, events_after, CountsNext}
 use Rattle.mid_format.specs.ReadLaws.{has_read_none}
@@ -20,8 +20,8 @@ use Rattle.mid_format.specs.declared.faults.MidFault.TheVariants.{Truncated, NoB
 use Rattle.mid_format.specs.declared.progress.Progress.{Progress}
 use Rattle.midas_tools.specs.Areas.{AreEventLines, AreLinesOf, AreLinesOf-more, Adds}
 use Rattle.midas_tools.specs.Dumps.{HaltsBehind, ListsTo, SourceHalts, SinkHalts, ReadCounts, EndsUnread, PrintsLines, begin_lines, end_lines, fault_lines, new_begin, EndsAt, IsPart, IsDump, Listing, Printing, PrintsUpTo, PrintsRead, PrintsSome, PrintsDump, ended_text, EndsText, DumpsTo}
-use Rattle.midas_tools.specs.Findings.{FaultEnds, Printed, SinkCounts}
-use Rattle.midas_tools.specs.Printing.{Prints, Prints-none, Prints-more, Prints-written, Prints-all, Prints-fails, PassesPage}
+use Rattle.midas_tools.specs.Findings.{FaultEnds, Printed, SinkByEnd}
+use Rattle.midas_tools.specs.Printing.{PrintsSoFar, PrintsSoFar-none, PrintsSoFar-more, PrintsSoFar-written, PrintsSoFar-all, PrintsSoFar-fails, PassesPage}
 use Rattle.midas_tools.specs.Texts.{bad_line}
 use Rattle.midas_tools.specs.declared.ends.InputFault.TheVariants.{Mid, Compressed, Missing, ScriptTooLong}
 use Rattle.midas_tools.specs.declared.halts.Halt.{Halt}
@@ -41,7 +41,7 @@ same_fault f g e = ap (some_or f) e
 
 -- Parts of a file's text
 
-without_end : (bytes done rest : List ℕ) (begin last : Option Header) (events : List Event) (lines : List ℕ) → bytes ≡ done ++ rest → IsDone done begin last events → AreLinesOf events lines
+without_end : (bytes done rest : List ℕ) (begin last : Option Header) (events : List Event) (lines : List ℕ) → bytes ≡ done ++ rest → IsReadSoFar done begin last events → AreLinesOf events lines
     → IsPart bytes (begin_lines begin ++ lines)
 without_end bytes done rest None None events lines is d l = record {
   begin = None;
@@ -186,7 +186,7 @@ printing_none first told p page e blank = record {
     lines_are = refl;
     text_is = ap (λ (q : Progress). begin_lines q.begin ++ []) (sym e);
   };
-  prints = subst (λ (q : List ℕ). Prints told told q []) (sym blank) (Prints-none told);
+  prints = subst (λ (q : List ℕ). PrintsSoFar told told q []) (sym blank) (PrintsSoFar-none told);
   whole = prints_nothing first told;
   sound = ap (λ (q : Progress). q.fault) e;
   going = ap (λ (q : Progress). q.last) e;
@@ -195,12 +195,12 @@ printing_none first told p page e blank = record {
 no_lines : (events : List Event) (lines : List ℕ) → events ≡ [] → AreLinesOf events lines → lines ≡ []
 no_lines events lines e l = subst (λ (es : List Event). AreLinesOf es lines) e l
 
-no_events : (done : List ℕ) (last : Option Header) (events : List Event) → IsDone done None last events → last ≡ None → events ≡ []
+no_events : (done : List ℕ) (last : Option Header) (events : List Event) → IsReadSoFar done None last events → last ≡ None → events ≡ []
 no_events done None events d e = d.1
 no_events done (Some end) events d e = absurd d
 
 -- the line of the begin record stands in front of the events' where it is new, and stood there where it is not
-begun_text : (done : List ℕ) (before last : Option Header) (now : Option Header) (events : List Event) (lines : List ℕ) → IsDone done before last events → last ≡ None → AreLinesOf events lines → (IsSome before → now ≡ before)
+begun_text : (done : List ℕ) (before last : Option Header) (now : Option Header) (events : List Event) (lines : List ℕ) → IsReadSoFar done before last events → last ≡ None → AreLinesOf events lines → (IsSome before → now ≡ before)
     → (begin_lines before ++ lines) ++ new_begin (is_some before) now ≡ begin_lines now ++ lines
 begun_text done None last now events lines d going l kept =
     let none : lines ≡ [] = no_lines events lines (no_events done last events d going) l in
@@ -215,7 +215,7 @@ pub record Stepped (first after : Option (List ℕ)) (new : Progress) (told_firs
   pub lines : List ℕ
   pub lines_are : AreLinesOf events lines
   pub text_is : text ≡ begin_lines new.begin ++ lines
-  pub prints : Prints told_first told_now page text
+  pub prints : PrintsSoFar told_first told_now page text
   pub whole : PrintsLines first told_first told_now
 
 pub stepped : (first before after : Option (List ℕ)) (old new : Progress) (told_first told_now : Option (List ℕ)) (page page1 : List ℕ) (begun : Bool) (given : Result (Option (Unit {0})) MidFault) (event : Event)
@@ -229,7 +229,7 @@ stepped first before after old new told_first told_now page page1 begun given ev
   lines_are = p.listing.lines_are;
   text_is = ap (λ (t : List ℕ). t ++ new_begin begun new.begin) p.listing.text_is ∙ ap (λ (b : Bool). (begin_lines old.begin ++ p.listing.lines) ++ new_begin b new.begin) is_begun
       ∙ begun_text p.listing.read.done old.begin old.last new.begin p.listing.events p.listing.lines p.listing.read.is_done p.going p.listing.lines_are kept;
-  prints = subst (λ (q : List ℕ). Prints told_first told_now q (p.text ++ new_begin begun new.begin)) (sym page_is) (Prints-more told_first told_now page p.text (new_begin begun new.begin) p.prints);
+  prints = subst (λ (q : List ℕ). PrintsSoFar told_first told_now q (p.text ++ new_begin begun new.begin)) (sym page_is) (PrintsSoFar-more told_first told_now page p.text (new_begin begun new.begin) p.prints);
   whole = p.whole;
 }
 
@@ -264,21 +264,21 @@ more_listed first after new told_first told_now page page1 one event s a = recor
 }
 
 more_printed : (first after : Option (List ℕ)) (new : Progress) (told_first told_now : Option (List ℕ)) (page page1 : List ℕ) (one : Unit {0}) (event : Event) (s : Stepped first after new told_first told_now page (Ok (Some one)) event)
-    (a : Adds (AreEventLines event) page page1) → Prints told_first told_now page1 (s.text ++ a.lines)
+    (a : Adds (AreEventLines event) page page1) → PrintsSoFar told_first told_now page1 (s.text ++ a.lines)
 more_printed first after new told_first told_now page page1 one event s a =
-    subst (λ (q : List ℕ). Prints told_first told_now q (s.text ++ a.lines)) (sym a.page_is) (Prints-more told_first told_now page s.text a.lines s.prints)
+    subst (λ (q : List ℕ). PrintsSoFar told_first told_now q (s.text ++ a.lines)) (sym a.page_is) (PrintsSoFar-more told_first told_now page s.text a.lines s.prints)
 
 -- a page that passes leaves the text printed, and what went to the sink whole lines
-passed : (first now new : Option (List ℕ)) (page1 page2 text : List ℕ) (done : Unit {0}) → Prints first now page1 text → PassesPage now new page1 page2 (Ok done) → Prints first new page2 text
+passed : (first now new : Option (List ℕ)) (page1 page2 text : List ℕ) (done : Unit {0}) → PrintsSoFar first now page1 text → PassesPage now new page1 page2 (Ok done) → PrintsSoFar first new page2 text
 passed first now new page1 page2 text done p (inl kept) =
-    subst (λ (q : List ℕ). Prints first new q text) (sym kept.0) (subst (λ (t : Option (List ℕ)). Prints first t page1 text) (sym kept.1) p)
+    subst (λ (q : List ℕ). PrintsSoFar first new q text) (sym kept.0) (subst (λ (t : Option (List ℕ)). PrintsSoFar first t page1 text) (sym kept.1) p)
 passed first now new page1 page2 text done p (inr flushed) =
-    subst (λ (q : List ℕ). Prints first new q text) (sym flushed.0) (Prints-written first now new page1 text p flushed.1)
+    subst (λ (q : List ℕ). PrintsSoFar first new q text) (sym flushed.0) (PrintsSoFar-written first now new page1 text p flushed.1)
 
-passed_whole : (first told_first now new : Option (List ℕ)) (page1 page2 text : List ℕ) (done : Unit {0}) → IfSome first (λ bytes. IsPart bytes text) → Prints told_first now page1 text → PrintsLines first told_first now
+passed_whole : (first told_first now new : Option (List ℕ)) (page1 page2 text : List ℕ) (done : Unit {0}) → IfSome first (λ bytes. IsPart bytes text) → PrintsSoFar told_first now page1 text → PrintsLines first told_first now
     → PassesPage now new page1 page2 (Ok done) → PrintsLines first told_first new
 passed_whole first told_first now new page1 page2 text done part p whole (inl kept) = subst (λ (t : Option (List ℕ)). PrintsLines first told_first t) (sym kept.1) whole
-passed_whole first told_first now new page1 page2 text done part p whole (inr flushed) = record { text = text; part = part; written = Prints-all told_first now new page1 text p flushed.1 }
+passed_whole first told_first now new page1 page2 text done part p whole (inr flushed) = record { text = text; part = part; written = PrintsSoFar-all told_first now new page1 text p flushed.1 }
 
 pub one_more : (first after : Option (List ℕ)) (new : Progress) (told_first told_now told_new : Option (List ℕ)) (page page1 page2 : List ℕ) (one : Unit {0}) (done : Unit {0}) (event : Event)
     → Stepped first after new told_first told_now page (Ok (Some one)) event → Adds (AreEventLines event) page page1 → PassesPage told_now told_new page1 page2 (Ok done) → new.fault ≡ None → new.last ≡ None
@@ -300,7 +300,7 @@ pub one_cut : (first after : Option (List ℕ)) (new : Progress) (told_first tol
 one_cut first after new told_first told_now told_new page page1 page2 one failed event s a passes = record {
   text = s.text ++ a.lines;
   part = part_listed first after new (s.text ++ a.lines) (more_listed first after new told_first told_now page page1 one event s a);
-  written = Prints-fails told_first told_now told_new page1 (s.text ++ a.lines) (more_printed first after new told_first told_now page page1 one event s a) passes;
+  written = PrintsSoFar-fails told_first told_now told_new page1 (s.text ++ a.lines) (more_printed first after new told_first told_now page page1 one event s a) passes;
 }
 
 -- The last lines
@@ -326,29 +326,29 @@ read_or_not (BadRecord at) = inr (λ e. cc)
 read_or_not (TooLong at) = inr (λ e. cc)
 
 module _ (last : Option Header) (fault : Option MidFault) (first now new : Option (List ℕ)) (sink_old sink_new : ℕ) (text page : List ℕ) where
-  ends_by : (end result : ToolEnd) → Prints first now page (ended_text text last fault) → (Appends first new (ended_text text last fault) → EndsText last fault now first new text end)
+  ends_by : (end result : ToolEnd) → PrintsSoFar first now page (ended_text text last fault) → (Appends first new (ended_text text last fault) → EndsText last fault now first new text end)
       → Printed page now new sink_old sink_new end result → EndsText last fault now first new text result
-  ends_by end result p all (inl whole) = subst (λ (e : ToolEnd). EndsText last fault now first new text e) (sym whole.0) (all (Prints-all first now new page (ended_text text last fault) p whole.1))
-  ends_by end result p all (inr part) = subst (λ (e : ToolEnd). EndsText last fault now first new text e) (sym part.0) (Prints-fails first now new page (ended_text text last fault) p part.1)
+  ends_by end result p all (inl whole) = subst (λ (e : ToolEnd). EndsText last fault now first new text e) (sym whole.0) (all (PrintsSoFar-all first now new page (ended_text text last fault) p whole.1))
+  ends_by end result p all (inr part) = subst (λ (e : ToolEnd). EndsText last fault now first new text e) (sym part.0) (PrintsSoFar-fails first now new page (ended_text text last fault) p part.1)
 
 -- the page with the end record's line
-pub ended_page : (last : Option Header) (first now : Option (List ℕ)) (text page page1 : List ℕ) → Prints first now page text → page1 ≡ page ++ end_lines last → Prints first now page1 (text ++ end_lines last)
-ended_page last first now text page page1 p e = subst (λ (q : List ℕ). Prints first now q (text ++ end_lines last)) (sym e) (Prints-more first now page text (end_lines last) p)
+pub ended_page : (last : Option Header) (first now : Option (List ℕ)) (text page page1 : List ℕ) → PrintsSoFar first now page text → page1 ≡ page ++ end_lines last → PrintsSoFar first now page1 (text ++ end_lines last)
+ended_page last first now text page page1 p e = subst (λ (q : List ℕ). PrintsSoFar first now q (text ++ end_lines last)) (sym e) (PrintsSoFar-more first now page text (end_lines last) p)
 
-pub ends_well : (last : Option Header) (fault : Option MidFault) (first now new : Option (List ℕ)) (sink_old sink_new : ℕ) (text page : List ℕ) (result : ToolEnd) → fault ≡ None → Prints first now page (text ++ end_lines last)
+pub ends_well : (last : Option Header) (fault : Option MidFault) (first now new : Option (List ℕ)) (sink_old sink_new : ℕ) (text page : List ℕ) (result : ToolEnd) → fault ≡ None → PrintsSoFar first now page (text ++ end_lines last)
     → Printed page now new sink_old sink_new Done result → EndsText last fault now first new text result
 ends_well last fault first now new sink_old sink_new text page result none p printed =
     let same : ended_text text last fault ≡ text ++ end_lines last = ap (λ (f : Option MidFault). ended_text text last f) none ∙ append-nil (text ++ end_lines last) in
-    ends_by last fault first now new sink_old sink_new text page Done result (subst (λ (t : List ℕ). Prints first now page t) (sym same) p) (λ all. (none, all)) printed
+    ends_by last fault first now new sink_old sink_new text page Done result (subst (λ (t : List ℕ). PrintsSoFar first now page t) (sym same) p) (λ all. (none, all)) printed
 
-pub ends_badly : (last : Option Header) (fault : Option MidFault) (f : MidFault) (first now new : Option (List ℕ)) (sink_old sink_new : ℕ) (text page page1 : List ℕ) (end result : ToolEnd) → fault ≡ Some f → Prints first now page (text ++ end_lines last)
+pub ends_badly : (last : Option Header) (fault : Option MidFault) (f : MidFault) (first now new : Option (List ℕ)) (sink_old sink_new : ℕ) (text page page1 : List ℕ) (end result : ToolEnd) → fault ≡ Some f → PrintsSoFar first now page (text ++ end_lines last)
     → FaultEnds f page page1 end → end ≢ NoMemory → Printed page1 now new sink_old sink_new end result → EndsText last fault now first new text result
 ends_badly last fault f first now new sink_old sink_new text page page1 Done result is_fault p e some printed = absurd e
 ends_badly last fault f first now new sink_old sink_new text page page1 (Input (Mid g)) result is_fault p e some printed =
     let line : fault_lines fault ≡ bad_line (Mid g) = ap fault_lines (is_fault ∙ ap Some (sym e.0)) ∙ fault_line_is g e.1 in
     ends_by last fault first now new sink_old sink_new text page1 (Input (Mid g)) result
-    (subst (λ (t : List ℕ). Prints first now page1 ((text ++ end_lines last) ++ t)) (sym line)
-    (subst (λ (q : List ℕ). Prints first now q ((text ++ end_lines last) ++ bad_line (Mid g))) (sym e.2) (Prints-more first now page (text ++ end_lines last) (bad_line (Mid g)) p)))
+    (subst (λ (t : List ℕ). PrintsSoFar first now page1 ((text ++ end_lines last) ++ t)) (sym line)
+    (subst (λ (q : List ℕ). PrintsSoFar first now q ((text ++ end_lines last) ++ bad_line (Mid g))) (sym e.2) (PrintsSoFar-more first now page (text ++ end_lines last) (bad_line (Mid g)) p)))
     (λ all. (is_fault ∙ ap Some (sym e.0), e.1, all)) printed
 ends_badly last fault f first now new sink_old sink_new text page page1 (Input Compressed) result is_fault p e some printed = absurd e
 ends_badly last fault f first now new sink_old sink_new text page page1 (Input Missing) result is_fault p e some printed = absurd e
@@ -357,20 +357,20 @@ ends_badly last fault f first now new sink_old sink_new text page page1 FileFaul
     let source : fault ≡ Some ReadFault = is_fault ∙ ap Some e.0 in
     let same : ended_text text last fault ≡ text ++ end_lines last = ap (λ (o : Option MidFault). ended_text text last o) source ∙ append-nil (text ++ end_lines last) in
     ends_by last fault first now new sink_old sink_new text page1 FileFault result
-    (subst (λ (t : List ℕ). Prints first now page1 t) (sym same) (subst (λ (q : List ℕ). Prints first now q (text ++ end_lines last)) (sym e.1) p)) (λ all. (source, all)) printed
+    (subst (λ (t : List ℕ). PrintsSoFar first now page1 t) (sym same) (subst (λ (q : List ℕ). PrintsSoFar first now q (text ++ end_lines last)) (sym e.1) p)) (λ all. (source, all)) printed
 ends_badly last fault f first now new sink_old sink_new text page page1 SinkFault result is_fault p e some printed = absurd e
 ends_badly last fault f first now new sink_old sink_new text page page1 NoMemory result is_fault p e some printed = absurd (some refl)
 
-same_sink : (f : MidFault) (page page1 : List ℕ) (end : ToolEnd) (sink_old sink_new : ℕ) → FaultEnds f page page1 end → sink_new ≡ sink_old → SinkCounts end sink_old sink_new
+same_sink : (f : MidFault) (page page1 : List ℕ) (end : ToolEnd) (sink_old sink_new : ℕ) → FaultEnds f page page1 end → sink_new ≡ sink_old → SinkByEnd end sink_old sink_new
 same_sink f page page1 Done sink_old sink_new e s = s
 same_sink f page page1 (Input g) sink_old sink_new e s = s
 same_sink f page page1 FileFault sink_old sink_new e s = s
 same_sink f page page1 SinkFault sink_old sink_new e s = absurd e
 same_sink f page page1 NoMemory sink_old sink_new e s = s
 
-pub sink_of : (f : MidFault) (page page1 : List ℕ) (now new : Option (List ℕ)) (sink_old sink_new : ℕ) (end result : ToolEnd) → FaultEnds f page page1 end → Printed page1 now new sink_old sink_new end result → SinkCounts result sink_old sink_new
-sink_of f page page1 now new sink_old sink_new end result e (inl whole) = subst (λ (r : ToolEnd). SinkCounts r sink_old sink_new) (sym whole.0) (same_sink f page page1 end sink_old sink_new e whole.2)
-sink_of f page page1 now new sink_old sink_new end result e (inr part) = subst (λ (r : ToolEnd). SinkCounts r sink_old sink_new) (sym part.0) part.2
+pub sink_of : (f : MidFault) (page page1 : List ℕ) (now new : Option (List ℕ)) (sink_old sink_new : ℕ) (end result : ToolEnd) → FaultEnds f page page1 end → Printed page1 now new sink_old sink_new end result → SinkByEnd result sink_old sink_new
+sink_of f page page1 now new sink_old sink_new end result e (inl whole) = subst (λ (r : ToolEnd). SinkByEnd r sink_old sink_new) (sym whole.0) (same_sink f page page1 end sink_old sink_new e whole.2)
+sink_of f page page1 now new sink_old sink_new end result e (inr part) = subst (λ (r : ToolEnd). SinkByEnd r sink_old sink_new) (sym part.0) part.2
 
 -- What was printed in all
 
@@ -470,7 +470,7 @@ front_nil (x ∷ xs) ys e = absurd (let l : length (x ∷ xs ++ ys) ≡ 0 = ap (
 begins_printing : (first before now : Option (List ℕ)) (old new : Progress) (told_first told_now : Option (List ℕ)) (page : List ℕ) (given : Result (Option (Unit {0})) MidFault) (event : Event)
     → Printing first before old told_first told_now page → old.begin ≡ None → ReadsOn before now old new given event → given ≡ Err ReadFault → PrintsRead first now new told_first told_now
 begins_printing first before now old new told_first told_now page given event p fresh reads is =
-    let none : p.listing.events ≡ [] = no_events p.listing.read.done old.last p.listing.events (subst (λ (b : Option Header). IsDone p.listing.read.done b old.last p.listing.events) fresh p.listing.read.is_done) p.going in
+    let none : p.listing.events ≡ [] = no_events p.listing.read.done old.last p.listing.events (subst (λ (b : Option Header). IsReadSoFar p.listing.read.done b old.last p.listing.events) fresh p.listing.read.is_done) p.going in
     let lines : p.listing.lines ≡ [] = no_lines p.listing.events p.listing.lines none p.listing.lines_are in
     let text : p.text ≡ [] = p.listing.text_is ∙ ap (λ (b : Option Header). begin_lines b ++ p.listing.lines) fresh ∙ lines in
     let done : p.prints.done ≡ [] = front_nil p.prints.done page (sym p.prints.text_is ∙ text) in
@@ -532,12 +532,12 @@ reads_unread last first now text SinkFault old new e rose = tt
 reads_unread last first now text NoMemory old new e rose = absurd e
 
 -- the page and the line of the end record
-pub unread_printed : (last : Option Header) (first now new : Option (List ℕ)) (sink_old sink_new : ℕ) (text page : List ℕ) (result : ToolEnd) → Prints first now page (text ++ end_lines last)
+pub unread_printed : (last : Option Header) (first now new : Option (List ℕ)) (sink_old sink_new : ℕ) (text page : List ℕ) (result : ToolEnd) → PrintsSoFar first now page (text ++ end_lines last)
     → Printed page now new sink_old sink_new FileFault result → EndsUnread last first new text result
 unread_printed last first now new sink_old sink_new text page result p (inl whole) =
-    subst (λ (e : ToolEnd). EndsUnread last first new text e) (sym whole.0) (inl (Prints-all first now new page (text ++ end_lines last) p whole.1))
+    subst (λ (e : ToolEnd). EndsUnread last first new text e) (sym whole.0) (inl (PrintsSoFar-all first now new page (text ++ end_lines last) p whole.1))
 unread_printed last first now new sink_old sink_new text page result p (inr part) =
-    subst (λ (e : ToolEnd). EndsUnread last first new text e) (sym part.0) (inl (Prints-fails first now new page (text ++ end_lines last) p part.1))
+    subst (λ (e : ToolEnd). EndsUnread last first new text e) (sym part.0) (inl (PrintsSoFar-fails first now new page (text ++ end_lines last) p part.1))
 
 pub source_good : (last : Option Header) (before first now : Option (List ℕ)) (text : List ℕ) (result : ToolEnd) (old new : ℕ) → EndsText last None before first now text result → new ≡ old → ReadCounts result old new
 source_good last before first now text Done old new e same = same

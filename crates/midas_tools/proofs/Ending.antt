@@ -4,7 +4,7 @@ use Rattle.std.specs.Prelude.{IsSome}
 use Rattle.daq_io.specs.Seen.{Stored, Seen}
 use Rattle.daq_io.specs.FileLeft.{told_left}
 use Rattle.mid_format.specs.declared.faults.MidFault.{MidFault}
-use Rattle.midas_tools.specs.Findings.{IsThere, Finds, WritesAll, Writes, ReadsTo, IsOpened, Refuses, SaysWhy, Printed, PrintsClosed, FinishesFile}
+use Rattle.midas_tools.specs.Findings.{IsThere, Finds, WritesAll, Writes, ReadsTo, IsFileOpened, RefusesFile, SaysWhy, Printed, PrintsClosed, FinishesFile}
 use Rattle.midas_tools.specs.declared.opening.Refused.{Refused}
 use Rattle.midas_tools.specs.declared.opening.Refused.TheVariants.{NameCompressed, NameMissing, OpenFailed}
 use Rattle.midas_tools.specs.declared.ends.InputFault.TheVariants.{Mid, Compressed, Missing, ScriptTooLong}
@@ -20,7 +20,7 @@ told_if true left P h p = p
 told_if false left P h p = let e : false ≡ true = h in absurd cc
 
 -- what is true of the bytes that are left of a file when it is opened is true of the file
-pub there : (seen opened : Seen) (name : List ℕ) (number : ℕ) (P : List ℕ → Type 0) → IsOpened seen opened name number → IfSome (told_left opened number) P → IsTrue seen.tells → IsThere seen name P
+pub there : (seen opened : Seen) (name : List ℕ) (number : ℕ) (P : List ℕ → Type 0) → IsFileOpened seen opened name number → IfSome (told_left opened number) P → IsTrue seen.tells → IsThere seen name P
 there seen opened name number P o p told =
     let found : (file : Stored) × (seen.at name ≡ Some file) = file_at (seen.at name) (o.opens.there told) in
     record {
@@ -38,13 +38,13 @@ module _ (Says : List ℕ → Option MidFault → List ℕ → Type 0) (seen : S
   all_or_part text end result finds all (inr part) =
       subst (λ (e : ToolEnd). Writes Says seen name told_old told_new e) (sym part.0) (record { found = end; text = text; finds = finds; written = part.1 })
 
-  pub writes_refused : (faults_old faults_new clashes_old clashes_new : ℕ) (refused : Refused) (result : ToolEnd) → Refuses seen name faults_old faults_new clashes_old clashes_new refused
+  pub writes_refused : (faults_old faults_new clashes_old clashes_new : ℕ) (refused : Refused) (result : ToolEnd) → RefusesFile seen name faults_old faults_new clashes_old clashes_new refused
       → SaysWhy refused told_old told_new sink_old sink_new result → Writes Says seen name told_old told_new result
   writes_refused faults_old faults_new clashes_old clashes_new NameCompressed result r s = all_or_part _ (Input Compressed) result (r.0, refl) (λ all. all) s
   writes_refused faults_old faults_new clashes_old clashes_new NameMissing result r s = all_or_part _ (Input Missing) result (r.0, refl, r.1) (λ all. all) s
   writes_refused faults_old faults_new clashes_old clashes_new OpenFailed result r s = subst (λ (e : ToolEnd). Writes Says seen name told_old told_new e) (sym s.0) (r.0, s.1)
 
-  module _ (opened : Seen) (number : ℕ) (o : IsOpened seen opened name number) (page : List ℕ) (files_old files_new : ℕ) where
+  module _ (opened : Seen) (number : ℕ) (o : IsFileOpened seen opened name number) (page : List ℕ) (files_old files_new : ℕ) where
     closed_to : (end result : ToolEnd) → Finds Says seen name page end → (WritesAll Says seen name told_old told_new end → Writes Says seen name told_old told_new end)
         → PrintsClosed page told_old told_new sink_old sink_new files_old files_new end result → Writes Says seen name told_old told_new result
     closed_to end result finds all (inl printed) = all_or_part page end result finds all printed.0

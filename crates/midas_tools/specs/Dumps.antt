@@ -8,13 +8,13 @@ use Rattle.daq_io.specs.Seen.{Seen}
 use Rattle.daq_io.specs.Streams.{AppendsPart}
 use Rattle.event_header.specs.declared.head.Header.{Header}
 use Rattle.mid_format.specs.Parts.{CountedBy}
-use Rattle.mid_format.specs.HasRead.{IsDone, StandsAt, HasRead}
+use Rattle.mid_format.specs.HasRead.{IsReadSoFar, IsFaultAt, HasRead}
 use Rattle.mid_format.specs.declared.faults.MidFault.{MidFault}
 use Rattle.mid_format.specs.declared.faults.MidFault.TheVariants.{Truncated, NoBegin, NoEnd, AfterEnd, TooBig, ReadFault, BadRecord, TooLong}
 use Rattle.mid_format.specs.declared.progress.Progress.{Progress}
 use Rattle.midas_tools.specs.Texts.{record_line, bad_line}
 use Rattle.midas_tools.specs.Areas.{AreLinesOf}
-use Rattle.midas_tools.specs.Printing.{Prints}
+use Rattle.midas_tools.specs.Printing.{PrintsSoFar}
 use Rattle.midas_tools.specs.Findings.{IsThere, WritesAll, WritesPart}
 use Rattle.midas_tools.specs.declared.halts.Halt.{Halt}
 use Rattle.midas_tools.specs.declared.halts.Halt.TheVariants.{Bad, SinkFailed, Short, Unread}
@@ -45,7 +45,7 @@ fault_lines (Some (TooLong at)) = bad_line (Mid (TooLong at))
 
 -- Behind the records and events that were read is the end of the file, or a fault.
 abbrev pub EndsAt : Option MidFault → (last begin : Option Header) (at : ℕ) → List ℕ → Type 0
-EndsAt (Some fault) last begin at rest = StandsAt last begin at rest fault
+EndsAt (Some fault) last begin at rest = IsFaultAt last begin at rest fault
 EndsAt None None begin at rest = ⊥
 EndsAt None (Some end) begin at rest = rest ≡ []
 
@@ -55,7 +55,7 @@ pub record ListsFront (bytes : List ℕ) (begin last : Option Header) (rest text
   pub front : List ℕ
   pub bytes_are : bytes ≡ front ++ rest
   pub events : List Event
-  pub is_done : IsDone front begin last events
+  pub is_done : IsReadSoFar front begin last events
   pub lines : List ℕ
   pub lines_are : AreLinesOf events lines
   pub text_is : text ≡ (begin_lines begin ++ lines) ++ end_lines last
@@ -139,7 +139,7 @@ pub record PrintsRead (first now : Option (List ℕ)) (progress : Progress) (tol
 pub record Printing (first now : Option (List ℕ)) (progress : Progress) (told_first told_now : Option (List ℕ)) (page : List ℕ) : Type 0 where
   pub text : List ℕ
   pub listing : Listing first now progress text
-  pub prints : Prints told_first told_now page text
+  pub prints : PrintsSoFar told_first told_now page text
   pub whole : PrintsLines first told_first told_now
   pub sound : progress.fault ≡ None
   pub going : progress.last ≡ None
@@ -148,7 +148,7 @@ pub record Printing (first now : Option (List ℕ)) (progress : Progress) (told_
 pub record PrintsUpTo (first now : Option (List ℕ)) (progress : Progress) (told_first told_now : Option (List ℕ)) (page : List ℕ) (fault : Option MidFault) : Type 0 where
   pub text : List ℕ
   pub listing : Listing first now progress text
-  pub prints : Prints told_first told_now page text
+  pub prints : PrintsSoFar told_first told_now page text
   pub whole : PrintsLines first told_first told_now
   pub fault_is : progress.fault ≡ fault
 

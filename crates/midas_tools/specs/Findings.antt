@@ -78,21 +78,21 @@ Writes Says seen name told_old told_new SinkFault = WritesPart Says seen name to
 Writes Says seen name told_old told_new NoMemory = (is_compressed name ≡ false) × Keeps told_old told_new
 
 -- the sink's count of faults: it rose exactly where the sink failed
-abbrev pub SinkCounts : ToolEnd → (old new : ℕ) → Type 0
-SinkCounts Done old new = new ≡ old
-SinkCounts (Input fault) old new = new ≡ old
-SinkCounts FileFault old new = new ≡ old
-SinkCounts SinkFault old new = Rose old new
-SinkCounts NoMemory old new = new ≡ old
+abbrev pub SinkByEnd : ToolEnd → (old new : ℕ) → Type 0
+SinkByEnd Done old new = new ≡ old
+SinkByEnd (Input fault) old new = new ≡ old
+SinkByEnd FileFault old new = new ≡ old
+SinkByEnd SinkFault old new = Rose old new
+SinkByEnd NoMemory old new = new ≡ old
 
 -- the files' count: it rose exactly where a call on them failed and the sink did not; so a fault of theirs comes before
 -- want of memory, also where it comes later
-abbrev pub FileCounts : ToolEnd → (old new : ℕ) → Type 0
-FileCounts Done old new = new ≡ old
-FileCounts (Input fault) old new = new ≡ old
-FileCounts FileFault old new = Rose old new
-FileCounts SinkFault old new = ⊤
-FileCounts NoMemory old new = new ≡ old
+abbrev pub FilesByEnd : ToolEnd → (old new : ℕ) → Type 0
+FilesByEnd Done old new = new ≡ old
+FilesByEnd (Input fault) old new = new ≡ old
+FilesByEnd FileFault old new = Rose old new
+FilesByEnd SinkFault old new = ⊤
+FilesByEnd NoMemory old new = new ≡ old
 
 -- a missing name is counted as a clash
 abbrev pub ClashCounts : ToolEnd → (old new : ℕ) → Type 0
@@ -117,24 +117,24 @@ ReadsTo Says source text SinkFault = ⊥
 ReadsTo Says source text NoMemory = ⊤
 
 -- the source's count of faults by that end
-abbrev pub SourceCounts : ToolEnd → (old new : ℕ) → Type 0
-SourceCounts Done old new = new ≡ old
-SourceCounts (Input fault) old new = new ≡ old
-SourceCounts FileFault old new = Rose old new
-SourceCounts SinkFault old new = new ≡ old
-SourceCounts NoMemory old new = new ≡ old
+abbrev pub SourceByEnd : ToolEnd → (old new : ℕ) → Type 0
+SourceByEnd Done old new = new ≡ old
+SourceByEnd (Input fault) old new = new ≡ old
+SourceByEnd FileFault old new = Rose old new
+SourceByEnd SinkFault old new = new ≡ old
+SourceByEnd NoMemory old new = new ≡ old
 
 -- The name is not compressed, and its file was opened.
-pub record IsOpened (old now : Seen) (name : List ℕ) (number : ℕ) : Type 0 where
+pub record IsFileOpened (old now : Seen) (name : List ℕ) (number : ℕ) : Type 0 where
   pub plain : is_compressed name ≡ false
   pub opens : Opens old now name number []
 
 -- Why a file was not opened, with the counts of faults and of clashes of the files.
-abbrev pub Refuses : Seen → (name : List ℕ) (faults_old faults_new clashes_old clashes_new : ℕ) → Refused → Type 0
-Refuses seen name faults_old faults_new clashes_old clashes_new NameCompressed = IsTrue (is_compressed name) × (faults_new ≡ faults_old)
-Refuses seen name faults_old faults_new clashes_old clashes_new NameMissing =
+abbrev pub RefusesFile : Seen → (name : List ℕ) (faults_old faults_new clashes_old clashes_new : ℕ) → Refused → Type 0
+RefusesFile seen name faults_old faults_new clashes_old clashes_new NameCompressed = IsTrue (is_compressed name) × (faults_new ≡ faults_old)
+RefusesFile seen name faults_old faults_new clashes_old clashes_new NameMissing =
     (is_compressed name ≡ false) × (IsTrue seen.tells → IsNone (seen.at name)) × (faults_new ≡ faults_old) × Rose clashes_old clashes_new
-Refuses seen name faults_old faults_new clashes_old clashes_new OpenFailed = (is_compressed name ≡ false) × Rose faults_old faults_new
+RefusesFile seen name faults_old faults_new clashes_old clashes_new OpenFailed = (is_compressed name ≡ false) × Rose faults_old faults_new
 
 -- A text was printed whole, and this is the end; or the sink failed at a part of it.
 abbrev pub Printed : (text : List ℕ) (told_old told_new : Option (List ℕ)) (sink_old sink_new : ℕ) (end result : ToolEnd) → Type 0

@@ -8,30 +8,30 @@ use Rattle.daq_io.specs.declared.faults.Failed.{Failed}
 use Rattle.daq_io.specs.Streams.{AppendsPart, Appends-nil, Appends-trans}
 
 -- Of this text all was written but what is on the page.
-pub record Prints (first now : Option (List ℕ)) (page text : List ℕ) : Type 0 where
+pub record PrintsSoFar (first now : Option (List ℕ)) (page text : List ℕ) : Type 0 where
   pub done : List ℕ
   pub written : Appends first now done
   pub text_is : text ≡ done ++ page
 
 -- nothing was printed
-pub Prints-none : (a : Option (List ℕ)) → Prints a a [] []
-Prints-none a = record { done = []; written = Appends-nil a; text_is = refl }
+pub PrintsSoFar-none : (a : Option (List ℕ)) → PrintsSoFar a a [] []
+PrintsSoFar-none a = record { done = []; written = Appends-nil a; text_is = refl }
 
 -- more on the page
-pub Prints-more : (first now : Option (List ℕ)) (page text more : List ℕ) → Prints first now page text → Prints first now (page ++ more) (text ++ more)
-Prints-more first now page text more p = record { done = p.done; written = p.written; text_is = ap (λ (t : List ℕ). t ++ more) p.text_is ∙ append_assoc p.done page more }
+pub PrintsSoFar-more : (first now : Option (List ℕ)) (page text more : List ℕ) → PrintsSoFar first now page text → PrintsSoFar first now (page ++ more) (text ++ more)
+PrintsSoFar-more first now page text more p = record { done = p.done; written = p.written; text_is = ap (λ (t : List ℕ). t ++ more) p.text_is ∙ append_assoc p.done page more }
 
 -- the page was written
-pub Prints-written : (first now new : Option (List ℕ)) (page text : List ℕ) → Prints first now page text → Appends now new page → Prints first new [] text
-Prints-written first now new page text p w = record { done = p.done ++ page; written = Appends-trans first now new p.done page p.written w; text_is = p.text_is ∙ sym (append-nil (p.done ++ page)) }
+pub PrintsSoFar-written : (first now new : Option (List ℕ)) (page text : List ℕ) → PrintsSoFar first now page text → Appends now new page → PrintsSoFar first new [] text
+PrintsSoFar-written first now new page text p w = record { done = p.done ++ page; written = Appends-trans first now new p.done page p.written w; text_is = p.text_is ∙ sym (append-nil (p.done ++ page)) }
 
 -- and so all of the text
-pub Prints-all : (first now new : Option (List ℕ)) (page text : List ℕ) → Prints first now page text → Appends now new page → Appends first new text
-Prints-all first now new page text p w = subst (λ (t : List ℕ). Appends first new t) (sym p.text_is) (Appends-trans first now new p.done page p.written w)
+pub PrintsSoFar-all : (first now new : Option (List ℕ)) (page text : List ℕ) → PrintsSoFar first now page text → Appends now new page → Appends first new text
+PrintsSoFar-all first now new page text p w = subst (λ (t : List ℕ). Appends first new t) (sym p.text_is) (Appends-trans first now new p.done page p.written w)
 
 -- where the page was not written whole, a part of the text was
-pub Prints-fails : (first now new : Option (List ℕ)) (page text : List ℕ) → Prints first now page text → AppendsPart now new page → AppendsPart first new text
-Prints-fails first now new page text p w = record {
+pub PrintsSoFar-fails : (first now new : Option (List ℕ)) (page text : List ℕ) → PrintsSoFar first now page text → AppendsPart now new page → AppendsPart first new text
+PrintsSoFar-fails first now new page text p w = record {
   count = length p.done + w.count;
   appends = subst (λ (t : List ℕ). Appends first new (take (length p.done + w.count) t)) (sym p.text_is)
       (subst (λ (t : List ℕ). Appends first new t) (sym (take-append-add p.done page w.count)) (Appends-trans first now new p.done (take w.count page) p.written w.appends));

@@ -2,8 +2,8 @@ ghost use Rattle.std.specs.Prelude.{◌≡◌, ◌≤◌, ◌++◌, ℕ, List, [
 ghost use Rattle.daq_io.specs.Seen.{Same};
 ghost use Rattle.mid_format.specs.HasRead.{nothing_read};
 ghost use Rattle.midas_tools.specs.Dumps.{DumpsTo, EndsText, EndsUnread, ListsTo, ReadCounts, SinkHalts, SourceHalts, WritesOn, end_lines, new_begin};
-ghost use Rattle.midas_tools.specs.Findings.{ClashCounts, Completes, FileCounts, SinkCounts};
-ghost use Rattle.midas_tools.specs.Printing.{Prints};
+ghost use Rattle.midas_tools.specs.Findings.{ClashCounts, Completes, FilesByEnd, SinkByEnd};
+ghost use Rattle.midas_tools.specs.Printing.{PrintsSoFar};
 
 use crate::areas::add_whole_event;
 use crate::closing::{close_dump, print, refuse, stop_at};
@@ -43,7 +43,7 @@ fn add_end(page: &mut TextBuffer, last: Option<Header>) -> Result<(), NoMemory>
     }
 }
 
-/// Prints the begin record and the events, as they are read.
+/// PrintsSoFar the begin record and the events, as they are read.
 fn print_events<S: Source, K: Sink>(
     reader: &mut MidReader<S>,
     event: &mut EventBuf,
@@ -75,15 +75,15 @@ fn print_events<S: Source, K: Sink>(
     }
 }
 
-/// Prints what is on the page, and the lines of the end record and of the fault where there are such.
+/// PrintsSoFar what is on the page, and the lines of the end record and of the fault where there are such.
 fn end_dump<K: Sink>(
     last: Option<Header>,
     fault: Option<MidFault>,
     page: &mut TextBuffer,
     out: &mut K,
 ) -> ToolEnd
-    ensures text { (first : Option (List ℕ)) → (text : List ℕ) → Prints first (K.written out.old) page.old text → EndsText last fault (K.written out.old) first (K.written out.new) text result }
-    ensures sink { SinkCounts result (K.faults out.old) (K.faults out.new) }
+    ensures text { (first : Option (List ℕ)) → (text : List ℕ) → PrintsSoFar first (K.written out.old) page.old text → EndsText last fault (K.written out.old) first (K.written out.new) text result }
+    ensures sink { SinkByEnd result (K.faults out.old) (K.faults out.new) }
 {
     let Ok(()) = add_end(page, last) else {
         return ToolEnd::NoMemory;
@@ -97,11 +97,11 @@ fn end_dump<K: Sink>(
     }
 }
 
-/// Prints what is on the page, and then the line of the end record, where it was read and there is memory for it. The
+/// PrintsSoFar what is on the page, and then the line of the end record, where it was read and there is memory for it. The
 /// source failed behind that.
 fn end_unread<K: Sink>(last: Option<Header>, page: &mut TextBuffer, out: &mut K) -> ToolEnd
-    ensures text { (first : Option (List ℕ)) → (text : List ℕ) → Prints first (K.written out.old) page.old text → EndsUnread last first (K.written out.new) text result }
-    ensures sink { SinkCounts result (K.faults out.old) (K.faults out.new) }
+    ensures text { (first : Option (List ℕ)) → (text : List ℕ) → PrintsSoFar first (K.written out.old) page.old text → EndsUnread last first (K.written out.new) text result }
+    ensures sink { SinkByEnd result (K.faults out.old) (K.faults out.new) }
 {
     let Ok(()) = flush(page, out) else {
         return ToolEnd::SinkFault;
@@ -121,7 +121,7 @@ fn read_and_dump<S: Source, K: Sink>(
     requires { reader.old.progress ≡ nothing_read }
     ensures dumps { DumpsTo (S.left reader.old.source) (S.left reader.new.source) reader.new.progress (K.written out.old) (K.written out.new) result }
     ensures source { ReadCounts result (S.faults reader.old.source) (S.faults reader.new.source) }
-    ensures sink { SinkCounts result (K.faults out.old) (K.faults out.new) }
+    ensures sink { SinkByEnd result (K.faults out.old) (K.faults out.new) }
     ensures origin { S.origin reader.new.source ≡ S.origin reader.old.source }
 {
     let Ok(mut event) = EventBuf::new(alloc, MAX_DATA) else {
@@ -151,8 +151,8 @@ pub fn dump_file<F: Files, K: Sink>(
     // What was found, and what was written of it.
     ensures writes { WritesOn (F.seen files) name.now (K.written out.old) (K.written out.new) result.0 }
     // A fault is the end exactly where its count rose and no earlier cause holds.
-    ensures sink { SinkCounts result.0 (K.faults out.old) (K.faults out.new) }
-    ensures faults { FileCounts result.0 (F.faults files) (F.faults result.1) }
+    ensures sink { SinkByEnd result.0 (K.faults out.old) (K.faults out.new) }
+    ensures faults { FilesByEnd result.0 (F.faults files) (F.faults result.1) }
     // A run file leads to the end `Done`, unless a call failed or there was no memory.
     ensures complete { Completes (F.seen files) name.now (K.faults out.old) (K.faults out.new) (F.faults files) (F.faults result.1) result.0 }
     ensures clashes { ClashCounts result.0 (F.clashes files) (F.clashes result.1) }

@@ -1,7 +1,7 @@
 ghost use Rattle.std.specs.Prelude.{◌≡◌, IfOk, IfErr};
 ghost use Rattle.daq_io.specs.Counts.{CountsFault};
 ghost use Rattle.daq_io.specs.Seen.{Ends, Same};
-ghost use Rattle.midas_tools.specs.Findings.{IsOpened, Refuses};
+ghost use Rattle.midas_tools.specs.Findings.{IsFileOpened, RefusesFile};
 
 use daq_io::{Failed, FileSource, Files, NameRefused};
 use daq_types::FileName;
@@ -19,10 +19,10 @@ pub enum Refused {
 
 /// Opens the file of this name. Hands the files back where it does not.
 pub fn open<F: Files>(mut files: F, name: &FileName) -> Result<FileSource<F>, (Refused, F)>
-    ensures opened { IfOk result (λ source. IsOpened (F.seen files) (F.seen source.files) name.now source.number) }
+    ensures opened { IfOk result (λ source. IsFileOpened (F.seen files) (F.seen source.files) name.now source.number) }
     ensures first { IfOk result (λ source. source.first ≡ source.files) }
     ensures faults { IfOk result (λ source. F.faults source.files ≡ F.faults files) }
-    ensures refused { IfErr result (λ r. Refuses (F.seen files) name.now (F.faults files) (F.faults r.1) (F.clashes files) (F.clashes r.1) r.0) }
+    ensures refused { IfErr result (λ r. RefusesFile (F.seen files) name.now (F.faults files) (F.faults r.1) (F.clashes files) (F.clashes r.1) r.0) }
     ensures same { IfErr result (λ r. Same (F.seen files) (F.seen r.1)) }
 {
     if name.compressed() {

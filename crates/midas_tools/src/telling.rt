@@ -3,7 +3,7 @@ ghost use Rattle.daq_io.specs.Seen.{Same};
 ghost use Rattle.mid_format.specs.HasRead.{nothing_read};
 ghost use Rattle.mid_format.specs.Parts.{CountsReads};
 ghost use Rattle.midas_tools.specs.Summaries.{Meets, SumsAll, Tells};
-ghost use Rattle.midas_tools.specs.Findings.{ClashCounts, Completes, FileCounts, ReadsTo, SinkCounts, SourceCounts, Writes};
+ghost use Rattle.midas_tools.specs.Findings.{ClashCounts, Completes, FilesByEnd, ReadsTo, SinkByEnd, SourceByEnd, Writes};
 
 use crate::closing::{finish, refuse, stop_at};
 use crate::ends::ToolEnd;
@@ -48,7 +48,7 @@ fn read_and_tell<S: Source, T: Summary>(
     requires new { reader.old.progress ≡ nothing_read }
     requires blank { page.old ≡ [] }
     ensures reads { ReadsTo (Tells T.text) (S.left reader.old.source) page.new result }
-    ensures faults { SourceCounts result (S.faults reader.old.source) (S.faults reader.new.source) }
+    ensures faults { SourceByEnd result (S.faults reader.old.source) (S.faults reader.new.source) }
     ensures origin { S.origin reader.new.source ≡ S.origin reader.old.source }
 {
     let Ok(mut event) = EventBuf::new(alloc, MAX_DATA) else {
@@ -78,8 +78,8 @@ pub fn tell_file<F: Files, K: Sink, T: Summary>(
     out: &mut K,
 ) -> (ToolEnd, F)
     ensures writes { Writes (Tells T.text) (F.seen files) name.now (K.written out.old) (K.written out.new) result.0 }
-    ensures sink { SinkCounts result.0 (K.faults out.old) (K.faults out.new) }
-    ensures faults { FileCounts result.0 (F.faults files) (F.faults result.1) }
+    ensures sink { SinkByEnd result.0 (K.faults out.old) (K.faults out.new) }
+    ensures faults { FilesByEnd result.0 (F.faults files) (F.faults result.1) }
     ensures complete { Completes (F.seen files) name.now (K.faults out.old) (K.faults out.new) (F.faults files) (F.faults result.1) result.0 }
     ensures clashes { ClashCounts result.0 (F.clashes files) (F.clashes result.1) }
     ensures same { Same (F.seen files) (F.seen result.1) }

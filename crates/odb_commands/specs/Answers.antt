@@ -8,7 +8,7 @@ use Rattle.odb_path.specs.PathText.{path_reply}
 use Rattle.odb_value.specs.declared.items.Item.{Item}
 use Rattle.odb_value.specs.declared.refusals.ItemRefusal.{ItemRefusal}
 use Rattle.odb_value.specs.ItemTexts.{item_read}
-use Rattle.odb_value.specs.Values.{Held}
+use Rattle.odb_value.specs.Values.{HeldValue}
 use Rattle.odb_tree.specs.declared.children.Child.{Child}
 use Rattle.odb_tree.specs.declared.entry.DatabaseEntry.{DatabaseEntry}
 use Rattle.odb_tree.specs.declared.entry.DatabaseEntry.TheVariants as call
@@ -60,14 +60,14 @@ item_or (Err why) = Err (BadItem why)
 item_or (Ok item) = Ok item
 
 -- the item that a text gives a key with this value, at this index
-abbrev pub item_for : Held → (index : ℕ) → (text : List ℕ) → Result Item CommandRefusal
+abbrev pub item_for : HeldValue → (index : ℕ) → (text : List ℕ) → Result Item CommandRefusal
 item_for v index text = if nat_lt index (length v.items) then item_or (item_read v.tid text) else Err (Database (BadIndex (length v.items)))
 
 abbrev pub set_item : Rows → List (List ℕ) → (index : ℕ) → Result Item CommandRefusal → Answer
 set_item s p index (Err why) = refused why
 set_item s p index (Ok item) = record { calls = call.Set p index item (set_reply s p index item) ∷ []; reply = done_or (set_reply s p index item) }
 
-abbrev pub set_in : Rows → List (List ℕ) → (index : ℕ) → (text : List ℕ) → Result Held OdbRefusal → Answer
+abbrev pub set_in : Rows → List (List ℕ) → (index : ℕ) → (text : List ℕ) → Result HeldValue OdbRefusal → Answer
 set_in s p index text (Err why) = refused (Database why)
 set_in s p index text (Ok v) = set_item s p index (item_for v index text)
 
@@ -77,10 +77,10 @@ set_at s index text p = behind (call.Get p (get_reply s p)) (set_in s p index te
 -- `get`: the key is got; for its lines it is also found, and the path of its row gives the name as it is spelled in the
 -- database.
 
-abbrev pub key_named : Rows → Held → (row : ℕ) → Answer
+abbrev pub key_named : Rows → HeldValue → (row : ℕ) → Answer
 key_named s v row = record { calls = call.PathOf row (Ok (path_with s.rows row)) ∷ []; reply = Key (unwrap_or (path_with s.rows row) []) v }
 
-abbrev pub key_found : Rows → Held → Result ℕ OdbRefusal → Answer
+abbrev pub key_found : Rows → HeldValue → Result ℕ OdbRefusal → Answer
 key_found s v (Err why) = refused (Database why)
 key_found s v (Ok row) = key_named s v row
 
@@ -88,11 +88,11 @@ abbrev pub one_or : (len : ℕ) → Option Item → CommandReply
 one_or len None = Refused (Database (BadIndex len))
 one_or len (Some item) = One item
 
-abbrev pub shown : Rows → List (List ℕ) → Option ℕ → Held → Answer
+abbrev pub shown : Rows → List (List ℕ) → Option ℕ → HeldValue → Answer
 shown s p None v = behind (call.Find p (find_reply s p)) (key_found s v (find_reply s p))
 shown s p (Some index) v = record { calls = []; reply = one_or (length v.items) (slice_get v.items index) }
 
-abbrev pub get_in : Rows → List (List ℕ) → Option ℕ → Result Held OdbRefusal → Answer
+abbrev pub get_in : Rows → List (List ℕ) → Option ℕ → Result HeldValue OdbRefusal → Answer
 get_in s p index (Err why) = refused (Database why)
 get_in s p index (Ok v) = shown s p index v
 

@@ -10,7 +10,7 @@ use Rattle.odb_path.specs.Paths.{same_name}
 use Rattle.odb_path.specs.PathText.{path_reply}
 use Rattle.odb_value.specs.declared.items.Item.{Item}
 use Rattle.odb_value.specs.Items.{tid_of, is_kept}
-use Rattle.odb_value.specs.Values.{Held}
+use Rattle.odb_value.specs.Values.{HeldValue}
 use Rattle.odb_tree.specs.declared.rows.Row.{Row}
 use Rattle.odb_tree.specs.declared.rows.NewKey.{NewKey}
 use Rattle.odb_tree.specs.declared.rows.NewKey.TheVariants.{Dir, Keys}
@@ -33,7 +33,7 @@ use Rattle.odb_commands.specs.declared.replies.CommandRefusal.{CommandRefusal}
 use Rattle.odb_commands.specs.declared.replies.CommandRefusal.TheVariants.{Protected}
 use Rattle.odb_commands.specs.declared.replies.CommandReply.{CommandReply}
 use Rattle.odb_commands.specs.Answers.{Answer, refused, at_path, create_at, item_for, set_item, set_in, set_at, key_named, key_found, shown, get_in, get_at, list_at, is_protected, removed, remove_at, answer_of}
-use Rattle.odb_commands.specs.CommandCalls.{IsSettled, AtPath, Creates, SetsItem, SetsIn, Sets, Names, NamesFound, Shows, GetsIn, Gets, Lists, RemovesIf, Removes, Performs, IsCutShort}
+use Rattle.odb_commands.specs.CommandCalls.{IsSettled, AtPath, CreatesKey, SetsItem, SetsIn, Sets, Names, NamesFound, Shows, GetsIn, Gets, Lists, RemovesIf, RemovesKey, Performs, IsCutShort}
 
 -- A refusal by the rows is never one for want of memory.
 
@@ -95,7 +95,7 @@ found_settled None (Some r) other = tt
 seek_settled : (rows : List Row) (p : List (List ℕ)) → IsSettled (seek rows p)
 seek_settled rows p = found_settled (obstacle_to rows p) (row_at rows p) (along_other (Some NoKey) rows [] (parent_of p) no_key_other)
 
-key_settled : (number : ℕ) (value : Option Held) → IsSettled (key_of number value)
+key_settled : (number : ℕ) (value : Option HeldValue) → IsSettled (key_of number value)
 key_settled number None = not_value_other
 key_settled number (Some v) = tt
 
@@ -107,7 +107,7 @@ seek_key_settled : (rows : List Row) (p : List (List ℕ)) → IsSettled (seek_k
 seek_key_settled rows [] = not_value_other
 seek_key_settled rows (name ∷ names) = found_key_settled (seek rows (name ∷ names)) (seek_settled rows (name ∷ names))
 
-value_settled : (key : Result (ℕ × Held) OdbRefusal) → IsSettled key → IsSettled (value_reply key)
+value_settled : (key : Result (ℕ × HeldValue) OdbRefusal) → IsSettled key → IsSettled (value_reply key)
 value_settled (Err refusal) settled = settled
 value_settled (Ok key) settled = tt
 
@@ -148,7 +148,7 @@ create_settled s p kind =
     (or_other (exists_fault s.rows p) kinds (exists_fault_other s.rows p)
     (or_other (kept_fault kind) limits (kept_fault_other kind) (mapped_other _))))
 
-set_to_settled : (s : Rows) (p : List (List ℕ)) (index : ℕ) (item : Item) (key : Result (ℕ × Held) OdbRefusal) → IsSettled key → IsSettled (set_reply_to s p index item key)
+set_to_settled : (s : Rows) (p : List (List ℕ)) (index : ℕ) (item : Item) (key : Result (ℕ × HeldValue) OdbRefusal) → IsSettled key → IsSettled (set_reply_to s p index item key)
 set_to_settled s p index item (Err refusal) settled = settled
 set_to_settled s p index item (Ok key) settled =
     let limits : Option OdbRefusal = limit_fault (text_fault item) (after_set s p index item) in
@@ -192,19 +192,19 @@ item_performs : (s : Rows) (p : List (List ℕ)) (index : ℕ) (item : Result It
 item_performs s p index (Err why) = (refl, refl)
 item_performs s p index (Ok item) = (set_reply s p index item, refl, set_settled s p index item, refl)
 
-set_performs : (s : Rows) (p : List (List ℕ)) (index : ℕ) (text : List ℕ) (got : Result Held OdbRefusal) → SetsIn p index text got (set_in s p index text got).calls (set_in s p index text got).reply
+set_performs : (s : Rows) (p : List (List ℕ)) (index : ℕ) (text : List ℕ) (got : Result HeldValue OdbRefusal) → SetsIn p index text got (set_in s p index text got).calls (set_in s p index text got).reply
 set_performs s p index text (Err why) = (refl, refl)
 set_performs s p index text (Ok v) = item_performs s p index (item_for v index text)
 
-found_performs : (s : Rows) (v : Held) (found : Result ℕ OdbRefusal) → NamesFound v found (key_found s v found).calls (key_found s v found).reply
+found_performs : (s : Rows) (v : HeldValue) (found : Result ℕ OdbRefusal) → NamesFound v found (key_found s v found).calls (key_found s v found).reply
 found_performs s v (Err why) = (refl, refl)
 found_performs s v (Ok row) = (path_with s.rows row, refl, refl)
 
-shown_performs : (s : Rows) (p : List (List ℕ)) (index : Option ℕ) (v : Held) → Shows p index v (shown s p index v).calls (shown s p index v).reply
+shown_performs : (s : Rows) (p : List (List ℕ)) (index : Option ℕ) (v : HeldValue) → Shows p index v (shown s p index v).calls (shown s p index v).reply
 shown_performs s p None v = (find_reply s p, (key_found s v (find_reply s p)).calls, refl, find_settled s p, found_performs s v (find_reply s p))
 shown_performs s p (Some index) v = (refl, refl)
 
-get_performs : (s : Rows) (p : List (List ℕ)) (index : Option ℕ) (got : Result Held OdbRefusal) → GetsIn p index got (get_in s p index got).calls (get_in s p index got).reply
+get_performs : (s : Rows) (p : List (List ℕ)) (index : Option ℕ) (got : Result HeldValue OdbRefusal) → GetsIn p index got (get_in s p index got).calls (get_in s p index got).reply
 get_performs s p index (Err why) = (refl, refl)
 get_performs s p index (Ok v) = shown_performs s p index v
 
@@ -226,14 +226,14 @@ performs_answer s command.Nothing = tt
 performs_answer s (command.Events count) = tt
 performs_answer s command.Start = tt
 performs_answer s command.Stop = tt
-performs_answer s (command.Create tid path len) = path_performs (path_reply path) (create_at s (Keys tid len)) (Creates (Keys tid len)) (λ p. (create_reply s p (Keys tid len), refl, create_settled s p (Keys tid len), refl))
-performs_answer s (command.CreateDir path) = path_performs (path_reply path) (create_at s Dir) (Creates Dir) (λ p. (create_reply s p Dir, refl, create_settled s p Dir, refl))
+performs_answer s (command.Create tid path len) = path_performs (path_reply path) (create_at s (Keys tid len)) (CreatesKey (Keys tid len)) (λ p. (create_reply s p (Keys tid len), refl, create_settled s p (Keys tid len), refl))
+performs_answer s (command.CreateDir path) = path_performs (path_reply path) (create_at s Dir) (CreatesKey Dir) (λ p. (create_reply s p Dir, refl, create_settled s p Dir, refl))
 performs_answer s (command.Set path index value) = path_performs (path_reply path) (set_at s index value) (Sets index value)
     (λ p. (get_reply s p, (set_in s p index value (get_reply s p)).calls, refl, get_settled s p, set_performs s p index value (get_reply s p)))
 performs_answer s (command.Get path index) = path_performs (path_reply path) (get_at s index) (Gets index)
     (λ p. (get_reply s p, (get_in s p index (get_reply s p)).calls, refl, get_settled s p, get_performs s p index (get_reply s p)))
 performs_answer s (command.List path) = path_performs (path_reply path) (list_at s) Lists (λ p. (list_reply s p, refl, list_settled s p, refl))
-performs_answer s (command.Remove path) = path_performs (path_reply path) (remove_at s) Removes (λ p. remove_performs s p (is_protected p))
+performs_answer s (command.Remove path) = path_performs (path_reply path) (remove_at s) RemovesKey (λ p. remove_performs s p (is_protected p))
 performs_answer s command.Exit = tt
 
 -- No command replaces a whole value or removes anything of `/Runinfo`.
@@ -248,19 +248,19 @@ item_spares : (p : List (List ℕ)) (index : ℕ) (item : Result Item CommandRef
 item_spares p index (Err why) calls reply does = spares_by calls [] does.0 tt
 item_spares p index (Ok item) calls reply does = spares_by calls (call.Set p index item does.0 ∷ []) does.1 (tt, tt)
 
-set_spares : (p : List (List ℕ)) (index : ℕ) (text : List ℕ) (got : Result Held OdbRefusal) (calls : List DatabaseEntry) (reply : CommandReply) → SetsIn p index text got calls reply → Spares calls
+set_spares : (p : List (List ℕ)) (index : ℕ) (text : List ℕ) (got : Result HeldValue OdbRefusal) (calls : List DatabaseEntry) (reply : CommandReply) → SetsIn p index text got calls reply → Spares calls
 set_spares p index text (Err why) calls reply does = spares_by calls [] does.0 tt
 set_spares p index text (Ok v) calls reply does = item_spares p index (item_for v index text) calls reply does
 
-found_spares : (v : Held) (found : Result ℕ OdbRefusal) (calls : List DatabaseEntry) (reply : CommandReply) → NamesFound v found calls reply → Spares calls
+found_spares : (v : HeldValue) (found : Result ℕ OdbRefusal) (calls : List DatabaseEntry) (reply : CommandReply) → NamesFound v found calls reply → Spares calls
 found_spares v (Err why) calls reply does = spares_by calls [] does.0 tt
 found_spares v (Ok row) calls reply does = spares_by calls (call.PathOf row (Ok does.0) ∷ []) does.1 (tt, tt)
 
-shown_spares : (p : List (List ℕ)) (index : Option ℕ) (v : Held) (calls : List DatabaseEntry) (reply : CommandReply) → Shows p index v calls reply → Spares calls
+shown_spares : (p : List (List ℕ)) (index : Option ℕ) (v : HeldValue) (calls : List DatabaseEntry) (reply : CommandReply) → Shows p index v calls reply → Spares calls
 shown_spares p None v calls reply does = spares_by calls (call.Find p does.0 ∷ does.1) does.2 (tt, found_spares v does.0 does.1 reply does.4)
 shown_spares p (Some index) v calls reply does = spares_by calls [] does.0 tt
 
-get_spares : (p : List (List ℕ)) (index : Option ℕ) (got : Result Held OdbRefusal) (calls : List DatabaseEntry) (reply : CommandReply) → GetsIn p index got calls reply → Spares calls
+get_spares : (p : List (List ℕ)) (index : Option ℕ) (got : Result HeldValue OdbRefusal) (calls : List DatabaseEntry) (reply : CommandReply) → GetsIn p index got calls reply → Spares calls
 get_spares p index (Err why) calls reply does = spares_by calls [] does.0 tt
 get_spares p index (Ok v) calls reply does = shown_spares p index v calls reply does
 
@@ -268,7 +268,7 @@ removed_spares : (name : List ℕ) (names : List (List ℕ)) (b : Bool) (calls :
 removed_spares name names true calls reply is does = spares_by calls [] does.0 tt
 removed_spares name names false calls reply is does = spares_by calls (call.Delete (name ∷ names) does.0 ∷ []) does.1 (is, tt)
 
-remove_spares : (p : List (List ℕ)) (calls : List DatabaseEntry) (reply : CommandReply) → Removes p calls reply → Spares calls
+remove_spares : (p : List (List ℕ)) (calls : List DatabaseEntry) (reply : CommandReply) → RemovesKey p calls reply → Spares calls
 remove_spares [] calls reply does = spares_by calls [] does.0 tt
 remove_spares (name ∷ names) calls reply does = removed_spares name names (same_name name (codes "Runinfo")) calls reply refl does
 
@@ -283,16 +283,16 @@ performs_spares (command.Events count) calls reply does = absurd does
 performs_spares command.Start calls reply does = absurd does
 performs_spares command.Stop calls reply does = absurd does
 performs_spares (command.Create tid path len) calls reply does =
-    path_spares (path_reply path) (Creates (Keys tid len)) calls reply (λ p it. spares_by calls (call.Create p (Keys tid len) it.0 ∷ []) it.1 (tt, tt)) does
+    path_spares (path_reply path) (CreatesKey (Keys tid len)) calls reply (λ p it. spares_by calls (call.Create p (Keys tid len) it.0 ∷ []) it.1 (tt, tt)) does
 performs_spares (command.CreateDir path) calls reply does =
-    path_spares (path_reply path) (Creates Dir) calls reply (λ p it. spares_by calls (call.Create p Dir it.0 ∷ []) it.1 (tt, tt)) does
+    path_spares (path_reply path) (CreatesKey Dir) calls reply (λ p it. spares_by calls (call.Create p Dir it.0 ∷ []) it.1 (tt, tt)) does
 performs_spares (command.Set path index value) calls reply does =
     path_spares (path_reply path) (Sets index value) calls reply (λ p it. spares_by calls (call.Get p it.0 ∷ it.1) it.2 (tt, set_spares p index value it.0 it.1 reply it.4)) does
 performs_spares (command.Get path index) calls reply does =
     path_spares (path_reply path) (Gets index) calls reply (λ p it. spares_by calls (call.Get p it.0 ∷ it.1) it.2 (tt, get_spares p index it.0 it.1 reply it.4)) does
 performs_spares (command.List path) calls reply does =
     path_spares (path_reply path) Lists calls reply (λ p it. spares_by calls (call.ListDir p it.0 ∷ []) it.1 (tt, tt)) does
-performs_spares (command.Remove path) calls reply does = path_spares (path_reply path) Removes calls reply (λ p it. remove_spares p calls reply it) does
+performs_spares (command.Remove path) calls reply does = path_spares (path_reply path) RemovesKey calls reply (λ p it. remove_spares p calls reply it) does
 performs_spares command.Exit calls reply does = absurd does
 
 -- The main thread's calls among those of a history.

@@ -5,7 +5,7 @@ use Rattle.std.specs.Option.{unwrap_or}
 use Rattle.odb_path.specs.declared.refusals.PathRefusal.{PathRefusal}
 use Rattle.odb_path.specs.PathText.{path_reply}
 use Rattle.odb_value.specs.declared.items.Item.{Item}
-use Rattle.odb_value.specs.Values.{Held}
+use Rattle.odb_value.specs.Values.{HeldValue}
 use Rattle.odb_tree.specs.declared.children.Child.{Child}
 use Rattle.odb_tree.specs.declared.entry.DatabaseEntry.{DatabaseEntry}
 use Rattle.odb_tree.specs.declared.entry.DatabaseEntry.TheVariants as call
@@ -37,40 +37,40 @@ AtPath (Err why) Then calls reply = SaysAtOnce (Refused (Path why)) calls reply
 AtPath (Ok p) Then calls reply = Then p calls reply
 
 -- `create`: one call
-abbrev pub Creates : NewKey → List (List ℕ) → (calls : List DatabaseEntry) → (reply : CommandReply) → Type 0
-Creates kind p calls reply = (got : Result ℕ OdbRefusal) × (calls ≡ call.Create p kind got ∷ []) × IsSettled got × (reply ≡ done_or got)
+abbrev pub CreatesKey : NewKey → List (List ℕ) → (calls : List DatabaseEntry) → (reply : CommandReply) → Type 0
+CreatesKey kind p calls reply = (got : Result ℕ OdbRefusal) × (calls ≡ call.Create p kind got ∷ []) × IsSettled got × (reply ≡ done_or got)
 
 -- `set`: the key is got; then the index is tested, and the text; then the item is set
 abbrev pub SetsItem : List (List ℕ) → (index : ℕ) → Result Item CommandRefusal → (calls : List DatabaseEntry) → (reply : CommandReply) → Type 0
 SetsItem p index (Err why) calls reply = SaysAtOnce (Refused why) calls reply
 SetsItem p index (Ok item) calls reply = (got : Result ℕ OdbRefusal) × (calls ≡ call.Set p index item got ∷ []) × IsSettled got × (reply ≡ done_or got)
 
-abbrev pub SetsIn : List (List ℕ) → (index : ℕ) → (text : List ℕ) → Result Held OdbRefusal → (calls : List DatabaseEntry) → (reply : CommandReply) → Type 0
+abbrev pub SetsIn : List (List ℕ) → (index : ℕ) → (text : List ℕ) → Result HeldValue OdbRefusal → (calls : List DatabaseEntry) → (reply : CommandReply) → Type 0
 SetsIn p index text (Err why) calls reply = SaysAtOnce (Refused (Database why)) calls reply
 SetsIn p index text (Ok v) calls reply = SetsItem p index (item_for v index text) calls reply
 
 abbrev pub Sets : (index : ℕ) → (text : List ℕ) → List (List ℕ) → (calls : List DatabaseEntry) → (reply : CommandReply) → Type 0
-Sets index text p calls reply = (got : Result Held OdbRefusal) × (more : List DatabaseEntry) × (calls ≡ call.Get p got ∷ more) × IsSettled got × SetsIn p index text got more reply
+Sets index text p calls reply = (got : Result HeldValue OdbRefusal) × (more : List DatabaseEntry) × (calls ≡ call.Get p got ∷ more) × IsSettled got × SetsIn p index text got more reply
 
 -- `get`: the key is got; for its lines it is also found, and the path of its row gives the name as it is spelled in the
 -- database
-abbrev pub Names : Held → (row : ℕ) → (calls : List DatabaseEntry) → (reply : CommandReply) → Type 0
+abbrev pub Names : HeldValue → (row : ℕ) → (calls : List DatabaseEntry) → (reply : CommandReply) → Type 0
 Names v row calls reply = (path : Option (List (List ℕ))) × (calls ≡ call.PathOf row (Ok path) ∷ []) × (reply ≡ Key (unwrap_or path []) v)
 
-abbrev pub NamesFound : Held → Result ℕ OdbRefusal → (calls : List DatabaseEntry) → (reply : CommandReply) → Type 0
+abbrev pub NamesFound : HeldValue → Result ℕ OdbRefusal → (calls : List DatabaseEntry) → (reply : CommandReply) → Type 0
 NamesFound v (Err why) calls reply = SaysAtOnce (Refused (Database why)) calls reply
 NamesFound v (Ok row) calls reply = Names v row calls reply
 
-abbrev pub Shows : List (List ℕ) → Option ℕ → Held → (calls : List DatabaseEntry) → (reply : CommandReply) → Type 0
+abbrev pub Shows : List (List ℕ) → Option ℕ → HeldValue → (calls : List DatabaseEntry) → (reply : CommandReply) → Type 0
 Shows p None v calls reply = (found : Result ℕ OdbRefusal) × (more : List DatabaseEntry) × (calls ≡ call.Find p found ∷ more) × IsSettled found × NamesFound v found more reply
 Shows p (Some index) v calls reply = SaysAtOnce (one_or (length v.items) (slice_get v.items index)) calls reply
 
-abbrev pub GetsIn : List (List ℕ) → Option ℕ → Result Held OdbRefusal → (calls : List DatabaseEntry) → (reply : CommandReply) → Type 0
+abbrev pub GetsIn : List (List ℕ) → Option ℕ → Result HeldValue OdbRefusal → (calls : List DatabaseEntry) → (reply : CommandReply) → Type 0
 GetsIn p index (Err why) calls reply = SaysAtOnce (Refused (Database why)) calls reply
 GetsIn p index (Ok v) calls reply = Shows p index v calls reply
 
 abbrev pub Gets : Option ℕ → List (List ℕ) → (calls : List DatabaseEntry) → (reply : CommandReply) → Type 0
-Gets index p calls reply = (got : Result Held OdbRefusal) × (more : List DatabaseEntry) × (calls ≡ call.Get p got ∷ more) × IsSettled got × GetsIn p index got more reply
+Gets index p calls reply = (got : Result HeldValue OdbRefusal) × (more : List DatabaseEntry) × (calls ≡ call.Get p got ∷ more) × IsSettled got × GetsIn p index got more reply
 
 -- `ls`: one call
 abbrev pub Lists : List (List ℕ) → (calls : List DatabaseEntry) → (reply : CommandReply) → Type 0
@@ -81,17 +81,17 @@ abbrev pub RemovesIf : (protected : Bool) → List (List ℕ) → (calls : List 
 RemovesIf true p calls reply = SaysAtOnce (Refused Protected) calls reply
 RemovesIf false p calls reply = (got : Result ℕ OdbRefusal) × (calls ≡ call.Delete p got ∷ []) × IsSettled got × (reply ≡ done_or got)
 
-abbrev pub Removes : List (List ℕ) → (calls : List DatabaseEntry) → (reply : CommandReply) → Type 0
-Removes p calls reply = RemovesIf (is_protected p) p calls reply
+abbrev pub RemovesKey : List (List ℕ) → (calls : List DatabaseEntry) → (reply : CommandReply) → Type 0
+RemovesKey p calls reply = RemovesIf (is_protected p) p calls reply
 
 -- The command makes these calls, each with the reply that it got, and is answered this reply.
 abbrev pub Performs : Command → (calls : List DatabaseEntry) → (reply : CommandReply) → Type 0
-Performs (command.Create tid path len) calls reply = AtPath (path_reply path) (Creates (Keys tid len)) calls reply
-Performs (command.CreateDir path) calls reply = AtPath (path_reply path) (Creates Dir) calls reply
+Performs (command.Create tid path len) calls reply = AtPath (path_reply path) (CreatesKey (Keys tid len)) calls reply
+Performs (command.CreateDir path) calls reply = AtPath (path_reply path) (CreatesKey Dir) calls reply
 Performs (command.Set path index value) calls reply = AtPath (path_reply path) (Sets index value) calls reply
 Performs (command.Get path index) calls reply = AtPath (path_reply path) (Gets index) calls reply
 Performs (command.List path) calls reply = AtPath (path_reply path) Lists calls reply
-Performs (command.Remove path) calls reply = AtPath (path_reply path) Removes calls reply
+Performs (command.Remove path) calls reply = AtPath (path_reply path) RemovesKey calls reply
 Performs command.Nothing calls reply = ⊥
 Performs (command.Events count) calls reply = ⊥
 Performs command.Start calls reply = ⊥

@@ -4,7 +4,7 @@ use Rattle.odb_path.specs.declared.refusals.PathRefusal.{PathRefusal}
 use Rattle.odb_path.specs.Paths.{same_name}
 use Rattle.odb_path.specs.PathText.{path_reply}
 use Rattle.odb_value.specs.declared.items.Item.{Item}
-use Rattle.odb_value.specs.Values.{Held}
+use Rattle.odb_value.specs.Values.{HeldValue}
 use Rattle.odb_tree.specs.declared.refusals.OdbRefusal.{OdbRefusal}
 use Rattle.odb_tree.specs.declared.rows.NewKey.TheVariants.{Dir, Keys}
 use Rattle.odb_tree.specs.Rows.{Rows}
@@ -17,42 +17,42 @@ use Rattle.odb_commands.specs.declared.replies.CommandRefusal.{CommandRefusal}
 use Rattle.odb_commands.specs.declared.replies.CommandRefusal.TheVariants.{Protected}
 use Rattle.odb_commands.specs.Answers.{Answer, refused, at_path, create_at, item_for, set_item, set_in, set_at, key_found, shown, get_in, get_at, list_at, removed, remove_at, answer_of}
 
-abbrev pub Spares : Answer → Type 0
-Spares answer = AllSpareRuninfo (by_main answer.calls)
+abbrev pub AnswerSpares : Answer → Type 0
+AnswerSpares answer = AllSpareRuninfo (by_main answer.calls)
 
 abbrev pub SparesIf : Option Answer → Type 0
 SparesIf None = Unit {0}
-SparesIf (Some answer) = Spares answer
+SparesIf (Some answer) = AnswerSpares answer
 
-item_spares : (s : Rows) (p : List (List ℕ)) (index : ℕ) (item : Result Item CommandRefusal) → Spares (set_item s p index item)
+item_spares : (s : Rows) (p : List (List ℕ)) (index : ℕ) (item : Result Item CommandRefusal) → AnswerSpares (set_item s p index item)
 item_spares s p index (Err why) = tt
 item_spares s p index (Ok item) = (tt, tt)
 
-set_spares : (s : Rows) (p : List (List ℕ)) (index : ℕ) (text : List ℕ) (got : Result Held OdbRefusal) → Spares (set_in s p index text got)
+set_spares : (s : Rows) (p : List (List ℕ)) (index : ℕ) (text : List ℕ) (got : Result HeldValue OdbRefusal) → AnswerSpares (set_in s p index text got)
 set_spares s p index text (Err why) = tt
 set_spares s p index text (Ok v) = item_spares s p index (item_for v index text)
 
-found_spares : (s : Rows) (v : Held) (found : Result ℕ OdbRefusal) → Spares (key_found s v found)
+found_spares : (s : Rows) (v : HeldValue) (found : Result ℕ OdbRefusal) → AnswerSpares (key_found s v found)
 found_spares s v (Err why) = tt
 found_spares s v (Ok row) = (tt, tt)
 
-shown_spares : (s : Rows) (p : List (List ℕ)) (index : Option ℕ) (v : Held) → Spares (shown s p index v)
+shown_spares : (s : Rows) (p : List (List ℕ)) (index : Option ℕ) (v : HeldValue) → AnswerSpares (shown s p index v)
 shown_spares s p None v = (tt, found_spares s v (find_reply s p))
 shown_spares s p (Some index) v = tt
 
-get_spares : (s : Rows) (p : List (List ℕ)) (index : Option ℕ) (got : Result Held OdbRefusal) → Spares (get_in s p index got)
+get_spares : (s : Rows) (p : List (List ℕ)) (index : Option ℕ) (got : Result HeldValue OdbRefusal) → AnswerSpares (get_in s p index got)
 get_spares s p index (Err why) = tt
 get_spares s p index (Ok v) = shown_spares s p index v
 
-removed_spares : (s : Rows) (name : List ℕ) (names : List (List ℕ)) (b : Bool) → same_name name (codes "Runinfo") ≡ b → Spares (if b then refused Protected else removed s (name ∷ names))
+removed_spares : (s : Rows) (name : List ℕ) (names : List (List ℕ)) (b : Bool) → same_name name (codes "Runinfo") ≡ b → AnswerSpares (if b then refused Protected else removed s (name ∷ names))
 removed_spares s name names true is = tt
 removed_spares s name names false is = (is, tt)
 
-remove_spares : (s : Rows) (p : List (List ℕ)) → Spares (remove_at s p)
+remove_spares : (s : Rows) (p : List (List ℕ)) → AnswerSpares (remove_at s p)
 remove_spares s [] = tt
 remove_spares s (name ∷ names) = removed_spares s name names (same_name name (codes "Runinfo")) refl
 
-path_spares : (read : Result (List (List ℕ)) PathRefusal) (answer : List (List ℕ) → Answer) → ((p : List (List ℕ)) → Spares (answer p)) → Spares (at_path read answer)
+path_spares : (read : Result (List (List ℕ)) PathRefusal) (answer : List (List ℕ) → Answer) → ((p : List (List ℕ)) → AnswerSpares (answer p)) → AnswerSpares (at_path read answer)
 path_spares (Err why) answer each = tt
 path_spares (Ok p) answer each = each p
 

@@ -68,6 +68,6 @@ abbrev pub path_reply : List ℕ → Result (List (List ℕ)) PathRefusal
 path_reply text = names_or (names_of text) (first_fault (start_of text) 0 (names_of text))
 
 -- a reply is this one, where memory was not wanting
-abbrev pub Gives : Result (List (List ℕ)) PathRefusal → Result (List (List ℕ)) PathRefusal → Type 0
-Gives (Ok path) reply = reply ≡ Ok path
-Gives (Err refusal) reply = refusal ≢ NoMemory → reply ≡ Err refusal
+abbrev pub GivesNames : Result (List (List ℕ)) PathRefusal → Result (List (List ℕ)) PathRefusal → Type 0
+GivesNames (Ok path) reply = reply ≡ Ok path
+GivesNames (Err refusal) reply = refusal ≢ NoMemory → reply ≡ Err refusal

@@ -1,6 +1,6 @@
 ghost use Rattle.std.specs.Prelude.{◌≡◌, ◌≢◌, ◌+◌, ◌-◌, ◌*◌, ◌<◌, ◌≤◌, ◌∷◌, ◌++◌, [], ℕ, IfOk, IfErr, OnOk, OnErr, IfSome, None, Some, length, take, drop, position, ◌==◌};
 ghost use Rattle.odb_path.specs.Paths.{depth_limit, IsPath};
-ghost use Rattle.odb_path.specs.PathText.{behind_slash, name_fault, add_fault, path_reply, Gives};
+ghost use Rattle.odb_path.specs.PathText.{behind_slash, name_fault, add_fault, path_reply, GivesNames};
 ghost use Rattle.odb_path.specs.declared.refusals.PathRefusal.TheVariants.{NoMemory as no_memory};
 
 use crate::refusals::PathRefusal;
@@ -104,7 +104,7 @@ impl Path {
     /// are the root. Else the first name with a fault is refused, and of its faults the first in the order of
     /// `PathRefusal`.
     pub fn read(alloc: Global, text: &[u8]) -> Result<Path, PathRefusal>
-        ensures { Gives result (path_reply text.now) }
+        ensures { GivesNames result (path_reply text.now) }
     {
         let mut path = Path::root(alloc);
         let body = behind_slash(text);

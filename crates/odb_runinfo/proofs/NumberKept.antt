@@ -14,7 +14,7 @@ use Rattle.odb_path.specs.Paths.{same_name, is_front, same_path}
 use Rattle.odb_value.specs.declared.items.Item.{Item}
 use Rattle.odb_value.specs.declared.items.Item.TheVariants.{Int32}
 use Rattle.odb_value.specs.Items.{tid_of, IsItem}
-use Rattle.odb_value.specs.Values.{Held, IsValue}
+use Rattle.odb_value.specs.Values.{HeldValue, IsValue}
 use Rattle.odb_value.specs.ValueChanges.{default_item, put_in, resized}
 use Rattle.odb_tree.specs.declared.rows.Row.{Row}
 use Rattle.odb_tree.specs.declared.refusals.OdbRefusal.{OdbRefusal}
@@ -84,10 +84,10 @@ outside_keeps (x ∷ xs) q p r away e =
     outside_step (same_path x.path p) (is_front q x.path) x r xs (rows_outside xs q) p refl (away x.path) e (outside_keeps xs q p r away)
 
 -- the row at a path is the same, or, if it is that of the change too, changed
-abbrev IsOrChanged : (rows after : List Row) (q p : List (List ℕ)) (f : Held → Held) (r : Row) → Type 0
+abbrev IsOrChanged : (rows after : List Row) (q p : List (List ℕ)) (f : HeldValue → HeldValue) (r : Row) → Type 0
 IsOrChanged rows after q p f r = (row_at after p ≡ Some r) ⊎ ((row_at rows q ≡ Some r) × (row_at after p ≡ Some (change_row f r)))
 
-change_step : (a b : Bool) (x r : Row) (xs ys : List Row) (q p : List (List ℕ)) (f : Held → Held) → same_path x.path q ≡ a → same_path x.path p ≡ b → cond b (Some x) (row_at xs p) ≡ Some r
+change_step : (a b : Bool) (x r : Row) (xs ys : List Row) (q p : List (List ℕ)) (f : HeldValue → HeldValue) → same_path x.path q ≡ a → same_path x.path p ≡ b → cond b (Some x) (row_at xs p) ≡ Some r
     → (row_at xs p ≡ Some r → IsOrChanged xs ys q p f r) → IsOrChanged (x ∷ xs) (cond a (change_row f x ∷ xs) (x ∷ ys)) q p f r
 change_step true true x r xs ys q p f at is e rest = inr (
   ap (λ (t : Bool). cond t (Some x) (row_at xs q)) at ∙ e,
@@ -101,7 +101,7 @@ change_step false false x r xs ys q p f at is e rest =
       | inr h ↦ inr (ap (λ (t : Bool). cond t (Some x) (row_at xs q)) at ∙ h.0, ap (λ (t : Bool). cond t (Some x) (row_at ys p)) is ∙ h.1)
     ]
 
-change_keeps : (rows : List Row) (q p : List (List ℕ)) (f : Held → Held) (r : Row) → row_at rows p ≡ Some r → IsOrChanged rows (change_at rows q f) q p f r
+change_keeps : (rows : List Row) (q p : List (List ℕ)) (f : HeldValue → HeldValue) (r : Row) → row_at rows p ≡ Some r → IsOrChanged rows (change_at rows q f) q p f r
 change_keeps [] q p f r e = absurd (cc)
 change_keeps (x ∷ xs) q p f r e = change_step (same_path x.path q) (same_path x.path p) x r xs (change_at xs q f) q p f refl refl e (change_keeps xs q p f r)
 
@@ -136,23 +136,23 @@ abbrev HasDirectory : List Row → Type 0
 HasDirectory rows = (d : Row) × (row_at rows run_directory ≡ Some d) × (d.value ≡ None)
 
 abbrev HasKey : List Row → Type 0
-HasKey rows = (k : Row) × (v : Held) × (row_at rows (key_path RunNumber) ≡ Some k) × (k.value ≡ Some v) × HoldsNumber v
+HasKey rows = (k : Row) × (v : HeldValue) × (row_at rows (key_path RunNumber) ≡ Some k) × (k.value ≡ Some v) × HoldsNumber v
 
-changed_directory : (rows after : List Row) (q : List (List ℕ)) (f : Held → Held) (d : Row) → d.value ≡ None → IsOrChanged rows after q run_directory f d → HasDirectory after
+changed_directory : (rows after : List Row) (q : List (List ℕ)) (f : HeldValue → HeldValue) (d : Row) → d.value ≡ None → IsOrChanged rows after q run_directory f d → HasDirectory after
 changed_directory rows after q f d none (inl h) = (d, h, none)
 changed_directory rows after q f d none (inr h) = (change_row f d, h.1, ap (option_map f) none)
 
 -- the change keeps a number at its path
-abbrev KeepsNumber : List Row → (q : List (List ℕ)) → (Held → Held) → Type 0
-KeepsNumber rows q f = (v : Held) → IsKeyAt rows q v → HoldsNumber v → HoldsNumber (f v)
+abbrev KeepsNumber : List Row → (q : List (List ℕ)) → (HeldValue → HeldValue) → Type 0
+KeepsNumber rows q f = (v : HeldValue) → IsKeyAt rows q v → HoldsNumber v → HoldsNumber (f v)
 
-changed_key : (rows after : List Row) (q : List (List ℕ)) (f : Held → Held) → KeepsNumber rows q f → (k : Row) (v : Held) → k.value ≡ Some v → HoldsNumber v
+changed_key : (rows after : List Row) (q : List (List ℕ)) (f : HeldValue → HeldValue) → KeepsNumber rows q f → (k : Row) (v : HeldValue) → k.value ≡ Some v → HoldsNumber v
     → IsOrChanged rows after q (key_path RunNumber) f k → HasKey after
 changed_key rows after q f keeps k v value number (inl h) = (k, v, h, value, number)
 changed_key rows after q f keeps k v value number (inr h) =
     (change_row f k, f v, h.1, ap (option_map f) value, keeps v (record { row = k; there = h.0; value = value }) number)
 
-changed : (rows : List Row) (q : List (List ℕ)) (f : Held → Held) → KeepsNumber rows q f → HasRunNumber rows → HasRunNumber (change_at rows q f)
+changed : (rows : List Row) (q : List (List ℕ)) (f : HeldValue → HeldValue) → KeepsNumber rows q f → HasRunNumber rows → HasRunNumber (change_at rows q f)
 changed rows q f keeps has =
     let after = change_at rows q f in
     let d = changed_directory rows after q f has.dir has.no_value (change_keeps rows q run_directory f has.dir has.dir_at) in
@@ -161,7 +161,7 @@ changed rows q f keeps has =
 
 -- A set that is answered puts an item of the key's type.
 
-one_value : (rows : List Row) (q : List (List ℕ)) (v w : Held) → IsKeyAt rows q v → IsKeyAt rows q w → v ≡ w
+one_value : (rows : List Row) (q : List (List ℕ)) (v w : HeldValue) → IsKeyAt rows q v → IsKeyAt rows q w → v ≡ w
 one_value rows q v w a b =
     let found = a.there in
     let again = b.there in
@@ -170,12 +170,12 @@ one_value rows q v w a b =
     let row : a.row ≡ b.row = cc in
     cc
 
-set_type : (s : Rows) (q : List (List ℕ)) (index : ℕ) (item : Item) (n : ℕ) (v : Held) (sought : Result (ℕ × Held) OdbRefusal) → seek_key s.rows q ≡ sought
+set_type : (s : Rows) (q : List (List ℕ)) (index : ℕ) (item : Item) (n : ℕ) (v : HeldValue) (sought : Result (ℕ × HeldValue) OdbRefusal) → seek_key s.rows q ≡ sought
     → set_reply_to s q index item sought ≡ Ok n → IsKeyAt s.rows q v → tid_of item ≡ v.tid
 set_type s q index item n v (Err why) is e at = absurd (cc)
 set_type s q index item n v (Ok (m, w)) is e at =
     let put = can_put s q index item w (set_fault s q index item w) refl (ok_none (set_fault s q index item w) m n e) in
-    put.of_type ∙ ap (λ (h : Held). h.tid) (one_value s.rows q w v (sought_key s s.rows q m w refl is) at)
+    put.of_type ∙ ap (λ (h : HeldValue). h.tid) (one_value s.rows q w v (sought_key s s.rows q m w refl is) at)
 
 number_item : (item : Item) → tid_of item ≡ tid.Int32 → (z : ℤ) × (item ≡ Int32 z)
 number_item (Int32 z) h = (z, refl)
@@ -185,7 +185,7 @@ set_first : (index : ℕ) (first z : ℤ) (more : List Item) → (k : ℤ) × (l
 set_first zero first z more = (z, more, refl)
 set_first (suc index) first z more = (first, slice_set more index (Int32 z), refl)
 
-put_number : (v : Held) (index : ℕ) (item : Item) → tid_of item ≡ v.tid → HoldsNumber v → HoldsNumber (put_in v index item)
+put_number : (v : HeldValue) (index : ℕ) (item : Item) → tid_of item ≡ v.tid → HoldsNumber v → HoldsNumber (put_in v index item)
 put_number v index item same number =
     let is = number_item item (same ∙ number.type) in
     let set = set_first index number.first is.0 number.more in
@@ -198,11 +198,11 @@ put_number v index item same number =
 
 -- A resize that is answered leaves an item 0.
 
-resize_fits : (s : Rows) (q : List (List ℕ)) (len n : ℕ) (sought : Result (ℕ × Held) OdbRefusal) → resize_reply_to s q len sought ≡ Ok n → len_fault len ≡ None
+resize_fits : (s : Rows) (q : List (List ℕ)) (len n : ℕ) (sought : Result (ℕ × HeldValue) OdbRefusal) → resize_reply_to s q len sought ≡ Ok n → len_fault len ≡ None
 resize_fits s q len n (Err why) e = absurd (cc)
 resize_fits s q len n (Ok (m, w)) e = own_none (len_fault len) (after_resize s q len) (ok_none (limit_fault (len_fault len) (after_resize s q len)) m n e)
 
-resized_number : (v : Held) (len : ℕ) → len_fault len ≡ None → HoldsNumber v → HoldsNumber (resized v len)
+resized_number : (v : HeldValue) (len : ℕ) → len_fault len ≡ None → HoldsNumber v → HoldsNumber (resized v len)
 resized_number v zero fits number = absurd (cc)
 resized_number v (suc len) fits number =
     let new = replicate (suc len - length v.items) (default_item v.tid) in
@@ -210,7 +210,7 @@ resized_number v (suc len) fits number =
 
 -- A value that replaces it is of its type, and has an item 0.
 
-same_type : (s : Rows) (q : List (List ℕ)) (v w : Held) (n : ℕ) → set_all_reply s q v ≡ Ok n → IsKeyAt s.rows q w → v.tid ≡ w.tid
+same_type : (s : Rows) (q : List (List ℕ)) (v w : HeldValue) (n : ℕ) → set_all_reply s q v ≡ Ok n → IsKeyAt s.rows q w → v.tid ≡ w.tid
 same_type s q v w n e at =
     let whole : set_all_fault s q v ≡ None = ok_none (set_all_fault s q v) (number_at s q (row_at s.rows q)) n e in
     let there : there_fault v.tid (row_at s.rows q) ≡ None =
@@ -223,13 +223,13 @@ number_first type (item ∷ items) some are same =
     let is = number_item item ((All-head (IsItem type) item items are).tid ∙ same) in
     (is.0, items, ap (λ (i : Item). i ∷ items) is.1)
 
-value_number : (v w : Held) → IsValue v → v.tid ≡ w.tid → HoldsNumber w → HoldsNumber v
+value_number : (v w : HeldValue) → IsValue v → v.tid ≡ w.tid → HoldsNumber w → HoldsNumber v
 value_number v w value same number =
     let type : v.tid ≡ tid.Int32 = same ∙ number.type in
     let first = number_first v.tid v.items value.some value.of_type type in
     record { type = type; first = first.0; more = first.1; items = first.2 }
 
-replaced : (s : Rows) (q : List (List ℕ)) (v : Held) (n : ℕ) (o : Option Row) → row_at s.rows q ≡ o → set_all_reply s q v ≡ Ok n → IsValue v → HasRunNumber s.rows
+replaced : (s : Rows) (q : List (List ℕ)) (v : HeldValue) (n : ℕ) (o : Option Row) → row_at s.rows q ≡ o → set_all_reply s q v ≡ Ok n → IsValue v → HasRunNumber s.rows
     → HasRunNumber (after_set_all_at s q v o).rows
 replaced s q v n None e reply value has = appended s.rows _ has
 replaced s q v n (Some r) e reply value has = changed s.rows q (λ _. v) (λ w at. value_number v w value (same_type s q v w n reply at)) has
@@ -241,7 +241,7 @@ number_kept s (Create p kind (Ok n)) sound reply spares has = appended s.rows _ 
 number_kept s (Create p kind (Err why)) sound reply spares has = has
 number_kept s (Set p index item (Ok n)) sound reply spares has =
     let given : set_reply s p index item ≡ Ok n = given_item (tid_of item) n (set_reply s p index item) reply in
-    changed s.rows p (λ (v : Held). put_in v index item) (λ v at. put_number v index item (set_type s p index item n v (seek_key s.rows p) refl given at)) has
+    changed s.rows p (λ (v : HeldValue). put_in v index item) (λ v at. put_number v index item (set_type s p index item n v (seek_key s.rows p) refl given at)) has
 number_kept s (Set p index item (Err why)) sound reply spares has = has
 number_kept s (SetAll p v (Ok n)) sound reply spares has = replaced s p v n (row_at s.rows p) refl reply sound.1 has
 number_kept s (SetAll p v (Err why)) sound reply spares has = has
@@ -251,7 +251,7 @@ number_kept s (ListDir p answer) sound reply spares has = has
 number_kept s (Delete p (Ok n)) sound reply spares has = outside s.rows p spares has
 number_kept s (Delete p (Err why)) sound reply spares has = has
 number_kept s (Resize p len (Ok n)) sound reply spares has =
-    changed s.rows p (λ (v : Held). resized v len) (λ v at. resized_number v len (resize_fits s p len n (seek_key s.rows p) reply)) has
+    changed s.rows p (λ (v : HeldValue). resized v len) (λ v at. resized_number v len (resize_fits s p len n (seek_key s.rows p) reply)) has
 number_kept s (Resize p len (Err why)) sound reply spares has = has
 number_kept s (PathOf row answer) sound reply spares has = has
 

@@ -3,7 +3,7 @@ use Rattle.std.specs.Prelude.{ℕ, List, [], ◌∷◌, Some, None, codes, pos}
 use Rattle.odb_value.specs.declared.items.Item.{Item}
 use Rattle.odb_value.specs.declared.items.Item.TheVariants.{Int32, UInt32}
 use Rattle.odb_value.specs.Items.{tid_of}
-use Rattle.odb_value.specs.Values.{Held}
+use Rattle.odb_value.specs.Values.{HeldValue}
 use Rattle.odb_value.specs.ValueChanges.{new_held, put_in}
 use Rattle.odb_tree.specs.declared.rows.Row.{Row}
 use Rattle.odb_tree.specs.Rows.{Rows}
@@ -27,7 +27,7 @@ abbrev pub sent_path : (front : List ℕ) → List (List ℕ)
 sent_path front = codes "Equipment" ∷ front ∷ codes "Events sent" ∷ []
 
 -- the value of a new key of one item, with this item in it
-abbrev pub value_of_one : Item → Held
+abbrev pub value_of_one : Item → HeldValue
 value_of_one item = put_in (new_held (tid_of item) 1) 0 item
 
 -- the database with one key more

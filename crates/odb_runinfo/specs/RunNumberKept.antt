@@ -4,7 +4,7 @@ use Rattle.daq_types.specs.declared.types.Tid.TheVariants as tid
 use Rattle.odb_path.specs.Paths.{same_name}
 use Rattle.odb_value.specs.declared.items.Item.{Item}
 use Rattle.odb_value.specs.declared.items.Item.TheVariants.{Int32}
-use Rattle.odb_value.specs.Values.{Held}
+use Rattle.odb_value.specs.Values.{HeldValue}
 use Rattle.odb_tree.specs.declared.rows.Row.{Row}
 use Rattle.odb_tree.specs.declared.entry.DatabaseEntry.{DatabaseEntry}
 use Rattle.odb_tree.specs.declared.entry.DatabaseEntry.TheVariants.{Delete}
@@ -16,7 +16,7 @@ abbrev pub run_directory : List (List ℕ)
 run_directory = codes "Runinfo" ∷ []
 
 -- the value is of the type INT32, and has an item 0
-pub record HoldsNumber (v : Held) : Type 0 where
+pub record HoldsNumber (v : HeldValue) : Type 0 where
   pub type : v.tid ≡ tid.Int32
   pub first : ℤ
   pub more : List Item
@@ -29,7 +29,7 @@ pub record HasRunNumber (rows : List Row) : Type 0 where
   pub no_value : dir.value ≡ None
   pub key : Row
   pub key_at : row_at rows (key_path RunNumber) ≡ Some key
-  pub held : Held
+  pub held : HeldValue
   pub value : key.value ≡ Some held
   pub number : HoldsNumber held
 

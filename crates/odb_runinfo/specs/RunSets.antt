@@ -3,7 +3,7 @@ use Rattle.std.specs.Prelude.{◌≡◌, ◌⊎◌, ◌++◌, ℕ, ◌+◌, ◌-
 use Rattle.daq_types.specs.declared.types.Tid.TheVariants as tid
 use Rattle.odb_value.specs.declared.items.Item.{Item}
 use Rattle.odb_value.specs.declared.items.Item.TheVariants.{Int32, UInt32, UInt64, Text}
-use Rattle.odb_value.specs.Values.{Held}
+use Rattle.odb_value.specs.Values.{HeldValue}
 use Rattle.odb_tree.specs.declared.entry.DatabaseEntry.{DatabaseEntry}
 use Rattle.odb_tree.specs.declared.entry.DatabaseEntry.TheVariants.{Create, Get, Set}
 use Rattle.odb_tree.specs.declared.refusals.OdbRefusal.{OdbRefusal}
@@ -23,7 +23,7 @@ abbrev pub number_in : List Item → ℤ
 number_in (Int32 n ∷ items) = n
 number_in items = pos 0
 
-abbrev pub have_of : Result Held OdbRefusal → ℤ
+abbrev pub have_of : Result HeldValue OdbRefusal → ℤ
 have_of (Ok v) = number_in v.items
 have_of (Err why) = pos 0
 

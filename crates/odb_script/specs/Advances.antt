@@ -23,7 +23,7 @@ IsFaultBy TooLong old new = new ≡ old
 IsFaultBy Fault old new = Rose old new
 
 -- bytes were taken from the source where none were pending; no byte only at its end
-pub record IsFilled (old new : Reading) (before after : Option (List ℕ)) (count : ℕ) : Type 0 where
+pub record IsFilledAgain (old new : Reading) (before after : Option (List ℕ)) (count : ℕ) : Type 0 where
   pub consumed : Consumes before after new.pending
   pub counted : length new.pending ≡ count
   pub ended : count ≡ 0 → IsAtEnd after

@@ -7,7 +7,7 @@ use Rattle.std.proofs.Math.Seq.{take-append_seam}
 use Rattle.odb_script.specs.declared.forms.Command.{Command}
 use Rattle.odb_script.specs.declared.forms.Command.TheVariants.{Exit}
 use Rattle.odb_script.specs.Lines.{Reading, lines_of, kept, script_limit, ReadsLine, ReadsLast, ReadsNone, ReadsTooMuch}
-use Rattle.odb_script.specs.ReadLines.{HasRead, has_read_line, lines_so_far, lines_at_end, lines_at_last, lines_at_limit}
+use Rattle.odb_script.specs.ReadLines.{HasReadLines, has_read_line, lines_so_far, lines_at_end, lines_at_last, lines_at_limit}
 use Rattle.odb_script.specs.Forms.{Read, command_of}
 use Rattle.odb_script.specs.KeptForms.{command_of-kept}
 
@@ -115,40 +115,40 @@ stopped_until_exit front line all first h ends =
 
 -- so far there was none
 pub lines_first : (text : List ℕ) (now : Option (List ℕ)) (reading : Reading) (lines : List (List ℕ))
-    → HasRead (Some text) now reading lines → GoOn lines → lines ≡ take (length lines) (until_exit (lines_of text))
+    → HasReadLines (Some text) now reading lines → GoOn lines → lines ≡ take (length lines) (until_exit (lines_of text))
 lines_first text now reading lines read h = first_until_exit lines (lines_of text) (lines_so_far text now reading lines read) h
 
 -- there was none in front of the line that was just read, which has an end
 pub lines_first_line : (text : List ℕ) (now after : Option (List ℕ)) (old new : Reading) (lines : List (List ℕ)) (line : List ℕ)
-    → HasRead (Some text) now old lines → GoOn lines → ReadsLine old new now after line → lines ++ line ∷ [] ≡ take (length (lines ++ line ∷ [])) (until_exit (lines_of text))
+    → HasReadLines (Some text) now old lines → GoOn lines → ReadsLine old new now after line → lines ++ line ∷ [] ≡ take (length (lines ++ line ∷ [])) (until_exit (lines_of text))
 lines_first_line text now after old new lines line read h reads =
     first_until_exit-last lines line (lines_of text) (lines_so_far text after new (lines ++ line ∷ []) (has_read_line (Some text) now after old new lines line read reads)) h
 
 -- that line is an `exit`
 pub lines_at_exit : (text : List ℕ) (now after : Option (List ℕ)) (old new : Reading) (lines : List (List ℕ)) (line : List ℕ)
-    → HasRead (Some text) now old lines → GoOn lines → ReadsLine old new now after line → ends_script line ≡ true → lines ++ line ∷ [] ≡ until_exit (lines_of text)
+    → HasReadLines (Some text) now old lines → GoOn lines → ReadsLine old new now after line → ends_script line ≡ true → lines ++ line ∷ [] ≡ until_exit (lines_of text)
 lines_at_exit text now after old new lines line read h reads ends =
     stopped_until_exit lines line (lines_of text) (lines_so_far text after new (lines ++ line ∷ []) (has_read_line (Some text) now after old new lines line read reads)) h ends
 
 -- the source ended behind a line's end
 pub lines_until_end : (text : List ℕ) (now after : Option (List ℕ)) (old new : Reading) (lines : List (List ℕ))
-    → HasRead (Some text) now old lines → GoOn lines → ReadsNone old new now after → lines ≡ until_exit (lines_of text)
+    → HasReadLines (Some text) now old lines → GoOn lines → ReadsNone old new now after → lines ≡ until_exit (lines_of text)
 lines_until_end text now after old new lines read h reads = sym (until_exit-none lines h) ∙ ap until_exit (lines_at_end text now after old new lines read reads)
 
 -- or behind a last line without one, an `exit` or not
 pub lines_until_last : (text : List ℕ) (now after : Option (List ℕ)) (old new : Reading) (lines : List (List ℕ)) (line : List ℕ)
-    → HasRead (Some text) now old lines → GoOn lines → ReadsLast old new now after line → lines ++ line ∷ [] ≡ until_exit (lines_of text)
+    → HasReadLines (Some text) now old lines → GoOn lines → ReadsLast old new now after line → lines ++ line ∷ [] ≡ until_exit (lines_of text)
 lines_until_last text now after old new lines line read h reads =
     sym (until_exit-last lines line h) ∙ ap until_exit (lines_at_last text now after old new lines line read reads)
 
 pub lines_first_last : (text : List ℕ) (now after : Option (List ℕ)) (old new : Reading) (lines : List (List ℕ)) (line : List ℕ)
-    → HasRead (Some text) now old lines → GoOn lines → ReadsLast old new now after line → lines ++ line ∷ [] ≡ take (length (lines ++ line ∷ [])) (until_exit (lines_of text))
+    → HasReadLines (Some text) now old lines → GoOn lines → ReadsLast old new now after line → lines ++ line ∷ [] ≡ take (length (lines ++ line ∷ [])) (until_exit (lines_of text))
 lines_first_last text now after old new lines line read h reads =
     all_first (lines ++ line ∷ []) (until_exit (lines_of text)) (lines_until_last text now after old new lines line read h reads)
 
 -- the script is too long
 pub lines_until_limit : (text : List ℕ) (now after : Option (List ℕ)) (old new : Reading) (lines : List (List ℕ))
-    → HasRead (Some text) now old lines → GoOn lines → ReadsTooMuch old new now after → lines ≡ until_exit (lines_of text) × (script_limit < length text)
+    → HasReadLines (Some text) now old lines → GoOn lines → ReadsTooMuch old new now after → lines ≡ until_exit (lines_of text) × (script_limit < length text)
 lines_until_limit text now after old new lines read h reads =
     let limit : lines ≡ lines_of text × (script_limit < length text) = lines_at_limit text now after old new lines read reads in
     (sym (until_exit-none lines h) ∙ ap until_exit limit.0, limit.1)

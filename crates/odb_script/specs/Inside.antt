@@ -7,7 +7,7 @@ use Rattle.odb_script.specs.declared.reading.LineReader.TheInside.{Inside}
 abbrev pub reading_of : Inside → Reading
 reading_of r = record { line = r.line.items; pending = take (r.filled - r.at) (drop r.at r.block.items); taken = r.taken }
 
-pub record IsReader (r : Inside) : Type 0 where
+pub record IsLineReader (r : Inside) : Type 0 where
   pub passed : r.at ≤ r.filled
   pub filled : r.filled ≤ length r.block.items
   pub block : length r.block.items ≡ 65536

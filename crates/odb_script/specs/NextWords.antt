@@ -8,10 +8,10 @@ use Rattle.odb_script.specs.declared.words.Part.{Part}
 use Rattle.odb_script.specs.declared.words.Part.TheVariants.{Blanks, Plain, Quoted}
 
 -- this is the next of the words, and the others stand behind it
-abbrev pub Gives : NextWord → Words → Words → Type 0
-Gives (Word at text) old new = old ≡ word at text new
-Gives (End at) old new = old ≡ ended at
-Gives (Faulty at) old new = old ≡ faulty at
+abbrev pub IsNextWord : NextWord → Words → Words → Type 0
+IsNextWord (Word at text) old new = old ≡ word at text new
+IsNextWord (End at) old new = old ≡ ended at
+IsNextWord (Faulty at) old new = old ≡ faulty at
 
 -- a byte that may stand in a part
 abbrev pub belongs : Part → ℕ → Bool

@@ -44,15 +44,15 @@ behind_lines-plain so_far (x ∷ xs) h = rw (plain-first x xs h) (behind_lines-p
 -- Whole lines, and then more.
 
 -- a text of whole lines alone
-abbrev pub IsWhole : List ℕ → Type 0
-IsWhole text = behind_lines [] text ≡ []
+abbrev pub AreWholeLines : List ℕ → Type 0
+AreWholeLines text = behind_lines [] text ≡ []
 
-pub whole_lines-append : (done more : List ℕ) → IsWhole done → whole_lines (done ++ more) ≡ whole_lines done ++ whole_lines more
+pub whole_lines-append : (done more : List ℕ) → AreWholeLines done → whole_lines (done ++ more) ≡ whole_lines done ++ whole_lines more
 whole_lines-append done more h =
     ap (map strip_carriage_return) (ended_lines-append [] done more ∙ ap (λ s. ended_lines [] done ++ ended_lines s more) h)
     ∙ map-append strip_carriage_return (ended_lines [] done) (ended_lines [] more)
 
-pub whole_lines-plain : (done part : List ℕ) → IsWhole done → All (λ b. b ≢ 10) part → whole_lines (done ++ part) ≡ whole_lines done
+pub whole_lines-plain : (done part : List ℕ) → AreWholeLines done → All (λ b. b ≢ 10) part → whole_lines (done ++ part) ≡ whole_lines done
 whole_lines-plain done part h plain =
     whole_lines-append done part h ∙ ap (λ ls. whole_lines done ++ map strip_carriage_return ls) (ended_lines-plain [] part plain) ∙ append-nil (whole_lines done)
 
@@ -60,28 +60,28 @@ whole_lines-plain done part h plain =
 ended_lines-line : (part : List ℕ) → All (λ b. b ≢ 10) part → ended_lines [] (part ++ 10 ∷ []) ≡ part ∷ []
 ended_lines-line part plain = ended_lines-append [] part (10 ∷ []) ∙ rw (ended_lines-plain [] part plain, behind_lines-plain [] part plain) refl
 
-pub whole_lines-line : (done part : List ℕ) → IsWhole done → All (λ b. b ≢ 10) part
+pub whole_lines-line : (done part : List ℕ) → AreWholeLines done → All (λ b. b ≢ 10) part
     → whole_lines (done ++ (part ++ 10 ∷ [])) ≡ whole_lines done ++ strip_carriage_return part ∷ []
 whole_lines-line done part h plain =
     whole_lines-append done (part ++ 10 ∷ []) h ∙ ap (λ ls. whole_lines done ++ map strip_carriage_return ls) (ended_lines-line part plain)
 
-pub IsWhole-line : (done part : List ℕ) → IsWhole done → IsWhole (done ++ (part ++ 10 ∷ []))
-IsWhole-line done part h =
+pub AreWholeLines-line : (done part : List ℕ) → AreWholeLines done → AreWholeLines (done ++ (part ++ 10 ∷ []))
+AreWholeLines-line done part h =
     behind_lines-append [] done (part ++ 10 ∷ []) ∙ ap (λ s. behind_lines s (part ++ 10 ∷ [])) h ∙ behind_lines-append [] part (10 ∷ [])
 
 -- What was read.
 
 -- These lines were read, one at a time, from a source that told its bytes.
-pub record HasRead (first now : Option (List ℕ)) (reading : Reading) (given : List (List ℕ)) : Type 0 where
+pub record HasReadLines (first now : Option (List ℕ)) (reading : Reading) (given : List (List ℕ)) : Type 0 where
   pub done : List ℕ
   pub consumed : Consumes first now (done ++ reading.pending)
-  pub whole : IsWhole done
+  pub whole : AreWholeLines done
   pub lines : given ≡ whole_lines done
   pub taken : reading.taken ≡ length done
   pub within : length done ≤ script_limit
 
 -- nothing yet
-pub has_read_none : (first : Option (List ℕ)) → HasRead first first nothing_read []
+pub has_read_none : (first : Option (List ℕ)) → HasReadLines first first nothing_read []
 has_read_none None = record { done = []; consumed = tt; whole = refl; lines = refl; taken = refl; within = omega arith }
 has_read_none (Some text) = record { done = []; consumed = refl; whole = refl; lines = refl; taken = refl; within = omega arith }
 
@@ -100,12 +100,12 @@ regrouped done part rest = append_assoc done part (10 ∷ rest) ∙ sym (append_
 
 -- a line more
 pub has_read_line : (first now after : Option (List ℕ)) (old new : Reading) (lines : List (List ℕ)) (line : List ℕ)
-    → HasRead first now old lines → ReadsLine old new now after line → HasRead first after new (lines ++ line ∷ [])
+    → HasReadLines first now old lines → ReadsLine old new now after line → HasReadLines first after new (lines ++ line ∷ [])
 has_read_line first now after old new lines line h r = record {
   done = h.done ++ (r.part ++ 10 ∷ []);
   consumed = subst (λ bytes. Consumes first after bytes) (regrouped h.done r.part new.pending)
       (passed first now after h.done old.pending r.takes.more r.part (10 ∷ new.pending) h.consumed r.takes.consumed r.takes.bytes);
-  whole = IsWhole-line h.done r.part h.whole;
+  whole = AreWholeLines-line h.done r.part h.whole;
   lines = ap (λ ls. ls ++ line ∷ []) h.lines ∙ ap (λ l. whole_lines h.done ++ l ∷ []) r.stripped ∙ sym (whole_lines-line h.done r.part h.whole r.takes.plain);
   taken = omega (arith, r.taken, h.taken, length-append h.done (r.part ++ 10 ∷ []), length-append r.part (10 ∷ []));
   within = omega (arith, r.taken, r.within, h.taken, length-append h.done (r.part ++ 10 ∷ []), length-append r.part (10 ∷ []));
@@ -121,7 +121,7 @@ lines_within : (text : List ℕ) → length text ≤ script_limit → lines_of t
 lines_within text h = rw (le-leb (length text) script_limit h) refl
 
 pub lines_at_end : (text : List ℕ) (now after : Option (List ℕ)) (old new : Reading) (lines : List (List ℕ))
-    → HasRead (Some text) now old lines → ReadsNone old new now after → lines ≡ lines_of text
+    → HasReadLines (Some text) now old lines → ReadsNone old new now after → lines ≡ lines_of text
 lines_at_end text now after old new lines h r =
     let is_text : text ≡ h.done = text_is text h.done [] after
     (subst (λ bytes. Consumes (Some text) after (bytes ++ [])) (append-nil h.done) (passed (Some text) now after h.done old.pending r.takes.more [] [] h.consumed r.takes.consumed r.takes.bytes)) r.at_end refl in
@@ -133,7 +133,7 @@ last_line-some [] h = absurd (omega (arith, h))
 last_line-some (x ∷ xs) h = refl
 
 pub lines_at_last : (text : List ℕ) (now after : Option (List ℕ)) (old new : Reading) (lines : List (List ℕ)) (line : List ℕ)
-    → HasRead (Some text) now old lines → ReadsLast old new now after line → lines ++ line ∷ [] ≡ lines_of text
+    → HasReadLines (Some text) now old lines → ReadsLast old new now after line → lines ++ line ∷ [] ≡ lines_of text
 lines_at_last text now after old new lines line h r =
     let is_text : text ≡ h.done ++ line = text_is text (h.done ++ line) [] after
     (passed (Some text) now after h.done old.pending r.takes.more line [] h.consumed r.takes.consumed r.takes.bytes) r.at_end refl in
@@ -156,7 +156,7 @@ lines_beyond text front rest e n some =
     rw (longer, cut) refl
 
 pub lines_at_limit : (text : List ℕ) (now after : Option (List ℕ)) (old new : Reading) (lines : List (List ℕ))
-    → HasRead (Some text) now old lines → ReadsTooMuch old new now after → lines ≡ lines_of text × (script_limit < length text)
+    → HasReadLines (Some text) now old lines → ReadsTooMuch old new now after → lines ≡ lines_of text × (script_limit < length text)
 lines_at_limit text now after old new lines h r =
     let split : (rest : List ℕ) × (text ≡ ((h.done ++ r.part) ++ new.pending) ++ rest) = split_text text ((h.done ++ r.part) ++ new.pending) after
     (passed (Some text) now after h.done old.pending r.takes.more r.part new.pending h.consumed r.takes.consumed r.takes.bytes) in
@@ -167,7 +167,7 @@ lines_at_limit text now after old new lines h r =
       omega (arith, ap (length {A = ℕ}) is_text, length-append (h.done ++ r.part) (new.pending ++ split.0), full, some),
     )
 
-lines_begin : (text done rest : List ℕ) → text ≡ done ++ rest → IsWhole done → length done ≤ script_limit → (more : List (List ℕ)) × (lines_of text ≡ whole_lines done ++ more)
+lines_begin : (text done rest : List ℕ) → text ≡ done ++ rest → AreWholeLines done → length done ≤ script_limit → (more : List (List ℕ)) × (lines_of text ≡ whole_lines done ++ more)
 lines_begin text done rest e h within = ⊎_elim
     (λ longer. (
       whole_lines (take (script_limit - length done) rest),
@@ -186,7 +186,7 @@ lines_begin text done rest e h within = ⊎_elim
 
 -- At any moment the lines are the first of the text.
 pub lines_so_far : (text : List ℕ) (now : Option (List ℕ)) (reading : Reading) (lines : List (List ℕ))
-    → HasRead (Some text) now reading lines → lines ≡ take (length lines) (lines_of text)
+    → HasReadLines (Some text) now reading lines → lines ≡ take (length lines) (lines_of text)
 lines_so_far text now reading lines h =
     let split : (rest : List ℕ) × (text ≡ (h.done ++ reading.pending) ++ rest) = split_text text (h.done ++ reading.pending) now h.consumed in
     let is_text : text ≡ h.done ++ (reading.pending ++ split.0) = split.1 ∙ append_assoc h.done reading.pending split.0 in
@@ -197,14 +197,14 @@ lines_so_far text now reading lines h =
 -- A script that was read to its end has no more than it may.
 
 pub text_within_end : (text : List ℕ) (now after : Option (List ℕ)) (old new : Reading) (lines : List (List ℕ))
-    → HasRead (Some text) now old lines → ReadsNone old new now after → length text ≤ script_limit
+    → HasReadLines (Some text) now old lines → ReadsNone old new now after → length text ≤ script_limit
 text_within_end text now after old new lines h r =
     let is_text : text ≡ h.done = text_is text h.done [] after
     (subst (λ bytes. Consumes (Some text) after (bytes ++ [])) (append-nil h.done) (passed (Some text) now after h.done old.pending r.takes.more [] [] h.consumed r.takes.consumed r.takes.bytes)) r.at_end refl in
     omega (arith, ap (length {A = ℕ}) is_text, h.within)
 
 pub text_within_last : (text : List ℕ) (now after : Option (List ℕ)) (old new : Reading) (lines : List (List ℕ)) (line : List ℕ)
-    → HasRead (Some text) now old lines → ReadsLast old new now after line → length text ≤ script_limit
+    → HasReadLines (Some text) now old lines → ReadsLast old new now after line → length text ≤ script_limit
 text_within_last text now after old new lines line h r =
     let is_text : text ≡ h.done ++ line = text_is text (h.done ++ line) [] after
     (passed (Some text) now after h.done old.pending r.takes.more line [] h.consumed r.takes.consumed r.takes.bytes) r.at_end refl in
@@ -227,7 +227,7 @@ given_lines text given None lines c e w = absurd c
 given_lines text given (Some rest) lines c e w = record { given = given; rest = rest; left_is = refl; text_is = c; lines_are = e; within = w }
 
 pub lines_at_fault : (text : List ℕ) (now after : Option (List ℕ)) (old new : Reading) (lines : List (List ℕ))
-    → HasRead (Some text) now old lines → ReadsPart old new now after → AreGivenLines text after lines
+    → HasReadLines (Some text) now old lines → ReadsPart old new now after → AreGivenLines text after lines
 lines_at_fault text now after old new lines h r =
     let consumed : Consumes (Some text) after (h.done ++ r.part) =
     subst (λ bytes. Consumes (Some text) after bytes) (ap (λ rest. (h.done ++ r.part) ++ rest) r.none_pending ∙ append-nil (h.done ++ r.part))

@@ -3,7 +3,7 @@ ghost use Rattle.std.specs.Io.KnownBytes.{Consumes, IsAtEnd, Keeps};
 ghost use Rattle.std.specs.Str.Lines.{strip_carriage_return};
 ghost use Rattle.odb_script.specs.Lines.{Reading, nothing_read, script_limit};
 ghost use Rattle.daq_io.specs.Counts.{CountsFault};
-ghost use Rattle.odb_script.specs.Advances.{IsFaultBy, Advances, IsFilled, IsLinePart, IsRefilled, IsScanned};
+ghost use Rattle.odb_script.specs.Advances.{IsFaultBy, Advances, IsFilledAgain, IsLinePart, IsRefilled, IsScanned};
 
 use daq_io::{Failed, Source};
 use daq_types::NoMemory;
@@ -55,11 +55,11 @@ impl Model for LineReader {
 
     ghost Value = { Reading };
 
-    ghost use Rattle.odb_script.specs.Inside.{reading_of, IsReader};
+    ghost use Rattle.odb_script.specs.Inside.{reading_of, IsLineReader};
 
     ghost view = { reading_of };
 
-    ghost invariant = { IsReader };
+    ghost invariant = { IsLineReader };
 }
 
 /// The line's part so far grows by these bytes, as far as it is kept.
@@ -124,7 +124,7 @@ impl LineReader {
     /// Takes a block from the source, where none is left of the last.
     fn fill<S: Source>(&mut self, source: &mut S) -> Result<usize, Failed>
         requires { self.old.pending ≡ [] }
-        ensures filled { IfOk result (IsFilled self.old self.new (S.left source.old) (S.left source.new)) }
+        ensures filled { IfOk result (IsFilledAgain self.old self.new (S.left source.old) (S.left source.new)) }
         ensures same { OnErr result (self.new ≡ self.old) }
         ensures kept { OnErr result (Keeps (S.left source.old) (S.left source.new)) }
         ensures faults { CountsFault (S.faults source.old) (S.faults source.new) result }

@@ -1,6 +1,6 @@
 ghost use Rattle.std.specs.Prelude.{◌≡◌, ◌+◌, ◌≤◌, ◌++◌, [], All, true, length};
 ghost use Rattle.odb_script.specs.LineWords.{between, inside, quoted, words_from, line_words, closed};
-ghost use Rattle.odb_script.specs.NextWords.{Gives, belongs, is_gap, IsBehind};
+ghost use Rattle.odb_script.specs.NextWords.{IsNextWord, belongs, is_gap, IsBehind};
 
 use crate::line_text::LineText;
 use daq_text::is_blank;
@@ -100,7 +100,7 @@ fn word<'a>(at: u32, text: &'a [u8]) -> NextWord<'a>
 /// The word outside quotes that begins here, of which the first byte is no blank and no quote.
 fn plain_word<'a>(at: u32, bytes: &'a [u8]) -> (NextWord<'a>, WordReader<'a>)
     requires { at + length bytes.now ≤ 4096 }
-    ensures { Gives result.0 (words_from (inside at []) at bytes.now) result.1 }
+    ensures { IsNextWord result.0 (words_from (inside at []) at bytes.now) result.1 }
 {
     let (text, rest) = split_part(Part::Plain, bytes);
     let reader = WordReader {
@@ -122,7 +122,7 @@ fn closed_word<'a>(
     rest: &'a [u8],
 ) -> (NextWord<'a>, WordReader<'a>)
     requires { behind + length rest.now ≤ 4096 }
-    ensures { Gives result.0 (words_from (closed at text.now) behind rest.now) result.1 }
+    ensures { IsNextWord result.0 (words_from (closed at text.now) behind rest.now) result.1 }
 {
     let reader = WordReader { at: behind, rest };
     if ends_word(rest) {
@@ -135,7 +135,7 @@ fn closed_word<'a>(
 /// The word in quotes of which the first quote stands at this place, with these bytes behind it.
 fn quoted_word<'a>(at: u32, bytes: &'a [u8]) -> (NextWord<'a>, WordReader<'a>)
     requires { at + 1 + length bytes.now ≤ 4096 }
-    ensures { Gives result.0 (words_from (quoted at []) (at + 1) bytes.now) result.1 }
+    ensures { IsNextWord result.0 (words_from (quoted at []) (at + 1) bytes.now) result.1 }
 {
     let (text, rest) = split_part(Part::Quoted, bytes);
     let close = at + 1 + text.len() as u32;
@@ -151,7 +151,7 @@ fn quoted_word<'a>(at: u32, bytes: &'a [u8]) -> (NextWord<'a>, WordReader<'a>)
 /// The next word of these bytes, which begin at this place.
 fn first_word<'a>(at: u32, bytes: &'a [u8]) -> (NextWord<'a>, WordReader<'a>)
     requires { at + length bytes.now ≤ 4096 }
-    ensures { Gives result.0 (words_from between at bytes.now) result.1 }
+    ensures { IsNextWord result.0 (words_from between at bytes.now) result.1 }
 {
     let (blanks, rest) = split_part(Part::Blanks, bytes);
     let at = at + blanks.len() as u32;
@@ -179,7 +179,7 @@ impl<'a> WordReader<'a> {
 
     /// The next word.
     pub fn next(&mut self) -> NextWord<'a>
-        ensures { Gives result self.old self.new }
+        ensures { IsNextWord result self.old self.new }
     {
         let (word, reader) = first_word(self.at, self.rest);
         *self = reader;

@@ -12,7 +12,7 @@ use Rattle.odb_value.specs.declared.items.Item.{Item}
 use Rattle.odb_value.specs.declared.items.Item.TheVariants.{Text}
 use Rattle.odb_value.specs.Items.{tid_of}
 use Rattle.odb_value.specs.ItemTexts.{text_limit}
-use Rattle.odb_value.specs.Values.{Held, IsShorter, size_limit}
+use Rattle.odb_value.specs.Values.{HeldValue, IsShorter, size_limit}
 use Rattle.odb_tree.specs.declared.rows.Row.{Row}
 use Rattle.odb_tree.specs.declared.rows.NewKey.{NewKey}
 use Rattle.odb_tree.specs.declared.refusals.OdbRefusal.{OdbRefusal}
@@ -56,24 +56,24 @@ outside_within s p left is h =
 
 -- looking up a key
 
-value_from : (number : ℕ) (o : Option Held) (n : ℕ) (v : Held) → key_of number o ≡ Ok (n, v) → o ≡ Some v
+value_from : (number : ℕ) (o : Option HeldValue) (n : ℕ) (v : HeldValue) → key_of number o ≡ Ok (n, v) → o ≡ Some v
 value_from number None n v h = absurd (cc)
 value_from number (Some w) n v h =
     let pair : (number, w) ≡ (n, v) = cc in
-    ap (λ (p : ℕ × Held). Some p.1) pair
+    ap (λ (p : ℕ × HeldValue). Some p.1) pair
 
-key_from : (o : Option OdbRefusal) (r : Option Row) (n : ℕ) (v : Held) → key_found (found_row o r) ≡ Ok (n, v) → (row : Row) × (r ≡ Some row) × (row.value ≡ Some v)
+key_from : (o : Option OdbRefusal) (r : Option Row) (n : ℕ) (v : HeldValue) → key_found (found_row o r) ≡ Ok (n, v) → (row : Row) × (r ≡ Some row) × (row.value ≡ Some v)
 key_from (Some refusal) r n v h = absurd (cc)
 key_from None None n v h = absurd (cc)
 key_from None (Some row) n v h = (row, refl, value_from row.number row.value n v h)
 
-key_is : (rows : List Row) (p : List (List ℕ)) (n : ℕ) (v : Held) → seek_key rows p ≡ Ok (n, v) → IsKeyAt rows p v
+key_is : (rows : List Row) (p : List (List ℕ)) (n : ℕ) (v : HeldValue) → seek_key rows p ≡ Ok (n, v) → IsKeyAt rows p v
 key_is rows [] n v h = absurd (cc)
 key_is rows (name ∷ names) n v h =
     let found = key_from (obstacle_to rows (name ∷ names)) (row_at rows (name ∷ names)) n v h in
     record { row = found.0; there = found.1; value = found.2 }
 
-pub sought_key : (s : Rows) (seen : List Row) (p : List (List ℕ)) (n : ℕ) (v : Held) → seen ≡ s.rows → seek_key seen p ≡ Ok (n, v) → IsKeyAt s.rows p v
+pub sought_key : (s : Rows) (seen : List Row) (p : List (List ℕ)) (n : ℕ) (v : HeldValue) → seen ≡ s.rows → seek_key seen p ≡ Ok (n, v) → IsKeyAt s.rows p v
 sought_key s seen p n v is h = subst (λ (rows : List Row). IsKeyAt rows p v) is (key_is seen p n v h)
 
 -- set
@@ -131,7 +131,7 @@ short_item : (item : Item) → text_fault item ≡ None → IsShorter size_limit
 short_item (Text bytes) h = short_text bytes h
 short_item _ h = tt
 
-pub can_put : (s : Rows) (p : List (List ℕ)) (index : ℕ) (item : Item) (v : Held) (r : Option OdbRefusal) → r ≡ set_fault s p index item v → r ≡ None → CanPut v index item
+pub can_put : (s : Rows) (p : List (List ℕ)) (index : ℕ) (item : Item) (v : HeldValue) (r : Option OdbRefusal) → r ≡ set_fault s p index item v → r ≡ None → CanPut v index item
 can_put s p index item v r is none =
     let whole : set_fault s p index item v ≡ None = sym is ∙ none in
     let rest : option_or (index_fault (length v.items) index) (limit_fault (text_fault item) (after_set s p index item)) ≡ None = or_none_right (type_fault v.tid (tid_of item)) _ whole in
@@ -142,26 +142,26 @@ can_put s p index item v r is none =
       short = short_item item (own_none (text_fault item) (after_set s p index item) limits);
     }
 
-pub set_within : (s : Rows) (p : List (List ℕ)) (index : ℕ) (item : Item) (v : Held) (r : Option OdbRefusal) → r ≡ set_fault s p index item v → r ≡ None → IsWithin (after_set s p index item)
+pub set_within : (s : Rows) (p : List (List ℕ)) (index : ℕ) (item : Item) (v : HeldValue) (r : Option OdbRefusal) → r ≡ set_fault s p index item v → r ≡ None → IsWithin (after_set s p index item)
 set_within s p index item v r is none =
     let whole : set_fault s p index item v ≡ None = sym is ∙ none in
     let rest : option_or (index_fault (length v.items) index) (limit_fault (text_fault item) (after_set s p index item)) ≡ None = or_none_right (type_fault v.tid (tid_of item)) _ whole in
     within (text_fault item) (after_set s p index item) (or_none_right (index_fault (length v.items) index) _ rest)
 
 -- two rows found at one path are one
-pub can_put_there : (rows : List Row) (p : List (List ℕ)) (index : ℕ) (item given : Item) (v : Held) → IsKeyAt rows p v → CanPut v index item → given ≡ item
-    → (row : Row) → row_at rows p ≡ Some row → (w : Held) → row.value ≡ Some w → CanPut w index given
+pub can_put_there : (rows : List Row) (p : List (List ℕ)) (index : ℕ) (item given : Item) (v : HeldValue) → IsKeyAt rows p v → CanPut v index item → given ≡ item
+    → (row : Row) → row_at rows p ≡ Some row → (w : HeldValue) → row.value ≡ Some w → CanPut w index given
 can_put_there rows p index item given v at h is row there w held =
     let one : at.row ≡ row = same_some at.row row (sym at.there ∙ there) in
     let value : v ≡ w = same_some v w (sym at.value ∙ (ap (λ (x : Row). x.value) one ∙ held)) in
-    subst (λ (x : Held). CanPut x index given) value (subst (λ (i : Item). CanPut v index i) (sym is) h)
+    subst (λ (x : HeldValue). CanPut x index given) value (subst (λ (i : Item). CanPut v index i) (sym is) h)
   where
     same_some : {X : Type 0} (x y : X) → Some x ≡ Some y → x ≡ y
     same_some x y e = cc
 
 -- set_all
 
-pub set_all_within : (s : Rows) (p : List (List ℕ)) (v : Held) (r : Option OdbRefusal) → r ≡ set_all_fault s p v → r ≡ None → IsWithin (after_set_all s p v)
+pub set_all_within : (s : Rows) (p : List (List ℕ)) (v : HeldValue) (r : Option OdbRefusal) → r ≡ set_all_fault s p v → r ≡ None → IsWithin (after_set_all s p v)
 set_all_within s p v r is none =
     let whole : set_all_fault s p v ≡ None = sym is ∙ none in
     within (own_fault v) (after_set_all s p v)

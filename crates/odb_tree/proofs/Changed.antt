@@ -2,7 +2,7 @@
 use Rattle.std.proofs.Common.{◌≡◌, ◌≢◌, List, [], ℕ, map, Option, Some, None, refl}
 use Rattle.odb_path.specs.Paths.{depth_limit}
 use Rattle.odb_value.specs.declared.items.Item.{Item}
-use Rattle.odb_value.specs.Values.{Held}
+use Rattle.odb_value.specs.Values.{HeldValue}
 use Rattle.odb_value.specs.ValueChanges.{put_in, resized}
 use Rattle.odb_tree.specs.declared.rows.Row.{Row}
 use Rattle.odb_tree.specs.Rows.{Rows, rows_outside, change_at, row_at}
@@ -16,7 +16,7 @@ pub walk_without : (s : Rows) (p : List (List ℕ)) → walk (rows_of (rows_outs
 unfolding walk
 walk_without s p = walk_outside depth_limit s.rows p []
 
-pub walk_with_change : (s : Rows) (p : List (List ℕ)) (f : Held → Held) → IsTree s → walk (rows_of (change_at s.rows p f) s.next) ≡ map (changed_at p f) (walk s)
+pub walk_with_change : (s : Rows) (p : List (List ℕ)) (f : HeldValue → HeldValue) → IsTree s → walk (rows_of (change_at s.rows p f) s.next) ≡ map (changed_at p f) (walk s)
 unfolding walk
 walk_with_change s p f h = walk_changed depth_limit s.rows p f [] (one_at s.rows p h.apart)
 
@@ -24,11 +24,11 @@ pub walk_set : (s : Rows) (p : List (List ℕ)) (index : ℕ) (item : Item) → 
     → walk (rows_of (change_at s.rows p (λ v. put_in v index item)) s.next) ≡ map (changed_at p (λ v. put_in v index item)) (walk s)
 walk_set s p index item h = walk_with_change s p (λ v. put_in v index item) h
 
-walk_replaced : (s : Rows) (p : List (List ℕ)) (v : Held) (o : Option Row) → IsTree s → o ≢ None → walk (after_set_all_at s p v o) ≡ map (changed_at p (λ _. v)) (walk s)
+walk_replaced : (s : Rows) (p : List (List ℕ)) (v : HeldValue) (o : Option Row) → IsTree s → o ≢ None → walk (after_set_all_at s p v o) ≡ map (changed_at p (λ _. v)) (walk s)
 walk_replaced s p v None h there = absurd (there refl)
 walk_replaced s p v (Some r) h there = walk_with_change s p (λ _. v) h
 
-pub walk_set_all : (s : Rows) (p : List (List ℕ)) (v : Held) → IsTree s → row_at s.rows p ≢ None → walk (after_set_all s p v) ≡ map (changed_at p (λ _. v)) (walk s)
+pub walk_set_all : (s : Rows) (p : List (List ℕ)) (v : HeldValue) → IsTree s → row_at s.rows p ≢ None → walk (after_set_all s p v) ≡ map (changed_at p (λ _. v)) (walk s)
 walk_set_all s p v h there = walk_replaced s p v (row_at s.rows p) h there
 
 pub walk_resize : (s : Rows) (p : List (List ℕ)) (len : ℕ) → IsTree s

@@ -4,13 +4,13 @@ use Rattle.std.specs.List.{position_or_len}
 use Rattle.std.proofs.lemmas.Option.{cond_some}
 use Rattle.std.proofs.lemmas.Bool.Decides.{nat_tests}
 use Rattle.std.proofs.lemmas.List.Sums.{fails_before_first, passes_at_first}
-use Rattle.odb_value.specs.Values.{Held}
+use Rattle.odb_value.specs.Values.{HeldValue}
 use Rattle.odb_path.specs.Paths.{same_path}
 use Rattle.odb_tree.specs.declared.rows.Row.{Row}
 use Rattle.odb_tree.specs.Rows.{row_at, change_row, change_at}
 
 -- the first row that passes, at a place before which none does
-change_there : (rows : List Row) (p : List (List ℕ)) (f : Held → Held) (k : ℕ) (d : Row) → k < length rows
+change_there : (rows : List Row) (p : List (List ℕ)) (f : HeldValue → HeldValue) (k : ℕ) (d : Row) → k < length rows
     → ((i : ℕ) → i < k → same_path (get_or rows i d).path p ≡ false) → same_path (get_or rows k d).path p ≡ true
     → (change_at rows p f ≡ set rows k (change_row f (get_or rows k d))) × (row_at rows p ≡ Some (get_or rows k d))
 change_there [] p f k d l before here = absurd (omega arith)
@@ -30,7 +30,7 @@ place_is rows p k h =
     (grind (arith, nat_tests, both.0), both.1)
 
 -- the row at the place of the first row at the path
-pub changed : (rows : List Row) (p : List (List ℕ)) (f : Held → Held) (k : ℕ) (r : Row) → position (λ (r : Row). same_path r.path p) rows ≡ Some k → r ≡ get_or rows k r
+pub changed : (rows : List Row) (p : List (List ℕ)) (f : HeldValue → HeldValue) (k : ℕ) (r : Row) → position (λ (r : Row). same_path r.path p) rows ≡ Some k → r ≡ get_or rows k r
     → (change_at rows p f ≡ set rows k (change_row f r)) × (row_at rows p ≡ Some r)
 changed rows p f k r h is =
     let at = place_is rows p k h in
@@ -46,7 +46,7 @@ not_at n m h = past (ltb n m) n m refl h
     past true n m e h = absurd (cc)
     past false n m e h = grind (arith, nat_tests)
 
-unchanged_if : (rows : List Row) (p : List (List ℕ)) (f : Held → Held) (d : Row) → ((i : ℕ) → i < length rows → same_path (get_or rows i d).path p ≡ false) → change_at rows p f ≡ rows
+unchanged_if : (rows : List Row) (p : List (List ℕ)) (f : HeldValue → HeldValue) (d : Row) → ((i : ℕ) → i < length rows → same_path (get_or rows i d).path p ≡ false) → change_at rows p f ≡ rows
 unchanged_if [] p f d h = refl
 unchanged_if (r ∷ rs) p f d h =
     ap (λ (t : Bool). cond t (change_row f r ∷ rs) (r ∷ change_at rs p f)) (h 0 (omega arith))
@@ -56,13 +56,13 @@ any_row : Row
 any_row = record { number = 0; path = []; value = None }
 
 -- without a row at the path nothing changes
-pub unchanged : (rows : List Row) (p : List (List ℕ)) (f : Held → Held) → position (λ (r : Row). same_path r.path p) rows ≡ None → change_at rows p f ≡ rows
+pub unchanged : (rows : List Row) (p : List (List ℕ)) (f : HeldValue → HeldValue) → position (λ (r : Row). same_path r.path p) rows ≡ None → change_at rows p f ≡ rows
 unchanged rows p f h =
     let long : length rows ≤ position_or_len (λ (r : Row). same_path r.path p) rows = not_at (position_or_len (λ (r : Row). same_path r.path p) rows) (length rows) h in
     unchanged_if rows p f any_row (λ i l. fails_before_first (λ (r : Row). same_path r.path p) rows i any_row (omega (arith, long, l)))
 
 -- a new row in the place that was found
-pub stored : (rows seen : List Row) (p : List (List ℕ)) (f : Held → Held) (found : Option ℕ) (k : ℕ) (r new : Row) → seen ≡ rows
+pub stored : (rows seen : List Row) (p : List (List ℕ)) (f : HeldValue → HeldValue) (found : Option ℕ) (k : ℕ) (r new : Row) → seen ≡ rows
     → found ≡ position (λ (r : Row). same_path r.path p) seen → found ≡ Some k → r ≡ get_or rows k r → new ≡ change_row f r → set rows k new ≡ change_at rows p f
 stored rows seen p f found k r new same is at read written =
     ap (λ (x : Row). set rows k x) written
@@ -72,10 +72,10 @@ stored rows seen p f found k r new same is at read written =
 pub found_at : (rows seen : List Row) (p : List (List ℕ)) (found : Option ℕ) (k : ℕ) (r : Row) → seen ≡ rows
     → found ≡ position (λ (r : Row). same_path r.path p) seen → found ≡ Some k → r ≡ get_or rows k r → row_at rows p ≡ Some r
 found_at rows seen p found k r same is at read =
-    (changed rows p (λ (v : Held). v) k r (ap (position (λ (r : Row). same_path r.path p)) (sym same) ∙ (sym is ∙ at)) read).1
+    (changed rows p (λ (v : HeldValue). v) k r (ap (position (λ (r : Row). same_path r.path p)) (sym same) ∙ (sym is ∙ at)) read).1
 
 -- no row was found
-pub kept : (rows seen : List Row) (p : List (List ℕ)) (f : Held → Held) (found : Option ℕ) → seen ≡ rows
+pub kept : (rows seen : List Row) (p : List (List ℕ)) (f : HeldValue → HeldValue) (found : Option ℕ) → seen ≡ rows
     → found ≡ position (λ (r : Row). same_path r.path p) seen → ((k : ℕ) → found ≡ Some k → ⊥) → rows ≡ change_at rows p f
 kept rows seen p f None same is none = sym (unchanged rows p f (ap (position (λ (r : Row). same_path r.path p)) (sym same) ∙ sym is))
 kept rows seen p f (Some k) same is none = absurd (none k refl)

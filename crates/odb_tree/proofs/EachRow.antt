@@ -14,7 +14,7 @@ use Rattle.odb_path.specs.Paths.{depth_limit, IsPath, is_front, same_path}
 use Rattle.odb_value.specs.declared.items.Item.{Item}
 use Rattle.odb_value.specs.declared.items.Item.TheVariants.{Text}
 use Rattle.odb_value.specs.Items.{tid_of, is_kept, IsSound, IsItem}
-use Rattle.odb_value.specs.Values.{Held, IsValue, IsSizeOf, IsShorter, size_limit, items_limit}
+use Rattle.odb_value.specs.Values.{HeldValue, IsValue, IsSizeOf, IsShorter, size_limit, items_limit}
 use Rattle.odb_value.specs.ValueChanges.{raised, put_in, default_item, default_size, new_held, resized}
 use Rattle.odb_value.proofs.ValueKept.{is_value-resized}
 use Rattle.odb_tree.specs.declared.rows.Row.{Row}
@@ -28,14 +28,14 @@ use Rattle.odb_tree.specs.Databases.{IsRow}
 
 -- changed rows
 
-step : (P : Row → Type 0) (t : Bool) (r : Row) (rs : List Row) (p : List (List ℕ)) (f : Held → Held) → All P (r ∷ rs)
+step : (P : Row → Type 0) (t : Bool) (r : Row) (rs : List Row) (p : List (List ℕ)) (f : HeldValue → HeldValue) → All P (r ∷ rs)
     → ((x : Row) → cond t (Some r) (row_at rs p) ≡ Some x → P x → P (change_row f x)) → (t ≡ false → All P (change_at rs p f))
     → All P (cond t (change_row f r ∷ rs) (r ∷ change_at rs p f))
 step P true r rs p f h new rest = All-cons P (change_row f r) rs (new r refl (All-head P r rs h)) (All-tail P r rs h)
 step P false r rs p f h new rest = All-cons P r (change_at rs p f) (All-head P r rs h) (rest refl)
 
 -- what holds of all rows holds of them after a change of the one at a path, if it holds of that one then
-pub all_changed : (P : Row → Type 0) (rows : List Row) (p : List (List ℕ)) (f : Held → Held) → All P rows → ((x : Row) → row_at rows p ≡ Some x → P x → P (change_row f x))
+pub all_changed : (P : Row → Type 0) (rows : List Row) (p : List (List ℕ)) (f : HeldValue → HeldValue) → All P rows → ((x : Row) → row_at rows p ≡ Some x → P x → P (change_row f x))
     → All P (change_at rows p f)
 all_changed P [] p f h new = All-nil P
 all_changed P (r ∷ rs) p f h new =
@@ -91,7 +91,7 @@ go_named rows next reached (name ∷ names) way h are k =
     (further_named rows next name way (reached ++ name ∷ []) (row_at rows (reached ++ name ∷ [])) h refl (All-head IsName name names are) k)
 
 -- the rows that a call makes
-pub made_rows : (s : Rows) (p : List (List ℕ)) (value : Option Held) → All IsRow s.rows → IsPath p → IfSome value IsValue → AreShort depth_limit (made_for s p value) → All IsRow (made_for s p value)
+pub made_rows : (s : Rows) (p : List (List ℕ)) (value : Option HeldValue) → All IsRow s.rows → IsPath p → IfSome value IsValue → AreShort depth_limit (made_for s p value) → All IsRow (made_for s p value)
 made_rows s p value h path is short =
     let way = go_named s.rows s.next [] (parent_of p) no_way (named_rows s.rows h) (All-take IsName (length p - 1) p path.names) (record { path = All-nil IsName; dirs = All-nil IsNamed }) in
     rows_named (made_for s p value)
@@ -127,7 +127,7 @@ own_shorter size (Text bytes) = right size (length bytes)
 own_shorter size _ = tt
 
 -- with an item put in
-pub value_put : (v : Held) (index : ℕ) (item : Item) → IsValue v → CanPut v index item → IsSound item → IsValue (put_in v index item)
+pub value_put : (v : HeldValue) (index : ℕ) (item : Item) → IsValue v → CanPut v index item → IsSound item → IsValue (put_in v index item)
 value_put v index item h can sound = record {
   some = omega (arith, length-set v.items index item, h.some);
   many = omega (arith, length-set v.items index item, h.many);
@@ -176,5 +176,5 @@ value_new type len kept fits = record {
 }
 
 -- a value with more items, or fewer
-pub value_resized : (v : Held) (len : ℕ) → len_fault len ≡ None → IsValue v → IsValue (resized v len)
+pub value_resized : (v : HeldValue) (len : ℕ) → len_fault len ≡ None → IsValue v → IsValue (resized v len)
 value_resized v len fits h = is_value-resized v len (len_some len fits) (len_few len fits) h

@@ -10,7 +10,7 @@ use Rattle.odb_value.specs.declared.items.Item.{Item}
 use Rattle.odb_value.specs.declared.items.Item.TheVariants.{Text}
 use Rattle.odb_value.specs.Items.{tid_of, is_kept, IsItem}
 use Rattle.odb_value.specs.ItemTexts.{text_limit}
-use Rattle.odb_value.specs.Values.{Held, IsValue, IsSizeOf, IsShorter, items_limit}
+use Rattle.odb_value.specs.Values.{HeldValue, IsValue, IsSizeOf, IsShorter, items_limit}
 use Rattle.odb_value.proofs.ValueKept.{is_kept-value}
 use Rattle.odb_value.specs.ValueChanges.{put_in, resized, raised, default_item}
 use Rattle.odb_tree.specs.declared.rows.Row.{Row}
@@ -33,14 +33,14 @@ or_next (Some x) o r h k = absurd (h x refl)
 
 -- new rows
 
-pub new_fits : (s : Rows) (p : List (List ℕ)) (value : Option Held) (seen : List Row) (names : List (List ℕ)) → seen ≡ s.rows → names ≡ parent_of p
+pub new_fits : (s : Rows) (p : List (List ℕ)) (value : Option HeldValue) (seen : List Row) (names : List (List ℕ)) → seen ≡ s.rows → names ≡ parent_of p
     → IsWithin (created s p value) → s.next + missing_from seen [] names ≤ 2 ^ 32
 new_fits s p value seen names e f h =
     let same : missing_from seen [] names ≡ missing_from s.rows [] (parent_of p) = ap (λ (xs : List Row). missing_from xs [] names) e ∙ ap (missing_from s.rows []) f in
     let counts = new_counts s p value in
     omega (arith, same, counts.next, h.next)
 
-pub new_fault_is : (s : Rows) (p : List (List ℕ)) (own : Option What) (bytes count missing total : ℕ) (value : Option Held) (seen : List Row) (names : List (List ℕ))
+pub new_fault_is : (s : Rows) (p : List (List ℕ)) (own : Option What) (bytes count missing total : ℕ) (value : Option HeldValue) (seen : List Row) (names : List (List ℕ))
     → seen ≡ s.rows → names ≡ parent_of p → missing ≡ missing_from seen [] names → count ≡ length seen → total ≡ total_of seen → (own ≡ None → bytes_in value ≡ bytes)
     → option_map Limit (passed own (count + missing + 1) (total + bytes) (s.next + missing + 1)) ≡ limit_fault own (created s p value)
 new_fault_is s p own bytes count missing total value seen names e f m k t h =
@@ -56,34 +56,34 @@ new_fault_is s p own bytes count missing total value seen names e f m k t h =
 
 -- changed values
 
-pub had_some : (rows : List Row) (p : List (List ℕ)) (v : Held) → IsKeyAt rows p v → bytes_of v ≤ total_of rows
-had_some rows p v h = let counts = change_counts rows p h.row v (λ (x : Held). x) h.there h.value in counts.had
+pub had_some : (rows : List Row) (p : List (List ℕ)) (v : HeldValue) → IsKeyAt rows p v → bytes_of v ≤ total_of rows
+had_some rows p v h = let counts = change_counts rows p h.row v (λ (x : HeldValue). x) h.there h.value in counts.had
 
-pub change_is : (s : Rows) (p : List (List ℕ)) (v : Held) (f : Held → Held) (own : Option What) (had bytes : ℕ) → IsKeyAt s.rows p v → had ≡ bytes_of v → (own ≡ None → bytes ≡ bytes_of (f v))
+pub change_is : (s : Rows) (p : List (List ℕ)) (v : HeldValue) (f : HeldValue → HeldValue) (own : Option What) (had bytes : ℕ) → IsKeyAt s.rows p v → had ≡ bytes_of v → (own ≡ None → bytes ≡ bytes_of (f v))
     → option_map Limit (passed own (length s.rows) (total_of s.rows - had + bytes) s.next) ≡ limit_fault own (record { rows = change_at s.rows p f; next = s.next })
 change_is s p v f own had bytes h k e =
     let counts = change_counts s.rows p h.row v f h.there h.value in
     fault_same own (length s.rows) (total_of s.rows - had + bytes) (total_of (change_at s.rows p f)) s.next (λ none. omega (arith, e none, k, counts.total))
     ∙ ap (λ (n : ℕ). option_map Limit (passed own n (total_of (change_at s.rows p f)) s.next)) (sym counts.count)
 
-resized_long : (v : Held) (len : ℕ) → length (resized v len).items ≡ len
+resized_long : (v : HeldValue) (len : ℕ) → length (resized v len).items ≡ len
 resized_long v len = omega (arith, length-take len (v.items ++ replicate (len - length v.items) (default_item v.tid)), length-append v.items (replicate (len - length v.items) (default_item v.tid)), length-replicate (len - length v.items) (default_item v.tid))
 
-pub resize_is : (s : Rows) (p : List (List ℕ)) (v : Held) (len had bytes size : ℕ) → IsKeyAt s.rows p v → had ≡ bytes_of v → size ≡ v.size → (len_fault len ≡ None → bytes ≡ len * size)
+pub resize_is : (s : Rows) (p : List (List ℕ)) (v : HeldValue) (len had bytes size : ℕ) → IsKeyAt s.rows p v → had ≡ bytes_of v → size ≡ v.size → (len_fault len ≡ None → bytes ≡ len * size)
     → option_map Limit (passed (len_fault len) (length s.rows) (total_of s.rows - had + bytes) s.next) ≡ limit_fault (len_fault len) (after_resize s p len)
 resize_is s p v len had bytes size h k e b =
-    change_is s p v (λ (x : Held). resized x len) (len_fault len) had bytes h k
+    change_is s p v (λ (x : HeldValue). resized x len) (len_fault len) had bytes h k
     (λ none. b none ∙ (ap (λ (n : ℕ). len * n) e ∙ ap (λ (n : ℕ). n * v.size) (sym (resized_long v len))))
 
 len_right : (n : ℕ) → 1 ≤ n → n ≤ items_limit → len_fault n ≡ None
 len_right n some many = grind arith
 
-pub set_is : (s : Rows) (p : List (List ℕ)) (v : Held) (index : ℕ) (item : Item) (had bytes len size : ℕ) → IsKeyAt s.rows p v → IsValue v → had ≡ bytes_of v → len ≡ length v.items
+pub set_is : (s : Rows) (p : List (List ℕ)) (v : HeldValue) (index : ℕ) (item : Item) (had bytes len size : ℕ) → IsKeyAt s.rows p v → IsValue v → had ≡ bytes_of v → len ≡ length v.items
     → (text_fault item ≡ None → size ≡ raised v.size item) → (len_fault len ≡ None → bytes ≡ len * size)
     → option_map Limit (passed (text_fault item) (length s.rows) (total_of s.rows - had + bytes) s.next) ≡ limit_fault (text_fault item) (after_set s p index item)
 set_is s p v index item had bytes len size h value k e r b =
     let right : len_fault len ≡ None = len_right len (omega (arith, e, value.some)) (omega (arith, e, value.many)) in
-    change_is s p v (λ (x : Held). put_in x index item) (text_fault item) had bytes h k
+    change_is s p v (λ (x : HeldValue). put_in x index item) (text_fault item) had bytes h k
     (λ none. b right ∙ (ap (λ (n : ℕ). len * n) (r none) ∙ ap (λ (n : ℕ). n * raised v.size item) (e ∙ sym (length-set v.items index item))))
 
 -- set_all
@@ -110,10 +110,10 @@ short_texts type size (item ∷ items) fits are short =
     (short_texts type size items fits (All-tail (IsItem type) item items are) (All-tail (IsShorter size) item items short))
 
 -- of a value nothing is wrong with its type and its items
-own_right : (v : Held) → IsValue v → own_fault v ≡ None
+own_right : (v : HeldValue) → IsValue v → own_fault v ≡ None
 own_right v h = rw (len_right (length v.items) h.some h.many) (short_texts v.tid v.size v.items h.size h.of_type h.shorter)
 
-pub tid_right : (v : Held) → IsValue v → tid_fault v.tid ≡ None
+pub tid_right : (v : HeldValue) → IsValue v → tid_fault v.tid ≡ None
 tid_right v h = of_kept v.tid (is_kept-value v h)
 
 all_clear : (a b c type : Option OdbRefusal) (own : Option What) (after s : Rows) → a ≡ None → b ≡ None → c ≡ type → own ≡ None → after ≡ s
@@ -121,7 +121,7 @@ all_clear : (a b c type : Option OdbRefusal) (own : Option What) (after s : Rows
 all_clear a b c type own after s ea eb ec eo es = rw (ea, eb, ec, eo, es) refl
 
 -- a new key
-pub set_all_new : (s : Rows) (p : List (List ℕ)) (v : Held) (obstacle r : Option OdbRefusal) → eqb (length p) 0 ≡ false → row_at s.rows p ≡ None → IsValue v
+pub set_all_new : (s : Rows) (p : List (List ℕ)) (v : HeldValue) (obstacle r : Option OdbRefusal) → eqb (length p) 0 ≡ false → row_at s.rows p ≡ None → IsValue v
     → obstacle ≡ obstacle_to_new s.rows p → ((x : OdbRefusal) → obstacle ≡ Some x → ⊥) → r ≡ limit_fault None (created s p (Some v)) → r ≡ set_all_fault s p v
 set_all_new s p v obstacle r named missing sound is free fault =
     or_next obstacle (limit_fault None (created s p (Some v))) r free fault
@@ -130,11 +130,11 @@ set_all_new s p v obstacle r named missing sound is free fault =
     (sym (all_clear (value_fault s.rows p) (tid_fault v.tid) (there_fault v.tid (row_at s.rows p)) None (own_fault v) (after_set_all s p v) (created s p (Some v))
     (named_value s.rows p named ∙ ap directory_fault missing) (tid_right v sound) (ap (there_fault v.tid) missing) (own_right v sound) (ap (after_set_all_at s p v) missing))))
 
-no_directory : (row : Row) (v : Held) → row.value ≡ Some v → directory_fault (Some row) ≡ None
-no_directory row v h = ap (λ (o : Option Held). cond (is_some o) None (Some NotValue)) h
+no_directory : (row : Row) (v : HeldValue) → row.value ≡ Some v → directory_fault (Some row) ≡ None
+no_directory row v h = ap (λ (o : Option HeldValue). cond (is_some o) None (Some NotValue)) h
 
 -- a key that is there
-pub set_all_there : (s : Rows) (p : List (List ℕ)) (v had : Held) (row : Row) (obstacle type r : Option OdbRefusal) → eqb (length p) 0 ≡ false → row_at s.rows p ≡ Some row → row.value ≡ Some had
+pub set_all_there : (s : Rows) (p : List (List ℕ)) (v had : HeldValue) (row : Row) (obstacle type r : Option OdbRefusal) → eqb (length p) 0 ≡ false → row_at s.rows p ≡ Some row → row.value ≡ Some had
     → IsValue v → obstacle ≡ obstacle_to_new s.rows p → ((x : OdbRefusal) → obstacle ≡ Some x → ⊥) → type ≡ type_fault had.tid v.tid
     → r ≡ option_or type (limit_fault None (record { rows = change_at s.rows p (λ _. v); next = s.next })) → r ≡ set_all_fault s p v
 set_all_there s p v had row obstacle type r named there held sound is free type_is fault =
@@ -160,7 +160,7 @@ create_is s p kind obstacle there kept r is free there_is new kept_is known faul
 
 -- set
 
-pub set_fault_is : (s : Rows) (p : List (List ℕ)) (v : Held) (index : ℕ) (item : Item) (have given : Tid) (len : ℕ) (type there r : Option OdbRefusal)
+pub set_fault_is : (s : Rows) (p : List (List ℕ)) (v : HeldValue) (index : ℕ) (item : Item) (have given : Tid) (len : ℕ) (type there r : Option OdbRefusal)
     → type ≡ type_fault have given → have ≡ v.tid → given ≡ tid_of item → ((x : OdbRefusal) → type ≡ Some x → ⊥)
     → there ≡ index_fault len index → len ≡ length v.items → ((x : OdbRefusal) → there ≡ Some x → ⊥)
     → r ≡ limit_fault (text_fault item) (after_set s p index item) → r ≡ set_fault s p index item v
@@ -170,5 +170,5 @@ set_fault_is s p v index item have given len type there r type_is have_is given_
     ∙ (ap (λ (o : Option OdbRefusal). option_or o (option_or there limits)) (type_is ∙ (ap (λ (t : Tid). type_fault t given) have_is ∙ ap (type_fault v.tid) given_is))
     ∙ ap (λ (o : Option OdbRefusal). option_or (type_fault v.tid (tid_of item)) (option_or o limits)) (there_is ∙ ap (λ (n : ℕ). index_fault n index) len_is))
 
-pub key_at : (s : Rows) (seen : List Row) (p : List (List ℕ)) (row : Row) (v : Held) → seen ≡ s.rows → row_at seen p ≡ Some row → row.value ≡ Some v → IsKeyAt s.rows p v
+pub key_at : (s : Rows) (seen : List Row) (p : List (List ℕ)) (row : Row) (v : HeldValue) → seen ≡ s.rows → row_at seen p ≡ Some row → row.value ≡ Some v → IsKeyAt s.rows p v
 key_at s seen p row v is there value = record { row = row; there = subst (λ (rows : List Row). row_at rows p ≡ Some row) is there; value = value }

@@ -3,7 +3,7 @@ use Rattle.std.proofs.Common.{◌≡◌, ℕ, ◌+◌, ◌-◌, ◌<◌, ◌≤�
 use Rattle.std.specs.Option.{option_or, is_some}
 use Rattle.std.proofs.lemmas.List.{drop_more, take_more, drop_all, take_all}
 use Rattle.odb_path.specs.Paths.{same_path}
-use Rattle.odb_value.specs.Values.{Held}
+use Rattle.odb_value.specs.Values.{HeldValue}
 use Rattle.odb_value.specs.ValueChanges.{put_in, resized}
 use Rattle.odb_tree.specs.declared.rows.Row.{Row}
 use Rattle.odb_tree.specs.declared.rows.NewKey.{NewKey}
@@ -17,7 +17,7 @@ use Rattle.odb_tree.specs.Limits.{limit_fault}
 use Rattle.odb_tree.specs.Calls.{IsReply, rows_after, reply_or, exists_fault, kept_fault, items_fault, create_fault, create_reply, after_create, value_fault, set_all_fault, set_all_reply, after_set_all, after_set_all_at, number_at, new_value}
 use Rattle.odb_tree.specs.Histories.{IsLegal, replay}
 use Rattle.odb_tree.specs.WalkLaws.{not_true, NoneAt}
-use Rattle.odb_tree.specs.Trees.{HasDir, IsDir, IsTree, with_rows, IsNew, AreNew, AreShort}
+use Rattle.odb_tree.specs.Trees.{HasDir, IsDir, IsTree, with_rows, IsNewRow, AreNew, AreShort}
 use Rattle.odb_tree.specs.Places.{made_for}
 use Rattle.odb_tree.proofs.Limited.{or_none_left, or_none_right}
 use Rattle.odb_tree.proofs.Trees.{same_long, same_sym, same_add, none_append, none_same, none_there, is_dir_append, tree_with, tree_outside, tree_changed, with_more, same_rows}
@@ -37,9 +37,9 @@ short_none n p (r ∷ rs) h l =
     (not_true (same_path r.path p) (λ e. absurd (omega (arith, same_long r.path p e, h.0, l))), short_none n p rs h.1 l)
 
 -- one row more at the end
-new_push : (s : Rows) (made : List Row) (new : Row) → AreNew s made → IsNew (with_rows s made) new → AreNew s (made ++ new ∷ [])
-new_push s [] new h k = (subst (λ (t : Rows). IsNew t new) (same_rows (s.rows ++ []) s.rows (s.next + 0) s.next (append-nil s.rows) (omega arith)) k, tt)
-new_push s (r ∷ rs) new h k = (h.0, new_push (with_rows s (r ∷ [])) rs new h.1 (subst (λ (t : Rows). IsNew t new) (sym (with_more s r rs)) k))
+new_push : (s : Rows) (made : List Row) (new : Row) → AreNew s made → IsNewRow (with_rows s made) new → AreNew s (made ++ new ∷ [])
+new_push s [] new h k = (subst (λ (t : Rows). IsNewRow t new) (same_rows (s.rows ++ []) s.rows (s.next + 0) s.next (append-nil s.rows) (omega arith)) k, tt)
+new_push s (r ∷ rs) new h k = (h.0, new_push (with_rows s (r ∷ [])) rs new h.1 (subst (λ (t : Rows). IsNewRow t new) (sym (with_more s r rs)) k))
 
 -- The way has come to this path: its directories may be made one after the other, and the path is there then.
 record IsOnWay (s : Rows) (reached : List (List ℕ)) (way : Way) : Type 0 where
@@ -69,8 +69,8 @@ push_long : (p : List (List ℕ)) (name : List ℕ) → length (p ++ name ∷ []
 push_long p name = omega (arith, length-append p (name ∷ []))
 
 -- a new row behind the way
-new_here : (s : Rows) (reached : List (List ℕ)) (name : List ℕ) (way : Way) (value : Option Held) → IsOnWay s reached way → row_at s.rows (reached ++ name ∷ []) ≡ None
-    → IsNew (with_rows s way.dirs) (record { number = s.next + length way.dirs; path = way.path ++ name ∷ []; value = value })
+new_here : (s : Rows) (reached : List (List ℕ)) (name : List ℕ) (way : Way) (value : Option HeldValue) → IsOnWay s reached way → row_at s.rows (reached ++ name ∷ []) ≡ None
+    → IsNewRow (with_rows s way.dirs) (record { number = s.next + length way.dirs; path = way.path ++ name ∷ []; value = value })
 new_here s reached name way value h free = record {
   placed = record { parent = way.path; name = name; path = refl; there = h.there };
   free = none_append (way.path ++ name ∷ []) s.rows way.dirs
@@ -136,21 +136,21 @@ has_last p h =
     take_all_of : (n : ℕ) (q : List (List ℕ)) → n ≡ length q → take n q ≡ q
     take_all_of n q e = take_all n q (omega (arith, e))
 
-pub created_with : (s : Rows) (p : List (List ℕ)) (value : Option Held) → created s p value ≡ with_rows s (made_for s p value)
+pub created_with : (s : Rows) (p : List (List ℕ)) (value : Option HeldValue) → created s p value ≡ with_rows s (made_for s p value)
 created_with s p value =
     same_rows (s.rows ++ made_for s p value) (s.rows ++ made_for s p value) (new_number s p + 1) (s.next + length (made_for s p value)) refl
     (omega (arith, length-append (way_to s p).dirs (new_row s p value ∷ [])))
 
-pub made_new : (s : Rows) (p : List (List ℕ)) (value : Option Held) → 0 < length p → obstacle_to_new s.rows p ≡ None → row_at s.rows p ≡ None → AreNew s (made_for s p value)
+pub made_new : (s : Rows) (p : List (List ℕ)) (value : Option HeldValue) → 0 < length p → obstacle_to_new s.rows p ≡ None → row_at s.rows p ≡ None → AreNew s (made_for s p value)
 made_new s p value some clear free =
     let last = has_last p some in
     let way = on_way s p clear in
     new_push s (way_to s p).dirs (new_row s p value) way.made
-    (subst (λ (l : List (List ℕ)). IsNew (with_rows s (way_to s p).dirs) (record { number = s.next + length (way_to s p).dirs; path = (way_to s p).path ++ l; value = value })) (sym last.last)
+    (subst (λ (l : List (List ℕ)). IsNewRow (with_rows s (way_to s p).dirs) (record { number = s.next + length (way_to s p).dirs; path = (way_to s p).path ++ l; value = value })) (sym last.last)
     (new_here s (parent_of p) last.name (way_to s p) value way (subst (λ (q : List (List ℕ)). row_at s.rows q ≡ None) last.whole free)))
 
 -- they have no more names than the path
-pub made_short : (s : Rows) (p : List (List ℕ)) (value : Option Held) → 0 < length p → obstacle_to_new s.rows p ≡ None → AreShort (length p) (made_for s p value)
+pub made_short : (s : Rows) (p : List (List ℕ)) (value : Option HeldValue) → 0 < length p → obstacle_to_new s.rows p ≡ None → AreShort (length p) (made_for s p value)
 made_short s p value some clear =
     let last = has_last p some in
     let way = on_way s p clear in
@@ -159,7 +159,7 @@ made_short s p value some clear =
     (subst (λ (l : List (List ℕ)). length ((way_to s p).path ++ l) ≤ length p) (sym last.last)
     (omega (arith, push_long (way_to s p).path last.name, same_long (way_to s p).path (parent_of p) way.same, long)))
 
-tree_created : (s : Rows) (p : List (List ℕ)) (value : Option Held) → IsTree s → AreNew s (made_for s p value) → IsTree (created s p value)
+tree_created : (s : Rows) (p : List (List ℕ)) (value : Option HeldValue) → IsTree s → AreNew s (made_for s p value) → IsTree (created s p value)
 tree_created s p value h k = subst IsTree (sym (created_with s p value)) (tree_with s (made_for s p value) h k)
 
 -- replies
@@ -196,7 +196,7 @@ not_root rows [] h = absurd (cc)
 not_root rows (name ∷ names) h = omega arith
 
 -- what an accepted `set_all` of a path without a row makes
-pub set_all_makes : (s : Rows) (p : List (List ℕ)) (v : Held) (n : ℕ) → set_all_reply s p v ≡ Ok n → row_at s.rows p ≡ None
+pub set_all_makes : (s : Rows) (p : List (List ℕ)) (v : HeldValue) (n : ℕ) → set_all_reply s p v ≡ Ok n → row_at s.rows p ≡ None
     → AreNew s (made_for s p (Some v)) × AreShort (length p) (made_for s p (Some v))
 set_all_makes s p v n h free =
     let whole : set_all_fault s p v ≡ None = ok_none (set_all_fault s p v) (number_at s p (row_at s.rows p)) n h in
@@ -205,7 +205,7 @@ set_all_makes s p v n h free =
     let some : 0 < length p = not_root s.rows p (or_none_left (value_fault s.rows p) _ rest) in
     (made_new s p (Some v) some clear free, made_short s p (Some v) some clear)
 
-tree_set_all : (s : Rows) (p : List (List ℕ)) (v : Held) (n : ℕ) (o : Option Row) → row_at s.rows p ≡ o → IsTree s → set_all_reply s p v ≡ Ok n → IsTree (after_set_all_at s p v o)
+tree_set_all : (s : Rows) (p : List (List ℕ)) (v : HeldValue) (n : ℕ) (o : Option Row) → row_at s.rows p ≡ o → IsTree s → set_all_reply s p v ≡ Ok n → IsTree (after_set_all_at s p v o)
 tree_set_all s p v n None e h k = tree_created s p (Some v) h (set_all_makes s p v n k e).0
 tree_set_all s p v n (Some r) e h k = tree_changed s p (λ _. v) h
 

@@ -1,7 +1,7 @@
 -- Look-ups are never refused for want of memory.
 use Rattle.std.proofs.Common.{◌≡◌, ℕ, Bool, true, false, cond, List, [], ◌∷◌, ◌++◌, length, Option, Some, None, Result, Ok, Err, refl, ap, ◌∙◌}
 use Rattle.std.specs.Option.{option_or}
-use Rattle.odb_value.specs.Values.{Held}
+use Rattle.odb_value.specs.Values.{HeldValue}
 use Rattle.odb_tree.specs.declared.rows.Row.{Row}
 use Rattle.odb_tree.specs.declared.refusals.OdbRefusal.{OdbRefusal}
 use Rattle.odb_tree.specs.declared.refusals.OdbRefusal.TheVariants.{NoKey, NotDir, NoMemory}
@@ -34,7 +34,7 @@ found (Some x) r h e = let same : Some x ≡ Some NoMemory = cc in h same
 pub sought : (rows : List Row) (p : List (List ℕ)) → seek rows p ≡ Err NoMemory → ⊥
 sought rows p h = found (obstacle_to rows p) (row_at rows p) (on_way rows [] (parent_of p)) h
 
-of_value : (number : ℕ) (o : Option Held) → key_of number o ≡ Err NoMemory → ⊥
+of_value : (number : ℕ) (o : Option HeldValue) → key_of number o ≡ Err NoMemory → ⊥
 of_value number None e = cc
 of_value number (Some v) e = cc
 

@@ -5,7 +5,7 @@ use Rattle.std.proofs.lemmas.List.{length-append}
 use Rattle.std.proofs.lemmas.List.Sums.{sum_by-append, sum_by_push, sum_by-cons}
 use Rattle.std.proofs.lemmas.Bool.Decides.{nat_tests}
 use Rattle.odb_path.specs.Paths.{same_path}
-use Rattle.odb_value.specs.Values.{Held}
+use Rattle.odb_value.specs.Values.{HeldValue}
 use Rattle.odb_tree.specs.declared.rows.Row.{Row}
 use Rattle.odb_tree.specs.declared.refusals.OdbRefusal.TheVariants.{Limit}
 use Rattle.odb_tree.specs.declared.refusals.What.{What}
@@ -75,13 +75,13 @@ go_total rows next reached (name ∷ names) way =
     go_total rows next (reached ++ name ∷ []) names (further next name way (row_at rows (reached ++ name ∷ []))) ∙ further_total next name way (row_at rows (reached ++ name ∷ []))
 
 -- the numbers after a new row
-pub record NewCounts (s : Rows) (p : List (List ℕ)) (value : Option Held) : Type 0 where
+pub record NewCounts (s : Rows) (p : List (List ℕ)) (value : Option HeldValue) : Type 0 where
   pub dirs : length (way_to s p).dirs ≡ missing_from s.rows [] (parent_of p)
   pub rows : length (created s p value).rows ≡ length s.rows + missing_from s.rows [] (parent_of p) + 1
   pub total : total_of (created s p value).rows ≡ total_of s.rows + bytes_in value
   pub next : (created s p value).next ≡ s.next + missing_from s.rows [] (parent_of p) + 1
 
-pub new_counts : (s : Rows) (p : List (List ℕ)) (value : Option Held) → NewCounts s p value
+pub new_counts : (s : Rows) (p : List (List ℕ)) (value : Option HeldValue) → NewCounts s p value
 new_counts s p value =
     let made : length (way_to s p).dirs ≡ missing_from s.rows [] (parent_of p) = omega (arith, go_dirs s.rows s.next [] (parent_of p) no_way) in
     record {
@@ -92,19 +92,19 @@ new_counts s p value =
     }
 
 -- the numbers after a change of one value
-pub record ChangeCounts (rows : List Row) (p : List (List ℕ)) (v : Held) (f : Held → Held) : Type 0 where
+pub record ChangeCounts (rows : List Row) (p : List (List ℕ)) (v : HeldValue) (f : HeldValue → HeldValue) : Type 0 where
   pub count : length (change_at rows p f) ≡ length rows
   pub had : bytes_of v ≤ total_of rows
   pub total : total_of (change_at rows p f) ≡ total_of rows - bytes_of v + bytes_of (f v)
 
 -- where the row at the head is the one
-changed_head : (r : Row) (rs : List Row) (p : List (List ℕ)) (row : Row) (v : Held) (f : Held → Held) → row ≡ r → row.value ≡ Some v
+changed_head : (r : Row) (rs : List Row) (p : List (List ℕ)) (row : Row) (v : HeldValue) (f : HeldValue → HeldValue) → row ≡ r → row.value ≡ Some v
     → (bytes_of_row r ≡ bytes_of v) × (bytes_of_row (change_row f r) ≡ bytes_of (f v))
 changed_head r rs p row v f e h =
     let value : r.value ≡ Some v = subst (λ (x : Row). x.value ≡ Some v) e h in
-    (ap bytes_in value, ap (λ (o : Option Held). bytes_in (option_map f o)) value)
+    (ap bytes_in value, ap (λ (o : Option HeldValue). bytes_in (option_map f o)) value)
 
-counts_here : (r : Row) (rs : List Row) (p : List (List ℕ)) (row : Row) (v : Held) (f : Held → Held) → same_path r.path p ≡ true → row ≡ r → row.value ≡ Some v → ChangeCounts (r ∷ rs) p v f
+counts_here : (r : Row) (rs : List Row) (p : List (List ℕ)) (row : Row) (v : HeldValue) (f : HeldValue → HeldValue) → same_path r.path p ≡ true → row ≡ r → row.value ≡ Some v → ChangeCounts (r ∷ rs) p v f
 counts_here r rs p row v f t e k =
     let head = changed_head r rs p row v f e k in
     let is : change_at (r ∷ rs) p f ≡ change_row f r ∷ rs = ap (λ (b : Bool). cond b (change_row f r ∷ rs) (r ∷ change_at rs p f)) t in
@@ -114,7 +114,7 @@ counts_here r rs p row v f t e k =
       total = ap total_of is ∙ omega (arith, sum_by-cons bytes_of_row r rs, sum_by-cons bytes_of_row (change_row f r) rs, head.0, head.1);
     }
 
-counts_there : (r : Row) (rs : List Row) (p : List (List ℕ)) (v : Held) (f : Held → Held) → same_path r.path p ≡ false → ChangeCounts rs p v f → ChangeCounts (r ∷ rs) p v f
+counts_there : (r : Row) (rs : List Row) (p : List (List ℕ)) (v : HeldValue) (f : HeldValue → HeldValue) → same_path r.path p ≡ false → ChangeCounts rs p v f → ChangeCounts (r ∷ rs) p v f
 counts_there r rs p v f t k =
     let is : change_at (r ∷ rs) p f ≡ r ∷ change_at rs p f = ap (λ (b : Bool). cond b (change_row f r ∷ rs) (r ∷ change_at rs p f)) t in
     record {
@@ -127,7 +127,7 @@ find_head : (t : Bool) (r row : Row) (o : Option Row) → cond t (Some r) o ≡ 
 find_head true r row o h = inl (refl, cc)
 find_head false r row o h = inr (refl, h)
 
-pub change_counts : (rows : List Row) (p : List (List ℕ)) (row : Row) (v : Held) (f : Held → Held) → row_at rows p ≡ Some row → row.value ≡ Some v → ChangeCounts rows p v f
+pub change_counts : (rows : List Row) (p : List (List ℕ)) (row : Row) (v : HeldValue) (f : HeldValue → HeldValue) → row_at rows p ≡ Some row → row.value ≡ Some v → ChangeCounts rows p v f
 change_counts [] p row v f h k = absurd (cc)
 change_counts (r ∷ rs) p row v f h k =
     elim (find_head (same_path r.path p) r row (row_at rs p) h) [

@@ -4,13 +4,13 @@ use Rattle.std.specs.List.{filter, flat_map}
 use Rattle.std.proofs.lemmas.Bool.Decides.{nat_tests}
 use Rattle.odb_path.specs.Paths.{depth_limit, same_name, is_front, same_path}
 use Rattle.odb_tree.specs.declared.rows.Row.{Row}
-use Rattle.odb_value.specs.Values.{Held}
+use Rattle.odb_value.specs.Values.{HeldValue}
 use Rattle.odb_tree.specs.declared.rows.NewKey.{NewKey}
 use Rattle.odb_tree.specs.Calls.{create_reply, after_create, new_value, set_all_reply, after_set_all, after_set_all_at}
 use Rattle.odb_tree.specs.Rows.{Rows, row_at, is_key, is_kind, is_child, is_listed, keys_in, dirs_in}
 use Rattle.odb_tree.specs.Walks.{walk_below, walk}
 use Rattle.odb_tree.specs.WalkLaws.{and_left, and_right, both, name_trans, front_trans, not_true, true_false, not_listed, listed_same, walk_elsewhere, same_beside, flat_map_append, walk_is, walk_new_key, walk_new_dir, below_dirs, NoneAt, NoneAbove}
-use Rattle.odb_tree.specs.Trees.{HasDir, IsDir, IsPlaced, ArePlaced, AreApart, IsTree, with_rows, IsNew, AreNew, AreShort}
+use Rattle.odb_tree.specs.Trees.{HasDir, IsDir, IsPlaced, ArePlaced, AreApart, IsTree, with_rows, IsNewRow, AreNew, AreShort}
 use Rattle.odb_tree.specs.Places.{BeginsAt, stands_behind, IsInserted, AreInserted, made_for}
 use Rattle.odb_tree.proofs.Trees.{front_more, front_short, front_within, long_same, same_front, same_refl, other_sym, is_dir_append, filter_at, tree_more, name_sym}
 use Rattle.odb_tree.proofs.Kept.{short_more, create_makes, set_all_makes, created_with}
@@ -294,7 +294,7 @@ inserted_in s new placed apart at free deep =
     (subst (λ (t : List (List ℕ)). is_front at.parent t ≡ true) (sym at.path) (front_more at.parent (at.name ∷ []))) (omega (arith, long)))
 
 -- a row that may be made next is inserted in its place
-pub inserted : (s : Rows) (new : Row) → IsTree s → IsNew s new → length new.path ≤ depth_limit → IsInserted s new
+pub inserted : (s : Rows) (new : Row) → IsTree s → IsNewRow s new → length new.path ≤ depth_limit → IsInserted s new
 inserted s new tree h deep = inserted_in s new tree.placed tree.apart h.placed h.free deep
 
 pub all_inserted : (s : Rows) (made : List Row) → IsTree s → AreNew s made → AreShort depth_limit made → AreInserted s made
@@ -310,7 +310,7 @@ create_inserts s p kind number tree deep h =
     let makes = create_makes s p kind number h in
     (all_inserted s (made_for s p (new_value kind)) tree makes.0 (short_more (length p) depth_limit (made_for s p (new_value kind)) deep makes.1), created_with s p (new_value kind))
 
-pub set_all_inserts : (s : Rows) (p : List (List ℕ)) (v : Held) (number : ℕ) → IsTree s → length p ≤ depth_limit → set_all_reply s p v ≡ Ok number → row_at s.rows p ≡ None
+pub set_all_inserts : (s : Rows) (p : List (List ℕ)) (v : HeldValue) (number : ℕ) → IsTree s → length p ≤ depth_limit → set_all_reply s p v ≡ Ok number → row_at s.rows p ≡ None
     → AreInserted s (made_for s p (Some v)) × (after_set_all s p v ≡ with_rows s (made_for s p (Some v)))
 set_all_inserts s p v number tree deep h free =
     let makes = set_all_makes s p v number h free in (

@@ -4,7 +4,7 @@ use Rattle.std.proofs.lemmas.List.Sums.{sum_by-cons}
 use Rattle.std.proofs.lemmas.List.Sorted.{sum_by-IsPermutation}
 use Rattle.std.specs.List.{filter}
 use Rattle.odb_path.specs.Paths.{depth_limit, is_front, same_path}
-use Rattle.odb_value.specs.Values.{Held}
+use Rattle.odb_value.specs.Values.{HeldValue}
 use Rattle.odb_value.specs.ValueChanges.{put_in, resized}
 use Rattle.odb_tree.specs.declared.rows.Row.{Row}
 use Rattle.odb_tree.specs.declared.entry.DatabaseEntry.{DatabaseEntry}
@@ -31,7 +31,7 @@ short_filter test n (x ∷ xs) h = kept (test x) (filter test xs) h.0 (short_fil
     kept true ys k l = (k, l)
     kept false ys k l = l
 
-short_changed : (n : ℕ) (xs : List Row) (p : List (List ℕ)) (f : Held → Held) → AreShort n xs → AreShort n (change_at xs p f)
+short_changed : (n : ℕ) (xs : List Row) (p : List (List ℕ)) (f : HeldValue → HeldValue) → AreShort n xs → AreShort n (change_at xs p f)
 short_changed n [] p f h = tt
 short_changed n (x ∷ xs) p f h = kept (same_path x.path p) (change_at xs p f) h.0 h.1 (short_changed n xs p f h.1)
   where
@@ -39,7 +39,7 @@ short_changed n (x ∷ xs) p f h = kept (same_path x.path p) (change_at xs p f) 
     kept true ys k l m = (k, l)
     kept false ys k l m = (k, m)
 
-short_set_all : (s : Rows) (p : List (List ℕ)) (v : Held) (number : ℕ) (o : Option Row) → row_at s.rows p ≡ o → AreShort depth_limit s.rows → length p ≤ depth_limit
+short_set_all : (s : Rows) (p : List (List ℕ)) (v : HeldValue) (number : ℕ) (o : Option Row) → row_at s.rows p ≡ o → AreShort depth_limit s.rows → length p ≤ depth_limit
     → set_all_reply s p v ≡ Ok number → AreShort depth_limit (after_set_all_at s p v o).rows
 short_set_all s p v number None e h deep k = short_append depth_limit s.rows _ h (short_more (length p) depth_limit _ deep (set_all_makes s p v number k e).1)
 short_set_all s p v number (Some r) e h deep k = short_changed depth_limit s.rows p (λ _. v) h

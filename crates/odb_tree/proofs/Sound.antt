@@ -8,7 +8,7 @@ use Rattle.daq_types.specs.declared.types.Tid.TheVariants as tid
 use Rattle.odb_path.specs.Paths.{depth_limit, IsPath, is_front}
 use Rattle.odb_value.specs.declared.items.Item.{Item}
 use Rattle.odb_value.specs.Items.{tid_of, is_kept, IsSound}
-use Rattle.odb_value.specs.Values.{Held, IsValue}
+use Rattle.odb_value.specs.Values.{HeldValue, IsValue}
 use Rattle.odb_value.specs.ValueChanges.{put_in, resized}
 use Rattle.odb_tree.specs.declared.rows.Row.{Row}
 use Rattle.odb_tree.specs.declared.rows.NewKey.{NewKey}
@@ -44,26 +44,26 @@ given_item _ n reply h = sym h
 
 -- the key that an accepted `set` or `resize` changes
 record IsSet (s : Rows) (p : List (List ℕ)) (index : ℕ) (item : Item) : Type 0 where
-  value : Held
+  value : HeldValue
   at : IsKeyAt s.rows p value
   fits : set_fault s p index item value ≡ None
 
-set_key : (s : Rows) (p : List (List ℕ)) (index : ℕ) (item : Item) (n : ℕ) (sought : Result (ℕ × Held) OdbRefusal) → seek_key s.rows p ≡ sought → set_reply_to s p index item sought ≡ Ok n
+set_key : (s : Rows) (p : List (List ℕ)) (index : ℕ) (item : Item) (n : ℕ) (sought : Result (ℕ × HeldValue) OdbRefusal) → seek_key s.rows p ≡ sought → set_reply_to s p index item sought ≡ Ok n
     → IsSet s p index item
 set_key s p index item n (Err why) is h = absurd (cc)
 set_key s p index item n (Ok (m, v)) is h = record { value = v; at = sought_key s s.rows p m v refl is; fits = ok_none (set_fault s p index item v) m n h }
 
-resize_fits : (s : Rows) (p : List (List ℕ)) (len n : ℕ) (sought : Result (ℕ × Held) OdbRefusal) → resize_reply_to s p len sought ≡ Ok n → limit_fault (len_fault len) (after_resize s p len) ≡ None
+resize_fits : (s : Rows) (p : List (List ℕ)) (len n : ℕ) (sought : Result (ℕ × HeldValue) OdbRefusal) → resize_reply_to s p len sought ≡ Ok n → limit_fault (len_fault len) (after_resize s p len) ≡ None
 resize_fits s p len n (Err why) h = absurd (cc)
 resize_fits s p len n (Ok (m, v)) h = ok_none (limit_fault (len_fault len) (after_resize s p len)) m n h
 
 -- each row
 
-none_mapped : (f : Held → Held) (o : Option Held) → IfSome o IsValue → ((v : Held) → o ≡ Some v → IsValue v → IsValue (f v)) → IfSome (option_map f o) IsValue
+none_mapped : (f : HeldValue → HeldValue) (o : Option HeldValue) → IfSome o IsValue → ((v : HeldValue) → o ≡ Some v → IsValue v → IsValue (f v)) → IfSome (option_map f o) IsValue
 none_mapped f None h new = tt
 none_mapped f (Some v) h new = new v refl h
 
-row_changed : (r : Row) (f : Held → Held) → IsRow r → ((v : Held) → r.value ≡ Some v → IsValue v → IsValue (f v)) → IsRow (change_row f r)
+row_changed : (r : Row) (f : HeldValue → HeldValue) → IsRow r → ((v : HeldValue) → r.value ≡ Some v → IsValue v → IsValue (f v)) → IsRow (change_row f r)
 row_changed r f h new = record { path = h.path; value = none_mapped f r.value h.value new }
 
 tid_kept : (t : Bool) (x : OdbRefusal) → cond t None (Some x) ≡ None → IsTrue t
@@ -80,7 +80,7 @@ create_value s p kind h =
     or_none_right (exists_fault s.rows p) _ (or_none_right (obstacle_to_new s.rows p) _ h) in
     new_value_is kind (or_none_left (kept_fault kind) _ rest) (own_none (items_fault kind) (after_create s p kind) (or_none_right (kept_fault kind) _ rest))
 
-rows_set_all : (s : Rows) (p : List (List ℕ)) (v : Held) (n : ℕ) (o : Option Row) → row_at s.rows p ≡ o → All IsRow s.rows → IsPath p → IsValue v → set_all_reply s p v ≡ Ok n
+rows_set_all : (s : Rows) (p : List (List ℕ)) (v : HeldValue) (n : ℕ) (o : Option Row) → row_at s.rows p ≡ o → All IsRow s.rows → IsPath p → IsValue v → set_all_reply s p v ≡ Ok n
     → All IsRow (after_set_all_at s p v o).rows
 rows_set_all s p v n None e h path value reply =
     All-append IsRow s.rows (made_for s p (Some v)) h
@@ -165,7 +165,7 @@ to_item : (type : Tid) (n : ℕ) (reply : Result ℕ OdbRefusal) → reply ≡ O
 to_item tid.Text n reply h = h
 to_item _ n reply h = sym h
 
-pub database_set : (s : Rows) (p : List (List ℕ)) (index : ℕ) (item given : Item) (n : ℕ) (v : Held) (r : Option OdbRefusal) (left : List Row) → IsDatabase s → IsPath p → IsSound item
+pub database_set : (s : Rows) (p : List (List ℕ)) (index : ℕ) (item given : Item) (n : ℕ) (v : HeldValue) (r : Option OdbRefusal) (left : List Row) → IsDatabase s → IsPath p → IsSound item
     → seek_key s.rows p ≡ Ok (n, v) → r ≡ set_fault s p index item v → r ≡ None → given ≡ item → left ≡ change_at s.rows p (λ w. put_in w index given)
     → IsDatabase (record { rows = left; next = s.next })
 database_set s p index item given n v r left h path sound key is none same changed =
@@ -173,20 +173,20 @@ database_set s p index item given n v r left h path sound key is none same chang
     with_left s.next left (change_at s.rows p (λ w. put_in w index item)) (changed ∙ ap (λ (i : Item). change_at s.rows p (λ w. put_in w index i)) same)
     (database_after s (Set p index item (Ok n)) h (path, sound) (to_item (tid_of item) n (set_reply s p index item) reply))
 
-pub database_set_all : (s : Rows) (p : List (List ℕ)) (v : Held) (r : Option OdbRefusal) → IsDatabase s → IsPath p → IsValue v → r ≡ set_all_fault s p v → r ≡ None → IsDatabase (after_set_all s p v)
+pub database_set_all : (s : Rows) (p : List (List ℕ)) (v : HeldValue) (r : Option OdbRefusal) → IsDatabase s → IsPath p → IsValue v → r ≡ set_all_fault s p v → r ≡ None → IsDatabase (after_set_all s p v)
 database_set_all s p v r h path value is none =
     database_after s (SetAll p v (Ok (number_at s p (row_at s.rows p)))) h (path, value) (reply_none (set_all_fault s p v) (number_at s p (row_at s.rows p)) (sym is ∙ none))
 
-pub database_replaced : (s : Rows) (p : List (List ℕ)) (v given : Held) (row : Row) (r : Option OdbRefusal) (left : List Row) → IsDatabase s → IsPath p → IsValue v → r ≡ set_all_fault s p v → r ≡ None
+pub database_replaced : (s : Rows) (p : List (List ℕ)) (v given : HeldValue) (row : Row) (r : Option OdbRefusal) (left : List Row) → IsDatabase s → IsPath p → IsValue v → r ≡ set_all_fault s p v → r ≡ None
     → row_at s.rows p ≡ Some row → given ≡ v → left ≡ change_at s.rows p (λ _. given) → IsDatabase (record { rows = left; next = s.next })
 database_replaced s p v given row r left h path value is none there same changed =
-    with_left s.next left (change_at s.rows p (λ _. v)) (changed ∙ ap (λ (w : Held). change_at s.rows p (λ _. w)) same)
+    with_left s.next left (change_at s.rows p (λ _. v)) (changed ∙ ap (λ (w : HeldValue). change_at s.rows p (λ _. w)) same)
     (subst (λ (o : Option Row). IsDatabase (after_set_all_at s p v o)) there (database_set_all s p v r h path value is none))
 
-pub database_made : (s : Rows) (p : List (List ℕ)) (v given : Held) (r : Option OdbRefusal) → IsDatabase s → IsPath p → IsValue v → r ≡ set_all_fault s p v → r ≡ None
+pub database_made : (s : Rows) (p : List (List ℕ)) (v given : HeldValue) (r : Option OdbRefusal) → IsDatabase s → IsPath p → IsValue v → r ≡ set_all_fault s p v → r ≡ None
     → row_at s.rows p ≡ None → given ≡ v → IsDatabase (created s p (Some given))
 database_made s p v given r h path value is none free same =
-    subst (λ (w : Held). IsDatabase (created s p (Some w))) (sym same)
+    subst (λ (w : HeldValue). IsDatabase (created s p (Some w))) (sym same)
     (subst (λ (o : Option Row). IsDatabase (after_set_all_at s p v o)) free (database_set_all s p v r h path value is none))
 
 pub database_outside : (s : Rows) (p : List (List ℕ)) (left : List Row) → IsDatabase s → IsPath p → absent_fault s.rows p ≡ None → left ≡ rows_outside s.rows p → IsDatabase (record { rows = left; next = s.next })
@@ -194,7 +194,7 @@ database_outside s p left h path there is =
     with_left s.next left (rows_outside s.rows p) is
     (database_after s (Delete p (Ok (count_gone s p))) h path (sym (reply_none (absent_fault s.rows p) (count_gone s p) there)))
 
-pub database_resized : (s : Rows) (p : List (List ℕ)) (len n : ℕ) (v : Held) (r : Option OdbRefusal) (left : List Row) → IsDatabase s → IsPath p → seek_key s.rows p ≡ Ok (n, v)
+pub database_resized : (s : Rows) (p : List (List ℕ)) (len n : ℕ) (v : HeldValue) (r : Option OdbRefusal) (left : List Row) → IsDatabase s → IsPath p → seek_key s.rows p ≡ Ok (n, v)
     → r ≡ limit_fault (len_fault len) (after_resize s p len) → r ≡ None → left ≡ change_at s.rows p (λ w. resized w len) → IsDatabase (record { rows = left; next = s.next })
 database_resized s p len n v r left h path key is none changed =
     with_left s.next left (change_at s.rows p (λ w. resized w len)) changed

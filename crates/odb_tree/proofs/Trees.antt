@@ -4,12 +4,12 @@ use Rattle.std.specs.List.{filter}
 use Rattle.std.specs.Option.{option_map}
 use Rattle.std.proofs.lemmas.Bool.Decides.{nat_tests}
 use Rattle.odb_path.specs.Paths.{same_name, is_front, same_path}
-use Rattle.odb_value.specs.Values.{Held}
+use Rattle.odb_value.specs.Values.{HeldValue}
 use Rattle.odb_tree.specs.declared.rows.Row.{Row}
 use Rattle.odb_tree.specs.Rows.{Rows, row_at, rows_outside, change_at}
 use Rattle.odb_tree.specs.Walks.{changed_at}
 use Rattle.odb_tree.specs.WalkLaws.{and_left, and_right, both, names_decide, front_trans, filter_append, not_true, true_false, map_append, KeepsKind, changed_keeps, change_is_map, NoneAt, OneAt}
-use Rattle.odb_tree.specs.Trees.{HasDir, IsDir, IsPlaced, ArePlaced, AreApart, AreRising, IsTree, with_rows, IsNew, AreNew}
+use Rattle.odb_tree.specs.Trees.{HasDir, IsDir, IsPlaced, ArePlaced, AreApart, AreRising, IsTree, with_rows, IsNewRow, AreNew}
 
 -- paths
 
@@ -257,7 +257,7 @@ placed_mapped h keeps before (r ∷ rs) k = (
 -- trees
 
 -- one row more
-pub tree_more : (s : Rows) (new : Row) → IsTree s → IsNew s new → IsTree (with_rows s (new ∷ []))
+pub tree_more : (s : Rows) (new : Row) → IsTree s → IsNewRow s new → IsTree (with_rows s (new ∷ []))
 tree_more s new h k = record {
   placed = placed_more [] s.rows new h.placed k.placed;
   apart = apart_more s.rows new h.apart k.free;
@@ -286,7 +286,7 @@ tree_outside s q h = record {
   numbered = rising_filter (λ (r : Row). not (is_front q r.path)) 1 s.rows s.next h.numbered;
 }
 
-numbers_kept : (p : List (List ℕ)) (f : Held → Held) → KeepsNumbers (changed_at p f)
+numbers_kept : (p : List (List ℕ)) (f : HeldValue → HeldValue) → KeepsNumbers (changed_at p f)
 unfolding KeepsNumbers
 numbers_kept p f r = kept (same_path r.path p) r
   where
@@ -295,7 +295,7 @@ numbers_kept p f r = kept (same_path r.path p) r
     kept false r = refl
 
 -- a row with another value
-pub tree_changed : (s : Rows) (p : List (List ℕ)) (f : Held → Held) → IsTree s → IsTree (record { rows = change_at s.rows p f; next = s.next })
+pub tree_changed : (s : Rows) (p : List (List ℕ)) (f : HeldValue → HeldValue) → IsTree s → IsTree (record { rows = change_at s.rows p f; next = s.next })
 tree_changed s p f h =
     subst IsTree (same_rows (map (changed_at p f) s.rows) (change_at s.rows p f) s.next s.next (sym (change_is_map p f s.rows (one_at s.rows p h.apart))) refl) (record {
       placed = placed_mapped (changed_at p f) (changed_keeps p f) [] s.rows h.placed;

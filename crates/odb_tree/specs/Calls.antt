@@ -8,7 +8,7 @@ use Rattle.daq_types.specs.Tids.{tid_code}
 use Rattle.odb_path.specs.Paths.{is_front}
 use Rattle.odb_value.specs.declared.items.Item.{Item}
 use Rattle.odb_value.specs.Items.{tid_of, is_kept}
-use Rattle.odb_value.specs.Values.{Held}
+use Rattle.odb_value.specs.Values.{HeldValue}
 use Rattle.odb_value.specs.ValueChanges.{new_held, put_in, resized}
 use Rattle.odb_tree.specs.declared.rows.Row.{Row}
 use Rattle.odb_tree.specs.declared.rows.NewKey.{NewKey}
@@ -50,7 +50,7 @@ abbrev pub items_fault : NewKey → Option What
 items_fault Dir = None
 items_fault (Keys type len) = len_fault len
 
-abbrev pub new_value : NewKey → Option Held
+abbrev pub new_value : NewKey → Option HeldValue
 new_value Dir = None
 new_value (Keys type len) = Some (new_held type len)
 
@@ -76,11 +76,11 @@ index_fault len index = if nat_lt index len then None else Some (BadIndex len)
 abbrev pub after_set : Rows → List (List ℕ) → (index : ℕ) → Item → Rows
 after_set s p index item = record { rows = change_at s.rows p (λ v. put_in v index item); next = s.next }
 
-abbrev pub set_fault : Rows → List (List ℕ) → (index : ℕ) → Item → Held → Option OdbRefusal
+abbrev pub set_fault : Rows → List (List ℕ) → (index : ℕ) → Item → HeldValue → Option OdbRefusal
 set_fault s p index item v =
     option_or (type_fault v.tid (tid_of item)) (option_or (index_fault (length v.items) index) (limit_fault (text_fault item) (after_set s p index item)))
 
-abbrev pub set_reply_to : Rows → List (List ℕ) → (index : ℕ) → Item → Result (ℕ × Held) OdbRefusal → Result ℕ OdbRefusal
+abbrev pub set_reply_to : Rows → List (List ℕ) → (index : ℕ) → Item → Result (ℕ × HeldValue) OdbRefusal → Result ℕ OdbRefusal
 set_reply_to s p index item (Err refusal) = Err refusal
 set_reply_to s p index item (Ok key) = reply_or (set_fault s p index item key.1) key.0
 
@@ -89,11 +89,11 @@ set_reply s p index item = set_reply_to s p index item (seek_key s.rows p)
 
 -- All items of a key, which is made where it is missing.
 
-abbrev pub after_set_all_at : Rows → List (List ℕ) → Held → Option Row → Rows
+abbrev pub after_set_all_at : Rows → List (List ℕ) → HeldValue → Option Row → Rows
 after_set_all_at s p v None = created s p (Some v)
 after_set_all_at s p v (Some r) = record { rows = change_at s.rows p (λ _. v); next = s.next }
 
-abbrev pub after_set_all : Rows → List (List ℕ) → Held → Rows
+abbrev pub after_set_all : Rows → List (List ℕ) → HeldValue → Rows
 after_set_all s p v = after_set_all_at s p v (row_at s.rows p)
 
 -- a directory has no value
@@ -107,7 +107,7 @@ value_fault rows [] = Some NotValue
 value_fault rows (name ∷ names) = directory_fault (row_at rows (name ∷ names))
 
 -- a value keeps its type
-abbrev pub replace_fault : (given : Tid) → Option Held → Option OdbRefusal
+abbrev pub replace_fault : (given : Tid) → Option HeldValue → Option OdbRefusal
 replace_fault given None = None
 replace_fault given (Some v) = type_fault v.tid given
 
@@ -116,19 +116,19 @@ there_fault given None = None
 there_fault given (Some r) = replace_fault given r.value
 
 -- what is wrong with the items: how many there are, or a text that is too long
-abbrev pub own_fault : Held → Option What
+abbrev pub own_fault : HeldValue → Option What
 own_fault v = option_or (len_fault (length v.items)) (texts_fault v.items)
 
 abbrev pub number_at : Rows → List (List ℕ) → Option Row → ℕ
 number_at s p None = new_number s p
 number_at s p (Some r) = r.number
 
-abbrev pub set_all_fault : Rows → List (List ℕ) → Held → Option OdbRefusal
+abbrev pub set_all_fault : Rows → List (List ℕ) → HeldValue → Option OdbRefusal
 set_all_fault s p v =
     option_or (obstacle_to_new s.rows p) (option_or (value_fault s.rows p) (option_or (tid_fault v.tid)
     (option_or (there_fault v.tid (row_at s.rows p)) (limit_fault (own_fault v) (after_set_all s p v)))))
 
-abbrev pub set_all_reply : Rows → List (List ℕ) → Held → Result ℕ OdbRefusal
+abbrev pub set_all_reply : Rows → List (List ℕ) → HeldValue → Result ℕ OdbRefusal
 set_all_reply s p v = reply_or (set_all_fault s p v) (number_at s p (row_at s.rows p))
 
 -- More or fewer items of a key.
@@ -136,7 +136,7 @@ set_all_reply s p v = reply_or (set_all_fault s p v) (number_at s p (row_at s.ro
 abbrev pub after_resize : Rows → List (List ℕ) → (len : ℕ) → Rows
 after_resize s p len = record { rows = change_at s.rows p (λ v. resized v len); next = s.next }
 
-abbrev pub resize_reply_to : Rows → List (List ℕ) → (len : ℕ) → Result (ℕ × Held) OdbRefusal → Result ℕ OdbRefusal
+abbrev pub resize_reply_to : Rows → List (List ℕ) → (len : ℕ) → Result (ℕ × HeldValue) OdbRefusal → Result ℕ OdbRefusal
 resize_reply_to s p len (Err refusal) = Err refusal
 resize_reply_to s p len (Ok key) = reply_or (limit_fault (len_fault len) (after_resize s p len)) key.0
 
@@ -145,11 +145,11 @@ resize_reply s p len = resize_reply_to s p len (seek_key s.rows p)
 
 -- Look-ups.
 
-abbrev pub value_reply : Result (ℕ × Held) OdbRefusal → Result Held OdbRefusal
+abbrev pub value_reply : Result (ℕ × HeldValue) OdbRefusal → Result HeldValue OdbRefusal
 value_reply (Err refusal) = Err refusal
 value_reply (Ok key) = Ok key.1
 
-abbrev pub get_reply : Rows → List (List ℕ) → Result Held OdbRefusal
+abbrev pub get_reply : Rows → List (List ℕ) → Result HeldValue OdbRefusal
 get_reply s p = value_reply (seek_key s.rows p)
 
 abbrev pub number_reply : Result Row OdbRefusal → Result ℕ OdbRefusal

@@ -1,7 +1,7 @@
 -- Looking up a path: the first obstacle on the way, or what stands there.
 use Rattle.std.specs.Prelude.{ℕ, ◌-◌, if◌then◌else◌, List, [], ◌∷◌, ◌++◌, length, take, Option, Some, None, Result, Ok, Err}
 use Rattle.std.specs.Option.{option_or}
-use Rattle.odb_value.specs.Values.{Held}
+use Rattle.odb_value.specs.Values.{HeldValue}
 use Rattle.odb_tree.specs.declared.rows.Row.{Row}
 use Rattle.odb_tree.specs.declared.refusals.OdbRefusal.{OdbRefusal}
 use Rattle.odb_tree.specs.declared.refusals.OdbRefusal.TheVariants.{NoKey, NotDir, NotValue}
@@ -40,16 +40,16 @@ abbrev pub seek : List Row → List (List ℕ) → Result Row OdbRefusal
 seek rows p = found_row (obstacle_to rows p) (row_at rows p)
 
 -- a key's number and value
-abbrev pub key_of : (number : ℕ) → Option Held → Result (ℕ × Held) OdbRefusal
+abbrev pub key_of : (number : ℕ) → Option HeldValue → Result (ℕ × HeldValue) OdbRefusal
 key_of number None = Err NotValue
 key_of number (Some v) = Ok (number, v)
 
-abbrev pub key_found : Result Row OdbRefusal → Result (ℕ × Held) OdbRefusal
+abbrev pub key_found : Result Row OdbRefusal → Result (ℕ × HeldValue) OdbRefusal
 key_found (Err refusal) = Err refusal
 key_found (Ok r) = key_of r.number r.value
 
 -- the number and the value of the key at a path, or why there is none
-abbrev pub seek_key : List Row → List (List ℕ) → Result (ℕ × Held) OdbRefusal
+abbrev pub seek_key : List Row → List (List ℕ) → Result (ℕ × HeldValue) OdbRefusal
 seek_key rows [] = Err NotValue
 seek_key rows (name ∷ names) = key_found (seek rows (name ∷ names))
 

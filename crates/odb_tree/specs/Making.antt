@@ -1,6 +1,6 @@
 -- New rows: the missing directories of a path from the top, and then the row itself.
 use Rattle.std.specs.Prelude.{ℕ, ◌+◌, ◌-◌, List, [], ◌∷◌, ◌++◌, length, drop, Option, Some, None}
-use Rattle.odb_value.specs.Values.{Held}
+use Rattle.odb_value.specs.Values.{HeldValue}
 use Rattle.odb_tree.specs.declared.rows.Row.{Row}
 use Rattle.odb_tree.specs.Rows.{Rows, row_at}
 use Rattle.odb_tree.specs.Lookups.{parent_of}
@@ -39,11 +39,11 @@ way_to s p = go_on s.rows s.next [] (parent_of p) no_way
 abbrev pub new_number : Rows → List (List ℕ) → ℕ
 new_number s p = s.next + length (way_to s p).dirs
 
-abbrev pub new_row : Rows → List (List ℕ) → Option Held → Row
+abbrev pub new_row : Rows → List (List ℕ) → Option HeldValue → Row
 new_row s p value = record { number = new_number s p; path = (way_to s p).path ++ last_of p; value = value }
 
 -- the database with a new row at the path, and its missing directories before it
-abbrev pub created : Rows → List (List ℕ) → Option Held → Rows
+abbrev pub created : Rows → List (List ℕ) → Option HeldValue → Rows
 created s p value = record { rows = s.rows ++ ((way_to s p).dirs ++ new_row s p value ∷ []); next = new_number s p + 1 }
 
 -- how many directories of these names are missing, below one that was reached

@@ -1,7 +1,7 @@
 -- The places of rows in the walk through the database.
 use Rattle.std.specs.Prelude.{◌≡◌, ℕ, ◌-◌, Bool, true, false, List, [], ◌∷◌, ◌++◌, length, Option, ◌⊎◌}
 use Rattle.odb_path.specs.Paths.{depth_limit}
-use Rattle.odb_value.specs.Values.{Held}
+use Rattle.odb_value.specs.Values.{HeldValue}
 use Rattle.odb_tree.specs.declared.rows.Row.{Row}
 use Rattle.odb_tree.specs.Rows.{Rows, is_key, keys_in}
 use Rattle.odb_tree.specs.Making.{way_to, new_row}
@@ -43,5 +43,5 @@ AreInserted s [] = Unit {0}
 AreInserted s (new ∷ made) = IsInserted s new × AreInserted (with_rows s (new ∷ [])) made
 
 -- the rows that a call makes: the missing directories of the path from the top, and then the row itself
-abbrev pub made_for : Rows → List (List ℕ) → Option Held → List Row
+abbrev pub made_for : Rows → List (List ℕ) → Option HeldValue → List Row
 made_for s p value = (way_to s p).dirs ++ new_row s p value ∷ []

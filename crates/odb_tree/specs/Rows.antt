@@ -3,7 +3,7 @@ use Rattle.std.specs.Prelude.{ℕ, ◌+◌, ◌*◌, Bool, true, false, not, ◌
 use Rattle.std.specs.Option.{is_some, option_map}
 use Rattle.std.specs.List.{find, filter}
 use Rattle.odb_path.specs.Paths.{same_path, is_front}
-use Rattle.odb_value.specs.Values.{Held}
+use Rattle.odb_value.specs.Values.{HeldValue}
 use Rattle.odb_tree.specs.declared.rows.Row.{Row}
 
 -- A database: its rows in order of making, which is the order of their numbers, and the number of the next row.
@@ -29,11 +29,11 @@ abbrev pub row_numbered : List Row → ℕ → Option Row
 row_numbered rows number = find (λ (r : Row). r.number == number) rows
 
 -- the row with a new value
-abbrev pub change_row : (Held → Held) → Row → Row
+abbrev pub change_row : (HeldValue → HeldValue) → Row → Row
 change_row f r = record { number = r.number; path = r.path; value = option_map f r.value }
 
 -- the row at the path with a new value, in its place
-abbrev pub change_at : List Row → List (List ℕ) → (Held → Held) → List Row
+abbrev pub change_at : List Row → List (List ℕ) → (HeldValue → HeldValue) → List Row
 change_at [] p f = []
 change_at (r ∷ rs) p f = if same_path r.path p then change_row f r ∷ rs else r ∷ change_at rs p f
 
@@ -63,10 +63,10 @@ abbrev pub dirs_in : List Row → List (List ℕ) → List Row
 dirs_in rows p = filter (is_listed false p) rows
 
 -- the bytes of a value: items times item size
-abbrev pub bytes_of : Held → ℕ
+abbrev pub bytes_of : HeldValue → ℕ
 bytes_of v = length v.items * v.size
 
-abbrev pub bytes_in : Option Held → ℕ
+abbrev pub bytes_in : Option HeldValue → ℕ
 bytes_in None = 0
 bytes_in (Some v) = bytes_of v
 

@@ -53,7 +53,7 @@ with_rows s made = record { rows = s.rows ++ made; next = s.next + length made }
 
 -- a row that may be made next: it stands in the root or in a directory that is there, nothing has its path, and it has
 -- the next number
-pub record IsNew (s : Rows) (new : Row) : Type 0 where
+pub record IsNewRow (s : Rows) (new : Row) : Type 0 where
   pub placed : IsPlaced s.rows new.path
   pub free : NoneAt new.path s.rows
   pub number : new.number ≡ s.next
@@ -61,7 +61,7 @@ pub record IsNew (s : Rows) (new : Row) : Type 0 where
 -- rows that may be made one after the other
 abbrev pub AreNew : Rows → (made : List Row) → Type 0
 AreNew s [] = Unit {0}
-AreNew s (new ∷ made) = IsNew s new × AreNew (with_rows s (new ∷ [])) made
+AreNew s (new ∷ made) = IsNewRow s new × AreNew (with_rows s (new ∷ [])) made
 
 -- no path of these rows has more names than so many
 abbrev pub AreShort : ℕ → List Row → Type 0

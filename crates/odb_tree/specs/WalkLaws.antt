@@ -8,7 +8,7 @@ use Rattle.std.proofs.lemmas.List.{append_assoc, append-nil}
 use Rattle.std.proofs.lemmas.Slice.Eq.{slice_eq-Decides}
 use Rattle.std.proofs.lemmas.Bool.Decides.{Decides-eqb}
 use Rattle.odb_path.specs.Paths.{same_name, is_front, same_path}
-use Rattle.odb_value.specs.Values.{Held}
+use Rattle.odb_value.specs.Values.{HeldValue}
 use Rattle.odb_tree.specs.declared.rows.Row.{Row}
 use Rattle.odb_tree.specs.Rows.{is_key, is_kind, is_child, is_listed, keys_in, dirs_in, rows_outside, change_row, change_at}
 use Rattle.odb_tree.specs.Walks.{walk_below, changed_at}
@@ -352,27 +352,27 @@ unfoldable pub OneAt : List (List ℕ) → List Row → Type 0
 OneAt p [] = Unit {0}
 OneAt p (r ∷ rs) = (same_path r.path p ≡ true → NoneAt p rs) × OneAt p rs
 
-stays_none : (p : List (List ℕ)) (f : Held → Held) (rows : List Row) → NoneAt p rows → map (changed_at p f) rows ≡ rows
+stays_none : (p : List (List ℕ)) (f : HeldValue → HeldValue) (rows : List Row) → NoneAt p rows → map (changed_at p f) rows ≡ rows
 unfolding NoneAt
 stays_none p f [] h = refl
 stays_none p f (r ∷ rs) h =
     ap (λ (t : Bool). cond t (change_row f r) r ∷ map (changed_at p f) rs) h.0 ∙ ap (λ (l : List Row). r ∷ l) (stays_none p f rs h.1)
 
-one_changed : (p : List (List ℕ)) (f : Held → Held) (r : Row) (rs : List Row) (t : Bool) → same_path r.path p ≡ t → (same_path r.path p ≡ true → NoneAt p rs) → change_at rs p f ≡ map (changed_at p f) rs
+one_changed : (p : List (List ℕ)) (f : HeldValue → HeldValue) (r : Row) (rs : List Row) (t : Bool) → same_path r.path p ≡ t → (same_path r.path p ≡ true → NoneAt p rs) → change_at rs p f ≡ map (changed_at p f) rs
     → cond t (change_row f r ∷ rs) (r ∷ change_at rs p f) ≡ cond t (change_row f r) r ∷ map (changed_at p f) rs
 one_changed p f r rs true e h k = ap (λ (l : List Row). change_row f r ∷ l) (sym (stays_none p f rs (h e)))
 one_changed p f r rs false e h k = ap (λ (l : List Row). r ∷ l) k
 
-pub change_is_map : (p : List (List ℕ)) (f : Held → Held) (rows : List Row) → OneAt p rows → change_at rows p f ≡ map (changed_at p f) rows
+pub change_is_map : (p : List (List ℕ)) (f : HeldValue → HeldValue) (rows : List Row) → OneAt p rows → change_at rows p f ≡ map (changed_at p f) rows
 unfolding OneAt
 change_is_map p f [] h = refl
 change_is_map p f (r ∷ rs) h = one_changed p f r rs (same_path r.path p) refl h.0 (change_is_map p f rs h.1)
 
-pub value_kept : (f : Held → Held) (o : Option Held) → is_some (option_map f o) ≡ is_some o
+pub value_kept : (f : HeldValue → HeldValue) (o : Option HeldValue) → is_some (option_map f o) ≡ is_some o
 value_kept f None = refl
 value_kept f (Some v) = refl
 
-pub changed_keeps : (p : List (List ℕ)) (f : Held → Held) → KeepsKind (changed_at p f)
+pub changed_keeps : (p : List (List ℕ)) (f : HeldValue → HeldValue) → KeepsKind (changed_at p f)
 changed_keeps p f = record { path = (λ r. kept_path (same_path r.path p) r); kind = (λ r. kept_kind (same_path r.path p) r) }
   where
     kept_path : (t : Bool) (r : Row) → (cond t (change_row f r) r).path ≡ r.path
@@ -384,7 +384,7 @@ changed_keeps p f = record { path = (λ r. kept_path (same_path r.path p) r); ki
     kept_kind false r = refl
 
 -- a row that is changed keeps its place, and so do all others
-pub walk_changed : (depth : ℕ) (rows : List Row) (p : List (List ℕ)) (f : Held → Held) (q : List (List ℕ)) → OneAt p rows
+pub walk_changed : (depth : ℕ) (rows : List Row) (p : List (List ℕ)) (f : HeldValue → HeldValue) (q : List (List ℕ)) → OneAt p rows
     → walk_below depth (change_at rows p f) q ≡ map (changed_at p f) (walk_below depth rows q)
 walk_changed depth rows p f q h =
     ap (λ (rs : List Row). walk_below depth rs q) (change_is_map p f rows h) ∙ walk_mapped (changed_at p f) (changed_keeps p f) depth rows q

@@ -3,7 +3,7 @@
 use Rattle.std.specs.Prelude.{ℕ, zero, suc, if◌then◌else◌, List, [], ◌∷◌, ◌++◌}
 use Rattle.std.specs.List.{filter, flat_map}
 use Rattle.odb_path.specs.Paths.{depth_limit, same_path}
-use Rattle.odb_value.specs.Values.{Held}
+use Rattle.odb_value.specs.Values.{HeldValue}
 use Rattle.odb_tree.specs.declared.rows.Row.{Row}
 use Rattle.odb_tree.specs.Rows.{Rows, change_row, is_child, keys_in, dirs_in}
 
@@ -17,7 +17,7 @@ unfoldable pub walk : Rows → List Row
 walk s = walk_below depth_limit s.rows []
 
 -- a row with this path has the new value, any other stays
-abbrev pub changed_at : List (List ℕ) → (Held → Held) → Row → Row
+abbrev pub changed_at : List (List ℕ) → (HeldValue → HeldValue) → Row → Row
 changed_at p f r = if same_path r.path p then change_row f r else r
 
 -- of some rows those that stand directly in a directory

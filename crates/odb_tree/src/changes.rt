@@ -1,6 +1,6 @@
 ghost use Rattle.std.specs.Prelude.{◌≡◌, ◌≤◌, ◌<◌, length, position, ◌-◌, IfSome, IfOk, OnOk, OnErr, Some, None};
 ghost use Rattle.odb_path.specs.Paths.{same_path};
-ghost use Rattle.odb_value.specs.Values.{Held, items_limit};
+ghost use Rattle.odb_value.specs.Values.{HeldValue, items_limit};
 ghost use Rattle.odb_value.specs.ValueChanges.{put_in, resized};
 ghost use Rattle.odb_tree.specs.declared.rows.Row.{Row};
 ghost use Rattle.odb_tree.specs.Rows.{row_at, change_row, change_at, rows_outside};
@@ -22,7 +22,7 @@ fn place_at(rows: &[Row], names: &[Name]) -> Option<usize>
 
 /// Puts an item into the row's value.
 pub fn put_row(row: &mut Row, index: u32, item: Item)
-    requires { (v : Held) → row.old.value ≡ Some v → CanPut v index item }
+    requires { (v : HeldValue) → row.old.value ≡ Some v → CanPut v index item }
     ensures { row.new ≡ change_row (λ v. put_in v index item) row.old }
 {
     if let Some(value) = &mut row.value {

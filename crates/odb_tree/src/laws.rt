@@ -13,7 +13,7 @@ ghost use Rattle.odb_tree.specs.Databases.{IsDatabase, IsSoundCall};
 ghost use Rattle.odb_tree.specs.Histories.{IsLegal, replay};
 ghost use Rattle.odb_tree.specs.Rows.{Rows, no_rows, is_listed, keys_in, dirs_in, rows_outside, change_at, row_at};
 ghost use Rattle.odb_value.specs.declared.items.Item.{Item};
-ghost use Rattle.odb_value.specs.Values.{Held};
+ghost use Rattle.odb_value.specs.Values.{HeldValue};
 ghost use Rattle.odb_value.specs.ValueChanges.{put_in, resized};
 ghost use Rattle.odb_tree.specs.Walks.{walk_below, walk, changed_at, directly_below};
 ghost use Rattle.odb_tree.specs.WalkLaws.{NoneAbove, OneAt, below_dirs};
@@ -40,7 +40,7 @@ pub fn removal_keeps_places()
 
 /// Where the value of a row is changed, that row and all others keep their places.
 pub fn change_keeps_places()
-    ensures { (depth : ℕ) (rows : List Row) (p : List (List ℕ)) (f : Held → Held) (q : List (List ℕ)) → OneAt p rows → walk_below depth (change_at rows p f) q ≡ map (changed_at p f) (walk_below depth rows q) }
+    ensures { (depth : ℕ) (rows : List Row) (p : List (List ℕ)) (f : HeldValue → HeldValue) (q : List (List ℕ)) → OneAt p rows → walk_below depth (change_at rows p f) q ≡ map (changed_at p f) (walk_below depth rows q) }
 {}
 
 /// The new database is a tree, and each legal history keeps a tree.
@@ -59,7 +59,7 @@ pub fn walk_after_delete()
 pub fn walk_after_change()
     ensures apart { (s : Rows) (p : List (List ℕ)) → IsTree s → OneAt p s.rows }
     ensures set { (s : Rows) (p : List (List ℕ)) (index : ℕ) (item : Item) → IsTree s → walk (after_set s p index item) ≡ map (changed_at p (λ v. put_in v index item)) (walk s) }
-    ensures set_all { (s : Rows) (p : List (List ℕ)) (v : Held) → IsTree s → row_at s.rows p ≢ None → walk (after_set_all s p v) ≡ map (changed_at p (λ _. v)) (walk s) }
+    ensures set_all { (s : Rows) (p : List (List ℕ)) (v : HeldValue) → IsTree s → row_at s.rows p ≢ None → walk (after_set_all s p v) ≡ map (changed_at p (λ _. v)) (walk s) }
     ensures resize { (s : Rows) (p : List (List ℕ)) (len : ℕ) → IsTree s → walk (after_resize s p len) ≡ map (changed_at p (λ v. resized v len)) (walk s) }
 {}
 
@@ -73,8 +73,8 @@ pub fn walk_after_create()
 
 /// In a tree the rows that `set_all` makes where there is no row come into the walk just like those of `create`.
 pub fn walk_after_set_all()
-    ensures inserted { (s : Rows) (p : List (List ℕ)) (v : Held) (number : ℕ) → IsTree s → length p ≤ depth_limit → IsReply s (SetAll p v (Ok number)) → row_at s.rows p ≡ None → AreInserted s (made_for s p (Some v)) }
-    ensures rows { (s : Rows) (p : List (List ℕ)) (v : Held) → row_at s.rows p ≡ None → after_set_all s p v ≡ with_rows s (made_for s p (Some v)) }
+    ensures inserted { (s : Rows) (p : List (List ℕ)) (v : HeldValue) (number : ℕ) → IsTree s → length p ≤ depth_limit → IsReply s (SetAll p v (Ok number)) → row_at s.rows p ≡ None → AreInserted s (made_for s p (Some v)) }
+    ensures rows { (s : Rows) (p : List (List ℕ)) (v : HeldValue) → row_at s.rows p ≡ None → after_set_all s p v ≡ with_rows s (made_for s p (Some v)) }
 {}
 
 /// The new database is one, and each legal history keeps a database.

@@ -1,7 +1,7 @@
 ghost use Rattle.std.specs.Prelude.{◌≡◌, ◌≤◌, ◌<◌, ◌^◌, ◌+◌, ◌-◌, length, None, IfOk, OnOk, OnErr, Option};
 ghost use Rattle.std.specs.Option.{option_map};
 ghost use Rattle.odb_path.specs.Paths.{depth_limit};
-ghost use Rattle.odb_value.specs.Values.{Held};
+ghost use Rattle.odb_value.specs.Values.{HeldValue};
 ghost use Rattle.odb_tree.specs.declared.refusals.OdbRefusal.TheVariants.{Limit};
 ghost use Rattle.odb_tree.specs.Rows.{no_rows, bytes_in, total_of};
 ghost use Rattle.odb_tree.specs.Limits.{len_fault, passed, limit_fault};
@@ -63,7 +63,7 @@ impl PlainTree {
     fn new_fault(&self, names: &[Name], own: Option<What>, bytes: u64) -> Option<OdbRefusal>
         requires depth { length names.now ≤ depth_limit }
         requires small { bytes < 2 ^ 62 }
-        ensures { (value : Option Held) → (own ≡ None → bytes_in value ≡ bytes) → result ≡ limit_fault own (created self.now names.now value) }
+        ensures { (value : Option HeldValue) → (own ≡ None → bytes_in value ≡ bytes) → result ≡ limit_fault own (created self.now names.now value) }
     {
         let rows = self.rows.as_slice();
         let missing = count_missing(rows, parent(names));

@@ -7,7 +7,7 @@ use Rattle.daq_types.specs.declared.types.Tid.{Tid}
 use Rattle.odb_value.specs.declared.items.Item.{Item}
 use Rattle.odb_value.specs.declared.items.Item.TheVariants.{UInt8, Int8, Char, UInt16, Int16, UInt32, Int32, Bool as Truth, Text, Int64, UInt64}
 use Rattle.odb_value.specs.Items.{tid_of, is_kept, IsItem}
-use Rattle.odb_value.specs.Values.{Held, IsValue, IsShorter, items_limit}
+use Rattle.odb_value.specs.Values.{HeldValue, IsValue, IsShorter, items_limit}
 use Rattle.odb_value.specs.ValueChanges.{default_item, resized}
 
 -- Every item is of a type that is kept.
@@ -25,10 +25,10 @@ is_kept-item (Int64 z) = refl
 is_kept-item (UInt64 n) = refl
 
 -- the first item of a value
-abbrev first_of : Held → Item
+abbrev first_of : HeldValue → Item
 first_of v = get_or v.items 0 (Truth false)
 
-pub is_kept-value : (v : Held) → IsValue v → IsTrue (is_kept v.tid)
+pub is_kept-value : (v : HeldValue) → IsValue v → IsTrue (is_kept v.tid)
 is_kept-value v h = subst (λ (t : Tid). IsTrue (is_kept t)) (h.of_type 0 (Truth false) (omega (arith, h.some))).tid (is_kept-item (first_of v))
 
 -- A default item is one of its type, and is as short as any.
@@ -58,15 +58,15 @@ default_shorter size (Text bytes) h = omega (arith, h)
 default_shorter size (Int64 z) h = tt
 default_shorter size (UInt64 n) h = tt
 
-default_of_value : (v : Held) → IsValue v → IsItem v.tid (default_item v.tid)
+default_of_value : (v : HeldValue) → IsValue v → IsItem v.tid (default_item v.tid)
 default_of_value v h = subst (λ (t : Tid). IsItem t (default_item t)) (h.of_type 0 (Truth false) (omega (arith, h.some))).tid (default_of_item (first_of v))
 
-default_shorter_in : (v : Held) → IsValue v → IsShorter v.size (default_item v.tid)
+default_shorter_in : (v : HeldValue) → IsValue v → IsShorter v.size (default_item v.tid)
 default_shorter_in v h =
     subst (λ (t : Tid). IsShorter v.size (default_item t)) (h.of_type 0 (Truth false) (omega (arith, h.some))).tid
     (default_shorter v.size (first_of v) (h.shorter 0 (Truth false) (omega (arith, h.some))))
 
-length-resized : (v : Held) (len : ℕ) → length (resized v len).items ≡ len
+length-resized : (v : HeldValue) (len : ℕ) → length (resized v len).items ≡ len
 length-resized v len =
     omega (
       arith,
@@ -75,12 +75,12 @@ length-resized v len =
       length-replicate (len - length v.items) (default_item v.tid),
     )
 
-resized_all : (P : Item → Type 0) (v : Held) (len : ℕ) → All P v.items → P (default_item v.tid) → All P (resized v len).items
+resized_all : (P : Item → Type 0) (v : HeldValue) (len : ℕ) → All P v.items → P (default_item v.tid) → All P (resized v len).items
 resized_all P v len h d =
     All-take P len (v.items ++ replicate (len - length v.items) (default_item v.tid))
     (All-append P v.items (replicate (len - length v.items) (default_item v.tid)) h (All-replicate P (len - length v.items) (default_item v.tid) d))
 
-pub is_value-resized : (v : Held) (len : ℕ) → 1 ≤ len → len ≤ items_limit → IsValue v → IsValue (resized v len)
+pub is_value-resized : (v : HeldValue) (len : ℕ) → 1 ≤ len → len ≤ items_limit → IsValue v → IsValue (resized v len)
 is_value-resized v len some many h = record {
   some = omega (arith, length-resized v len, some);
   many = omega (arith, length-resized v len, many);

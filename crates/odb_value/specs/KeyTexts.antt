@@ -5,7 +5,7 @@ use Rattle.daq_types.specs.Tids.{tid_name}
 use Rattle.odb_value.specs.declared.items.Item.{Item}
 use Rattle.odb_value.specs.declared.items.Item.TheVariants.{Text}
 use Rattle.odb_value.specs.ItemTexts.{item_text}
-use Rattle.odb_value.specs.Values.{Held}
+use Rattle.odb_value.specs.Values.{HeldValue}
 
 -- a number in brackets, and what stands behind them
 abbrev pub bracketed : ℕ → List ℕ → List ℕ
@@ -36,5 +36,5 @@ items_text size (item ∷ []) = codes " : " ++ (item_alone size item ++ 10 ∷ [
 items_text size items = codes "[" ++ (decimal (length items) ++ (codes "] :" ++ (10 ∷ item_lines size 0 items)))
 
 -- the line or the lines of a key
-abbrev pub key_text : (name : List ℕ) → Held → List ℕ
+abbrev pub key_text : (name : List ℕ) → HeldValue → List ℕ
 key_text name v = name ++ (codes " = " ++ (tid_name v.tid ++ items_text v.size v.items))

@@ -5,7 +5,7 @@ use Rattle.daq_types.specs.declared.types.Tid.TheVariants as tid
 use Rattle.daq_types.specs.Tids.{tid_size}
 use Rattle.odb_value.specs.declared.items.Item.{Item}
 use Rattle.odb_value.specs.declared.items.Item.TheVariants.{UInt8, Int8, Char, UInt16, Int16, UInt32, Int32, Bool as Truth, Text, Int64, UInt64}
-use Rattle.odb_value.specs.Values.{Held}
+use Rattle.odb_value.specs.Values.{HeldValue}
 
 -- The item of a new key: 0, n or the empty text. For a type of which the database keeps no values nothing is meant.
 abbrev pub default_item : Tid → Item
@@ -27,7 +27,7 @@ default_size tid.Text = 32
 default_size type = tid_size type
 
 -- a new key's value, with so many items
-abbrev pub new_held : Tid → ℕ → Held
+abbrev pub new_held : Tid → ℕ → HeldValue
 new_held type len = record { tid = type; size = default_size type; items = replicate len (default_item type) }
 
 -- the item size with this item in the value: a text as long as it or longer raises it to its length plus 1
@@ -36,9 +36,9 @@ raised size (Text bytes) = max size (length bytes + 1)
 raised size item = size
 
 -- the value with this item at the index
-abbrev pub put_in : Held → ℕ → Item → Held
+abbrev pub put_in : HeldValue → ℕ → Item → HeldValue
 put_in v index item = record { tid = v.tid; size = raised v.size item; items = slice_set v.items index item }
 
 -- the value with so many items: cut at the end, or with those of a new key behind
-abbrev pub resized : Held → ℕ → Held
+abbrev pub resized : HeldValue → ℕ → HeldValue
 resized v len = record { tid = v.tid; size = v.size; items = take len (v.items ++ replicate (len - length v.items) (default_item v.tid)) }

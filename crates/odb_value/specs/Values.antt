@@ -8,7 +8,7 @@ use Rattle.odb_value.specs.declared.items.Item.TheVariants.{Text}
 use Rattle.odb_value.specs.Items.{IsItem}
 
 -- what a value holds: its type, its item size, and its items
-pub record Held : Type 0 where
+pub record HeldValue : Type 0 where
   pub tid : Tid
   pub size : ℕ
   pub items : List Item
@@ -32,7 +32,7 @@ abbrev pub items_limit : ℕ
 items_limit = 65536
 
 -- a value: 1 to 65,536 items of its type, each text shorter than the item size
-pub record IsValue (v : Held) : Type 0 where
+pub record IsValue (v : HeldValue) : Type 0 where
   pub some : 1 ≤ length v.items
   pub many : length v.items ≤ items_limit
   pub of_type : All (IsItem v.tid) v.items

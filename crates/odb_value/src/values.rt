@@ -1,6 +1,6 @@
 ghost use Rattle.std.specs.Prelude.{◌≡◌, ◌≤◌, ◌<◌, ◌++◌, length, take, replicate, slice_set, IsTrue, IfOk, OnOk, OnErr};
 ghost use Rattle.odb_value.specs.Items.{is_kept, tid_of};
-ghost use Rattle.odb_value.specs.Values.{Held, IsValue, IsShorter, items_limit, size_limit};
+ghost use Rattle.odb_value.specs.Values.{HeldValue, IsValue, IsShorter, items_limit, size_limit};
 ghost use Rattle.odb_value.specs.ValueChanges.{default_item, default_size, new_held, raised, put_in, resized};
 
 use crate::items::Item;
@@ -89,9 +89,9 @@ pub struct Value {
 }
 
 impl Model for Value {
-    ghost use Rattle.odb_value.specs.Values.{Held, IsValue};
+    ghost use Rattle.odb_value.specs.Values.{HeldValue, IsValue};
 
-    ghost Value = { Held };
+    ghost Value = { HeldValue };
 
     ghost use Rattle.odb_value.specs.ValueInside.{held_of};
 

@@ -15,7 +15,7 @@ use Rattle.client_pointers.specs.declared.pointer.Pointer.{Pointer}
 use Rattle.client_pointers.specs.Pointers.{clients_of, changed}
 use Rattle.client_pointers.specs.PointerLaws.{free_client, clients_set, clients_change}
 use Rattle.ring_buffer.specs.declared.ring_buffer.RingBuffer.TheInside.{Inside}
-use Rattle.ring_buffer.specs.RingViews.{window_of, IsPlaced, IsRingBuffer}
+use Rattle.ring_buffer.specs.RingViews.{window_of, IsAtOffset, IsRingBuffer}
 use Rattle.ring_buffer.proofs.Sending.{accepted_is}
 use Rattle.ring_buffer.proofs.GivenEvents.{with_pointers, ring_clients, placed_set, at_end}
 
@@ -43,8 +43,8 @@ pub attached_ring : (b : Inside) (slots : List (Option Pointer)) (n : ℕ) (name
 attached_ring b slots n name is are reply =
     ring_clients b slots is (subst IsWindow (sym (attached_window b slots n name is are)) (window_stays (window_of b) (Attach name (Ok n)) is.window (attached_reply b (window_of b) (Ok n) refl reply)))
     (λ m p e.
-    placed_set (λ (q : Pointer). IsPlaced (window_of b) q) b.clients n (Some (record { client = joined name b.count; off = b.total })) is.placed
-    (λ q e. subst (λ (x : Pointer). IsPlaced (window_of b) x) (new_is (record { client = joined name b.count; off = b.total }) q e) (at_end b is))
+    placed_set (λ (q : Pointer). IsAtOffset (window_of b) q) b.clients n (Some (record { client = joined name b.count; off = b.total })) is.placed
+    (λ q e. subst (λ (x : Pointer). IsAtOffset (window_of b) x) (new_is (record { client = joined name b.count; off = b.total }) q e) (at_end b is))
     m p (subst (λ (xs : List (Option Pointer)). slot_at xs m ≡ Some p) are e))
 
 pub attached_after : (b : Inside) (w : Window) (slots : List (Option Pointer)) (n : ℕ) (name : List ℕ) → window_of b ≡ w → IsRingBuffer b → slots ≡ slice_set b.clients n (Some (record { client = joined name b.count; off = b.total }))
@@ -69,7 +69,7 @@ detached_window b slots client are = ap (with_clients (window_of b)) (ap clients
 pub detached_ring : (b : Inside) (slots : List (Option Pointer)) (client : ℕ) → IsRingBuffer b → slots ≡ slice_set b.clients client None → Ok tt ≡ detach_reply_to (slot_at (clients_of b.clients) client) → IsRingBuffer (with_pointers b slots)
 detached_ring b slots client is are reply =
     ring_clients b slots is (subst IsWindow (sym (detached_window b slots client are)) (window_stays (window_of b) (Detach client (Ok tt)) is.window reply))
-    (λ m p e. placed_set (λ (q : Pointer). IsPlaced (window_of b) q) b.clients client None is.placed (λ q e. absurd (cc)) m p (subst (λ (xs : List (Option Pointer)). slot_at xs m ≡ Some p) are e))
+    (λ m p e. placed_set (λ (q : Pointer). IsAtOffset (window_of b) q) b.clients client None is.placed (λ q e. absurd (cc)) m p (subst (λ (xs : List (Option Pointer)). slot_at xs m ≡ Some p) are e))
 
 pub detached_after : (b : Inside) (w : Window) (slots : List (Option Pointer)) (client : ℕ) → window_of b ≡ w → slots ≡ slice_set b.clients client None → window_of (with_pointers b slots) ≡ with_clients w (slice_set w.clients client None)
 detached_after b w slots client view are = detached_window b slots client are ∙ ap (λ (x : Window). with_clients x (slice_set x.clients client None)) view
@@ -78,18 +78,18 @@ detached_after b w slots client view are = detached_window b slots client are �
 changed_window : (b : Inside) (slots : List (Option Pointer)) (client : ℕ) (f : Client → Client) → slots ≡ change_slot (changed f) b.clients client → window_of (with_pointers b slots) ≡ with_clients (window_of b) (change_slot f (clients_of b.clients) client)
 changed_window b slots client f are = ap (with_clients (window_of b)) (ap clients_of are ∙ clients_change (changed f) f (λ p. refl) b.clients client)
 
-changed_placed : (b : Inside) (f : Client → Client) (o : Option Pointer) → ((c : Client) → (f c).next ≡ c.next) → ((p : Pointer) → o ≡ Some p → IsPlaced (window_of b) p) → (q : Pointer) → option_map (changed f) o ≡ Some q → IsPlaced (window_of b) q
+changed_placed : (b : Inside) (f : Client → Client) (o : Option Pointer) → ((c : Client) → (f c).next ≡ c.next) → ((p : Pointer) → o ≡ Some p → IsAtOffset (window_of b) p) → (q : Pointer) → option_map (changed f) o ≡ Some q → IsAtOffset (window_of b) q
 changed_placed b f None keeps all q e = absurd (cc)
 changed_placed b f (Some p) keeps all q e =
-    subst (λ (x : Pointer). IsPlaced (window_of b) x) (let same : changed f p ≡ q = cc in same)
-    (subst (λ (n : ℕ). IsPlaced (window_of b) (record { client = record { name = (f p.client).name; next = n; requests = (f p.client).requests }; off = p.off })) (sym (keeps p.client)) (all p refl))
+    subst (λ (x : Pointer). IsAtOffset (window_of b) x) (let same : changed f p ≡ q = cc in same)
+    (subst (λ (n : ℕ). IsAtOffset (window_of b) (record { client = record { name = (f p.client).name; next = n; requests = (f p.client).requests }; off = p.off })) (sym (keeps p.client)) (all p refl))
 
 changed_ring : (b : Inside) (slots : List (Option Pointer)) (client : ℕ) (f : Client → Client) → IsRingBuffer b → slots ≡ change_slot (changed f) b.clients client → ((c : Client) → (f c).next ≡ c.next)
     → IsWindow (with_clients (window_of b) (change_slot f (clients_of b.clients) client)) → IsRingBuffer (with_pointers b slots)
 changed_ring b slots client f is are keeps window =
     ring_clients b slots is (subst IsWindow (sym (changed_window b slots client f are)) window)
     (λ m p e.
-    placed_set (λ (q : Pointer). IsPlaced (window_of b) q) b.clients client (option_map (changed f) (slot_at b.clients client)) is.placed
+    placed_set (λ (q : Pointer). IsAtOffset (window_of b) q) b.clients client (option_map (changed f) (slot_at b.clients client)) is.placed
     (changed_placed b f (slot_at b.clients client) keeps (is.placed client))
     m p (subst (λ (xs : List (Option Pointer)). slot_at xs m ≡ Some p) are e))
 

@@ -24,7 +24,7 @@ use Rattle.ring_buffer.specs.declared.walk.Position.{Position}
 use Rattle.ring_buffer.specs.declared.walk.Found.{Found}
 use Rattle.ring_buffer.specs.RingHolds.{HoldsEvents}
 use Rattle.ring_buffer.specs.Stored.{event_at, events_at, FitsSlot, AllFit}
-use Rattle.ring_buffer.specs.RingViews.{window_of, IsPlaced, IsRingBuffer}
+use Rattle.ring_buffer.specs.RingViews.{window_of, IsAtOffset, IsRingBuffer}
 use Rattle.ring_buffer.specs.Walks.{between, IsWalk, IsFoundFor, FindsNothing}
 use Rattle.ring_buffer.proofs.Walking.{at, IsNext, next_is}
 use Rattle.ring_buffer.proofs.Sending.{events_read, length-events_at, accepted_is, holds_drop, fit_drop}
@@ -37,7 +37,7 @@ with_pointers b slots = record { ring = b.ring; first = b.first; off = b.off; co
 abbrev pub with_run : Inside → RunGate → (last : ℕ) → Inside
 with_run b gate last = record { ring = b.ring; first = b.first; off = b.off; count = b.count; total = b.total; clients = b.clients; gate = gate; last = last }
 
-pub ring_clients : (b : Inside) (slots : List (Option Pointer)) → IsRingBuffer b → IsWindow (window_of (with_pointers b slots)) → ((n : ℕ) (p : Pointer) → slot_at slots n ≡ Some p → IsPlaced (window_of b) p) → IsRingBuffer (with_pointers b slots)
+pub ring_clients : (b : Inside) (slots : List (Option Pointer)) → IsRingBuffer b → IsWindow (window_of (with_pointers b slots)) → ((n : ℕ) (p : Pointer) → slot_at slots n ≡ Some p → IsAtOffset (window_of b) p) → IsRingBuffer (with_pointers b slots)
 ring_clients b slots is window placed =
     record {
       window = window;
@@ -251,7 +251,7 @@ pub ring_moved : (b : Inside) (slots : List (Option Pointer)) (client off' place
 ring_moved b slots client off' place' is are placed window =
     ring_clients b slots is (subst IsWindow (sym (window_moved b slots client off' place' are)) window)
     (λ n p e.
-    placed_set (λ (q : Pointer). IsPlaced (window_of b) q) b.clients client (option_map (moved off' place') (slot_at b.clients client)) is.placed
+    placed_set (λ (q : Pointer). IsAtOffset (window_of b) q) b.clients client (option_map (moved off' place') (slot_at b.clients client)) is.placed
     (λ q e. let m = moved_from off' place' (slot_at b.clients client) q e in
     ap (λ (k : ℕ). q.off + sum_by slot_of_sent (drop (k - b.first) (window_of b).kept)) m.1 ∙ (ap (λ (k : ℕ). k + sum_by slot_of_sent (drop (place' - b.first) (window_of b).kept)) m.0 ∙ placed))
     n p (subst (λ (xs : List (Option Pointer)). slot_at xs n ≡ Some p) are e))

@@ -9,7 +9,7 @@ use Rattle.daq_types.specs.declared.events.Event.{Event}
 use Rattle.daq_model.specs.Events.{slot_size, event_limit}
 use Rattle.event_header.specs.declared.head.Header.{Header}
 use Rattle.event_header.specs.Headers.{event_of, fields_of, header_back}
-use Rattle.ring_bytes.specs.Rings.{bytes_at, KeepsOthers}
+use Rattle.ring_bytes.specs.Rings.{bytes_at, KeepsOtherOffsets}
 use Rattle.ring_bytes.specs.RingLaws.{bytes_at-turn}
 use Rattle.buffer_core.specs.declared.client.Client.{Client}
 use Rattle.buffer_core.specs.Slots.{slot_at, change_all}
@@ -76,10 +76,10 @@ holds_push ring off end (x ∷ xs) s holds at_end here =
 
 -- what is in front of its data and the data themselves were written one behind the other, in a slot that fits
 pub record IsWritten (ring once new : List ℕ) (total slot : ℕ) (front body : List ℕ) : Type 0 where
-  pub keeps : KeepsOthers ring once total 24
+  pub keeps : KeepsOtherOffsets ring once total 24
   pub fronts : bytes_at once total 24 ≡ front
   pub long : length once ≡ length ring
-  pub keeps_on : KeepsOthers once new (total + 24) (length body)
+  pub keeps_on : KeepsOtherOffsets once new (total + 24) (length body)
   pub bodies : bytes_at new (total + 24) (length body) ≡ body
   pub long_on : length new ≡ length once
   pub covers : length body + 24 ≤ slot
@@ -244,11 +244,11 @@ ring_after_is b once new off place slot start h body front clients is adm writte
           omega (arith, ap (λ (ks : List Sent). sum_by slot_of_sent (drop (p.client.next - place) ks)) there.kept, moved_is, slot_is);
     }
 
-pub written_is : (ring once new : List ℕ) (total slot : ℕ) (front body : List ℕ) → length front ≡ 24 → KeepsOthers ring once total (length front) → bytes_at once total (length front) ≡ front → length once ≡ length ring
-    → KeepsOthers once new (total + 24) (length body) → bytes_at new (total + 24) (length body) ≡ body → length new ≡ length once → length body + 24 ≤ slot → slot ≤ length ring → IsWritten ring once new total slot front body
+pub written_is : (ring once new : List ℕ) (total slot : ℕ) (front body : List ℕ) → length front ≡ 24 → KeepsOtherOffsets ring once total (length front) → bytes_at once total (length front) ≡ front → length once ≡ length ring
+    → KeepsOtherOffsets once new (total + 24) (length body) → bytes_at new (total + 24) (length body) ≡ body → length new ≡ length once → length body + 24 ≤ slot → slot ≤ length ring → IsWritten ring once new total slot front body
 written_is ring once new total slot front body size keeps fronts long keeps_on bodies long_on covers fits =
     record {
-      keeps = subst (λ (n : ℕ). KeepsOthers ring once total n) size keeps;
+      keeps = subst (λ (n : ℕ). KeepsOtherOffsets ring once total n) size keeps;
       fronts = subst (λ (n : ℕ). bytes_at once total n ≡ front) size fronts;
       long = long;
       keeps_on = keeps_on;

@@ -21,8 +21,8 @@ window_of b = record {
 }
 
 -- the client is at the offset of its next place: from there on the slots reach to the end
-abbrev pub IsPlaced : Window → Pointer → Type 0
-IsPlaced w p = p.off + sum_by slot_of_sent (drop (p.client.next - w.first) w.kept) ≡ w.total
+abbrev pub IsAtOffset : Window → Pointer → Type 0
+IsAtOffset w p = p.off + sum_by slot_of_sent (drop (p.client.next - w.first) w.kept) ≡ w.total
 
 -- what every ring buffer keeps
 pub record IsRingBuffer (b : Inside) : Type 0 where
@@ -32,4 +32,4 @@ pub record IsRingBuffer (b : Inside) : Type 0 where
   pub least : 256 ≤ length b.ring
   pub order : b.first ≤ b.count
   pub level : b.off + level_of (window_of b) ≡ b.total
-  pub placed : (n : ℕ) (p : Pointer) → slot_at b.clients n ≡ Some p → IsPlaced (window_of b) p
+  pub placed : (n : ℕ) (p : Pointer) → slot_at b.clients n ≡ Some p → IsAtOffset (window_of b) p

@@ -6,7 +6,7 @@ use Rattle.std.proofs.lemmas.Bool.{cases_lt}
 use Rattle.std.proofs.lemmas.Nat.{mod-mul-add}
 use Rattle.std.proofs.lemmas.List.{take_at, drop_at, get_or-drop, get_or-take, get_or_append_left, get_or-append_right, length-take-le, length-append, length-drop, take-append-drop}
 use Rattle.std.proofs.lemmas.Slice.{drop-append-drop}
-use Rattle.ring_bytes.specs.Rings.{byte_at, bytes_at, KeepsOthers}
+use Rattle.ring_bytes.specs.Rings.{byte_at, bytes_at, KeepsOtherOffsets}
 use Rattle.ring_bytes.specs.RingLaws.{bytes_at-add}
 
 -- the byte of an offset, after so many turns
@@ -160,7 +160,7 @@ other_byte ring off start front back o turn behind round =
     low_enough size off start first (suc rest) o turn behind over = omega (arith, turn.wraps (omega arith), behind, over)
 
 pub put_keeps : (ring : List ℕ) (off start : ℕ) (front back : List ℕ) → IsTurn (length ring) off start (length front) (length back)
-    → KeepsOthers ring (put ring start front back) off (length front + length back)
+    → KeepsOtherOffsets ring (put ring start front back) off (length front + length back)
 unfolding bytes_at
 put_keeps ring off start front back turn o zero behind round = refl
 put_keeps ring off start front back turn o (suc n) behind round =
@@ -193,7 +193,7 @@ cut_turn size off start first piece front back cut =
 -- the ring once the piece is written
 pub record IsPut (ring new : List ℕ) (off : ℕ) (piece : List ℕ) : Type 0 where
   pub reads : bytes_at new off (length piece) ≡ piece
-  pub keeps : KeepsOthers ring new off (length piece)
+  pub keeps : KeepsOtherOffsets ring new off (length piece)
   pub long : length new ≡ length ring
 
 pub put_is : (ring once new piece front back : List ℕ) (off start first : ℕ) → IsCut (length ring) off start first piece front back
@@ -204,13 +204,13 @@ put_is ring once new piece front back off start first cut first_put second_put =
     let whole : front ++ back ≡ piece =
     ap (λ (xs : List ℕ). xs ++ back) cut.front_is ∙ (ap (λ (xs : List ℕ). take first piece ++ xs) cut.back_is ∙ take-append-drop first piece) in
     let count : length front + length back ≡ length piece = sym (length-append front back) ∙ ap (λ (xs : List ℕ). length xs) whole in
-    let keeps : KeepsOthers ring (put ring start front back) off (length front + length back) = put_keeps ring off start front back turn in
+    let keeps : KeepsOtherOffsets ring (put ring start front back) off (length front + length back) = put_keeps ring off start front back turn in
     let reads : bytes_at (put ring start front back) off (length front + length back) ≡ front ++ back = put_reads ring off start front back turn in
     record {
       reads = subst (λ (xs : List ℕ). bytes_at xs off (length piece) ≡ piece) is
           (ap (λ (n : ℕ). bytes_at (put ring start front back) off n) (sym count) ∙ (reads ∙ whole));
-      keeps = subst (λ (xs : List ℕ). KeepsOthers ring xs off (length piece)) is
-          (subst (λ (n : ℕ). KeepsOthers ring (put ring start front back) off n) count keeps);
+      keeps = subst (λ (xs : List ℕ). KeepsOtherOffsets ring xs off (length piece)) is
+          (subst (λ (n : ℕ). KeepsOtherOffsets ring (put ring start front back) off n) count keeps);
       long = ap (λ (xs : List ℕ). length xs) (sym is) ∙ length-put ring off start front back turn;
     }
 

@@ -16,5 +16,5 @@ bytes_at ring off (suc count) = byte_at ring off ∷ bytes_at ring (suc off) cou
 
 -- where so many bytes were written from this offset on, those of the offsets behind them are as before, once round the
 -- ring
-abbrev pub KeepsOthers : (old new : List ℕ) (off count : ℕ) → Type 0
-KeepsOthers old new off count = (o n : ℕ) → off + count ≤ o → o + n ≤ off + length old → bytes_at new o n ≡ bytes_at old o n
+abbrev pub KeepsOtherOffsets : (old new : List ℕ) (off count : ℕ) → Type 0
+KeepsOtherOffsets old new off count = (o n : ℕ) → off + count ≤ o → o + n ≤ off + length old → bytes_at new o n ≡ bytes_at old o n

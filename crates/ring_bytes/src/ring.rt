@@ -1,5 +1,5 @@
 ghost use Rattle.std.specs.Prelude.{◌≡◌, ◌+◌, ◌<◌, ◌≤◌, ◌++◌, IfOk, length, take, drop, replicate};
-ghost use Rattle.ring_bytes.specs.Rings.{bytes_at, KeepsOthers, most_bytes};
+ghost use Rattle.ring_bytes.specs.Rings.{bytes_at, KeepsOtherOffsets, most_bytes};
 
 use daq_types::{NoMemory, Steps};
 use std::alloc::Global;
@@ -37,7 +37,7 @@ fn put_bytes(bytes: &mut [u8], off: u64, part: &[u8])
     requires some { 0 < length bytes.old }
     requires fits { length part.now ≤ length bytes.old }
     ensures written { bytes_at bytes.new off (length part.now) ≡ part.now }
-    ensures others { KeepsOthers bytes.old bytes.new off (length part.now) }
+    ensures others { KeepsOtherOffsets bytes.old bytes.new off (length part.now) }
     ensures size { length bytes.new ≡ length bytes.old }
 {
     let size = bytes.len();
@@ -85,7 +85,7 @@ impl Ring {
     pub fn put_at(&mut self, off: u64, bytes: &[u8])
         requires { length bytes.now ≤ length self.old }
         ensures written { bytes_at self.new off (length bytes.now) ≡ bytes.now }
-        ensures others { KeepsOthers self.old self.new off (length bytes.now) }
+        ensures others { KeepsOtherOffsets self.old self.new off (length bytes.now) }
         ensures size { length self.new ≡ length self.old }
     {
         put_bytes(self.bytes.as_mut_slice(), off, bytes);

@@ -30,7 +30,7 @@ use Rattle.transitions.specs.Engines.{Underway, EngineState, engine_opening}
 use Rattle.transitions.specs.EngineCalls.{turn_kind, turn_of, is_start, is_next, gets_dump, gets_blank, turn_reply, polled_by, told, refused_by, answered_by, outcome_of, register_reply, register_reply_in, begin_reply, begin_reply_in, start_reply, poll_reply, poll_reply_to, poll_reply_in, owes_answer, answer_reply, not_your_turn, check_reply, check_reply_in, progress_of, tallies_in, after_poll_by, after_answer_in, with_underway, IsEngineReply, engine_after}
 use Rattle.transitions.specs.EngineHistories.{IsLegalEngine}
 use Rattle.transitions.specs.EnginePoints.{engine_past_after, engine_past, Joined, Begun, GaveTurn, Answered, Ended, transition_at, callable_at, refusal_at, turned_at, answered_at, dump_at, blanks_at, calls_off, wants_dump, wants_report, is_among}
-use Rattle.transitions.specs.TurnOrder.{IsInOrder, IsRightTurn, IsRightCall, number_with, TurnsInOrder}
+use Rattle.transitions.specs.TurnOrder.{AreTurnsInOrder, IsRightTurn, IsRightCall, number_with, TurnsInOrder}
 use Rattle.transitions.proofs.Apart.{split, clients_of, IsApart}
 use Rattle.transitions.proofs.Fronts.{waiting, front_cut, front_waits, front_turned, dump_told, given_front}
 use Rattle.transitions.proofs.Tracked.{TracksUnderway, TracksNone, TracksTransition, Tracks, state_tracks, called_from, tracks_silent, none_joined, clients_joined, clients_kept, starts_kept, underway_begun, starts_begun, dump_wish, report_wish, underway_polled, underway_told, underway_refused, none_ended}
@@ -278,7 +278,7 @@ waiting_one true [] = omega arith
 waiting_one true (c ∷ cs) = omega arith
 waiting_one false called = omega arith
 
-point_in_order : (past : List (ℕ × EngineEntry)) (state : RunState) (clients : List Registered) (o : Option Underway) → TracksTransition past state clients o → IsInOrder past
+point_in_order : (past : List (ℕ × EngineEntry)) (state : RunState) (clients : List Registered) (o : Option Underway) → TracksTransition past state clients o → AreTurnsInOrder past
 point_in_order past state clients None t = record {
   later = [];
   waiting = [];

@@ -16,7 +16,7 @@ use Rattle.transitions.specs.EnginePoints.{engine_past, clients_at, transition_a
 
 -- Those that were given a turn are the first ones of those that are called, those that answered the first ones of these,
 -- and none has its turn before the answer of the one in front of it.
-pub record IsInOrder (past : List (ℕ × EngineEntry)) : Type 0 where
+pub record AreTurnsInOrder (past : List (ℕ × EngineEntry)) : Type 0 where
   pub later : List ℕ
   pub waiting : List ℕ
   pub turned : called_at past ≡ turned_at past ++ later
@@ -70,5 +70,5 @@ IsRightCall past entry = ⊤
 
 -- each point of the history is in order, and each entry is right
 pub record TurnsInOrder (history : List (ℕ × EngineEntry)) : Type 0 where
-  pub in_order : (before after : List (ℕ × EngineEntry)) → history ≡ before ++ after → IsInOrder (engine_past before)
+  pub in_order : (before after : List (ℕ × EngineEntry)) → history ≡ before ++ after → AreTurnsInOrder (engine_past before)
   pub right : (before after : List (ℕ × EngineEntry)) (caller : ℕ) (entry : EngineEntry) → history ≡ before ++ (caller, entry) ∷ after → IsRightCall (engine_past before) entry

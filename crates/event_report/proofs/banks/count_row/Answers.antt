@@ -4,7 +4,7 @@ use Rattle.std.proofs.lemmas.List.{get_or_read}
 use Rattle.std.proofs.lemmas.List.Elements.{All-weaker, All-set, All-get_or}
 use Rattle.event_report.specs.declared.rows.BankRow.{BankRow}
 use Rattle.event_report.specs.declared.rows.Figures.{Figures}
-use Rattle.event_report.specs.Found.{StandsAt}
+use Rattle.event_report.specs.Found.{IsRowAt}
 use Rattle.event_report.specs.Steps.{row_number, more_figures, bank_rows_after}
 use Rattle.event_report.specs.Held.{IsRising, FiguresWithin}
 use Rattle.event_report.proofs.Sums.{within_more}
@@ -14,8 +14,8 @@ use Rattle.event_report.proofs.banks.count_row.Goals as goal
 pub find_row-requires : goal.find_row-requires
 find_row-requires c = subst (λ (rows : List BankRow). IsRising row_number rows) (sym c.deref.ensures.value) c.requires.table.rising
 
-found : (rows slice : List BankRow) (n m at : ℕ) → slice ≡ rows → n ≡ m → StandsAt row_number n slice at → StandsAt row_number m rows at
-found rows slice n m at e f stands = subst (λ (k : ℕ). StandsAt row_number k rows at) f (subst (λ (xs : List BankRow). StandsAt row_number n xs at) e stands)
+found : (rows slice : List BankRow) (n m at : ℕ) → slice ≡ rows → n ≡ m → IsRowAt row_number n slice at → IsRowAt row_number m rows at
+found rows slice n m at e f stands = subst (λ (k : ℕ). IsRowAt row_number k rows at) f (subst (λ (xs : List BankRow). IsRowAt row_number n xs at) e stands)
 
 abbrev with_figures : BankRow → Figures → BankRow
 with_figures r f = record { name = r.name; kind = r.kind; figures = f }

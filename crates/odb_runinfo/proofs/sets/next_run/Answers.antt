@@ -1,5 +1,5 @@
 use Rattle.std.proofs.Common.{◌≡◌, Result, List, ℕ, [], Err, ap, ◌∙◌}
-use Rattle.odb_value.specs.Values.{Held}
+use Rattle.odb_value.specs.Values.{HeldValue}
 use Rattle.odb_tree.specs.declared.entry.DatabaseEntry.{DatabaseEntry}
 use Rattle.odb_tree.specs.declared.entry.DatabaseEntry.TheVariants.{Get}
 use Rattle.odb_tree.specs.declared.refusals.OdbRefusal.{OdbRefusal}
@@ -14,4 +14,4 @@ returns-in-Err-NoMemory-clause-interrupted g c =
     let pair : DatabaseEntry → ℕ × DatabaseEntry = (λ e. (0, e)) in
     ends_kept c.args.database.now c.reserve.new.self _ _ c.in_ok-reserve.ensures.same
     (ends_at _ _ 0 (Get c.in_ok-path.path c.get.result) (0, Get (key_path RunNumber) (get_reply c.args.database.now.rows (key_path RunNumber))) [] c.get.ensures.did
-    (ap pair (ap (λ (p : List (List ℕ)). Get p c.get.result) c.in_ok-path.ensures ∙ ap (λ (r : Result Held OdbRefusal). Get (key_path RunNumber) r) (c.in-Err-NoMemory.is ∙ ap (λ (x : OdbRefusal). Err x) c.in-Err-NoMemory.field-0-is))))
+    (ap pair (ap (λ (p : List (List ℕ)). Get p c.get.result) c.in_ok-path.ensures ∙ ap (λ (r : Result HeldValue OdbRefusal). Get (key_path RunNumber) r) (c.in-Err-NoMemory.is ∙ ap (λ (x : OdbRefusal). Err x) c.in-Err-NoMemory.field-0-is))))

@@ -3,7 +3,7 @@ use Rattle.std.specs.Prelude.{nat_eq}
 use Rattle.std.specs.Cmp.Lexicographic.{pointwise}
 use Rattle.bank_format.specs.declared.formats.Format.{Format}
 use Rattle.bank_format.specs.BankAreas.{BankValue, BanksBefore}
-use Rattle.bank_format.specs.Places.{Reading, banks_in, front_bank, first_named}
+use Rattle.bank_format.specs.Places.{BankReading, banks_in, front_bank, first_named}
 use Rattle.bank_format.specs.AreaLaws.{goes_on}
 use Rattle.bank_format.proofs.Named.{named_here, named_later, named_nowhere}
 use Rattle.bank_format.proofs.banks.Banks.find.Goals as goal
@@ -21,7 +21,7 @@ returns-then-eq c =
     let on = goes_on f left c.loop-left.invariant.whole some in
     let same : pointwise nat_eq (front_bank f left).name c.args.name ≡ true =
     ap (λ (b : BankValue). pointwise nat_eq b.name c.args.name) (sym c.split_bank.ensures.bank) ∙ sym c.eq.ensures ∙ c.if-eq.true in
-    ap (λ (r : Reading). first_named c.args.name r.all) (sym c.self.view_is) ∙ sym c.loop-left.invariant.same
+    ap (λ (r : BankReading). first_named c.args.name r.all) (sym c.self.view_is) ∙ sym c.loop-left.invariant.same
     ∙ named_here c.args.name f left on same ∙ ap (λ (b : BankValue). Some b) (sym c.split_bank.ensures.bank)
 
 pub loop-left-preserved : goal.loop-left-preserved
@@ -40,4 +40,4 @@ loop-left-preserved c =
 pub returns : goal.returns
 returns c =
     let none : length c.loop-left.left.now ≡ 0 = search rules in
-    ap (λ (r : Reading). first_named c.args.name r.all) (sym c.self.view_is) ∙ sym c.loop-left.invariant.same ∙ named_nowhere c.args.name c.self.inside.format c.loop-left.left.now none
+    ap (λ (r : BankReading). first_named c.args.name r.all) (sym c.self.view_is) ∙ sym c.loop-left.invariant.same ∙ named_nowhere c.args.name c.self.inside.format c.loop-left.left.now none

@@ -1,6 +1,6 @@
 use Rattle.std.proofs.Common.{◌≡◌, ◌++◌, drop, rules, ap}
 use Rattle.event_header.specs.Headers.{header_encoding}
-use Rattle.event_header.specs.Held.{Held}
+use Rattle.event_header.specs.Held.{HeldEvent}
 use Rattle.event_header.proofs.Filling.{filled_items, filled_body, filled_length, filled_bytes, filled_event}
 use Rattle.event_header.proofs.event_buf.EventBuf.fill.Goals as goal
 
@@ -20,4 +20,4 @@ invariant_of-self c = record {
 pub returns-clause-ok : goal.returns-clause-ok
 returns-clause-ok c =
     filled_event c.args.header.now (drop 16 c.append_within-2.new.bytes.items) c.args.body.now c.self.inside.room c.args.self.now.room
-    (filled_body c.args.header.now c.args.body.now _ (items_are c)) (ap (λ (h : Held). h.room) c.self.view_is)
+    (filled_body c.args.header.now c.args.body.now _ (items_are c)) (ap (λ (h : HeldEvent). h.room) c.self.view_is)

@@ -2,7 +2,7 @@ use Rattle.std.proofs.Common.{◌≡◌, ◌∙◌, ℕ, List, ◌+◌, ◌++◌
 use Rattle.std.proofs.lemmas.List.{with_items_is}
 use Rattle.std.specs.Vec.{with_items}
 use Rattle.event_header.specs.Headers.{event_of, header_encoding}
-use Rattle.event_header.specs.Held.{Held}
+use Rattle.event_header.specs.Held.{HeldEvent}
 use Rattle.event_header.proofs.Lending.{written_front, written_body, head_of}
 use Rattle.event_header.proofs.event_buf.EventBuf.fill_with.Goals as goal
 
@@ -22,7 +22,7 @@ invariant_of-self g c =
     with_items_is c.write_head.new.bytes _ (omega (arith, long, c.write_head.ensures.length)) in
     let is_head : c.split_at_mut-data.result.0.now ≡ header_encoding c.args.header.now =
     head_of c.args.header.now c.write_head.new.bytes.items _ c.write_head.ensures.front (c.split_at_mut-data.ensures.front ∙ ap (take 16) c.as_mut_slice.ensures.value) in
-    let same_room : c.self.inside.room ≡ c.args.self.now.room = ap (λ (h : Held). h.room) c.self.view_is in
+    let same_room : c.self.inside.room ≡ c.args.self.now.room = ap (λ (h : HeldEvent). h.room) c.self.view_is in
     record {
       bytes = written_front c.args.header.now _ _ _ items_are is_head;
       stated = ap (length {A = ℕ}) items_are ∙ long;
@@ -45,7 +45,7 @@ returns-clause-event g c =
     with_items_is c.write_head.new.bytes _ (omega (arith, long, c.write_head.ensures.length)) in
     let is_head : c.split_at_mut-data.result.0.now ≡ header_encoding c.args.header.now =
     head_of c.args.header.now c.write_head.new.bytes.items _ c.write_head.ensures.front (c.split_at_mut-data.ensures.front ∙ ap (take 16) c.as_mut_slice.ensures.value) in
-    let same_room : c.self.inside.room ≡ c.args.self.now.room = ap (λ (h : Held). h.room) c.self.view_is in
-    let made : List ℕ → ℕ → Held = λ body room. record { event = event_of c.args.header.now body; room = room } in
+    let same_room : c.self.inside.room ≡ c.args.self.now.room = ap (λ (h : HeldEvent). h.room) c.self.view_is in
+    let made : List ℕ → ℕ → HeldEvent = λ body room. record { event = event_of c.args.header.now body; room = room } in
     ap (λ (body : List ℕ). made body c.self.inside.room) (written_body c.args.header.now _ _ _ items_are is_head ∙ c.write.ensures.written)
     ∙ ap (λ (room : ℕ). made (g.W.DataWriter.gives c.args.writer.now) room) same_room

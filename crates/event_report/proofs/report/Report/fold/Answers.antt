@@ -3,7 +3,7 @@ use Rattle.std.specs.Prelude.{is_none}
 use Rattle.std.specs.List.{filter_map}
 use Rattle.daq_types.specs.declared.events.Event.{Event}
 use Rattle.bank_format.specs.BankAreas.{BankValue}
-use Rattle.bank_format.specs.Places.{Reading}
+use Rattle.bank_format.specs.Places.{BankReading}
 use Rattle.event_header.specs.Headers.{event_of}
 use Rattle.event_report.specs.EventBanks.{banks_of, integer_bank}
 use Rattle.event_report.specs.BankAreaLaws.{weight_within, banks_of_area, no_banks}
@@ -20,21 +20,21 @@ light all left n same le = subst (λ (bs : List BankValue). weight bs ≤ n) (sy
 
 pub count_all-requires-clause-long : goal.count_all-requires-clause-long
 count_all-requires-clause-long c =
-    let banks : Reading = c.in-Ok.banks in
-    let few = light banks.all banks.left _ (ap (λ (r : Reading). r.left) c.in-Ok.ensures.unread) (weight_within banks.all c.args.body.now c.in-Ok.ensures.found) in
+    let banks : BankReading = c.in-Ok.banks in
+    let few = light banks.all banks.left _ (ap (λ (r : BankReading). r.left) c.in-Ok.ensures.unread) (weight_within banks.all c.args.body.now c.in-Ok.ensures.found) in
     omega (arith, few, c.requires)
 
 pub count_all-requires-clause-within : goal.count_all-requires-clause-within
 count_all-requires-clause-within c =
-    let banks : Reading = c.in-Ok.banks in
-    let few = light banks.all banks.left _ (ap (λ (r : Reading). r.left) c.in-Ok.ensures.unread) (weight_within banks.all c.args.body.now c.in-Ok.ensures.found) in
+    let banks : BankReading = c.in-Ok.banks in
+    let few = light banks.all banks.left _ (ap (λ (r : BankReading). r.left) c.in-Ok.ensures.unread) (weight_within banks.all c.args.body.now c.in-Ok.ensures.found) in
     let bytes = ap (λ (t : Totals). t.bytes) c.self.view_is in
     banks_weaker c.self.inside.bytes _ c.self.inside.banks (omega (arith, few, bytes, c.requires)) c.self.invariant.banks_within
 
 pub invariant_of-self : goal.invariant_of-self
 invariant_of-self c =
-    let banks : Reading = c.in-Ok.banks in
-    let few = light banks.all banks.left _ (ap (λ (r : Reading). r.left) c.in-Ok.ensures.unread) (weight_within banks.all c.args.body.now c.in-Ok.ensures.found) in
+    let banks : BankReading = c.in-Ok.banks in
+    let few = light banks.all banks.left _ (ap (λ (r : BankReading). r.left) c.in-Ok.ensures.unread) (weight_within banks.all c.args.body.now c.in-Ok.ensures.found) in
     let bytes = ap (λ (t : Totals). t.bytes) c.self.view_is in
     let was = c.self.invariant in
     record {
@@ -60,9 +60,9 @@ invariant_of-self-in-Err c =
 pub returns-in-Ok-clause-report : goal.returns-in-Ok-clause-report
 returns-in-Ok-clause-report c = λ events is.
     let e : Event = event_of c.args.header.now c.args.body.now in
-    let banks : Reading = c.in-Ok.banks in
+    let banks : BankReading = c.in-Ok.banks in
     let are : banks_of c.args.body.now ≡ Some banks.all = banks_of_area banks.all c.args.body.now c.in-Ok.ensures.found in
-    let left_is : banks.left ≡ banks.all = ap (λ (r : Reading). r.left) c.in-Ok.ensures.unread in
+    let left_is : banks.left ≡ banks.all = ap (λ (r : BankReading). r.left) c.in-Ok.ensures.unread in
     let good : bit (is_none (banks_of c.args.body.now)) ≡ 0 = rw are refl in
     report_after _ events e c.count.new.self c.count_all.new.self c.self.inside.bad (c.self.view_is ∙ is)
     c.count.ensures.counted

@@ -3,7 +3,7 @@ use Rattle.local_port.specs.declared.journal.Line.{Line}
 use Rattle.std.specs.Prelude.{◌+◌, sum_by}
 use Rattle.std.proofs.Common.{length-append}
 use Rattle.std.proofs.lemmas.List.Sums.{sum_by_push}
-use Rattle.local_port.specs.Journals.{AreBehind, AreApart, size_of_line, Journaled, entries_of, entry_with}
+use Rattle.local_port.specs.Journals.{AreBehind, AreSized, size_of_line, Journaled, entries_of, entry_with}
 use Rattle.local_port.proofs.JournalLaws.{behind_push, apart_same, apart_push, entries_of-push}
 use Rattle.local_port.proofs.journal.BufferJournal.push.Goals as goal
 
@@ -26,6 +26,6 @@ invariant_of-self c =
       whole = omega (arith, more, longer, c.self.invariant.whole);
       behind = subst (AreBehind 0) (sym c.push_reserved.ensures.items)
           (behind_push 0 c.self.inside.lines.items line c.self.invariant.behind (omega (arith, c.len.ensures, c.self.inside.bytes.ok.0, c.self.invariant.whole)));
-      apart = subst AreApart (sym c.push_reserved.ensures.items)
+      apart = subst AreSized (sym c.push_reserved.ensures.items)
           (apart_push c.self.inside.lines.items line c.self.invariant.apart (λ body same. apart_same c.args.entry c.args.body.now body same c.requires.apart));
     }

@@ -1,6 +1,6 @@
 use Rattle.std.proofs.Common.{◌≡◌, ◌≤◌, ℕ, List, [], Option, Some, None, sym, subst, ap, ◌∙◌}
 use Rattle.std.specs.Option.{option_copied, option_or}
-use Rattle.odb_value.specs.Values.{Held}
+use Rattle.odb_value.specs.Values.{HeldValue}
 use Rattle.odb_tree.specs.declared.rows.Row.{Row}
 use Rattle.odb_tree.specs.Rows.{Rows, row_at, change_at, total_of}
 use Rattle.odb_tree.specs.Limits.{limit_fault}
@@ -28,7 +28,7 @@ returns c =
     (c.type_fault.ensures ∙ (ap (λ t. type_fault t c.tid-given.result) c.tid.ensures.tid ∙ ap (type_fault c.in-Some-value.had.tid) c.tid-given.ensures.tid))
     (or_next c.type_fault.result _ c.change_fault.result c.in_default-type_fault.not-Some
     (c.change_fault.ensures
-    ∙ change_is c.args.self.now c.args.names.now c.in-Some-value.had (λ (_ : Held). c.args.value.now) None c.bytes_of-2.result c.bytes_of-3.result
+    ∙ change_is c.args.self.now c.args.names.now c.in-Some-value.had (λ (_ : HeldValue). c.args.value.now) None c.bytes_of-2.result c.bytes_of-3.result
     (key_at c.args.self.now c.as_slice-rows.result.now c.args.names.now c.in-Some-row_at.row.now c.in-Some-value.had seen there c.in-Some-value.is) c.bytes_of-2.ensures.value (λ none. c.bytes_of-3.ensures.value)))
 
 pub returns-in_default-row_at : goal.returns-in_default-row_at

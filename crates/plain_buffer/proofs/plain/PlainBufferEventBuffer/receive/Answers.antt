@@ -1,5 +1,5 @@
 use Rattle.std.proofs.Common.{◌≡◌, ℕ, List, Some, None, refl, subst, sym, ap, ◌∙◌}
-use Rattle.event_header.specs.Held.{Held}
+use Rattle.event_header.specs.Held.{HeldEvent}
 use Rattle.plain_buffer.specs.declared.rows.Row.{Row}
 use Rattle.buffer_core.specs.declared.replies.Received.TheVariants.{Got}
 use Rattle.buffer_core.specs.Window.{Window, Sent, accepted_of}
@@ -43,5 +43,5 @@ returns-in-Ok-clause-event c =
     ∙ c.in-Some-first_wanted.ensures.some) in
     let got : event_after c.args.into.now.event (window_of c.self.inside) (Got c.in-Some-first_wanted.found.place c.in-Some-first_wanted.found.row.start) ≡ s.event =
     event_got (window_of c.self.inside) c.in-Some.reader c.in-Some-first_wanted.found.place c.in-Some-first_wanted.found.row.start s c.args.into.now.event found in
-    ap (λ (h : Held). h.event) c.in-Ok.ensures.ok
+    ap (λ (h : HeldEvent). h.event) c.in-Ok.ensures.ok
     ∙ subst (λ (w : Window). s.event ≡ event_after c.args.into.now.event w (Got c.in-Some-first_wanted.found.place c.in-Some-first_wanted.found.row.start)) c.self.view_is (sym got)

@@ -1,6 +1,6 @@
 use Rattle.std.proofs.Common.{◌≡◌, ◌+◌, ◌-◌, ◌≤◌, ℕ, length, refl, ap, sym, subst, ◌∙◌, arith, Option}
 use Rattle.daq_model.specs.Events.{slot_of_length}
-use Rattle.event_header.specs.Held.{Held}
+use Rattle.event_header.specs.Held.{HeldEvent}
 use Rattle.ring_bytes.specs.RingLaws.{length-bytes_at}
 use Rattle.buffer_core.specs.declared.client.Client.{Client}
 use Rattle.buffer_core.specs.declared.entry.BufferEntry.TheVariants.{Receive}
@@ -93,7 +93,7 @@ returns-else-header-room-clause-event g c =
     let s : Sent = event_at c.self.inside.ring c.in-Some-find_wanted.found.at.off in
     let got : event_after c.args.into.now.event (window_of c.self.inside) (Got c.in-Some-find_wanted.found.at.place c.in-Some-find_wanted.found.front.start) ≡ s.event =
     event_got (window_of c.self.inside) r.pointer.client c.in-Some-find_wanted.found.at.place c.in-Some-find_wanted.found.front.start s c.args.into.now.event (v.found r.pointer.client (client_is c.self.inside c.args.client r.pointer r.lives)) in
-    ap (λ (h : Held). h.event) c.fill_with.ensures.event
+    ap (λ (h : HeldEvent). h.event) c.fill_with.ensures.event
     ∙ (v.whole ∙ subst (λ (w : Window). s.event ≡ event_after c.args.into.now.event w (Got c.in-Some-find_wanted.found.at.place c.in-Some-find_wanted.found.front.start)) c.self.view_is (sym got))
 
 pub returns-in-None-clause-reply : goal.returns-in-None-clause-reply
