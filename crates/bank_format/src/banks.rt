@@ -46,7 +46,8 @@ impl<'a> Model for Banks<'a> {
 /// The bank at the front, and what stands behind it.
 fn split_bank<'a>(format: Format, bytes: &'a [u8]) -> (Bank<'a>, &'a [u8])
     requires { HasBank format bytes.now }
-    ensures bank { bank_value result.0.name result.0.tid result.0.body.now ≡ front_bank format bytes.now }
+    ensures bank { bank_value result.0.name result.0.tid result.0.body.now
+        ≡ front_bank format bytes.now }
     ensures rest { result.1.now ≡ behind_bank format bytes.now }
 {
     let size = read_size(format, bytes);
@@ -65,7 +66,8 @@ impl<'a> Banks<'a> {
         ensures found { IfOk result (λ banks. HoldsBanks banks.all bytes.now) }
         ensures unread { IfOk result (λ banks. banks ≡ unread banks.all) }
         // What stands in the bytes is read.
-        ensures only { (f : Format) → (bs : List BankValue) → IsBankArea f bs bytes.now → IsOkAnd result (λ banks. banks ≡ unread bs) }
+        ensures only { (f : Format) → (bs : List BankValue) → IsBankArea f bs bytes.now
+            → IsOkAnd result (λ banks. banks ≡ unread bs) }
         ensures fault { IfErr result (λ fault. IsFirstFault bytes.now fault) }
     {
         let (format, area) = split_front(bytes)?;
@@ -79,7 +81,8 @@ impl<'a> Banks<'a> {
 
     /// The next bank, in the order of the area; `None` exactly where each has been given.
     pub fn next(&mut self) -> Option<Bank<'a>>
-        ensures bank { MatchOption result (self.old.left ≡ []) (λ bank. self.old.left ≡ bank_value bank.name bank.tid bank.body.now ∷ self.new.left) }
+        ensures bank { MatchOption result (self.old.left ≡ [])
+            (λ bank. self.old.left ≡ bank_value bank.name bank.tid bank.body.now ∷ self.new.left) }
         ensures end { self.old.left ≡ [] → self.new.left ≡ [] }
         ensures all { self.new.all ≡ self.old.all }
     {
@@ -93,7 +96,9 @@ impl<'a> Banks<'a> {
 
     /// The first bank of this name, given already or not; `None` exactly where no bank of the area has it.
     pub fn find(&self, name: [u8; 4]) -> Option<Bank<'a>>
-        ensures { MatchOption result (first_named name self.now.all ≡ None) (λ bank. first_named name self.now.all ≡ Some (bank_value bank.name bank.tid bank.body.now)) }
+        ensures { MatchOption result (first_named name self.now.all ≡ None)
+            (λ bank. first_named name self.now.all
+            ≡ Some (bank_value bank.name bank.tid bank.body.now)) }
     {
         let mut left = self.area;
         while !left.is_empty() {

@@ -77,9 +77,12 @@ fn make_header(format: Format, name: [u8; 4], tid: u32, size: u32) -> [u8; 16]
 pub fn append_bank(format: Format, bytes: &mut Vec<u8>, name: [u8; 4], tid: u32, body: &[u8])
     requires tid { tid < field_limit format }
     requires size { length body.now < field_limit format }
-    requires room { vec_len bytes.old + (formats.header_len format + padded (length body.now)) ≤ vec_capacity bytes.old }
-    ensures items { bytes.new.items ≡ bytes.old.items ++ plain_bank format (bank_value name tid body.now) }
-    ensures len { vec_len bytes.new ≡ vec_len bytes.old + (formats.header_len format + padded (length body.now)) }
+    requires room { vec_len bytes.old + (formats.header_len format + padded (length body.now))
+        ≤ vec_capacity bytes.old }
+    ensures items { bytes.new.items ≡ bytes.old.items ++ plain_bank format
+        (bank_value name tid body.now) }
+    ensures len { vec_len bytes.new ≡ vec_len bytes.old
+        + (formats.header_len format + padded (length body.now)) }
     ensures room { vec_capacity bytes.old ≤ vec_capacity bytes.new }
 {
     let header = make_header(format, name, tid, body.len() as u32);
@@ -93,7 +96,8 @@ pub fn append_bank(format: Format, bytes: &mut Vec<u8>, name: [u8; 4], tid: u32,
 pub fn state_length(bytes: &mut Vec<u8>)
     requires front { 8 ≤ vec_len bytes.old }
     requires most { vec_len bytes.old < 2 ^ 32 }
-    ensures items { bytes.new.items ≡ to_le_bytes w32 (vec_len bytes.old - 8) ++ drop 4 bytes.old.items }
+    ensures items { bytes.new.items ≡ to_le_bytes w32 (vec_len bytes.old - 8) ++ drop 4
+        bytes.old.items }
     ensures len { vec_len bytes.new ≡ vec_len bytes.old }
     ensures room { vec_capacity bytes.new ≡ vec_capacity bytes.old }
 {

@@ -52,7 +52,8 @@ impl BankWriter {
     pub fn add(&mut self, name: [u8; 4], tid: u32, body: &[u8]) -> Result<(), BankRefusal>
         ensures fits { OnOk result (refusal_of self.old (bank_value name tid body.now) ≡ None) }
         ensures added { OnOk result (self.new ≡ with_bank self.old (bank_value name tid body.now)) }
-        ensures refused { IfErr result (λ refusal. refusal_of self.old (bank_value name tid body.now) ≡ Some refusal) }
+        ensures refused { IfErr result (λ refusal. refusal_of self.old
+            (bank_value name tid body.now) ≡ Some refusal) }
         ensures same { OnErr result (self.new ≡ self.old) }
     {
         if is_past_16_bits(self.format, body.len() as u64) {

@@ -36,27 +36,34 @@ pub trait EventBuffer {
         kind: Kind,
     ) -> Result<u32, RequestRefusal>
         ensures reply { IsReply (window self.old) (Request client id mask kind result) }
-        ensures after { window self.new ≡ window_after (window self.old) (Request client id mask kind result) };
+        ensures after { window self.new ≡ window_after (window self.old)
+            (Request client id mask kind result) };
 
     /// Takes back a request. An event that no other request of the client wants is neither owed nor given any more.
     fn cancel(&mut self, client: u32, request: u32) -> Result<(), RequestRefusal>
         ensures reply { IsReply (window self.old) (Cancel client request result) }
-        ensures after { window self.new ≡ window_after (window self.old) (Cancel client request result) };
+        ensures after { window self.new ≡ window_after (window self.old)
+            (Cancel client request result) };
 
     /// Sends an event of no run, and answers its place.
     fn send(&mut self, header: &Header, body: &[u8]) -> Result<u64, SendRefusal>
-        ensures reply { IsReply (window self.old) (Send header.now.data_size (event_of header.now body.now) result) }
-        ensures after { window self.new ≡ window_after (window self.old) (Send header.now.data_size (event_of header.now body.now) result) };
+        ensures reply { IsReply (window self.old) (Send header.now.data_size
+            (event_of header.now body.now) result) }
+        ensures after { window self.new ≡ window_after (window self.old)
+            (Send header.now.data_size (event_of header.now body.now) result) };
 
     /// Sends an event of the run with this start number, and answers its place.
     fn send_in_run(&mut self, start: u32, header: &Header, body: &[u8]) -> Result<u64, SendRefusal>
-        ensures reply { IsReply (window self.old) (SendInRun start header.now.data_size (event_of header.now body.now) result) }
-        ensures after { window self.new ≡ window_after (window self.old) (SendInRun start header.now.data_size (event_of header.now body.now) result) };
+        ensures reply { IsReply (window self.old) (SendInRun start header.now.data_size
+            (event_of header.now body.now) result) }
+        ensures after { window self.new ≡ window_after (window self.old)
+            (SendInRun start header.now.data_size (event_of header.now body.now) result) };
 
     /// Gives the client the next kept event that one of its requests matches.
     fn receive(&mut self, client: u32, into: &mut EventBuf) -> Received
         ensures reply { IsReply (window self.old) (Receive client into.old.room result) }
-        ensures after { window self.new ≡ window_after (window self.old) (Receive client into.old.room result) }
+        ensures after { window self.new ≡ window_after (window self.old)
+            (Receive client into.old.room result) }
         ensures event { into.new.event ≡ event_after into.old.event (window self.old) result }
         ensures room { into.new.room ≡ into.old.room };
 

@@ -22,18 +22,21 @@ ghost use Rattle.buffer_core.specs.Samples.{refused_once, got_twice, left_out, r
 /// Each client gets only what its requests want, in order and once, and all of what its requests for all events want;
 /// a send is refused as full exactly where such an event is still to be got.
 pub fn delivers()
-    ensures { (size : ℕ) → (history : History) → IsLegal (opening size) history → Delivers size history }
+    ensures { (size : ℕ) → (history : History) → IsLegal (opening size) history
+        → Delivers size history }
 {}
 
 /// The events of a run stand between its begin and its end, none was sent while it was paused, and no other run's
 /// stands there.
 pub fn ordered()
-    ensures { (size : ℕ) → (history : History) → IsLegal (opening size) history → KeepsRuns history }
+    ensures { (size : ℕ) → (history : History) → IsLegal (opening size) history
+        → KeepsRuns history }
 {}
 
 /// What was sent stays when a history goes on, and so do the events between the marks of a run that ended.
 pub fn goes_on()
-    ensures events { (history more : History) → sent (past_of (history ++ more)) ≡ sent (past_of history) ++ sent_in more }
+    ensures events { (history more : History) → sent (past_of (history ++ more))
+        ≡ sent (past_of history) ++ sent_in more }
     ensures run { (size : ℕ) → (history more : History) → (start place : ℕ) →
         IsLegal (opening size) (history ++ more) →
         ended_at (past_of history) start ≡ Some place →

@@ -50,8 +50,10 @@ pub trait BufferPort {
     fn send<R: Wait>(&mut self, rt: &R, header: &Header, body: &[u8]) -> Result<u64, SendRefusal>
         requires room { 1 ≤ (access self.old).entries }
         requires bytes { length body.now ≤ (access self.old).bytes }
-        ensures called { Calls (access self.old) (access self.new) (Send header.now.data_size (event_of header.now body.now) result) }
-        ensures refused { IfErr result (IsSendFault (access self.old).size header.now.data_size (event_of header.now body.now)) };
+        ensures called { Calls (access self.old) (access self.new)
+            (Send header.now.data_size (event_of header.now body.now) result) }
+        ensures refused { IfErr result (IsSendFault (access self.old).size header.now.data_size
+            (event_of header.now body.now)) };
 
     /// As `EventBuffer::send_in_run`.
     fn send_in_run<R: Wait>(
@@ -63,16 +65,20 @@ pub trait BufferPort {
     ) -> Result<u64, SendRefusal>
         requires room { 1 ≤ (access self.old).entries }
         requires bytes { length body.now ≤ (access self.old).bytes }
-        ensures called { Calls (access self.old) (access self.new) (SendInRun start header.now.data_size (event_of header.now body.now) result) }
-        ensures refused { IfErr result (IsRunSendFault (access self.old).size header.now.data_size (event_of header.now body.now)) };
+        ensures called { Calls (access self.old) (access self.new)
+            (SendInRun start header.now.data_size (event_of header.now body.now) result) }
+        ensures refused { IfErr result (IsRunSendFault (access self.old).size header.now.data_size
+            (event_of header.now body.now)) };
 
     /// As `EventBuffer::receive`.
     fn receive<R: Wait>(&mut self, rt: &R, client: u32, into: &mut EventBuf) -> Received
         requires room { 1 ≤ (access self.old).entries }
-        ensures called { Receives (access self.old) (access self.new) client into.old.room result into.new.event }
+        ensures called { Receives (access self.old) (access self.new) client into.old.room result
+            into.new.event }
         ensures room { into.new.room ≡ into.old.room }
         ensures kept { KeepsUnlessGot result into.old.event into.new.event }
-        ensures whole { min event_limit ((access self.old).size - 24) ≤ into.old.room → ¬ (IsSmallBuf result) }
+        ensures whole { min event_limit ((access self.old).size - 24) ≤ into.old.room
+            → ¬ (IsSmallBuf result) }
         ensures sound { GivesSound result into.new.event }
         ensures few { (number : ℕ) → slots_got number (access self.new).got ≤ 2 ^ 62 };
 

@@ -39,7 +39,8 @@ fn find(slots: &[Option<Pointer>], client: u32) -> Option<Pointer>
 }
 
 fn is_wanted(slots: &[Option<Pointer>], client: u32, place: u64, header: &Header) -> Option<bool>
-    ensures { result ≡ option_map (λ pointer. wants place (event_of header.now []) pointer.client) (slot_at slots.now client) }
+    ensures { result ≡ option_map (λ pointer. wants place (event_of header.now []) pointer.client)
+        (slot_at slots.now client) }
 {
     if client as usize >= slots.len() {
         return None;
@@ -52,7 +53,8 @@ fn is_wanted(slots: &[Option<Pointer>], client: u32, place: u64, header: &Header
 
 /// The least number of a client that has yet to get the event of this header and place.
 fn first_owed(slots: &[Option<Pointer>], place: u64, header: &Header) -> Option<usize>
-    ensures value { result ≡ first_slot (λ pointer. owes place (event_of header.now []) pointer.client) slots.now }
+    ensures value { result ≡ first_slot (λ pointer. owes place (event_of header.now [])
+        pointer.client) slots.now }
     ensures within { IfSome result (λ number. number < length slots.now) }
 {
     slots.iter().position(|slot| match slot {
@@ -84,7 +86,8 @@ impl Pointers {
     #[tactic(auto, unfolding(buffer_core::specs::Window::no_requests))]
     pub fn attach(&mut self, name: Name, off: u64, place: u64) -> Result<u32, NoSlot>
         ensures reply { result ≡ ok_or (free_slot self.old) no_slot }
-        ensures ok { IfOk result (λ n. self.new ≡ slice_set self.old n (Some (record { client = joined name place; off = off }))) }
+        ensures ok { IfOk result (λ n. self.new ≡ slice_set self.old n
+            (Some (record { client = joined name place; off = off }))) }
         ensures err { OnErr result (self.new ≡ self.old) }
     {
         match free_number(&self.slots) {
@@ -126,7 +129,9 @@ impl Pointers {
         since: u64,
     ) -> Result<u32, RequestRefusal>
         ensures reply { result ≡ request_reply_to (slot_at (clients_of self.old) client) }
-        ensures ok { IfOk result (λ n. self.new ≡ change_slot (changed (with_request n (Some (record { id = id; mask = mask; kind = kind; since = since })))) self.old client) }
+        ensures ok { IfOk result (λ n. self.new ≡ change_slot
+            (changed (with_request n (Some (record
+            { id = id; mask = mask; kind = kind; since = since })))) self.old client) }
         ensures err { OnErr result (self.new ≡ self.old) }
     {
         let Some(pointer) = find(&self.slots, client) else {
@@ -153,7 +158,8 @@ impl Pointers {
     /// Takes back a request.
     pub fn cancel(&mut self, client: u32, request: u32) -> Result<(), RequestRefusal>
         ensures reply { result ≡ cancel_reply_to request (slot_at (clients_of self.old) client) }
-        ensures ok { OnOk result (self.new ≡ change_slot (changed (with_request request None)) self.old client) }
+        ensures ok { OnOk result (self.new ≡ change_slot (changed (with_request request None))
+            self.old client) }
         ensures err { OnErr result (self.new ≡ self.old) }
     {
         let Some(pointer) = find(&self.slots, client) else {
@@ -183,7 +189,8 @@ impl Pointers {
 
     /// Whether the client, if it is attached, has yet to be given the event of this header and place.
     pub fn wanted(&self, client: u32, place: u64, header: &Header) -> Option<bool>
-        ensures { result ≡ option_map (wants place (event_of header.now [])) (slot_at (clients_of self.now) client) }
+        ensures { result ≡ option_map (wants place (event_of header.now []))
+            (slot_at (clients_of self.now) client) }
     {
         is_wanted(&self.slots, client, place, header)
     }

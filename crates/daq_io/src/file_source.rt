@@ -34,7 +34,8 @@ impl<F: Files> FileSource<F> {
         ensures value { result ≡ record { files = files; number = file; first = files } }
         ensures left { ⟦<FileSource<F> as Source>⟧.left result ≡ told_left (F.seen files) file }
         ensures faults { ⟦<FileSource<F> as Source>⟧.faults result ≡ F.faults files }
-        ensures origin { ⟦<FileSource<F> as Source>⟧.origin result ≡ Some (record { files = F.seen files; number = file }) }
+        ensures origin { ⟦<FileSource<F> as Source>⟧.origin result
+            ≡ Some (record { files = F.seen files; number = file }) }
     {
         let first = Snapshot::of(&files);
         FileSource {

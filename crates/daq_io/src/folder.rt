@@ -33,9 +33,11 @@ pub trait Files {
 
     /// Makes a file and answers the number under which it is written. Never takes over a file that is there.
     fn create(&mut self, name: &FileName) -> Result<u32, NameRefused>
-        ensures made { IfOk result (λ number. Creates (seen self.old) (seen self.new) name.now number []) }
+        ensures made { IfOk result (λ number. Creates (seen self.old) (seen self.new) name.now
+            number []) }
         ensures kept { OnErr result (Same (seen self.old) (seen self.new)) }
-        ensures exists { IsTrue (seen self.old).tells → (IsErrOf result NameRefused.Exists ↔ IsSome ((seen self.old).at name.now)) }
+        ensures exists { IsTrue (seen self.old).tells → (IsErrOf result NameRefused.Exists
+            ↔ IsSome ((seen self.old).at name.now)) }
         ensures not_missing { ¬ IsErrOf result NameRefused.Missing }
         ensures faults { CountsNamed (faults self.old) (faults self.new) result }
         ensures clashes { CountsClash (clashes self.old) (clashes self.new) result }
@@ -48,22 +50,27 @@ pub trait Files {
         ensures part { OnErr result (ExtendsPart (seen self.old) (seen self.new) file bytes.now) }
         ensures faults { CountsFault (faults self.old) (faults self.new) result }
         ensures clashes { clashes self.new ≡ clashes self.old }
-        ensures first { NamesFirst ((seen self.old).name_of file) (first self.old) (first self.new) result };
+        ensures first { NamesFirst ((seen self.old).name_of file) (first self.old)
+            (first self.new) result };
 
     /// Ends the use of this number, also where the call fails. A file that was written is then closed.
     fn close(&mut self, file: u32) -> Result<(), Failed>
         requires { InUse (seen self.old) file }
-        ensures written { IsTrue ((seen self.old).writes file) → Closes (seen self.old) (seen self.new) file [] }
-        ensures read { IsTrue ((seen self.old).reads file) → Ends (seen self.old) (seen self.new) file }
+        ensures written { IsTrue ((seen self.old).writes file)
+            → Closes (seen self.old) (seen self.new) file [] }
+        ensures read { IsTrue ((seen self.old).reads file)
+            → Ends (seen self.old) (seen self.new) file }
         ensures faults { CountsFault (faults self.old) (faults self.new) result }
         ensures clashes { clashes self.new ≡ clashes self.old }
-        ensures first { NamesFirst ((seen self.old).name_of file) (first self.old) (first self.new) result };
+        ensures first { NamesFirst ((seen self.old).name_of file) (first self.old)
+            (first self.new) result };
 
     /// Removes the file of this name. Where there is none, nothing happens and the answer is Ok.
     fn remove(&mut self, name: &FileName) -> Result<(), Failed>
         ensures removed { OnOk result (Removes (seen self.old) (seen self.new) name.now) }
         ensures kept { OnErr result (Same (seen self.old) (seen self.new)) }
-        ensures absent { IsTrue (seen self.old).tells → IsNone ((seen self.old).at name.now) → IsOk result }
+        ensures absent { IsTrue (seen self.old).tells → IsNone ((seen self.old).at name.now)
+            → IsOk result }
         ensures faults { CountsFault (faults self.old) (faults self.new) result }
         ensures clashes { clashes self.new ≡ clashes self.old }
         ensures first { NamesFirst name.now (first self.old) (first self.new) result };
@@ -71,9 +78,11 @@ pub trait Files {
     /// Opens a file and answers the number under which it is read, from its first byte on. The bytes are those that
     /// the file has now.
     fn open_read(&mut self, name: &FileName) -> Result<u32, NameRefused>
-        ensures opened { IfOk result (λ number. Opens (seen self.old) (seen self.new) name.now number []) }
+        ensures opened { IfOk result (λ number. Opens (seen self.old) (seen self.new) name.now
+            number []) }
         ensures kept { OnErr result (Same (seen self.old) (seen self.new)) }
-        ensures missing { IsTrue (seen self.old).tells → (IsErrOf result NameRefused.Missing ↔ IsNone ((seen self.old).at name.now)) }
+        ensures missing { IsTrue (seen self.old).tells → (IsErrOf result NameRefused.Missing
+            ↔ IsNone ((seen self.old).at name.now)) }
         ensures not_exists { ¬ IsErrOf result NameRefused.Exists }
         ensures faults { CountsNamed (faults self.old) (faults self.new) result }
         ensures clashes { CountsClash (clashes self.old) (clashes self.new) result }
@@ -84,12 +93,15 @@ pub trait Files {
     fn read(&mut self, file: u32, into: &mut [u8]) -> Result<usize, Failed>
         requires { IsTrue ((seen self.old).reads file) }
         ensures within { ReadsAtMost result into.new }
-        ensures bytes { IfOk result (λ count. Reads (seen self.old) (seen self.new) file (take count into.new)) }
-        ensures end { IfOk result (λ count. IsTrue (seen self.old).tells → count ≡ 0 → 0 < length into.new → (seen self.new).left file ≡ []) }
+        ensures bytes { IfOk result (λ count. Reads (seen self.old) (seen self.new) file
+            (take count into.new)) }
+        ensures end { IfOk result (λ count. IsTrue (seen self.old).tells → count ≡ 0 → 0
+            < length into.new → (seen self.new).left file ≡ []) }
         ensures kept { OnErr result (Same (seen self.old) (seen self.new)) }
         ensures faults { CountsFault (faults self.old) (faults self.new) result }
         ensures clashes { clashes self.new ≡ clashes self.old }
-        ensures first { NamesFirst ((seen self.old).name_of file) (first self.old) (first self.new) result };
+        ensures first { NamesFirst ((seen self.old).name_of file) (first self.old)
+            (first self.new) result };
 
     /// The name of the file of the first fault that this object counted.
     fn first_fault(&self) -> Option<FileName>

@@ -12,7 +12,8 @@ pub trait Clock {
     fn now(&mut self) -> u32
         ensures tells { tells self.new ≡ tells self.old }
         ensures value { IsTrue (tells self.old) → result ≡ ahead self.old 0 }
-        ensures later { IsTrue (tells self.old) → (n : ℕ) → ahead self.new n ≡ ahead self.old (n + 1) };
+        ensures later { IsTrue (tells self.old) → (n : ℕ) → ahead self.new n
+            ≡ ahead self.old (n + 1) };
 }
 
 /// The choice of the member that has the first turn of a round.
@@ -29,7 +30,8 @@ pub trait Pick {
         ensures member { result < members }
         ensures tells { tells self.new ≡ tells self.old }
         ensures value { IsTrue (tells self.old) → result ≡ ahead self.old 0 % members }
-        ensures later { IsTrue (tells self.old) → (n : ℕ) → ahead self.new n ≡ ahead self.old (n + 1) };
+        ensures later { IsTrue (tells self.old) → (n : ℕ) → ahead self.new n
+            ≡ ahead self.old (n + 1) };
 }
 
 /// A moment in a member's turn.

@@ -51,7 +51,8 @@ impl ByteRoom {
     /// Appends the bytes exactly where they all fit, and answers whether they did.
     pub fn put(&mut self, bytes: &[u8]) -> bool
         ensures fits { IsTrue result ↔ (length self.old.bytes + length bytes.now ≤ self.old.room) }
-        ensures put { OnTrue result (self.new ≡ record self.old { bytes = self.old.bytes ++ bytes.now }) }
+        ensures put { OnTrue result (self.new ≡ record self.old
+            { bytes = self.old.bytes ++ bytes.now }) }
         ensures kept { OnFalse result (self.new ≡ self.old) }
         ensures room { self.new.room ≡ self.old.room }
     {

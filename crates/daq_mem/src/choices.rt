@@ -55,7 +55,8 @@ impl MemClock {
     /// A clock that gives these readings. The last repeats, and where there is none, 0 does.
     pub fn new(values: Vec<u32>) -> MemClock
         ensures tells { IsTrue (⟦<MemClock as Clock>⟧.tells result) }
-        ensures ahead { (n : ℕ) → ⟦<MemClock as Clock>⟧.ahead result n ≡ slice_index values.items (min n (length values.items - 1)) }
+        ensures ahead { (n : ℕ) → ⟦<MemClock as Clock>⟧.ahead result n
+            ≡ slice_index values.items (min n (length values.items - 1)) }
     {
         MemClock {
             numbers: Numbers::new(values),
@@ -83,7 +84,8 @@ impl MemPick {
     /// A pick that takes each of these numbers modulo the members. The last repeats, and where there is none, 0 does.
     pub fn new(values: Vec<u32>) -> MemPick
         ensures tells { IsTrue (⟦<MemPick as Pick>⟧.tells result) }
-        ensures ahead { (n : ℕ) → ⟦<MemPick as Pick>⟧.ahead result n ≡ slice_index values.items (min n (length values.items - 1)) }
+        ensures ahead { (n : ℕ) → ⟦<MemPick as Pick>⟧.ahead result n
+            ≡ slice_index values.items (min n (length values.items - 1)) }
     {
         MemPick {
             numbers: Numbers::new(values),

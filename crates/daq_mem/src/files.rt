@@ -38,11 +38,13 @@ impl MemFiles {
         fails: Vec<FileFail>,
     ) -> Result<MemFiles, NoMemory>
         ensures tells { IfOk result (λ made. IsTrue (seen_files made).seen.tells) }
-        ensures empty { IfOk result (λ made. (name : List ℕ) → (seen_files made).seen.at name ≡ None) }
+        ensures empty { IfOk result (λ made. (name : List ℕ) → (seen_files made).seen.at name
+            ≡ None) }
         ensures unused { IfOk result (λ made. (number : ℕ) → IsFree (seen_files made).seen number) }
         ensures faults { IfOk result (λ made. (seen_files made).faults ≡ 0) }
         ensures clashes { IfOk result (λ made. (seen_files made).clashes ≡ 0) }
-        ensures plan { IfOk result (λ made. (seen_files made).plan ≡ record { fails = fails.items; calls = replicate 6 0 }) }
+        ensures plan { IfOk result (λ made. (seen_files made).plan
+            ≡ record { fails = fails.items; calls = replicate 6 0 }) }
         ensures room { IfOk result (λ made. (seen_files made).room ≡ room) }
         ensures files { IfOk result (λ made. (seen_files made).free_files ≡ files) }
         ensures numbers { IfOk result (λ made. (seen_files made).free_numbers ≡ files) }
@@ -61,14 +63,17 @@ impl MemFiles {
 
     /// Adds a closed file. Where the name is there, or the file does not fit, nothing happens and the answer is Err.
     pub fn add(&mut self, name: FileName, bytes: Vec<u8>) -> Result<(), NoMemory>
-        ensures added { OnOk result (Stores (seen_files self.old).seen (seen_files self.new).seen name bytes.items) }
+        ensures added { OnOk result (Stores (seen_files self.old).seen (seen_files self.new).seen
+            name bytes.items) }
         ensures kept { OnErr result (Same (seen_files self.old).seen (seen_files self.new).seen) }
         ensures there { IsSome ((seen_files self.old).seen.at name) → IsErr result }
-        ensures fits { IsNone ((seen_files self.old).seen.at name) → (IsOk result ↔ FitsIn (seen_files self.old) (length bytes.items)) }
+        ensures fits { IsNone ((seen_files self.old).seen.at name)
+            → (IsOk result ↔ FitsIn (seen_files self.old) (length bytes.items)) }
         ensures counts { SameCounts (seen_files self.old) (seen_files self.new) }
         ensures plan { (seen_files self.new).plan ≡ (seen_files self.old).plan }
         ensures takes { OnOk result (TakesRoom (seen_files self.old) (seen_files self.new) 1 0) }
-        ensures takes_none { OnErr result (TakesRoom (seen_files self.old) (seen_files self.new) 0 0) }
+        ensures takes_none { OnErr result (TakesRoom (seen_files self.old) (seen_files self.new) 0
+            0) }
     {
         match self.slots.file(&name) {
             Some(_) => Err(NoMemory),
@@ -83,7 +88,9 @@ impl MemFiles {
 
     /// The bytes of the file of this name.
     pub fn find(&self, name: &FileName) -> Option<&[u8]>
-        ensures { MatchOption result ((seen_files self.now).seen.at name.now ≡ None) (λ bytes. option_map (λ file. file.bytes) ((seen_files self.now).seen.at name.now) ≡ Some bytes.now) }
+        ensures { MatchOption result ((seen_files self.now).seen.at name.now ≡ None)
+            (λ bytes. option_map (λ file. file.bytes) ((seen_files self.now).seen.at name.now)
+            ≡ Some bytes.now) }
     {
         match self.slots.file(name) {
             Some(slot) => Some(slot.bytes.as_slice()),
@@ -116,19 +123,29 @@ impl Files for MemFiles {
 
     /// Fails exactly where the name is free and the call is listed, or there is no room for a file or no number.
     fn create(&mut self, name: &FileName) -> Result<u32, NameRefused>
-        ensures made { IfOk result (λ number. Creates (seen_files self.old).seen (seen_files self.new).seen name.now number []) }
+        ensures made { IfOk result (λ number. Creates (seen_files self.old).seen
+            (seen_files self.new).seen name.now number []) }
         ensures kept { OnErr result (Same (seen_files self.old).seen (seen_files self.new).seen) }
-        ensures exists { IsErrOf result NameRefused.Exists ↔ IsSome ((seen_files self.old).seen.at name.now) }
+        ensures exists { IsErrOf result NameRefused.Exists
+            ↔ IsSome ((seen_files self.old).seen.at name.now) }
         ensures not_missing { ¬ IsErrOf result NameRefused.Missing }
-        ensures faults { CountsNamed (seen_files self.old).faults (seen_files self.new).faults result }
-        ensures clashes { CountsClash (seen_files self.old).clashes (seen_files self.new).clashes result }
-        ensures first { NamesFirstOf name.now (seen_files self.old).first (seen_files self.new).first result }
-        ensures called { (seen_files self.new).plan ≡ after_op_call (seen_files self.old).plan FileOp.Create }
-        ensures listed { IsTrue (is_op_planned (seen_files self.old).plan FileOp.Create) → IsErr result }
+        ensures faults { CountsNamed (seen_files self.old).faults (seen_files self.new).faults
+            result }
+        ensures clashes { CountsClash (seen_files self.old).clashes (seen_files self.new).clashes
+            result }
+        ensures first { NamesFirstOf name.now (seen_files self.old).first
+            (seen_files self.new).first result }
+        ensures called { (seen_files self.new).plan ≡ after_op_call (seen_files self.old).plan
+            FileOp.Create }
+        ensures listed { IsTrue (is_op_planned (seen_files self.old).plan FileOp.Create)
+            → IsErr result }
         ensures full { IsTrue (is_full (seen_files self.old)) → IsErr result }
-        ensures fails { IsErrOf result NameRefused.Failed → IsTrue (is_op_planned (seen_files self.old).plan FileOp.Create || is_full (seen_files self.old)) }
+        ensures fails { IsErrOf result NameRefused.Failed
+            → IsTrue (is_op_planned (seen_files self.old).plan FileOp.Create || is_full
+            (seen_files self.old)) }
         ensures takes { OnOk result (TakesRoom (seen_files self.old) (seen_files self.new) 1 1) }
-        ensures takes_none { OnErr result (TakesRoom (seen_files self.old) (seen_files self.new) 0 0) }
+        ensures takes_none { OnErr result (TakesRoom (seen_files self.old) (seen_files self.new) 0
+            0) }
     {
         let fails = self.planned.is_next(FileOp::Create);
         if self.slots.file(name).is_some() {
@@ -152,14 +169,20 @@ impl Files for MemFiles {
     /// Fails exactly where the call is listed, or the file has no room for the bytes. A failed call keeps nothing of them.
     fn append(&mut self, file: u32, bytes: &[u8]) -> Result<(), Failed>
         requires { IsTrue ((seen_files self.old).seen.writes file) }
-        ensures written { OnOk result (Extends (seen_files self.old).seen (seen_files self.new).seen file bytes.now) }
-        ensures part { OnErr result (ExtendsPart (seen_files self.old).seen (seen_files self.new).seen file bytes.now) }
+        ensures written { OnOk result (Extends (seen_files self.old).seen
+            (seen_files self.new).seen file bytes.now) }
+        ensures part { OnErr result (ExtendsPart (seen_files self.old).seen
+            (seen_files self.new).seen file bytes.now) }
         ensures kept { OnErr result (Same (seen_files self.old).seen (seen_files self.new).seen) }
-        ensures faults { CountsFault (seen_files self.old).faults (seen_files self.new).faults result }
+        ensures faults { CountsFault (seen_files self.old).faults (seen_files self.new).faults
+            result }
         ensures clashes { (seen_files self.new).clashes ≡ (seen_files self.old).clashes }
-        ensures first { NamesFirst ((seen_files self.old).seen.name_of file) (seen_files self.old).first (seen_files self.new).first result }
-        ensures called { (seen_files self.new).plan ≡ after_op_call (seen_files self.old).plan FileOp.Append }
-        ensures fails { IsErr result ↔ IsTrue (is_op_planned (seen_files self.old).plan FileOp.Append || is_too_long (seen_files self.old) file (length bytes.now)) }
+        ensures first { NamesFirst ((seen_files self.old).seen.name_of file)
+            (seen_files self.old).first (seen_files self.new).first result }
+        ensures called { (seen_files self.new).plan ≡ after_op_call (seen_files self.old).plan
+            FileOp.Append }
+        ensures fails { IsErr result ↔ IsTrue (is_op_planned (seen_files self.old).plan
+            FileOp.Append || is_too_long (seen_files self.old) file (length bytes.now)) }
         ensures takes_none { TakesRoom (seen_files self.old) (seen_files self.new) 0 0 }
     {
         match self.numbers.usage(file) {
@@ -181,13 +204,19 @@ impl Files for MemFiles {
     /// Fails exactly where the call is listed.
     fn close(&mut self, file: u32) -> Result<(), Failed>
         requires { InUse (seen_files self.old).seen file }
-        ensures written { IsTrue ((seen_files self.old).seen.writes file) → Closes (seen_files self.old).seen (seen_files self.new).seen file [] }
-        ensures read { IsTrue ((seen_files self.old).seen.reads file) → Ends (seen_files self.old).seen (seen_files self.new).seen file }
-        ensures faults { CountsFault (seen_files self.old).faults (seen_files self.new).faults result }
+        ensures written { IsTrue ((seen_files self.old).seen.writes file)
+            → Closes (seen_files self.old).seen (seen_files self.new).seen file [] }
+        ensures read { IsTrue ((seen_files self.old).seen.reads file)
+            → Ends (seen_files self.old).seen (seen_files self.new).seen file }
+        ensures faults { CountsFault (seen_files self.old).faults (seen_files self.new).faults
+            result }
         ensures clashes { (seen_files self.new).clashes ≡ (seen_files self.old).clashes }
-        ensures first { NamesFirst ((seen_files self.old).seen.name_of file) (seen_files self.old).first (seen_files self.new).first result }
-        ensures called { (seen_files self.new).plan ≡ after_op_call (seen_files self.old).plan FileOp.Close }
-        ensures fails { IsErr result ↔ IsTrue (is_op_planned (seen_files self.old).plan FileOp.Close) }
+        ensures first { NamesFirst ((seen_files self.old).seen.name_of file)
+            (seen_files self.old).first (seen_files self.new).first result }
+        ensures called { (seen_files self.new).plan ≡ after_op_call (seen_files self.old).plan
+            FileOp.Close }
+        ensures fails { IsErr result ↔ IsTrue (is_op_planned (seen_files self.old).plan
+            FileOp.Close) }
         ensures gives { GivesRoom (seen_files self.old) (seen_files self.new) 0 1 }
     {
         let fails = self.planned.is_next(FileOp::Close);
@@ -215,16 +244,23 @@ impl Files for MemFiles {
 
     /// Fails exactly where there is such a file and the call is listed.
     fn remove(&mut self, name: &FileName) -> Result<(), Failed>
-        ensures removed { OnOk result (Removes (seen_files self.old).seen (seen_files self.new).seen name.now) }
+        ensures removed { OnOk result (Removes (seen_files self.old).seen
+            (seen_files self.new).seen name.now) }
         ensures kept { OnErr result (Same (seen_files self.old).seen (seen_files self.new).seen) }
         ensures absent { IsNone ((seen_files self.old).seen.at name.now) → IsOk result }
-        ensures faults { CountsFault (seen_files self.old).faults (seen_files self.new).faults result }
+        ensures faults { CountsFault (seen_files self.old).faults (seen_files self.new).faults
+            result }
         ensures clashes { (seen_files self.new).clashes ≡ (seen_files self.old).clashes }
-        ensures first { NamesFirst name.now (seen_files self.old).first (seen_files self.new).first result }
-        ensures called { (seen_files self.new).plan ≡ after_op_call (seen_files self.old).plan FileOp.Remove }
-        ensures fails { IsErr result ↔ IsTrue (is_some ((seen_files self.old).seen.at name.now) && is_op_planned (seen_files self.old).plan FileOp.Remove) }
-        ensures gives { OnOk result (GivesRoom (seen_files self.old) (seen_files self.new) (if is_some ((seen_files self.old).seen.at name.now) then 1 else 0) 0) }
-        ensures gives_none { OnErr result (GivesRoom (seen_files self.old) (seen_files self.new) 0 0) }
+        ensures first { NamesFirst name.now (seen_files self.old).first
+            (seen_files self.new).first result }
+        ensures called { (seen_files self.new).plan ≡ after_op_call (seen_files self.old).plan
+            FileOp.Remove }
+        ensures fails { IsErr result ↔ IsTrue (is_some ((seen_files self.old).seen.at name.now) &&
+            is_op_planned (seen_files self.old).plan FileOp.Remove) }
+        ensures gives { OnOk result (GivesRoom (seen_files self.old) (seen_files self.new)
+            (if is_some ((seen_files self.old).seen.at name.now) then 1 else 0) 0) }
+        ensures gives_none { OnErr result (GivesRoom (seen_files self.old) (seen_files self.new) 0
+            0) }
     {
         let fails = self.planned.is_next(FileOp::Remove);
         if self.slots.file(name).is_some() && fails {
@@ -237,19 +273,29 @@ impl Files for MemFiles {
 
     /// Fails exactly where there is such a file and the call is listed or no number is free.
     fn open_read(&mut self, name: &FileName) -> Result<u32, NameRefused>
-        ensures opened { IfOk result (λ number. Opens (seen_files self.old).seen (seen_files self.new).seen name.now number []) }
+        ensures opened { IfOk result (λ number. Opens (seen_files self.old).seen
+            (seen_files self.new).seen name.now number []) }
         ensures kept { OnErr result (Same (seen_files self.old).seen (seen_files self.new).seen) }
-        ensures missing { IsErrOf result NameRefused.Missing ↔ IsNone ((seen_files self.old).seen.at name.now) }
+        ensures missing { IsErrOf result NameRefused.Missing
+            ↔ IsNone ((seen_files self.old).seen.at name.now) }
         ensures not_exists { ¬ IsErrOf result NameRefused.Exists }
-        ensures faults { CountsNamed (seen_files self.old).faults (seen_files self.new).faults result }
-        ensures clashes { CountsClash (seen_files self.old).clashes (seen_files self.new).clashes result }
-        ensures first { NamesFirstOf name.now (seen_files self.old).first (seen_files self.new).first result }
-        ensures called { (seen_files self.new).plan ≡ after_op_call (seen_files self.old).plan FileOp.OpenRead }
-        ensures listed { IsTrue (is_op_planned (seen_files self.old).plan FileOp.OpenRead) → IsErr result }
+        ensures faults { CountsNamed (seen_files self.old).faults (seen_files self.new).faults
+            result }
+        ensures clashes { CountsClash (seen_files self.old).clashes (seen_files self.new).clashes
+            result }
+        ensures first { NamesFirstOf name.now (seen_files self.old).first
+            (seen_files self.new).first result }
+        ensures called { (seen_files self.new).plan ≡ after_op_call (seen_files self.old).plan
+            FileOp.OpenRead }
+        ensures listed { IsTrue (is_op_planned (seen_files self.old).plan FileOp.OpenRead)
+            → IsErr result }
         ensures full { (seen_files self.old).free_numbers ≡ 0 → IsErr result }
-        ensures fails { IsErrOf result NameRefused.Failed → IsTrue (is_op_planned (seen_files self.old).plan FileOp.OpenRead || (seen_files self.old).free_numbers == 0) }
+        ensures fails { IsErrOf result NameRefused.Failed
+            → IsTrue (is_op_planned (seen_files self.old).plan FileOp.OpenRead ||
+            (seen_files self.old).free_numbers == 0) }
         ensures takes { OnOk result (TakesRoom (seen_files self.old) (seen_files self.new) 0 1) }
-        ensures takes_none { OnErr result (TakesRoom (seen_files self.old) (seen_files self.new) 0 0) }
+        ensures takes_none { OnErr result (TakesRoom (seen_files self.old) (seen_files self.new) 0
+            0) }
     {
         let fails = self.planned.is_next(FileOp::OpenRead);
         match self.slots.file(name) {
@@ -278,15 +324,22 @@ impl Files for MemFiles {
     fn read(&mut self, file: u32, into: &mut [u8]) -> Result<usize, Failed>
         requires { IsTrue ((seen_files self.old).seen.reads file) }
         ensures within { ReadsAtMost result into.new }
-        ensures bytes { IfOk result (λ count. Reads (seen_files self.old).seen (seen_files self.new).seen file (take count into.new)) }
-        ensures end { IfOk result (λ count. count ≡ 0 → 0 < length into.new → (seen_files self.new).seen.left file ≡ []) }
-        ensures count { IfOk result (λ count. count ≡ min (length ((seen_files self.old).seen.left file)) (length into.old)) }
+        ensures bytes { IfOk result (λ count. Reads (seen_files self.old).seen
+            (seen_files self.new).seen file (take count into.new)) }
+        ensures end { IfOk result (λ count. count ≡ 0 → 0 < length into.new
+            → (seen_files self.new).seen.left file ≡ []) }
+        ensures count { IfOk result (λ count. count ≡ min
+            (length ((seen_files self.old).seen.left file)) (length into.old)) }
         ensures kept { OnErr result (Same (seen_files self.old).seen (seen_files self.new).seen) }
-        ensures faults { CountsFault (seen_files self.old).faults (seen_files self.new).faults result }
+        ensures faults { CountsFault (seen_files self.old).faults (seen_files self.new).faults
+            result }
         ensures clashes { (seen_files self.new).clashes ≡ (seen_files self.old).clashes }
-        ensures first { NamesFirst ((seen_files self.old).seen.name_of file) (seen_files self.old).first (seen_files self.new).first result }
-        ensures called { (seen_files self.new).plan ≡ after_op_call (seen_files self.old).plan FileOp.Read }
-        ensures fails { IsErr result ↔ IsTrue (is_op_planned (seen_files self.old).plan FileOp.Read) }
+        ensures first { NamesFirst ((seen_files self.old).seen.name_of file)
+            (seen_files self.old).first (seen_files self.new).first result }
+        ensures called { (seen_files self.new).plan ≡ after_op_call (seen_files self.old).plan
+            FileOp.Read }
+        ensures fails { IsErr result ↔ IsTrue (is_op_planned (seen_files self.old).plan
+            FileOp.Read) }
         ensures takes_none { TakesRoom (seen_files self.old) (seen_files self.new) 0 0 }
     {
         match self.numbers.usage(file) {

@@ -41,7 +41,8 @@ impl Readers {
 
     /// Lets these bytes be read under this number, where there is such a number and they fit, and answers whether that is so.
     pub fn open(&mut self, number: u32, bytes: &[u8]) -> bool
-        ensures fits { number < length self.old.readers.items → length bytes.now ≤ self.old.room → IsTrue result }
+        ensures fits { number < length self.old.readers.items → length bytes.now ≤ self.old.room
+            → IsTrue result }
         ensures others { ChangesLeft self.old.readers.items self.new.readers.items number }
         ensures left { OnTrue result (left_at self.new.readers.items number ≡ bytes.now) }
         ensures count { length self.new.readers.items ≡ length self.old.readers.items }
@@ -58,8 +59,10 @@ impl Readers {
 
     /// Moves the front of the bytes left under this number to the front of `into`, and answers how many bytes.
     pub fn read(&mut self, number: u32, into: &mut [u8]) -> usize
-        ensures count { result ≡ min (length (left_at self.old.readers.items number)) (length into.old) }
-        ensures moved { left_at self.old.readers.items number ≡ take result into.new ++ left_at self.new.readers.items number }
+        ensures count { result ≡ min (length (left_at self.old.readers.items number))
+            (length into.old) }
+        ensures moved { left_at self.old.readers.items number
+            ≡ take result into.new ++ left_at self.new.readers.items number }
         ensures others { ChangesLeft self.old.readers.items self.new.readers.items number }
         ensures numbers { length self.new.readers.items ≡ length self.old.readers.items }
         ensures room { self.new.room ≡ self.old.room }

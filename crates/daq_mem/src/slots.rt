@@ -40,7 +40,8 @@ impl Slot {
 impl Slots {
     /// Room for so many files of so many bytes each.
     pub fn new(alloc: Global, files: u32, room: usize) -> Result<Slots, NoMemory>
-        ensures none { IfOk result (λ made. (name : List ℕ) → stored_in made.slots.items name ≡ None) }
+        ensures none { IfOk result (λ made. (name : List ℕ) → stored_in made.slots.items name
+            ≡ None) }
         ensures free { IfOk result (λ made. free_slots made.slots.items ≡ files) }
         ensures room { IfOk result (λ made. made.room ≡ room) }
     {
@@ -57,7 +58,8 @@ impl Slots {
 
     /// The slot of the file of this name.
     pub fn file(&self, name: &FileName) -> Option<&Slot>
-        ensures found { IfSome result (λ slot. stored_in self.now.slots.items name.now ≡ Some (file_in slot.now)) }
+        ensures found { IfSome result (λ slot. stored_in self.now.slots.items name.now
+            ≡ Some (file_in slot.now)) }
         ensures none { IfNone result (stored_in self.now.slots.items name.now ≡ None) }
         ensures sized { IfSome result (λ slot. slot.now.bytes.room ≡ self.now.room) }
     {
@@ -98,12 +100,16 @@ impl Slots {
     pub fn store(&mut self, name: &FileName, bytes: &[u8], closed: bool) -> bool
         requires { stored_in self.old.slots.items name.now ≡ None }
         ensures others { ChangesOnly self.old.slots.items self.new.slots.items name.now }
-        ensures stored { OnTrue result (stored_in self.new.slots.items name.now ≡ Some (record { bytes = bytes.now; closed = closed })) }
+        ensures stored { OnTrue result (stored_in self.new.slots.items name.now
+            ≡ Some (record { bytes = bytes.now; closed = closed })) }
         ensures kept { OnFalse result (ChangesNothing self.old.slots.items self.new.slots.items) }
         ensures fits { OnTrue result (length bytes.now ≤ self.old.room) }
-        ensures full { OnFalse result (free_slots self.old.slots.items ≡ 0 ⊎ self.old.room < length bytes.now) }
-        ensures taken { OnTrue result (free_slots self.new.slots.items + 1 ≡ free_slots self.old.slots.items) }
-        ensures not_taken { OnFalse result (free_slots self.new.slots.items ≡ free_slots self.old.slots.items) }
+        ensures full { OnFalse result (free_slots self.old.slots.items ≡ 0 ⊎ self.old.room
+            < length bytes.now) }
+        ensures taken { OnTrue result (free_slots self.new.slots.items + 1
+            ≡ free_slots self.old.slots.items) }
+        ensures not_taken { OnFalse result (free_slots self.new.slots.items
+            ≡ free_slots self.old.slots.items) }
         ensures room { self.new.room ≡ self.old.room }
     {
         match self.free_place() {
@@ -125,9 +131,12 @@ impl Slots {
     /// such file any more, they go nowhere.
     pub fn append(&mut self, name: &FileName, bytes: &[u8]) -> bool
         ensures others { ChangesOnly self.old.slots.items self.new.slots.items name.now }
-        ensures written { OnTrue result ((so_far : List ℕ) → stored_in self.old.slots.items name.now ≡ Some (stored_open so_far) → stored_in self.new.slots.items name.now ≡ Some (stored_open (so_far ++ bytes.now))) }
+        ensures written { OnTrue result ((so_far : List ℕ)
+            → stored_in self.old.slots.items name.now ≡ Some (stored_open so_far)
+            → stored_in self.new.slots.items name.now ≡ Some (stored_open (so_far ++ bytes.now))) }
         ensures kept { OnFalse result (ChangesNothing self.old.slots.items self.new.slots.items) }
-        ensures fits { result ≡ not (is_behind_room self.old.room (stored_in self.old.slots.items name.now) (length bytes.now)) }
+        ensures fits { result ≡ not (is_behind_room self.old.room
+            (stored_in self.old.slots.items name.now) (length bytes.now)) }
         ensures free { free_slots self.new.slots.items ≡ free_slots self.old.slots.items }
         ensures room { self.new.room ≡ self.old.room }
     {
@@ -143,7 +152,9 @@ impl Slots {
     /// Closes the file of this name.
     pub fn close(&mut self, name: &FileName)
         ensures others { ChangesOnly self.old.slots.items self.new.slots.items name.now }
-        ensures closed { (so_far : List ℕ) → stored_in self.old.slots.items name.now ≡ Some (stored_open so_far) → stored_in self.new.slots.items name.now ≡ Some (stored_closed so_far) }
+        ensures closed { (so_far : List ℕ) → stored_in self.old.slots.items name.now
+            ≡ Some (stored_open so_far) → stored_in self.new.slots.items name.now
+            ≡ Some (stored_closed so_far) }
         ensures free { free_slots self.new.slots.items ≡ free_slots self.old.slots.items }
         ensures room { self.new.room ≡ self.old.room }
     {
@@ -160,7 +171,9 @@ impl Slots {
     pub fn remove(&mut self, name: &FileName)
         ensures others { ChangesOnly self.old.slots.items self.new.slots.items name.now }
         ensures gone { stored_in self.new.slots.items name.now ≡ None }
-        ensures free { free_slots self.new.slots.items ≡ free_slots self.old.slots.items + (if is_some (stored_in self.old.slots.items name.now) then 1 else 0) }
+        ensures free { free_slots self.new.slots.items
+            ≡ free_slots self.old.slots.items + (if is_some
+            (stored_in self.old.slots.items name.now) then 1 else 0) }
         ensures room { self.new.room ≡ self.old.room }
     {
         match self.place_of(name) {

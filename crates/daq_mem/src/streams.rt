@@ -33,7 +33,12 @@ impl Model for MemSource {
 impl MemSource {
     /// A source of these bytes. The calls that `fails` lists fail, counted from 0.
     pub fn new(bytes: Vec<u8>, fails: Vec<u64>) -> MemSource
-        ensures made { result ≡ record { left = bytes.items; faults = 0; plan = record { fails = fails.items; calls = 0 } } }
+        ensures made { result ≡ record {
+          left = bytes.items;
+          faults = 0;
+          plan = record
+              { fails = fails.items; calls = 0 };
+        } }
         ensures left { ⟦<MemSource as Source>⟧.left result ≡ Some bytes.items }
         ensures faults { ⟦<MemSource as Source>⟧.faults result ≡ 0 }
         ensures origin { ⟦<MemSource as Source>⟧.origin result ≡ None }
@@ -58,10 +63,12 @@ impl Source for MemSource {
         ensures within { ReadsAtMost result into.new }
         ensures bytes { ReadConsumes (Some self.old.left) (Some self.new.left) result into.new }
         ensures faults { CountsFault self.old.faults self.new.faults result }
-        ensures origin { ⟦<MemSource as Source>⟧.origin self.new ≡ ⟦<MemSource as Source>⟧.origin self.old }
+        ensures origin { ⟦<MemSource as Source>⟧.origin self.new
+            ≡ ⟦<MemSource as Source>⟧.origin self.old }
         // The listed calls fail and no others. Each other one gives as many bytes as there are and fit.
         ensures listed { IsErr result ↔ IsTrue (is_planned self.old.plan) }
-        ensures count { IfOk result (λ count. count ≡ min (length self.old.left) (length into.old)) }
+        ensures count { IfOk result (λ count. count ≡ min (length self.old.left)
+            (length into.old)) }
         ensures called { self.new.plan ≡ after_call self.old.plan }
     {
         if self.planned.call() {
@@ -94,7 +101,13 @@ impl Model for MemSink {
 impl MemSink {
     /// A sink with room for so many bytes. The calls that `fails` lists fail, counted from 0.
     pub fn new(alloc: Global, room: usize, fails: Vec<u64>) -> Result<MemSink, NoMemory>
-        ensures made { IfOk result (λ sink. sink ≡ record { bytes = []; room = room; faults = 0; plan = record { fails = fails.items; calls = 0 } }) }
+        ensures made { IfOk result (λ sink. sink ≡ record {
+          bytes = [];
+          room = room;
+          faults = 0;
+          plan = record
+              { fails = fails.items; calls = 0 };
+        }) }
         ensures written { IfOk result (λ sink. ⟦<MemSink as Sink>⟧.written sink ≡ Some []) }
         ensures faults { IfOk result (λ sink. ⟦<MemSink as Sink>⟧.faults sink ≡ 0) }
     {
@@ -125,7 +138,8 @@ impl Sink for MemSink {
         ensures bytes { WriteAppends (Some self.old.bytes) (Some self.new.bytes) result bytes.now }
         ensures faults { CountsFault self.old.faults self.new.faults result }
         // A call fails exactly where it is listed, or where the bytes do not all fit. Each other one takes them all.
-        ensures fails { IsErr result ↔ IsTrue (is_planned self.old.plan || nat_lt self.old.room (length self.old.bytes + length bytes.now)) }
+        ensures fails { IsErr result ↔ IsTrue (is_planned self.old.plan || nat_lt self.old.room
+            (length self.old.bytes + length bytes.now)) }
         ensures whole { IfOk result (λ count. count ≡ length bytes.now) }
         ensures called { self.new.plan ≡ after_call self.old.plan }
         ensures room { self.new.room ≡ self.old.room }

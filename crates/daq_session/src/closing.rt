@@ -83,9 +83,25 @@ pub fn close_run<K: Sink, F: Files, C: Clock>(
 ) -> Closed
     requires sound { ending ≢ Ending.Halted Halt.FileFault }
     requires ready { IsReady (F.seen files.old) desk.old.session.state.current }
-    ensures finishes { Finishes ending desk.old.session.state desk.new.session.state (record { files = F.seen files.old; clashes = F.clashes files.old; clock_tells = C.tells clock.old; ahead = C.ahead clock.old }) (record { files = F.seen files.new; clashes = F.clashes files.new; clock_tells = C.tells clock.new; ahead = C.ahead clock.new }) (K.written out.old) (K.written out.new) desk.old.refusals (K.faults out.old) (K.faults out.new) result }
+    ensures finishes { Finishes ending desk.old.session.state desk.new.session.state
+        (record {
+          files = F.seen files.old;
+          clashes = F.clashes files.old;
+          clock_tells = C.tells
+              clock.old;
+          ahead = C.ahead clock.old;
+        })
+        (record {
+          files = F.seen files.new;
+          clashes = F.clashes files.new;
+          clock_tells = C.tells
+              clock.new;
+          ahead = C.ahead clock.new;
+        }) (K.written out.old) (K.written out.new)
+        desk.old.refusals (K.faults out.old) (K.faults out.new) result }
     ensures refusals { desk.new.refusals ≡ desk.old.refusals }
-    ensures counts { CountsOn ending (K.faults out.old) (K.faults out.new) (F.faults files.old) (F.faults files.new) result }
+    ensures counts { CountsOn ending (K.faults out.old) (K.faults out.new) (F.faults files.old)
+        (F.faults files.new) result }
     ensures broken { result.whole ≡ false → Rose (F.faults files.old) (F.faults files.new) }
     ensures file_fault { result.whole ≡ false → result.ending ≡ earlier ending Halt.FileFault }
     ensures calm { result.whole ≡ true → F.faults files.new ≡ F.faults files.old }

@@ -140,7 +140,8 @@ impl DataPath {
         ensures shut { IfOk result (λ path. path.port.window.gate ≡ Shut) }
         ensures last { IfOk result (λ path. path.port.window.last ≡ 0) }
         ensures total { IfOk result (λ path. path.port.window.total ≡ 0) }
-        ensures told { IfOk result (λ path. IsTold path.port.history (accepted_of path.port.window) 0 []) }
+        ensures told { IfOk result (λ path. IsTold path.port.history
+            (accepted_of path.port.window) 0 []) }
     {
         let sent = EventBuf::new(alloc, EVENT_ROOM)?;
         let port = system_port(alloc)?;
@@ -176,7 +177,8 @@ impl DataPath {
         ensures last { self.new.port.window.last ≡ start }
         ensures total { self.new.port.window.total ≡ self.old.port.window.total }
         ensures accepted { accepted_of self.new.port.window ≡ accepted_of self.old.port.window }
-        ensures history { self.new.port.history ≡ self.old.port.history ++ begin_entry start (accepted_of self.old.port.window) ∷ [] }
+        ensures history { self.new.port.history ≡ self.old.port.history ++ begin_entry start
+            (accepted_of self.old.port.window) ∷ [] }
         ensures got { self.new.got ≡ self.old.got }
         ensures entries { self.old.port.entries ≤ self.new.port.entries + 1 }
         ensures bytes { self.old.port.bytes ≤ self.new.port.bytes }
@@ -193,7 +195,8 @@ impl DataPath {
         ensures last { self.new.port.window.last ≡ self.old.port.window.last }
         ensures total { self.new.port.window.total ≡ self.old.port.window.total }
         ensures accepted { accepted_of self.new.port.window ≡ accepted_of self.old.port.window }
-        ensures history { self.new.port.history ≡ self.old.port.history ++ end_entry start (accepted_of self.old.port.window) ∷ [] }
+        ensures history { self.new.port.history ≡ self.old.port.history ++ end_entry start
+            (accepted_of self.old.port.window) ∷ [] }
         ensures got { self.new.got ≡ self.old.got }
     {
         logger_calls(&mut self.port);
@@ -214,8 +217,10 @@ impl DataPath {
         ensures gate { self.new.port.window.gate ≡ self.old.port.window.gate }
         ensures last { self.new.port.window.last ≡ self.old.port.window.last }
         ensures sent { self.new.sent ≡ self.old.sent }
-        ensures accepted { accepted_of self.new.port.window ≡ suc (accepted_of self.old.port.window) }
-        ensures history { self.new.port.history ≡ self.old.port.history ++ passed_entries start self.old.got.room (accepted_of self.old.port.window) (self.old.sent.event ∷ []) }
+        ensures accepted { accepted_of self.new.port.window
+            ≡ suc (accepted_of self.old.port.window) }
+        ensures history { self.new.port.history ≡ self.old.port.history ++ passed_entries start
+            self.old.got.room (accepted_of self.old.port.window) (self.old.sent.event ∷ []) }
         ensures room { self.new.got.room ≡ self.old.got.room }
         ensures entries { self.old.port.entries ≤ self.new.port.entries + 2 }
         ensures bytes { self.old.port.bytes ≤ self.new.port.bytes + 80 }
@@ -244,13 +249,17 @@ impl DataPath {
         requires spends { self.old.port.window.total + most_spent 1 ≤ most_spent order.now.start }
         requires entries { 2 * order.now.quota ≤ self.old.port.entries }
         requires bytes { 80 * order.now.quota ≤ self.old.port.bytes }
-        ensures written { IfOk result (λ front. Extends (F.seen files.old) (F.seen files.new) file (all_encoded (generated_events order.now 1 0 front.sent))) }
-        ensures broken { OnErr result (ExtendsPart (F.seen files.old) (F.seen files.new) file (all_encoded (generated_events order.now 1 0 order.now.quota))) }
+        ensures written { IfOk result (λ front. Extends (F.seen files.old) (F.seen files.new) file
+            (all_encoded (generated_events order.now 1 0 front.sent))) }
+        ensures broken { OnErr result (ExtendsPart (F.seen files.old) (F.seen files.new) file
+            (all_encoded (generated_events order.now 1 0 order.now.quota))) }
         ensures tally { IfOk result (IsTally order.now.quota) }
         ensures gate { self.new.port.window.gate ≡ self.old.port.window.gate }
         ensures last { self.new.port.window.last ≡ self.old.port.window.last }
         ensures total { self.new.port.window.total ≤ self.old.port.window.total + most_spent 1 }
-        ensures history { PassesFirst self.old.port.history self.new.port.history order.now self.old.got.room (accepted_of self.old.port.window) (accepted_of self.new.port.window) result }
+        ensures history { PassesFirst self.old.port.history self.new.port.history order.now
+            self.old.got.room (accepted_of self.old.port.window)
+            (accepted_of self.new.port.window) result }
         ensures room { self.new.got.room ≡ self.old.got.room }
         ensures entries { self.old.port.entries ≤ self.new.port.entries + 2 * order.now.quota }
         ensures clashes { F.clashes files.new ≡ F.clashes files.old }

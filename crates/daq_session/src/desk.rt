@@ -71,9 +71,25 @@ impl Desk {
         requires few { self.old.session.state.starts + 1 ≤ most_starts }
         requires counted { self.old.refusals.count + 1 < 2 ^ 64 }
         requires ready { IsReady (F.seen files.old) self.old.session.state.current }
-        ensures did { DoesLine line.now number self.old.session.state self.new.session.state (record { files = F.seen files.old; clashes = F.clashes files.old; clock_tells = C.tells clock.old; ahead = C.ahead clock.old }) (record { files = F.seen files.new; clashes = F.clashes files.new; clock_tells = C.tells clock.new; ahead = C.ahead clock.new }) (K.written out.old) (K.written out.new) self.old.refusals self.new.refusals result }
+        ensures did { DoesLine line.now number self.old.session.state self.new.session.state
+            (record {
+              files = F.seen files.old;
+              clashes = F.clashes files.old;
+              clock_tells =
+                  C.tells clock.old;
+              ahead = C.ahead clock.old;
+            })
+            (record {
+              files = F.seen files.new;
+              clashes = F.clashes files.new;
+              clock_tells =
+                  C.tells clock.new;
+              ahead = C.ahead clock.new;
+            }) (K.written out.old)
+            (K.written out.new) self.old.refusals self.new.refusals result }
         ensures starts { self.new.session.state.starts ≤ self.old.session.state.starts + 1 }
-        ensures empty { line.now ≡ [] → self.new.session.state.starts ≡ self.old.session.state.starts }
+        ensures empty { line.now ≡ [] → self.new.session.state.starts
+            ≡ self.old.session.state.starts }
         ensures refusals { self.new.refusals.count ≤ self.old.refusals.count + 1 }
         ensures files { CountsHalt (F.faults files.old) (F.faults files.new) result }
         ensures sink { CountsSink (K.faults out.old) (K.faults out.new) result }

@@ -49,14 +49,48 @@ fn run<S: Source, K: Sink, F: Files, E, C: Clock, P>(
     alloc: Global,
     outside: &mut Outside<S, K, F, E, C, P>,
 ) -> (Cause, Option<SessionRecord>)
-    ensures session { ¬ Rose (F.faults outside.old.run_files) (F.faults outside.new.run_files) → IsSession (record { files = F.seen outside.old.run_files; clashes = F.clashes outside.old.run_files; clock_tells = C.tells outside.old.clock; ahead = C.ahead outside.old.clock }) (record { files = F.seen outside.new.run_files; clashes = F.clashes outside.new.run_files; clock_tells = C.tells outside.new.clock; ahead = C.ahead outside.new.clock }) (S.left outside.old.src) (S.left outside.new.src) (K.written outside.old.out) (K.written outside.new.out) (record { old = K.faults outside.old.out; new = K.faults outside.new.out }) result.0 result.1 }
-    ensures faults { FaultsBy result.0 (record { old = S.faults outside.old.src; new = S.faults outside.new.src }) (record { old = K.faults outside.old.out; new = K.faults outside.new.out }) (record { old = F.faults outside.old.run_files; new = F.faults outside.new.run_files }) (F.first outside.new.run_files) }
-    ensures broken { F.faults outside.new.run_files ≢ F.faults outside.old.run_files → result.1 ≡ None }
+    ensures session { ¬ Rose (F.faults outside.old.run_files) (F.faults outside.new.run_files)
+        → IsSession (record {
+          files = F.seen outside.old.run_files;
+          clashes = F.clashes
+              outside.old.run_files;
+          clock_tells = C.tells outside.old.clock;
+          ahead = C.ahead
+              outside.old.clock;
+        }) (record {
+          files = F.seen outside.new.run_files;
+          clashes = F.clashes
+              outside.new.run_files;
+          clock_tells = C.tells outside.new.clock;
+          ahead = C.ahead
+              outside.new.clock;
+        }) (S.left outside.old.src) (S.left outside.new.src)
+        (K.written outside.old.out) (K.written outside.new.out)
+        (record { old = K.faults outside.old.out; new = K.faults outside.new.out }) result.0
+        result.1 }
+    ensures faults { FaultsBy result.0 (record {
+      old = S.faults outside.old.src;
+      new = S.faults
+          outside.new.src;
+    }) (record {
+      old = K.faults outside.old.out;
+      new = K.faults
+          outside.new.out;
+    }) (record {
+      old = F.faults outside.old.run_files;
+      new = F.faults
+          outside.new.run_files;
+    }) (F.first outside.new.run_files) }
+    ensures broken { F.faults outside.new.run_files ≢ F.faults outside.old.run_files → result.1
+        ≡ None }
     ensures database { IfSome result.1 (λ s. IsLegal session_rows s.database) }
     ensures buffers { IfSome result.1 (λ s. IsSystem (history_in s.buffers) s.buffers) }
     ensures one_history { IfSome result.1 (λ s. All IsOneHistory s.buffers) }
     ensures system_calls { IfSome result.1 (λ s. AreSystemCalls (history_in s.buffers)) }
-    ensures run_files { ¬ Rose (F.faults outside.old.run_files) (F.faults outside.new.run_files) → IsTrue (F.seen outside.old.run_files).tells → IfSome result.1 (λ s. All (HoldSegments s.buffers (F.seen outside.new.run_files).at) s.runs) }
+    ensures run_files { ¬ Rose (F.faults outside.old.run_files) (F.faults outside.new.run_files)
+        → IsTrue (F.seen outside.old.run_files).tells
+        → IfSome result.1 (λ s. All (HoldSegments s.buffers (F.seen outside.new.run_files).at)
+        s.runs) }
     ensures front_end_sends { IfSome result.1 (λ s. All (AreSentByFronts s.buffers) s.runs) }
     ensures front_end_sets { IfSome result.1 (λ s. IsFrontsPass s.database s.runs) }
     ensures callers { IfSome result.1 (λ s. AreCallers s.database) }
@@ -108,9 +142,33 @@ pub fn run_script<
     _gate: &G,
 ) -> (Cause, Option<SessionRecord>, Outside<S, K, F, E, C, P>)
     // The records, the run files, the text and the cause are what the script asks for.
-    ensures session { ¬ Rose (F.faults outside.run_files) (F.faults result.2.run_files) → IsSession (record { files = F.seen outside.run_files; clashes = F.clashes outside.run_files; clock_tells = C.tells outside.clock; ahead = C.ahead outside.clock }) (record { files = F.seen result.2.run_files; clashes = F.clashes result.2.run_files; clock_tells = C.tells result.2.clock; ahead = C.ahead result.2.clock }) (S.left outside.src) (S.left result.2.src) (K.written outside.out) (K.written result.2.out) (record { old = K.faults outside.out; new = K.faults result.2.out }) result.0 result.1 }
+    ensures session { ¬ Rose (F.faults outside.run_files) (F.faults result.2.run_files)
+        → IsSession (record {
+          files = F.seen outside.run_files;
+          clashes = F.clashes
+              outside.run_files;
+          clock_tells = C.tells outside.clock;
+          ahead = C.ahead outside.clock;
+        })
+        (record {
+          files = F.seen result.2.run_files;
+          clashes = F.clashes result.2.run_files;
+          clock_tells = C.tells result.2.clock;
+          ahead = C.ahead result.2.clock;
+        })
+        (S.left outside.src) (S.left result.2.src) (K.written outside.out)
+        (K.written result.2.out) (record {
+          old = K.faults outside.out;
+          new = K.faults result.2.out;
+        }) result.0 result.1 }
     // A fault is the cause exactly where the count of its object rose, and no earlier cause holds.
-    ensures faults { FaultsBy result.0 (record { old = S.faults outside.src; new = S.faults result.2.src }) (record { old = K.faults outside.out; new = K.faults result.2.out }) (record { old = F.faults outside.run_files; new = F.faults result.2.run_files }) (F.first result.2.run_files) }
+    ensures faults { FaultsBy result.0 (record {
+      old = S.faults outside.src;
+      new = S.faults
+          result.2.src;
+    }) (record { old = K.faults outside.out; new = K.faults result.2.out })
+        (record { old = F.faults outside.run_files; new = F.faults result.2.run_files })
+        (F.first result.2.run_files) }
     // There is no record where a call on the run files failed.
     ensures broken { F.faults result.2.run_files ≢ F.faults outside.run_files → result.1 ≡ None }
     // The calls on the online database are those of one database that opened with the run's parameters.
@@ -123,7 +181,10 @@ pub fn run_script<
     ensures system_calls { IfSome result.1 (λ s. AreSystemCalls (history_in s.buffers)) }
     // Each file of a run holds the events between the run's marks, of which the channel's client got just those that it
     // asked for; and these are the events that the front-end sent in that run.
-    ensures run_files { ¬ Rose (F.faults outside.run_files) (F.faults result.2.run_files) → IsTrue (F.seen outside.run_files).tells → IfSome result.1 (λ s. All (HoldSegments s.buffers (F.seen result.2.run_files).at) s.runs) }
+    ensures run_files { ¬ Rose (F.faults outside.run_files) (F.faults result.2.run_files)
+        → IsTrue (F.seen outside.run_files).tells
+        → IfSome result.1 (λ s. All (HoldSegments s.buffers (F.seen result.2.run_files).at)
+        s.runs) }
     ensures front_end_sends { IfSome result.1 (λ s. All (AreSentByFronts s.buffers) s.runs) }
     // The front-end's calls on the database: it sets the number of its events sent to 0 as each run begins, and to the
     // number that it sent as the run ends, and nothing else; all other calls are the main thread's.

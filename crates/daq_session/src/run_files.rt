@@ -52,8 +52,10 @@ pub fn begin_file<F: Files>(
     time: u32,
 ) -> Result<Begun, Failed>
     ensures clashes { IfOk result (ClashesBegun (F.clashes files.old) (F.clashes files.new)) }
-    ensures begun { IfOk result (BeginsFile (F.seen files.old) (F.seen files.new) name.now (begun_file run time [] [])) }
-    ensures broken { OnErr result (BeginBreaks (F.seen files.old) (F.seen files.new) name.now (begun_file run time [] [])) }
+    ensures begun { IfOk result (BeginsFile (F.seen files.old) (F.seen files.new) name.now
+        (begun_file run time [] [])) }
+    ensures broken { OnErr result (BeginBreaks (F.seen files.old) (F.seen files.new) name.now
+        (begun_file run time [] [])) }
     ensures faults { CountsFault (F.faults files.old) (F.faults files.new) result }
 {
     match files.create(name) {
@@ -70,9 +72,11 @@ pub fn begin_file<F: Files>(
 /// Writes the end record of a run and closes its file.
 pub fn end_file<F: Files>(files: &mut F, file: u32, run: u32, time: u32) -> Result<(), Failed>
     requires { IsTrue ((F.seen files.old).writes file) }
-    ensures ended { OnOk result (Closes (F.seen files.old) (F.seen files.new) file (encoding (end_record run time []))) }
+    ensures ended { OnOk result (Closes (F.seen files.old) (F.seen files.new) file
+        (encoding (end_record run time []))) }
     ensures clashes { F.clashes files.new ≡ F.clashes files.old }
-    ensures broken { OnErr result (BreaksFile (F.seen files.old) (F.seen files.new) ((F.seen files.old).name_of file) (encoding (end_record run time []))) }
+    ensures broken { OnErr result (BreaksFile (F.seen files.old) (F.seen files.new)
+        ((F.seen files.old).name_of file) (encoding (end_record run time []))) }
     ensures faults { CountsFault (F.faults files.old) (F.faults files.new) result }
 {
     files.append(file, &record_bytes(END_ID, run, time))?;

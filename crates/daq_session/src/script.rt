@@ -22,10 +22,26 @@ pub fn play<S: Source, K: Sink, F: Files, E, C: Clock, P>(
     requires new { IsNew desk.old.session.state }
     requires none { desk.old.refusals ≡ record { count = 0; first = 0 } }
     requires unread { reader.old ≡ nothing_read }
-    ensures did { PlaysTo (record { files = F.seen outside.old.run_files; clashes = F.clashes outside.old.run_files; clock_tells = C.tells outside.old.clock; ahead = C.ahead outside.old.clock }) result (S.left outside.old.src) (S.left outside.new.src) (K.written outside.old.out) (K.written outside.new.out) desk.new.session.state (record { files = F.seen outside.new.run_files; clashes = F.clashes outside.new.run_files; clock_tells = C.tells outside.new.clock; ahead = C.ahead outside.new.clock }) desk.new.refusals }
+    ensures did { PlaysTo (record {
+      files = F.seen outside.old.run_files;
+      clashes = F.clashes
+          outside.old.run_files;
+      clock_tells = C.tells outside.old.clock;
+      ahead = C.ahead
+          outside.old.clock;
+    }) result (S.left outside.old.src) (S.left outside.new.src)
+        (K.written outside.old.out) (K.written outside.new.out) desk.new.session.state
+        (record {
+          files = F.seen outside.new.run_files;
+          clashes = F.clashes outside.new.run_files;
+          clock_tells = C.tells outside.new.clock;
+          ahead = C.ahead outside.new.clock;
+        })
+        desk.new.refusals }
     ensures source { SourceCounts result (S.faults outside.old.src) (S.faults outside.new.src) }
     ensures sink { SinkCounts result (K.faults outside.old.out) (K.faults outside.new.out) }
-    ensures files { FileCounts result (F.faults outside.old.run_files) (F.faults outside.new.run_files) }
+    ensures files { FileCounts result (F.faults outside.old.run_files)
+        (F.faults outside.new.run_files) }
     ensures database { outside.new.odb_files ≡ outside.old.odb_files }
     ensures picks { outside.new.pick ≡ outside.old.pick }
 {

@@ -69,8 +69,10 @@ fn call(alloc: Global, state: &mut State, command: &Command<'_>) -> Result<Reply
     ensures answered { IfOk result (λ reply. (c : Course)
         → DoesCommand (stage_of state.old c) command.now (stage_of state.new (behind_reply c c.readings c.clashes reply))) }
     ensures halted { IfErr result (λ halt. halt ≡ no_memory) }
-    ensures interrupted { OnErr result ((c : Course) → Interrupts (Ok command.now) (stage_of state.old c) (stage_of state.new c)) }
-    ensures callers { AreCallers state.old.database.history → AreCallers state.new.database.history }
+    ensures interrupted { OnErr result ((c : Course) → Interrupts (Ok command.now)
+        (stage_of state.old c) (stage_of state.new c)) }
+    ensures callers { AreCallers state.old.database.history
+        → AreCallers state.new.database.history }
     ensures current { state.new.current ≡ state.old.current }
     ensures runs { state.new.runs.items ≡ state.old.runs.items }
     ensures starts { state.new.starts ≡ state.old.starts }
@@ -118,7 +120,21 @@ impl Session {
     ) -> Result<Reply, Halt>
         requires few { self.old.state.starts + 1 ≤ most_starts }
         requires ready { IsReady (F.seen files.old) self.old.state.current }
-        ensures did { Handles line.entry self.old.state self.new.state (record { files = F.seen files.old; clashes = F.clashes files.old; clock_tells = C.tells clock.old; ahead = C.ahead clock.old }) (record { files = F.seen files.new; clashes = F.clashes files.new; clock_tells = C.tells clock.new; ahead = C.ahead clock.new }) result }
+        ensures did { Handles line.entry self.old.state self.new.state
+            (record {
+              files = F.seen files.old;
+              clashes = F.clashes files.old;
+              clock_tells =
+                  C.tells clock.old;
+              ahead = C.ahead clock.old;
+            })
+            (record {
+              files = F.seen files.new;
+              clashes = F.clashes files.new;
+              clock_tells =
+                  C.tells clock.new;
+              ahead = C.ahead clock.new;
+            }) result }
         ensures starts { self.new.state.starts ≤ self.old.state.starts + 1 }
         ensures nothing { line.entry ≡ Ok Nothing → self.new.state.starts ≡ self.old.state.starts }
         ensures faults { CountsHalt (F.faults files.old) (F.faults files.new) result }
@@ -144,9 +160,23 @@ impl Session {
         clock: &mut C,
     ) -> Result<Reply, Failed>
         requires ready { IsReady (F.seen files.old) self.old.state.current }
-        ensures did { IfOk result (λ reply. AnswersLine (Ok Stop) reply self.old.state self.new.state (record { files = F.seen files.old; clashes = F.clashes files.old; clock_tells = C.tells clock.old; ahead = C.ahead clock.old }) (record { files = F.seen files.new; clashes = F.clashes files.new; clock_tells = C.tells clock.new; ahead = C.ahead clock.new })) }
+        ensures did { IfOk result (λ reply. AnswersLine (Ok Stop) reply self.old.state
+            self.new.state (record {
+              files = F.seen files.old;
+              clashes = F.clashes files.old;
+              clock_tells = C.tells clock.old;
+              ahead = C.ahead clock.old;
+            })
+            (record {
+              files = F.seen files.new;
+              clashes = F.clashes files.new;
+              clock_tells =
+                  C.tells clock.new;
+              ahead = C.ahead clock.new;
+            })) }
         ensures idle { OnOk result (self.new.state.current ≡ None) }
-        ensures accepted { IfOk result (λ reply. IsSome self.old.state.current → is_refusal reply ≡ false) }
+        ensures accepted { IfOk result (λ reply. IsSome self.old.state.current → is_refusal reply
+            ≡ false) }
         ensures faults { CountsFault (F.faults files.old) (F.faults files.new) result }
     {
         stop(alloc, &mut self.state, &mut self.path, files, clock)

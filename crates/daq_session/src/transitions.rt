@@ -71,9 +71,12 @@ fn front_name() -> Name
 /// OpensSession the session, where no start did so before. No run is on.
 fn open_session(alloc: Global, state: &mut State) -> Result<(), NoMemory>
     requires idle { state.old.current ≡ None }
-    ensures opens { OnOk result ((c : Course) → OpensSession state.old.opened (stage_of state.old c) (stage_of state.new c)) }
-    ensures interrupted { OnErr result ((c : Course) → Interrupts (Ok Start) (stage_of state.old c) (stage_of state.new c)) }
-    ensures callers { AreCallers state.old.database.history → AreCallers state.new.database.history }
+    ensures opens { OnOk result ((c : Course) → OpensSession state.old.opened
+        (stage_of state.old c) (stage_of state.new c)) }
+    ensures interrupted { OnErr result ((c : Course) → Interrupts (Ok Start)
+        (stage_of state.old c) (stage_of state.new c)) }
+    ensures callers { AreCallers state.old.database.history
+        → AreCallers state.new.database.history }
     ensures current { state.new.current ≡ state.old.current }
     ensures runs { state.new.runs.items ≡ state.old.runs.items }
     ensures starts { state.new.starts ≡ state.old.starts }
@@ -138,25 +141,47 @@ fn start_run<F: Files, C: Clock>(
     requires idle { state.old.current ≡ None }
     requires few { state.old.starts + 1 ≤ most_starts }
     requires shut { ForNone state.old.current (path.old.port.window.gate ≡ Shut) }
-    requires open_gate { ForSome state.old.current (λ r. path.old.port.window.gate ≡ Running r.order.start) }
+    requires open_gate { ForSome state.old.current (λ r. path.old.port.window.gate
+        ≡ Running r.order.start) }
     requires later { path.old.port.window.last ≤ state.old.starts }
     requires spent { path.old.port.window.total ≤ most_spent state.old.starts }
-    requires spends { ForSome state.old.current (λ r. path.old.port.window.total + most_spent 1 ≤ most_spent r.order.start) }
+    requires spends { ForSome state.old.current (λ r. path.old.port.window.total + most_spent 1
+        ≤ most_spent r.order.start) }
     requires begun { ForSome state.old.current (λ r. r.order.start ≤ state.old.starts) }
-    requires entries { ForSome state.old.current (λ r. 2 * r.order.quota + 1 ≤ path.old.port.entries) }
+    requires entries { ForSome state.old.current (λ r. 2 * r.order.quota + 1
+        ≤ path.old.port.entries) }
     requires bytes { ForSome state.old.current (λ r. 80 * r.order.quota ≤ path.old.port.bytes) }
-    requires told { ∥ IsStanding path.old.port.history (accepted_of path.old.port.window) state.old.starts state.old.runs.items state.old.current ∥₁ }
+    requires told { ∥ IsStanding path.old.port.history (accepted_of path.old.port.window)
+        state.old.starts state.old.runs.items state.old.current ∥₁ }
     requires ready { IsReady (F.seen files.old) state.old.current }
-    ensures did { HandlesRun run state.old state.new (record { files = F.seen files.old; clashes = F.clashes files.old; clock_tells = C.tells clock.old; ahead = C.ahead clock.old }) (record { files = F.seen files.new; clashes = F.clashes files.new; clock_tells = C.tells clock.new; ahead = C.ahead clock.new }) result }
+    ensures did { HandlesRun run state.old state.new
+        (record {
+          files = F.seen files.old;
+          clashes = F.clashes files.old;
+          clock_tells = C.tells
+              clock.old;
+          ahead = C.ahead clock.old;
+        })
+        (record {
+          files = F.seen files.new;
+          clashes = F.clashes files.new;
+          clock_tells = C.tells
+              clock.new;
+          ahead = C.ahead clock.new;
+        }) result }
     ensures shut { ForNone state.new.current (path.new.port.window.gate ≡ Shut) }
-    ensures open_gate { ForSome state.new.current (λ r. path.new.port.window.gate ≡ Running r.order.start) }
+    ensures open_gate { ForSome state.new.current (λ r. path.new.port.window.gate
+        ≡ Running r.order.start) }
     ensures later { path.new.port.window.last ≤ state.new.starts }
     ensures spent { path.new.port.window.total ≤ most_spent state.new.starts }
-    ensures spends { ForSome state.new.current (λ r. path.new.port.window.total + most_spent 1 ≤ most_spent r.order.start) }
+    ensures spends { ForSome state.new.current (λ r. path.new.port.window.total + most_spent 1
+        ≤ most_spent r.order.start) }
     ensures begun { ForSome state.new.current (λ r. r.order.start ≤ state.new.starts) }
-    ensures entries { ForSome state.new.current (λ r. 2 * r.order.quota + 1 ≤ path.new.port.entries) }
+    ensures entries { ForSome state.new.current (λ r. 2 * r.order.quota + 1
+        ≤ path.new.port.entries) }
     ensures bytes { ForSome state.new.current (λ r. 80 * r.order.quota ≤ path.new.port.bytes) }
-    ensures told { ∥ IsStanding path.new.port.history (accepted_of path.new.port.window) state.new.starts state.new.runs.items state.new.current ∥₁ }
+    ensures told { ∥ IsStanding path.new.port.history (accepted_of path.new.port.window)
+        state.new.starts state.new.runs.items state.new.current ∥₁ }
     ensures starts { state.new.starts ≤ state.old.starts + 1 }
     ensures faults { CountsHalt (F.faults files.old) (F.faults files.new) result }
 {
@@ -213,25 +238,47 @@ pub fn start<F: Files, C: Clock>(
 ) -> Result<Reply, Halt>
     requires few { state.old.starts + 1 ≤ most_starts }
     requires shut { ForNone state.old.current (path.old.port.window.gate ≡ Shut) }
-    requires open_gate { ForSome state.old.current (λ r. path.old.port.window.gate ≡ Running r.order.start) }
+    requires open_gate { ForSome state.old.current (λ r. path.old.port.window.gate
+        ≡ Running r.order.start) }
     requires later { path.old.port.window.last ≤ state.old.starts }
     requires spent { path.old.port.window.total ≤ most_spent state.old.starts }
-    requires spends { ForSome state.old.current (λ r. path.old.port.window.total + most_spent 1 ≤ most_spent r.order.start) }
+    requires spends { ForSome state.old.current (λ r. path.old.port.window.total + most_spent 1
+        ≤ most_spent r.order.start) }
     requires begun { ForSome state.old.current (λ r. r.order.start ≤ state.old.starts) }
-    requires entries { ForSome state.old.current (λ r. 2 * r.order.quota + 1 ≤ path.old.port.entries) }
+    requires entries { ForSome state.old.current (λ r. 2 * r.order.quota + 1
+        ≤ path.old.port.entries) }
     requires bytes { ForSome state.old.current (λ r. 80 * r.order.quota ≤ path.old.port.bytes) }
-    requires told { ∥ IsStanding path.old.port.history (accepted_of path.old.port.window) state.old.starts state.old.runs.items state.old.current ∥₁ }
+    requires told { ∥ IsStanding path.old.port.history (accepted_of path.old.port.window)
+        state.old.starts state.old.runs.items state.old.current ∥₁ }
     requires ready { IsReady (F.seen files.old) state.old.current }
-    ensures did { Handles (Ok Start) state.old state.new (record { files = F.seen files.old; clashes = F.clashes files.old; clock_tells = C.tells clock.old; ahead = C.ahead clock.old }) (record { files = F.seen files.new; clashes = F.clashes files.new; clock_tells = C.tells clock.new; ahead = C.ahead clock.new }) result }
+    ensures did { Handles (Ok Start) state.old state.new
+        (record {
+          files = F.seen files.old;
+          clashes = F.clashes files.old;
+          clock_tells = C.tells
+              clock.old;
+          ahead = C.ahead clock.old;
+        })
+        (record {
+          files = F.seen files.new;
+          clashes = F.clashes files.new;
+          clock_tells = C.tells
+              clock.new;
+          ahead = C.ahead clock.new;
+        }) result }
     ensures shut { ForNone state.new.current (path.new.port.window.gate ≡ Shut) }
-    ensures open_gate { ForSome state.new.current (λ r. path.new.port.window.gate ≡ Running r.order.start) }
+    ensures open_gate { ForSome state.new.current (λ r. path.new.port.window.gate
+        ≡ Running r.order.start) }
     ensures later { path.new.port.window.last ≤ state.new.starts }
     ensures spent { path.new.port.window.total ≤ most_spent state.new.starts }
-    ensures spends { ForSome state.new.current (λ r. path.new.port.window.total + most_spent 1 ≤ most_spent r.order.start) }
+    ensures spends { ForSome state.new.current (λ r. path.new.port.window.total + most_spent 1
+        ≤ most_spent r.order.start) }
     ensures begun { ForSome state.new.current (λ r. r.order.start ≤ state.new.starts) }
-    ensures entries { ForSome state.new.current (λ r. 2 * r.order.quota + 1 ≤ path.new.port.entries) }
+    ensures entries { ForSome state.new.current (λ r. 2 * r.order.quota + 1
+        ≤ path.new.port.entries) }
     ensures bytes { ForSome state.new.current (λ r. 80 * r.order.quota ≤ path.new.port.bytes) }
-    ensures told { ∥ IsStanding path.new.port.history (accepted_of path.new.port.window) state.new.starts state.new.runs.items state.new.current ∥₁ }
+    ensures told { ∥ IsStanding path.new.port.history (accepted_of path.new.port.window)
+        state.new.starts state.new.runs.items state.new.current ∥₁ }
     ensures starts { state.new.starts ≤ state.old.starts + 1 }
     ensures faults { CountsHalt (F.faults files.old) (F.faults files.new) result }
 {
@@ -256,28 +303,50 @@ pub fn stop<F: Files, C: Clock>(
     clock: &mut C,
 ) -> Result<Reply, Failed>
     requires shut { ForNone state.old.current (path.old.port.window.gate ≡ Shut) }
-    requires open_gate { ForSome state.old.current (λ r. path.old.port.window.gate ≡ Running r.order.start) }
+    requires open_gate { ForSome state.old.current (λ r. path.old.port.window.gate
+        ≡ Running r.order.start) }
     requires later { path.old.port.window.last ≤ state.old.starts }
     requires spent { path.old.port.window.total ≤ most_spent state.old.starts }
-    requires spends { ForSome state.old.current (λ r. path.old.port.window.total + most_spent 1 ≤ most_spent r.order.start) }
+    requires spends { ForSome state.old.current (λ r. path.old.port.window.total + most_spent 1
+        ≤ most_spent r.order.start) }
     requires begun { ForSome state.old.current (λ r. r.order.start ≤ state.old.starts) }
     requires few { state.old.starts ≤ most_starts }
-    requires entries { ForSome state.old.current (λ r. 2 * r.order.quota + 1 ≤ path.old.port.entries) }
+    requires entries { ForSome state.old.current (λ r. 2 * r.order.quota + 1
+        ≤ path.old.port.entries) }
     requires bytes { ForSome state.old.current (λ r. 80 * r.order.quota ≤ path.old.port.bytes) }
-    requires told { ∥ IsStanding path.old.port.history (accepted_of path.old.port.window) state.old.starts state.old.runs.items state.old.current ∥₁ }
+    requires told { ∥ IsStanding path.old.port.history (accepted_of path.old.port.window)
+        state.old.starts state.old.runs.items state.old.current ∥₁ }
     requires ready { IsReady (F.seen files.old) state.old.current }
-    ensures did { IfOk result (λ reply. AnswersLine (Ok Stop) reply state.old state.new (record { files = F.seen files.old; clashes = F.clashes files.old; clock_tells = C.tells clock.old; ahead = C.ahead clock.old }) (record { files = F.seen files.new; clashes = F.clashes files.new; clock_tells = C.tells clock.new; ahead = C.ahead clock.new })) }
+    ensures did { IfOk result (λ reply. AnswersLine (Ok Stop) reply state.old state.new
+        (record {
+          files = F.seen files.old;
+          clashes = F.clashes files.old;
+          clock_tells = C.tells
+              clock.old;
+          ahead = C.ahead clock.old;
+        })
+        (record {
+          files = F.seen files.new;
+          clashes = F.clashes files.new;
+          clock_tells = C.tells
+              clock.new;
+          ahead = C.ahead clock.new;
+        })) }
     ensures idle { OnOk result (state.new.current ≡ None) }
     ensures accepted { IfOk result (λ reply. IsSome state.old.current → is_refusal reply ≡ false) }
     ensures shut { ForNone state.new.current (path.new.port.window.gate ≡ Shut) }
-    ensures open_gate { ForSome state.new.current (λ r. path.new.port.window.gate ≡ Running r.order.start) }
+    ensures open_gate { ForSome state.new.current (λ r. path.new.port.window.gate
+        ≡ Running r.order.start) }
     ensures later { path.new.port.window.last ≤ state.new.starts }
     ensures spent { path.new.port.window.total ≤ most_spent state.new.starts }
-    ensures spends { ForSome state.new.current (λ r. path.new.port.window.total + most_spent 1 ≤ most_spent r.order.start) }
+    ensures spends { ForSome state.new.current (λ r. path.new.port.window.total + most_spent 1
+        ≤ most_spent r.order.start) }
     ensures begun { ForSome state.new.current (λ r. r.order.start ≤ state.new.starts) }
-    ensures entries { ForSome state.new.current (λ r. 2 * r.order.quota + 1 ≤ path.new.port.entries) }
+    ensures entries { ForSome state.new.current (λ r. 2 * r.order.quota + 1
+        ≤ path.new.port.entries) }
     ensures bytes { ForSome state.new.current (λ r. 80 * r.order.quota ≤ path.new.port.bytes) }
-    ensures told { ∥ IsStanding path.new.port.history (accepted_of path.new.port.window) state.new.starts state.new.runs.items state.new.current ∥₁ }
+    ensures told { ∥ IsStanding path.new.port.history (accepted_of path.new.port.window)
+        state.new.starts state.new.runs.items state.new.current ∥₁ }
     ensures starts { state.new.starts ≡ state.old.starts }
     ensures faults { CountsFault (F.faults files.old) (F.faults files.new) result }
 {
@@ -334,16 +403,22 @@ fn end_run<F: Files>(
     requires spends { path.old.port.window.total + most_spent 1 ≤ most_spent order.start }
     requires entries { 2 * order.quota + 1 ≤ path.old.port.entries }
     requires bytes { 80 * order.quota ≤ path.old.port.bytes }
-    ensures file { IfOk result (λ e. Closes (F.seen files.old) (F.seen files.new) file (all_encoded (generated_events order 1 0 e.front.sent) ++ encoding (end_record order.run time []))) }
-    ensures broken { OnErr result (BreaksFile (F.seen files.old) (F.seen files.new) ((F.seen files.old).name_of file) (all_encoded (generated_events order 1 0 order.quota) ++ encoding (end_record order.run time []))) }
+    ensures file { IfOk result (λ e. Closes (F.seen files.old) (F.seen files.new) file
+        (all_encoded (generated_events order 1 0 e.front.sent) ++ encoding
+        (end_record order.run time []))) }
+    ensures broken { OnErr result (BreaksFile (F.seen files.old) (F.seen files.new)
+        ((F.seen files.old).name_of file) (all_encoded (generated_events order 1 0 order.quota)
+        ++ encoding (end_record order.run time []))) }
     ensures tally { IfOk result (λ e. IsTally order.quota e.front) }
     ensures recorded { IfOk result (λ e. e.run ≡ completed_record order time e.front) }
     ensures named { IfOk result (λ e. e.file ≡ file_record order.run) }
     ensures shut { path.new.port.window.gate ≡ Shut }
     ensures last { path.new.port.window.last ≡ path.old.port.window.last }
     ensures spent { path.new.port.window.total ≤ most_spent order.start }
-    ensures told { KeepsTold path.old.port.history path.new.port.history (accepted_of path.old.port.window) (accepted_of path.new.port.window) order }
-    ensures done { IfOk result (λ e. EndsTold path.old.port.history path.new.port.history (accepted_of path.old.port.window) order e.front.sent) }
+    ensures told { KeepsTold path.old.port.history path.new.port.history
+        (accepted_of path.old.port.window) (accepted_of path.new.port.window) order }
+    ensures done { IfOk result (λ e. EndsTold path.old.port.history path.new.port.history
+        (accepted_of path.old.port.window) order e.front.sent) }
     ensures clashes { F.clashes files.new ≡ F.clashes files.old }
     ensures faults { CountsFault (F.faults files.old) (F.faults files.new) result }
 {

@@ -69,7 +69,8 @@ impl ReadAhead {
 
     /// Reads the next block of the file, where nothing is left of the one before. No byte is its end.
     pub fn fill<F: Read>(&mut self, file: &mut F) -> Result<(), Failed>
-        ensures read { OnOk result (Consumes (F.remaining file.old) (F.remaining file.new) self.new) }
+        ensures read { OnOk result (Consumes (F.remaining file.old) (F.remaining file.new)
+            self.new) }
         ensures end { OnOk result (self.new ≡ [] → IsAtEnd (F.remaining file.new)) }
         ensures failed { OnErr result (Keeps (F.remaining file.old) (F.remaining file.new)) }
         ensures none { OnErr result (self.new ≡ []) }

@@ -51,7 +51,9 @@ impl<F: Read + Write + OpenFile + Drop> BlockFile<F> {
 
     /// Writes the bytes behind those so far. They may stay in the block for now. Once a write failed, none is taken.
     pub fn append(&mut self, bytes: &[u8]) -> Result<(), Failed>
-        ensures grown { OnOk result (Appends (bytes_given F.contents self.old.file self.old.pending.bytes) (bytes_given F.contents self.new.file self.new.pending.bytes) bytes.now) }
+        ensures grown { OnOk result (Appends (bytes_given F.contents self.old.file
+            self.old.pending.bytes) (bytes_given F.contents self.new.file self.new.pending.bytes)
+            bytes.now) }
         ensures never_again { IsTrue self.old.broken → IsErr result }
         ensures breaks { OnErr result (IsTrue self.new.broken) }
     {
@@ -70,7 +72,8 @@ impl<F: Read + Write + OpenFile + Drop> BlockFile<F> {
 
     /// Writes what is still in the block, and empties it.
     fn flush(&mut self) -> Result<(), Failed>
-        ensures kept { OnOk result (Keeps (bytes_given F.contents self.old.file self.old.pending.bytes) (bytes_given F.contents self.new.file [])) }
+        ensures kept { OnOk result (Keeps (bytes_given F.contents self.old.file
+            self.old.pending.bytes) (bytes_given F.contents self.new.file [])) }
         ensures empty { self.new.pending.bytes ≡ [] }
         ensures stays_broken { IsTrue self.old.broken → IsTrue self.new.broken }
         ensures breaks { OnErr result (IsTrue self.new.broken) }
@@ -90,7 +93,8 @@ impl<F: Read + Write + OpenFile + Drop> BlockFile<F> {
     /// Writes bytes past the block, which is empty.
     fn write_out(&mut self, bytes: &[u8]) -> Result<(), Failed>
         requires { self.old.pending.bytes ≡ [] }
-        ensures grown { OnOk result (Appends (bytes_given F.contents self.old.file []) (bytes_given F.contents self.new.file self.new.pending.bytes) bytes.now) }
+        ensures grown { OnOk result (Appends (bytes_given F.contents self.old.file [])
+            (bytes_given F.contents self.new.file self.new.pending.bytes) bytes.now) }
         ensures breaks { OnErr result (IsTrue self.new.broken) }
     {
         let written = match &mut self.file {
@@ -107,7 +111,8 @@ impl<F: Read + Write + OpenFile + Drop> BlockFile<F> {
     /// Reads into the front of `into`, and answers how many bytes. None at all, where there is room, is the end.
     pub fn read(&mut self, into: &mut [u8]) -> Result<usize, Failed>
         ensures within { ReadsAtMost result into.new }
-        ensures bytes { ReadConsumes (left_of F.remaining self.old.file self.old.ahead) (left_of F.remaining self.new.file self.new.ahead) result into.new }
+        ensures bytes { ReadConsumes (left_of F.remaining self.old.file self.old.ahead)
+            (left_of F.remaining self.new.file self.new.ahead) result into.new }
     {
         if self.ahead.is_empty() {
             match &mut self.file {
@@ -121,7 +126,8 @@ impl<F: Read + Write + OpenFile + Drop> BlockFile<F> {
     /// Writes what is left, has the system put all of the file on the disk, and hands the file out. Where a part was not
     /// written, also before, the file is let go.
     pub fn close(&mut self) -> Result<F, Failed>
-        ensures whole { IfOk result (λ file. Keeps (bytes_given F.contents self.old.file self.old.pending.bytes) (F.contents file)) }
+        ensures whole { IfOk result (λ file. Keeps (bytes_given F.contents self.old.file
+            self.old.pending.bytes) (F.contents file)) }
         ensures broken { IsTrue self.old.broken → IsErr result }
         ensures gone { IsNone self.new.file }
     {

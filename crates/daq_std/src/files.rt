@@ -37,7 +37,8 @@ impl<R: rt::Files + Drop> Model for StdFiles<R> {
 impl<R: rt::Files + Drop> StdFiles<R> {
     /// The files of this folder.
     pub fn new(alloc: Global, system: R, folder: &str) -> Result<StdFiles<R>, NoMemory>
-        ensures unused { IfOk result (λ made. (number : ℕ) → IsFree (⟦<StdFiles<R> as Files>⟧.seen made) number) }
+        ensures unused { IfOk result (λ made. (number : ℕ)
+            → IsFree (⟦<StdFiles<R> as Files>⟧.seen made) number) }
         ensures faults { IfOk result (λ made. ⟦<StdFiles<R> as Files>⟧.faults made ≡ 0) }
         ensures clashes { IfOk result (λ made. ⟦<StdFiles<R> as Files>⟧.clashes made ≡ 0) }
     {
@@ -102,13 +103,17 @@ impl<R: rt::Files + Drop> Files for StdFiles<R> {
     /// A written file is closed well where the system has put all of its bytes on the disk.
     fn close(&mut self, file: u32) -> Result<(), Failed>
         requires { InUse (told self.old) file }
-        ensures written { IsTrue ((told self.old).writes file) → Closes (told self.old) (told self.new) file [] }
-        ensures read { IsTrue ((told self.old).reads file) → Ends (told self.old) (told self.new) file }
+        ensures written { IsTrue ((told self.old).writes file)
+            → Closes (told self.old) (told self.new) file [] }
+        ensures read { IsTrue ((told self.old).reads file)
+            → Ends (told self.old) (told self.new) file }
         ensures faults { CountsOne self.old self.new result }
         ensures clashes { self.new.tallied.clashes ≡ self.old.tallied.clashes }
         ensures first { NamesFirstAt file self.old self.new result }
-        ensures all { IsTrue ((told self.old).writes file) → OnOk result (HasAll R.File.contents self.old file) }
-        ensures broken { IsTrue ((told self.old).writes file) → IsBroken self.old file → IsErr result }
+        ensures all { IsTrue ((told self.old).writes file)
+            → OnOk result (HasAll R.File.contents self.old file) }
+        ensures broken { IsTrue ((told self.old).writes file) → IsBroken self.old file
+            → IsErr result }
     {
         match self.numbers.usage(file) {
             Usage::Writing(name) => {

@@ -42,7 +42,8 @@ impl<R: rt::Files + Drop> SystemFolder<R> {
 
     /// Makes the path of the file of this name: below the folder, or from the root where the name begins with `/`.
     fn enter(&mut self, name: &FileName) -> Result<(), Failed>
-        ensures { OnOk result (self.new.path.bytes ≡ path_in (string_bytes self.old.folder) name.now) }
+        ensures { OnOk result (self.new.path.bytes
+            ≡ path_in (string_bytes self.old.folder) name.now) }
     {
         self.path.clear();
         if is_rooted(name) {

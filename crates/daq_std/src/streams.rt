@@ -20,7 +20,8 @@ pub struct StdSource<R: Read + Drop> {
 impl<R: Read + Drop> StdSource<R> {
     /// A source over this reader.
     pub fn new(alloc: Global, reader: R) -> Result<StdSource<R>, NoMemory>
-        ensures left { IfOk result (λ made. ⟦<StdSource<R> as Source>⟧.left made ≡ R.remaining reader) }
+        ensures left { IfOk result (λ made. ⟦<StdSource<R> as Source>⟧.left made
+            ≡ R.remaining reader) }
         ensures faults { IfOk result (λ made. ⟦<StdSource<R> as Source>⟧.faults made ≡ 0) }
         ensures origin { IfOk result (λ made. ⟦<StdSource<R> as Source>⟧.origin made ≡ None) }
     {

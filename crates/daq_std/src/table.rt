@@ -42,7 +42,8 @@ impl<F: Read + Write + OpenFile + Drop> BlockTable<F> {
 
     /// Appends to the file of this number. Once a write failed, it takes no byte.
     pub fn append(&mut self, number: u32, bytes: &[u8]) -> Result<(), Failed>
-        ensures grown { OnOk result (Appends (bytes_given_at F.contents self.old.blocks.items number) (bytes_given_at F.contents self.new.blocks.items number) bytes.now) }
+        ensures grown { OnOk result (Appends (bytes_given_at F.contents self.old.blocks.items
+            number) (bytes_given_at F.contents self.new.blocks.items number) bytes.now) }
         ensures never_again { IsTrue (is_broken_at self.old.blocks.items number) → IsErr result }
         ensures breaks { OnErr result (IsTrue (is_broken_at self.new.blocks.items number)) }
         ensures others { ChangesBlock self.old.blocks.items self.new.blocks.items number }
@@ -57,7 +58,8 @@ impl<F: Read + Write + OpenFile + Drop> BlockTable<F> {
     /// Reads from the file of this number.
     pub fn read(&mut self, number: u32, into: &mut [u8]) -> Result<usize, Failed>
         ensures within { ReadsAtMost result into.new }
-        ensures bytes { ReadConsumes (ahead_at F.remaining self.old.blocks.items number) (ahead_at F.remaining self.new.blocks.items number) result into.new }
+        ensures bytes { ReadConsumes (ahead_at F.remaining self.old.blocks.items number)
+            (ahead_at F.remaining self.new.blocks.items number) result into.new }
         ensures others { ChangesBlock self.old.blocks.items self.new.blocks.items number }
     {
         if number as usize >= self.blocks.as_slice().len() {
@@ -70,7 +72,8 @@ impl<F: Read + Write + OpenFile + Drop> BlockTable<F> {
     /// Writes what is left of the file of this number, has all of it put on the disk, and hands the file out. It does not
     /// where a write failed before.
     pub fn finish(&mut self, number: u32) -> Result<F, Failed>
-        ensures whole { IfOk result (λ file. Keeps (bytes_given_at F.contents self.old.blocks.items number) (F.contents file)) }
+        ensures whole { IfOk result (λ file. Keeps (bytes_given_at F.contents
+            self.old.blocks.items number) (F.contents file)) }
         ensures broken { IsTrue (is_broken_at self.old.blocks.items number) → IsErr result }
         ensures others { ChangesBlock self.old.blocks.items self.new.blocks.items number }
     {

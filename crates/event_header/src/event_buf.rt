@@ -74,7 +74,8 @@ impl EventBuf {
         requires { header.now.data_size ≡ length body.now }
         ensures small { IsErr result ↔ (self.old.room < length body.now) }
         ensures room { IfErr result (λ small. small.room ≡ self.old.room) }
-        ensures ok { OnOk result (self.new ≡ record self.old { event = event_of header.now body.now }) }
+        ensures ok { OnOk result (self.new ≡ record self.old
+            { event = event_of header.now body.now }) }
         ensures err { OnErr result (self.new ≡ self.old) }
     {
         if body.len() > self.room as usize {
@@ -92,7 +93,8 @@ impl EventBuf {
     /// Takes this header, and data of the right length that are still to be written.
     fn prepare(&mut self, header: Header)
         requires { header.data_size ≤ self.old.room }
-        ensures { (body : List ℕ) × (length body ≡ header.data_size) × (self.new ≡ record self.old { event = event_of header body }) }
+        ensures { (body : List ℕ) × (length body ≡ header.data_size)
+            × (self.new ≡ record self.old { event = event_of header body }) }
     {
         self.header = header;
         write_head(&mut self.bytes, &header);
@@ -103,7 +105,8 @@ impl EventBuf {
     /// the source has no more.
     pub fn fill_from<S: Source>(&mut self, header: &Header, source: &mut S) -> Result<usize, Failed>
         requires { header.now.data_size ≤ self.old.room }
-        ensures gathers { IfOk result (GathersBody (S.left source.old) (S.left source.new) header.now self.new) }
+        ensures gathers { IfOk result (GathersBody (S.left source.old) (S.left source.new)
+            header.now self.new) }
         ensures room { self.new.room ≡ self.old.room }
         ensures faults { CountsFault (S.faults source.old) (S.faults source.new) result }
         ensures origin { S.origin source.new ≡ S.origin source.old }
@@ -117,7 +120,10 @@ impl EventBuf {
     pub fn fill_with<S, W: DataWriter<S>>(&mut self, header: &Header, writer: &W, state: &mut S)
         requires room { header.now.data_size ≤ self.old.room }
         requires whole { length (W.gives writer.now) ≡ header.now.data_size }
-        ensures event { self.new ≡ record self.old { event = event_of header.now (W.gives writer.now) } }
+        ensures event { self.new ≡ record self.old {
+          event = event_of header.now
+              (W.gives writer.now);
+        } }
         ensures led { W.leads state.old state.new }
     {
         let given = *header;

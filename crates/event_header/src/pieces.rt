@@ -7,7 +7,8 @@ use daq_io::{Failed, Source};
 /// Reads until `into` is full or the source has no more, and answers how many bytes. The source may give them in any
 /// pieces.
 pub fn read_full<S: Source>(source: &mut S, into: &mut [u8]) -> Result<usize, Failed>
-    ensures gathers { IfOk result (λ count. Gathers (S.left source.old) (S.left source.new) into.new count) }
+    ensures gathers { IfOk result (λ count. Gathers (S.left source.old) (S.left source.new)
+        into.new count) }
     ensures length { length into.new ≡ length into.old }
     ensures faults { CountsFault (S.faults source.old) (S.faults source.new) result }
     ensures origin { S.origin source.new ≡ S.origin source.old }

@@ -39,7 +39,8 @@ impl Model for BankTable {
 /// Where the row with this number stands, or where it would.
 fn find_row(rows: &[BankRow], number: u64) -> Result<usize, usize>
     requires { IsRising row_number rows.now }
-    ensures { MatchResult result (IsRowAt row_number number rows.now) (FitsAt row_number number rows.now) }
+    ensures { MatchResult result (IsRowAt row_number number rows.now)
+        (FitsAt row_number number rows.now) }
 {
     rows.binary_search_by_key(&number, |row| order_number(row.name, row.kind))
 }
@@ -53,7 +54,8 @@ fn count_row(rows: &mut Vec<BankRow>, bank: BankRow) -> bool
     ensures taken { result ≡ takes row_number (row_number bank) rows.old.items }
     ensures rows { rows.new.items ≡ bank_rows_after bank rows.old.items }
     ensures table { IsTable row_number rows.new }
-    ensures within { (m : ℕ) → All (λ r. FiguresWithin m r.figures) rows.old.items → All (λ r. FiguresWithin (m + bank.figures.count) r.figures) rows.new.items }
+    ensures within { (m : ℕ) → All (λ r. FiguresWithin m r.figures) rows.old.items
+        → All (λ r. FiguresWithin (m + bank.figures.count) r.figures) rows.new.items }
 {
     match find_row(rows, order_number(bank.name, bank.kind)) {
         Ok(at) => {
@@ -73,7 +75,8 @@ fn insert_row(rows: &mut Vec<BankRow>, at: usize, bank: BankRow) -> bool
     ensures taken { result ≡ takes row_number (row_number bank) rows.old.items }
     ensures rows { rows.new.items ≡ bank_rows_after bank rows.old.items }
     ensures table { IsTable row_number rows.new }
-    ensures within { (m : ℕ) → All (λ r. FiguresWithin m r.figures) rows.old.items → All (λ r. FiguresWithin (m + bank.figures.count) r.figures) rows.new.items }
+    ensures within { (m : ℕ) → All (λ r. FiguresWithin m r.figures) rows.old.items
+        → All (λ r. FiguresWithin (m + bank.figures.count) r.figures) rows.new.items }
 {
     if rows.len() >= ROW_LIMIT {
         return false;
@@ -95,8 +98,11 @@ impl BankTable {
     fn count(&mut self, bank: &Bank)
         requires long { length bank.now.body.now < 2 ^ 62 }
         requires within { BanksWithin (2 ^ 62 - (1 + length bank.now.body.now)) self.old }
-        ensures counted { self.new ≡ banks_after self.old (filter_map integer_bank (bank_value bank.now.name bank.now.tid bank.now.body.now ∷ [])) }
-        ensures within { (m : ℕ) → BanksWithin m self.old → BanksWithin (m + (1 + length bank.now.body.now)) self.new }
+        ensures counted { self.new ≡ banks_after self.old
+            (filter_map integer_bank (bank_value bank.now.name bank.now.tid bank.now.body.now
+            ∷ [])) }
+        ensures within { (m : ℕ) → BanksWithin m self.old
+            → BanksWithin (m + (1 + length bank.now.body.now)) self.new }
     {
         let Some(kind) = IntegerType::from_code(bank.tid) else {
             return;
@@ -118,8 +124,10 @@ impl BankTable {
     pub fn count_all(&mut self, mut banks: Banks)
         requires long { weight banks.left ≤ 2 ^ 62 }
         requires within { BanksWithin (2 ^ 62 - weight banks.left) self.old }
-        ensures counted { self.new ≡ banks_after self.old (filter_map integer_bank banks.entry.left) }
-        ensures within { (m : ℕ) → BanksWithin m self.old → BanksWithin (m + weight banks.entry.left) self.new }
+        ensures counted { self.new ≡ banks_after self.old
+            (filter_map integer_bank banks.entry.left) }
+        ensures within { (m : ℕ) → BanksWithin m self.old
+            → BanksWithin (m + weight banks.entry.left) self.new }
     {
         while let Some(bank) = banks.next() {
             self.count(&bank);

@@ -45,7 +45,8 @@ fn count_id(rows: &mut Vec<IdRow>, id: u16) -> bool
     ensures taken { result ≡ takes id_of id rows.old.items }
     ensures rows { rows.new.items ≡ id_rows_after id rows.old.items }
     ensures table { IsTable id_of rows.new }
-    ensures within { (m : ℕ) → All (λ r. r.count ≤ m) rows.old.items → All (λ r. r.count ≤ m + 1) rows.new.items }
+    ensures within { (m : ℕ) → All (λ r. r.count ≤ m) rows.old.items
+        → All (λ r. r.count ≤ m + 1) rows.new.items }
 {
     match find_id(rows, id) {
         Ok(at) => {
@@ -63,7 +64,8 @@ fn insert_id(rows: &mut Vec<IdRow>, at: usize, id: u16) -> bool
     ensures taken { result ≡ takes id_of id rows.old.items }
     ensures rows { rows.new.items ≡ id_rows_after id rows.old.items }
     ensures table { IsTable id_of rows.new }
-    ensures within { (m : ℕ) → All (λ r. r.count ≤ m) rows.old.items → All (λ r. r.count ≤ m + 1) rows.new.items }
+    ensures within { (m : ℕ) → All (λ r. r.count ≤ m) rows.old.items
+        → All (λ r. r.count ≤ m + 1) rows.new.items }
 {
     if rows.len() >= ROW_LIMIT {
         return false;

@@ -15,9 +15,12 @@ ghost use Rattle.event_report.specs.Reports.{report_of};
 /// The banks that are read of an event's data are those of the bank area that the data are; where they are none, no
 /// banks are read.
 pub fn banks_of_an_event()
-    ensures read { (bs : List BankValue) → (bytes : List ℕ) → HoldsBanks bs bytes → banks_of bytes ≡ Some bs }
-    ensures stand { (bs : List BankValue) → (bytes : List ℕ) → IsBytes bytes → banks_of bytes ≡ Some bs → HoldsBanks bs bytes }
-    ensures none { (bytes : List ℕ) → IsBytes bytes → ((bs : List BankValue) → ¬ HoldsBanks bs bytes) → banks_of bytes ≡ None }
+    ensures read { (bs : List BankValue) → (bytes : List ℕ) → HoldsBanks bs bytes → banks_of bytes
+        ≡ Some bs }
+    ensures stand { (bs : List BankValue) → (bytes : List ℕ) → IsBytes bytes → banks_of bytes
+        ≡ Some bs → HoldsBanks bs bytes }
+    ensures none { (bytes : List ℕ) → IsBytes bytes
+        → ((bs : List BankValue) → ¬ HoldsBanks bs bytes) → banks_of bytes ≡ None }
 {}
 
 /// Two names of four bytes with types have the same order number only where they are the same.

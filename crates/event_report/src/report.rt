@@ -56,7 +56,8 @@ impl Report {
     pub fn fold(&mut self, header: &Header, body: &[u8])
         requires { self.old.bytes + 16 + length body.now ≤ 2 ^ 62 }
         // Whatever events it is the report of, it becomes the report of these and this one.
-        ensures report { (events : List Event) → self.old ≡ report_of events → self.new ≡ report_of (events ++ event_of header.now body.now ∷ []) }
+        ensures report { (events : List Event) → self.old ≡ report_of events → self.new
+            ≡ report_of (events ++ event_of header.now body.now ∷ []) }
         ensures bytes { self.new.bytes ≡ self.old.bytes + 16 + length body.now }
     {
         self.bytes += HEADER_BYTES as u64 + body.len() as u64;

@@ -86,7 +86,8 @@ fn append_bank(row: &BankRow, start: &[u8], text: &mut TextBuffer) -> Result<(),
 
 /// Appends the lines of ids.
 pub fn append_ids(rows: &[IdRow], start: &[u8], text: &mut TextBuffer) -> Result<(), NoMemory>
-    ensures added { OnOk result (text.new ≡ text.old ++ flat_map (λ r. line start.now (id_text r)) rows.now) }
+    ensures added { OnOk result (text.new ≡ text.old ++ flat_map (λ r. line start.now (id_text r))
+        rows.now) }
     ensures begins { OnErr result (HasInFront text.old text.new) }
 {
     for row in rows {
@@ -97,7 +98,8 @@ pub fn append_ids(rows: &[IdRow], start: &[u8], text: &mut TextBuffer) -> Result
 
 /// Appends the lines of names and types of banks.
 pub fn append_banks(rows: &[BankRow], start: &[u8], text: &mut TextBuffer) -> Result<(), NoMemory>
-    ensures added { OnOk result (text.new ≡ text.old ++ flat_map (λ r. line start.now (bank_text r)) rows.now) }
+    ensures added { OnOk result (text.new ≡ text.old ++ flat_map
+        (λ r. line start.now (bank_text r)) rows.now) }
     ensures begins { OnErr result (HasInFront text.old text.new) }
 {
     for row in rows {

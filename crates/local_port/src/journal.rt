@@ -78,7 +78,8 @@ impl BufferJournal {
         requires room { 1 ≤ self.old.room }
         requires bytes { length body.now ≤ self.old.bytes }
         requires apart { IsApart entry body.now }
-        ensures entries { self.new.entries ≡ self.old.entries ++ (caller, entry_with body.now entry) ∷ [] }
+        ensures entries { self.new.entries ≡ self.old.entries
+            ++ (caller, entry_with body.now entry) ∷ [] }
         ensures room { self.old.room ≤ self.new.room + 1 }
         ensures bytes { self.old.bytes ≤ self.new.bytes + length body.now }
     {
@@ -101,7 +102,8 @@ impl BufferJournal {
     /// The entry of this number, counted from 0.
     pub fn get(&self, number: usize) -> NotedCall<'_>
         requires { number < length self.now.entries }
-        ensures is { IsEntryAt self.now.entries number result.caller result.entry.now result.body.now }
+        ensures is { IsEntryAt self.now.entries number result.caller result.entry.now
+            result.body.now }
         ensures apart { IsApart result.entry.now result.body.now }
     {
         let line = &self.lines[number];

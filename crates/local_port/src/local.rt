@@ -167,7 +167,8 @@ impl<B: EventBuffer> LocalPort<B> {
     pub fn send(&mut self, header: &Header, body: &[u8]) -> Result<u64, SendRefusal>
         requires room { 1 ≤ self.old.entries }
         requires bytes { length body.now ≤ self.old.bytes }
-        ensures did { AppendsCall self.old self.new (Send header.now.data_size (event_of header.now body.now) result) }
+        ensures did { AppendsCall self.old self.new (Send header.now.data_size
+            (event_of header.now body.now) result) }
     {
         let reply = self.buffer.send(header, body);
         let entry = BufferEntry::Send {
@@ -188,7 +189,8 @@ impl<B: EventBuffer> LocalPort<B> {
     ) -> Result<u64, SendRefusal>
         requires room { 1 ≤ self.old.entries }
         requires bytes { length body.now ≤ self.old.bytes }
-        ensures did { AppendsCall self.old self.new (SendInRun start header.now.data_size (event_of header.now body.now) result) }
+        ensures did { AppendsCall self.old self.new (SendInRun start header.now.data_size
+            (event_of header.now body.now) result) }
     {
         let reply = self.buffer.send_in_run(start, header, body);
         let entry = BufferEntry::SendInRun {

@@ -91,7 +91,8 @@ fn increment_in_two_threads<R: Threads + Wait + Sync>(
     requires idle { (held_by first ≡ None) × (held_by second ≡ None) }
     ensures own { IsOf lock.now result.0 × IsOf lock.now result.1 }
     ensures idle { (held_by result.0 ≡ None) × (held_by result.1 ≡ None) }
-    ensures number { (number_of result.0 ≡ number_of first) × (number_of result.1 ≡ number_of second) }
+    ensures number { (number_of result.0 ≡ number_of first)
+        × (number_of result.1 ≡ number_of second) }
 {
     join(
         rt,

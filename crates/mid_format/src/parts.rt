@@ -14,7 +14,8 @@ const BLOCK_BYTES: u32 = 4096;
 pub fn read_head<S: Source>(source: &mut S, run: Option<u32>, at: u64) -> Result<Header, MidFault>
     requires { at ≤ 2 ^ 62 }
     ensures head { IfOk result (ReadsHead (S.left source.old) (S.left source.new) run at) }
-    ensures fault { IfErr result (λ fault. OfBytes fault (IfSome (S.left source.old) (λ rest. fault_at run at rest ≡ Some fault))) }
+    ensures fault { IfErr result (λ fault. OfBytes fault
+        (IfSome (S.left source.old) (λ rest. fault_at run at rest ≡ Some fault))) }
     ensures counted { CountsReads (S.faults source.old) (S.faults source.new) result }
     ensures origin { S.origin source.new ≡ S.origin source.old }
 {
@@ -85,7 +86,8 @@ pub fn read_data<S: Source>(
 ) -> Result<(), MidFault>
     requires place { place + header.now.data_size ≤ 2 ^ 62 }
     requires room { header.now.data_size ≤ into.old.room }
-    ensures read { OnOk result (ReadsBody (S.left source.old) (S.left source.new) header.now into.new) }
+    ensures read { OnOk result (ReadsBody (S.left source.old) (S.left source.new) header.now
+        into.new) }
     ensures cut { IfErr result (IsCut (S.left source.old) place header.now.data_size) }
     ensures room { into.new.room ≡ into.old.room }
     ensures counted { CountsReads (S.faults source.old) (S.faults source.new) result }

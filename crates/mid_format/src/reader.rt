@@ -94,20 +94,25 @@ impl<S: Source> MidReader<S> {
     pub fn next(&mut self, into: &mut EventBuf) -> Result<Option<()>, MidFault>
         requires { 4194304 ≤ into.old.room }
         // What was read is the bytes of the records and of the events that were given, and the fault is theirs.
-        ensures reads { ReadsOn (S.left self.old.source) (S.left self.new.source) self.old.progress self.new.progress result into.new.event }
+        ensures reads { ReadsOn (S.left self.old.source) (S.left self.new.source)
+            self.old.progress self.new.progress result into.new.event }
         ensures fault { self.new.progress.fault ≡ fault_of result }
         ensures end { IfOk result (λ given. IsNone given ↔ IsSome self.new.progress.last) }
         // The begin record is read once.
-        ensures begun { IsSome self.old.progress.begin → self.new.progress.begin ≡ self.old.progress.begin }
+        ensures begun { IsSome self.old.progress.begin → self.new.progress.begin
+            ≡ self.old.progress.begin }
         // A fault, and the end, are answered again, and the source is left alone.
         ensures again { IfSome self.old.progress.fault (λ fault. result ≡ Err fault) }
-        ensures still { self.old.progress.fault ≡ None → IsSome self.old.progress.last → result ≡ Ok None }
+        ensures still { self.old.progress.fault ≡ None → IsSome self.old.progress.last → result
+            ≡ Ok None }
         ensures alone { IsSome self.old.progress.fault → self.new ≡ self.old }
         ensures alone_at_end { IsSome self.old.progress.last → self.new ≡ self.old }
         // Each event has some bytes, and what was read ends in front of byte 2^62: so a loop over the events ends.
-        ensures onward { IfOk result (λ given. IsSome given → self.old.progress.at < self.new.progress.at) }
+        ensures onward { IfOk result (λ given. IsSome given → self.old.progress.at
+            < self.new.progress.at) }
         ensures limit { self.new.progress.at ≤ 2 ^ 62 }
-        ensures counted { CountsNext self.old.progress.fault (S.faults self.old.source) (S.faults self.new.source) result }
+        ensures counted { CountsNext self.old.progress.fault (S.faults self.old.source)
+            (S.faults self.new.source) result }
         // `into` stays at the end, and where a fault is answered again.
         ensures into_at_end { IfOk result (λ given. IsNone given → into.new ≡ into.old) }
         ensures into_again { IsSome self.old.progress.fault → into.new ≡ into.old }

@@ -16,7 +16,13 @@ pub const MAX_DUMP: u32 = 268_435_456;
 
 /// The header of the record that begins the file of this run, in front of a dump of the database of so many bytes.
 pub fn begin_record(run: u32, time: u32, dump_len: u32) -> Header
-    ensures { result ≡ record { event_id = 32768; trigger_mask = 18765; serial_number = run; time_stamp = time; data_size = dump_len } }
+    ensures { result ≡ record {
+      event_id = 32768;
+      trigger_mask = 18765;
+      serial_number = run;
+      time_stamp = time;
+      data_size = dump_len;
+    } }
 {
     Header {
         event_id: BEGIN_ID,
@@ -29,7 +35,13 @@ pub fn begin_record(run: u32, time: u32, dump_len: u32) -> Header
 
 /// The header of the record that ends the file of this run.
 pub fn end_record(run: u32, time: u32, dump_len: u32) -> Header
-    ensures { result ≡ record { event_id = 32769; trigger_mask = 18765; serial_number = run; time_stamp = time; data_size = dump_len } }
+    ensures { result ≡ record {
+      event_id = 32769;
+      trigger_mask = 18765;
+      serial_number = run;
+      time_stamp = time;
+      data_size = dump_len;
+    } }
 {
     Header {
         event_id: END_ID,

@@ -13,7 +13,8 @@ use event_header::{EventBuf, HEADER_BYTES, Header};
 /// Reads the begin record where it was not read yet, and answers its header.
 fn begin<S: Source>(source: &mut S, progress: &mut Progress) -> Result<Header, MidFault>
     requires { progress.old.at ≤ 2 ^ 62 }
-    ensures begins { IfOk result (BeginsReading (S.left source.old) (S.left source.new) progress.old progress.new) }
+    ensures begins { IfOk result (BeginsReading (S.left source.old) (S.left source.new)
+        progress.old progress.new) }
     ensures stops { IfErr result (BeginStops (S.left source.old) progress.old progress.new) }
     ensures counted { CountsReads (S.faults source.old) (S.faults source.new) result }
     ensures origin { S.origin source.new ≡ S.origin source.old }
@@ -36,8 +37,10 @@ fn finish<S: Source>(
     header: Header,
 ) -> Result<(), MidFault>
     requires { progress.old.at + 16 + header.data_size ≤ 2 ^ 62 }
-    ensures finishes { OnOk result (FinishesReading (S.left source.old) (S.left source.new) progress.old progress.new header) }
-    ensures stops { IfErr result (FinishStops (S.left source.old) progress.old progress.new header) }
+    ensures finishes { OnOk result (FinishesReading (S.left source.old) (S.left source.new)
+        progress.old progress.new header) }
+    ensures stops { IfErr result (FinishStops (S.left source.old) progress.old progress.new
+        header) }
     ensures counted { CountsReads (S.faults source.old) (S.faults source.new) result }
     ensures origin { S.origin source.new ≡ S.origin source.old }
 {
@@ -57,8 +60,10 @@ pub fn step<S: Source>(
     requires room { 4194304 ≤ into.old.room }
     requires place { progress.old.at ≤ 2 ^ 62 }
     requires going { IsGoing progress.old }
-    ensures reads { IfOk result (λ given. StepReads (S.left source.old) (S.left source.new) progress.old progress.new given into.new.event) }
-    ensures stops { IfErr result (Stops (S.left source.old) (S.left source.new) progress.old progress.new) }
+    ensures reads { IfOk result (λ given. StepReads (S.left source.old) (S.left source.new)
+        progress.old progress.new given into.new.event) }
+    ensures stops { IfErr result (Stops (S.left source.old) (S.left source.new) progress.old
+        progress.new) }
     ensures place { progress.new.at ≤ 2 ^ 62 }
     ensures onward { IfOk result (λ given. IsSome given → progress.old.at < progress.new.at) }
     ensures begun { IsSome progress.old.begin → progress.new.begin ≡ progress.old.begin }

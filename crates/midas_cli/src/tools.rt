@@ -37,10 +37,12 @@ fn call_tool<F: Files, K: Sink>(
     name: &FileName,
     out: &mut K,
 ) -> (ToolEnd, F)
-    ensures writes { ToolWrites tool (F.seen files) name.now (K.written out.old) (K.written out.new) result.0 }
+    ensures writes { ToolWrites tool (F.seen files) name.now (K.written out.old)
+        (K.written out.new) result.0 }
     ensures sink { SinkByEnd result.0 (K.faults out.old) (K.faults out.new) }
     ensures faults { FilesByEnd result.0 (F.faults files) (F.faults result.1) }
-    ensures complete { Completes (F.seen files) name.now (K.faults out.old) (K.faults out.new) (F.faults files) (F.faults result.1) result.0 }
+    ensures complete { Completes (F.seen files) name.now (K.faults out.old) (K.faults out.new)
+        (F.faults files) (F.faults result.1) result.0 }
     ensures clashes { ClashCounts result.0 (F.clashes files) (F.clashes result.1) }
     ensures same { Same (F.seen files) (F.seen result.1) }
 {
@@ -58,7 +60,18 @@ pub fn run_tool<S, K: Sink, F: Files, E, C, P>(
     outside: Outside<S, K, F, E, C, P>,
 ) -> (Outcome, Outside<S, K, F, E, C, P>)
     ensures status { result.0.status ≡ status_of result.0.cause }
-    ensures ran { ToolRan call.tool (F.seen outside.run_files) call.name (K.written outside.out) (K.written result.1.out) (record { sink_old = K.faults outside.out; sink_new = K.faults result.1.out; files_old = F.faults outside.run_files; files_new = F.faults result.1.run_files; clashes_old = F.clashes outside.run_files; clashes_new = F.clashes result.1.run_files }) (F.first result.1.run_files) result.0.cause }
+    ensures ran { ToolRan call.tool (F.seen outside.run_files) call.name (K.written outside.out)
+        (K.written result.1.out) (record {
+          sink_old = K.faults outside.out;
+          sink_new = K.faults
+              result.1.out;
+          files_old = F.faults outside.run_files;
+          files_new = F.faults
+              result.1.run_files;
+          clashes_old = F.clashes outside.run_files;
+          clashes_new = F.clashes
+              result.1.run_files;
+        }) (F.first result.1.run_files) result.0.cause }
     ensures same { Same (F.seen outside.run_files) (F.seen result.1.run_files) }
     ensures session { result.0.session ≡ None }
     ensures source { result.1.src ≡ outside.src }

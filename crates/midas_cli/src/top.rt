@@ -27,7 +27,8 @@ use std::thread::Threads;
 
 /// Writes the line that tells which forms the words may have.
 fn write_usage<K: Sink>(out: &mut K)
-    ensures line { ¬ Rose (K.faults out.old) (K.faults out.new) → Appends (K.written out.old) (K.written out.new) usage_line }
+    ensures line { ¬ Rose (K.faults out.old) (K.faults out.new)
+        → Appends (K.written out.old) (K.written out.new) usage_line }
     ensures part { AppendsPart (K.written out.old) (K.written out.new) usage_line }
 {
     let _ = write_all(out, USAGE.as_bytes());
@@ -40,7 +41,8 @@ fn refuse_words<S, K: Sink, F, E, C, P>(
     ensures status { result.0.status ≡ 2 }
     ensures cause { result.0.cause ≡ Cause.Usage }
     ensures session { result.0.session ≡ None }
-    ensures line { ¬ Rose (K.faults outside.out) (K.faults result.1.out) → Appends (K.written outside.out) (K.written result.1.out) usage_line }
+    ensures line { ¬ Rose (K.faults outside.out) (K.faults result.1.out)
+        → Appends (K.written outside.out) (K.written result.1.out) usage_line }
     ensures part { AppendsPart (K.written outside.out) (K.written result.1.out) usage_line }
     ensures source { result.1.src ≡ outside.src }
     ensures files { result.1.run_files ≡ outside.run_files }
@@ -77,25 +79,64 @@ pub fn midas<
     ensures status { result.0.status ≡ status_of result.0.cause }
     // The words are refused exactly where they have no form. Then only the usage line is written.
     ensures usage { (result.0.cause ≡ Cause.Usage) ↔ ¬ HasForm words.now }
-    ensures usage_line { ¬ HasForm words.now → ¬ Rose (K.faults outside.out) (K.faults result.1.out) → Appends (K.written outside.out) (K.written result.1.out) usage_line }
-    ensures usage_part { ¬ HasForm words.now → AppendsPart (K.written outside.out) (K.written result.1.out) usage_line }
+    ensures usage_line { ¬ HasForm words.now → ¬ Rose (K.faults outside.out)
+        (K.faults result.1.out) → Appends (K.written outside.out) (K.written result.1.out)
+        usage_line }
+    ensures usage_part { ¬ HasForm words.now → AppendsPart (K.written outside.out)
+        (K.written result.1.out) usage_line }
     ensures usage_session { ¬ HasForm words.now → result.0.session ≡ None }
     ensures usage_source { ¬ HasForm words.now → result.1.src ≡ outside.src }
     // The words of a tool: what it found and wrote, and why it ended. Every name and byte of the run files stays, and the
     // script is not read.
-    ensures tool { (tool : Tool) → (name : List ℕ) → IsOnFile tool name words.now → ToolRan tool (F.seen outside.run_files) name (K.written outside.out) (K.written result.1.out) (record { sink_old = K.faults outside.out; sink_new = K.faults result.1.out; files_old = F.faults outside.run_files; files_new = F.faults result.1.run_files; clashes_old = F.clashes outside.run_files; clashes_new = F.clashes result.1.run_files }) (F.first result.1.run_files) result.0.cause }
-    ensures tool_files { ¬ IsRunWord words.now → Same (F.seen outside.run_files) (F.seen result.1.run_files) }
+    ensures tool { (tool : Tool) → (name : List ℕ) → IsOnFile tool name words.now
+        → ToolRan tool (F.seen outside.run_files) name (K.written outside.out)
+        (K.written result.1.out) (record {
+          sink_old = K.faults outside.out;
+          sink_new = K.faults
+              result.1.out;
+          files_old = F.faults outside.run_files;
+          files_new = F.faults
+              result.1.run_files;
+          clashes_old = F.clashes outside.run_files;
+          clashes_new = F.clashes
+              result.1.run_files;
+        }) (F.first result.1.run_files) result.0.cause }
+    ensures tool_files { ¬ IsRunWord words.now → Same (F.seen outside.run_files)
+        (F.seen result.1.run_files) }
     ensures tool_source { ¬ IsRunWord words.now → result.1.src ≡ outside.src }
     ensures tool_session { ¬ IsRunWord words.now → result.0.session ≡ None }
     ensures tool_clock { ¬ IsRunWord words.now → result.1.clock ≡ outside.clock }
     ensures usage_files { ¬ HasForm words.now → result.1.run_files ≡ outside.run_files }
     ensures usage_clock { ¬ HasForm words.now → result.1.clock ≡ outside.clock }
     // What the session made of the script: its records, the run files, the text and the cause.
-    ensures session { IsRunWord words.now → ¬ Rose (F.faults outside.run_files) (F.faults result.1.run_files) → IsSession (record { files = F.seen outside.run_files; clashes = F.clashes outside.run_files; clock_tells = C.tells outside.clock; ahead = C.ahead outside.clock }) (record { files = F.seen result.1.run_files; clashes = F.clashes result.1.run_files; clock_tells = C.tells result.1.clock; ahead = C.ahead result.1.clock }) (S.left outside.src) (S.left result.1.src) (K.written outside.out) (K.written result.1.out) (record { old = K.faults outside.out; new = K.faults result.1.out }) result.0.cause result.0.session }
+    ensures session { IsRunWord words.now → ¬ Rose (F.faults outside.run_files)
+        (F.faults result.1.run_files) → IsSession
+        (record {
+          files = F.seen outside.run_files;
+          clashes = F.clashes outside.run_files;
+          clock_tells = C.tells outside.clock;
+          ahead = C.ahead outside.clock;
+        })
+        (record {
+          files = F.seen result.1.run_files;
+          clashes = F.clashes result.1.run_files;
+          clock_tells = C.tells result.1.clock;
+          ahead = C.ahead result.1.clock;
+        })
+        (S.left outside.src) (S.left result.1.src) (K.written outside.out)
+        (K.written result.1.out) (record {
+          old = K.faults outside.out;
+          new = K.faults result.1.out;
+        }) result.0.cause result.0.session }
     // There is no record where a call on the run files failed.
-    ensures broken { F.faults result.1.run_files ≢ F.faults outside.run_files → result.0.session ≡ None }
+    ensures broken { F.faults result.1.run_files ≢ F.faults outside.run_files → result.0.session
+        ≡ None }
     // A fault is the cause exactly where its count rose and no earlier cause holds.
-    ensures faults { IsRunWord words.now → FaultsBy result.0.cause (record { old = S.faults outside.src; new = S.faults result.1.src }) (record { old = K.faults outside.out; new = K.faults result.1.out }) (record { old = F.faults outside.run_files; new = F.faults result.1.run_files }) (F.first result.1.run_files) }
+    ensures faults { IsRunWord words.now → FaultsBy result.0.cause
+        (record { old = S.faults outside.src; new = S.faults result.1.src })
+        (record { old = K.faults outside.out; new = K.faults result.1.out })
+        (record { old = F.faults outside.run_files; new = F.faults result.1.run_files })
+        (F.first result.1.run_files) }
     // The calls on the online database are those of one database that opened with the run's parameters: each reply is the
     // one that it gave there, and the main thread alone made, removed or resized a row.
     ensures database { IfSome result.0.session (λ s. IsLegal session_rows s.database) }
@@ -105,8 +146,12 @@ pub fn midas<
     ensures one_history { IfSome result.0.session (λ s. All IsOneHistory s.buffers) }
     // Each file of a run holds the events between the run's marks in that history, of which the channel's client got just
     // those that it asked for; and these are the events that the front-end sent in that run.
-    ensures run_files { ¬ Rose (F.faults outside.run_files) (F.faults result.1.run_files) → IsTrue (F.seen outside.run_files).tells → IfSome result.0.session (λ s. All (HoldSegments s.buffers (F.seen result.1.run_files).at) s.runs) }
-    ensures front_end_sends { IfSome result.0.session (λ s. All (AreSentByFronts s.buffers) s.runs) }
+    ensures run_files { ¬ Rose (F.faults outside.run_files) (F.faults result.1.run_files)
+        → IsTrue (F.seen outside.run_files).tells
+        → IfSome result.0.session (λ s. All (HoldSegments s.buffers
+        (F.seen result.1.run_files).at) s.runs) }
+    ensures front_end_sends { IfSome result.0.session (λ s. All (AreSentByFronts s.buffers)
+        s.runs) }
     // The front-end's calls on the database: it sets the number of its events sent to 0 as each run begins, and to the
     // number that it sent as the run ends, and nothing else; all other calls are the main thread's.
     ensures front_end_sets { IfSome result.0.session (λ s. IsFrontsPass s.database s.runs) }

@@ -54,7 +54,8 @@ fn is_flag(word: &[u8]) -> bool
 
 /// The file that a word names; none where the word is no name of a file, or a flag.
 fn file_word(word: &str) -> Option<FileName>
-    ensures { MatchOption result (¬ IsFileWord word.now) (λ name. (name ≡ word.now) × IsFileWord word.now) }
+    ensures { MatchOption result (¬ IsFileWord word.now)
+        (λ name. (name ≡ word.now) × IsFileWord word.now) }
 {
     if is_flag(word.as_bytes()) {
         return None;

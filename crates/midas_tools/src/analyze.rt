@@ -43,12 +43,14 @@ pub fn analyze_file<F: Files, K: Sink>(
     out: &mut K,
 ) -> (ToolEnd, F)
     // What was found, and what was written of it.
-    ensures writes { Writes Analyzes (F.seen files) name.now (K.written out.old) (K.written out.new) result.0 }
+    ensures writes { Writes Analyzes (F.seen files) name.now (K.written out.old)
+        (K.written out.new) result.0 }
     // A fault is the end exactly where its count rose and no earlier cause holds.
     ensures sink { SinkByEnd result.0 (K.faults out.old) (K.faults out.new) }
     ensures faults { FilesByEnd result.0 (F.faults files) (F.faults result.1) }
     // A run file leads to the end `Done`, unless a call failed or there was no memory.
-    ensures complete { Completes (F.seen files) name.now (K.faults out.old) (K.faults out.new) (F.faults files) (F.faults result.1) result.0 }
+    ensures complete { Completes (F.seen files) name.now (K.faults out.old) (K.faults out.new)
+        (F.faults files) (F.faults result.1) result.0 }
     ensures clashes { ClashCounts result.0 (F.clashes files) (F.clashes result.1) }
     ensures same { Same (F.seen files) (F.seen result.1) }
 {

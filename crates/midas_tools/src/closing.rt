@@ -10,7 +10,8 @@ use mid_format::MidFault;
 
 /// Writes a text, and answers the end that it tells of, or that the sink failed.
 pub fn print<K: Sink>(end: ToolEnd, text: &[u8], out: &mut K) -> ToolEnd
-    ensures { Printed text.now (K.written out.old) (K.written out.new) (K.faults out.old) (K.faults out.new) end result }
+    ensures { Printed text.now (K.written out.old) (K.written out.new) (K.faults out.old)
+        (K.faults out.new) end result }
 {
     match write_all(out, text) {
         Ok(()) => end,
@@ -20,7 +21,8 @@ pub fn print<K: Sink>(end: ToolEnd, text: &[u8], out: &mut K) -> ToolEnd
 
 /// Writes why a file was not opened, unless a call on the files failed.
 pub fn refuse<K: Sink>(refused: Refused, out: &mut K) -> ToolEnd
-    ensures { SaysWhy refused (K.written out.old) (K.written out.new) (K.faults out.old) (K.faults out.new) result }
+    ensures { SaysWhy refused (K.written out.old) (K.written out.new) (K.faults out.old)
+        (K.faults out.new) result }
 {
     match refused {
         Refused::NameCompressed => {
@@ -57,7 +59,9 @@ pub fn finish<F: Files, K: Sink>(
     page: &TextBuffer,
     out: &mut K,
 ) -> (ToolEnd, F)
-    ensures finished { FinishesFile page.now (K.written out.old) (K.written out.new) (K.faults out.old) (K.faults out.new) (F.faults source.files) (F.faults result.1) end result.0 }
+    ensures finished { FinishesFile page.now (K.written out.old) (K.written out.new)
+        (K.faults out.old) (K.faults out.new) (F.faults source.files) (F.faults result.1) end
+        result.0 }
     ensures ended { Ends (F.seen source.first) (F.seen result.1) source.number }
 {
     let (closed, files) = close(source);

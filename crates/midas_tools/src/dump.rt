@@ -53,7 +53,8 @@ fn print_events<S: Source, K: Sink>(
     requires new { reader.old.progress ≡ nothing_read }
     requires room { 4194304 ≤ event.old.room }
     requires blank { page.old ≡ [] }
-    ensures lists { ListsTo (S.left reader.old.source) (S.left reader.new.source) reader.new.progress (K.written out.old) (K.written out.new) page.new result }
+    ensures lists { ListsTo (S.left reader.old.source) (S.left reader.new.source)
+        reader.new.progress (K.written out.old) (K.written out.new) page.new result }
     ensures source { SourceHalts result (S.faults reader.old.source) (S.faults reader.new.source) }
     ensures sink { SinkHalts result (K.faults out.old) (K.faults out.new) }
     ensures origin { S.origin reader.new.source ≡ S.origin reader.old.source }
@@ -82,7 +83,9 @@ fn end_dump<K: Sink>(
     page: &mut TextBuffer,
     out: &mut K,
 ) -> ToolEnd
-    ensures text { (first : Option (List ℕ)) → (text : List ℕ) → PrintsSoFar first (K.written out.old) page.old text → EndsText last fault (K.written out.old) first (K.written out.new) text result }
+    ensures text { (first : Option (List ℕ)) → (text : List ℕ)
+        → PrintsSoFar first (K.written out.old) page.old text
+        → EndsText last fault (K.written out.old) first (K.written out.new) text result }
     ensures sink { SinkByEnd result (K.faults out.old) (K.faults out.new) }
 {
     let Ok(()) = add_end(page, last) else {
@@ -100,7 +103,9 @@ fn end_dump<K: Sink>(
 /// PrintsSoFar what is on the page, and then the line of the end record, where it was read and there is memory for it. The
 /// source failed behind that.
 fn end_unread<K: Sink>(last: Option<Header>, page: &mut TextBuffer, out: &mut K) -> ToolEnd
-    ensures text { (first : Option (List ℕ)) → (text : List ℕ) → PrintsSoFar first (K.written out.old) page.old text → EndsUnread last first (K.written out.new) text result }
+    ensures text { (first : Option (List ℕ)) → (text : List ℕ)
+        → PrintsSoFar first (K.written out.old) page.old text
+        → EndsUnread last first (K.written out.new) text result }
     ensures sink { SinkByEnd result (K.faults out.old) (K.faults out.new) }
 {
     let Ok(()) = flush(page, out) else {
@@ -119,7 +124,8 @@ fn read_and_dump<S: Source, K: Sink>(
     out: &mut K,
 ) -> ToolEnd
     requires { reader.old.progress ≡ nothing_read }
-    ensures dumps { DumpsTo (S.left reader.old.source) (S.left reader.new.source) reader.new.progress (K.written out.old) (K.written out.new) result }
+    ensures dumps { DumpsTo (S.left reader.old.source) (S.left reader.new.source)
+        reader.new.progress (K.written out.old) (K.written out.new) result }
     ensures source { ReadCounts result (S.faults reader.old.source) (S.faults reader.new.source) }
     ensures sink { SinkByEnd result (K.faults out.old) (K.faults out.new) }
     ensures origin { S.origin reader.new.source ≡ S.origin reader.old.source }
@@ -149,12 +155,14 @@ pub fn dump_file<F: Files, K: Sink>(
     out: &mut K,
 ) -> (ToolEnd, F)
     // What was found, and what was written of it.
-    ensures writes { WritesOn (F.seen files) name.now (K.written out.old) (K.written out.new) result.0 }
+    ensures writes { WritesOn (F.seen files) name.now (K.written out.old) (K.written out.new)
+        result.0 }
     // A fault is the end exactly where its count rose and no earlier cause holds.
     ensures sink { SinkByEnd result.0 (K.faults out.old) (K.faults out.new) }
     ensures faults { FilesByEnd result.0 (F.faults files) (F.faults result.1) }
     // A run file leads to the end `Done`, unless a call failed or there was no memory.
-    ensures complete { Completes (F.seen files) name.now (K.faults out.old) (K.faults out.new) (F.faults files) (F.faults result.1) result.0 }
+    ensures complete { Completes (F.seen files) name.now (K.faults out.old) (K.faults out.new)
+        (F.faults files) (F.faults result.1) result.0 }
     ensures clashes { ClashCounts result.0 (F.clashes files) (F.clashes result.1) }
     ensures same { Same (F.seen files) (F.seen result.1) }
 {

@@ -121,7 +121,8 @@ fn add_type(page: &mut TextBuffer, code: u32) -> Result<(), NoMemory>
 
 /// Adds the line of a bank.
 pub fn add_bank(page: &mut TextBuffer, bank: &Bank) -> Result<(), NoMemory>
-    ensures { OnOk result (page.new ≡ page.old ++ bank_line (bank_value bank.now.name bank.now.tid bank.now.body.now)) }
+    ensures { OnOk result (page.new ≡ page.old ++ bank_line
+        (bank_value bank.now.name bank.now.tid bank.now.body.now)) }
 {
     page.text(b"  bank ")?;
     add_name(page, bank.name)?;

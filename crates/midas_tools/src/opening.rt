@@ -19,10 +19,12 @@ pub enum Refused {
 
 /// Opens the file of this name. Hands the files back where it does not.
 pub fn open<F: Files>(mut files: F, name: &FileName) -> Result<FileSource<F>, (Refused, F)>
-    ensures opened { IfOk result (λ source. IsFileOpened (F.seen files) (F.seen source.files) name.now source.number) }
+    ensures opened { IfOk result (λ source. IsFileOpened (F.seen files) (F.seen source.files)
+        name.now source.number) }
     ensures first { IfOk result (λ source. source.first ≡ source.files) }
     ensures faults { IfOk result (λ source. F.faults source.files ≡ F.faults files) }
-    ensures refused { IfErr result (λ r. RefusesFile (F.seen files) name.now (F.faults files) (F.faults r.1) (F.clashes files) (F.clashes r.1) r.0) }
+    ensures refused { IfErr result (λ r. RefusesFile (F.seen files) name.now (F.faults files)
+        (F.faults r.1) (F.clashes files) (F.clashes r.1) r.0) }
     ensures same { IfErr result (λ r. Same (F.seen files) (F.seen r.1)) }
 {
     if name.compressed() {

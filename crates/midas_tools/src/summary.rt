@@ -22,9 +22,11 @@ pub trait Summary: Drop {
     /// Takes in one event more. Takes no memory.
     fn add(&mut self, event: &EventBuf)
         requires { HasRoom (sums self.old) event.now.event }
-        ensures { (events : List Event) → sums self.old events → sums self.new (events ++ event.now.event ∷ []) };
+        ensures { (events : List Event) → sums self.old events
+            → sums self.new (events ++ event.now.event ∷ []) };
 
     /// Adds to the page what is printed of a run file with these events.
     fn tell(&self, run: u32, bytes: u64, page: &mut TextBuffer) -> Result<(), NoMemory>
-        ensures { (events : List Event) → sums self.now events → OnOk result (page.new ≡ page.old ++ text run events bytes) };
+        ensures { (events : List Event) → sums self.now events
+            → OnOk result (page.new ≡ page.old ++ text run events bytes) };
 }

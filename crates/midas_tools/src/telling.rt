@@ -25,8 +25,10 @@ fn sum_events<S: Source, T: Summary>(
     requires new { reader.old.progress ≡ nothing_read }
     requires room { 4194304 ≤ event.old.room }
     requires none { T.sums summary.old [] }
-    ensures whole { OnOk result (SumsAll (T.sums summary.new) (S.left reader.old.source) (S.left reader.new.source) reader.new.progress) }
-    ensures fault { IfErr result (λ fault. Meets (S.left reader.old.source) (S.left reader.new.source) reader.new.progress fault) }
+    ensures whole { OnOk result (SumsAll (T.sums summary.new) (S.left reader.old.source)
+        (S.left reader.new.source) reader.new.progress) }
+    ensures fault { IfErr result (λ fault. Meets (S.left reader.old.source)
+        (S.left reader.new.source) reader.new.progress fault) }
     ensures counted { CountsReads (S.faults reader.old.source) (S.faults reader.new.source) result }
     ensures origin { S.origin reader.new.source ≡ S.origin reader.old.source }
 {
@@ -77,10 +79,12 @@ pub fn tell_file<F: Files, K: Sink, T: Summary>(
     name: &FileName,
     out: &mut K,
 ) -> (ToolEnd, F)
-    ensures writes { Writes (Tells T.text) (F.seen files) name.now (K.written out.old) (K.written out.new) result.0 }
+    ensures writes { Writes (Tells T.text) (F.seen files) name.now (K.written out.old)
+        (K.written out.new) result.0 }
     ensures sink { SinkByEnd result.0 (K.faults out.old) (K.faults out.new) }
     ensures faults { FilesByEnd result.0 (F.faults files) (F.faults result.1) }
-    ensures complete { Completes (F.seen files) name.now (K.faults out.old) (K.faults out.new) (F.faults files) (F.faults result.1) result.0 }
+    ensures complete { Completes (F.seen files) name.now (K.faults out.old) (K.faults out.new)
+        (F.faults files) (F.faults result.1) result.0 }
     ensures clashes { ClashCounts result.0 (F.clashes files) (F.clashes result.1) }
     ensures same { Same (F.seen files) (F.seen result.1) }
 {

@@ -78,10 +78,12 @@ fn create_at<D: Database>(
     kind: NewKey,
 ) -> Result<CommandReply, NoMemory>
     requires room { 1 ≤ database.old.room }
-    ensures did { IfOk result (λ reply. Answers database.old database.new (create_at database.old.rows kind path) reply) }
+    ensures did { IfOk result (λ reply. Answers database.old database.new
+        (create_at database.old.rows kind path) reply) }
     ensures start { database.new.start ≡ database.old.start }
     ensures room { database.old.room ≤ database.new.room + 1 }
-    ensures interrupted { OnErr result (EndsAnswer database.old database.new (create_at database.old.rows kind path)) }
+    ensures interrupted { OnErr result (EndsAnswer database.old database.new
+        (create_at database.old.rows kind path)) }
 {
     let reply = settled(database.create(alloc, path, kind))?;
     Ok(done_or(reply))
@@ -94,10 +96,12 @@ pub fn create<D: Database>(
     path: &[u8],
     kind: NewKey,
 ) -> Result<CommandReply, NoMemory>
-    ensures did { IfOk result (λ reply. Answers database.old database.new (at_path (path_reply path.now) (create_at database.old.rows kind)) reply) }
+    ensures did { IfOk result (λ reply. Answers database.old database.new
+        (at_path (path_reply path.now) (create_at database.old.rows kind)) reply) }
     ensures start { database.new.start ≡ database.old.start }
     ensures room { database.old.room ≤ database.new.room + 3 }
-    ensures interrupted { OnErr result (EndsAnswer database.old database.new (at_path (path_reply path.now) (create_at database.old.rows kind))) }
+    ensures interrupted { OnErr result (EndsAnswer database.old database.new
+        (at_path (path_reply path.now) (create_at database.old.rows kind))) }
 {
     match prepare(alloc, database, path, 1)? {
         Err(why) => Ok(no_path(why)),
@@ -114,10 +118,12 @@ fn set_item<D: Database>(
     item: Result<Item, CommandRefusal>,
 ) -> Result<CommandReply, NoMemory>
     requires room { 1 ≤ database.old.room }
-    ensures did { IfOk result (λ reply. Answers database.old database.new (set_item database.old.rows path index item) reply) }
+    ensures did { IfOk result (λ reply. Answers database.old database.new
+        (set_item database.old.rows path index item) reply) }
     ensures start { database.new.start ≡ database.old.start }
     ensures room { database.old.room ≤ database.new.room + 1 }
-    ensures interrupted { OnErr result (EndsAnswer database.old database.new (set_item database.old.rows path index item)) }
+    ensures interrupted { OnErr result (EndsAnswer database.old database.new
+        (set_item database.old.rows path index item)) }
 {
     match item {
         Err(why) => Ok(CommandReply::Refused { why }),
@@ -138,10 +144,12 @@ fn set_in<D: Database>(
     got: Result<Value, OdbRefusal>,
 ) -> Result<CommandReply, NoMemory>
     requires room { 1 ≤ database.old.room }
-    ensures did { IfOk result (λ reply. Answers database.old database.new (set_in database.old.rows path index text.now got) reply) }
+    ensures did { IfOk result (λ reply. Answers database.old database.new
+        (set_in database.old.rows path index text.now got) reply) }
     ensures start { database.new.start ≡ database.old.start }
     ensures room { database.old.room ≤ database.new.room + 1 }
-    ensures interrupted { OnErr result (EndsAnswer database.old database.new (set_in database.old.rows path index text.now got)) }
+    ensures interrupted { OnErr result (EndsAnswer database.old database.new
+        (set_in database.old.rows path index text.now got)) }
 {
     match got {
         Err(why) => Ok(refused_by(why)),
@@ -161,10 +169,12 @@ fn set_at<D: Database>(
     text: &[u8],
 ) -> Result<CommandReply, NoMemory>
     requires room { 2 ≤ database.old.room }
-    ensures did { IfOk result (λ reply. Answers database.old database.new (set_at database.old.rows index text.now path) reply) }
+    ensures did { IfOk result (λ reply. Answers database.old database.new
+        (set_at database.old.rows index text.now path) reply) }
     ensures start { database.new.start ≡ database.old.start }
     ensures room { database.old.room ≤ database.new.room + 2 }
-    ensures interrupted { OnErr result (EndsAnswer database.old database.new (set_at database.old.rows index text.now path)) }
+    ensures interrupted { OnErr result (EndsAnswer database.old database.new
+        (set_at database.old.rows index text.now path)) }
 {
     let copy = path.try_clone(alloc)?;
     let got = settled(database.get(alloc, 0, copy))?;
@@ -179,10 +189,12 @@ pub fn set<D: Database>(
     index: u32,
     text: &[u8],
 ) -> Result<CommandReply, NoMemory>
-    ensures did { IfOk result (λ reply. Answers database.old database.new (at_path (path_reply path.now) (set_at database.old.rows index text.now)) reply) }
+    ensures did { IfOk result (λ reply. Answers database.old database.new
+        (at_path (path_reply path.now) (set_at database.old.rows index text.now)) reply) }
     ensures start { database.new.start ≡ database.old.start }
     ensures room { database.old.room ≤ database.new.room + 3 }
-    ensures interrupted { OnErr result (EndsAnswer database.old database.new (at_path (path_reply path.now) (set_at database.old.rows index text.now))) }
+    ensures interrupted { OnErr result (EndsAnswer database.old database.new
+        (at_path (path_reply path.now) (set_at database.old.rows index text.now))) }
 {
     match prepare(alloc, database, path, 2)? {
         Err(why) => Ok(no_path(why)),
@@ -198,10 +210,12 @@ fn key_named<D: Database>(
     row: u32,
 ) -> Result<CommandReply, NoMemory>
     requires room { 1 ≤ database.old.room }
-    ensures did { IfOk result (λ reply. Answers database.old database.new (key_named database.old.rows value row) reply) }
+    ensures did { IfOk result (λ reply. Answers database.old database.new
+        (key_named database.old.rows value row) reply) }
     ensures start { database.new.start ≡ database.old.start }
     ensures room { database.old.room ≤ database.new.room + 1 }
-    ensures interrupted { OnErr result (EndsAnswer database.old database.new (key_named database.old.rows value row)) }
+    ensures interrupted { OnErr result (EndsAnswer database.old database.new
+        (key_named database.old.rows value row)) }
 {
     let path = database.path_of(alloc, 0, row)?;
     let path = path.unwrap_or(Path::root(alloc));
@@ -216,10 +230,12 @@ fn key_found<D: Database>(
     found: Result<u32, OdbRefusal>,
 ) -> Result<CommandReply, NoMemory>
     requires room { 1 ≤ database.old.room }
-    ensures did { IfOk result (λ reply. Answers database.old database.new (key_found database.old.rows value found) reply) }
+    ensures did { IfOk result (λ reply. Answers database.old database.new
+        (key_found database.old.rows value found) reply) }
     ensures start { database.new.start ≡ database.old.start }
     ensures room { database.old.room ≤ database.new.room + 1 }
-    ensures interrupted { OnErr result (EndsAnswer database.old database.new (key_found database.old.rows value found)) }
+    ensures interrupted { OnErr result (EndsAnswer database.old database.new
+        (key_found database.old.rows value found)) }
 {
     match found {
         Err(why) => Ok(refused_by(why)),
@@ -236,10 +252,12 @@ fn shown<D: Database>(
     value: Value,
 ) -> Result<CommandReply, NoMemory>
     requires room { 2 ≤ database.old.room }
-    ensures did { IfOk result (λ reply. Answers database.old database.new (shown database.old.rows path index value) reply) }
+    ensures did { IfOk result (λ reply. Answers database.old database.new
+        (shown database.old.rows path index value) reply) }
     ensures start { database.new.start ≡ database.old.start }
     ensures room { database.old.room ≤ database.new.room + 2 }
-    ensures interrupted { OnErr result (EndsAnswer database.old database.new (shown database.old.rows path index value)) }
+    ensures interrupted { OnErr result (EndsAnswer database.old database.new
+        (shown database.old.rows path index value)) }
 {
     match index {
         Some(index) => one_of(alloc, &value, index),
@@ -259,10 +277,12 @@ fn get_in<D: Database>(
     got: Result<Value, OdbRefusal>,
 ) -> Result<CommandReply, NoMemory>
     requires room { 2 ≤ database.old.room }
-    ensures did { IfOk result (λ reply. Answers database.old database.new (get_in database.old.rows path index got) reply) }
+    ensures did { IfOk result (λ reply. Answers database.old database.new
+        (get_in database.old.rows path index got) reply) }
     ensures start { database.new.start ≡ database.old.start }
     ensures room { database.old.room ≤ database.new.room + 2 }
-    ensures interrupted { OnErr result (EndsAnswer database.old database.new (get_in database.old.rows path index got)) }
+    ensures interrupted { OnErr result (EndsAnswer database.old database.new
+        (get_in database.old.rows path index got)) }
 {
     match got {
         Err(why) => Ok(refused_by(why)),
@@ -278,10 +298,12 @@ fn get_at<D: Database>(
     index: Option<u32>,
 ) -> Result<CommandReply, NoMemory>
     requires room { 3 ≤ database.old.room }
-    ensures did { IfOk result (λ reply. Answers database.old database.new (get_at database.old.rows index path) reply) }
+    ensures did { IfOk result (λ reply. Answers database.old database.new
+        (get_at database.old.rows index path) reply) }
     ensures start { database.new.start ≡ database.old.start }
     ensures room { database.old.room ≤ database.new.room + 3 }
-    ensures interrupted { OnErr result (EndsAnswer database.old database.new (get_at database.old.rows index path)) }
+    ensures interrupted { OnErr result (EndsAnswer database.old database.new
+        (get_at database.old.rows index path)) }
 {
     let copy = path.try_clone(alloc)?;
     let got = settled(database.get(alloc, 0, copy))?;
@@ -295,10 +317,12 @@ pub fn get<D: Database>(
     path: &[u8],
     index: Option<u32>,
 ) -> Result<CommandReply, NoMemory>
-    ensures did { IfOk result (λ reply. Answers database.old database.new (at_path (path_reply path.now) (get_at database.old.rows index)) reply) }
+    ensures did { IfOk result (λ reply. Answers database.old database.new
+        (at_path (path_reply path.now) (get_at database.old.rows index)) reply) }
     ensures start { database.new.start ≡ database.old.start }
     ensures room { database.old.room ≤ database.new.room + 3 }
-    ensures interrupted { OnErr result (EndsAnswer database.old database.new (at_path (path_reply path.now) (get_at database.old.rows index))) }
+    ensures interrupted { OnErr result (EndsAnswer database.old database.new
+        (at_path (path_reply path.now) (get_at database.old.rows index))) }
 {
     match prepare(alloc, database, path, 3)? {
         Err(why) => Ok(no_path(why)),
@@ -313,10 +337,12 @@ fn list_at<D: Database>(
     path: Path,
 ) -> Result<CommandReply, NoMemory>
     requires room { 1 ≤ database.old.room }
-    ensures did { IfOk result (λ reply. Answers database.old database.new (list_at database.old.rows path) reply) }
+    ensures did { IfOk result (λ reply. Answers database.old database.new
+        (list_at database.old.rows path) reply) }
     ensures start { database.new.start ≡ database.old.start }
     ensures room { database.old.room ≤ database.new.room + 1 }
-    ensures interrupted { OnErr result (EndsAnswer database.old database.new (list_at database.old.rows path)) }
+    ensures interrupted { OnErr result (EndsAnswer database.old database.new
+        (list_at database.old.rows path)) }
 {
     let children = settled(database.list(alloc, 0, path))?;
     Ok(listed_or(children))
@@ -328,10 +354,12 @@ pub fn list<D: Database>(
     database: &mut LocalDatabase<D>,
     path: &[u8],
 ) -> Result<CommandReply, NoMemory>
-    ensures did { IfOk result (λ reply. Answers database.old database.new (at_path (path_reply path.now) (list_at database.old.rows)) reply) }
+    ensures did { IfOk result (λ reply. Answers database.old database.new
+        (at_path (path_reply path.now) (list_at database.old.rows)) reply) }
     ensures start { database.new.start ≡ database.old.start }
     ensures room { database.old.room ≤ database.new.room + 3 }
-    ensures interrupted { OnErr result (EndsAnswer database.old database.new (at_path (path_reply path.now) (list_at database.old.rows))) }
+    ensures interrupted { OnErr result (EndsAnswer database.old database.new
+        (at_path (path_reply path.now) (list_at database.old.rows))) }
 {
     match prepare(alloc, database, path, 1)? {
         Err(why) => Ok(no_path(why)),
@@ -360,10 +388,12 @@ pub fn remove<D: Database>(
     database: &mut LocalDatabase<D>,
     path: &[u8],
 ) -> Result<CommandReply, NoMemory>
-    ensures did { IfOk result (λ reply. Answers database.old database.new (at_path (path_reply path.now) (remove_at database.old.rows)) reply) }
+    ensures did { IfOk result (λ reply. Answers database.old database.new
+        (at_path (path_reply path.now) (remove_at database.old.rows)) reply) }
     ensures start { database.new.start ≡ database.old.start }
     ensures room { database.old.room ≤ database.new.room + 3 }
-    ensures interrupted { OnErr result (EndsAnswer database.old database.new (at_path (path_reply path.now) (remove_at database.old.rows))) }
+    ensures interrupted { OnErr result (EndsAnswer database.old database.new
+        (at_path (path_reply path.now) (remove_at database.old.rows))) }
 {
     match prepare(alloc, database, path, 1)? {
         Err(why) => Ok(no_path(why)),
@@ -379,10 +409,12 @@ pub fn run_command<D: Database>(
     database: &mut LocalDatabase<D>,
     command: &Command<'_>,
 ) -> Result<Option<CommandReply>, NoMemory>
-    ensures did { IfOk result (λ reply. AnswersIf database.old database.new (answer_of database.old.rows command.now) reply) }
+    ensures did { IfOk result (λ reply. AnswersIf database.old database.new
+        (answer_of database.old.rows command.now) reply) }
     ensures start { database.new.start ≡ database.old.start }
     ensures room { database.old.room ≤ database.new.room + 3 }
-    ensures interrupted { OnErr result (EndsEarly database.old database.new (calls_of (answer_of database.old.rows command.now))) }
+    ensures interrupted { OnErr result (EndsEarly database.old database.new
+        (calls_of (answer_of database.old.rows command.now))) }
 {
     match command {
         Command::Create { tid, path, len } => {

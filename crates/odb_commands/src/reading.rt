@@ -18,7 +18,8 @@ pub(crate) fn settled<T: Drop>(
     reply: Result<T, OdbRefusal>,
 ) -> Result<Result<T, OdbRefusal>, NoMemory>
     ensures same { IfOk result (λ settled. settled ≡ reply) }
-    ensures exact { IfOk result (λ settled. (is : Result T OdbRefusal) → Gives settled is → is ≡ settled) }
+    ensures exact { IfOk result (λ settled. (is : Result T OdbRefusal) → Gives settled is → is
+        ≡ settled) }
     ensures memory { OnErr result (reply ≡ Err no_memory) }
 {
     match reply {
@@ -62,7 +63,8 @@ pub(crate) fn item_for(
 
 /// The reply with one item of this value.
 pub(crate) fn one_of(alloc: Global, value: &Value, index: u32) -> Result<CommandReply, NoMemory>
-    ensures { IfOk result (λ reply. reply ≡ one_or (length value.now.items) (slice_get value.now.items index)) }
+    ensures { IfOk result (λ reply. reply ≡ one_or (length value.now.items)
+        (slice_get value.now.items index)) }
 {
     let items = value.items();
     match items.get(index as usize) {

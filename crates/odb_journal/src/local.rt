@@ -43,9 +43,11 @@ fn get_twice<D: Database>(
     database: &D,
     path: &Path,
 ) -> Result<(Value, Value), OdbRefusal>
-    ensures value { IfOk result (λ values. IsReply (D.rows database.now) (Get path.now (Ok values.0))) }
+    ensures value { IfOk result (λ values. IsReply (D.rows database.now)
+        (Get path.now (Ok values.0))) }
     ensures same { IfOk result (λ values. values.1 ≡ values.0) }
-    ensures refused { IfErr result (λ refusal. IsReply (D.rows database.now) (Get path.now (Err refusal))) }
+    ensures refused { IfErr result (λ refusal. IsReply (D.rows database.now)
+        (Get path.now (Err refusal))) }
 {
     let value = database.get(alloc, path)?;
     let copy = value.try_clone(alloc)?;
@@ -58,9 +60,11 @@ fn list_twice<D: Database>(
     database: &D,
     path: &Path,
 ) -> Result<(Children, Children), OdbRefusal>
-    ensures children { IfOk result (λ lists. IsReply (D.rows database.now) (ListDir path.now (Ok lists.0))) }
+    ensures children { IfOk result (λ lists. IsReply (D.rows database.now)
+        (ListDir path.now (Ok lists.0))) }
     ensures same { IfOk result (λ lists. lists.1 ≡ lists.0) }
-    ensures refused { IfErr result (λ refusal. IsReply (D.rows database.now) (ListDir path.now (Err refusal))) }
+    ensures refused { IfErr result (λ refusal. IsReply (D.rows database.now)
+        (ListDir path.now (Err refusal))) }
 {
     let children = database.list(alloc, path)?;
     let copy = Vec::from_slice(alloc, children.as_slice())?;

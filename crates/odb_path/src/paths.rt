@@ -130,7 +130,8 @@ impl Path {
         ensures right { OnOk result (add_fault place (length self.old) text.now ≡ None) }
         ensures short { OnOk result (length text.now ≤ 31) }
         ensures room { OnOk result (length self.old < depth_limit) }
-        ensures refused { IfErr result (λ refusal. refusal ≢ no_memory → add_fault place (length self.old) text.now ≡ Some refusal) }
+        ensures refused { IfErr result (λ refusal. refusal ≢ no_memory
+            → add_fault place (length self.old) text.now ≡ Some refusal) }
     {
         let depth = self.names.len();
         let name = read_name(text, place)?;

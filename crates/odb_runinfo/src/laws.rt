@@ -12,7 +12,8 @@ ghost use Rattle.odb_runinfo.specs.RunSets.{Assignment, assignments, front_made,
 
 /// After any legal calls that remove nothing below `/Runinfo`, the run number is there, an INT32 with an item 0.
 pub fn run_number_stays()
-    ensures { (s : Rows) (h : List (ℕ × DatabaseEntry)) → IsLegal s h → AllSpareRuninfo h → HasRunNumber s.rows → HasRunNumber (replay s h).rows }
+    ensures { (s : Rows) (h : List (ℕ × DatabaseEntry)) → IsLegal s h → AllSpareRuninfo h
+        → HasRunNumber s.rows → HasRunNumber (replay s h).rows }
 {}
 
 /// A session opens with the run number.
@@ -22,14 +23,17 @@ pub fn run_number_opens()
 
 /// Where the run number is there, a `get` of it gives its value, and a start takes the number in its item 0.
 pub fn run_number_given()
-    ensures read { (s : Rows) (has : HasRunNumber s.rows) → have_of (get_reply s (key_path RunNumber)) ≡ has.number.first }
-    ensures value { (s : Rows) (has : HasRunNumber s.rows) → get_reply s (key_path RunNumber) ≡ Ok has.held }
+    ensures read { (s : Rows) (has : HasRunNumber s.rows)
+        → have_of (get_reply s (key_path RunNumber)) ≡ has.number.first }
+    ensures value { (s : Rows) (has : HasRunNumber s.rows) → get_reply s (key_path RunNumber)
+        ≡ Ok has.held }
 {}
 
 /// The rows with which a session opens are those of a database, and so are they after each legal history of calls.
 pub fn database_opens()
     ensures opens { IsDatabase session_rows }
-    ensures stays { (history : List (ℕ × DatabaseEntry)) → IsLegal session_rows history → IsDatabase (replay session_rows history) }
+    ensures stays { (history : List (ℕ × DatabaseEntry)) → IsLegal session_rows history
+        → IsDatabase (replay session_rows history) }
 {}
 
 /// The session's own calls remove nothing below `/Runinfo`.
@@ -41,5 +45,6 @@ pub fn own_calls_spare()
 
 /// Assignments in two parts are those of the first part, and then those of the second.
 pub fn assignments_follow()
-    ensures { (s : Rows) (some more : List Assignment) → assignments s (some ++ more) ≡ assignments s some ++ assignments (replay s (assignments s some)) more }
+    ensures { (s : Rows) (some more : List Assignment) → assignments s (some ++ more)
+        ≡ assignments s some ++ assignments (replay s (assignments s some)) more }
 {}

@@ -65,10 +65,12 @@ pub fn next_run<D: Database>(
     database: &mut LocalDatabase<D>,
 ) -> Result<Result<u32, RunNumber>, NoMemory>
     ensures calls { OnOk result (Grows database.old database.new (number_got database.old.rows)) }
-    ensures run { IfOk result (λ run. run ≡ next_run (have_of (get_reply database.old.rows (key_path RunKey.RunNumber)))) }
+    ensures run { IfOk result (λ run. run ≡ next_run
+        (have_of (get_reply database.old.rows (key_path RunKey.RunNumber)))) }
     ensures small { IfOk result (λ run. IfOk run (λ number. number < 2 ^ 31)) }
     ensures least { IfOk result (λ run. IfOk run (λ number. 1 ≤ number)) }
-    ensures interrupted { OnErr result (EndsEarly database.old database.new (number_got database.old.rows)) }
+    ensures interrupted { OnErr result (EndsEarly database.old database.new
+        (number_got database.old.rows)) }
     ensures start { database.new.start ≡ database.old.start }
 {
     let path = RunKey::RunNumber.path(alloc)?;
@@ -87,8 +89,10 @@ pub fn open_front<D: Database>(
     database: &mut LocalDatabase<D>,
     front: Name,
 ) -> Result<(), NoMemory>
-    ensures calls { OnOk result (Grows database.old database.new (front_made database.old.rows front)) }
-    ensures interrupted { OnErr result (EndsEarly database.old database.new (front_made database.old.rows front)) }
+    ensures calls { OnOk result (Grows database.old database.new
+        (front_made database.old.rows front)) }
+    ensures interrupted { OnErr result (EndsEarly database.old database.new
+        (front_made database.old.rows front)) }
     ensures unmade { OnErr result (MakesNoKey database.old.history database.new.history front) }
     ensures start { database.new.start ≡ database.old.start }
 {
@@ -115,7 +119,8 @@ fn assign<D: Database>(
 )
     requires number { IsTrue (is_number item) }
     requires room { 1 ≤ database.old.room }
-    ensures calls { Grows database.old database.new (assignments database.old.rows (record { caller = caller; path = path; item = item } ∷ [])) }
+    ensures calls { Grows database.old database.new (assignments database.old.rows
+        (record { caller = caller; path = path; item = item } ∷ [])) }
     ensures start { database.new.start ≡ database.old.start }
     ensures room { database.old.room ≤ database.new.room + 1 }
 {
@@ -133,7 +138,8 @@ pub fn set_start<D: Database>(
 )
     requires run { run < 2 ^ 31 }
     requires room { 4 ≤ database.old.room }
-    ensures calls { Grows database.old database.new (assignments database.old.rows (start_sets run time)) }
+    ensures calls { Grows database.old database.new (assignments database.old.rows
+        (start_sets run time)) }
     ensures start { database.new.start ≡ database.old.start }
     ensures room { database.old.room ≤ database.new.room + 4 }
 {
@@ -152,7 +158,8 @@ pub fn set_start<D: Database>(
 /// What is set at the end of a start that came about: the front-end sent nothing yet, and the state running.
 pub fn set_started<D: Database>(alloc: Global, database: &mut LocalDatabase<D>, paths: StartedPaths)
     requires room { 2 ≤ database.old.room }
-    ensures calls { Grows database.old database.new (assignments database.old.rows (started_sets paths.front)) }
+    ensures calls { Grows database.old database.new (assignments database.old.rows
+        (started_sets paths.front)) }
     ensures start { database.new.start ≡ database.old.start }
     ensures room { database.old.room ≤ database.new.room + 2 }
 {
@@ -172,7 +179,8 @@ pub fn set_refused<D: Database>(
     requires first { 1 ≤ run }
     requires run { run < 2 ^ 31 }
     requires room { 1 ≤ database.old.room }
-    ensures calls { Grows database.old database.new (assignments database.old.rows (refused_sets run)) }
+    ensures calls { Grows database.old database.new (assignments database.old.rows
+        (refused_sets run)) }
     ensures start { database.new.start ≡ database.old.start }
     ensures room { database.old.room ≤ database.new.room + 1 }
 {
@@ -187,7 +195,8 @@ pub fn set_stopping<D: Database>(
     time: u32,
 )
     requires room { 2 ≤ database.old.room }
-    ensures calls { Grows database.old database.new (assignments database.old.rows (stopping_sets time)) }
+    ensures calls { Grows database.old database.new (assignments database.old.rows
+        (stopping_sets time)) }
     ensures start { database.new.start ≡ database.old.start }
     ensures room { database.old.room ≤ database.new.room + 2 }
 {
@@ -204,7 +213,8 @@ pub fn set_stopped<D: Database>(
     sent: u32,
 )
     requires room { 2 ≤ database.old.room }
-    ensures calls { Grows database.old database.new (assignments database.old.rows (stopped_sets paths.front sent)) }
+    ensures calls { Grows database.old database.new (assignments database.old.rows
+        (stopped_sets paths.front sent)) }
     ensures start { database.new.start ≡ database.old.start }
     ensures room { database.old.room ≤ database.new.room + 2 }
 {

@@ -13,13 +13,17 @@ ghost use Rattle.odb_script.specs.declared.refusals.LineRefusal.TheVariants.{Bad
 /// table goes on: at the line's end where every form wants one more word, and where a quote is misplaced or not closed.
 /// It is a command where the words are those of a form. A longer line is refused at 4096, and a comment is passed over.
 pub fn first_misfit_refused()
-    ensures refused { (line : List ℕ) → length line ≤ 4096 → starts_with nat_eq line (codes "#") ≡ false → place_of (command_of line) ≡ first_misfit forms (line_words line) }
+    ensures refused { (line : List ℕ) → length line ≤ 4096 → starts_with nat_eq line (codes "#")
+        ≡ false → place_of (command_of line) ≡ first_misfit forms (line_words line) }
     ensures long { (line : List ℕ) → 4096 < length line → command_of line ≡ Err (BadCommand 4096) }
-    ensures comment { (line : List ℕ) → length line ≤ 4096 → starts_with nat_eq line (codes "#") ≡ true → command_of line ≡ Ok Nothing }
+    ensures comment { (line : List ℕ) → length line ≤ 4096 → starts_with nat_eq line (codes "#")
+        ≡ true → command_of line ≡ Ok Nothing }
 {}
 
 /// A line of at most 4,096 bytes that is no comment is a command exactly where its words are those of the command, and
 /// nothing else stands in it.
 pub fn command_spelled()
-    ensures { (line : List ℕ) (command : Command) → length line ≤ 4096 → starts_with nat_eq line (codes "#") ≡ false → (command_of line ≡ Ok command) ↔ Spelled (line_words line) command }
+    ensures { (line : List ℕ) (command : Command) → length line ≤ 4096
+        → starts_with nat_eq line (codes "#") ≡ false → (command_of line ≡ Ok command)
+        ↔ Spelled (line_words line) command }
 {}

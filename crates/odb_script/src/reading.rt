@@ -124,7 +124,8 @@ impl LineReader {
     /// Takes a block from the source, where none is left of the last.
     fn fill<S: Source>(&mut self, source: &mut S) -> Result<usize, Failed>
         requires { self.old.pending ≡ [] }
-        ensures filled { IfOk result (IsFilledAgain self.old self.new (S.left source.old) (S.left source.new)) }
+        ensures filled { IfOk result (IsFilledAgain self.old self.new (S.left source.old)
+            (S.left source.new)) }
         ensures same { OnErr result (self.new ≡ self.old) }
         ensures kept { OnErr result (Keeps (S.left source.old) (S.left source.new)) }
         ensures faults { CountsFault (S.faults source.old) (S.faults source.new) result }
@@ -146,7 +147,8 @@ impl LineReader {
 
     /// Sees to it that bytes are pending, and tells whether there are any.
     fn refill<S: Source>(&mut self, source: &mut S) -> Result<bool, Failed>
-        ensures refilled { IfOk result (IsRefilled (S.left source.old) (S.left source.new) self.old self.new) }
+        ensures refilled { IfOk result (IsRefilled (S.left source.old) (S.left source.new)
+            self.old self.new) }
         ensures same { OnErr result (self.new ≡ self.old) }
         ensures drained { OnErr result (self.old.pending ≡ []) }
         ensures kept { OnErr result (Keeps (S.left source.old) (S.left source.new)) }
@@ -194,7 +196,10 @@ impl LineReader {
 
     /// Keeps of the line what stands before its end.
     fn end_line(&mut self)
-        ensures { self.new ≡ record self.old { line = take KEPT_BYTES (strip_carriage_return self.old.line) } }
+        ensures { self.new ≡ record self.old {
+          line = take KEPT_BYTES
+              (strip_carriage_return self.old.line);
+        } }
     {
         finish(&mut self.line);
     }
@@ -211,7 +216,8 @@ impl LineReader {
 
     /// Reads the next line.
     pub fn advance<S: Source>(&mut self, source: &mut S) -> NextLine
-        ensures advances { Advances result self.old self.new (S.left source.old) (S.left source.new) }
+        ensures advances { Advances result self.old self.new (S.left source.old)
+            (S.left source.new) }
         // Only `Fault` is a failure of the source, which counts it.
         ensures faults { IsFaultBy result (S.faults source.old) (S.faults source.new) }
     {

@@ -71,7 +71,8 @@ pub fn resize_at(
 ) -> Result<(), NoMemory>
     requires some { 1 ≤ len }
     requires many { len ≤ items_limit }
-    ensures ok { OnOk result (rows.new.items ≡ change_at rows.old.items names.now (λ v. resized v len)) }
+    ensures ok { OnOk result (rows.new.items ≡ change_at rows.old.items names.now
+        (λ v. resized v len)) }
     ensures err { OnErr result (rows.new.items ≡ rows.old.items) }
 {
     if let Some(place) = place_at(rows.as_slice(), names) {

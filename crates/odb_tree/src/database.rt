@@ -38,12 +38,14 @@ pub trait Database: Drop {
     ) -> Result<u32, OdbRefusal>
         ensures reply { IsReply (rows self.old) (Set path.now index item.now result) }
         ensures memory { result ≡ Err no_memory → tid_of item.now ≡ Tid.Text }
-        ensures after { rows self.new ≡ rows_after (rows self.old) (Set path.now index item.now result) };
+        ensures after { rows self.new ≡ rows_after (rows self.old)
+            (Set path.now index item.now result) };
 
     /// Replaces the value of a key by one of the same type, or makes the key with it, and answers the number of its row.
     fn set_all(&mut self, alloc: Global, path: &Path, value: &Value) -> Result<u32, OdbRefusal>
         ensures reply { IsReply (rows self.old) (SetAll path.now value.now result) }
-        ensures after { rows self.new ≡ rows_after (rows self.old) (SetAll path.now value.now result) };
+        ensures after { rows self.new ≡ rows_after (rows self.old)
+            (SetAll path.now value.now result) };
 
     /// The value of a key.
     fn get(&self, alloc: Global, path: &Path) -> Result<Value, OdbRefusal>

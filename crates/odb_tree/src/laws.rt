@@ -20,34 +20,45 @@ ghost use Rattle.odb_tree.specs.WalkLaws.{NoneAbove, OneAt, below_dirs};
 
 /// In a directory that is not above a new row the walk stays as it was.
 pub fn walk_elsewhere()
-    ensures { (depth : ℕ) (rows : List Row) (new : Row) (p : List (List ℕ)) → is_front p new.path ≡ false → walk_below depth (rows ++ new ∷ []) p ≡ walk_below depth rows p }
+    ensures { (depth : ℕ) (rows : List Row) (new : Row) (p : List (List ℕ)) → is_front p new.path
+        ≡ false → walk_below depth (rows ++ new ∷ []) p ≡ walk_below depth rows p }
 {}
 
 /// A new key stands behind the keys of its directory.
 pub fn new_key_behind_keys()
-    ensures { (depth : ℕ) (rows : List Row) (new : Row) (p : List (List ℕ)) → is_listed true p new ≡ true → NoneAbove new.path (dirs_in rows p) → walk_below (suc depth) (rows ++ new ∷ []) p ≡ keys_in rows p ++ new ∷ below_dirs depth rows p }
+    ensures { (depth : ℕ) (rows : List Row) (new : Row) (p : List (List ℕ)) → is_listed true p new
+        ≡ true → NoneAbove new.path (dirs_in rows p) → walk_below (suc depth) (rows ++ new ∷ []) p
+        ≡ keys_in rows p ++ new ∷ below_dirs depth rows p }
 {}
 
 /// A new directory, with nothing below it, stands behind everything below its parent.
 pub fn new_directory_last()
-    ensures { (depth : ℕ) (rows : List Row) (new : Row) (p : List (List ℕ)) → is_listed false p new ≡ true → NoneAbove new.path (dirs_in rows p) → walk_below depth (rows ++ new ∷ []) new.path ≡ [] → walk_below (suc depth) (rows ++ new ∷ []) p ≡ walk_below (suc depth) rows p ++ new ∷ [] }
+    ensures { (depth : ℕ) (rows : List Row) (new : Row) (p : List (List ℕ))
+        → is_listed false p new ≡ true → NoneAbove new.path (dirs_in rows p)
+        → walk_below depth (rows ++ new ∷ []) new.path ≡ []
+        → walk_below (suc depth) (rows ++ new ∷ []) p ≡ walk_below (suc depth) rows p ++ new ∷ [] }
 {}
 
 /// Where rows are removed, those that stay keep their places.
 pub fn removal_keeps_places()
-    ensures { (depth : ℕ) (rows : List Row) (q : List (List ℕ)) (p : List (List ℕ)) → walk_below depth (rows_outside rows q) p ≡ rows_outside (walk_below depth rows p) q }
+    ensures { (depth : ℕ) (rows : List Row) (q : List (List ℕ)) (p : List (List ℕ))
+        → walk_below depth (rows_outside rows q) p ≡ rows_outside (walk_below depth rows p) q }
 {}
 
 /// Where the value of a row is changed, that row and all others keep their places.
 pub fn change_keeps_places()
-    ensures { (depth : ℕ) (rows : List Row) (p : List (List ℕ)) (f : HeldValue → HeldValue) (q : List (List ℕ)) → OneAt p rows → walk_below depth (change_at rows p f) q ≡ map (changed_at p f) (walk_below depth rows q) }
+    ensures { (depth : ℕ) (rows : List Row) (p : List (List ℕ)) (f : HeldValue → HeldValue)
+        (q : List (List ℕ)) → OneAt p rows → walk_below depth (change_at rows p f) q
+        ≡ map (changed_at p f) (walk_below depth rows q) }
 {}
 
 /// The new database is a tree, and each legal history keeps a tree.
 pub fn trees_stay()
     ensures begins { IsTree no_rows }
-    ensures after { (s : Rows) (entry : DatabaseEntry) → IsTree s → IsReply s entry → IsTree (rows_after s entry) }
-    ensures stays { (s : Rows) (history : List (ℕ × DatabaseEntry)) → IsTree s → IsLegal s history → IsTree (replay s history) }
+    ensures after { (s : Rows) (entry : DatabaseEntry) → IsTree s → IsReply s entry
+        → IsTree (rows_after s entry) }
+    ensures stays { (s : Rows) (history : List (ℕ × DatabaseEntry)) → IsTree s → IsLegal s history
+        → IsTree (replay s history) }
 {}
 
 /// After `delete` the walk is as it was, but without the row and what is below it.
@@ -58,30 +69,41 @@ pub fn walk_after_delete()
 /// After a change of values in a tree the walk is as it was, but for the value of the one row at the path.
 pub fn walk_after_change()
     ensures apart { (s : Rows) (p : List (List ℕ)) → IsTree s → OneAt p s.rows }
-    ensures set { (s : Rows) (p : List (List ℕ)) (index : ℕ) (item : Item) → IsTree s → walk (after_set s p index item) ≡ map (changed_at p (λ v. put_in v index item)) (walk s) }
-    ensures set_all { (s : Rows) (p : List (List ℕ)) (v : HeldValue) → IsTree s → row_at s.rows p ≢ None → walk (after_set_all s p v) ≡ map (changed_at p (λ _. v)) (walk s) }
-    ensures resize { (s : Rows) (p : List (List ℕ)) (len : ℕ) → IsTree s → walk (after_resize s p len) ≡ map (changed_at p (λ v. resized v len)) (walk s) }
+    ensures set { (s : Rows) (p : List (List ℕ)) (index : ℕ) (item : Item) → IsTree s
+        → walk (after_set s p index item) ≡ map (changed_at p (λ v. put_in v index item)) (walk s) }
+    ensures set_all { (s : Rows) (p : List (List ℕ)) (v : HeldValue) → IsTree s → row_at s.rows p
+        ≢ None → walk (after_set_all s p v) ≡ map (changed_at p (λ _. v)) (walk s) }
+    ensures resize { (s : Rows) (p : List (List ℕ)) (len : ℕ) → IsTree s
+        → walk (after_resize s p len) ≡ map (changed_at p (λ v. resized v len)) (walk s) }
 {}
 
 /// In a tree the rows that `create` makes, the missing directories from the top and then the row, come into the walk
 /// one after the other: a key right behind the keys of its directory, a directory right behind everything below its
 /// parent. All other rows keep their places. A path has at most 32 names.
 pub fn walk_after_create()
-    ensures inserted { (s : Rows) (p : List (List ℕ)) (kind : NewKey) (number : ℕ) → IsTree s → length p ≤ depth_limit → IsReply s (Create p kind (Ok number)) → AreInserted s (made_for s p (new_value kind)) }
-    ensures rows { (s : Rows) (p : List (List ℕ)) (kind : NewKey) → after_create s p kind ≡ with_rows s (made_for s p (new_value kind)) }
+    ensures inserted { (s : Rows) (p : List (List ℕ)) (kind : NewKey) (number : ℕ) → IsTree s
+        → length p ≤ depth_limit → IsReply s (Create p kind (Ok number))
+        → AreInserted s (made_for s p (new_value kind)) }
+    ensures rows { (s : Rows) (p : List (List ℕ)) (kind : NewKey) → after_create s p kind
+        ≡ with_rows s (made_for s p (new_value kind)) }
 {}
 
 /// In a tree the rows that `set_all` makes where there is no row come into the walk just like those of `create`.
 pub fn walk_after_set_all()
-    ensures inserted { (s : Rows) (p : List (List ℕ)) (v : HeldValue) (number : ℕ) → IsTree s → length p ≤ depth_limit → IsReply s (SetAll p v (Ok number)) → row_at s.rows p ≡ None → AreInserted s (made_for s p (Some v)) }
-    ensures rows { (s : Rows) (p : List (List ℕ)) (v : HeldValue) → row_at s.rows p ≡ None → after_set_all s p v ≡ with_rows s (made_for s p (Some v)) }
+    ensures inserted { (s : Rows) (p : List (List ℕ)) (v : HeldValue) (number : ℕ) → IsTree s
+        → length p ≤ depth_limit → IsReply s (SetAll p v (Ok number)) → row_at s.rows p ≡ None
+        → AreInserted s (made_for s p (Some v)) }
+    ensures rows { (s : Rows) (p : List (List ℕ)) (v : HeldValue) → row_at s.rows p ≡ None
+        → after_set_all s p v ≡ with_rows s (made_for s p (Some v)) }
 {}
 
 /// The new database is one, and each legal history keeps a database.
 pub fn databases_stay()
     ensures begins { IsDatabase no_rows }
-    ensures after { (s : Rows) (entry : DatabaseEntry) → IsDatabase s → IsSoundCall entry → IsReply s entry → IsDatabase (rows_after s entry) }
-    ensures stays { (s : Rows) (history : List (ℕ × DatabaseEntry)) → IsDatabase s → IsLegal s history → IsDatabase (replay s history) }
+    ensures after { (s : Rows) (entry : DatabaseEntry) → IsDatabase s → IsSoundCall entry
+        → IsReply s entry → IsDatabase (rows_after s entry) }
+    ensures stays { (s : Rows) (history : List (ℕ × DatabaseEntry)) → IsDatabase s
+        → IsLegal s history → IsDatabase (replay s history) }
 {}
 
 /// The walk through a database has its rows, each once, and so at most one row at a path.
@@ -92,5 +114,7 @@ pub fn walk_has_all_rows()
 
 /// What `list` answers are the rows that the walk meets directly below the directory, in order.
 pub fn list_follows_walk()
-    ensures { (s : Rows) (p : List (List ℕ)) (children : List Child) → IsDatabase s → IsReply s (ListDir p (Ok children)) → children ≡ map child_of (directly_below p (walk s)) }
+    ensures { (s : Rows) (p : List (List ℕ)) (children : List Child) → IsDatabase s
+        → IsReply s (ListDir p (Ok children)) → children
+        ≡ map child_of (directly_below p (walk s)) }
 {}

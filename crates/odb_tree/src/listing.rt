@@ -49,7 +49,8 @@ fn add_listed(
     names: &[Name],
     keys: bool,
 ) -> Result<(), NoMemory>
-    ensures { OnOk result (children.new.items ≡ children.old.items ++ (if is_listed keys names.now row.now then child_of row.now ∷ [] else [])) }
+    ensures { OnOk result (children.new.items ≡ children.old.items
+        ++ (if is_listed keys names.now row.now then child_of row.now ∷ [] else [])) }
 {
     if is_listed(row, names, keys) {
         children.push(child_of(row))?;
@@ -64,7 +65,8 @@ fn add_children(
     names: &[Name],
     keys: bool,
 ) -> Result<(), NoMemory>
-    ensures { OnOk result (children.new.items ≡ children.old.items ++ map child_of (filter (is_listed keys names.now) rows.now)) }
+    ensures { OnOk result (children.new.items ≡ children.old.items ++ map child_of
+        (filter (is_listed keys names.now) rows.now)) }
 {
     for row in rows {
         add_listed(children, row, names, keys)?;

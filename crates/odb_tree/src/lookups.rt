@@ -81,7 +81,8 @@ pub fn seek<'a>(rows: &'a [Row], names: &[Name]) -> Result<&'a Row, OdbRefusal>
 
 /// The key at a path, or why there is none.
 pub fn seek_key<'a>(rows: &'a [Row], names: &[Name]) -> Result<Key<'a>, OdbRefusal>
-    ensures found { IfOk result (λ key. seek_key rows.now names.now ≡ Ok (key.number, key.value.now)) }
+    ensures found { IfOk result (λ key. seek_key rows.now names.now
+        ≡ Ok (key.number, key.value.now)) }
     ensures refused { IfErr result (λ refusal. seek_key rows.now names.now ≡ Err refusal) }
 {
     if names.is_empty() {

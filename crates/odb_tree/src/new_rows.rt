@@ -72,7 +72,8 @@ impl Way {
     ) -> Result<(), NoMemory>
         requires depth { length self.old.path < depth_limit }
         requires fits { next + length self.old.dirs + missing_at (option_copied row) ≤ 2 ^ 32 }
-        ensures { OnOk result (self.new ≡ further next name.now self.old (option_copied row.entry)) }
+        ensures { OnOk result (self.new ≡ further next name.now self.old
+            (option_copied row.entry)) }
     {
         match row {
             Some(row) => {
@@ -115,7 +116,9 @@ impl Way {
     ) -> Result<Vec<Row>, NoMemory>
         requires depth { length self.path < depth_limit }
         requires fits { next + length self.dirs < 2 ^ 32 }
-        ensures { IfOk result (λ rows. rows.items ≡ self.dirs ++ record { number = next + length self.dirs; path = self.path ++ name ∷ []; value = value } ∷ []) }
+        ensures { IfOk result (λ rows. rows.items ≡ self.dirs ++ record
+            { number = next + length self.dirs; path = self.path ++ name ∷ []; value = value }
+            ∷ []) }
     {
         let mut path = self.path;
         let mut rows = self.dirs;

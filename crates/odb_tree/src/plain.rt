@@ -63,7 +63,8 @@ impl PlainTree {
     fn new_fault(&self, names: &[Name], own: Option<What>, bytes: u64) -> Option<OdbRefusal>
         requires depth { length names.now ≤ depth_limit }
         requires small { bytes < 2 ^ 62 }
-        ensures { (value : Option HeldValue) → (own ≡ None → bytes_in value ≡ bytes) → result ≡ limit_fault own (created self.now names.now value) }
+        ensures { (value : Option HeldValue) → (own ≡ None → bytes_in value ≡ bytes) → result
+            ≡ limit_fault own (created self.now names.now value) }
     {
         let rows = self.rows.as_slice();
         let missing = count_missing(rows, parent(names));
@@ -80,7 +81,8 @@ impl PlainTree {
     fn change_fault(&self, own: Option<What>, had: u64, bytes: u64) -> Option<OdbRefusal>
         requires had { had ≤ total_of self.now.rows }
         requires small { bytes < 2 ^ 62 }
-        ensures { result ≡ option_map Limit (passed own (length self.now.rows) (total_of self.now.rows - had + bytes) self.now.next) }
+        ensures { result ≡ option_map Limit (passed own (length self.now.rows)
+            (total_of self.now.rows - had + bytes) self.now.next) }
     {
         let rows = self.rows.as_slice();
         limit_fault(own, rows.len(), total(rows) - had + bytes, self.next)

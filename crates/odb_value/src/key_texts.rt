@@ -60,7 +60,9 @@ fn add_item_lines(text: &mut TextBuffer, size: u32, items: &[Item]) -> Result<()
 
 /// Adds an array: the number of its items, and their lines.
 fn add_array(text: &mut TextBuffer, size: u32, items: &[Item]) -> Result<(), NoMemory>
-    ensures { OnOk result (text.new ≡ text.old ++ (codes "[" ++ (decimal (length items.now) ++ (codes "] :" ++ (10 ∷ item_lines size 0 items.now))))) }
+    ensures { OnOk result (text.new ≡ text.old ++ (codes
+        "[" ++ (decimal (length items.now) ++ (codes "] :"
+        ++ (10 ∷ item_lines size 0 items.now))))) }
 {
     text.text(b"[")?;
     text.number(items.len() as u64)?;

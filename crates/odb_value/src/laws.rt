@@ -11,10 +11,12 @@ ghost use Rattle.odb_value.specs.Places.{IsFirstPlace};
 
 /// The text of an item, read with the item's type, is the item, unless it is a text of more than 1,023 bytes.
 pub fn item_again()
-    ensures { (item : Item) → IsSound item → IsShorter size_limit item → item_read (tid_of item) (item_text item) ≡ Ok item }
+    ensures { (item : Item) → IsSound item → IsShorter size_limit item
+        → item_read (tid_of item) (item_text item) ≡ Ok item }
 {}
 
 /// The place of a text that is in no form of its type is the first where the form cannot go on.
 pub fn first_place()
-    ensures { (type : Tid) → (text : List ℕ) → (place : ℕ) → item_read type text ≡ Err (BadText place) → IsFirstPlace type text place }
+    ensures { (type : Tid) → (text : List ℕ) → (place : ℕ) → item_read type text
+        ≡ Err (BadText place) → IsFirstPlace type text place }
 {}

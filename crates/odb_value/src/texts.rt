@@ -97,7 +97,8 @@ fn char_byte(text: &[u8]) -> Result<CharByte, ItemRefusal>
 /// The text of a STRING, with memory of its own.
 fn text_bytes(alloc: Global, text: &[u8]) -> Result<TextBytes, ItemRefusal>
     ensures read { IfOk result (λ bytes. text_read text.now ≡ Ok bytes) }
-    ensures refused { IfErr result (λ refusal. refusal ≢ ItemRefusal.NoMemory → text_read text.now ≡ Err refusal) }
+    ensures refused { IfErr result (λ refusal. refusal ≢ ItemRefusal.NoMemory → text_read text.now
+        ≡ Err refusal) }
 {
     if let Some(at) = TextBytes::bad_place(text) {
         return Err(ItemRefusal::BadText { at: at as u64 });
@@ -125,7 +126,8 @@ fn copied(alloc: Global, bytes: &[u8]) -> Result<Vec<u8>, NoMemory>
 /// comes for texts alone.
 pub fn parse_item(alloc: Global, tid: Tid, text: &[u8]) -> Result<Item, ItemRefusal>
     ensures item { IfOk result (λ item. item_read tid text.now ≡ Ok item) }
-    ensures refused { IfErr result (λ refusal. refusal ≢ ItemRefusal.NoMemory → item_read tid text.now ≡ Err refusal) }
+    ensures refused { IfErr result (λ refusal. refusal ≢ ItemRefusal.NoMemory
+        → item_read tid text.now ≡ Err refusal) }
     ensures memory { IfErr result (λ refusal. refusal ≡ ItemRefusal.NoMemory → tid ≡ Tid.Text) }
 {
     match tid {

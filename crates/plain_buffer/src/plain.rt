@@ -68,14 +68,18 @@ impl PlainBuffer {
 
     /// How many events have to go for this one, or why it is not taken.
     fn room_for(&self, header: &Header, body: &[u8]) -> Result<usize, SendRefusal>
-        ensures taken { OnOk result (send_reply self.now header.now.data_size (event_of header.now body.now) ≡ Ok (accepted_of self.now)) }
-        ensures gone { IfOk result (λ gone. gone ≡ gone_of self.now (event_of header.now body.now)) }
+        ensures taken { OnOk result (send_reply self.now header.now.data_size
+            (event_of header.now body.now) ≡ Ok (accepted_of self.now)) }
+        ensures gone { IfOk result (λ gone. gone ≡ gone_of self.now
+            (event_of header.now body.now)) }
         ensures stated { OnOk result (header.now.data_size ≡ length body.now) }
         ensures small { OnOk result (length body.now ≤ event_limit) }
         ensures free { OnOk result (is_reserved header.now.event_id ≡ false) }
         ensures fits { OnOk result (slot_size (event_of header.now body.now) ≤ self.now.size) }
-        ensures spent { OnOk result (self.now.total + slot_size (event_of header.now body.now) ≤ 2 ^ 62) }
-        ensures refused { IfErr result (λ refusal. send_reply self.now header.now.data_size (event_of header.now body.now) ≡ Err refusal) }
+        ensures spent { OnOk result (self.now.total + slot_size (event_of header.now body.now)
+            ≤ 2 ^ 62) }
+        ensures refused { IfErr result (λ refusal. send_reply self.now header.now.data_size
+            (event_of header.now body.now) ≡ Err refusal) }
     {
         if header.data_size as usize != body.len() || header.data_size > MAX_DATA {
             return Err(SendRefusal::BadSize {
@@ -138,8 +142,10 @@ impl PlainBuffer {
     /// Takes the event, of the run with this start number, where there is room for it.
     fn put(&mut self, start: u32, header: &Header, body: &[u8]) -> Result<u64, SendRefusal>
         requires { start ≤ self.old.last }
-        ensures reply { result ≡ send_reply self.old header.now.data_size (event_of header.now body.now) }
-        ensures ok { OnOk result (self.new ≡ after_send self.old start (event_of header.now body.now)) }
+        ensures reply { result ≡ send_reply self.old header.now.data_size
+            (event_of header.now body.now) }
+        ensures ok { OnOk result (self.new ≡ after_send self.old start
+            (event_of header.now body.now)) }
         ensures err { OnErr result (self.new ≡ self.old) }
     {
         let gone = self.room_for(header, body)?;

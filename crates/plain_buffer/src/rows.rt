@@ -65,7 +65,8 @@ pub fn first_wanted<'a>(
     requires whole { sum_by size_of_row rows.now ≤ length bytes.now }
     requires places { first + length rows.now < 2 ^ 64 }
     ensures none { result ≡ None → found_in client.now first (kept_of rows.now bytes.now) ≡ None }
-    ensures some { IfSome result (λ found. IsFound (found_in client.now first (kept_of rows.now bytes.now)) found.place found.row found.body.now) }
+    ensures some { IfSome result (λ found. IsFound (found_in client.now first
+        (kept_of rows.now bytes.now)) found.place found.row found.body.now) }
     ensures stated { IfSome result (λ found. found.row.header.data_size ≡ length found.body.now) }
     ensures place { IfSome result (λ found. found.place < first + length rows.now) }
 {

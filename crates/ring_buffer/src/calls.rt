@@ -21,9 +21,12 @@ impl RingBuffer {
         body: &[u8],
         steps: &mut Steps<L>,
     ) -> Result<u64, SendRefusal>
-        ensures reply { IsReply self.old (Send header.now.data_size (event_of header.now body.now) result) }
-        ensures after { self.new ≡ window_after self.old (Send header.now.data_size (event_of header.now body.now) result) }
-        ensures reads { steps.new ≤ steps.old + reads_of_send self.old (event_of header.now body.now) result }
+        ensures reply { IsReply self.old (Send header.now.data_size (event_of header.now body.now)
+            result) }
+        ensures after { self.new ≡ window_after self.old
+            (Send header.now.data_size (event_of header.now body.now) result) }
+        ensures reads { steps.new ≤ steps.old + reads_of_send self.old
+            (event_of header.now body.now) result }
     {
         self.put(0, header, body, steps)
     }
@@ -36,9 +39,12 @@ impl RingBuffer {
         body: &[u8],
         steps: &mut Steps<L>,
     ) -> Result<u64, SendRefusal>
-        ensures reply { IsReply self.old (SendInRun start header.now.data_size (event_of header.now body.now) result) }
-        ensures after { self.new ≡ window_after self.old (SendInRun start header.now.data_size (event_of header.now body.now) result) }
-        ensures reads { steps.new ≤ steps.old + reads_of_send self.old (event_of header.now body.now) result }
+        ensures reply { IsReply self.old (SendInRun start header.now.data_size
+            (event_of header.now body.now) result) }
+        ensures after { self.new ≡ window_after self.old
+            (SendInRun start header.now.data_size (event_of header.now body.now) result) }
+        ensures reads { steps.new ≤ steps.old + reads_of_send self.old
+            (event_of header.now body.now) result }
     {
         if !self.gate.is_running(start) {
             return Err(SendRefusal::NotRunning { gate: self.gate });
@@ -55,8 +61,10 @@ impl RingBuffer {
         requires name { blank.name ≡ L.name }
         requires parts { blank.parts ≡ L.parts }
         requires some { 0 < blank.parts }
-        ensures reply { IsReply self.old (Send header.now.data_size (event_of header.now body.now) result) }
-        ensures after { self.new ≡ window_after self.old (Send header.now.data_size (event_of header.now body.now) result) }
+        ensures reply { IsReply self.old (Send header.now.data_size (event_of header.now body.now)
+            result) }
+        ensures after { self.new ≡ window_after self.old
+            (Send header.now.data_size (event_of header.now body.now) result) }
     {
         self.send_counted(header, body, &mut Steps::<L>::new(blank))
     }
@@ -71,8 +79,10 @@ impl RingBuffer {
         requires name { blank.name ≡ L.name }
         requires parts { blank.parts ≡ L.parts }
         requires some { 0 < blank.parts }
-        ensures reply { IsReply self.old (SendInRun start header.now.data_size (event_of header.now body.now) result) }
-        ensures after { self.new ≡ window_after self.old (SendInRun start header.now.data_size (event_of header.now body.now) result) }
+        ensures reply { IsReply self.old (SendInRun start header.now.data_size
+            (event_of header.now body.now) result) }
+        ensures after { self.new ≡ window_after self.old
+            (SendInRun start header.now.data_size (event_of header.now body.now) result) }
     {
         self.send_in_run_counted(start, header, body, &mut Steps::<L>::new(blank))
     }

@@ -48,7 +48,8 @@ impl RingBuffer {
         ensures after { self.new ≡ window_after self.old (Receive client into.old.room result) }
         ensures event { into.new.event ≡ event_after into.old.event self.old result }
         ensures room { into.new.room ≡ into.old.room }
-        ensures reads { steps.new ≤ steps.old + reads_of_receive self.old (slot_at self.old.clients client) result }
+        ensures reads { steps.new ≤ steps.old + reads_of_receive self.old
+            (slot_at self.old.clients client) result }
     {
         let Some(position) = self.clients.at(client) else {
             return Received::NoClient;

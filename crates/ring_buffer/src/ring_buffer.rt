@@ -70,16 +70,24 @@ impl RingBuffer {
         body: &[u8],
         steps: &mut Steps<L>,
     ) -> Result<Position, SendRefusal>
-        ensures taken { OnOk result (send_reply self.now header.now.data_size (event_of header.now body.now) ≡ Ok (accepted_of self.now)) }
-        ensures refused { IfErr result (λ refusal. send_reply self.now header.now.data_size (event_of header.now body.now) ≡ Err refusal) }
-        ensures place { IfOk result (λ way. way.place ≡ self.now.first + gone_of self.now (event_of header.now body.now)) }
-        ensures level { IfOk result (λ way. way.off + sum_by slot_of_sent (drop (gone_of self.now (event_of header.now body.now)) self.now.kept) ≡ self.now.total) }
+        ensures taken { OnOk result (send_reply self.now header.now.data_size
+            (event_of header.now body.now) ≡ Ok (accepted_of self.now)) }
+        ensures refused { IfErr result (λ refusal. send_reply self.now header.now.data_size
+            (event_of header.now body.now) ≡ Err refusal) }
+        ensures place { IfOk result (λ way. way.place ≡ self.now.first + gone_of self.now
+            (event_of header.now body.now)) }
+        ensures level { IfOk result (λ way. way.off + sum_by slot_of_sent
+            (drop (gone_of self.now (event_of header.now body.now)) self.now.kept)
+            ≡ self.now.total) }
         ensures stated { OnOk result (header.now.data_size ≡ length body.now) }
         ensures small { OnOk result (length body.now ≤ event_limit) }
         ensures fits { OnOk result (slot_size (event_of header.now body.now) ≤ self.now.size) }
-        ensures spent { OnOk result (self.now.total + slot_size (event_of header.now body.now) ≤ 2 ^ 62) }
-        ensures reads { OnOk result (steps.new ≤ steps.old + gone_of self.now (event_of header.now body.now)) }
-        ensures refused_reads { IfErr result (λ refusal. steps.new ≤ steps.old + reads_of_send self.now (event_of header.now body.now) (Err refusal)) }
+        ensures spent { OnOk result (self.now.total + slot_size (event_of header.now body.now)
+            ≤ 2 ^ 62) }
+        ensures reads { OnOk result (steps.new ≤ steps.old + gone_of self.now
+            (event_of header.now body.now)) }
+        ensures refused_reads { IfErr result (λ refusal. steps.new
+            ≤ steps.old + reads_of_send self.now (event_of header.now body.now) (Err refusal)) }
     {
         if header.data_size as usize != body.len() || header.data_size > MAX_DATA {
             return Err(SendRefusal::BadSize {
@@ -116,13 +124,16 @@ impl RingBuffer {
 
     /// Drops the events in front of this position and takes this one, of the run with this start number.
     fn admit(&mut self, way: Position, start: u32, header: &Header, body: &[u8])
-        requires place { way.place ≡ self.old.first + gone_of self.old (event_of header.now body.now) }
-        requires level { way.off + sum_by slot_of_sent (drop (gone_of self.old (event_of header.now body.now)) self.old.kept) ≡ self.old.total }
+        requires place { way.place ≡ self.old.first + gone_of self.old
+            (event_of header.now body.now) }
+        requires level { way.off + sum_by slot_of_sent (drop
+            (gone_of self.old (event_of header.now body.now)) self.old.kept) ≡ self.old.total }
         requires stated { header.now.data_size ≡ length body.now }
         requires small { length body.now ≤ event_limit }
         requires fits { slot_size (event_of header.now body.now) ≤ self.old.size }
         requires spent { self.old.total + slot_size (event_of header.now body.now) ≤ 2 ^ 62 }
-        requires window { IsWindow self.old → IsWindow (after_send self.old start (event_of header.now body.now)) }
+        requires window { IsWindow self.old → IsWindow (after_send self.old start
+            (event_of header.now body.now)) }
         ensures { self.new ≡ after_send self.old start (event_of header.now body.now) }
     {
         let front = front_bytes_of(start, header);
@@ -143,11 +154,16 @@ impl RingBuffer {
         body: &[u8],
         steps: &mut Steps<L>,
     ) -> Result<u64, SendRefusal>
-        requires window { IsWindow self.old → (n : ℕ) → send_reply self.old header.now.data_size (event_of header.now body.now) ≡ Ok n → IsWindow (after_send self.old start (event_of header.now body.now)) }
-        ensures reply { result ≡ send_reply self.old header.now.data_size (event_of header.now body.now) }
-        ensures ok { OnOk result (self.new ≡ after_send self.old start (event_of header.now body.now)) }
+        requires window { IsWindow self.old → (n : ℕ) → send_reply self.old header.now.data_size
+            (event_of header.now body.now) ≡ Ok n
+            → IsWindow (after_send self.old start (event_of header.now body.now)) }
+        ensures reply { result ≡ send_reply self.old header.now.data_size
+            (event_of header.now body.now) }
+        ensures ok { OnOk result (self.new ≡ after_send self.old start
+            (event_of header.now body.now)) }
         ensures err { OnErr result (self.new ≡ self.old) }
-        ensures reads { steps.new ≤ steps.old + reads_of_send self.old (event_of header.now body.now) result }
+        ensures reads { steps.new ≤ steps.old + reads_of_send self.old
+            (event_of header.now body.now) result }
     {
         let way = self.way_for(header, body, steps)?;
         let place = self.count;

@@ -30,9 +30,11 @@ pub fn find_way<L: Ledger>(
     requires small { end.off ≤ 2 ^ 62 }
     requires short { length ring.now ≤ 2 ^ 32 }
     ensures way { IfOk result (λ at. IsWay ring.now (clients_of clients.now) from at end slot) }
-    ensures owed { IfErr result (λ owed. in_the_way ring.now (clients_of clients.now) from end slot ≡ Some (owed.client, owed.place)) }
+    ensures owed { IfErr result (λ owed. in_the_way ring.now (clients_of clients.now) from end
+        slot ≡ Some (owed.client, owed.place)) }
     ensures steps { IfOk result (λ at. steps.new ≡ steps.old + (at.place - from.place)) }
-    ensures owed_steps { IfErr result (λ owed. steps.new ≡ steps.old + (owed.place - from.place + 1)) }
+    ensures owed_steps { IfErr result (λ owed. steps.new
+        ≡ steps.old + (owed.place - from.place + 1)) }
 {
     let size = u64::from(ring.size());
     let mut off = from.off;
@@ -54,7 +56,8 @@ pub fn find_way<L: Ledger>(
 
 /// Whether the client, which is attached, has yet to be given the event of this header and place.
 fn is_wanted(clients: &Pointers, client: u32, place: u64, header: &Header) -> bool
-    ensures { (c : Client) → slot_at (clients_of clients.now) client ≡ Some c → result ≡ wants place (event_of header.now []) c }
+    ensures { (c : Client) → slot_at (clients_of clients.now) client ≡ Some c → result
+        ≡ wants place (event_of header.now []) c }
 {
     match clients.wanted(client, place, header) {
         Some(wanted) => wanted,
@@ -74,9 +77,12 @@ pub fn find_wanted<L: Ledger>(
     requires least { 24 ≤ length ring.now }
     requires walk { IsWalk ring.now from end }
     requires small { end.off ≤ 2 ^ 62 }
-    ensures found { IfSome result (λ found. IsFoundFor ring.now (clients_of clients.now) client from end found) }
-    ensures nothing { IfNone result (FindsNothing ring.now (clients_of clients.now) client from end) }
-    ensures steps { IfSome result (λ found. steps.new ≡ steps.old + (found.at.place - from.place + 1)) }
+    ensures found { IfSome result (λ found. IsFoundFor ring.now (clients_of clients.now) client
+        from end found) }
+    ensures nothing { IfNone result (FindsNothing ring.now (clients_of clients.now) client from
+        end) }
+    ensures steps { IfSome result (λ found. steps.new
+        ≡ steps.old + (found.at.place - from.place + 1)) }
     ensures all_steps { IfNone result (steps.new ≡ steps.old + (end.place - from.place)) }
 {
     let mut off = from.off;

@@ -45,7 +45,8 @@ fn with_fields_that_fit(header: Header) -> Header
 pub fn read_front<L: Ledger>(ring: &Ring, off: u64, steps: &mut Steps<L>) -> Front
     requires { 24 ≤ length ring.now }
     ensures start { (s : Sent) → HoldsEvent ring.now off s → FitsSlot s → result.start ≡ s.start }
-    ensures header { (s : Sent) → HoldsEvent ring.now off s → FitsSlot s → result.header ≡ fields_of s.event }
+    ensures header { (s : Sent) → HoldsEvent ring.now off s → FitsSlot s → result.header
+        ≡ fields_of s.event }
     ensures step { steps.new ≡ steps.old + 1 }
 {
     let mut bytes = [0; FRONT];

@@ -27,7 +27,8 @@ impl Model for Ring {
 /// Writes the part into the bytes from this place on.
 fn write_part(bytes: &mut [u8], start: usize, part: &[u8])
     requires { start + length part.now ≤ length bytes.old }
-    ensures { bytes.new ≡ take start bytes.old ++ (part.now ++ drop (start + length part.now) bytes.old) }
+    ensures { bytes.new ≡ take start bytes.old ++ (part.now ++ drop (start + length part.now)
+        bytes.old) }
 {
     bytes[start..start + part.len()].copy_from_slice(part);
 }

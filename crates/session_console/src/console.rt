@@ -65,7 +65,8 @@ fn add_run_number(text: &mut TextBuffer, have: i32) -> Result<(), NoMemory>
 
 /// Adds the line of a start for which there is no run number.
 fn add_no_number(text: &mut TextBuffer, line: u64, have: i32) -> Result<(), NoMemory>
-    ensures { OnOk result (text.new ≡ text.old ++ refused_line line (codes "RunNumber " ++ item_text (Int32 have))) }
+    ensures { OnOk result (text.new ≡ text.old ++ refused_line line
+        (codes "RunNumber " ++ item_text (Int32 have))) }
 {
     text.text(b"refused ")?;
     text.number(line)?;
@@ -99,7 +100,8 @@ fn add_start_refused(
     client: u32,
     why: &Why,
 ) -> Result<(), NoMemory>
-    ensures { OnOk result (text.new ≡ text.old ++ refused_line line (codes "StartRefused " ++ (client_name client ++ (32 ∷ why_text why.now)))) }
+    ensures { OnOk result (text.new ≡ text.old ++ refused_line line
+        (codes "StartRefused " ++ (client_name client ++ (32 ∷ why_text why.now)))) }
 {
     text.text(b"refused ")?;
     text.number(line)?;
@@ -119,7 +121,8 @@ fn add_refuser(text: &mut TextBuffer, client: u32, why: &Why) -> Result<(), NoMe
 
 /// Adds the line of a run's state: `run`, its number, and the word.
 fn add_run(text: &mut TextBuffer, run: u32, word: &[u8]) -> Result<(), NoMemory>
-    ensures { OnOk result (text.new ≡ text.old ++ (codes "run " ++ (decimal run ++ (word.now ++ 10 ∷ [])))) }
+    ensures { OnOk result (text.new ≡ text.old ++ (codes "run "
+        ++ (decimal run ++ (word.now ++ 10 ∷ [])))) }
 {
     text.text(b"run ")?;
     text.number(run as u64)?;

@@ -108,7 +108,8 @@ impl<M: Machine> Turns<M> {
         requires zero { number_of zero ≡ 0 }
         requires idle { held_by zero ≡ None }
         requires paired { (n : ℕ) → 0 < n → n < passes_of self → IsPaired n zero.seat.me.0.pairs }
-        ensures { Settles M.step (M.state (first_value self)) (M.state result) (passes_of self) zero.seat.me.0 }
+        ensures { Settles M.step (M.state (first_value self)) (M.state result) (passes_of self)
+            zero.seat.me.0 }
     {
         let Turns { table, count: _ } = self;
         let mut closed = table.close_with(zero.seat);
@@ -125,15 +126,21 @@ impl<M: Machine> Turns<M> {
 
         // The history leads from the first value to the last.
         ensures opened { IfOk result (λ closed. opened_with closed ≡ first_value self) }
-        ensures legal { IfOk result (λ closed. Leads M.step (M.state (opened_with closed)) (history_of closed) (M.state closed.value)) }
+        ensures legal { IfOk result (λ closed. Leads M.step (M.state (opened_with closed))
+            (history_of closed) (M.state closed.value)) }
 
         // What each pass has seen is a beginning of it, and the entries with a pass's number are its own.
-        ensures parts { IfOk result (λ closed. All (λ pass. IsPartOf (history_of closed) (number_of pass) (seen_by pass)) (items_of passes)) }
-        ensures known { IfOk result (λ closed. (n : ℕ) → passes_of self ≤ n → entries_by n (history_of closed) ≡ []) }
-        ensures length { IfOk result (λ closed. length (history_of closed) ≡ entries_below (passes_of self) (history_of closed)) }
+        ensures parts { IfOk result (λ closed. All (λ pass. IsPartOf (history_of closed)
+            (number_of pass) (seen_by pass)) (items_of passes)) }
+        ensures known { IfOk result (λ closed. (n : ℕ) → passes_of self ≤ n
+            → entries_by n (history_of closed) ≡ []) }
+        ensures length { IfOk result (λ closed. length (history_of closed)
+            ≡ entries_below (passes_of self) (history_of closed)) }
 
-        ensures complete { IfOk result (λ closed. AreComplete (numbers_of passes) (passes_of self)) }
-        ensures missing { IfErr result (λ refusal. IsLeastMissing (numbers_of passes) (passes_of self) refusal.0.number) }
+        ensures complete { IfOk result (λ closed. AreComplete (numbers_of passes)
+            (passes_of self)) }
+        ensures missing { IfErr result (λ refusal. IsLeastMissing (numbers_of passes)
+            (passes_of self) refusal.0.number) }
         ensures same { IfErr result (λ refusal. (refusal.1 ≡ self) × (refusal.2 ≡ passes)) }
     {
         if let Some(number) = passes.first_missing(self.count) {

@@ -104,8 +104,10 @@ impl<M: Machine> Turns<M> {
         ensures found { OnOk result (found_by pass.new ≡ found_by pass.old) }
 
         // The number that this try found, which is put behind those found before, is that of another of the lock's passes.
-        ensures taken { IfErr result (λ taken. found_by pass.new ≡ found_by pass.old ++ taken.holder ∷ []) }
-        ensures another { IfErr result (λ taken. (taken.holder < passes_of self.now) × (taken.holder ≢ number_of pass.old)) }
+        ensures taken { IfErr result (λ taken. found_by pass.new
+            ≡ found_by pass.old ++ taken.holder ∷ []) }
+        ensures another { IfErr result (λ taken. (taken.holder < passes_of self.now)
+            × (taken.holder ≢ number_of pass.old)) }
         ensures idle { OnErr result (held_by pass.new ≡ None) }
     {
         let number = u64::from(pass.number);
@@ -177,15 +179,20 @@ impl<M: Machine> Turns<M> {
     )
         requires own { IsOf self.now pass.old }
         requires said { (W.entry ≡ Some (C.entry call.now)) × (W.after ≡ Some (M.state value.now)) }
-        requires step { (before : _) × (held_by pass.old ≡ Some before) × M.step before (number_of pass.old) (C.entry call.now) (M.state value.now) }
+        requires step { (before : _) × (held_by pass.old ≡ Some before)
+            × M.step before (number_of pass.old) (C.entry call.now) (M.state value.now) }
 
         ensures own { IsOf self.now pass.new }
         ensures number { number_of pass.new ≡ number_of pass.old }
         ensures held { held_by pass.new ≡ Some (M.state value.now) }
         ensures found { found_by pass.new ≡ found_by pass.old }
-        ensures appends { Appends (number_of pass.old) (C.entry call.now) (seen_by pass.old) (seen_by pass.new) }
-        ensures led { (before : _) × (held_by pass.old ≡ Some before) × EndsInStep M.step (M.state (first_value self.now)) before (number_of pass.old) (C.entry call.now) (M.state value.now) (seen_by pass.new) }
-        ensures legal { Leads M.step (M.state (first_value self.now)) (seen_by pass.new) (M.state value.now) }
+        ensures appends { Appends (number_of pass.old) (C.entry call.now) (seen_by pass.old)
+            (seen_by pass.new) }
+        ensures led { (before : _) × (held_by pass.old ≡ Some before)
+            × EndsInStep M.step (M.state (first_value self.now)) before (number_of pass.old)
+            (C.entry call.now) (M.state value.now) (seen_by pass.new) }
+        ensures legal { Leads M.step (M.state (first_value self.now)) (seen_by pass.new)
+            (M.state value.now) }
     {
         self.table
             .shared
@@ -195,7 +202,8 @@ impl<M: Machine> Turns<M> {
     /// Puts the value back and frees the turn. The entry that `call` stands for is appended to the history.
     pub fn put<C: Call<M>>(&self, pass: &mut Pass<M>, held: Held<M>, call: &C)
         requires own { IsOf self.now pass.old }
-        requires step { (before : _) × (held_by pass.old ≡ Some before) × M.step before (number_of pass.old) (C.entry call.now) (M.state held.value) }
+        requires step { (before : _) × (held_by pass.old ≡ Some before)
+            × M.step before (number_of pass.old) (C.entry call.now) (M.state held.value) }
 
         ensures own { IsOf self.now pass.new }
         ensures number { number_of pass.new ≡ number_of pass.old }
@@ -203,12 +211,16 @@ impl<M: Machine> Turns<M> {
         ensures found { found_by pass.new ≡ found_by pass.old }
 
         // What was seen ends with the new entry; before it come other passes' entries alone.
-        ensures appends { Appends (number_of pass.old) (C.entry call.now) (seen_by pass.old) (seen_by pass.new) }
+        ensures appends { Appends (number_of pass.old) (C.entry call.now) (seen_by pass.old)
+            (seen_by pass.new) }
         ensures mine { own_entries pass.new ≡ own_entries pass.old ++ C.entry call.now ∷ [] }
 
         // All that came before it leads to what was held, and the entry leads from there to what is laid back.
-        ensures led { (before : _) × (held_by pass.old ≡ Some before) × EndsInStep M.step (M.state (first_value self.now)) before (number_of pass.old) (C.entry call.now) (M.state held.value) (seen_by pass.new) }
-        ensures legal { Leads M.step (M.state (first_value self.now)) (seen_by pass.new) (M.state held.value) }
+        ensures led { (before : _) × (held_by pass.old ≡ Some before)
+            × EndsInStep M.step (M.state (first_value self.now)) before (number_of pass.old)
+            (C.entry call.now) (M.state held.value) (seen_by pass.new) }
+        ensures legal { Leads M.step (M.state (first_value self.now)) (seen_by pass.new)
+            (M.state held.value) }
     {
         let Held { value, owed: Owed } = held;
         self.count::<Brand, C>(pass, &value, call);
@@ -266,7 +278,8 @@ impl<M: Machine> Turns<M> {
         ensures met { IsPrefix other.me.0.seen (seen_by pass.new) }
         ensures longer { seen_by pass.new ≡ longer (seen_by pass.old) other.me.0.seen }
         ensures mine { own_entries pass.new ≡ own_entries pass.old }
-        ensures pairs { pass.new.seat.me.0.pairs ≡ pass.old.seat.me.0.pairs ++ pair_of other.me.0.number other.me.0.seen }
+        ensures pairs { pass.new.seat.me.0.pairs ≡ pass.old.seat.me.0.pairs ++ pair_of
+            other.me.0.number other.me.0.seen }
     {
         self.table.shared.join_seat::<Joins>(&mut pass.seat, other);
         self.table.shared.load::<Looks>(&mut pass.seat, COUNT);

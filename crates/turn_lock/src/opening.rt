@@ -18,12 +18,20 @@ impl<M: Machine> Turns<M> {
     /// Splits the pass with the next number from number 0.
     fn split(&self, zero: &mut Seat<Option<M>, View<M::State, M::Entry>>, number: u32) -> Pass<M>
         requires seat { zero.old.table_id ≡ self.now.table.shared.table_id }
-        requires view { zero.old.me ≡ (dealt_view (M.state (first_value self.now)) (passes_of self.now) number, []) }
+        requires view { zero.old.me ≡ (
+          dealt_view (M.state (first_value self.now))
+              (passes_of self.now) number,
+          [],
+        ) }
         requires some { 0 < number }
         requires room { number < passes_of self.now }
 
         ensures seat { zero.new.table_id ≡ zero.old.table_id }
-        ensures view { zero.new.me ≡ (dealt_view (M.state (first_value self.now)) (passes_of self.now) (number + 1), []) }
+        ensures view { zero.new.me ≡ (
+          dealt_view (M.state (first_value self.now))
+              (passes_of self.now) (number + 1),
+          [],
+        ) }
         ensures own { IsOf self.now result }
         ensures number { number_of result ≡ number }
         ensures fresh { IsFresh result }
@@ -38,12 +46,20 @@ impl<M: Machine> Turns<M> {
     /// Splits all numbers but 0, in order, and puts the passes behind one another.
     fn deal(&self, zero: &mut Seat<Option<M>, View<M::State, M::Entry>>, items: &mut Vec<Pass<M>>)
         requires seat { zero.old.table_id ≡ self.now.table.shared.table_id }
-        requires view { zero.old.me ≡ (dealt_view (M.state (first_value self.now)) (passes_of self.now) 1, []) }
+        requires view { zero.old.me ≡ (
+          dealt_view (M.state (first_value self.now))
+              (passes_of self.now) 1,
+          [],
+        ) }
         requires empty { items.old.items ≡ [] }
         requires room { passes_of self.now ≤ vec_capacity items.old }
 
         ensures seat { zero.new.table_id ≡ zero.old.table_id }
-        ensures view { zero.new.me ≡ (dealt_view (M.state (first_value self.now)) (passes_of self.now) (passes_of self.now), []) }
+        ensures view { zero.new.me ≡ (
+          dealt_view (M.state (first_value self.now))
+              (passes_of self.now) (passes_of self.now),
+          [],
+        ) }
         ensures own { All (IsOf self.now) items.new.items }
         ensures fresh { All IsFresh items.new.items }
         ensures count { length items.new.items + 1 ≡ passes_of self.now }

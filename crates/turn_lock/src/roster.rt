@@ -36,13 +36,15 @@ impl<M: Machine> Passes<M> {
     pub fn pop(&mut self) -> Option<Pass<M>>
         ensures some { IfSome result (λ pass. items_of self.old ≡ items_of self.new ++ pass ∷ []) }
         ensures none { IfNone result ((items_of self.old ≡ []) × (items_of self.new ≡ [])) }
-        ensures numbers { IfSome result (λ pass. numbers_of self.old ≡ numbers_of self.new ++ number_of pass ∷ []) }
+        ensures numbers { IfSome result (λ pass. numbers_of self.old
+            ≡ numbers_of self.new ++ number_of pass ∷ []) }
 
         // What holds of all passes holds of those that are left, and of the one that was taken out.
         ensures own { (lock : _) → ArePassesOf lock self.old → ArePassesOf lock self.new }
         ensures idle { AreIdle self.old → AreIdle self.new }
         ensures fresh { AreFresh self.old → AreFresh self.new }
-        ensures taken_own { IfSome result (λ pass. (lock : _) → ArePassesOf lock self.old → IsOf lock pass) }
+        ensures taken_own { IfSome result (λ pass. (lock : _) → ArePassesOf lock self.old
+            → IsOf lock pass) }
         ensures taken_idle { IfSome result (λ pass. AreIdle self.old → held_by pass ≡ None) }
         ensures taken_fresh { IfSome result (λ pass. AreFresh self.old → IsFresh pass) }
         ensures room { room_of self.new ≡ room_of self.old }
@@ -56,7 +58,8 @@ impl<M: Machine> Passes<M> {
         requires { length (items_of self.old) < room_of self.old }
         ensures items { items_of self.new ≡ items_of self.old ++ pass ∷ [] }
         ensures numbers { numbers_of self.new ≡ numbers_of self.old ++ number_of pass ∷ [] }
-        ensures own { (lock : _) → ArePassesOf lock self.old → IsOf lock pass → ArePassesOf lock self.new }
+        ensures own { (lock : _) → ArePassesOf lock self.old → IsOf lock pass
+            → ArePassesOf lock self.new }
         ensures idle { AreIdle self.old → held_by pass ≡ None → AreIdle self.new }
         ensures room { room_of self.new ≡ room_of self.old }
         ensures first { made_with self.new ≡ made_with self.old }

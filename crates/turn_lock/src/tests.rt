@@ -111,8 +111,10 @@ impl Turns<Counter> {
         requires fresh { (length (own_entries first) ≡ 0) × (length (own_entries second) ≡ 0) }
         ensures own { IsOf self.now result.0 × IsOf self.now result.1 }
         ensures idle { (held_by result.0 ≡ None) × (held_by result.1 ≡ None) }
-        ensures number { (number_of result.0 ≡ number_of first) × (number_of result.1 ≡ number_of second) }
-        ensures all { (length (own_entries result.0) ≡ times) × (length (own_entries result.1) ≡ times) }
+        ensures number { (number_of result.0 ≡ number_of first)
+            × (number_of result.1 ≡ number_of second) }
+        ensures all { (length (own_entries result.0) ≡ times)
+            × (length (own_entries result.1) ≡ times) }
     {
         join(
             rt,
