@@ -6,6 +6,7 @@ ghost use Rattle.daq_session.specs.BufferRecords.{IsOneHistory, IsSystem, histor
 ghost use Rattle.daq_session.specs.FrontSets.{AreCallers, IsFrontsPass};
 ghost use Rattle.daq_session.specs.RunHistories.{AreSentByFronts, HoldSegments};
 ghost use Rattle.daq_session.specs.RunRecordFits.{FitsHistory};
+ghost use Rattle.daq_session.specs.SystemCalls.{AreSystemCalls};
 ghost use Rattle.daq_session.specs.Sessions.{FaultsBy, IsSession};
 ghost use Rattle.odb_tree.specs.Histories.{IsLegal};
 ghost use Rattle.odb_runinfo.specs.RunKeys.{session_rows};
@@ -144,6 +145,9 @@ pub fn midas<
     // events of each run stand between its marks.
     ensures buffers { IfSome result.0.session (λ s. IsSystem (history_in s.buffers) s.buffers) }
     ensures one_history { IfSome result.0.session (λ s. All IsOneHistory s.buffers) }
+    // Whose calls stand in that history: first the logger attaches the channel's client and makes its one request, for
+    // all events; then the front-end only sends in runs, and the logger marks the runs and receives for its client.
+    ensures system_calls { IfSome result.0.session (λ s. AreSystemCalls (history_in s.buffers)) }
     // Each file of a run holds the events between the run's marks in that history, of which the channel's client got just
     // those that it asked for; and these are the events that the front-end sent in that run.
     ensures run_files { ¬ Rose (F.faults outside.run_files) (F.faults result.1.run_files)
