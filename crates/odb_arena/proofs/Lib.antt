@@ -1,0 +1,13 @@
+pub mod Padding
+pub mod Below
+pub mod Finding
+pub mod Whole
+pub mod Leading
+pub mod Growing
+pub mod Cutting
+pub mod Steps
+pub mod Chains
+pub mod Altering
+pub mod Accepted
+pub mod Keys
+pub mod Shown

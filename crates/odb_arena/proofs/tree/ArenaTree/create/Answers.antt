@@ -1,0 +1,10 @@
+use Rattle.std.proofs.Common.{sym, subst}
+use Rattle.odb_path.specs.Paths.{IsPath}
+use Rattle.odb_tree.specs.Databases.{IsDatabase}
+use Rattle.odb_arena.proofs.Accepted.{can_create}
+use Rattle.odb_arena.proofs.tree.ArenaTree.create.Goals as goal
+
+pub make-requires : goal.make-requires
+make-requires c =
+    can_create c.args.self.now c.names-names.result.now c.args.kind c.create_fault.result c.in_ok-value.value (subst IsDatabase c.self.view_is c.self.invariant.database)
+    (subst IsPath (sym c.names-names.ensures.names) c.names-names.ensures.is_path) c.create_fault.ensures c.in_default.is c.in_ok-value.ensures

@@ -1,0 +1,5 @@
+pub mod Names
+pub mod Arena
+pub mod Inside
+pub mod Reaching
+pub mod Growth

@@ -1,0 +1,111 @@
+ghost use Rattle.std.specs.Prelude.{◌≡◌, ◌-◌, ◌++◌, ◌∷◌, [], Bool, None, true, false, nat_eq, OnOk, OnErr, IfOk, map, take};
+ghost use Rattle.std.specs.Cmp.Lexicographic.{pointwise};
+ghost use Rattle.std.specs.Map.{lookup};
+ghost use Rattle.odb_arena.specs.Names.{folded, names_in, child_in, with_child, without_name};
+
+use daq_types::{Name, NoMemory};
+use indexmap::IndexMap;
+use odb_tree::{Child, Children};
+use std::alloc::Global;
+
+/// The longest name, in bytes.
+const NAME_BYTES: usize = 31;
+
+/// A name without the case of its letters: its bytes in lower case, and zeros behind them.
+pub type Folded = [u8; NAME_BYTES];
+
+/// The name without the case of its letters. Takes no memory.
+pub fn folded(name: &Name) -> Folded
+    ensures { result ≡ folded name.now }
+{
+    let bytes = name.as_slice();
+    let mut key = [0; NAME_BYTES];
+    for i in 0..bytes.len() {
+        key[i] = bytes[i].to_ascii_lowercase();
+    }
+    key
+}
+
+/// What stands in a directory, by name: its keys and its directories, each in order of making.
+#[derive(Drop)]
+pub struct Directory {
+    pub keys: IndexMap<Folded, Child>,
+    pub dirs: IndexMap<Folded, Child>,
+}
+
+impl Directory {
+    /// An empty directory. Takes no memory.
+    pub fn new(alloc: Global) -> Directory
+        ensures { (keys : Bool) → names_in keys result ≡ [] }
+    {
+        Directory {
+            keys: IndexMap::new(alloc),
+            dirs: IndexMap::new(alloc),
+        }
+    }
+
+    /// What stands under a name.
+    pub fn child(&self, name: &Name) -> Option<Child>
+        ensures { result ≡ child_in (folded name.now) (names_in true self.now)
+            (names_in false self.now) }
+    {
+        let key = folded(name);
+        match self.dirs.get(&key) {
+            Some(child) => Some(*child),
+            None => self.keys.get(&key).copied(),
+        }
+    }
+
+    /// Adds a child under a name that is free among those of its kind, behind them.
+    pub fn enter(&mut self, child: Child) -> Result<(), NoMemory>
+        requires { (keys : Bool) → lookup (pointwise nat_eq (folded child.name))
+            (names_in keys self.old) ≡ None }
+        ensures ok { OnOk result ((keys : Bool) → names_in keys self.new
+            ≡ with_child keys child (names_in keys self.old)) }
+        ensures err { OnErr result ((keys : Bool) → names_in keys self.new
+            ≡ names_in keys self.old) }
+    {
+        let key = folded(&child.name);
+        if child.is_dir {
+            self.dirs.insert(key, child)?;
+        } else {
+            self.keys.insert(key, child)?;
+        }
+        Ok(())
+    }
+
+    /// Takes a name out of those of its kind.
+    pub fn leave(&mut self, name: &Name, is_dir: bool)
+        ensures { (keys : Bool) → names_in keys self.new
+            ≡ without_name keys is_dir (folded name.now) (names_in keys self.old) }
+    {
+        let key = folded(name);
+        if is_dir {
+            self.dirs.shift_remove(&key);
+        } else {
+            self.keys.shift_remove(&key);
+        }
+    }
+
+    /// What stands in the directory: its keys, and then its directories.
+    pub fn children(&self, alloc: Global) -> Result<Children, NoMemory>
+        ensures { IfOk result (λ children. children
+            ≡ map (λ e. e.1) (names_in true self.now) ++ map (λ e. e.1) (names_in false self.now)) }
+    {
+        let mut children = Vec::new(alloc);
+        add_names(&mut children, &self.keys)?;
+        add_names(&mut children, &self.dirs)?;
+        Ok(Children::of(children))
+    }
+}
+
+/// Adds the children under these names, in order.
+fn add_names(children: &mut Vec<Child>, names: &IndexMap<Folded, Child>) -> Result<(), NoMemory>
+    ensures { OnOk result (children.new.items ≡ children.old.items ++ map (λ e. e.1)
+        names.now.entries) }
+{
+    for child in names.values() {
+        children.push(*child)?;
+    }
+    Ok(())
+}

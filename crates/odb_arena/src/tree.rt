@@ -1,0 +1,639 @@
+ghost use Rattle.std.specs.Prelude.{◌≡◌, ◌≢◌, ◌<◌, ◌≤◌, ◌+◌, ◌-◌, ◌^◌, Option, ◌∷◌, ◌++◌, [], List, ℕ, length, Some, None, Ok, Err, IfOk, IfErr, IfSome, OnOk, OnErr};
+ghost use Rattle.std.specs.Option.{option_map, option_copied};
+ghost use Rattle.odb_path.specs.Paths.{depth_limit};
+ghost use Rattle.odb_tree.specs.declared.rows.Row.{Row};
+ghost use Rattle.odb_tree.specs.Rows.{no_rows, row_at, row_numbered, bytes_in, total_of};
+ghost use Rattle.odb_tree.specs.Lookups.{obstacle_from, obstacle_to_new, dir_fault, absent_fault, seek, seek_key};
+ghost use Rattle.odb_tree.specs.Making.{missing_from, new_number, created};
+ghost use Rattle.odb_tree.specs.Calls.{IsReply, rows_after, is_row_below, path_with, child_of, after_delete, after_resize, exists_fault, create_fault, set_fault, set_all_fault};
+ghost use Rattle.odb_tree.specs.Changes.{IsKeyAt};
+ghost use Rattle.odb_tree.specs.Limits.{passed, len_fault, limit_fault};
+ghost use Rattle.odb_tree.specs.declared.refusals.OdbRefusal.TheVariants.{Limit, NoMemory as no_memory};
+ghost use Rattle.odb_tree.specs.declared.entry.DatabaseEntry.TheVariants.{Create, Set, SetAll, Get, Find, ListDir, Resize, PathOf};
+ghost use Rattle.daq_types.specs.declared.types.Tid.{Tid};
+ghost use Rattle.odb_value.specs.Items.{tid_of};
+ghost use Rattle.odb_value.specs.Values.{HeldValue};
+ghost use Rattle.odb_tree.specs.Trees.{with_rows};
+ghost use Rattle.odb_arena.specs.Reaching.{IsReached};
+ghost use Rattle.odb_arena.specs.Growth.{dir_path, row_in_dir, chain, without_last, CanAdd, CanGrow, CanMake, IsLeaf, IsLastRow};
+ghost use Rattle.odb_tree.specs.Databases.{IsDatabase};
+
+use crate::directory::Directory;
+use crate::node::{
+    Node, bytes_at, bytes_in, child_at, children_at, enter_at, leave_at, put_in, replace_in,
+    resize_in,
+};
+use crate::reaching::Reached;
+use daq_types::{Name, NoMemory};
+use indexmap::IndexMap;
+use odb_path::{Path, is_front};
+use odb_tree::{
+    Child, Children, Key, NewKey, OdbRefusal, Row, What, bytes_of, bytes_of_new, bytes_with,
+    index_fault, items_fault, kept_fault, len_fault, limit_fault, new_value, parent, raised_size,
+    text_fault, type_fault,
+};
+use odb_value::{Item, Value};
+use std::alloc::Global;
+use std::marker::Model;
+
+/// A database in an arena.
+#[derive(Drop)]
+pub struct ArenaTree {
+    root: Directory,
+    nodes: IndexMap<u32, Node>,
+    next: u64,
+    count: usize,
+    bytes: u64,
+}
+
+impl Model for ArenaTree {
+    ghost use Rattle.odb_tree.specs.Rows.{Rows};
+
+    ghost Value = { Rows };
+
+    ghost use Rattle.odb_arena.specs.Inside.{rows_of, IsWholeArena};
+
+    ghost view = { rows_of };
+
+    ghost invariant = { IsWholeArena };
+}
+
+impl ArenaTree {
+    /// A database without rows. Takes no memory.
+    pub fn new(alloc: Global) -> ArenaTree
+        ensures { result ≡ no_rows }
+    {
+        ArenaTree {
+            root: Directory::new(alloc),
+            nodes: IndexMap::new(alloc),
+            next: 1,
+            count: 0,
+            bytes: 0,
+        }
+    }
+
+    /// What stands under a name in the directory with this number.
+    fn child(&self, at: u32, name: &Name) -> Option<Child>
+        ensures { (p : List (List ℕ)) → path_with self.now.rows at ≡ Some p → result
+            ≡ option_map child_of (row_at self.now.rows (p ++ name.now ∷ [])) }
+    {
+        let _ = name.as_slice();
+        child_at(&self.root, &self.nodes, at, name)
+    }
+
+    /// The row of what stands under a name in the directory with this number.
+    fn row_under(&self, at: u32, name: &Name) -> Option<&Row>
+        ensures { (p : List (List ℕ)) → path_with self.now.rows at ≡ Some p → option_copied result
+            ≡ row_at self.now.rows (p ++ name.now ∷ []) }
+    {
+        let Some(child) = self.child(at, name) else {
+            return None;
+        };
+        match self.nodes.get(&child.row) {
+            Some(node) => Some(&node.row),
+            None => None,
+        }
+    }
+
+    /// How far directories lead along some names.
+    fn reach(&self, names: &[Name]) -> Reached
+        ensures { IsReached self.now.rows names.now result }
+    {
+        let _ = &self.root;
+        let mut at = 0;
+        for depth in 0..names.len() {
+            let Some(child) = self.child(at, &names[depth]) else {
+                return Reached {
+                    at,
+                    depth,
+                    blocked: false,
+                };
+            };
+            if !child.is_dir {
+                return Reached {
+                    at,
+                    depth,
+                    blocked: true,
+                };
+            }
+            at = child.row;
+        }
+        Reached {
+            at,
+            depth: names.len(),
+            blocked: false,
+        }
+    }
+
+    /// The row at the path of these names.
+    fn row_at(&self, names: &[Name]) -> Option<&Row>
+        requires { 0 < length names.now }
+        ensures { option_copied result ≡ row_at self.now.rows names.now }
+    {
+        let _ = &self.root;
+        let front = parent(names);
+        let reached = self.reach(front);
+        if reached.depth < front.len() {
+            return None;
+        }
+        self.row_under(reached.at, &names[names.len() - 1])
+    }
+
+    /// The row at a path that is not the root's, or why it is not reached.
+    fn seek(&self, names: &[Name]) -> Result<&Row, OdbRefusal>
+        requires { 0 < length names.now }
+        ensures found { IfOk result (λ row. seek self.now.rows names.now ≡ Ok row.now) }
+        ensures refused { IfErr result (λ refusal. seek self.now.rows names.now ≡ Err refusal) }
+    {
+        let _ = &self.root;
+        let front = parent(names);
+        let reached = self.reach(front);
+        if let Some(refusal) = reached.obstacle(front.len(), Some(OdbRefusal::NoKey)) {
+            return Err(refusal);
+        }
+        match self.row_under(reached.at, &names[names.len() - 1]) {
+            Some(row) => Ok(row),
+            None => Err(OdbRefusal::NoKey),
+        }
+    }
+
+    /// The key at a path, or why there is none.
+    fn seek_key(&self, names: &[Name]) -> Result<Key<'_>, OdbRefusal>
+        ensures found { IfOk result (λ key. seek_key self.now.rows names.now
+            ≡ Ok (key.number, key.value.now)) }
+        ensures refused { IfErr result (λ refusal. seek_key self.now.rows names.now ≡ Err refusal) }
+    {
+        if names.is_empty() {
+            return Err(OdbRefusal::NotValue);
+        }
+        let row = self.seek(names)?;
+        match &row.value {
+            Some(value) => Ok(Key {
+                number: row.number,
+                value,
+            }),
+            None => Err(OdbRefusal::NotValue),
+        }
+    }
+
+    /// Whether a directory stands at a path, or why it is not reached.
+    fn check_dir(&self, names: &[Name]) -> Result<(), OdbRefusal>
+        ensures dir { OnOk result (dir_fault self.now.rows names.now ≡ None) }
+        ensures refused { IfErr result (λ refusal. dir_fault self.now.rows names.now
+            ≡ Some refusal) }
+    {
+        if names.is_empty() {
+            return Ok(());
+        }
+        match &self.seek(names)?.value {
+            Some(_) => Err(OdbRefusal::NotDir),
+            None => Ok(()),
+        }
+    }
+
+    /// Whether a key or a directory stands at a path, or why it is not reached. The root is there.
+    fn check_there(&self, names: &[Name]) -> Result<(), OdbRefusal>
+        ensures row { OnOk result (absent_fault self.now.rows names.now ≡ None) }
+        ensures refused { IfErr result (λ refusal. absent_fault self.now.rows names.now
+            ≡ Some refusal) }
+    {
+        if names.is_empty() {
+            return Ok(());
+        }
+        let _row = self.seek(names)?;
+        Ok(())
+    }
+
+    /// The names of the row with this number, and none for the root.
+    fn path_with(&self, number: u32) -> Option<&[Name]>
+        ensures names { option_copied result ≡ path_with self.now.rows number }
+        ensures depth { IfSome result (λ names. length names.now ≤ depth_limit) }
+    {
+        let _ = &self.root;
+        if number == 0 {
+            return Some(&[]);
+        }
+        match self.nodes.get(&number) {
+            Some(node) => Some(node.row.path.names()),
+            None => None,
+        }
+    }
+
+    /// The path of a name in the directory with this number.
+    fn path_below(&self, alloc: Global, at: u32, name: Name) -> Result<Path, NoMemory>
+        requires { length (dir_path self.now at) < depth_limit }
+        ensures { IfOk result (λ path. path ≡ dir_path self.now at ++ name ∷ []) }
+    {
+        let mut path = match self.path_with(at) {
+            Some(names) => Path::of(alloc, names)?,
+            None => Path::root(alloc),
+        };
+        path.push(name)?;
+        Ok(path)
+    }
+
+    /// Makes a row in the directory with this number, under a name that is free there.
+    fn add(
+        &mut self,
+        alloc: Global,
+        at: u32,
+        name: Name,
+        value: Option<Value>,
+    ) -> Result<u32, NoMemory>
+        requires { CanAdd self.old at name value }
+        ensures number { IfOk result (λ number. number ≡ self.old.next) }
+        ensures ok { OnOk result (self.new ≡ with_rows self.old
+            (row_in_dir self.old at name value ∷ [])) }
+        ensures err { OnErr result (self.new ≡ self.old) }
+    {
+        let path = self.path_below(alloc, at, name)?;
+        let number = self.next as u32;
+        let is_dir = value.is_none();
+        let bytes = bytes_in(&value);
+        let child = Child {
+            name,
+            is_dir,
+            row: number,
+        };
+        self.nodes.reserve(1)?;
+        enter_at(&mut self.root, &mut self.nodes, at, child)?;
+        let row = Row {
+            number,
+            path,
+            value,
+        };
+        let below = Directory::new(alloc);
+        let _ = self.nodes.insert(number, Node { row, below }).unwrap();
+        self.next += 1;
+        self.count += 1;
+        self.bytes += bytes;
+        Ok(number)
+    }
+
+    /// Removes a row that has nothing below it.
+    fn remove_leaf(&mut self, number: u32)
+        requires { IsLeaf self.old number }
+        ensures { (row : Row) → row_numbered self.old.rows number ≡ Some row → self.new
+            ≡ after_delete self.old row.path }
+    {
+        let Some(names) = self.path_with(number) else {
+            return;
+        };
+        let at = self.reach(parent(names)).at;
+        let name = names[names.len() - 1];
+        let Some(node) = self.nodes.swap_remove(&number) else {
+            return;
+        };
+        leave_at(
+            &mut self.root,
+            &mut self.nodes,
+            at,
+            &name,
+            node.row.value.is_none(),
+        );
+        self.count -= 1;
+        self.bytes -= bytes_in(&node.row.value);
+    }
+
+    /// Takes back the number given last, which no row has.
+    fn forget_number(&mut self)
+        requires some { 1 ≤ self.old.next }
+        requires database { IsDatabase (record { rows = self.old.rows; next = self.old.next - 1 }) }
+        ensures { self.new ≡ record { rows = self.old.rows; next = self.old.next - 1 } }
+    {
+        self.next -= 1;
+    }
+
+    /// Takes back the row made last.
+    fn unmake(&mut self, number: u32)
+        requires { IsLastRow self.old number }
+        ensures { self.new ≡ without_last self.old }
+    {
+        let _ = &self.root;
+        self.remove_leaf(number);
+        self.forget_number();
+    }
+
+    /// Makes directories one in the other in the directory with this number, and a row in the last of them.
+    fn make_from(
+        &mut self,
+        alloc: Global,
+        at: u32,
+        names: &[Name],
+        value: Option<Value>,
+    ) -> Result<u32, NoMemory>
+        requires { CanGrow self.old at names.now value }
+        ensures number { IfOk result (λ number. number + 1 ≡ self.old.next + length names.now) }
+        ensures ok { OnOk result (self.new ≡ with_rows self.old
+            (chain self.old.next (dir_path self.old at) names.now value)) }
+        ensures err { OnErr result (self.new ≡ self.old) }
+    {
+        let _ = &self.root;
+        if names.len() == 1 {
+            return self.add(alloc, at, names[0], value);
+        }
+        let made = self.add(alloc, at, names[0], None)?;
+        match self.make_from(alloc, made, &names[1..], value) {
+            Ok(number) => Ok(number),
+            Err(e) => {
+                self.unmake(made);
+                Err(e)
+            }
+        }
+    }
+
+    /// Makes a row, and the missing directories of its path.
+    fn make(&mut self, alloc: Global, names: &[Name], value: Option<Value>) -> Result<u32, NoMemory>
+        requires { CanMake self.old names.now value }
+        ensures number { IfOk result (λ number. number ≡ new_number self.old names.now) }
+        ensures ok { OnOk result (self.new ≡ created self.old names.now value) }
+        ensures err { OnErr result (self.new ≡ self.old) }
+    {
+        let _ = &self.root;
+        let reached = self.reach(parent(names));
+        self.make_from(alloc, reached.at, &names[reached.depth..], value)
+    }
+
+    /// Whether something is there already.
+    fn exists_fault(&self, names: &[Name]) -> Option<OdbRefusal>
+        ensures { result ≡ exists_fault self.now.rows names.now }
+    {
+        if names.is_empty() || self.row_at(names).is_some() {
+            return Some(OdbRefusal::Exists);
+        }
+        None
+    }
+
+    /// The first obstacle along these names from the root.
+    fn obstacle(&self, names: &[Name], missing: Option<OdbRefusal>) -> Option<OdbRefusal>
+        ensures { result ≡ obstacle_from missing self.now.rows [] names.now }
+    {
+        let _ = &self.root;
+        self.reach(names).obstacle(names.len(), missing)
+    }
+
+    /// How many of these directories are missing, where no key is an obstacle.
+    fn count_missing(&self, names: &[Name]) -> usize
+        requires { obstacle_from None self.now.rows [] names.now ≡ None }
+        ensures count { result ≡ missing_from self.now.rows [] names.now }
+        ensures most { result ≤ length names.now }
+    {
+        let _ = &self.root;
+        names.len() - self.reach(names).depth
+    }
+
+    /// The limit that a new row of so many bytes would pass.
+    fn new_fault(&self, names: &[Name], own: Option<What>, bytes: u64) -> Option<OdbRefusal>
+        requires clear { obstacle_to_new self.now.rows names.now ≡ None }
+        requires depth { length names.now ≤ depth_limit }
+        requires small { bytes < 2 ^ 62 }
+        ensures { (value : Option HeldValue) → (own ≡ None → bytes_in value ≡ bytes) → result
+            ≡ limit_fault own (created self.now names.now value) }
+    {
+        let missing = self.count_missing(parent(names));
+        limit_fault(
+            own,
+            self.count + missing + 1,
+            self.bytes + bytes,
+            self.next + missing as u64 + 1,
+        )
+    }
+
+    /// The limit that a value of so many bytes in place of one of so many would pass.
+    fn change_fault(&self, own: Option<What>, had: u64, bytes: u64) -> Option<OdbRefusal>
+        requires had { had ≤ total_of self.now.rows }
+        requires small { bytes < 2 ^ 62 }
+        ensures { result ≡ option_map Limit (passed own (length self.now.rows)
+            (total_of self.now.rows - had + bytes) self.now.next) }
+    {
+        limit_fault(own, self.count, self.bytes - had + bytes, self.next)
+    }
+
+    /// Why a row is not made.
+    fn create_fault(&self, names: &[Name], kind: NewKey) -> Option<OdbRefusal>
+        requires { length names.now ≤ depth_limit }
+        ensures { result ≡ create_fault self.now names.now kind }
+    {
+        if let Some(refusal) = self.obstacle(parent(names), None) {
+            return Some(refusal);
+        }
+        if let Some(refusal) = self.exists_fault(names) {
+            return Some(refusal);
+        }
+        if let Some(refusal) = kept_fault(kind) {
+            return Some(refusal);
+        }
+        self.new_fault(names, items_fault(kind), bytes_of_new(kind))
+    }
+
+    /// Why an item is not put into this value, which stands at the path.
+    fn set_fault(
+        &self,
+        names: &[Name],
+        value: &Value,
+        index: u32,
+        item: &Item,
+    ) -> Option<OdbRefusal>
+        requires { IsKeyAt self.now.rows names.now value.now }
+        ensures { result ≡ set_fault self.now names.now index item.now value.now }
+    {
+        if let Some(refusal) = type_fault(value.tid(), item.tid()) {
+            return Some(refusal);
+        }
+        let len = value.items().len();
+        if let Some(refusal) = index_fault(len, index) {
+            return Some(refusal);
+        }
+        let bytes = bytes_with(len as u32, raised_size(value.size(), item));
+        self.change_fault(text_fault(item), bytes_of(value), bytes)
+    }
+
+    /// Why a value is not written.
+    fn set_all_fault(&self, names: &[Name], value: &Value) -> Option<OdbRefusal>
+        requires { length names.now ≤ depth_limit }
+        ensures { result ≡ set_all_fault self.now names.now value.now }
+    {
+        if let Some(refusal) = self.obstacle(parent(names), None) {
+            return Some(refusal);
+        }
+        if names.is_empty() {
+            return Some(OdbRefusal::NotValue);
+        }
+        let given = value.tid();
+        let Some(row) = self.row_at(names) else {
+            return self.new_fault(names, None, bytes_of(value));
+        };
+        let Some(had) = &row.value else {
+            return Some(OdbRefusal::NotValue);
+        };
+        if let Some(refusal) = type_fault(had.tid(), given) {
+            return Some(refusal);
+        }
+        self.change_fault(None, bytes_of(had), bytes_of(value))
+    }
+
+    /// Why this value, which stands at the path, does not get so many items.
+    fn resize_fault(&self, names: &[Name], value: &Value, len: u32) -> Option<OdbRefusal>
+        requires { IsKeyAt self.now.rows names.now value.now }
+        ensures { result ≡ limit_fault (len_fault len) (after_resize self.now names.now len) }
+    {
+        let bytes = bytes_with(len, value.size());
+        self.change_fault(len_fault(len), bytes_of(value), bytes)
+    }
+}
+
+impl ArenaTree {
+    /// Makes a key or a directory, and the missing directories of its path, and answers the number of its row.
+    pub fn create(&mut self, alloc: Global, path: &Path, kind: NewKey) -> Result<u32, OdbRefusal>
+        ensures reply { IsReply self.old (Create path.now kind result) }
+        ensures after { self.new ≡ rows_after self.old (Create path.now kind result) }
+    {
+        let _ = &self.root;
+        let names = path.names();
+        if let Some(refusal) = self.create_fault(names, kind) {
+            return Err(refusal);
+        }
+        let value = new_value(alloc, kind)?;
+        let number = self.make(alloc, names, value)?;
+        Ok(number)
+    }
+
+    /// Writes one item of a key, and answers the number of its row. A text as long as the item size or longer raises
+    /// that to its length plus 1. Takes memory for a text alone.
+    pub fn set(
+        &mut self,
+        alloc: Global,
+        path: &Path,
+        index: u32,
+        item: &Item,
+    ) -> Result<u32, OdbRefusal>
+        ensures reply { IsReply self.old (Set path.now index item.now result) }
+        ensures memory { result ≡ Err no_memory → tid_of item.now ≡ Tid.Text }
+        ensures after { self.new ≡ rows_after self.old
+            (Set path.now index item.now result) }
+    {
+        let _ = &self.root;
+        let names = path.names();
+        let key = self.seek_key(names)?;
+        let number = key.number;
+        if let Some(refusal) = self.set_fault(names, key.value, index, item) {
+            return Err(refusal);
+        }
+        let had = bytes_of(key.value);
+        let _ = item.tid();
+        let item = item.try_clone(alloc)?;
+        put_in(&mut self.nodes, number, index, item);
+        self.bytes = self.bytes - had + bytes_at(&self.nodes, number);
+        Ok(number)
+    }
+
+    /// Replaces the value of a key by one of the same type, or makes the key with it, and answers the number of its row.
+    pub fn set_all(&mut self, alloc: Global, path: &Path, value: &Value) -> Result<u32, OdbRefusal>
+        ensures reply { IsReply self.old (SetAll path.now value.now result) }
+        ensures after { self.new ≡ rows_after self.old
+            (SetAll path.now value.now result) }
+    {
+        let _ = &self.root;
+        let names = path.names();
+        if let Some(refusal) = self.set_all_fault(names, value) {
+            return Err(refusal);
+        }
+        let _ = value.tid();
+        let value = value.try_clone(alloc)?;
+        match self.row_at(names) {
+            Some(row) => {
+                let number = row.number;
+                let had = bytes_in(&row.value);
+                replace_in(&mut self.nodes, number, value);
+                self.bytes = self.bytes - had + bytes_at(&self.nodes, number);
+                Ok(number)
+            }
+            None => {
+                let number = self.make(alloc, names, Some(value))?;
+                Ok(number)
+            }
+        }
+    }
+
+    /// The value of a key.
+    pub fn get(&self, alloc: Global, path: &Path) -> Result<Value, OdbRefusal>
+        ensures { IsReply self.now (Get path.now result) }
+    {
+        let key = self.seek_key(path.names())?;
+        let value = key.value.try_clone(alloc)?;
+        Ok(value)
+    }
+
+    /// The number of the row of a key or a directory; 0 for the root. Takes no memory.
+    pub fn find(&self, path: &Path) -> Result<u32, OdbRefusal>
+        ensures reply { IsReply self.now (Find path.now result) }
+        ensures memory { result ≢ Err no_memory }
+        ensures database { IsDatabase self.now }
+    {
+        let _ = &self.root;
+        let names = path.names();
+        if names.is_empty() {
+            return Ok(0);
+        }
+        let row = self.seek(names)?;
+        Ok(row.number)
+    }
+
+    /// What stands in a directory: its keys, and then its directories, each in order of making.
+    pub fn list(&self, alloc: Global, path: &Path) -> Result<Children, OdbRefusal>
+        ensures reply { IsReply self.now (ListDir path.now result) }
+        ensures database { IsDatabase self.now }
+    {
+        let _ = &self.root;
+        let names = path.names();
+        self.check_dir(names)?;
+        let at = self.reach(names).at;
+        let children = children_at(alloc, &self.root, &self.nodes, at)?;
+        Ok(children)
+    }
+
+    /// Gives a key so many items: cuts at the end, or adds items of a new key. Answers the number of its row.
+    pub fn resize(&mut self, alloc: Global, path: &Path, len: u32) -> Result<u32, OdbRefusal>
+        ensures reply { IsReply self.old (Resize path.now len result) }
+        ensures after { self.new ≡ rows_after self.old (Resize path.now len result) }
+    {
+        let _ = &self.root;
+        let names = path.names();
+        let key = self.seek_key(names)?;
+        let number = key.number;
+        if let Some(refusal) = self.resize_fault(names, key.value, len) {
+            return Err(refusal);
+        }
+        let had = bytes_of(key.value);
+        resize_in(&mut self.nodes, alloc, number, len)?;
+        self.bytes = self.bytes - had + bytes_at(&self.nodes, number);
+        Ok(number)
+    }
+
+    /// The path of the row with this number, and of the root for 0; None exactly where there is none.
+    pub fn path_of(&self, alloc: Global, row: u32) -> Result<Option<Path>, NoMemory>
+        ensures { IsReply self.now (PathOf row result) }
+    {
+        match self.path_with(row) {
+            Some(names) => {
+                let path = Path::of(alloc, names)?;
+                Ok(Some(path))
+            }
+            None => Ok(None),
+        }
+    }
+
+    /// Whether both numbers are those of rows that are there, or 0 for the root, and the first is the second or lies
+    /// below it. Takes no memory.
+    pub fn is_below(&self, row: u32, above: u32) -> bool
+        ensures { result ≡ is_row_below self.now row above }
+    {
+        let Some(names) = self.path_with(row) else {
+            return false;
+        };
+        match self.path_with(above) {
+            Some(front) => is_front(front, names),
+            None => false,
+        }
+    }
+}
