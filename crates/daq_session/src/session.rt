@@ -63,7 +63,7 @@ fn open_database(alloc: Global) -> Result<LocalDatabase<PlainTree>, NoMemory>
     Ok(LocalDatabase::new(alloc, tree))
 }
 
-/// AnswersLine a command of the database.
+/// Answers a command of the database.
 fn call(alloc: Global, state: &mut State, command: &Command<'_>) -> Result<Reply, Halt>
     requires is_call { IsSome (answer_of state.old.database.rows command.now) }
     ensures answered { IfOk result (λ reply. (c : Course)
@@ -110,7 +110,7 @@ impl Session {
         })
     }
 
-    /// AnswersLine a line of the script: its command, or the refusal of a line that is none.
+    /// Answers a line of the script: its command, or the refusal of a line that is none.
     pub fn answer<F: Files, C: Clock>(
         &mut self,
         alloc: Global,

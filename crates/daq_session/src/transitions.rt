@@ -68,7 +68,7 @@ fn front_name() -> Name
     }
 }
 
-/// OpensSession the session, where no start did so before. No run is on.
+/// Opens the session, where no start did so before. No run is on.
 fn open_session(alloc: Global, state: &mut State) -> Result<(), NoMemory>
     requires idle { state.old.current ≡ None }
     ensures opens { OnOk result ((c : Course) → OpensSession state.old.opened
@@ -228,7 +228,7 @@ fn no_number(refusal: RunNumber) -> Reply
     Reply::RunNumber { have: refusal.have }
 }
 
-/// AnswersLine `start`.
+/// Answers `start`.
 pub fn start<F: Files, C: Clock>(
     alloc: Global,
     state: &mut State,
@@ -294,7 +294,7 @@ pub fn start<F: Files, C: Clock>(
     }
 }
 
-/// AnswersLine `stop`: the front-end sends its events, and the run's file is ended.
+/// Answers `stop`: the front-end sends its events, and the run's file is ended.
 pub fn stop<F: Files, C: Clock>(
     alloc: Global,
     state: &mut State,

@@ -43,7 +43,7 @@ fn add_end(page: &mut TextBuffer, last: Option<Header>) -> Result<(), NoMemory>
     }
 }
 
-/// PrintsSoFar the begin record and the events, as they are read.
+/// Prints the begin record and the events, as they are read.
 fn print_events<S: Source, K: Sink>(
     reader: &mut MidReader<S>,
     event: &mut EventBuf,
@@ -76,7 +76,7 @@ fn print_events<S: Source, K: Sink>(
     }
 }
 
-/// PrintsSoFar what is on the page, and the lines of the end record and of the fault where there are such.
+/// Prints what is on the page, and the lines of the end record and of the fault where there are such.
 fn end_dump<K: Sink>(
     last: Option<Header>,
     fault: Option<MidFault>,
@@ -100,7 +100,7 @@ fn end_dump<K: Sink>(
     }
 }
 
-/// PrintsSoFar what is on the page, and then the line of the end record, where it was read and there is memory for it. The
+/// Prints what is on the page, and then the line of the end record, where it was read and there is memory for it. The
 /// source failed behind that.
 fn end_unread<K: Sink>(last: Option<Header>, page: &mut TextBuffer, out: &mut K) -> ToolEnd
     ensures text { (first : Option (List ℕ)) → (text : List ℕ)
