@@ -1,17 +1,21 @@
 -- Histories that go on, and what their replies tell.
-use Rattle.std.specs.Prelude.{◌≡◌, ℕ, ◌≤◌, ◌==◌, if◌then◌else◌, List, [], ◌∷◌, ◌++◌, length, drop, slice_get, Option, Some, None, Ok, refl}
+use Rattle.std.specs.Prelude.{◌≡◌, ◌≢◌, ℕ, ◌≤◌, ◌==◌, if◌then◌else◌, List, [], ◌∷◌, ◌++◌, length, drop, slice_get, Option, Some, None, Ok, Err, refl}
 use Rattle.std.specs.List.{enumerate_from}
 use Rattle.std.proofs.Common.{ap, sym, ◌∙◌, subst, arith, append_assoc}
 use Rattle.std.proofs.lemmas.Bool.{eqb-true}
 use Rattle.std.proofs.lemmas.List.{append-nil, take-append-le}
 use Rattle.buffer_core.specs.declared.client.Request.{Request as EventRequest}
 use Rattle.buffer_core.specs.declared.client.Client.{Client}
+use Rattle.buffer_core.specs.declared.replies.RequestRefusal.{RequestRefusal}
+use Rattle.daq_types.specs.declared.events.Event.{Event}
+use Rattle.buffer_core.specs.declared.gate.RunGate.{RunGate}
+use Rattle.buffer_core.specs.declared.gate.RunGate.TheVariants.{Running}
 use Rattle.buffer_core.specs.declared.replies.Received.TheVariants.{Got}
 use Rattle.buffer_core.specs.declared.entry.BufferEntry.{BufferEntry}
-use Rattle.buffer_core.specs.declared.entry.BufferEntry.TheVariants.{Attach, Send, SendInRun, Receive, Begin, Pause, Resume, End, Accepted}
+use Rattle.buffer_core.specs.declared.entry.BufferEntry.TheVariants.{Attach, Cancel, Send, SendInRun, Receive, Begin, Pause, Resume, End, Accepted}
 use Rattle.buffer_core.specs.Slots.{slot_at, free_slot}
 use Rattle.buffer_core.specs.Window.{Sent, Window, opening, accepted_of}
-use Rattle.buffer_core.specs.Calls.{IsReply, no_slot, found_in, receive_reply_to, is_running, is_paused, is_open}
+use Rattle.buffer_core.specs.Calls.{IsReply, cancel_reply_of, cancel_reply_to, no_slot, found_in, receive_reply_to, is_running, is_paused, is_open}
 use Rattle.buffer_core.specs.Histories.{replay, IsLegal}
 use Rattle.buffer_core.specs.SlotLaws.{split}
 use Rattle.buffer_core.specs.WindowLaws.{event_got}
@@ -23,7 +27,7 @@ use Rattle.buffer_core.proofs.Numbered.{free_within}
 use Rattle.buffer_core.proofs.Found.{IsFound, found}
 use Rattle.buffer_core.proofs.Replied.{number_given, got_reply, admitted, run_admitted, run_begun, mark_set}
 use Rattle.buffer_core.proofs.Linked.{window_at, WasLegal, legal_after, replay_after, Agrees, IsLinked, linked}
-use Rattle.buffer_core.proofs.Ordering.{OnEnded, RunStep, RunsFitAt, counted_at, runs_fit, run_step_at}
+use Rattle.buffer_core.proofs.Ordering.{OnEnded, RunStep, RunsFitAt, GateFits, counted_at, running_is, runs_fit, run_step_at}
 
 -- Points behind points.
 
@@ -164,3 +168,35 @@ pub segment_goes_on : (size : ℕ) (h more : List (ℕ × BufferEntry)) (start n
 segment_goes_on size h more start n legal is_ended =
     ap (λ (past : List (ℕ × BufferEntry)). segment_at past start) (past_join [] h more)
     ∙ segment_joins size (past_of h) more (subst (WasLegal size) (past_join [] h more) (legal_after size [] (h ++ more) tt legal)) start n is_ended
+
+-- Cancels.
+
+none_asked : (o : Option EventRequest) (refusal : RequestRefusal) → Err refusal ≡ cancel_reply_of o → o ≡ None
+none_asked None refusal e = refl
+none_asked (Some q) refusal e = absurd (cc)
+
+none_to_cancel : (first : ℕ) (ss : List Sent) (asked : ℕ → Option EventRequest) (number : ℕ) (refusal : RequestRefusal) (o : Option Client) (life : Life) → Agrees first ss asked o (Some life)
+    → Err refusal ≡ cancel_reply_to number o → asked number ≡ None
+none_to_cancel first ss asked number refusal None life k e = absurd k
+none_to_cancel first ss asked number refusal (Some c) life k e = sym (k.asks number) ∙ none_asked (slot_at c.requests number) refusal e
+
+pub history_cancels : (size : ℕ) (before after : List (ℕ × BufferEntry)) (caller client number : ℕ) (refusal : RequestRefusal) (life : Life) → IsLegal (opening size) (before ++ (caller, Cancel client number (Err refusal)) ∷ after)
+    → life_at (past_of before) client ≡ Some life → request_at (past_of before) client number ≡ None
+history_cancels size before after caller client number refusal life legal lives =
+    let was : WasLegal size ((caller, Cancel client number (Err refusal)) ∷ past_of before) = was_at size before (caller, Cancel client number (Err refusal)) after legal in
+    let w : Window = window_at size (past_of before) in
+    let k : IsLinked size (past_of before) = linked size (past_of before) was.1 in
+    none_to_cancel w.first (sent (past_of before)) (request_at (past_of before) client) number refusal (slot_at w.clients client) life
+    (subst (λ (l : Option Life). Agrees w.first (sent (past_of before)) (request_at (past_of before) client) (slot_at w.clients client) l) lives (k.clients client)) was.0
+
+-- Sends in runs.
+
+pub history_sends : (size : ℕ) (before after : List (ℕ × BufferEntry)) (caller start stated place : ℕ) (e : Event) → IsLegal (opening size) (before ++ (caller, SendInRun start stated e (Ok place)) ∷ after) → start ≢ 0
+history_sends size before after caller start stated place e legal none =
+    let past : List (ℕ × BufferEntry) = past_of before in
+    let was : WasLegal size ((caller, SendInRun start stated e (Ok place)) ∷ past) = was_at size before (caller, SendInRun start stated e (Ok place)) after legal in
+    let w : Window = window_at size past in
+    let fit : RunsFitAt size past = runs_fit size past was.1 in
+    let running : w.gate ≡ Running start = running_is w.gate start (run_admitted w start stated e place (sym was.0)).0 in
+    let open_run = (subst (λ (g : RunGate). GateFits g (begun_at past) (ended_at past) (is_paused_at past)) running fit.fits).0 in
+    omega (arith, none, fit.above start open_run.from open_run.is_begun)

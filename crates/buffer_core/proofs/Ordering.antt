@@ -47,7 +47,7 @@ pub record RunsFit (gate : RunGate) (last : ℕ) (ss : List Sent) (begun ended :
 
 -- Which gate it is.
 
-running_is : (gate : RunGate) (start : ℕ) → is_running gate start ≡ true → gate ≡ Running start
+pub running_is : (gate : RunGate) (start : ℕ) → is_running gate start ≡ true → gate ≡ Running start
 running_is Shut start e = absurd (cc)
 running_is (Running s) start e = ap Running (eqb-true s start e)
 running_is (Paused s) start e = absurd (cc)

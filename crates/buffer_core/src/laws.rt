@@ -1,16 +1,17 @@
 //! Laws of the histories of a buffer: each function does nothing, and its contract is the law. They hold of every list
 //! of calls, whoever made them, whose replies are those of a buffer that opened empty.
 
-ghost use Rattle.std.specs.Prelude.{◌≡◌, ◌≢◌, ◌+◌, ◌^◌, ◌<◌, ◌++◌, ◌∷◌, ℕ, List, [], length, Some, None, Ok};
+ghost use Rattle.std.specs.Prelude.{◌≡◌, ◌≢◌, ◌+◌, ◌^◌, ◌<◌, ◌++◌, ◌∷◌, ℕ, List, [], length, Some, None, Ok, Err};
 ghost use Rattle.daq_types.specs.declared.events.Event.{Event};
 ghost use Rattle.daq_model.specs.Events.{slot_size};
 ghost use Rattle.buffer_core.specs.declared.gate.RunGate.{RunGate};
 ghost use Rattle.buffer_core.specs.declared.replies.Received.TheVariants.{Got, Empty};
 ghost use Rattle.buffer_core.specs.declared.entry.BufferEntry.{BufferEntry};
-ghost use Rattle.buffer_core.specs.declared.entry.BufferEntry.TheVariants.{Attach, Detach, Receive};
+ghost use Rattle.buffer_core.specs.declared.replies.RequestRefusal.{RequestRefusal};
+ghost use Rattle.buffer_core.specs.declared.entry.BufferEntry.TheVariants.{Attach, Detach, Cancel, SendInRun, Receive};
 ghost use Rattle.buffer_core.specs.Window.{opening};
 ghost use Rattle.buffer_core.specs.Histories.{History, IsLegal, replay};
-ghost use Rattle.buffer_core.specs.Points.{sent, count_at, life_at, past_of};
+ghost use Rattle.buffer_core.specs.Points.{Life, sent, count_at, life_at, request_at, past_of};
 ghost use Rattle.buffer_core.specs.Delivered.{Delivers, FailsAlone, InOrder, Complete, HeldBack, Bounded};
 ghost use Rattle.buffer_core.specs.Runs.{KeepsRuns, begun_at, ended_at, segment, events_between};
 ghost use Rattle.buffer_core.specs.Continued.{sent_in, RepliesCount, GivesSent};
@@ -49,6 +50,23 @@ pub fn numbers_free()
     ensures { (size : ℕ) → (before after : History) → (caller : ℕ) → (name : List ℕ) → (client : ℕ) →
         IsLegal (opening size) (before ++ (caller, Attach name (Ok client)) ∷ after) →
         life_at (past_of before) client ≡ None }
+{}
+
+/// A cancel that is refused, at a client that lives, finds no request of that number.
+pub fn cancels()
+    ensures { (size : ℕ) → (before after : History) → (caller client number : ℕ) →
+        (refusal : RequestRefusal) → (life : Life) →
+        IsLegal (opening size) (before ++ (caller, Cancel client number (Err refusal)) ∷ after) →
+        life_at (past_of before) client ≡ Some life →
+        request_at (past_of before) client number ≡ None }
+{}
+
+/// No run has the start number 0, under which the events stand that were sent in no run.
+pub fn sends_in_runs()
+    ensures { (size : ℕ) → (before after : History) → (caller start stated place : ℕ) →
+        (event : Event) →
+        IsLegal (opening size) (before ++ (caller, SendInRun start stated event (Ok place)) ∷ after) →
+        start ≢ 0 }
 {}
 
 /// Where a reply tells how many events were accepted, so many were sent before.
