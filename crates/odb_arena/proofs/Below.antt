@@ -67,7 +67,7 @@ same_number m k e = grind (arith, nat_tests, e)
 less_number : (m n k : ℕ) → m ≡ n → k < n → eqb m k ≡ false
 less_number m n k e l = grind (arith, nat_tests, e, l)
 
-lt_or_le : (k n : ℕ) → (k < n) ⊎ (n ≤ k)
+pub lt_or_le : (k n : ℕ) → (k < n) ⊎ (n ≤ k)
 lt_or_le k n = cases (ltb k n) refl
   where
     cases : (t : Bool) → ltb k n ≡ t → (k < n) ⊎ (n ≤ k)

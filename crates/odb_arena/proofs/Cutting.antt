@@ -35,7 +35,7 @@ own_append : (row : ℕ → Option Row) (xs ys : List Row) → AreOwn row xs →
 own_append row [] ys h k = k
 own_append row (x ∷ xs) ys h k = (h.0, own_append row xs ys h.1 k)
 
-own_below : (row : ℕ → Option Row) (next n : ℕ) → ((k : ℕ) (r : Row) → row k ≡ Some r → IsNumbered next k r) → AreOwn row (rows_below row n)
+pub own_below : (row : ℕ → Option Row) (next n : ℕ) → ((k : ℕ) (r : Row) → row k ≡ Some r → IsNumbered next k r) → AreOwn row (rows_below row n)
 unfolding rows_below
 own_below row next zero h = tt
 own_below row next (suc n) h = own_append row (rows_below row n) (option_to_list (row n)) (own_below row next n h) (one (row n) refl)

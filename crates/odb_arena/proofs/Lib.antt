@@ -11,3 +11,5 @@ pub mod Altering
 pub mod Accepted
 pub mod Keys
 pub mod Shown
+pub mod Leaves
+pub mod Copied

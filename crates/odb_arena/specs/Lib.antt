@@ -3,3 +3,4 @@ pub mod Arena
 pub mod Inside
 pub mod Reaching
 pub mod Growth
+pub mod Leaves

@@ -1,6 +1,6 @@
 -- The names of what stands in a directory.
-use Rattle.std.specs.Prelude.{ℕ, ◌-◌, Bool, true, false, if◌then◌else◌, nat_eq, List, [], ◌∷◌, ◌++◌, length, map, replicate, Option}
-use Rattle.std.specs.Option.{option_or}
+use Rattle.std.specs.Prelude.{ℕ, ◌-◌, Bool, true, false, if◌then◌else◌, nat_eq, List, [], ◌∷◌, ◌++◌, length, map, replicate, slice_get, Option}
+use Rattle.std.specs.Option.{option_map, option_or}
 use Rattle.std.specs.Char.{to_ascii_lowercase}
 use Rattle.std.specs.Cmp.Lexicographic.{pointwise}
 use Rattle.std.specs.Map.{lookup, remove_entry}
@@ -33,3 +33,11 @@ with_child false child names = if child.is_dir then names ++ entry_of child ∷ 
 abbrev pub without_name : (keys is_dir : Bool) → List ℕ → List (List ℕ × Child) → List (List ℕ × Child)
 without_name true is_dir name names = if is_dir then names else remove_entry (pointwise nat_eq name) names
 without_name false is_dir name names = if is_dir then remove_entry (pointwise nat_eq name) names else names
+
+-- the last of these
+abbrev pub last_named : List (List ℕ × Child) → Option Child
+last_named names = option_map (λ e. e.1) (slice_get names (length names - 1))
+
+-- the last of these directories, or else of these keys
+abbrev pub last_child : (keys dirs : List (List ℕ × Child)) → Option Child
+last_child keys dirs = option_or (last_named dirs) (last_named keys)

@@ -1,7 +1,7 @@
-ghost use Rattle.std.specs.Prelude.{◌≡◌, ◌-◌, ◌++◌, ◌∷◌, [], Bool, None, true, false, nat_eq, OnOk, OnErr, IfOk, map, take};
+ghost use Rattle.std.specs.Prelude.{◌≡◌, ◌-◌, ◌++◌, [], Bool, None, true, false, nat_eq, OnOk, OnErr, IfOk, map};
 ghost use Rattle.std.specs.Cmp.Lexicographic.{pointwise};
 ghost use Rattle.std.specs.Map.{lookup};
-ghost use Rattle.odb_arena.specs.Names.{folded, names_in, child_in, with_child, without_name};
+ghost use Rattle.odb_arena.specs.Names.{folded, names_in, child_in, with_child, without_name, last_named, last_child};
 
 use daq_types::{Name, NoMemory};
 use indexmap::IndexMap;
@@ -87,6 +87,24 @@ impl Directory {
         }
     }
 
+    /// The child made last, of the directories or else of the keys.
+    pub fn last_child(&self) -> Option<Child>
+        ensures { result ≡ last_child (names_in true self.now) (names_in false self.now) }
+    {
+        last_of(&self.dirs).or(last_of(&self.keys))
+    }
+
+    /// The same directory once more.
+    pub fn copy(&self, alloc: Global) -> Result<Directory, NoMemory>
+        ensures { IfOk result (λ copy. (keys : Bool) → names_in keys copy
+            ≡ names_in keys self.now) }
+    {
+        Ok(Directory {
+            keys: copy_names(alloc, &self.keys)?,
+            dirs: copy_names(alloc, &self.dirs)?,
+        })
+    }
+
     /// What stands in the directory: its keys, and then its directories.
     pub fn children(&self, alloc: Global) -> Result<Children, NoMemory>
         ensures { IfOk result (λ children. children
@@ -108,4 +126,29 @@ fn add_names(children: &mut Vec<Child>, names: &IndexMap<Folded, Child>) -> Resu
         children.push(*child)?;
     }
     Ok(())
+}
+
+/// The child that stands last among these names.
+fn last_of(names: &IndexMap<Folded, Child>) -> Option<Child>
+    ensures { result ≡ last_named names.now.entries }
+{
+    match names.last() {
+        Some((_, child)) => Some(*child),
+        None => None,
+    }
+}
+
+/// The same names once more.
+fn copy_names(
+    alloc: Global,
+    names: &IndexMap<Folded, Child>,
+) -> Result<IndexMap<Folded, Child>, NoMemory>
+    ensures { IfOk result (λ copy. copy.entries ≡ names.now.entries) }
+{
+    let mut copy = IndexMap::new(alloc);
+    for i in 0..names.len() {
+        let (name, child) = names.get_index(i).unwrap();
+        copy.insert(*name, *child)?;
+    }
+    Ok(copy)
 }

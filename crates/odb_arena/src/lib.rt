@@ -8,6 +8,3 @@ mod reaching;
 mod tree;
 
 pub use tree::ArenaTree;
-
-#[cfg(test)]
-mod tests;

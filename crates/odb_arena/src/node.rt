@@ -4,9 +4,10 @@ ghost use Rattle.std.specs.Option.{unwrap_or};
 ghost use Rattle.std.specs.Cmp.Lexicographic.{pointwise};
 ghost use Rattle.std.specs.Map.{lookup};
 ghost use Rattle.indexmap.specs.IndexMap.{spare};
-ghost use Rattle.odb_arena.specs.Names.{folded, names_in, child_in, with_child, without_name};
+ghost use Rattle.odb_arena.specs.Names.{folded, names_in, child_in, with_child, without_name, last_child};
 ghost use Rattle.odb_arena.specs.Arena.{row_of, names_at, names_entered, names_left, bytes_of_found, IsAltered};
 ghost use Rattle.odb_tree.specs.declared.rows.Row.{Row};
+ghost use Rattle.odb_arena.specs.declared.directory.Directory.{Directory};
 ghost use Rattle.odb_tree.specs.Changes.{RowCanPut};
 ghost use Rattle.odb_value.specs.Values.{items_limit};
 ghost use Rattle.odb_value.specs.ValueChanges.{put_in, resized};
@@ -14,7 +15,7 @@ ghost use Rattle.odb_value.specs.ValueChanges.{put_in, resized};
 use crate::directory::Directory;
 use daq_types::{Name, NoMemory};
 use indexmap::IndexMap;
-use odb_tree::{Child, Children, Row, bytes_of, put_row, replace_row, resize_row};
+use odb_tree::{Child, Children, Row, bytes_of, copy_row, put_row, replace_row, resize_row};
 use odb_value::{Item, Value};
 use std::alloc::Global;
 
@@ -46,6 +47,18 @@ impl Node {
             ≡ without_name keys is_dir (folded name.now) (names_in keys self.old.below) }
     {
         self.below.leave(name, is_dir);
+    }
+
+    /// The same node once more.
+    fn copy(&self, alloc: Global) -> Result<Node, NoMemory>
+        ensures row { IfOk result (λ copy. copy.row ≡ self.now.row) }
+        ensures names { IfOk result (λ copy. (keys : Bool) → names_in keys copy.below
+            ≡ names_in keys self.now.below) }
+    {
+        Ok(Node {
+            row: copy_row(&self.row, alloc)?,
+            below: self.below.copy(alloc)?,
+        })
     }
 }
 
@@ -178,6 +191,38 @@ pub fn resize_in(
         Some(node) => resize_row(&mut node.row, alloc, len),
         None => Ok(()),
     }
+}
+
+/// The child made last in the directory with this number, of its directories or else of its keys.
+pub fn last_child_at(root: &Directory, nodes: &IndexMap<u32, Node>, at: u32) -> Option<Child>
+    ensures { result ≡ last_child (unwrap_or (names_at root.now nodes.now.entries true at) [])
+        (unwrap_or (names_at root.now nodes.now.entries false at) []) }
+{
+    if at == 0 {
+        return root.last_child();
+    }
+    match nodes.get(&at) {
+        Some(node) => node.below.last_child(),
+        None => None,
+    }
+}
+
+/// The same nodes once more.
+pub fn copy_nodes(
+    alloc: Global,
+    nodes: &IndexMap<u32, Node>,
+) -> Result<IndexMap<u32, Node>, NoMemory>
+    ensures rows { IfOk result (λ copy. (number : ℕ) → row_of copy.entries number
+        ≡ row_of nodes.now.entries number) }
+    ensures names { IfOk result (λ copy. (root : Directory) (keys : Bool) (number : ℕ)
+        → names_at root copy.entries keys number ≡ names_at root nodes.now.entries keys number) }
+{
+    let mut copy = IndexMap::new(alloc);
+    for i in 0..nodes.len() {
+        let (number, node) = nodes.get_index(i).unwrap();
+        copy.insert(*number, node.copy(alloc)?)?;
+    }
+    Ok(copy)
 }
 
 /// What stands in the directory with this number.

@@ -1,40 +1,41 @@
-ghost use Rattle.std.specs.Prelude.{◌≡◌, ◌≢◌, ◌<◌, ◌≤◌, ◌+◌, ◌-◌, ◌^◌, Option, ◌∷◌, ◌++◌, [], List, ℕ, length, Some, None, Ok, Err, IfOk, IfErr, IfSome, OnOk, OnErr};
+ghost use Rattle.std.specs.Prelude.{◌≡◌, ◌<◌, ◌≤◌, ◌+◌, ◌-◌, ◌^◌, Option, ◌∷◌, ◌++◌, [], List, ℕ, length, Some, None, Ok, Err, IfOk, IfErr, IfSome, OnOk, OnErr};
 ghost use Rattle.std.specs.Option.{option_map, option_copied};
 ghost use Rattle.odb_path.specs.Paths.{depth_limit};
 ghost use Rattle.odb_tree.specs.declared.rows.Row.{Row};
 ghost use Rattle.odb_tree.specs.Rows.{no_rows, row_at, row_numbered, bytes_in, total_of};
-ghost use Rattle.odb_tree.specs.Lookups.{obstacle_from, obstacle_to_new, dir_fault, absent_fault, seek, seek_key};
+ghost use Rattle.odb_tree.specs.Lookups.{obstacle_from, obstacle_to_new, dir_fault, seek, seek_key};
 ghost use Rattle.odb_tree.specs.Making.{missing_from, new_number, created};
-ghost use Rattle.odb_tree.specs.Calls.{IsReply, rows_after, is_row_below, path_with, child_of, after_delete, after_resize, exists_fault, create_fault, set_fault, set_all_fault};
+ghost use Rattle.odb_tree.specs.Calls.{path_with, child_of, after_delete, after_resize, exists_fault, create_fault, set_fault, set_all_fault};
 ghost use Rattle.odb_tree.specs.Changes.{IsKeyAt};
 ghost use Rattle.odb_tree.specs.Limits.{passed, len_fault, limit_fault};
-ghost use Rattle.odb_tree.specs.declared.refusals.OdbRefusal.TheVariants.{Limit, NoMemory as no_memory};
-ghost use Rattle.odb_tree.specs.declared.entry.DatabaseEntry.TheVariants.{Create, Set, SetAll, Get, Find, ListDir, Resize, PathOf};
-ghost use Rattle.daq_types.specs.declared.types.Tid.{Tid};
-ghost use Rattle.odb_value.specs.Items.{tid_of};
+ghost use Rattle.odb_tree.specs.declared.refusals.OdbRefusal.TheVariants.{Limit};
 ghost use Rattle.odb_value.specs.Values.{HeldValue};
 ghost use Rattle.odb_tree.specs.Trees.{with_rows};
 ghost use Rattle.odb_arena.specs.Reaching.{IsReached};
+ghost use Rattle.odb_arena.specs.Leaves.{HasPath, StandsIn, IsLeafBelow};
 ghost use Rattle.odb_arena.specs.Growth.{dir_path, row_in_dir, chain, without_last, CanAdd, CanGrow, CanMake, IsLeaf, IsLastRow};
 ghost use Rattle.odb_tree.specs.Databases.{IsDatabase};
 
 use crate::directory::Directory;
 use crate::node::{
-    Node, bytes_at, bytes_in, child_at, children_at, enter_at, leave_at, put_in, replace_in,
-    resize_in,
+    Node, bytes_at, bytes_in, child_at, children_at, copy_nodes, enter_at, last_child_at, leave_at,
+    put_in, replace_in, resize_in,
 };
 use crate::reaching::Reached;
 use daq_types::{Name, NoMemory};
 use indexmap::IndexMap;
-use odb_path::{Path, is_front};
+use odb_path::{MAX_DEPTH, Path, is_front};
 use odb_tree::{
-    Child, Children, Key, NewKey, OdbRefusal, Row, What, bytes_of, bytes_of_new, bytes_with,
-    index_fault, items_fault, kept_fault, len_fault, limit_fault, new_value, parent, raised_size,
-    text_fault, type_fault,
+    Child, Children, Database, Key, NewKey, OdbRefusal, Row, What, bytes_of, bytes_of_new,
+    bytes_with, index_fault, items_fault, kept_fault, len_fault, limit_fault, new_value, parent,
+    raised_size, text_fault, type_fault,
 };
 use odb_value::{Item, Value};
 use std::alloc::Global;
 use std::marker::Model;
+
+#[cfg(test)]
+mod tests;
 
 /// A database in an arena.
 #[derive(Drop)]
@@ -191,19 +192,6 @@ impl ArenaTree {
         }
     }
 
-    /// Whether a key or a directory stands at a path, or why it is not reached. The root is there.
-    fn check_there(&self, names: &[Name]) -> Result<(), OdbRefusal>
-        ensures row { OnOk result (absent_fault self.now.rows names.now ≡ None) }
-        ensures refused { IfErr result (λ refusal. absent_fault self.now.rows names.now
-            ≡ Some refusal) }
-    {
-        if names.is_empty() {
-            return Ok(());
-        }
-        let _row = self.seek(names)?;
-        Ok(())
-    }
-
     /// The names of the row with this number, and none for the root.
     fn path_with(&self, number: u32) -> Option<&[Name]>
         ensures names { option_copied result ≡ path_with self.now.rows number }
@@ -293,6 +281,56 @@ impl ArenaTree {
         );
         self.count -= 1;
         self.bytes -= bytes_in(&node.row.value);
+    }
+
+    /// How many rows there are.
+    fn len(&self) -> usize
+        ensures { result ≡ length self.now.rows }
+    {
+        self.count
+    }
+
+    /// The child made last in the directory with this number, of its directories or else of its keys.
+    fn last_child(&self, at: u32) -> Option<Child>
+        ensures { (p : List (List ℕ)) → path_with self.now.rows at ≡ Some p → StandsIn self.now p
+            result }
+    {
+        last_child_at(&self.root, &self.nodes, at)
+    }
+
+    /// The number of a row with nothing below it: of the one with this number, or of one below it. 0 for the root where
+    /// there are no rows.
+    fn leaf_below(&self, number: u32) -> u32
+        ensures { (p : List (List ℕ)) → path_with self.now.rows number ≡ Some p
+            → IsLeafBelow self.now p result }
+    {
+        let _ = &self.root;
+        let mut at = number;
+        for _depth in 0..MAX_DEPTH {
+            let Some(child) = self.last_child(at) else {
+                return at;
+            };
+            at = child.row;
+        }
+        at
+    }
+
+    /// Removes the row with this number and all below it. For the root all rows go.
+    fn remove_below(&mut self, number: u32)
+        requires { HasPath self.old number }
+        ensures { (p : List (List ℕ)) → path_with self.old.rows number ≡ Some p → self.new
+            ≡ after_delete self.old p }
+    {
+        for _gone in 0..self.len() {
+            let leaf = self.leaf_below(number);
+            if leaf == 0 {
+                return;
+            }
+            self.remove_leaf(leaf);
+            if leaf == number {
+                return;
+            }
+        }
     }
 
     /// Takes back the number given last, which no row has.
@@ -482,12 +520,10 @@ impl ArenaTree {
     }
 }
 
-impl ArenaTree {
-    /// Makes a key or a directory, and the missing directories of its path, and answers the number of its row.
-    pub fn create(&mut self, alloc: Global, path: &Path, kind: NewKey) -> Result<u32, OdbRefusal>
-        ensures reply { IsReply self.old (Create path.now kind result) }
-        ensures after { self.new ≡ rows_after self.old (Create path.now kind result) }
-    {
+impl Database for ArenaTree {
+    ghost rows = { λ s. s };
+
+    fn create(&mut self, alloc: Global, path: &Path, kind: NewKey) -> Result<u32, OdbRefusal> {
         let _ = &self.root;
         let names = path.names();
         if let Some(refusal) = self.create_fault(names, kind) {
@@ -498,20 +534,13 @@ impl ArenaTree {
         Ok(number)
     }
 
-    /// Writes one item of a key, and answers the number of its row. A text as long as the item size or longer raises
-    /// that to its length plus 1. Takes memory for a text alone.
-    pub fn set(
+    fn set(
         &mut self,
         alloc: Global,
         path: &Path,
         index: u32,
         item: &Item,
-    ) -> Result<u32, OdbRefusal>
-        ensures reply { IsReply self.old (Set path.now index item.now result) }
-        ensures memory { result ≡ Err no_memory → tid_of item.now ≡ Tid.Text }
-        ensures after { self.new ≡ rows_after self.old
-            (Set path.now index item.now result) }
-    {
+    ) -> Result<u32, OdbRefusal> {
         let _ = &self.root;
         let names = path.names();
         let key = self.seek_key(names)?;
@@ -527,12 +556,7 @@ impl ArenaTree {
         Ok(number)
     }
 
-    /// Replaces the value of a key by one of the same type, or makes the key with it, and answers the number of its row.
-    pub fn set_all(&mut self, alloc: Global, path: &Path, value: &Value) -> Result<u32, OdbRefusal>
-        ensures reply { IsReply self.old (SetAll path.now value.now result) }
-        ensures after { self.new ≡ rows_after self.old
-            (SetAll path.now value.now result) }
-    {
+    fn set_all(&mut self, alloc: Global, path: &Path, value: &Value) -> Result<u32, OdbRefusal> {
         let _ = &self.root;
         let names = path.names();
         if let Some(refusal) = self.set_all_fault(names, value) {
@@ -555,21 +579,13 @@ impl ArenaTree {
         }
     }
 
-    /// The value of a key.
-    pub fn get(&self, alloc: Global, path: &Path) -> Result<Value, OdbRefusal>
-        ensures { IsReply self.now (Get path.now result) }
-    {
+    fn get(&self, alloc: Global, path: &Path) -> Result<Value, OdbRefusal> {
         let key = self.seek_key(path.names())?;
         let value = key.value.try_clone(alloc)?;
         Ok(value)
     }
 
-    /// The number of the row of a key or a directory; 0 for the root. Takes no memory.
-    pub fn find(&self, path: &Path) -> Result<u32, OdbRefusal>
-        ensures reply { IsReply self.now (Find path.now result) }
-        ensures memory { result ≢ Err no_memory }
-        ensures database { IsDatabase self.now }
-    {
+    fn find(&self, path: &Path) -> Result<u32, OdbRefusal> {
         let _ = &self.root;
         let names = path.names();
         if names.is_empty() {
@@ -579,11 +595,7 @@ impl ArenaTree {
         Ok(row.number)
     }
 
-    /// What stands in a directory: its keys, and then its directories, each in order of making.
-    pub fn list(&self, alloc: Global, path: &Path) -> Result<Children, OdbRefusal>
-        ensures reply { IsReply self.now (ListDir path.now result) }
-        ensures database { IsDatabase self.now }
-    {
+    fn list(&self, alloc: Global, path: &Path) -> Result<Children, OdbRefusal> {
         let _ = &self.root;
         let names = path.names();
         self.check_dir(names)?;
@@ -592,11 +604,14 @@ impl ArenaTree {
         Ok(children)
     }
 
-    /// Gives a key so many items: cuts at the end, or adds items of a new key. Answers the number of its row.
-    pub fn resize(&mut self, alloc: Global, path: &Path, len: u32) -> Result<u32, OdbRefusal>
-        ensures reply { IsReply self.old (Resize path.now len result) }
-        ensures after { self.new ≡ rows_after self.old (Resize path.now len result) }
-    {
+    fn delete(&mut self, path: &Path) -> Result<u32, OdbRefusal> {
+        let number = self.find(path)?;
+        let before = self.len();
+        self.remove_below(number);
+        Ok((before - self.len()) as u32)
+    }
+
+    fn resize(&mut self, alloc: Global, path: &Path, len: u32) -> Result<u32, OdbRefusal> {
         let _ = &self.root;
         let names = path.names();
         let key = self.seek_key(names)?;
@@ -610,10 +625,7 @@ impl ArenaTree {
         Ok(number)
     }
 
-    /// The path of the row with this number, and of the root for 0; None exactly where there is none.
-    pub fn path_of(&self, alloc: Global, row: u32) -> Result<Option<Path>, NoMemory>
-        ensures { IsReply self.now (PathOf row result) }
-    {
+    fn path_of(&self, alloc: Global, row: u32) -> Result<Option<Path>, NoMemory> {
         match self.path_with(row) {
             Some(names) => {
                 let path = Path::of(alloc, names)?;
@@ -623,11 +635,7 @@ impl ArenaTree {
         }
     }
 
-    /// Whether both numbers are those of rows that are there, or 0 for the root, and the first is the second or lies
-    /// below it. Takes no memory.
-    pub fn is_below(&self, row: u32, above: u32) -> bool
-        ensures { result ≡ is_row_below self.now row above }
-    {
+    fn is_below(&self, row: u32, above: u32) -> bool {
         let Some(names) = self.path_with(row) else {
             return false;
         };
@@ -635,5 +643,15 @@ impl ArenaTree {
             Some(front) => is_front(front, names),
             None => false,
         }
+    }
+
+    fn copy(&self, alloc: Global) -> Result<ArenaTree, NoMemory> {
+        Ok(ArenaTree {
+            root: self.root.copy(alloc)?,
+            nodes: copy_nodes(alloc, &self.nodes)?,
+            next: self.next,
+            count: self.count,
+            bytes: self.bytes,
+        })
     }
 }

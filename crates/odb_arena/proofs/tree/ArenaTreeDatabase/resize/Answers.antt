@@ -10,7 +10,7 @@ use Rattle.odb_arena.specs.Arena.{row_of, names_at}
 use Rattle.odb_arena.proofs.Keys.{key_row, key_at, key_bytes}
 use Rattle.odb_arena.proofs.Steps.{arena_same}
 use Rattle.odb_arena.proofs.Altering.{altered, unaltered}
-use Rattle.odb_arena.proofs.tree.ArenaTree.resize.Goals as goal
+use Rattle.odb_arena.proofs.tree.ArenaTreeDatabase.resize.Goals as goal
 
 pub resize_fault-requires : goal.resize_fault-requires
 resize_fault-requires c = key_at c.args.self.now.rows c.names-names.result.now c.in_ok-key.key.number c.in_ok-key.key.value.now (key_row c.args.self.now.rows c.names-names.result.now c.in_ok-key.key.number c.in_ok-key.key.value.now c.in_ok-key.ensures.found)

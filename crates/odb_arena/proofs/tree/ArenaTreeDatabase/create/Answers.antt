@@ -2,7 +2,7 @@ use Rattle.std.proofs.Common.{sym, subst}
 use Rattle.odb_path.specs.Paths.{IsPath}
 use Rattle.odb_tree.specs.Databases.{IsDatabase}
 use Rattle.odb_arena.proofs.Accepted.{can_create}
-use Rattle.odb_arena.proofs.tree.ArenaTree.create.Goals as goal
+use Rattle.odb_arena.proofs.tree.ArenaTreeDatabase.create.Goals as goal
 
 pub make-requires : goal.make-requires
 make-requires c =

@@ -3,7 +3,7 @@ use Rattle.std.proofs.lemmas.Result.{err_from_is_err_and}
 use Rattle.odb_tree.specs.declared.refusals.OdbRefusal.{OdbRefusal}
 use Rattle.odb_tree.specs.Lookups.{seek}
 use Rattle.odb_tree.proofs.Lasting.{sought, handed}
-use Rattle.odb_arena.proofs.tree.ArenaTree.find.Goals as goal
+use Rattle.odb_arena.proofs.tree.ArenaTreeDatabase.find.Goals as goal
 
 pub returns-in_err-row-clause-memory : goal.returns-in_err-row-clause-memory
 returns-in_err-row-clause-memory c =

@@ -9,7 +9,7 @@ use Rattle.odb_tree.proofs.Sound.{database_replaced}
 use Rattle.odb_arena.proofs.Keys.{key_bytes}
 use Rattle.odb_arena.proofs.Accepted.{can_set_all, key_there}
 use Rattle.odb_arena.proofs.Altering.{altered}
-use Rattle.odb_arena.proofs.tree.ArenaTree.set_all.Goals as goal
+use Rattle.odb_arena.proofs.tree.ArenaTreeDatabase.set_all.Goals as goal
 
 pub overflow_sub-self : goal.overflow_sub-self
 overflow_sub-self c =

@@ -1,5 +1,5 @@
 use Rattle.odb_arena.proofs.Shown.{listed}
-use Rattle.odb_arena.proofs.tree.ArenaTree.list.Goals as goal
+use Rattle.odb_arena.proofs.tree.ArenaTreeDatabase.list.Goals as goal
 
 pub returns-clause-reply : goal.returns-clause-reply
 returns-clause-reply c =

@@ -13,7 +13,7 @@ use Rattle.odb_tree.proofs.Sound.{database_set}
 use Rattle.odb_tree.proofs.Lasting.{sought_key as lasting, handed}
 use Rattle.odb_arena.proofs.Keys.{key_row, key_at, node_can_put, key_bytes}
 use Rattle.odb_arena.proofs.Altering.{altered}
-use Rattle.odb_arena.proofs.tree.ArenaTree.set.Goals as goal
+use Rattle.odb_arena.proofs.tree.ArenaTreeDatabase.set.Goals as goal
 
 pub set_fault-requires : goal.set_fault-requires
 set_fault-requires c =
