@@ -26,6 +26,3 @@ pub use lookups::{Key, parent};
 pub use plain::PlainTree;
 pub use refusals::{OdbRefusal, What};
 pub use rows::{NewKey, Row};
-
-#[cfg(test)]
-mod tests;
