@@ -1,0 +1,61 @@
+#!/bin/sh
+# Measures scripts of database commands: 10,000, 20,000 and 40,000 lines over 500, 1,000 and 2,000 keys in 50 directories,
+# half of the lines behind the creations `set` and half `get`, beside a plain Rust program with a hash map that plays the
+# same script to the same text. Prints seconds (the best of three), ratios, growth and the peak memory.
+# usage: bench/odb.sh PROGRAM
+set -e
+program=$(realpath "$1")
+source=$(realpath "$(dirname "$0")/odb.rs")
+folder=$(mktemp -d)
+trap 'rm -rf "$folder"' EXIT
+cd "$folder"
+rustc -O --edition 2024 -o plain "$source"
+python3 - "$program" <<'PYTHON'
+import math, os, subprocess, sys, time
+
+program = sys.argv[1]
+FEWEST_LINES = 10000
+FEWEST_KEYS = 500
+DIRECTORIES = 50
+
+
+def path(key):
+    return "/Equipment/Crate%d/Channel%d" % (key % DIRECTORIES, key)
+
+
+def script(lines, keys):
+    written = ["create UINT32 " + path(key) for key in range(keys)]
+    for line in range(lines - keys):
+        key = (line // 2) * 7919 % keys
+        written.append("set %s %d" % (path(key), line) if line % 2 == 0 else "get " + path(key))
+    return ("\n".join(written) + "\n").encode()
+
+
+def seconds(command, script, runs=3):
+    """The best time of some runs, the peak memory in kB, and what was printed."""
+    best, peak = None, 0
+    for _ in range(runs):
+        with open("script", "wb") as out:
+            out.write(script)
+        start = time.time()
+        process = subprocess.Popen("exec %s < script > printed" % command, shell=True)
+        _, status, usage = os.wait4(process.pid, 0)
+        took = time.time() - start
+        assert status == 0, command
+        peak = max(peak, usage.ru_maxrss)
+        best = took if best is None else min(best, took)
+    with open("printed", "rb") as printed:
+        return best, peak, printed.read()
+
+
+first = None
+for times in (1, 2, 4):
+    lines, keys = times * FEWEST_LINES, times * FEWEST_KEYS
+    took, peak, printed = seconds(program + " run", script(lines, keys))
+    plain, _, wanted = seconds("./plain", script(lines, keys))
+    assert printed == wanted, "the two programs print different texts"
+    first = first or took
+    exponent = math.log(took / first) / math.log(times) if times > 1 else 1
+    print("%6d lines  %5d keys  run %6.3f s  %5.1f times plain Rust  growth %5.2f of %d (exponent %4.2f)  peak %d kB"
+          % (lines, keys, took, took / plain, took / first, times, exponent, peak))
+PYTHON
