@@ -13,6 +13,8 @@ use Rattle.odb_tree.specs.declared.refusals.OdbRefusal.{OdbRefusal}
 use Rattle.odb_tree.specs.declared.refusals.OdbRefusal.TheVariants.{NoMemory as no_memory}
 use Rattle.odb_tree.specs.declared.rows.NewKey.{NewKey}
 use Rattle.odb_tree.specs.declared.rows.NewKey.TheVariants.{Dir, Keys}
+use Rattle.odb_tree.specs.Rows.{Rows}
+use Rattle.odb_tree.specs.Calls.{rows_after}
 use Rattle.odb_journal.specs.Noted.{unanswered}
 use Rattle.odb_script.specs.declared.forms.Command.{Command}
 use Rattle.odb_script.specs.declared.forms.Command.TheVariants as command
@@ -20,7 +22,7 @@ use Rattle.odb_commands.specs.declared.replies.CommandRefusal.{CommandRefusal}
 use Rattle.odb_commands.specs.declared.replies.CommandRefusal.TheVariants.{Path, Protected, Database}
 use Rattle.odb_commands.specs.declared.replies.CommandReply.{CommandReply}
 use Rattle.odb_commands.specs.declared.replies.CommandReply.TheVariants.{Key, Refused}
-use Rattle.odb_commands.specs.Answers.{done_or, item_for, is_protected, listed_or, one_or}
+use Rattle.odb_commands.specs.Answers.{Answer, done_or, item_for, is_protected, listed_or, one_or}
 
 -- memory was not wanting for a call
 abbrev pub IsSettled : {X : Type 0} → Result X OdbRefusal → Type 0
@@ -97,6 +99,20 @@ Performs (command.Events count) calls reply = ⊥
 Performs command.Start calls reply = ⊥
 Performs command.Stop calls reply = ⊥
 Performs command.Exit calls reply = ⊥
+
+-- These are the calls and the reply of the answer.
+abbrev pub IsAnswered : Answer → (calls : List DatabaseEntry) → (reply : CommandReply) → Type 0
+IsAnswered answer calls reply = (calls ≡ answer.calls) × (reply ≡ answer.reply)
+
+-- the same of a command that may be another's, which has none
+abbrev pub IsAnswerOf : Option Answer → (calls : List DatabaseEntry) → (reply : CommandReply) → Type 0
+IsAnswerOf None calls reply = ⊥
+IsAnswerOf (Some answer) calls reply = IsAnswered answer calls reply
+
+-- the calls of all but the main thread, caller 0, leave the rows as they are at that point
+abbrev pub OthersLeave : Rows → List (ℕ × DatabaseEntry) → Type 0
+OthersLeave s [] = Unit {0}
+OthersLeave s (e ∷ history) = (e.0 ≢ 0 → rows_after s e.1 ≡ s) × OthersLeave (rows_after s e.1) history
 
 -- Of these calls the first were made, and the last of them may be the one for which memory was wanting.
 abbrev pub IsCutShort : (calls made : List DatabaseEntry) → Type 0

@@ -1,11 +1,14 @@
 //! What the database's commands leave alone.
 ghost use Rattle.odb_tree.specs.Rows.{Rows};
 ghost use Rattle.odb_script.specs.declared.forms.Command.{Command};
-ghost use Rattle.std.specs.Prelude.{List};
+ghost use Rattle.std.specs.Prelude.{List, ℕ};
+ghost use Rattle.daq_types.specs.Callers.{entries_by};
+ghost use Rattle.odb_tree.specs.Histories.{IsLegal};
+ghost use Rattle.odb_journal.specs.Noted.{by_main};
 ghost use Rattle.odb_tree.specs.declared.entry.DatabaseEntry.{DatabaseEntry};
 ghost use Rattle.odb_commands.specs.declared.replies.CommandReply.{CommandReply};
 ghost use Rattle.odb_commands.specs.Answers.{answer_of};
-ghost use Rattle.odb_commands.specs.CommandCalls.{Performs};
+ghost use Rattle.odb_commands.specs.CommandCalls.{Performs, IsAnswerOf, OthersLeave};
 ghost use Rattle.odb_commands.specs.CommandCallLaws.{PerformsIf, Spares};
 ghost use Rattle.odb_commands.specs.CommandLaws.{SparesIf};
 
@@ -23,4 +26,19 @@ pub fn answered_by_rows()
 pub fn calls_spare_runinfo()
     ensures { (command : Command) (calls : List DatabaseEntry) (reply : CommandReply)
         → Performs command calls reply → Spares calls }
+{}
+
+/// Where a command's calls are legal from some rows, they and its reply are those that these rows give.
+pub fn answers_are_legal()
+    ensures { (s : Rows) (command : Command) (calls : List DatabaseEntry) (reply : CommandReply)
+        → Performs command calls reply → IsLegal s (by_main calls)
+        → IsAnswerOf (answer_of s command) calls reply }
+{}
+
+/// So too where others call between them, in a legal history, as long as these calls leave the rows as they are.
+pub fn answers_among_others()
+    ensures { (s : Rows) (history : List (ℕ × DatabaseEntry)) (command : Command)
+        (reply : CommandReply) → Performs command (entries_by 0 history) reply
+        → IsLegal s history → OthersLeave s history
+        → IsAnswerOf (answer_of s command) (entries_by 0 history) reply }
 {}
