@@ -1,0 +1,29 @@
+-- What a call on the locked object does to the pass that makes it, whatever the object is.
+use Rattle.std.specs.Prelude.{◌≡◌, ◌≢◌, ℕ, ◌<◌, ◌++◌, ◌∷◌, [], None}
+use mathlib.Core.List.{IsPrefix}
+use Rattle.turn_lock.specs.declared.lock.Turns.{Turns}
+use Rattle.turn_lock.specs.declared.lock.Pass.{Pass}
+use Rattle.turn_lock.specs.History.{Appends}
+use Rattle.turn_lock.specs.Passes.{number_of, seen_by, own_entries, found_by, held_by, passes_of, IsOf}
+
+module _ {M D E : Type 0} {g : _} where
+  -- The call took the turn, put this entry into the history, and freed the turn. What the pass has seen begins with what it
+  -- had seen and ends with the entry, before which come other passes' entries alone; its own entries are this one more.
+  pub record Enters (lock : Turns M D E) (entry : E) (before after : Pass M D E g) : Type 0 where
+    pub own : IsOf lock after
+    pub number : number_of after ≡ number_of before
+    pub idle : held_by after ≡ None
+    pub appends : Appends (number_of before) entry (seen_by before) (seen_by after)
+    pub mine : own_entries after ≡ own_entries before ++ entry ∷ []
+    pub found : IsPrefix (found_by before) (found_by after)
+
+  -- The call found that the turn was another pass's, and did nothing else: no entry is new, and that pass's number stands
+  -- behind those found before.
+  pub record FindsTaken (lock : Turns M D E) (holder : ℕ) (before after : Pass M D E g) : Type 0 where
+    pub own : IsOf lock after
+    pub number : number_of after ≡ number_of before
+    pub idle : held_by after ≡ None
+    pub seen : seen_by after ≡ seen_by before
+    pub found : found_by after ≡ found_by before ++ holder ∷ []
+    pub within : holder < passes_of lock
+    pub another : holder ≢ number_of before
