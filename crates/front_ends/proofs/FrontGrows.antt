@@ -1,0 +1,155 @@
+-- What a front-end keeps, as turns and calls are added.
+use Rattle.std.specs.Prelude.{◌≡◌, ◌≢◌, ℕ, zero, suc, ◌+◌, ◌≤◌, Bool, true, false, ◌||◌, nat_le, is_some, List, [], ◌∷◌, ◌++◌, length, Option, Some, None, refl}
+use Rattle.std.proofs.Common.{ap, subst, ◌∙◌, add-one, inl, inr, arith, length-append}
+use Rattle.std.proofs.lemmas.Bool.{leb-true}
+use Rattle.std.proofs.lemmas.List.{append-nil}
+use Rattle.daq_types.specs.declared.events.Event.{Event}
+use Rattle.daq_types.specs.declared.runs.Order.{Order}
+use Rattle.daq_types.specs.declared.runs.RunState.{RunState}
+use Rattle.daq_types.specs.declared.runs.RunState.TheVariants.{Stopped, Paused, Running}
+use Rattle.daq_types.specs.declared.runs.Transition.TheVariants.{Start, Stop}
+use Rattle.daq_types.specs.declared.runs.FrontEnded.{FrontEnded}
+use Rattle.daq_types.specs.declared.runs.FrontEnded.TheVariants.{Quota, Paused as EndedPaused, Spent as EndedSpent}
+use Rattle.buffer_core.specs.declared.entry.BufferEntry.{BufferEntry}
+use Rattle.transitions.specs.declared.answers.Answer.TheVariants.{Yes}
+use Rattle.transitions.specs.declared.answers.Tally.TheVariants.{Front}
+use Rattle.member_model.specs.Turns.{MemberTurn, HasTurnOf, IsNewStart, IsAnswered, NoneOpen, AreEngineTurns}
+use Rattle.member_model.specs.TurnLaws.{HasTurnOf-more}
+use Rattle.member_model.specs.SentCalls.{sent_by, own_sent}
+use Rattle.member_model.specs.SentLaws.{own_sent-push, WasSpent-push}
+use Rattle.front_ends.specs.declared.front_run.FrontRun.{FrontRun}
+use Rattle.front_ends.specs.Fronts.{ended_with, is_from_pause, paused_run}
+use Rattle.front_ends.specs.FrontKept.{made_events, IsMade, EndedSo, IsFrontTally, KeepsFront, IsWaiting, IsSpentSo, HasNoStop, TakesPart}
+
+pub length-made_events : (makes : Order → ℕ → Event) (order : Order) (n : ℕ) → length (made_events makes order n) ≡ n
+length-made_events makes order zero = refl
+length-made_events makes order (suc n) =
+    length-append (made_events makes order n) (makes order (suc n) ∷ []) ∙ ap (λ k. k + 1) (length-made_events makes order n) ∙ add-one n
+
+-- One turn more.
+
+pub IsMade-more : (makes : Order → ℕ → Event) (own : List BufferEntry) (turns : List MemberTurn) (t : MemberTurn) (start : ℕ) → IsMade makes own turns start → IsMade makes own (t ∷ turns) start
+IsMade-more makes own turns t start made = elim made as (λ w. IsMade makes own (t ∷ turns) start) [
+  | inl none ↦ inl none
+  | inr m ↦ inr (record { turn = m.turn; is_start = HasTurnOf-more t m.is_start; number = m.number; sent = m.sent })
+]
+
+EndedSo-more : (own : List BufferEntry) (turns : List MemberTurn) (t : MemberTurn) (stop : Order) (sent : ℕ) (ended : FrontEnded) → EndedSo own turns stop sent ended → EndedSo own (t ∷ turns) stop sent ended
+EndedSo-more own turns t stop sent Quota so = (so.0, HasTurnOf-more t so.1, so.2)
+EndedSo-more own turns t stop sent EndedPaused so = so
+EndedSo-more own turns t stop sent (EndedSpent total) so = so
+
+pub Tally-more : (own : List BufferEntry) (turns : List MemberTurn) (t : MemberTurn) (stop : Order) (sent : ℕ) (ended : FrontEnded) → IsFrontTally own turns stop sent ended → IsFrontTally own (t ∷ turns) stop sent ended
+Tally-more own turns t stop sent ended so = record { number = so.number; ended_so = EndedSo-more own turns t stop sent ended so.ended_so }
+
+-- where the new turn is a stop that was answered with a tally, that is right
+abbrev pub TellsRight : List BufferEntry → List MemberTurn → MemberTurn → Type 0
+TellsRight own turns t = AreEngineTurns (t ∷ turns) → (sent : ℕ) → (ended : FrontEnded) → t.transition ≡ Stop → t.answer ≡ Some (Yes (Front sent ended)) → IsFrontTally own (t ∷ turns) t.order sent ended
+
+pub keeps_more : (makes : Order → ℕ → Event) (own : List BufferEntry) (turns : List MemberTurn) (t : MemberTurn) → KeepsFront makes own turns → TellsRight own turns t → KeepsFront makes own (t ∷ turns)
+keeps_more makes own turns t keeps right = record {
+  only_sends = keeps.only_sends;
+  made = λ are start. IsMade-more makes own turns t start (keeps.made are.1 start);
+  tallies = λ are u sent ended stands is answer. elim stands as (λ w. IsFrontTally own (t ∷ turns) u.order sent ended) [
+    | inl same ↦ subst (λ (v : MemberTurn). v.transition ≡ Stop → v.answer ≡ Some (Yes (Front sent ended)) → IsFrontTally own (t ∷ turns) v.order sent ended) same (right are sent ended) is answer
+    | inr before ↦ Tally-more own turns t u.order sent ended (keeps.tallies are.1 u sent ended before is answer)
+  ];
+}
+
+waiting_more : (stop : Option Order) (start : ℕ) (turns : List MemberTurn) (t : MemberTurn) → IsWaiting stop start turns → NoneOpen turns → IsAnswered t.answer → IsWaiting stop start (t ∷ turns)
+waiting_more None start turns t waits none answered = answered
+waiting_more (Some order) start turns t waits none answered = absurd (subst (λ (ts : List MemberTurn). NoneOpen ts) waits.2 none)
+
+-- the new turn is no answered stop of this run
+abbrev pub LeavesRun : MemberTurn → (start : ℕ) → Type 0
+LeavesRun t start = t.transition ≡ Stop → IsAnswered t.answer → t.order.start ≢ start
+
+pub fresh_more : (turns : List MemberTurn) (t : MemberTurn) (start : ℕ) → HasNoStop turns start → LeavesRun t start → HasNoStop (t ∷ turns) start
+fresh_more turns t start fresh leaves = λ u stands is answer. elim stands as (λ w. u.order.start ≢ start) [
+  | inl same ↦ subst (λ (v : MemberTurn). v.transition ≡ Stop → IsAnswered v.answer → v.order.start ≢ start) same leaves is answer
+  | inr before ↦ fresh u before is answer
+]
+
+pub on_more : (makes : Order → ℕ → Event) (own : List BufferEntry) (turns : List MemberTurn) (r : FrontRun) (t : MemberTurn) → TakesPart makes own turns r → NoneOpen turns → IsAnswered t.answer → LeavesRun t r.order.start → TakesPart makes own (t ∷ turns) r
+on_more makes own turns r t on none answered leaves = record {
+  begin_turn = on.begin_turn;
+  is_start = HasTurnOf-more t on.is_start;
+  order_is = on.order_is;
+  within = on.within;
+  spent_so = on.spent_so;
+  waiting = waiting_more r.stop r.order.start turns t on.waiting none answered;
+  sent_is = λ are. on.sent_is are.1;
+  fresh = λ are. fresh_more turns t r.order.start (on.fresh are.1) leaves;
+}
+
+pub on_paused : (makes : Order → ℕ → Event) (own : List BufferEntry) (turns : List MemberTurn) (r : FrontRun) (paused : Bool) → TakesPart makes own turns r → TakesPart makes own turns (paused_run paused r)
+on_paused makes own turns r paused on = record {
+  begin_turn = on.begin_turn;
+  is_start = on.is_start;
+  order_is = on.order_is;
+  within = on.within;
+  spent_so = on.spent_so;
+  waiting = on.waiting;
+  sent_is = on.sent_is;
+  fresh = on.fresh;
+}
+
+-- a new start number, under which nothing was sent yet
+pub none_sent : (makes : Order → ℕ → Event) (own : List BufferEntry) (turns : List MemberTurn) (start : ℕ) → IsMade makes own turns start → IsNewStart start turns → own_sent own start ≡ []
+none_sent makes own turns start made new = elim made as (λ w. own_sent own start ≡ []) [
+  | inl none ↦ none
+  | inr m ↦ absurd (new.1 m.turn m.is_start.stands m.is_start.of)
+]
+
+-- How a run ended.
+
+no_more : (quota sent : ℕ) → ((nat_le quota sent || false) || false) ≡ true → quota ≤ sent
+no_more quota sent over = leb-true quota sent (without (nat_le quota sent) over)
+  where
+    without : (b : Bool) → ((b || false) || false) ≡ true → b ≡ true
+    without true e = refl
+    without false e = e
+
+ended_holds : (own : List BufferEntry) (turns : List MemberTurn) (stop : Order) (sent quota : ℕ) (spent : Option ℕ) (from : RunState) (t : MemberTurn) → stop.from ≡ from → IsSpentSo own stop.start spent
+    → ((nat_le quota sent || is_some spent) || is_from_pause from) ≡ true → sent ≤ quota → HasTurnOf turns Start stop.start t → t.order.quota ≡ quota → EndedSo own turns stop sent (ended_with spent (is_from_pause from))
+ended_holds own turns stop sent quota (Some total) from t came so over within is wants = so
+ended_holds own turns stop sent quota None Paused t came so over within is wants = came
+ended_holds own turns stop sent quota None Stopped t came so over within is wants = (t, is, omega (arith, no_more quota sent over))
+ended_holds own turns stop sent quota None Running t came so over within is wants = (t, is, omega (arith, no_more quota sent over))
+
+pub tally_holds : (makes : Order → ℕ → Event) (own : List BufferEntry) (turns : List MemberTurn) (r : FrontRun) (stop : Order) → TakesPart makes own turns r → AreEngineTurns turns → r.order.start ≡ stop.start
+    → ((nat_le r.order.quota r.sent || is_some r.spent) || is_from_pause stop.from) ≡ true → IsFrontTally own turns stop r.sent (ended_with r.spent (is_from_pause stop.from))
+tally_holds makes own turns r stop on are same over = record {
+  number = subst (λ (start : ℕ). length (own_sent own start) ≡ r.sent) same (ap (λ (es : List Event). length es) (on.sent_is are) ∙ length-made_events makes r.order r.sent);
+  ended_so = ended_holds own turns stop r.sent r.order.quota r.spent stop.from on.begin_turn refl
+      (subst (λ (start : ℕ). IsSpentSo own start r.spent) same on.spent_so) over on.within
+      (subst (λ (start : ℕ). HasTurnOf turns Start start on.begin_turn) same on.is_start) (ap (λ (o : Order). o.quota) on.order_is);
+}
+
+-- One call more.
+
+pub IsMade-same : (makes : Order → ℕ → Event) (own later : List BufferEntry) (turns : List MemberTurn) (start : ℕ) → own_sent later start ≡ own_sent own start → IsMade makes own turns start → IsMade makes later turns start
+IsMade-same makes own later turns start same made = elim made as (λ w. IsMade makes later turns start) [
+  | inl none ↦ inl (same ∙ none)
+  | inr m ↦ inr (record { turn = m.turn; is_start = m.is_start; number = m.number; sent = same ∙ m.sent })
+]
+
+EndedSo-pushed : (own : List BufferEntry) (entry : BufferEntry) (turns : List MemberTurn) (stop : Order) (sent : ℕ) (ended : FrontEnded) → EndedSo own turns stop sent ended → EndedSo (own ++ entry ∷ []) turns stop sent ended
+EndedSo-pushed own entry turns stop sent Quota so = so
+EndedSo-pushed own entry turns stop sent EndedPaused so = so
+EndedSo-pushed own entry turns stop sent (EndedSpent total) so = WasSpent-push own entry stop.start total so
+
+pub Tally-pushed : (own : List BufferEntry) (entry : BufferEntry) (turns : List MemberTurn) (stop : Order) (sent : ℕ) (ended : FrontEnded) → own_sent (own ++ entry ∷ []) stop.start ≡ own_sent own stop.start
+    → IsFrontTally own turns stop sent ended → IsFrontTally (own ++ entry ∷ []) turns stop sent ended
+Tally-pushed own entry turns stop sent ended same so = record {
+  number = ap (λ (es : List Event). length es) same ∙ so.number;
+  ended_so = EndedSo-pushed own entry turns stop sent ended so.ended_so;
+}
+
+pub spent_pushed : (own : List BufferEntry) (entry : BufferEntry) (start : ℕ) (spent : Option ℕ) → IsSpentSo own start spent → IsSpentSo (own ++ entry ∷ []) start spent
+spent_pushed own entry start None so = so
+spent_pushed own entry start (Some total) so = WasSpent-push own entry start total so
+
+-- a call that sends nothing leaves what was sent
+pub sent_same : (own : List BufferEntry) (entry : BufferEntry) (start : ℕ) → sent_by entry start ≡ [] → own_sent (own ++ entry ∷ []) start ≡ own_sent own start
+sent_same own entry start none = own_sent-push own entry start ∙ (ap (λ (es : List Event). own_sent own start ++ es) none ∙ append-nil (own_sent own start))

@@ -1,0 +1,142 @@
+-- What a front-end keeps at a step.
+use Rattle.std.specs.Prelude.{◌≡◌, ◌≢◌, ℕ, suc, ◌<◌, ◌||◌, nat_le, is_some, Bool, true, false, List, [], ◌∷◌, ◌++◌, length, Option, Some, Result, Ok, Err, refl}
+use Rattle.std.proofs.Common.{ap, sym, subst, ◌∙◌, inl, inr, arith}
+use Rattle.std.proofs.lemmas.Bool.Decides.{eqb_tells, leb_tells}
+use Rattle.daq_types.specs.declared.events.Event.{Event}
+use Rattle.daq_types.specs.declared.runs.Order.{Order}
+use Rattle.daq_types.specs.declared.runs.Transition.TheVariants.{Start}
+use Rattle.transitions.specs.declared.answers.Answer.{Answer}
+use Rattle.buffer_core.specs.declared.replies.SendRefusal.{SendRefusal}
+use Rattle.buffer_core.specs.declared.replies.SendRefusal.TheVariants.{NotRunning, BadSize, ReservedId, TooLarge, Full, Spent}
+use Rattle.buffer_core.specs.declared.entry.BufferEntry.{BufferEntry}
+use Rattle.buffer_core.specs.declared.entry.BufferEntry.TheVariants.{SendInRun}
+use Rattle.member_model.specs.Turns.{MemberTurn, HasTurnOf, IsAnswered, AreEngineTurns}
+use Rattle.member_model.specs.SentCalls.{sent_by, own_sent, IsSendInRun}
+use Rattle.member_model.specs.SentLaws.{own_sent-push, EachCall-push, WasSpent-here}
+use Rattle.front_ends.specs.declared.front_run.FrontRun.{FrontRun}
+use Rattle.front_ends.specs.Fronts.{is_done, run_sent}
+use Rattle.front_ends.specs.FrontKept.{made_events, IsMade, KeepsFront, TakesPart, FrontStands}
+use Rattle.front_ends.proofs.FrontGrows.{IsMade-same, Tally-pushed, spent_pushed, sent_same}
+
+-- the send of the next event, with this reply
+abbrev sent_next : (Order → ℕ → Event) → FrontRun → Result ℕ SendRefusal → BufferEntry
+sent_next makes r reply = SendInRun r.order.start (length (makes r.order (suc r.sent)).body) (makes r.order (suc r.sent)) reply
+
+or_none : (a b : Bool) → (a || b) ≡ false → a ≡ false
+or_none true b e = e
+or_none false b e = refl
+
+-- a run that is not done has events to be sent
+pub work_left : (r : FrontRun) → is_done r ≡ false → r.sent < r.order.quota
+work_left r e = elim (leb_tells r.order.quota r.sent) as (λ w. r.sent < r.order.quota) [
+  | inl is ↦ absurd (let never = or_none (nat_le r.order.quota r.sent) (is_some r.spent) e in cc (is.0, never))
+  | inr is ↦ is.1
+]
+
+-- A send that was refused.
+
+keeps_refused : (makes : Order → ℕ → Event) (own : List BufferEntry) (turns : List MemberTurn) (r : FrontRun) (why : SendRefusal) → KeepsFront makes own turns → KeepsFront makes (own ++ sent_next makes r (Err why) ∷ []) turns
+keeps_refused makes own turns r why keeps =
+    let entry : BufferEntry = sent_next makes r (Err why) in
+    record {
+      only_sends = EachCall-push IsSendInRun own entry keeps.only_sends tt;
+      made = λ are start. IsMade-same makes own (own ++ entry ∷ []) turns start (sent_same own entry start refl) (keeps.made are start);
+      tallies = λ are t sent ended here is answer. Tally-pushed own entry turns t.order sent ended (sent_same own entry t.order.start refl) (keeps.tallies are t sent ended here is answer);
+    }
+
+on_refused : (makes : Order → ℕ → Event) (own : List BufferEntry) (turns : List MemberTurn) (r : FrontRun) (why : SendRefusal) → TakesPart makes own turns r → TakesPart makes (own ++ sent_next makes r (Err why) ∷ []) turns r
+on_refused makes own turns r why on =
+    let entry : BufferEntry = sent_next makes r (Err why) in
+    record {
+      begin_turn = on.begin_turn;
+      is_start = on.is_start;
+      order_is = on.order_is;
+      within = on.within;
+      spent_so = spent_pushed own entry r.order.start r.spent on.spent_so;
+      waiting = on.waiting;
+      sent_is = λ are. sent_same own entry r.order.start refl ∙ on.sent_is are;
+      fresh = on.fresh;
+    }
+
+on_spent : (makes : Order → ℕ → Event) (own : List BufferEntry) (turns : List MemberTurn) (r : FrontRun) (total : ℕ) → TakesPart makes own turns r → TakesPart makes (own ++ sent_next makes r (Err (Spent total)) ∷ []) turns (run_sent (Err (Spent total)) r)
+on_spent makes own turns r total on =
+    let entry : BufferEntry = sent_next makes r (Err (Spent total)) in
+    record {
+      begin_turn = on.begin_turn;
+      is_start = on.is_start;
+      order_is = on.order_is;
+      within = on.within;
+      spent_so = WasSpent-here own entry r.order.start total (refl, refl);
+      waiting = on.waiting;
+      sent_is = λ are. sent_same own entry r.order.start refl ∙ on.sent_is are;
+      fresh = on.fresh;
+    }
+
+-- A send that was accepted.
+
+accepted_here : (makes : Order → ℕ → Event) (own : List BufferEntry) (r : FrontRun) (place start : ℕ) → r.order.start ≡ start → own_sent (own ++ sent_next makes r (Ok place) ∷ []) start ≡ own_sent own start ++ makes r.order (suc r.sent) ∷ []
+accepted_here makes own r place start same =
+    own_sent-push own (sent_next makes r (Ok place)) start
+    ∙ elim (eqb_tells r.order.start start) as (λ w. own_sent own start ++ sent_by (sent_next makes r (Ok place)) start ≡ own_sent own start ++ makes r.order (suc r.sent) ∷ []) [
+      | inl is ↦ rw is.0 refl
+      | inr other ↦ absurd (other.1 same)
+    ]
+
+accepted_elsewhere : (makes : Order → ℕ → Event) (own : List BufferEntry) (r : FrontRun) (place start : ℕ) → r.order.start ≢ start → own_sent (own ++ sent_next makes r (Ok place) ∷ []) start ≡ own_sent own start
+accepted_elsewhere makes own r place start other =
+    sent_same own (sent_next makes r (Ok place)) start
+    (elim (eqb_tells r.order.start start) as (λ w. sent_by (sent_next makes r (Ok place)) start ≡ []) [
+      | inl is ↦ absurd (other is.1)
+      | inr differs ↦ rw differs.0 refl
+    ])
+
+made_accepted : (makes : Order → ℕ → Event) (own : List BufferEntry) (turns : List MemberTurn) (r : FrontRun) (place start : ℕ) → TakesPart makes own turns r → AreEngineTurns turns → IsMade makes own turns start → IsMade makes (own ++ sent_next makes r (Ok place) ∷ []) turns start
+made_accepted makes own turns r place start on are made =
+    let later : List BufferEntry = own ++ sent_next makes r (Ok place) ∷ [] in
+    elim (eqb_tells r.order.start start) as (λ w. IsMade makes later turns start) [
+      | inl is ↦ inr (record {
+        turn = on.begin_turn;
+        is_start = subst (λ (s : ℕ). HasTurnOf turns Start s on.begin_turn) is.1 on.is_start;
+        number = suc r.sent;
+        sent = accepted_here makes own r place start is.1
+            ∙ (ap (λ (es : List Event). es ++ makes r.order (suc r.sent) ∷ []) (subst (λ (s : ℕ). own_sent own s ≡ made_events makes r.order r.sent) is.1 (on.sent_is are))
+            ∙ ap (λ (o : Order). made_events makes o (suc r.sent)) (sym on.order_is));
+      })
+      | inr differs ↦ IsMade-same makes own later turns start (accepted_elsewhere makes own r place start differs.1) made
+    ]
+
+accepted_kept : (makes : Order → ℕ → Event) (own : List BufferEntry) (turns : List MemberTurn) (r : FrontRun) (place : ℕ) → r.sent < r.order.quota → FrontStands makes (Some r) own turns → FrontStands makes (Some (run_sent (Ok place) r)) (own ++ sent_next makes r (Ok place) ∷ []) turns
+accepted_kept makes own turns r place more stands =
+    let entry : BufferEntry = sent_next makes r (Ok place) in
+    let on : TakesPart makes own turns r = stands.run_stands in
+    record {
+      keeps = record {
+        only_sends = EachCall-push IsSendInRun own entry stands.keeps.only_sends tt;
+        made = λ are start. made_accepted makes own turns r place start on are (stands.keeps.made are start);
+        tallies = λ are t sent ended here is answer.
+            Tally-pushed own entry turns t.order sent ended
+            (accepted_elsewhere makes own r place t.order.start (λ (same : r.order.start ≡ t.order.start). on.fresh are t here is (subst (λ (a : Option Answer). IsAnswered a) (sym answer) tt) (sym same)))
+            (stands.keeps.tallies are t sent ended here is answer);
+      };
+      run_stands = record {
+        begin_turn = on.begin_turn;
+        is_start = on.is_start;
+        order_is = on.order_is;
+        within = omega (arith, more);
+        spent_so = spent_pushed own entry r.order.start r.spent on.spent_so;
+        waiting = on.waiting;
+        sent_is = λ are. accepted_here makes own r place r.order.start refl ∙ ap (λ (es : List Event). es ++ makes r.order (suc r.sent) ∷ []) (on.sent_is are);
+        fresh = on.fresh;
+      };
+    }
+
+-- what holds before a step holds behind it, whatever its send was replied
+pub step_kept : (makes : Order → ℕ → Event) (own : List BufferEntry) (turns : List MemberTurn) (r : FrontRun) (reply : Result ℕ SendRefusal) → r.sent < r.order.quota → FrontStands makes (Some r) own turns
+    → FrontStands makes (Some (run_sent reply r)) (own ++ sent_next makes r reply ∷ []) turns
+step_kept makes own turns r (Ok place) more stands = accepted_kept makes own turns r place more stands
+step_kept makes own turns r (Err (Spent total)) more stands = record { keeps = keeps_refused makes own turns r (Spent total) stands.keeps; run_stands = on_spent makes own turns r total stands.run_stands }
+step_kept makes own turns r (Err (NotRunning gate)) more stands = record { keeps = keeps_refused makes own turns r (NotRunning gate) stands.keeps; run_stands = on_refused makes own turns r (NotRunning gate) stands.run_stands }
+step_kept makes own turns r (Err (BadSize stated given)) more stands = record { keeps = keeps_refused makes own turns r (BadSize stated given) stands.keeps; run_stands = on_refused makes own turns r (BadSize stated given) stands.run_stands }
+step_kept makes own turns r (Err (ReservedId id)) more stands = record { keeps = keeps_refused makes own turns r (ReservedId id) stands.keeps; run_stands = on_refused makes own turns r (ReservedId id) stands.run_stands }
+step_kept makes own turns r (Err (TooLarge slot size)) more stands = record { keeps = keeps_refused makes own turns r (TooLarge slot size) stands.keeps; run_stands = on_refused makes own turns r (TooLarge slot size) stands.run_stands }
+step_kept makes own turns r (Err (Full client place)) more stands = record { keeps = keeps_refused makes own turns r (Full client place) stands.keeps; run_stands = on_refused makes own turns r (Full client place) stands.run_stands }

@@ -1,0 +1,4 @@
+pub mod FrontGrows
+pub mod FrontTurns
+pub mod FrontSteps
+pub mod FrontSends

@@ -1,0 +1,86 @@
+-- What a front-end keeps of its calls on a buffer and of its turns, whatever the buffer replies.
+use Rattle.std.specs.Prelude.{◌≡◌, ◌≢◌, ℕ, zero, suc, ◌≤◌, List, [], ◌∷◌, ◌++◌, length, Option, Some, None, ⊤, ◌⊎◌}
+use Rattle.daq_types.specs.declared.events.Event.{Event}
+use Rattle.daq_types.specs.declared.runs.Order.{Order}
+use Rattle.daq_types.specs.declared.runs.RunState.TheVariants.{Paused}
+use Rattle.daq_types.specs.declared.runs.Transition.TheVariants.{Start, Stop}
+use Rattle.daq_types.specs.declared.runs.FrontEnded.{FrontEnded}
+use Rattle.daq_types.specs.declared.runs.FrontEnded.TheVariants.{Quota, Paused as EndedPaused, Spent as EndedSpent}
+use Rattle.buffer_core.specs.declared.entry.BufferEntry.{BufferEntry}
+use Rattle.transitions.specs.declared.answers.Answer.TheVariants.{Yes}
+use Rattle.transitions.specs.declared.answers.Tally.TheVariants.{Front}
+use Rattle.member_model.specs.Turns.{MemberTurn, HasTurn, HasTurnOf, IsAnswered, NoneOpen, AreEngineTurns}
+use Rattle.member_model.specs.SentCalls.{own_sent, IsSendInRun, EachCall, WasSpent}
+use Rattle.front_ends.specs.declared.front_run.FrontRun.{FrontRun}
+use Rattle.front_ends.specs.Fronts.{front_turn}
+
+-- events 1 to n of an equipment in a run of this order
+abbrev pub made_events : (Order → ℕ → Event) → Order → (n : ℕ) → List Event
+made_events makes order zero = []
+made_events makes order (suc n) = made_events makes order n ++ makes order (suc n) ∷ []
+
+-- What was sent with this start number is nothing, or the first events of the order of a start turn with that number.
+pub record IsMadeFor (makes : Order → ℕ → Event) (own : List BufferEntry) (turns : List MemberTurn) (start : ℕ) : Type 0 where
+  pub turn : MemberTurn
+  pub is_start : HasTurnOf turns Start start turn
+  pub number : ℕ
+  pub sent : own_sent own start ≡ made_events makes turn.order number
+
+abbrev pub IsMade : (Order → ℕ → Event) → List BufferEntry → List MemberTurn → (start : ℕ) → Type 0
+IsMade makes own turns start = (own_sent own start ≡ []) ⊎ IsMadeFor makes own turns start
+
+-- how the front-end ended is so: the number sent is the quota of a start with that number; the stop came from a pause; a
+-- send was refused as spent
+abbrev pub EndedSo : List BufferEntry → List MemberTurn → (stop : Order) → (sent : ℕ) → FrontEnded → Type 0
+EndedSo own turns stop sent Quota = (t : MemberTurn) × HasTurnOf turns Start stop.start t × (sent ≡ t.order.quota)
+EndedSo own turns stop sent EndedPaused = stop.from ≡ Paused
+EndedSo own turns stop sent (EndedSpent total) = WasSpent own stop.start total
+
+-- The tally of a stop is the number of the events that were sent in the run, and how that ended.
+pub record IsFrontTally (own : List BufferEntry) (turns : List MemberTurn) (stop : Order) (sent : ℕ) (ended : FrontEnded) : Type 0 where
+  pub number : length (own_sent own stop.start) ≡ sent
+  pub ended_so : EndedSo own turns stop sent ended
+
+-- each stop that was answered with a tally was answered rightly, and is so still: nothing was sent in that run since
+abbrev pub TalliesHold : List BufferEntry → List MemberTurn → Type 0
+TalliesHold own turns = (t : MemberTurn) → (sent : ℕ) → (ended : FrontEnded) → HasTurn turns t → t.transition ≡ Stop →
+    t.answer ≡ Some (Yes (Front sent ended)) → IsFrontTally own turns t.order sent ended
+
+-- What holds at every moment. The sentences that need it have the premise that the turns are such as an engine gives.
+pub record KeepsFront (makes : Order → ℕ → Event) (own : List BufferEntry) (turns : List MemberTurn) : Type 0 where
+  pub only_sends : EachCall IsSendInRun own
+  pub made : AreEngineTurns turns → (start : ℕ) → IsMade makes own turns start
+  pub tallies : AreEngineTurns turns → TalliesHold own turns
+
+-- the latest turn is a stop that is not answered, if one waits
+abbrev pub IsWaiting : (stop : Option Order) → (start : ℕ) → List MemberTurn → Type 0
+IsWaiting None start turns = NoneOpen turns
+IsWaiting (Some order) start turns = (order.start ≡ start) × (earlier : List MemberTurn) × (turns ≡ front_turn Stop order None ∷ earlier)
+
+abbrev pub IsSpentSo : List BufferEntry → (start : ℕ) → (spent : Option ℕ) → Type 0
+IsSpentSo own start None = ⊤
+IsSpentSo own start (Some total) = WasSpent own start total
+
+-- no stop of this run was answered
+abbrev pub HasNoStop : List MemberTurn → (start : ℕ) → Type 0
+HasNoStop turns start = (t : MemberTurn) → HasTurn turns t → t.transition ≡ Stop → IsAnswered t.answer → t.order.start ≢ start
+
+-- The run is on: it was ordered by a start turn, and its events so far are those that were sent.
+pub record TakesPart (makes : Order → ℕ → Event) (own : List BufferEntry) (turns : List MemberTurn) (r : FrontRun) : Type 0 where
+  pub begin_turn : MemberTurn
+  pub is_start : HasTurnOf turns Start r.order.start begin_turn
+  pub order_is : begin_turn.order ≡ r.order
+  pub within : r.sent ≤ r.order.quota
+  pub spent_so : IsSpentSo own r.order.start r.spent
+  pub waiting : IsWaiting r.stop r.order.start turns
+  pub sent_is : AreEngineTurns turns → own_sent own r.order.start ≡ made_events makes r.order r.sent
+  pub fresh : AreEngineTurns turns → HasNoStop turns r.order.start
+
+abbrev pub RunStands : (Order → ℕ → Event) → List BufferEntry → List MemberTurn → Option FrontRun → Type 0
+RunStands makes own turns None = NoneOpen turns
+RunStands makes own turns (Some r) = TakesPart makes own turns r
+
+-- a front-end in this run, or in none, with its own calls and its turns
+pub record FrontStands (makes : Order → ℕ → Event) (run : Option FrontRun) (own : List BufferEntry) (turns : List MemberTurn) : Type 0 where
+  pub keeps : KeepsFront makes own turns
+  pub run_stands : RunStands makes own turns run

@@ -1,0 +1,3 @@
+pub mod FrontIds
+pub mod Fronts
+pub mod FrontKept

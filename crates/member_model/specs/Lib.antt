@@ -1,0 +1,7 @@
+pub mod Turns
+pub mod TurnLaws
+pub mod SentCalls
+pub mod SentLaws
+pub mod OwnCalls
+pub mod ReadRuns
+pub mod ReadLaws
