@@ -1,3 +1,7 @@
-pub mod OwnCalls
-pub mod ReadRuns
-pub mod OwnCallLaws
+pub mod BufferLaws
+pub mod OneCaller
+pub mod CutRuns
+pub mod SeenRuns
+pub mod CallerLaws
+pub mod CallerSamples
+pub mod SeenSamples

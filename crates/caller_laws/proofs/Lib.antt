@@ -1,0 +1,15 @@
+pub mod Pasts
+pub mod Owners
+pub mod OwnPlaces
+pub mod GotEvents
+pub mod Marked
+pub mod Reading
+pub mod RunsRead
+pub mod FirstParts
+pub mod RunsCut
+pub mod Sending
+pub mod RunsSeen
+pub mod GoingOn
+pub mod PortParts
+pub mod Sampled
+pub mod SampledSeen

@@ -1,0 +1,5 @@
+use Rattle.caller_laws.proofs.Sampled.{none_is_legal, none_unsent, other_runs, other_unsent, empty_part, no_silent_part}
+use Rattle.caller_laws.proofs.laws.needs_runs.Goals as goal
+
+pub returns : goal.returns
+returns c = record { sends = (none_is_legal, none_unsent); legal = (other_runs, other_unsent); silent = (empty_part, no_silent_part) }

@@ -1,0 +1,5 @@
+use Rattle.caller_laws.proofs.Sending.{sent_by_caller, send_is_among}
+use Rattle.caller_laws.proofs.laws.sent_by.Goals as goal
+
+pub returns : goal.returns
+returns c = record { sent = sent_by_caller c.of_buffers.ensures; among = send_is_among }

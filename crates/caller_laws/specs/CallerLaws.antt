@@ -1,0 +1,109 @@
+-- What the calls of one caller tell of the history of all callers: statements of the laws.
+use Rattle.std.specs.Prelude.{◌≡◌, ℕ, List, [], ◌∷◌, ◌++◌, slice_get, Contains, Some, Ok}
+use Rattle.daq_types.specs.Callers.{entries_by}
+use Rattle.daq_types.specs.declared.events.Event.{Event}
+use Rattle.daq_model.specs.RunFile.{begun_file, run_file}
+use Rattle.buffer_core.specs.declared.entry.BufferEntry.{BufferEntry}
+use Rattle.buffer_core.specs.declared.entry.BufferEntry.TheVariants.{SendInRun}
+use Rattle.buffer_core.specs.Window.{Sent, opening}
+use Rattle.buffer_core.specs.Histories.{History, IsLegal}
+use Rattle.buffer_core.specs.Runs.{segment}
+use Rattle.buffer_core.specs.Readers.{among, places_got, places_of, wanted}
+use Rattle.buffer_core.specs.Ports.{GotEvent}
+use Rattle.local_port.specs.Ported.{Ported, IsPorted, access_of}
+use Rattle.member_model.specs.SentCalls.{own_sent}
+use Rattle.member_model.specs.OwnCalls.{calls_after, IsOwnCall, AreOwnCalls, AreGivenBy}
+use Rattle.member_model.specs.ReadRuns.{HasReadRun}
+use Rattle.caller_laws.specs.OneCaller.{IsCallersPart, HaveOwnClients, HaveRunSends, events_in, IsFirstPart}
+use Rattle.caller_laws.specs.CutRuns.{HasCutRun}
+use Rattle.caller_laws.specs.SeenRuns.{events_with_start, SeesRun}
+
+-- A client that has read a run got, of the places between the run's marks, just those of the events that it asked for.
+abbrev pub ReadPlaces : Type 0
+ReadPlaces = (size : ℕ) → (history : History) → (caller : ℕ) → (own : List BufferEntry) → (got : List GotEvent) →
+    IsLegal (opening size) history → HaveOwnClients history → IsCallersPart history caller own got →
+    (client id mask number start begun ended : ℕ) → (events : List Event) →
+    HasReadRun own got client id mask number start begun ended events →
+    among (segment history start) (places_got history client) ≡ places_of (wanted id mask (segment history start))
+
+-- And the events that it got are those.
+abbrev pub ReadEvents : Type 0
+ReadEvents = (size : ℕ) → (history : History) → (caller : ℕ) → (own : List BufferEntry) → (got : List GotEvent) →
+    IsLegal (opening size) history → HaveOwnClients history → IsCallersPart history caller own got →
+    (client id mask number start begun ended : ℕ) → (events : List Event) →
+    HasReadRun own got client id mask number start begun ended events →
+    events ≡ events_in (wanted id mask (segment history start))
+
+-- A client that broke off its reading of a run got a first part of them.
+abbrev pub CutEvents : Type 0
+CutEvents = (size : ℕ) → (history : History) → (caller : ℕ) → (own : List BufferEntry) → (got : List GotEvent) →
+    IsLegal (opening size) history → HaveOwnClients history → IsCallersPart history caller own got →
+    (client id mask number start begun ended : ℕ) → (events : List Event) →
+    HasCutRun own got client id mask number start begun ended events →
+    IsFirstPart events (events_in (wanted id mask (segment history start)))
+
+-- So what begins a file with them begins the file of the whole run.
+abbrev pub CutFile : Type 0
+CutFile = (run time0 time1 : ℕ) → (dump0 dump1 bytes : List ℕ) → (events more : List Event) →
+    IsFirstPart events more →
+    IsFirstPart bytes (begun_file run time0 dump0 events) →
+    IsFirstPart bytes (run_file run time0 dump0 more time1 dump1)
+
+-- A client that sees a run through, which another caller may begin and end, got under the run's start number just the events
+-- between the marks that it asked for.
+abbrev pub SeenEvents : Type 0
+SeenEvents = (size : ℕ) → (history : History) → (caller : ℕ) → (own : List BufferEntry) → (got : List GotEvent) →
+    IsLegal (opening size) history → HaveOwnClients history → HaveRunSends history → IsCallersPart history caller own got →
+    AreGivenBy own got →
+    (client id mask start ended : ℕ) →
+    SeesRun history caller client id mask start ended →
+    events_with_start client start got ≡ events_in (wanted id mask (segment history start))
+
+-- the event was sent in the run, at this place, by one of these calls
+pub record IsSendOf (own : List BufferEntry) (start place : ℕ) (event : Event) : Type 0 where
+  pub stated : ℕ
+  pub before : List BufferEntry
+  pub after : List BufferEntry
+  pub stands : own ≡ before ++ SendInRun start stated event (Ok place) ∷ after
+
+-- An event between the marks of a run was sent in that run by a caller.
+abbrev pub SentByCaller : Type 0
+SentByCaller = (size : ℕ) → (history : History) →
+    IsLegal (opening size) history → HaveRunSends history →
+    (start index place : ℕ) → (x : Sent) → slice_get (segment history start) index ≡ Some (place, x) →
+    (caller : ℕ) × IsSendOf (entries_by caller history) start place x.event
+
+-- It is one of the events that this caller sent in the run.
+abbrev pub SendIsAmong : Type 0
+SendIsAmong = (own : List BufferEntry) → (start place : ℕ) → (event : Event) →
+    IsSendOf own start place event → Contains (own_sent own start) event
+
+-- What one caller's calls are in a history, and what they gave, they are in it when calls of others follow.
+abbrev pub PartGoesOn : Type 0
+PartGoesOn = (seen more : History) → (caller : ℕ) → (own : List BufferEntry) → (got : List GotEvent) →
+    IsCallersPart seen caller own got → entries_by caller more ≡ [] →
+    IsCallersPart (seen ++ more) caller own got
+
+-- A run that was read, or cut, stays so when the caller makes more calls and gets more events.
+abbrev pub ReadGoesOn : Type 0
+ReadGoesOn = (own more : List BufferEntry) → (got later : List GotEvent) →
+    (client id mask number start begun ended : ℕ) → (events : List Event) →
+    HasReadRun own got client id mask number start begun ended events →
+    HasReadRun (own ++ more) (got ++ later) client id mask number start begun ended events
+
+abbrev pub CutGoesOn : Type 0
+CutGoesOn = (own more : List BufferEntry) → (got later : List GotEvent) →
+    (client id mask number start begun ended : ℕ) → (events : List Event) →
+    HasCutRun own got client id mask number start begun ended events →
+    HasCutRun (own ++ more) (got ++ later) client id mask number start begun ended events
+
+-- A call more on a client of one's own leaves all calls such.
+abbrev pub OwnGoOn : Type 0
+OwnGoOn = (own : List BufferEntry) → (entry : BufferEntry) →
+    AreOwnCalls (calls_after [] own) → IsOwnCall entry (calls_after [] own) →
+    AreOwnCalls (calls_after [] (own ++ entry ∷ []))
+
+-- What a port that had the buffer from its opening tells its caller is the caller's part of the buffer's history.
+abbrev pub PortTells : Type 0
+PortTells = (size : ℕ) → (port : Ported) → IsPorted port → port.start ≡ opening size →
+    IsCallersPart port.history port.caller (access_of port).own (access_of port).got
