@@ -4,7 +4,7 @@ use odb_path::Path;
 use odb_tree::{Database, NewKey};
 use std::test::Fail;
 
-const ROUNDS: u32 = 1_000_000;
+const ROUNDS: u32 = 10_000;
 
 #[test]
 fn the_room_of_removed_rows_is_used_again(rt: HostRuntime) -> Result<(), Fail> {
