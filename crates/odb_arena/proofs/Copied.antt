@@ -1,5 +1,5 @@
 -- Entries put into a new map one after the other.
-use Rattle.std.proofs.Common.{◌≡◌, ℕ, zero, suc, ◌+◌, ◌<◌, ◌≤◌, Bool, true, false, cond, eqb, nat_eq, List, [], ◌∷◌, ◌++◌, length, take, Option, Some, None, refl, sym, ap, ◌∙◌, subst, arith, add-one, Decides}
+use Rattle.std.proofs.Common.{◌≡◌, ℕ, zero, suc, ◌+◌, ◌≤◌, Bool, true, false, cond, eqb, nat_eq, List, [], ◌∷◌, ◌++◌, length, take, Some, None, refl, sym, ap, ◌∙◌, subst, arith, add-one}
 use Rattle.std.specs.Prelude.{slice_get}
 use Rattle.std.specs.List.{AllByRecursion, IsDistinct}
 use Rattle.std.specs.Option.{option_map}
@@ -67,9 +67,6 @@ copied_more {K} {X} eq swap es old new i k v h at is put =
     ∙ (ap (λ (l : List (K × X)). insert_entry eq l k v) is
     ∙ (insert_behind eq (take i es) k v (fresh eq swap es i k v h (sym at))
     ∙ (sym (take_next es i (k, v) (sym at)) ∙ ap (λ (n : ℕ). take n es) (sym (add-one i)))))
-
-pub copied_all : {X : Type 0} (es copy : List X) (i : ℕ) → length es ≤ i → copy ≡ take i es → copy ≡ es
-copied_all es copy i l h = h ∙ take_all i es l
 
 -- nodes that are the same as others
 

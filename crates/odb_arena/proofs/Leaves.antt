@@ -1,5 +1,5 @@
 -- Rows with nothing below them, and what removal one such row at a time leaves.
-use Rattle.std.proofs.Common.{◌≡◌, ℕ, zero, suc, ◌+◌, ◌-◌, ◌<◌, ◌≤◌, Bool, true, false, not, cond, ◌&&◌, ◌==◌, eqb, List, [], ◌∷◌, ◌++◌, length, map, Option, Some, None, Result, Ok, Err, refl, sym, ap, ◌∙◌, subst, arith, length-append, append_assoc, inl, inr, ◌⊎◌, All}
+use Rattle.std.proofs.Common.{◌≡◌, ℕ, zero, suc, ◌+◌, ◌-◌, ◌≤◌, Bool, true, false, not, cond, ◌&&◌, ◌==◌, eqb, List, [], ◌∷◌, ◌++◌, length, map, Option, Some, None, Result, Ok, Err, refl, sym, ap, ◌∙◌, subst, arith, length-append, inl, inr, All}
 use Rattle.std.specs.Prelude.{slice_get}
 use Rattle.std.specs.List.{filter}
 use Rattle.std.specs.Option.{option_map, option_or, unwrap_or}
@@ -13,7 +13,7 @@ use Rattle.odb_tree.specs.declared.refusals.OdbRefusal.{OdbRefusal}
 use Rattle.odb_tree.specs.Rows.{Rows, row_at, row_numbered, rows_outside, is_key, is_kind, is_child, is_listed}
 use Rattle.odb_tree.specs.Lookups.{obstacle_to, found_row, seek, not_there, absent_fault}
 use Rattle.odb_tree.specs.Calls.{path_with, child_of, after_delete, count_gone, delete_reply, find_reply, number_reply, reply_or}
-use Rattle.odb_tree.specs.Trees.{HasDir, IsDir, ArePlaced, AreRising, IsTree}
+use Rattle.odb_tree.specs.Trees.{IsDir, ArePlaced, AreRising, IsTree}
 use Rattle.odb_tree.specs.Databases.{IsDatabase, IsRow}
 use Rattle.odb_tree.specs.WalkLaws.{and_left, and_right, both, true_false, not_true, front_trans}
 use Rattle.odb_tree.proofs.Trees.{front_short, front_within, same_front, same_sym, same_refl, long_same}

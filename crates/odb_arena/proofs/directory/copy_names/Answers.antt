@@ -1,8 +1,8 @@
-use Rattle.std.proofs.Common.{◌≡◌, ℕ, List, Some, Option, nat_eq, sym, ap, ◌∙◌, arith}
+use Rattle.std.proofs.Common.{nat_eq, sym, ap, ◌∙◌}
 use Rattle.std.specs.Option.{option_map}
 use Rattle.std.specs.Cmp.Lexicographic.{pointwise}
 use Rattle.std.specs.Map.Iter.{deref_pair}
-use Rattle.odb_arena.proofs.Copied.{swap_name, copied_more, copied_all}
+use Rattle.odb_arena.proofs.Copied.{swap_name, copied_more}
 use Rattle.odb_arena.proofs.directory.copy_names.Goals as goal
 
 pub loop-i-preserved : goal.loop-i-preserved
