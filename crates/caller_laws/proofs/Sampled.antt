@@ -20,6 +20,7 @@ use Rattle.caller_laws.specs.CallerLaws.{IsSendOf}
 use Rattle.caller_laws.specs.CallerSamples.{ReadPremise, LegalHistory, OwnClients, CallersEntries, SentEvents, RunIsRead, MeetsPremise, IsReadRight, FailsWithout, IsUnsent, with_own_run, got_first, drained_calls, reading_calls, reading_history, read_whole, found_nothing, got_by_other, call_left_out, other_event_told, not_drained, sent_in_none, sent_in_other, asked_level}
 use Rattle.caller_laws.proofs.Pasts.{OwnPast, own_cases, own_after}
 use Rattle.caller_laws.proofs.OwnPlaces.{all_back}
+use Rattle.caller_laws.proofs.Sending.{each_of_all}
 
 -- All callers at once.
 
@@ -42,6 +43,9 @@ have_own h each by = subst AreOwnCalls (own_after by [] h) (own_from_each (past_
 pub all_entries : (P : BufferEntry → Type 0) (by : ℕ) (h : List (ℕ × BufferEntry)) → AllByRecursion (λ (x : ℕ × BufferEntry). P x.1) h → AllByRecursion P (entries_by by h)
 all_entries P by [] all = tt
 all_entries P by (x ∷ xs) all = own_cases by x xs (AllByRecursion P) (λ same. (all.0, all_entries P by xs all.1)) (λ other. all_entries P by xs all.1)
+
+pub have_runs : (h : List (ℕ × BufferEntry)) → AllByRecursion (λ (x : ℕ × BufferEntry). SendsInRuns x.1) h → HaveRunSends h
+have_runs h all by = each_of_all SendsInRuns (entries_by by h) (all_entries SendsInRuns by h all)
 
 -- A run that was read.
 
@@ -231,7 +235,7 @@ pub none_unsent : IsUnsent sent_in_none
 none_unsent = record { sent = record { event = sample_event; start = 0 }; stands = refl; by_none = λ caller is. never_sent sent_in_none caller sample_event (tt, (tt, tt)) is }
 
 pub other_runs : HaveRunSends sent_in_other
-other_runs caller = all_entries SendsInRuns caller sent_in_other (tt, (tt, tt))
+other_runs = have_runs sent_in_other (tt, (tt, tt))
 
 pub other_unsent : IsUnsent sent_in_other
 other_unsent = record { sent = record { event = sample_event; start = 2 }; stands = refl; by_none = λ caller is. never_sent sent_in_other caller sample_event (tt, ((λ same. absurd (omega (arith, same))), tt)) is }

@@ -8,11 +8,11 @@ use Rattle.buffer_core.specs.declared.entry.BufferEntry.TheVariants.{Attach, Sen
 use Rattle.buffer_core.specs.Window.{opening, no_clients, no_requests, any}
 use Rattle.buffer_core.specs.Histories.{IsLegal}
 use Rattle.buffer_core.specs.Samples.{sample_event}
-use Rattle.caller_laws.specs.OneCaller.{SendsInRuns, HaveRunSends}
+use Rattle.caller_laws.specs.OneCaller.{HaveRunSends}
 use Rattle.caller_laws.specs.SeenRuns.{SeesRun}
 use Rattle.caller_laws.specs.CallerSamples.{reading_history, read_whole, found_nothing, got_by_other, call_left_out, other_event_told, not_drained}
 use Rattle.caller_laws.specs.SeenSamples.{SeenPremise, SeenLegal, SeenClients, SeenSends, SeenEntries, SeenPlaces, SeenGiven, SeenThrough, MeetsSeen, IsSeenRight, FailsToSee, got_of_none, event_not_told}
-use Rattle.caller_laws.proofs.Sampled.{have_own, all_entries, reading_legal, reading_own, other_legal, not_drained_legal, other_events}
+use Rattle.caller_laws.proofs.Sampled.{have_own, have_runs, reading_legal, reading_own, other_legal, not_drained_legal, other_events}
 
 -- A run that was seen through.
 
@@ -20,7 +20,7 @@ abbrev asked_before : List (ℕ × BufferEntry)
 asked_before = (1, Attach [] (Ok 0)) ∷ []
 
 reading_runs : HaveRunSends reading_history
-reading_runs caller = all_entries SendsInRuns caller reading_history (tt, (tt, (tt, (tt, (tt, (tt, (tt, tt)))))))
+reading_runs = have_runs reading_history (tt, (tt, (tt, (tt, (tt, (tt, (tt, tt)))))))
 
 reading_seen : SeesRun reading_history 1 0 any any 1 1
 reading_seen =
@@ -80,7 +80,7 @@ found_wrong e = cc (e)
 others_of_found : (other : SeenPremise) → other ≢ SeenLegal → MeetsSeen other found_nothing
 others_of_found SeenLegal ne = absurd (ne refl)
 others_of_found SeenClients ne = have_own found_nothing.history (refl, (tt, (tt, (tt, (refl, (tt, tt))))))
-others_of_found SeenSends ne = λ caller. all_entries SendsInRuns caller found_nothing.history (tt, (tt, (tt, (tt, (tt, (tt, tt))))))
+others_of_found SeenSends ne = have_runs found_nothing.history (tt, (tt, (tt, (tt, (tt, (tt, tt))))))
 others_of_found SeenEntries ne = refl
 others_of_found SeenPlaces ne = tt
 others_of_found SeenGiven ne = record { named_so = refl }
@@ -114,7 +114,7 @@ by_other_wrong e = cc (e)
 others_of_by_other : (other : SeenPremise) → other ≢ SeenClients → MeetsSeen other got_by_other
 others_of_by_other SeenLegal ne = other_legal
 others_of_by_other SeenClients ne = absurd (ne refl)
-others_of_by_other SeenSends ne = λ caller. all_entries SendsInRuns caller got_by_other.history (tt, (tt, (tt, (tt, (tt, (tt, (tt, tt)))))))
+others_of_by_other SeenSends ne = have_runs got_by_other.history (tt, (tt, (tt, (tt, (tt, (tt, (tt, tt)))))))
 others_of_by_other SeenEntries ne = refl
 others_of_by_other SeenPlaces ne = tt
 others_of_by_other SeenGiven ne = record { named_so = refl }
@@ -216,7 +216,7 @@ not_drained_wrong e = cc (e)
 others_of_not_drained : (other : SeenPremise) → other ≢ SeenThrough → MeetsSeen other not_drained
 others_of_not_drained SeenLegal ne = not_drained_legal
 others_of_not_drained SeenClients ne = have_own not_drained.history (refl, (tt, (tt, (tt, (refl, (tt, tt))))))
-others_of_not_drained SeenSends ne = λ caller. all_entries SendsInRuns caller not_drained.history (tt, (tt, (tt, (tt, (tt, (tt, tt))))))
+others_of_not_drained SeenSends ne = have_runs not_drained.history (tt, (tt, (tt, (tt, (tt, (tt, tt))))))
 others_of_not_drained SeenEntries ne = refl
 others_of_not_drained SeenPlaces ne = tt
 others_of_not_drained SeenGiven ne = record { named_so = refl }

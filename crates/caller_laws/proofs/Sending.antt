@@ -14,10 +14,83 @@ use Rattle.buffer_core.specs.Points.{News, Nothing, Attached, Detached, Requeste
 use Rattle.buffer_core.specs.Runs.{begun_at, ended_at, segment, events_between}
 use Rattle.caller_laws.specs.BufferLaws.{BufferLaws}
 use Rattle.caller_laws.specs.OneCaller.{SendsInRuns, HaveRunSends}
-use Rattle.caller_laws.specs.CallerLaws.{IsSendOf, SentByCaller, SendIsAmong}
-use Rattle.member_model.specs.SentCalls.{sent_by, own_sent}
+use Rattle.caller_laws.specs.CallerLaws.{IsSendOf, SentByCaller, SendIsAmong, SenderHasOwn, SenderSendsInRuns, SilentSendsInRuns}
+use Rattle.member_model.specs.SentCalls.{sent_by, own_sent, IsSendInRun, EachCall}
+use Rattle.member_model.specs.OwnCalls.{calls_after, IsOwnCall, AreOwnCalls, SendsNone}
 use Rattle.caller_laws.proofs.OwnPlaces.{all_back}
 use Rattle.caller_laws.proofs.GotEvents.{StandThere, between_there}
+
+-- What is so of each call.
+
+pub all_of_each : (P : BufferEntry → Type 0) (es : List BufferEntry) → EachCall P es → AllByRecursion P es
+all_of_each P [] each = tt
+all_of_each P (e ∷ es) each = (each.0, all_of_each P es each.1)
+
+pub each_of_all : (P : BufferEntry → Type 0) (es : List BufferEntry) → AllByRecursion P es → EachCall P es
+each_of_all P [] all = tt
+each_of_all P (e ∷ es) all = (all.0, each_of_all P es all.1)
+
+each_weaker : (P Q : BufferEntry → Type 0) → ((e : BufferEntry) → P e → Q e) → (es : List BufferEntry) → EachCall P es → EachCall Q es
+each_weaker P Q weaker [] each = tt
+each_weaker P Q weaker (e ∷ es) each = (weaker e each.0, each_weaker P Q weaker es each.1)
+
+run_send_is : (e : BufferEntry) → IsSendInRun e → SendsInRuns e
+run_send_is (SendInRun start stated e reply) is = tt
+run_send_is (Send stated e reply) is = absurd is
+run_send_is (Attach name reply) is = tt
+run_send_is (Detach client reply) is = tt
+run_send_is (Request client id mask kind reply) is = tt
+run_send_is (Cancel client number reply) is = tt
+run_send_is (Receive client room reply) is = tt
+run_send_is (Begin start reply) is = tt
+run_send_is (Pause start reply) is = tt
+run_send_is (Resume start reply) is = tt
+run_send_is (End start reply) is = tt
+run_send_is (Level reply) is = tt
+run_send_is (Accepted reply) is = tt
+
+no_send_is : (e : BufferEntry) → SendsNone e → SendsInRuns e
+no_send_is (Send stated e reply) is = absurd is
+no_send_is (SendInRun start stated e reply) is = tt
+no_send_is (Attach name reply) is = tt
+no_send_is (Detach client reply) is = tt
+no_send_is (Request client id mask kind reply) is = tt
+no_send_is (Cancel client number reply) is = tt
+no_send_is (Receive client room reply) is = tt
+no_send_is (Begin start reply) is = tt
+no_send_is (Pause start reply) is = tt
+no_send_is (Resume start reply) is = tt
+no_send_is (End start reply) is = tt
+no_send_is (Level reply) is = tt
+no_send_is (Accepted reply) is = tt
+
+send_is_own : (e : BufferEntry) (es : List BufferEntry) → IsSendInRun e → IsOwnCall e es
+send_is_own (SendInRun start stated e reply) es is = tt
+send_is_own (Send stated e reply) es is = tt
+send_is_own (Attach name reply) es is = tt
+send_is_own (Detach client reply) es is = absurd is
+send_is_own (Request client id mask kind reply) es is = absurd is
+send_is_own (Cancel client number reply) es is = absurd is
+send_is_own (Receive client room reply) es is = absurd is
+send_is_own (Begin start reply) es is = tt
+send_is_own (Pause start reply) es is = tt
+send_is_own (Resume start reply) es is = tt
+send_is_own (End start reply) es is = tt
+send_is_own (Level reply) es is = tt
+send_is_own (Accepted reply) es is = tt
+
+sends_are_own : (past es : List BufferEntry) → AreOwnCalls past → EachCall IsSendInRun es → AreOwnCalls (calls_after past es)
+sends_are_own past [] are each = are
+sends_are_own past (e ∷ es) are each = sends_are_own (e ∷ past) es (send_is_own e past each.0, are) each.1
+
+pub sender_has_own : SenderHasOwn
+sender_has_own own each = sends_are_own [] own tt each
+
+pub sender_sends_in_runs : SenderSendsInRuns
+sender_sends_in_runs own each = each_weaker IsSendInRun SendsInRuns run_send_is own each
+
+pub silent_sends_in_runs : SilentSendsInRuns
+silent_sends_in_runs own each = each_weaker SendsNone SendsInRuns no_send_is own each
 
 -- What stands in a segment was sent at its place.
 
@@ -135,7 +208,7 @@ sent_in_run laws size h legal sends place x there =
       | inr s ↦
           let by : ℕ = s.caller in
           let around : entries_by by h ≡ entries_by by s.before ++ s.entry ∷ entries_by by s.after = own_around by h s.before s.after s.entry s.whole in
-          let runs_alone : SendsInRuns s.entry = (all_back SendsInRuns (entries_by by s.before) (s.entry ∷ entries_by by s.after) (subst (AllByRecursion SendsInRuns) around (sends by))).0 in
+          let runs_alone : SendsInRuns s.entry = (all_back SendsInRuns (entries_by by s.before) (s.entry ∷ entries_by by s.after) (subst (AllByRecursion SendsInRuns) around (all_of_each SendsInRuns (entries_by by h) (sends by)))).0 in
           let r : IsRunSend s.entry x = run_send s.entry x runs_alone s.tells in
           let legal_there : IsLegal (opening size) (s.before ++ (by, SendInRun x.start r.stated x.event (Ok r.reply)) ∷ s.after) =
           subst (IsLegal (opening size)) (s.whole ∙ ap (λ (e : BufferEntry). s.before ++ (by, e) ∷ s.after) r.is) legal in

@@ -11,10 +11,10 @@ use Rattle.buffer_core.specs.Runs.{segment}
 use Rattle.buffer_core.specs.Readers.{among, places_got, places_of, wanted}
 use Rattle.buffer_core.specs.Ports.{GotEvent}
 use Rattle.local_port.specs.Ported.{Ported, IsPorted, access_of}
-use Rattle.member_model.specs.SentCalls.{own_sent}
-use Rattle.member_model.specs.OwnCalls.{calls_after, IsOwnCall, AreOwnCalls, AreGivenBy}
+use Rattle.member_model.specs.SentCalls.{own_sent, IsSendInRun, EachCall}
+use Rattle.member_model.specs.OwnCalls.{calls_after, IsOwnCall, AreOwnCalls, SendsNone, AreGivenBy}
 use Rattle.member_model.specs.ReadRuns.{HasReadRun}
-use Rattle.caller_laws.specs.OneCaller.{IsCallersPart, HaveOwnClients, HaveRunSends, events_in, IsFirstPart}
+use Rattle.caller_laws.specs.OneCaller.{IsCallersPart, HaveOwnClients, SendsInRuns, HaveRunSends, events_in, IsFirstPart}
 use Rattle.caller_laws.specs.CutRuns.{HasCutRun}
 use Rattle.caller_laws.specs.SeenRuns.{events_with_start, SeesRun}
 
@@ -107,3 +107,14 @@ OwnGoOn = (own : List BufferEntry) → (entry : BufferEntry) →
 abbrev pub PortTells : Type 0
 PortTells = (size : ℕ) → (port : Ported) → IsPorted port → port.start ≡ opening size →
     IsCallersPart port.history port.caller (access_of port).own (access_of port).got
+
+-- Who only sends in runs names no client of another, and sends no event but in runs.
+abbrev pub SenderHasOwn : Type 0
+SenderHasOwn = (own : List BufferEntry) → EachCall IsSendInRun own → AreOwnCalls (calls_after [] own)
+
+abbrev pub SenderSendsInRuns : Type 0
+SenderSendsInRuns = (own : List BufferEntry) → EachCall IsSendInRun own → EachCall SendsInRuns own
+
+-- Who sends nothing sends no event but in runs.
+abbrev pub SilentSendsInRuns : Type 0
+SilentSendsInRuns = (own : List BufferEntry) → EachCall SendsNone own → EachCall SendsInRuns own

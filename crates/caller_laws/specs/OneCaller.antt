@@ -8,6 +8,7 @@ use Rattle.buffer_core.specs.declared.entry.BufferEntry.TheVariants.{Send}
 use Rattle.buffer_core.specs.Window.{Sent}
 use Rattle.buffer_core.specs.Points.{sent, past_of}
 use Rattle.buffer_core.specs.Ports.{GotEvent}
+use Rattle.member_model.specs.SentCalls.{EachCall}
 use Rattle.member_model.specs.OwnCalls.{calls_after, AreOwnCalls}
 
 -- the event was sent at its place, with its start number
@@ -31,7 +32,7 @@ SendsInRuns entry = ⊤
 
 -- no caller of the history sends an event but in a run
 abbrev pub HaveRunSends : (history : List (ℕ × BufferEntry)) → Type 0
-HaveRunSends h = (caller : ℕ) → AllByRecursion SendsInRuns (entries_by caller h)
+HaveRunSends h = (caller : ℕ) → EachCall SendsInRuns (entries_by caller h)
 
 -- the events themselves, without their places
 abbrev pub events_in : (events : List (ℕ × Sent)) → List Event

@@ -7,7 +7,7 @@ ghost use Rattle.buffer_core.specs.Histories.{IsLegal};
 ghost use Rattle.caller_laws.specs.OneCaller.{HaveRunSends, IsCallersPart};
 ghost use Rattle.caller_laws.specs.CallerSamples.{ReadPremise, LegalHistory, OwnClients, CallersEntries, SentEvents, RunIsRead, MeetsPremise, IsReadRight, FailsWithout, IsUnsent, read_whole, found_nothing, got_by_other, call_left_out, other_event_told, not_drained, sent_in_none, sent_in_other, asked_level};
 ghost use Rattle.caller_laws.specs.SeenSamples.{SeenPremise, SeenLegal, SeenClients, SeenSends, SeenEntries, SeenPlaces, SeenGiven, SeenThrough, MeetsSeen, IsSeenRight, FailsToSee, got_of_none, event_not_told};
-ghost use Rattle.caller_laws.specs.CallerLaws.{ReadPlaces, ReadEvents, CutEvents, CutFile, SeenEvents, SentByCaller, SendIsAmong, PartGoesOn, ReadGoesOn, CutGoesOn, OwnGoOn, PortTells};
+ghost use Rattle.caller_laws.specs.CallerLaws.{ReadPlaces, ReadEvents, CutEvents, CutFile, SeenEvents, SentByCaller, SendIsAmong, PartGoesOn, ReadGoesOn, CutGoesOn, OwnGoOn, PortTells, SenderHasOwn, SenderSendsInRuns, SilentSendsInRuns};
 
 use buffer_core::laws;
 
@@ -71,6 +71,14 @@ pub fn sent_by()
     of_buffers();
 }
 
+/// What these laws ask of each caller holds of one that only sends in runs, as a front-end; and of what one sends that sends
+/// nothing, as a logger.
+pub fn fits_members()
+    ensures own { SenderHasOwn }
+    ensures sends { SenderSendsInRuns }
+    ensures silent { SilentSendsInRuns }
+{}
+
 /// What is one caller's part of a history stays it when calls of others follow; and what was read or cut stays so, and own
 /// calls stay own, when the caller makes more calls.
 pub fn goes_on()
@@ -115,7 +123,7 @@ pub fn needs_each_to_see()
 {}
 
 /// And with the law of who sent an event: an event that was sent in no run, and one of another run, stand between the
-/// marks of a run in which no caller sent them.
+/// marks of a run in which no caller sent them; and a caller's part is none any more when the caller makes a call.
 pub fn needs_runs()
     ensures sends { IsLegal (opening 48) sent_in_none × IsUnsent sent_in_none }
     ensures legal { HaveRunSends sent_in_other × IsUnsent sent_in_other }
