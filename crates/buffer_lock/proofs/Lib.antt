@@ -1,0 +1,4 @@
+pub mod ForeignLaws
+pub mod SharedLaws
+pub mod SendFaults
+pub mod SharedPortLaws

@@ -1,0 +1,4 @@
+pub mod BufferSteps
+pub mod Tries
+pub mod SharedBuffers
+pub mod SharedPorts

@@ -1,0 +1,42 @@
+-- What a port to a shared buffer tells its caller.
+use Rattle.std.specs.Prelude.{ℕ, ◌^◌, List}
+use Rattle.buffer_core.specs.declared.entry.BufferEntry.{BufferEntry}
+use Rattle.buffer_core.specs.Window.{Window}
+use Rattle.buffer_core.specs.Histories.{replay}
+use Rattle.buffer_core.specs.Ports.{Access}
+use Rattle.local_port.specs.Ported.{Ported, access_of}
+use Rattle.turn_lock.specs.declared.lock.Pass.{Pass}
+use Rattle.turn_lock.specs.Passes.{number_of, seen_by}
+use Rattle.buffer_lock.specs.declared.locked.Locked.{Locked}
+use Rattle.buffer_lock.specs.declared.shared.SharedBuffer.{SharedBuffer}
+use Rattle.buffer_lock.specs.declared.port.SharedPort.{SharedPort}
+use Rattle.buffer_lock.specs.SharedBuffers.{first_buffer}
+
+-- A port that takes no room for its calls: there is always as much as could be asked for.
+abbrev pub endless : ℕ
+endless = 2 ^ 64
+
+-- a port of this caller to a buffer whose window was that one at first, where the caller has seen this history
+abbrev pub ported_by : (caller : ℕ) → Window → List (ℕ × BufferEntry) → Ported
+ported_by caller first seen = record { start = first; window = replay first seen; history = seen; caller = caller; entries = endless; bytes = endless }
+
+module _ {B : Type 0} {g : _} where
+  -- the pass by which the port calls
+  abbrev pub pass_of : SharedPort B g → Pass (Locked B) Window BufferEntry g
+  pass_of port = port.pass
+
+  -- the shared buffer that it leads to
+  abbrev pub buffer_of : SharedPort B g → SharedBuffer B
+  buffer_of port = port.shared.now
+
+  abbrev pub caller_of : SharedPort B g → ℕ
+  caller_of port = number_of port.pass
+
+  -- what the caller has seen of the one history of the buffer
+  abbrev pub history_by : SharedPort B g → List (ℕ × BufferEntry)
+  history_by port = seen_by port.pass
+
+  -- The caller is the pass's number, its own calls are the pass's own entries, and the events got are those that these
+  -- gave, in the history that the pass has seen.
+  abbrev pub access_by : (B → Window) → SharedPort B g → Access
+  access_by window port = access_of (ported_by (caller_of port) (window (first_buffer (buffer_of port))) (history_by port))
