@@ -1,0 +1,3 @@
+pub mod NotesKept
+pub mod WatchSlots
+pub mod Due

@@ -1,0 +1,13 @@
+use Rattle.std.proofs.Common.{◌≡◌, sym, ap, ◌∙◌}
+use Rattle.odb_tree.specs.declared.rows.NewKey.{NewKey}
+use Rattle.odb_tree.specs.declared.entry.DatabaseEntry.TheVariants.{Create}
+use Rattle.odb_watch.specs.Changes.{changes_of}
+use Rattle.odb_watch.specs.Slots.{Watched, all_noted}
+use Rattle.odb_watch.proofs.NotesKept.{none_noted}
+use Rattle.odb_watch.proofs.watched.WatchesDatabase.create.Goals as goal
+
+pub returns-in-Dir-clause-notes : goal.returns-in-Dir-clause-notes
+returns-in-Dir-clause-notes g c =
+    let s : Watched = c.args.self.now in
+    ap (λ (w : Watched). w.slots) c.self.view_is
+    ∙ (sym (none_noted s.slots) ∙ ap (λ (kind : NewKey). all_noted (changes_of s.rows (Create c.args.path.now kind c.create-reply.result)) s.slots) (sym c.in-Dir.is))

@@ -1,0 +1,81 @@
+-- The watches of a database by their numbers, and the calls on them.
+use Rattle.std.specs.Prelude.{◌≡◌, ℕ, zero, suc, ◌+◌, nat_lt, if◌then◌else◌, Bool, true, false, List, [], ◌∷◌, ◌++◌, length, map, slice_set, slice_index_or, Option, Some, None, Result, Ok, Err, IsErr}
+use Rattle.std.specs.Option.{option_map, is_some}
+use Rattle.odb_tree.specs.Rows.{Rows}
+use Rattle.odb_watch.specs.declared.notes.Note.{Note}
+use Rattle.odb_watch.specs.declared.notes.Watch.{Watch}
+use Rattle.odb_watch.specs.declared.notes.NoWatch.{NoWatch}
+use Rattle.odb_watch.specs.declared.notes.WatchRefusal.{WatchRefusal}
+use Rattle.odb_watch.specs.declared.notes.WatchRefusal.TheVariants.{NoWatchSlot, NoMemory}
+use Rattle.odb_watch.specs.Changes.{Change}
+use Rattle.odb_watch.specs.Keeping.{noted_all}
+
+-- a watched database: its rows, and for each number the watch that has it, if any
+pub record Watched : Type 0 where
+  pub rows : Rows
+  pub slots : List (Option Watch)
+
+-- each watch notes these changes
+abbrev pub all_noted : List Change → List (Option Watch) → List (Option Watch)
+all_noted cs slots = map (option_map (λ (k : Watch). noted_all k cs)) slots
+
+-- the watch of this number
+abbrev pub slot : List (Option Watch) → (w : ℕ) → Option Watch
+slot slots w = slice_index_or slots w None
+
+-- another watch, or none, of this number, which may be the next one
+abbrev pub with_slot : List (Option Watch) → (w : ℕ) → Option Watch → List (Option Watch)
+with_slot [] w k = k ∷ []
+with_slot (x ∷ xs) zero k = k ∷ xs
+with_slot (x ∷ xs) (suc w) k = x ∷ with_slot xs w k
+
+-- the least number that no watch has
+abbrev pub free_slot : List (Option Watch) → ℕ
+free_slot [] = 0
+free_slot (None ∷ xs) = 0
+free_slot (Some k ∷ xs) = free_slot xs + 1
+
+-- the most watches that live
+abbrev pub watches_limit : ℕ
+watches_limit = 64
+
+abbrev pub new_watch : (row : ℕ) → Watch
+new_watch row = record { row = row; notes = []; lost = 0 }
+
+-- `watch` answers the least free number, or that all are taken; or memory was wanting
+abbrev pub GivesWatch : List (Option Watch) → Result ℕ WatchRefusal → Type 0
+GivesWatch slots (Ok w) = (w ≡ free_slot slots) × (nat_lt w watches_limit ≡ true)
+GivesWatch slots (Err NoWatchSlot) = nat_lt (free_slot slots) watches_limit ≡ false
+GivesWatch slots (Err NoMemory) = Unit {0}
+
+abbrev pub after_watch : List (Option Watch) → (row : ℕ) → Result ℕ WatchRefusal → List (Option Watch)
+after_watch slots row (Ok w) = with_slot slots w (Some (new_watch row))
+after_watch slots row (Err refusal) = slots
+
+-- a watch without its notes
+abbrev pub emptied : Watch → Watch
+emptied k = record { row = k.row; notes = []; lost = 0 }
+
+abbrev pub emptied_slot : Option Watch → Option Watch
+emptied_slot k = option_map emptied k
+
+-- the notes of a watch are moved out, and how many were lost is answered; where there is no watch all stays
+abbrev pub GivesTaken : Option Watch → (before after : List Note) → Result ℕ NoWatch → Type 0
+GivesTaken None before after reply = (IsErr reply) × (after ≡ before)
+GivesTaken (Some k) before after reply = (reply ≡ Ok k.lost) × (after ≡ k.notes)
+
+abbrev pub GivesNotes : List (Option Watch) → (w : ℕ) → (before after : List Note) → Result ℕ NoWatch → Type 0
+GivesNotes slots w before after reply = GivesTaken (slot slots w) before after reply
+
+abbrev pub after_notes : List (Option Watch) → (w : ℕ) → Result ℕ NoWatch → List (Option Watch)
+after_notes slots w (Ok lost) = slice_set slots w (emptied_slot (slot slots w))
+after_notes slots w (Err e) = slots
+
+-- `unwatch` is accepted exactly where the watch lives
+abbrev pub IsEnded : List (Option Watch) → (w : ℕ) → Result (Unit {0}) NoWatch → Type 0
+IsEnded slots w (Ok _) = is_some (slot slots w) ≡ true
+IsEnded slots w (Err e) = is_some (slot slots w) ≡ false
+
+abbrev pub after_unwatch : List (Option Watch) → (w : ℕ) → Result (Unit {0}) NoWatch → List (Option Watch)
+after_unwatch slots w (Ok _) = slice_set slots w None
+after_unwatch slots w (Err e) = slots

@@ -1,0 +1,197 @@
+ghost use Rattle.std.specs.Prelude.{◌≡◌, ◌≢◌, [], length, map, Err, IfOk, OnOk};
+ghost use Rattle.daq_types.specs.declared.types.Tid.{Tid};
+ghost use Rattle.odb_value.specs.Items.{tid_of};
+ghost use Rattle.odb_tree.specs.declared.refusals.OdbRefusal.TheVariants.{NoMemory as no_memory};
+ghost use Rattle.odb_tree.specs.declared.entry.DatabaseEntry.TheVariants.{Create, Set, SetAll, Get, Find, ListDir, Delete, Resize, PathOf};
+ghost use Rattle.odb_tree.specs.Databases.{IsDatabase};
+ghost use Rattle.odb_tree.specs.Calls.{IsReply, rows_after, is_row_below};
+ghost use Rattle.odb_watch.specs.Changes.{changes_of};
+ghost use Rattle.odb_watch.specs.Slots.{all_noted, GivesWatch, GivesNotes, after_watch, after_notes, after_unwatch, IsEnded};
+
+use crate::copying::copy_slots;
+use crate::keeping::note_reply;
+use crate::notes::{NoWatch, Notes, Watch, WatchRefusal};
+use crate::slots::{begin, end, take_notes};
+use daq_types::NoMemory;
+use odb_path::Path;
+use odb_tree::{Children, Database, NewKey, OdbRefusal};
+use odb_value::{Item, Value};
+use std::alloc::Global;
+use std::marker::Model;
+
+/// A database whose rows may be watched. Each call goes to the database inside; the notes of an accepted change are
+/// kept in that same call, without memory.
+#[derive(Drop)]
+pub struct Watches<D: Database> {
+    database: D,
+    slots: Vec<Option<Watch>>,
+}
+
+impl<D: Database> Model for Watches<D> {
+    ghost use Rattle.odb_watch.specs.Slots.{Watched};
+
+    ghost Value = { Watched };
+
+    ghost view = { λ w. record { rows = D.rows w.database; slots = w.slots.items } };
+}
+
+impl<D: Database> Watches<D> {
+    /// This database, with no watch. Takes no memory.
+    pub fn new(alloc: Global, database: D) -> Watches<D>
+        ensures rows { result.rows ≡ D.rows database }
+        ensures slots { result.slots ≡ [] }
+    {
+        Watches {
+            database,
+            slots: Vec::new(alloc),
+        }
+    }
+
+    /// Begins to watch a row, 0 for the root, and what is below it. Answers the least number that no living watch has.
+    pub fn watch(&mut self, alloc: Global, row: u32) -> Result<u32, WatchRefusal>
+        ensures reply { GivesWatch self.old.slots result }
+        ensures slots { self.new.slots ≡ after_watch self.old.slots row result }
+        ensures rows { self.new.rows ≡ self.old.rows }
+    {
+        begin(alloc, &mut self.slots, row)
+    }
+
+    /// Moves out all notes that a watch has kept, in the place of those that `into` has, and answers how many were lost
+    /// since the last call. Takes no memory.
+    pub fn notes(&mut self, watch: u32, into: &mut Notes) -> Result<u64, NoWatch>
+        ensures reply { GivesNotes self.old.slots watch into.old into.new result }
+        ensures slots { self.new.slots ≡ after_notes self.old.slots watch result }
+        ensures rows { self.new.rows ≡ self.old.rows }
+    {
+        take_notes(&mut self.slots, watch, into)
+    }
+
+    /// Ends a watch. Takes no memory.
+    pub fn unwatch(&mut self, watch: u32) -> Result<(), NoWatch>
+        ensures reply { IsEnded self.old.slots watch result }
+        ensures slots { self.new.slots ≡ after_unwatch self.old.slots watch result }
+        ensures rows { self.new.rows ≡ self.old.rows }
+    {
+        end(&mut self.slots, watch)
+    }
+
+    /// The database inside, without its watches.
+    pub fn into_database(self) -> D
+        ensures { D.rows result ≡ self.rows }
+    {
+        self.database
+    }
+}
+
+impl<D: Database> Database for Watches<D> {
+    ghost rows = { λ w. w.rows };
+
+    fn create(&mut self, alloc: Global, path: &Path, kind: NewKey) -> Result<u32, OdbRefusal>
+        ensures reply { IsReply self.old.rows (Create path.now kind result) }
+        ensures after { self.new.rows ≡ rows_after self.old.rows (Create path.now kind result) }
+        ensures notes { self.new.slots ≡ all_noted (changes_of self.old.rows
+            (Create path.now kind result)) self.old.slots }
+    {
+        let reply = self.database.create(alloc, path, kind);
+        match kind {
+            NewKey::Dir => {}
+            NewKey::Keys { tid: _, len: _ } => {
+                note_reply(&self.database, &mut self.slots, reply, 0, 1);
+            }
+        }
+        reply
+    }
+
+    fn set(
+        &mut self,
+        alloc: Global,
+        path: &Path,
+        index: u32,
+        item: &Item,
+    ) -> Result<u32, OdbRefusal>
+        ensures reply { IsReply self.old.rows (Set path.now index item.now result) }
+        ensures memory { result ≡ Err no_memory → tid_of item.now ≡ Tid.Text }
+        ensures after { self.new.rows ≡ rows_after self.old.rows
+            (Set path.now index item.now result) }
+        ensures notes { self.new.slots ≡ all_noted (changes_of self.old.rows
+            (Set path.now index item.now result)) self.old.slots }
+    {
+        let reply = self.database.set(alloc, path, index, item);
+        note_reply(&self.database, &mut self.slots, reply, index, 1);
+        reply
+    }
+
+    fn set_all(&mut self, alloc: Global, path: &Path, value: &Value) -> Result<u32, OdbRefusal>
+        ensures reply { IsReply self.old.rows (SetAll path.now value.now result) }
+        ensures after { self.new.rows ≡ rows_after self.old.rows
+            (SetAll path.now value.now result) }
+        ensures notes { self.new.slots ≡ all_noted (changes_of self.old.rows
+            (SetAll path.now value.now result)) self.old.slots }
+    {
+        let reply = self.database.set_all(alloc, path, value);
+        note_reply(
+            &self.database,
+            &mut self.slots,
+            reply,
+            0,
+            value.items().len() as u32,
+        );
+        reply
+    }
+
+    fn get(&self, alloc: Global, path: &Path) -> Result<Value, OdbRefusal> {
+        self.database.get(alloc, path)
+    }
+
+    fn find(&self, path: &Path) -> Result<u32, OdbRefusal> {
+        self.database.find(path)
+    }
+
+    fn list(&self, alloc: Global, path: &Path) -> Result<Children, OdbRefusal> {
+        self.database.list(alloc, path)
+    }
+
+    fn delete(&mut self, path: &Path) -> Result<u32, OdbRefusal>
+        ensures reply { IsReply self.old.rows (Delete path.now result) }
+        ensures memory { result ≢ Err no_memory }
+        ensures after { self.new.rows ≡ rows_after self.old.rows (Delete path.now result) }
+        ensures notes { self.new.slots ≡ self.old.slots }
+    {
+        self.database.delete(path)
+    }
+
+    fn resize(&mut self, alloc: Global, path: &Path, len: u32) -> Result<u32, OdbRefusal>
+        ensures reply { IsReply self.old.rows (Resize path.now len result) }
+        ensures after { self.new.rows ≡ rows_after self.old.rows (Resize path.now len result) }
+        ensures notes { self.new.slots ≡ all_noted (changes_of self.old.rows
+            (Resize path.now len result)) self.old.slots }
+    {
+        let reply = self.database.resize(alloc, path, len);
+        note_reply(
+            &self.database,
+            &mut self.slots,
+            reply,
+            len.saturating_sub(1),
+            1,
+        );
+        reply
+    }
+
+    fn path_of(&self, alloc: Global, row: u32) -> Result<Option<Path>, NoMemory> {
+        self.database.path_of(alloc, row)
+    }
+
+    fn is_below(&self, row: u32, above: u32) -> bool {
+        self.database.is_below(row, above)
+    }
+
+    /// A database with the same rows, of the same numbers, and the same watches.
+    fn copy(&self, alloc: Global) -> Result<Watches<D>, NoMemory>
+        ensures rows { IfOk result (λ copy. copy.rows ≡ self.now.rows) }
+        ensures watches { IfOk result (λ copy. copy.slots ≡ self.now.slots) }
+    {
+        let database = self.database.copy(alloc)?;
+        let slots = copy_slots(alloc, self.slots.as_slice())?;
+        Ok(Watches { database, slots })
+    }
+}
