@@ -14,7 +14,7 @@ use Rattle.buffer_core.specs.Points.{News, Nothing, Attached, Detached, Requeste
 use Rattle.buffer_core.specs.Runs.{begun_at, ended_at, segment, events_between}
 use Rattle.caller_laws.specs.BufferLaws.{BufferLaws}
 use Rattle.caller_laws.specs.OneCaller.{SendsInRuns, HaveRunSends}
-use Rattle.caller_laws.specs.CallerLaws.{IsSendOf, SentByCaller, SendIsAmong, SenderHasOwn, SenderSendsInRuns, SilentSendsInRuns}
+use Rattle.caller_laws.specs.CallerLaws.{IsSendOf, SentByCaller, SendIsAmong, SenderHasOwn, SenderSendsInRuns, SilentSendsInRuns, SendsOrReads, MembersFit}
 use Rattle.member_model.specs.SentCalls.{sent_by, own_sent, IsSendInRun, EachCall}
 use Rattle.member_model.specs.OwnCalls.{calls_after, IsOwnCall, AreOwnCalls, SendsNone}
 use Rattle.caller_laws.proofs.OwnPlaces.{all_back}
@@ -91,6 +91,13 @@ sender_sends_in_runs own each = each_weaker IsSendInRun SendsInRuns run_send_is 
 
 pub silent_sends_in_runs : SilentSendsInRuns
 silent_sends_in_runs own each = each_weaker SendsNone SendsInRuns no_send_is own each
+
+fits_one : (own : List BufferEntry) → SendsOrReads own → AreOwnCalls (calls_after [] own) × EachCall SendsInRuns own
+fits_one own (inl sends) = (sender_has_own own sends, sender_sends_in_runs own sends)
+fits_one own (inr reads) = (reads.1, silent_sends_in_runs own reads.0)
+
+pub members_fit : MembersFit
+members_fit h members = (λ caller. (fits_one (entries_by caller h) (members caller)).0, λ caller. (fits_one (entries_by caller h) (members caller)).1)
 
 -- What stands in a segment was sent at its place.
 

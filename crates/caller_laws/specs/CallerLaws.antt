@@ -1,5 +1,5 @@
 -- What the calls of one caller tell of the history of all callers: statements of the laws.
-use Rattle.std.specs.Prelude.{◌≡◌, ℕ, List, [], ◌∷◌, ◌++◌, slice_get, Contains, Some, Ok}
+use Rattle.std.specs.Prelude.{◌≡◌, ℕ, List, [], ◌∷◌, ◌++◌, slice_get, Contains, Some, Ok, ◌⊎◌}
 use Rattle.daq_types.specs.Callers.{entries_by}
 use Rattle.daq_types.specs.declared.events.Event.{Event}
 use Rattle.daq_model.specs.RunFile.{begun_file, run_file}
@@ -118,3 +118,12 @@ SenderSendsInRuns = (own : List BufferEntry) → EachCall IsSendInRun own → Ea
 -- Who sends nothing sends no event but in runs.
 abbrev pub SilentSendsInRuns : Type 0
 SilentSendsInRuns = (own : List BufferEntry) → EachCall SendsNone own → EachCall SendsInRuns own
+
+-- a caller that sends in runs and makes no other call; or one that sends nothing, and whose clients are its own
+abbrev pub SendsOrReads : (own : List BufferEntry) → Type 0
+SendsOrReads own = EachCall IsSendInRun own ⊎ (EachCall SendsNone own × AreOwnCalls (calls_after [] own))
+
+-- Where each caller is such a one, what the laws ask of a history's callers holds.
+abbrev pub MembersFit : Type 0
+MembersFit = (history : History) → ((caller : ℕ) → SendsOrReads (entries_by caller history)) →
+    HaveOwnClients history × HaveRunSends history

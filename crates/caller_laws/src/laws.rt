@@ -7,7 +7,7 @@ ghost use Rattle.buffer_core.specs.Histories.{IsLegal};
 ghost use Rattle.caller_laws.specs.OneCaller.{HaveRunSends, IsCallersPart};
 ghost use Rattle.caller_laws.specs.CallerSamples.{ReadPremise, LegalHistory, OwnClients, CallersEntries, SentEvents, RunIsRead, MeetsPremise, IsReadRight, FailsWithout, IsUnsent, read_whole, found_nothing, got_by_other, call_left_out, other_event_told, not_drained, sent_in_none, sent_in_other, asked_level};
 ghost use Rattle.caller_laws.specs.SeenSamples.{SeenPremise, SeenLegal, SeenClients, SeenSends, SeenEntries, SeenPlaces, SeenGiven, SeenThrough, MeetsSeen, IsSeenRight, FailsToSee, got_of_none, event_not_told};
-ghost use Rattle.caller_laws.specs.CallerLaws.{ReadPlaces, ReadEvents, CutEvents, CutFile, SeenEvents, SentByCaller, SendIsAmong, PartGoesOn, ReadGoesOn, CutGoesOn, OwnGoOn, PortTells, SenderHasOwn, SenderSendsInRuns, SilentSendsInRuns};
+ghost use Rattle.caller_laws.specs.CallerLaws.{ReadPlaces, ReadEvents, CutEvents, CutFile, SeenEvents, SentByCaller, SendIsAmong, PartGoesOn, ReadGoesOn, CutGoesOn, OwnGoOn, PortTells, SenderHasOwn, SenderSendsInRuns, SilentSendsInRuns, MembersFit};
 
 use buffer_core::laws;
 
@@ -71,12 +71,13 @@ pub fn sent_by()
     of_buffers();
 }
 
-/// What these laws ask of each caller holds of one that only sends in runs, as a front-end; and of what one sends that sends
-/// nothing, as a logger.
+/// What these laws ask of each caller holds of one that only sends in runs, as a front-end, and of one that sends nothing
+/// and whose clients are its own, as a logger.
 pub fn fits_members()
     ensures own { SenderHasOwn }
     ensures sends { SenderSendsInRuns }
     ensures silent { SilentSendsInRuns }
+    ensures all { MembersFit }
 {}
 
 /// What is one caller's part of a history stays it when calls of others follow; and what was read or cut stays so, and own
