@@ -109,7 +109,8 @@ fn add_section<D: Database>(
     text: &mut TextBuffer,
 ) -> Result<(), NoMemory>
     requires { IsDir (D.rows database.now).rows path.now }
-    ensures { OnOk result (text.new ≡ text.old ++ section_text (D.rows database.now).rows path.now) }
+    ensures { OnOk result (text.new
+        ≡ text.old ++ section_text (D.rows database.now).rows path.now) }
 {
     add_dir_line(text, path)?;
     add_keys(alloc, database, path, text)?;
