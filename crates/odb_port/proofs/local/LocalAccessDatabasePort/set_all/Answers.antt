@@ -1,0 +1,6 @@
+use Rattle.std.proofs.Common.{sym}
+use Rattle.odb_port.proofs.PortCalls.{adds_call}
+use Rattle.odb_port.proofs.local.LocalAccessDatabasePort.set_all.Goals as goal
+
+pub returns : goal.returns
+returns g c = adds_call c.databases_stay.ensures.stays _ _ _ _ _ (sym c.requires.main) c.set_all.ensures.did
