@@ -1,14 +1,26 @@
 -- First parts of lists.
-use Rattle.std.specs.Prelude.{ℕ, zero, suc, ◌+◌, ◌≤◌, Bool, List, [], ◌∷◌, ◌++◌, map, take, drop, Some, refl}
+use Rattle.std.specs.Prelude.{◌≡◌, ℕ, zero, suc, ◌+◌, ◌≤◌, Bool, List, [], ◌∷◌, ◌++◌, map, take, drop, Some, refl}
 use Rattle.std.specs.List.{filter, enumerate_from}
-use Rattle.std.proofs.Common.{ap, ◌∙◌, arith, append_assoc}
+use mathlib.Core.List.{IsPrefix}
+use Rattle.std.proofs.Common.{ap, sym, ◌∙◌, arith, append_assoc}
 use Rattle.std.proofs.lemmas.List.{map-append}
 use Rattle.std.proofs.lemmas.List.Elements.{filter-append}
 use Rattle.daq_model.specs.Events.{matches}
 use Rattle.buffer_core.specs.Window.{Sent}
 use Rattle.buffer_core.specs.Runs.{events_between}
 use Rattle.buffer_core.specs.Readers.{wanted}
-use Rattle.caller_laws.specs.OneCaller.{events_in, IsFirstPart}
+use Rattle.caller_laws.specs.OneCaller.{events_in}
+
+-- the one list is a first part of the other
+pub record IsFirstPart {X : Type 0} (part whole : List X) : Type 0 where
+  pub rest : List X
+  pub is : whole ≡ part ++ rest
+
+pub as_prefix : {X : Type 0} (part whole : List X) → IsFirstPart part whole → IsPrefix part whole
+as_prefix part whole first = (first.rest, sym first.is)
+
+pub of_prefix : {X : Type 0} (part whole : List X) → IsPrefix part whole → IsFirstPart part whole
+of_prefix part whole first = record { rest = first.0; is = sym first.1 }
 
 module _ {X : Type 0} where
   pub part_of_append : (xs ys : List X) → IsFirstPart xs (xs ++ ys)

@@ -1,9 +1,9 @@
 -- A caller's part of a history that goes on.
 use Rattle.std.specs.Prelude.{◌≡◌, ℕ, zero, suc, List, [], ◌∷◌, ◌++◌, slice_get, Some, Ok, ◌⊎◌}
-use Rattle.std.proofs.Common.{ap, sym, ◌∙◌, subst, append-nil, append_assoc, inl, inr}
-use Rattle.daq_types.specs.Callers.{entries_by, entries_by-append}
+use Rattle.std.proofs.Common.{ap, sym, ◌∙◌, subst, append_assoc, inl, inr}
 use Rattle.buffer_core.specs.declared.entry.BufferEntry.{BufferEntry}
 use Rattle.buffer_core.specs.Window.{Sent}
+use Rattle.buffer_core.specs.Continued.{sent_in}
 use Rattle.buffer_core.specs.Points.{sent, past_of}
 use Rattle.buffer_core.specs.Ports.{GotEvent}
 use Rattle.caller_laws.specs.OneCaller.{WasSentAt}
@@ -22,14 +22,14 @@ get_front (z ∷ zs) ys zero x e = e
 get_front (z ∷ zs) ys (suc i) x e = get_front zs ys i x e
 
 pub part_goes_on : BufferLaws → PartGoesOn
-part_goes_on laws seen more caller own got part silent =
+part_goes_on laws seen history caller own got part begins silent =
+    let more : List (ℕ × BufferEntry) = begins.0 in
+    let whole : sent (past_of history) ≡ sent (past_of seen) ++ sent_in more = ap (λ (h : List (ℕ × BufferEntry)). sent (past_of h)) (sym begins.1) ∙ laws.events seen more in
     record {
-      own_is = part.own_is
-          ∙ (sym (append-nil (entries_by caller seen))
-          ∙ (ap (λ (es : List BufferEntry). entries_by caller seen ++ es) (sym silent) ∙ sym (entries_by-append caller seen more)));
-      sent_so = all_weaker (WasSentAt seen) (WasSentAt (seen ++ more))
-          (λ g is. subst (λ (ss : List Sent). slice_get ss g.place ≡ Some (record { event = g.event; start = g.start })) (sym (laws.events seen more))
-          (get_front (sent (past_of seen)) _ g.place (record { event = g.event; start = g.start }) is))
+      own_is = part.own_is ∙ sym silent;
+      sent_so = all_weaker (WasSentAt seen) (WasSentAt history)
+          (λ g is. subst (λ (ss : List Sent). slice_get ss g.place ≡ Some (record { event = g.event; start = g.start })) (sym whole)
+          (get_front (sent (past_of seen)) (sent_in more) g.place (record { event = g.event; start = g.start }) is))
           got part.sent_so;
     }
 

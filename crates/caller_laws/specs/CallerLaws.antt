@@ -1,5 +1,6 @@
 -- What the calls of one caller tell of the history of all callers: statements of the laws.
 use Rattle.std.specs.Prelude.{◌≡◌, ℕ, List, [], ◌∷◌, ◌++◌, slice_get, Contains, Some, Ok, ◌⊎◌}
+use mathlib.Core.List.{IsPrefix}
 use Rattle.daq_types.specs.Callers.{entries_by}
 use Rattle.daq_types.specs.declared.events.Event.{Event}
 use Rattle.daq_model.specs.RunFile.{begun_file, run_file}
@@ -14,7 +15,7 @@ use Rattle.local_port.specs.Ported.{Ported, IsPorted, access_of}
 use Rattle.member_model.specs.SentCalls.{own_sent, IsSendInRun, EachCall}
 use Rattle.member_model.specs.OwnCalls.{calls_after, IsOwnCall, AreOwnCalls, SendsNone, AreGivenBy}
 use Rattle.member_model.specs.ReadRuns.{HasReadRun}
-use Rattle.caller_laws.specs.OneCaller.{IsCallersPart, HaveOwnClients, SendsInRuns, HaveRunSends, events_in, IsFirstPart}
+use Rattle.caller_laws.specs.OneCaller.{IsCallersPart, HaveOwnClients, SendsInRuns, HaveRunSends, events_in}
 use Rattle.caller_laws.specs.CutRuns.{HasCutRun}
 use Rattle.caller_laws.specs.SeenRuns.{events_with_start, SeesRun}
 
@@ -40,14 +41,14 @@ CutEvents = (size : ℕ) → (history : History) → (caller : ℕ) → (own : L
     IsLegal (opening size) history → HaveOwnClients history → IsCallersPart history caller own got →
     (client id mask number start begun ended : ℕ) → (events : List Event) →
     HasCutRun own got client id mask number start begun ended events →
-    IsFirstPart events (events_in (wanted id mask (segment history start)))
+    IsPrefix events (events_in (wanted id mask (segment history start)))
 
 -- So what begins a file with them begins the file of the whole run.
 abbrev pub CutFile : Type 0
 CutFile = (run time0 time1 : ℕ) → (dump0 dump1 bytes : List ℕ) → (events more : List Event) →
-    IsFirstPart events more →
-    IsFirstPart bytes (begun_file run time0 dump0 events) →
-    IsFirstPart bytes (run_file run time0 dump0 more time1 dump1)
+    IsPrefix events more →
+    IsPrefix bytes (begun_file run time0 dump0 events) →
+    IsPrefix bytes (run_file run time0 dump0 more time1 dump1)
 
 -- A client that sees a run through, which another caller may begin and end, got under the run's start number just the events
 -- between the marks that it asked for.
@@ -78,11 +79,12 @@ abbrev pub SendIsAmong : Type 0
 SendIsAmong = (own : List BufferEntry) → (start place : ℕ) → (event : Event) →
     IsSendOf own start place event → Contains (own_sent own start) event
 
--- What one caller's calls are in a history, and what they gave, they are in it when calls of others follow.
+-- What is one caller's part of a history is its part of a longer one in which it made no call more.
 abbrev pub PartGoesOn : Type 0
-PartGoesOn = (seen more : History) → (caller : ℕ) → (own : List BufferEntry) → (got : List GotEvent) →
-    IsCallersPart seen caller own got → entries_by caller more ≡ [] →
-    IsCallersPart (seen ++ more) caller own got
+PartGoesOn = (seen history : History) → (caller : ℕ) → (own : List BufferEntry) → (got : List GotEvent) →
+    IsCallersPart seen caller own got → IsPrefix seen history →
+    entries_by caller history ≡ entries_by caller seen →
+    IsCallersPart history caller own got
 
 -- A run that was read, or cut, stays so when the caller makes more calls and gets more events.
 abbrev pub ReadGoesOn : Type 0

@@ -1,5 +1,5 @@
 -- The calls of one caller in the history of all callers, and what they gave.
-use Rattle.std.specs.Prelude.{◌≡◌, ℕ, List, [], ◌++◌, map, slice_get, Some, ⊤}
+use Rattle.std.specs.Prelude.{◌≡◌, ℕ, List, [], map, slice_get, Some, ⊤}
 use Rattle.std.specs.List.{AllByRecursion}
 use Rattle.daq_types.specs.Callers.{entries_by}
 use Rattle.daq_types.specs.declared.events.Event.{Event}
@@ -37,8 +37,3 @@ HaveRunSends h = (caller : ℕ) → EachCall SendsInRuns (entries_by caller h)
 -- the events themselves, without their places
 abbrev pub events_in : (events : List (ℕ × Sent)) → List Event
 events_in events = map (λ e. e.1.event) events
-
--- the one list is a first part of the other
-pub record IsFirstPart {X : Type 0} (part whole : List X) : Type 0 where
-  pub rest : List X
-  pub is : whole ≡ part ++ rest
