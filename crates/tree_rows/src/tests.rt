@@ -1,6 +1,7 @@
 //! One table of rows for both databases.
 use daq_types::Tid;
 use odb_arena::ArenaTree;
+use odb_ascii::save;
 use odb_path::Path;
 use odb_tree::{Database, NewKey, OdbRefusal, PlainTree, What};
 use odb_value::{Item, TextBytes, Value};
@@ -254,4 +255,31 @@ fn a_copy_has_the_numbers_and_stands_alone(rt: HostRuntime) -> Result<(), Fail> 
     let alloc = rt.alloc();
     copy_stands_alone(&rt, alloc, PlainTree::new(alloc))?;
     copy_stands_alone(&rt, alloc, ArenaTree::new(alloc))
+}
+
+fn is_saved<D: Database>(rt: &impl Abort, alloc: Global, mut tree: D) -> Result<(), Fail> {
+    run(
+        rt,
+        alloc,
+        &mut tree,
+        &[
+            ("/Settings/Delay", Call::Keys(Tid::UInt32, 3), Ok(2)),
+            ("/settings/delay", Call::Set(1), Ok(2)),
+            ("/Settings/Old", Call::Dir, Ok(3)),
+            ("/Enabled", Call::Keys(Tid::Bool, 1), Ok(4)),
+            ("/Settings/OLD", Call::Delete, Ok(1)),
+        ],
+    )?;
+    let text =
+        "[/]\nEnabled = BOOL : n\n\n[/Settings]\nDelay = UINT32[3] :\n[0] 0\n[1] 7\n[2] 0\n\n";
+    let dump = save(alloc, &tree)?;
+    assert_eq!(rt; dump.as_slice(), text.as_bytes());
+    Ok(())
+}
+
+#[test]
+fn both_are_saved_as_the_same_text(rt: HostRuntime) -> Result<(), Fail> {
+    let alloc = rt.alloc();
+    is_saved(&rt, alloc, PlainTree::new(alloc))?;
+    is_saved(&rt, alloc, ArenaTree::new(alloc))
 }
