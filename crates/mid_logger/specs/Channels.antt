@@ -1,0 +1,142 @@
+-- A channel of the logger: its calls on the buffer that it reads, what it got there, and its file.
+use Rattle.std.specs.Prelude.{◌≡◌, ℕ, nat_le, Bool, false, true, IsTrue, take, Result, List, [], Option, Some, None, ⊤}
+use Rattle.daq_types.specs.declared.events.Event.{Event}
+use Rattle.daq_model.specs.RunFile.{begun_file}
+use Rattle.daq_io.specs.Seen.{Seen, Closes, IsWritten}
+use Rattle.buffer_core.specs.declared.entry.BufferEntry.{BufferEntry}
+use Rattle.buffer_core.specs.declared.entry.BufferEntry.TheVariants.{Cancel}
+use Rattle.buffer_core.specs.declared.replies.RequestRefusal.{RequestRefusal}
+use Rattle.buffer_core.specs.Ports.{Access, GotEvent, Calls}
+use Rattle.member_model.specs.SentCalls.{EachCall}
+use Rattle.member_model.specs.OwnCalls.{calls_after, gave_number, AreOwnCalls, SendsNone, asks, is_within}
+use Rattle.member_model.specs.ReadRuns.{IsAsking, IsReading, IsDraining, HasReadRun}
+use Rattle.mid_logger.specs.declared.channel_spec.ChannelSpec.{ChannelSpec}
+use Rattle.mid_logger.specs.declared.stage.OpenRun.{OpenRun}
+use Rattle.mid_logger.specs.declared.stage.BegunRun.{BegunRun}
+use Rattle.mid_logger.specs.declared.stage.Stage.{Stage}
+use Rattle.mid_logger.specs.declared.stage.Stage.TheVariants.{Idle, Asking, Writing, Draining, Drained, Broken}
+use Rattle.mid_logger.specs.Patterns.{file_name_by}
+
+-- the run number, the time and the dump of the record that begins a run's file
+pub record FileHead : Type 0 where
+  pub run : ℕ
+  pub time : ℕ
+  pub dump : List ℕ
+
+-- What a logger keeps of its calls on one buffer: it sends nothing, and names only clients that an attach of its own gave.
+pub record KeepsOwnCalls (own : List BufferEntry) : Type 0 where
+  pub sends_none : EachCall SendsNone own
+  pub own_calls : AreOwnCalls (calls_after [] own)
+
+-- the client, if there is one, is the caller's own
+abbrev pub IsOwnClient : Option ℕ → List BufferEntry → Type 0
+IsOwnClient None own = ⊤
+IsOwnClient (Some n) own = gave_number (calls_after [] own) n ≡ true
+
+-- the client, if there is one, asks for nothing
+abbrev pub AsksNothing : Option ℕ → List BufferEntry → Type 0
+AsksNothing None own = ⊤
+AsksNothing (Some client) own = (n : ℕ) → asks (calls_after [] own) client n ≡ false
+
+-- the file of the open run is being written, and has the begin record and these events
+abbrev pub HoldsEvents : ChannelSpec → FileHead → Seen → OpenRun → List Event → Type 0
+HoldsEvents spec head seen opened events =
+    (head.run ≡ opened.run) × IsWritten seen opened.file (file_name_by spec.pattern opened.run) (begun_file head.run head.time head.dump events)
+
+pub record AskingAt (spec : ChannelSpec) (client : Option ℕ) (opened : OpenRun) (head : FileHead) (own : List BufferEntry) (seen : Seen) : Type 0 where
+  pub of : client ≡ Some opened.client
+  pub asking : IsAsking own opened.client spec.id spec.mask opened.request
+  pub holds : HoldsEvents spec head seen opened []
+
+-- the place is one of the run: from its begin on, and below its end, where that is marked
+abbrev pub is_in_run : (begun : ℕ) → (ended : Option ℕ) → (place : ℕ) → Bool
+is_in_run begun None place = nat_le begun place
+is_in_run begun (Some end) place = is_within begun end place
+
+-- the client reads the run, which is on, or was ended at a place, and these are the events that it got
+abbrev pub ReadsUntil : (ended : Option ℕ) → List BufferEntry → List GotEvent → (client id mask request start begun : ℕ) → List Event → Type 0
+ReadsUntil None own got client id mask request start begun events = IsReading own got client id mask request start begun events
+ReadsUntil (Some end) own got client id mask request start begun events = IsDraining own got client id mask request start begun end events
+
+pub record ReadingAt (spec : ChannelSpec) (client : Option ℕ) (run : BegunRun) (head : FileHead) (own : List BufferEntry) (got : List GotEvent) (seen : Seen) : Type 0 where
+  pub events : List Event
+  pub of : client ≡ Some run.opened.client
+  pub reads : ReadsUntil run.ended own got run.opened.client spec.id spec.mask run.opened.request run.opened.start run.begun events
+  pub holds : HoldsEvents spec head seen run.opened events
+
+-- the client has read the run, where its end was marked
+abbrev pub HasReadUntil : (ended : Option ℕ) → List BufferEntry → List GotEvent → (client id mask request start begun : ℕ) → List Event → Type 0
+HasReadUntil None own got client id mask request start begun events = ⊤
+HasReadUntil (Some end) own got client id mask request start begun events = HasReadRun own got client id mask request start begun end events
+
+pub record DrainedAt (spec : ChannelSpec) (client : Option ℕ) (run : BegunRun) (head : FileHead) (own : List BufferEntry) (got : List GotEvent) (seen : Seen) : Type 0 where
+  pub events : List Event
+  pub nothing : AsksNothing client own
+  pub reads : HasReadUntil run.ended own got run.opened.client spec.id spec.mask run.opened.request run.opened.start run.begun events
+  pub holds : HoldsEvents spec head seen run.opened events
+
+-- a run that is on
+abbrev pub run_on : OpenRun → (begun : ℕ) → BegunRun
+run_on opened begun = record { opened = opened; begun = begun; ended = None }
+
+-- a channel in this stage
+abbrev pub StageAt : ChannelSpec → Option ℕ → Stage → FileHead → List BufferEntry → List GotEvent → Seen → Type 0
+StageAt spec client Idle head own got seen = AsksNothing client own
+StageAt spec client (Asking opened) head own got seen = AskingAt spec client opened head own seen
+StageAt spec client (Writing opened begun) head own got seen = ReadingAt spec client (run_on opened begun) head own got seen
+StageAt spec client (Draining run) head own got seen = ReadingAt spec client run head own got seen
+StageAt spec client (Drained run) head own got seen = DrainedAt spec client run head own got seen
+StageAt spec client (Broken start) head own got seen = AsksNothing client own
+
+-- a channel, with the calls of the logger on its buffer, what the logger got there, and the files
+pub record ChannelStands (spec : ChannelSpec) (client : Option ℕ) (stage : Stage) (head : FileHead) (own : List BufferEntry) (got : List GotEvent) (seen : Seen) : Type 0 where
+  pub port : KeepsOwnCalls own
+  pub own_client : IsOwnClient client own
+  pub at : StageAt spec client stage head own got seen
+
+-- the number of the file of the open run
+abbrev pub open_file : Stage → Option ℕ
+open_file Idle = None
+open_file (Asking opened) = Some opened.file
+open_file (Writing opened begun) = Some opened.file
+open_file (Draining run) = Some run.opened.file
+open_file (Drained run) = Some run.opened.file
+open_file (Broken start) = None
+
+abbrev pub IsUsed : Seen → Option ℕ → Type 0
+IsUsed seen None = ⊤
+IsUsed seen (Some file) = IsTrue (seen.writes file)
+
+-- the file of the open run, if there is one, is in use for writing
+abbrev pub HasOpenFile : Seen → Stage → Type 0
+HasOpenFile seen stage = IsUsed seen (open_file stage)
+
+-- the stage once the run was begun at this place
+abbrev pub stage_begun : Stage → (begun : ℕ) → Stage
+stage_begun (Asking opened) begun = Writing opened begun
+stage_begun stage begun = stage
+
+-- the stage once the run was ended at this place, or could not be
+abbrev pub stage_ended : Stage → (ended : Option ℕ) → Stage
+stage_ended (Writing opened begun) ended = Draining (record { opened = opened; begun = begun; ended = ended })
+stage_ended stage ended = stage
+
+-- the run of a channel that reads its buffer
+abbrev pub reading_run : Stage → Option BegunRun
+reading_run (Writing opened begun) = Some (run_on opened begun)
+reading_run (Draining run) = Some run
+reading_run stage = None
+
+-- the place is at or behind the end of the run, where that is marked
+abbrev pub is_behind_end : (ended : Option ℕ) → (place : ℕ) → Bool
+is_behind_end None place = false
+is_behind_end (Some end) place = nat_le end place
+
+-- the request of the open run was cancelled, with any reply
+abbrev pub CancelsRequest : Access → Access → OpenRun → Type 0
+CancelsRequest a b opened = (reply : Result ⊤ RequestRefusal) × Calls a b (Cancel opened.client opened.request reply)
+
+-- The file of this number grew by the first of these bytes, of whatever number, and was closed.
+pub record ClosesPart (before after : Seen) (number : ℕ) (bytes : List ℕ) : Type 0 where
+  pub count : ℕ
+  pub closes : Closes before after number (take count bytes)

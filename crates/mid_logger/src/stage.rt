@@ -1,0 +1,41 @@
+/// A run that a channel writes.
+#[derive(Clone, Copy, Debug, PartialEq, Eq)]
+pub struct OpenRun {
+    /// The run number.
+    pub run: u32,
+    /// The start number.
+    pub start: u32,
+    /// The number under which the file is written.
+    pub file: u32,
+    /// The client that reads the buffer.
+    pub client: u32,
+    /// The number of its request.
+    pub request: u32,
+}
+
+/// A run that was begun, as its client reads it.
+#[derive(Clone, Copy, Debug, PartialEq, Eq)]
+pub struct BegunRun {
+    pub opened: OpenRun,
+    /// The place at which it was begun.
+    pub begun: u64,
+    /// The place at which it was ended, once that is marked.
+    pub ended: Option<u64>,
+}
+
+/// How far a channel is.
+#[derive(Clone, Copy, Debug, PartialEq, Eq)]
+pub enum Stage {
+    /// It writes no run.
+    Idle,
+    /// The file has its begin record, and the request was made; the run is not begun yet.
+    Asking { opened: OpenRun },
+    /// The run is on. It was begun at this place.
+    Writing { opened: OpenRun, begun: u64 },
+    /// The run was stopped, and the client is not drained.
+    Draining { run: BegunRun },
+    /// The client was drained, and its request cancelled. The file has no end record yet.
+    Drained { run: BegunRun },
+    /// A call on the file of the run with this start number failed. The file was closed, and the request cancelled.
+    Broken { start: u32 },
+}
