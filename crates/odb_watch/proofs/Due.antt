@@ -13,7 +13,7 @@ use Rattle.odb_watch.specs.declared.entry.WatchEntry.TheVariants.{Call, Watch, N
 use Rattle.odb_watch.specs.Changes.{Change, changes_of}
 use Rattle.odb_watch.specs.Keeping.{with_note, note_of, is_of, noted, noted_all, notes_limit, counted}
 use Rattle.odb_watch.specs.Slots.{Watched, all_noted, slot, with_slot, free_slot, new_watch, emptied, emptied_slot}
-use Rattle.odb_watch.specs.History.{changes_by, rows_by, rows_through, changes_in, GivesKept, GivesWatched, AreGiven, watched_after, watched_through, unwatched, begins, row_by, watched_row, notes_for, AreDue}
+use Rattle.odb_watch.specs.History.{changes_by, rows_by, rows_through, changes_in, GivesKept, GivesWatched, AreWatchReplies, watched_after, watched_through, unwatched, begins, row_by, watched_row, notes_for, AreDue}
 use Rattle.odb_watch.proofs.NotesKept.{note_keeps_row, none_noted}
 
 -- Notes of changes, all together.
@@ -293,7 +293,7 @@ due rows h w notes lost (Some k) i g =
     }
 
 onward : (rows : Rows) (done more : List WatchEntry) (s : Watched) (w : ℕ) (notes : List Note) (lost : ℕ) → s.rows ≡ rows_through rows done → AreKept rows done s.slots
-    → AreGiven s (more ++ Notes w (Ok (notes, lost)) ∷ []) → AreDue rows (done ++ more) w notes lost
+    → AreWatchReplies s (more ++ Notes w (Ok (notes, lost)) ∷ []) → AreDue rows (done ++ more) w notes lost
 unfolding AreKept
 onward rows done [] s w notes lost at i given =
     subst (λ (l : List WatchEntry). AreDue rows l w notes lost) (sym (append-nil done)) (due rows done w notes lost (slot s.slots w) (λ k e. i w k e) given.0)
@@ -305,5 +305,5 @@ nothing_kept : (rows : Rows) → AreKept rows [] []
 unfolding AreKept
 nothing_kept rows = λ w k e. absurd (cc)
 
-pub notes_are_due : (rows : Rows) (h : List WatchEntry) (w : ℕ) (notes : List Note) (lost : ℕ) → AreGiven (unwatched rows) (h ++ Notes w (Ok (notes, lost)) ∷ []) → AreDue rows h w notes lost
+pub notes_are_due : (rows : Rows) (h : List WatchEntry) (w : ℕ) (notes : List Note) (lost : ℕ) → AreWatchReplies (unwatched rows) (h ++ Notes w (Ok (notes, lost)) ∷ []) → AreDue rows h w notes lost
 notes_are_due rows h w notes lost given = onward rows [] h (unwatched rows) w notes lost refl (nothing_kept rows) given

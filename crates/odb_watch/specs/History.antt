@@ -11,7 +11,7 @@ use Rattle.odb_watch.specs.declared.entry.WatchEntry.{WatchEntry}
 use Rattle.odb_watch.specs.declared.entry.WatchEntry.TheVariants.{Call, Watch, Notes, Unwatch}
 use Rattle.odb_watch.specs.Changes.{Change, changes_of}
 use Rattle.odb_watch.specs.Keeping.{notes_limit, counted, note_of, is_of}
-use Rattle.odb_watch.specs.Slots.{Watched, all_noted, slot, GivesWatch, after_watch, emptied_slot, IsEnded, after_unwatch}
+use Rattle.odb_watch.specs.Slots.{Watched, all_noted, slot, GivesWatch, after_watch, emptied_slot, GivesUnwatch, after_unwatch}
 
 -- the changes that an entry makes, and the rows after it
 abbrev pub changes_by : Rows → WatchEntry → List Change
@@ -56,12 +56,12 @@ abbrev pub GivesWatched : Watched → WatchEntry → Type 0
 GivesWatched s (Call entry) = IsReply s.rows entry
 GivesWatched s (Watch row reply) = GivesWatch s.slots reply
 GivesWatched s (Notes w reply) = GivesKept (slot s.slots w) reply
-GivesWatched s (Unwatch w reply) = IsEnded s.slots w reply
+GivesWatched s (Unwatch w reply) = GivesUnwatch s.slots w reply
 
 -- each reply is that of the rows and the watches at its point
-abbrev pub AreGiven : Watched → List WatchEntry → Type 0
-AreGiven s [] = ⊤
-AreGiven s (e ∷ es) = GivesWatched s e × AreGiven (watched_after s e) es
+abbrev pub AreWatchReplies : Watched → List WatchEntry → Type 0
+AreWatchReplies s [] = ⊤
+AreWatchReplies s (e ∷ es) = GivesWatched s e × AreWatchReplies (watched_after s e) es
 
 abbrev pub watched_through : Watched → List WatchEntry → Watched
 watched_through s [] = s

@@ -72,9 +72,9 @@ after_notes slots w (Ok lost) = slice_set slots w (emptied_slot (slot slots w))
 after_notes slots w (Err e) = slots
 
 -- `unwatch` is accepted exactly where the watch lives
-abbrev pub IsEnded : List (Option Watch) → (w : ℕ) → Result (Unit {0}) NoWatch → Type 0
-IsEnded slots w (Ok _) = is_some (slot slots w) ≡ true
-IsEnded slots w (Err e) = is_some (slot slots w) ≡ false
+abbrev pub GivesUnwatch : List (Option Watch) → (w : ℕ) → Result (Unit {0}) NoWatch → Type 0
+GivesUnwatch slots w (Ok _) = is_some (slot slots w) ≡ true
+GivesUnwatch slots w (Err e) = is_some (slot slots w) ≡ false
 
 abbrev pub after_unwatch : List (Option Watch) → (w : ℕ) → Result (Unit {0}) NoWatch → List (Option Watch)
 after_unwatch slots w (Ok _) = slice_set slots w None

@@ -1,5 +1,5 @@
 ghost use Rattle.std.specs.Prelude.{◌≡◌, ◌≤◌, length};
-ghost use Rattle.odb_watch.specs.Slots.{free_slot, IsEnded, GivesWatch, GivesNotes, GivesTaken, after_watch, after_notes, after_unwatch, emptied_slot};
+ghost use Rattle.odb_watch.specs.Slots.{free_slot, GivesUnwatch, GivesWatch, GivesNotes, GivesTaken, after_watch, after_notes, after_unwatch, emptied_slot};
 
 use crate::notes::{NoWatch, Note, Notes, Watch, WatchRefusal};
 use std::alloc::Global;
@@ -79,7 +79,7 @@ pub fn take_notes(
 
 /// Ends a watch, as `Watches::unwatch`.
 pub fn end(slots: &mut Vec<Option<Watch>>, watch: u32) -> Result<(), NoWatch>
-    ensures reply { IsEnded slots.old.items watch result }
+    ensures reply { GivesUnwatch slots.old.items watch result }
     ensures slots { slots.new.items ≡ after_unwatch slots.old.items watch result }
 {
     let place = watch as usize;

@@ -6,7 +6,7 @@ ghost use Rattle.odb_tree.specs.declared.entry.DatabaseEntry.TheVariants.{Create
 ghost use Rattle.odb_tree.specs.Databases.{IsDatabase};
 ghost use Rattle.odb_tree.specs.Calls.{IsReply, rows_after, is_row_below};
 ghost use Rattle.odb_watch.specs.Changes.{changes_of};
-ghost use Rattle.odb_watch.specs.Slots.{all_noted, GivesWatch, GivesNotes, after_watch, after_notes, after_unwatch, IsEnded};
+ghost use Rattle.odb_watch.specs.Slots.{all_noted, GivesWatch, GivesNotes, after_watch, after_notes, after_unwatch, GivesUnwatch};
 
 use crate::copying::copy_slots;
 use crate::keeping::note_reply;
@@ -68,7 +68,7 @@ impl<D: Database> Watches<D> {
 
     /// Ends a watch. Takes no memory.
     pub fn unwatch(&mut self, watch: u32) -> Result<(), NoWatch>
-        ensures reply { IsEnded self.old.slots watch result }
+        ensures reply { GivesUnwatch self.old.slots watch result }
         ensures slots { self.new.slots ≡ after_unwatch self.old.slots watch result }
         ensures rows { self.new.rows ≡ self.old.rows }
     {
