@@ -15,13 +15,14 @@ type Key<'a> = (&'a str, Tid, &'a [&'a str]);
 fn put<D: Database>(alloc: Global, database: &mut D, key: &Key) -> Result<(), Fail> {
     let (path, tid, items) = key;
     let path = Path::read(alloc, path.as_bytes())?;
+    let len = items.len().min(9);
     let kind = NewKey::Keys {
         tid: *tid,
-        len: items.len() as u32,
+        len: len as u32,
     };
     let _ = database.create(alloc, &path, kind)?;
-    for (index, text) in items.iter().enumerate() {
-        let item = parse_item(alloc, *tid, text.as_bytes())?;
+    for index in 0..len {
+        let item = parse_item(alloc, *tid, items[index].as_bytes())?;
         let _ = database.set(alloc, &path, index as u32, &item)?;
     }
     Ok(())
