@@ -10,7 +10,7 @@ test:
 
 # What the tools, a run and the database cost, beside cat, wc and plain Rust. Builds the program first.
 bench:
-	@(cd crates/midas_cli && rt run -- check none >/dev/null 2>&1) || true
-	@./bench/tools.sh crates/midas_cli/out/midas_cli
-	@./bench/run.sh crates/midas_cli/out/midas_cli
-	@./bench/odb.sh crates/midas_cli/out/midas_cli
+	@(cd crates/midas && rt run -- check none >/dev/null 2>&1) || true
+	@./bench/tools.sh crates/midas/out/midas
+	@./bench/run.sh crates/midas/out/midas
+	@./bench/odb.sh crates/midas/out/midas

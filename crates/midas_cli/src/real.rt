@@ -1,13 +1,4 @@
-//! The program `midas`: the words of its command line, the top call, and the real objects that it runs over.
-#![tactic(auto)]
-
-mod outcome;
-#[cfg(test)]
-mod tests;
-mod tools;
-mod top;
-mod words;
-
+use crate::top::midas;
 use daq_io::Outside;
 use daq_mem::NoGate;
 use daq_std::{RoundPick, StdClock, StdFiles, StdSink, StdSource};
@@ -15,7 +6,8 @@ use daq_types::{NoMemory, Words};
 use std::env;
 use std::io::{self, Stdin, Stdout};
 use std::process::ExitCode;
-use top::midas;
+use std::sync::Wait;
+use std::thread::Threads;
 
 /// The status where the words find no memory.
 const NO_MEMORY_STATUS: u8 = 5;
@@ -63,10 +55,12 @@ fn real_outside(rt: HostRuntime) -> Result<RealOutside, NoMemory> {
     })
 }
 
-fn main(rt: HostRuntime) -> ExitCode {
+/// The whole program: it gives the words of the command line and the real objects to `midas`, and its status is that of
+/// the outcome, 0 to 5. Where there is no memory for the words or the objects it is 5, and nothing was done.
+pub fn run_program<R: Threads + Wait + Sync>(threads: &R, rt: HostRuntime) -> ExitCode {
     let (Ok(words), Ok(outside)) = (given_words(rt), real_outside(rt)) else {
         return ExitCode::from(NO_MEMORY_STATUS);
     };
-    let (outcome, _outside) = midas(&rt, rt.alloc(), &words, outside, &NoGate);
+    let (outcome, _outside) = midas(threads, rt.alloc(), &words, outside, &NoGate);
     ExitCode::from(outcome.status)
 }

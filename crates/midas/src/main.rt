@@ -1,0 +1,9 @@
+//! The program `midas`. Under the gate it runs the first script: its text and status are those that a user sees.
+#![tactic(auto)]
+
+use midas_cli::run_program;
+use std::process::ExitCode;
+
+fn main(rt: HostRuntime) -> ExitCode {
+    run_program(&rt, rt)
+}

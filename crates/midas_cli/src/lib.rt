@@ -1,0 +1,14 @@
+//! What the program `midas` does: the words of its command line, the top call, and the real objects that it runs over.
+#![tactic(auto)]
+
+mod outcome;
+mod real;
+#[cfg(test)]
+mod tests;
+mod tools;
+mod top;
+mod words;
+
+pub use outcome::Outcome;
+pub use real::run_program;
+pub use top::midas;
