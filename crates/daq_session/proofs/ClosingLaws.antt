@@ -1,14 +1,14 @@
 -- How a session is closed.
-use Rattle.std.proofs.Common.{◌≡◌, ◌≢◌, ℕ, ◌+◌, ◌≤◌, List, [], ◌∷◌, ◌++◌, Option, Some, None, true, false, length, take, refl, ap, sym, subst, ◌∙◌, arith, inl, inr}
+use Rattle.std.proofs.Common.{◌≡◌, ◌≢◌, ℕ, ◌+◌, ◌≤◌, List, [], ◌∷◌, ◌++◌, Option, Some, None, true, false, length, take, refl, ap, sym, subst, ◌∙◌, arith, inl, inr, append_assoc}
 use Rattle.std.specs.Prelude.{IsSome, MatchOption, Err, Ok, ◌⊎◌}
 use Rattle.std.proofs.lemmas.List.{append-nil, take_all, take-append-le}
 use Rattle.std.proofs.Math.Seq.{take-append_seam, take-append-add}
 use Rattle.std.proofs.Math.Logic.{⊎_elim}
 use Rattle.std.proofs.lemmas.Bool.{cases_lt}
-use Rattle.std.specs.Io.KnownBytes.{Appends}
+use Rattle.std.specs.Io.KnownBytes.{Appends, Keeps}
 use Rattle.daq_types.specs.declared.runs.Order.{Order}
 use Rattle.daq_io.specs.Counts.{Rose}
-use Rattle.daq_io.specs.Streams.{AppendsPart, Appends-trans, Appends-kept}
+use Rattle.daq_io.specs.Streams.{AppendsPart, Appends-nil, Appends-trans, Appends-kept}
 use Rattle.odb_commands.specs.declared.replies.CommandReply.{CommandReply}
 use Rattle.odb_commands.specs.declared.replies.CommandReply.TheVariants.{Done, Key, One, Listed, Refused}
 use Rattle.odb_commands.specs.Texts.{reply_text, is_refusal as is_refused}
@@ -22,37 +22,23 @@ use Rattle.session_console.specs.declared.replies.Reply.{Reply}
 use Rattle.session_console.specs.declared.replies.Reply.TheVariants.{Silent, BadCommand, WrongState, RunNumber, StartRefused, Started, Stopped as run_stopped, Database}
 use Rattle.daq_session.specs.declared.state.State.{State}
 use Rattle.daq_session.specs.declared.state.OpenRun.{OpenRun}
-use Rattle.odb_script.specs.Lines.{lines_of}
-use Rattle.odb_script.specs.Exits.{until_exit, all_first, first_until_exit}
-use Rattle.session_console.specs.Console.{console_text, console_text-more, text_of, is_refusal, refused_lines, refused_lines-more}
+use Rattle.session_console.specs.Console.{console_text, text_of, is_refusal, refused_lines, refused_lines-more}
 use Rattle.session_console.specs.Refused.{Counts}
+use Rattle.daq_session.specs.FrontSets.{AreCallers}
 use Rattle.daq_session.specs.RunRecords.{IsKept}
 use Rattle.daq_session.specs.Endings.{SinkCounts}
-use Rattle.daq_session.specs.Halts.{SinkBy}
+use Rattle.daq_session.specs.Halts.{HaltBy}
 use Rattle.daq_session.specs.Stages.{Outset, Stage, DoesByLine}
-use Rattle.daq_session.specs.FrontSets.{AreCallers}
-use Rattle.daq_session.specs.Standing.{Course, IsAt, behind_reply, order_in, stage_of, AnswersLine}
-use Rattle.daq_session.specs.Playing.{course_of, AreLines, CutBy, Wrote, Played, Prints}
-use Rattle.daq_session.specs.Sessions.{IsPlayed}
-use Rattle.daq_session.specs.Closing.{prints, earlier, Finished}
-use Rattle.daq_session.proofs.GivenLines.{given_first}
-use Rattle.daq_session.proofs.PlayingLaws.{wrote_whole}
+use Rattle.daq_session.specs.Standing.{Course, behind_reply, order_in, stage_of, AnswersLine}
+use Rattle.daq_session.specs.Playing.{course_of, CutBy, Wrote, WroteUpTo, WroteBut, Played, Prints}
+use Rattle.daq_session.specs.Played.{IsPlayed}
+use Rattle.daq_session.specs.Closing.{MayFail, prints, earlier, ended_by, SinkBehind, WroteMore, WroteBehind, Finished}
+use Rattle.daq_session.proofs.PlayingLaws.{keeps_same, wrote_whole}
 
 -- What was written.
 
-part_of : (ending : Ending) (first now : Option (List ℕ)) (text : List ℕ) → Wrote ending first now text → AppendsPart first now text
-part_of End first now text wrote = wrote_whole first now text wrote
-part_of TooLong first now text wrote = wrote_whole first now text wrote
-part_of SourceFault first now text wrote = wrote_whole first now text wrote
-part_of (Halted halt) first now text wrote = wrote
-
-whole_of : (ending : Ending) (first now : Option (List ℕ)) (text : List ℕ) (old new : ℕ) → ending ≢ Halted FileFault → Wrote ending first now text → SinkCounts ending old new → ending ≢ Halted NoMemory → ¬ Rose old new → Appends first now text
-whole_of End first now text old new sound wrote counts memory calm = wrote
-whole_of TooLong first now text old new sound wrote counts memory calm = wrote
-whole_of SourceFault first now text old new sound wrote counts memory calm = wrote
-whole_of (Halted NoMemory) first now text old new sound wrote counts memory calm = absurd (memory refl)
-whole_of (Halted SinkFault) first now text old new sound wrote counts memory calm = absurd (calm counts)
-whole_of (Halted FileFault) first now text old new sound wrote counts memory calm = absurd (sound refl)
+part_kept : (first old new : Option (List ℕ)) (text : List ℕ) → AppendsPart first old text → Keeps old new → AppendsPart first new text
+part_kept first old new text part kept = record { count = part.count; appends = Appends-kept first old new (take part.count text) part.appends kept }
 
 -- a part of a text is a part of a longer one
 part_longer : (first now : Option (List ℕ)) (text more : List ℕ) → AppendsPart first now text → AppendsPart first now (text ++ more)
@@ -64,14 +50,99 @@ part_longer first now text more part = ⊎_elim
     at_least : (m n : ℕ) → (m ≤ n) ⊎ (n ≤ m)
     at_least m n = ⊎_elim (λ less. inr (omega (arith, less))) (λ most. inl most) (cases_lt n m)
 
--- a text, and then a part of another or nothing of it
-part_behind : (halt : Halt) (first old new : Option (List ℕ)) (text more : List ℕ) → Appends first old text → Prints old new more (Err halt) → AppendsPart first new (text ++ more)
-part_behind NoMemory first old new text more before here = part_longer first new text more (wrote_whole first new text (Appends-kept first old new text before here))
-part_behind SinkFault first old new text more before here = record {
+-- a text, and then a part of another
+part_behind : (first old new : Option (List ℕ)) (text more : List ℕ) → Appends first old text → AppendsPart old new more → AppendsPart first new (text ++ more)
+part_behind first old new text more before here = record {
   count = length text + here.count;
   appends = subst (Appends first new) (sym (take-append-add text more here.count)) (Appends-trans first old new text (take here.count more) before here.appends);
 }
-part_behind FileFault first old new text more before here = absurd here
+
+console_text-append : (line : ℕ) (replies more : List Reply) → console_text line (replies ++ more) ≡ console_text line replies ++ console_text (line + length replies) more
+console_text-append line [] more = ap (λ (n : ℕ). console_text n more) (omega arith)
+console_text-append line (first ∷ replies) more =
+    ap (λ (text : List ℕ). text_of line first ++ text) (console_text-append (line + 1) replies more ∙ ap (λ (n : ℕ). console_text (line + 1) replies ++ console_text n more) (omega arith))
+    ∙ sym (append_assoc (text_of line first) (console_text (line + 1) replies) (console_text (line + length (first ∷ replies)) more))
+
+-- all of the lines' text, or a part
+up_to : (first now : Option (List ℕ)) (replies : List Reply) → WroteUpTo first now replies → AppendsPart first now (console_text 1 replies)
+up_to first now replies w =
+    subst (AppendsPart first now) (sym (ap (console_text 1) w.replies_are ∙ console_text-append 1 w.before (w.last ∷ []) ∙ ap (λ (text : List ℕ). console_text 1 w.before ++ text) (append-nil (text_of (1 + length w.before) w.last))))
+    (part_behind first w.told now (console_text 1 w.before) (text_of (1 + length w.before) w.last) w.whole w.part)
+
+all_but : (first now : Option (List ℕ)) (replies : List Reply) → WroteBut first now replies → AppendsPart first now (console_text 1 replies)
+all_but first now replies w =
+    subst (AppendsPart first now) (sym (ap (console_text 1) w.replies_are ∙ console_text-append 1 w.before (w.last ∷ [])))
+    (part_longer first now (console_text 1 w.before) (console_text (1 + length w.before) (w.last ∷ [])) (wrote_whole first now (console_text 1 w.before) w.whole))
+
+more_part : (closing : Option Halt) (first told now : Option (List ℕ)) (text more : List ℕ) (number : ℕ) (behind : List Reply) → more ≡ console_text number behind → Appends first told text → WroteMore closing told now number behind → AppendsPart first now (text ++ more)
+more_part None first told now text more number behind is before here =
+    wrote_whole first now (text ++ more) (Appends-trans first told now text more before (subst (Appends told now) (sym is) here))
+more_part (Some SinkFault) first told now text more number behind is before here = part_behind first told now text more before (subst (AppendsPart told now) (sym is) here)
+more_part (Some NoMemory) first told now text more number behind is before here = part_longer first now text more (wrote_whole first now text (Appends-kept first told now text before here))
+more_part (Some FileFault) first told now text more number behind is before here = part_longer first now text more (wrote_whole first now text (Appends-kept first told now text before here))
+
+text_parts : (ending : Ending) (closing : Option Halt) (first told now : Option (List ℕ)) (replies behind : List Reply) → Wrote ending first told replies → WroteBehind ending closing told now (1 + length replies) behind
+    → AppendsPart first now (console_text 1 replies ++ console_text (1 + length replies) behind)
+text_parts End closing first told now replies behind lines more = more_part closing first told now (console_text 1 replies) (console_text (1 + length replies) behind) (1 + length replies) behind refl lines more
+text_parts TooLong closing first told now replies behind lines more = more_part closing first told now (console_text 1 replies) (console_text (1 + length replies) behind) (1 + length replies) behind refl lines more
+text_parts SourceFault closing first told now replies behind lines more = more_part closing first told now (console_text 1 replies) (console_text (1 + length replies) behind) (1 + length replies) behind refl lines more
+text_parts (Halted SinkFault) closing first told now replies behind lines more =
+    part_longer first now (console_text 1 replies) (console_text (1 + length replies) behind) (part_kept first told now (console_text 1 replies) (up_to first told replies lines) more)
+text_parts (Halted NoMemory) closing first told now replies behind lines more =
+    part_longer first now (console_text 1 replies) (console_text (1 + length replies) behind) (part_kept first told now (console_text 1 replies)
+    (⊎_elim (λ (all : Appends first told (console_text 1 replies)). wrote_whole first told (console_text 1 replies) all) (λ (but : WroteBut first told replies). all_but first told replies but) lines) more)
+text_parts (Halted FileFault) closing first told now replies behind lines more =
+    part_longer first now (console_text 1 replies) (console_text (1 + length replies) behind) (part_kept first told now (console_text 1 replies) (wrote_whole first told (console_text 1 replies) lines) more)
+
+pub text_part : (ending : Ending) (closing : Option Halt) (first told now : Option (List ℕ)) (replies behind : List Reply) → Wrote ending first told replies → WroteBehind ending closing told now (1 + length replies) behind
+    → AppendsPart first now (console_text 1 (replies ++ behind))
+text_part ending closing first told now replies behind lines more =
+    subst (AppendsPart first now) (sym (console_text-append 1 replies behind)) (text_parts ending closing first told now replies behind lines more)
+
+-- where the sink did not fail and memory was not wanting it is all
+text_all : (ending : Ending) (closing : Option Halt) (first told now : Option (List ℕ)) (replies behind : List Reply) (s t u : ℕ) → ended_by ending closing ≢ Halted NoMemory → closing ≢ Some FileFault → ¬ Rose s u
+    → SinkCounts ending s t → SinkBehind closing t u → prints ending ≡ true → Wrote ending first told replies → WroteBehind ending closing told now (1 + length replies) behind → Appends first now (console_text 1 (replies ++ behind))
+text_all End None first told now replies behind s t u memory sound calm lines_sink sink printing lines more =
+    subst (Appends first now) (sym (console_text-append 1 replies behind)) (Appends-trans first told now (console_text 1 replies) (console_text (1 + length replies) behind) lines more)
+text_all TooLong None first told now replies behind s t u memory sound calm lines_sink sink printing lines more =
+    subst (Appends first now) (sym (console_text-append 1 replies behind)) (Appends-trans first told now (console_text 1 replies) (console_text (1 + length replies) behind) lines more)
+text_all SourceFault None first told now replies behind s t u memory sound calm lines_sink sink printing lines more =
+    subst (Appends first now) (sym (console_text-append 1 replies behind)) (Appends-trans first told now (console_text 1 replies) (console_text (1 + length replies) behind) lines more)
+text_all End (Some SinkFault) first told now replies behind s t u memory sound calm lines_sink sink printing lines more = absurd (calm (subst (λ (n : ℕ). Rose n u) lines_sink sink))
+text_all TooLong (Some SinkFault) first told now replies behind s t u memory sound calm lines_sink sink printing lines more = absurd (calm (subst (λ (n : ℕ). Rose n u) lines_sink sink))
+text_all SourceFault (Some SinkFault) first told now replies behind s t u memory sound calm lines_sink sink printing lines more = absurd (calm (subst (λ (n : ℕ). Rose n u) lines_sink sink))
+text_all End (Some NoMemory) first told now replies behind s t u memory sound calm lines_sink sink printing lines more = absurd (memory refl)
+text_all TooLong (Some NoMemory) first told now replies behind s t u memory sound calm lines_sink sink printing lines more = absurd (memory refl)
+text_all SourceFault (Some NoMemory) first told now replies behind s t u memory sound calm lines_sink sink printing lines more = absurd (memory refl)
+text_all End (Some FileFault) first told now replies behind s t u memory sound calm lines_sink sink printing lines more = absurd (sound refl)
+text_all TooLong (Some FileFault) first told now replies behind s t u memory sound calm lines_sink sink printing lines more = absurd (sound refl)
+text_all SourceFault (Some FileFault) first told now replies behind s t u memory sound calm lines_sink sink printing lines more = absurd (sound refl)
+text_all (Halted halt) closing first told now replies behind s t u memory sound calm lines_sink sink printing lines more = absurd (cc)
+
+-- so the lines ended otherwise than by a fault of the sink or for want of memory
+sink_behind : (closing : Option Halt) (s t u : ℕ) → MayFail (Halted SinkFault) closing → Rose s t → SinkBehind closing t u → Rose s u
+sink_behind None s t u may rose here = subst (Rose s) (sym here) rose
+sink_behind (Some NoMemory) s t u may rose here = subst (Rose s) (sym here) rose
+sink_behind (Some SinkFault) s t u may rose here = absurd (cc)
+sink_behind (Some FileFault) s t u may rose here = subst (Rose s) (sym here) rose
+
+memory_first : (closing : Option Halt) → ended_by (Halted NoMemory) closing ≡ Halted NoMemory
+memory_first None = refl
+memory_first (Some halt) = refl
+
+printing_by : (ending : Ending) (closing : Option Halt) (s t u : ℕ) → ending ≢ Halted FileFault → MayFail ending closing → ended_by ending closing ≢ Halted NoMemory → ¬ Rose s u → SinkCounts ending s t → SinkBehind closing t u → prints ending ≡ true
+printing_by End closing s t u sound may memory calm lines_sink sink = refl
+printing_by TooLong closing s t u sound may memory calm lines_sink sink = refl
+printing_by SourceFault closing s t u sound may memory calm lines_sink sink = refl
+printing_by (Halted NoMemory) closing s t u sound may memory calm lines_sink sink = absurd (memory (memory_first closing))
+printing_by (Halted SinkFault) closing s t u sound may memory calm lines_sink sink = absurd (calm (sink_behind closing s t u may lines_sink sink))
+printing_by (Halted FileFault) closing s t u sound may memory calm lines_sink sink = absurd (sound refl)
+
+pub text_whole : (ending : Ending) (closing : Option Halt) (first told now : Option (List ℕ)) (replies behind : List Reply) (s t u : ℕ) → ending ≢ Halted FileFault → MayFail ending closing → ended_by ending closing ≢ Halted NoMemory
+    → closing ≢ Some FileFault → ¬ Rose s u → SinkCounts ending s t → SinkBehind closing t u → Wrote ending first told replies → WroteBehind ending closing told now (1 + length replies) behind
+    → Appends first now (console_text 1 (replies ++ behind))
+text_whole ending closing first told now replies behind s t u sound may memory none calm lines_sink sink lines more =
+    text_all ending closing first told now replies behind s t u memory none calm lines_sink sink (printing_by ending closing s t u sound may memory calm lines_sink sink) lines more
 
 -- The replies.
 
@@ -91,9 +162,6 @@ text_same (StartRefused client why) one other accepted = absurd (cc)
 text_same (Started run) one other accepted = refl
 text_same (run_stopped run front file) one other accepted = refl
 text_same (Database reply) one other accepted = reply_same reply one other accepted
-
-text_more : (replies : List Reply) (reply : Reply) → is_refusal reply ≡ false → console_text 1 replies ++ text_of 0 reply ≡ console_text 1 (replies ++ reply ∷ [])
-text_more replies reply accepted = ap (λ (text : List ℕ). console_text 1 replies ++ text) (text_same reply 0 (1 + length replies) accepted) ∙ sym (console_text-more 1 replies reply)
 
 counts_accepted : (replies : List Reply) (reply : Reply) (refusals : Refusals) → is_refusal reply ≡ false → Counts (refused_lines 1 replies) refusals → Counts (refused_lines 1 (replies ++ reply ∷ [])) refusals
 counts_accepted replies reply refusals accepted counts =
@@ -129,155 +197,116 @@ stopped o ending source left told_first told reply old new before after refusals
       leads.at.callers,
     )
 
--- The four ways to close.
+-- The ways to close.
+
+nothing_more : (closing : Option Halt) (told : Option (List ℕ)) (number : ℕ) → WroteMore closing told told number []
+nothing_more None told number = Appends-nil told
+nothing_more (Some SinkFault) told number = record { count = 0; appends = Appends-nil told }
+nothing_more (Some NoMemory) told number = keeps_same told
+nothing_more (Some FileFault) told number = keeps_same told
+
+nothing_behind : (ending : Ending) (told : Option (List ℕ)) (number : ℕ) → WroteBehind ending None told told number []
+nothing_behind End told number = nothing_more None told number
+nothing_behind TooLong told number = nothing_more None told number
+nothing_behind SourceFault told number = nothing_more None told number
+nothing_behind (Halted halt) told number = keeps_same told
 
 -- no run was on
-pub finished_idle : (o : Outset) (ending : Ending) (source left told_first told : Option (List ℕ)) (sink_first sink : ℕ) (s : State) (now : Outset) (refusals : Refusals)
-    → ending ≢ Halted FileFault → s.current ≡ None → Played o ending source left told_first told s now refusals → SinkCounts ending sink_first sink
-    → Finished o ending source left told_first told (record { old = sink_first; new = sink }) s now refusals
-finished_idle o ending source left told_first told sink_first sink s now refusals sound idle played counts = record {
-  lines = played.lines;
-  replies = played.replies;
-  readings = played.readings;
-  clashes = played.clashes;
-  played = record {
-    behind = played.behind;
-    plays = played.plays;
-    cut = stage_of s (course_of played.readings played.clashes played.replies);
-    is_cut = played.cut;
-    closes = closes_none o s.current (stage_of s (course_of played.readings played.clashes played.replies)) idle;
-    kept = subst (λ (on : Option OpenRun). IsKept o.files now.files s.runs.items on) idle played.at.kept;
-    clock = played.at.clock;
-    clashes = played.at.clashes;
-  };
-  callers = played.at.callers;
-  counts = played.counts;
-  are_lines = played.are_lines;
-  wrote = λ memory calm. whole_of ending told_first told (console_text 1 played.replies) sink_first sink sound played.wrote counts memory calm;
-  wrote_part = part_of ending told_first told (console_text 1 played.replies) played.wrote;
-}
-
--- the run was ended, and nothing was printed
-pub finished_silent : (o : Outset) (ending : Ending) (source left told_first told : Option (List ℕ)) (sink_first sink : ℕ) (old new : State) (before after : Outset) (refusals : Refusals) (reply : Reply)
-    → ending ≢ Halted FileFault → prints ending ≡ false → IsSome old.current → AnswersLine (Ok Stop) reply old new before after → new.current ≡ None → is_refusal reply ≡ false
-    → Played o ending source left told_first told old before refusals → SinkCounts ending sink_first sink
-    → Finished o ending source left told_first told (record { old = sink_first; new = sink }) new after refusals
-finished_silent o ending source left told_first told sink_first sink old new before after refusals reply sound silent running answers idle accepted played counts =
-    let is_stopped = stopped o ending source left told_first told reply old new before after refusals played running answers idle in
+pub finished_idle : (o : Outset) (ending : Ending) (source left told_first told : Option (List ℕ)) (s : State) (now : Outset) (refusals : Refusals)
+    → s.current ≡ None → Played o ending source left told_first told s now refusals → Finished o ending None source left told_first told s now refusals
+finished_idle o ending source left told_first told s now refusals idle played =
+    let same : played.replies ++ [] ≡ played.replies = append-nil played.replies in
     record {
       lines = played.lines;
-      replies = played.replies ++ reply ∷ [];
+      replies = played.replies;
+      behind = [];
+      readings = played.readings;
+      clashes = played.clashes;
+      played = subst (λ (rs : List Reply). IsPlayed o now (CutBy ending source played.lines) played.lines (stage_of s (course_of played.readings played.clashes rs))) (sym same) (record {
+        behind = played.behind;
+        plays = played.plays;
+        cut = stage_of s (course_of played.readings played.clashes played.replies);
+        is_cut = played.cut;
+        closes = closes_none o s.current (stage_of s (course_of played.readings played.clashes played.replies)) idle;
+        kept = subst (λ (on : Option OpenRun). IsKept o.files now.files s.runs.items on) idle played.at.kept;
+        clock = played.at.clock;
+        clashes = played.at.clashes;
+      });
+      callers = played.at.callers;
+      counts = subst (λ (rs : List Reply). Counts (refused_lines 1 rs) refusals) (sym same) played.counts;
+      are_lines = played.are_lines;
+      told_lines = told;
+      wrote_lines = played.wrote;
+      wrote_behind = nothing_behind ending told (1 + length played.replies);
+    }
+
+-- the run was stopped, and this was written of that
+pub finished_stopped : (o : Outset) (ending : Ending) (closing : Option Halt) (source left told_first told_old told_new : Option (List ℕ)) (old new : State) (before after : Outset) (refusals : Refusals) (reply : Reply)
+    → IsSome old.current → AnswersLine (Ok Stop) reply old new before after → new.current ≡ None → is_refusal reply ≡ false
+    → ((number : ℕ) → WroteBehind ending closing told_old told_new number (reply ∷ []))
+    → Played o ending source left told_first told_old old before refusals → Finished o ending closing source left told_first told_new new after refusals
+finished_stopped o ending closing source left told_first told_old told_new old new before after refusals reply running answers idle accepted here played =
+    let is_stopped = stopped o ending source left told_first told_old reply old new before after refusals played running answers idle in
+    record {
+      lines = played.lines;
+      replies = played.replies;
+      behind = reply ∷ [];
       readings = is_stopped.0;
       clashes = is_stopped.1;
       played = is_stopped.2;
       callers = is_stopped.3;
       counts = counts_accepted played.replies reply refusals accepted played.counts;
       are_lines = played.are_lines;
-      wrote = λ memory calm. absurd (no_print ending sink_first sink sound silent counts memory calm);
-      wrote_part = subst (AppendsPart told_first told) (text_more played.replies reply accepted) (part_longer told_first told (console_text 1 played.replies) (text_of 0 reply) (part_of ending told_first told (console_text 1 played.replies) played.wrote));
-    }
-  where
-    no_print : (e : Ending) (k l : ℕ) → e ≢ Halted FileFault → prints e ≡ false → SinkCounts e k l → e ≢ Halted NoMemory → ¬ Rose k l → ⊥
-    no_print End k l sound silent counts memory calm = cc
-    no_print TooLong k l sound silent counts memory calm = cc
-    no_print SourceFault k l sound silent counts memory calm = cc
-    no_print (Halted NoMemory) k l sound silent counts memory calm = memory refl
-    no_print (Halted SinkFault) k l sound silent counts memory calm = calm counts
-    no_print (Halted FileFault) k l sound silent counts memory calm = sound refl
-
-printed : (ending : Ending) (first now : Option (List ℕ)) (text : List ℕ) → prints ending ≡ true → Wrote ending first now text → Appends first now text
-printed End first now text printing wrote = wrote
-printed TooLong first now text printing wrote = wrote
-printed SourceFault first now text printing wrote = wrote
-printed (Halted halt) first now text printing wrote = absurd (cc)
-
--- the run was ended, and that was printed
-pub finished_printed : (o : Outset) (ending : Ending) (source left told_first told_old told_new : Option (List ℕ)) (sink_first sink : ℕ) (old new : State) (before after : Outset) (refusals : Refusals) (reply : Reply)
-    → prints ending ≡ true → IsSome old.current → AnswersLine (Ok Stop) reply old new before after → new.current ≡ None → is_refusal reply ≡ false → Appends told_old told_new (text_of 0 reply)
-    → Played o ending source left told_first told_old old before refusals
-    → Finished o ending source left told_first told_new (record { old = sink_first; new = sink }) new after refusals
-finished_printed o ending source left told_first told_old told_new sink_first sink old new before after refusals reply printing running answers idle accepted here played =
-    let all : Appends told_first told_new (console_text 1 (played.replies ++ reply ∷ [])) =
-    subst (Appends told_first told_new) (text_more played.replies reply accepted) (Appends-trans told_first told_old told_new (console_text 1 played.replies) (text_of 0 reply) (printed ending told_first told_old (console_text 1 played.replies) printing played.wrote) here) in
-    let is_stopped = stopped o ending source left told_first told_old reply old new before after refusals played running answers idle in
-    record {
-      lines = played.lines;
-      replies = played.replies ++ reply ∷ [];
-      readings = is_stopped.0;
-      clashes = is_stopped.1;
-      played = is_stopped.2;
-      callers = is_stopped.3;
-      counts = counts_accepted played.replies reply refusals accepted played.counts;
-      are_lines = played.are_lines;
-      wrote = λ memory calm. all;
-      wrote_part = wrote_whole told_first told_new (console_text 1 (played.replies ++ reply ∷ [])) all;
+      told_lines = told_old;
+      wrote_lines = played.wrote;
+      wrote_behind = here (1 + length played.replies);
     }
 
--- An earlier cause.
+-- nothing, as nothing more may be printed;
+pub silent_behind : (ending : Ending) (told : Option (List ℕ)) (reply : Reply) → prints ending ≡ false → (number : ℕ) → WroteBehind ending None told told number (reply ∷ [])
+silent_behind End told reply silent number = absurd (cc)
+silent_behind TooLong told reply silent number = absurd (cc)
+silent_behind SourceFault told reply silent number = absurd (cc)
+silent_behind (Halted halt) told reply silent number = keeps_same told
 
-lines_earlier : (ending : Ending) (halt : Halt) (text : List ℕ) (left : Option (List ℕ)) (lines : List (List ℕ)) → AreLines ending text left lines → AreLines (earlier ending halt) text left lines
-lines_earlier End halt text left lines are = all_first lines (until_exit (lines_of text)) are.lines_are
-lines_earlier TooLong halt text left lines are = all_first lines (until_exit (lines_of text)) are.lines_are
-lines_earlier SourceFault NoMemory text left lines are = first_until_exit lines (lines_of text) (given_first text left lines are.given) are.go_on
-lines_earlier SourceFault SinkFault text left lines are = are
-lines_earlier SourceFault FileFault text left lines are = are
-lines_earlier (Halted NoMemory) halt text left lines are = are
-lines_earlier (Halted SinkFault) NoMemory text left lines are = are
-lines_earlier (Halted SinkFault) SinkFault text left lines are = are
-lines_earlier (Halted SinkFault) FileFault text left lines are = are
-lines_earlier (Halted FileFault) halt text left lines are = are
+-- its text, or what was written of it.
+behind_by : (ending : Ending) (closing : Option Halt) (told_old told_new : Option (List ℕ)) (number : ℕ) (replies : List Reply) → prints ending ≡ true → WroteMore closing told_old told_new number replies → WroteBehind ending closing told_old told_new number replies
+behind_by End closing told_old told_new number replies printing more = more
+behind_by TooLong closing told_old told_new number replies printing more = more
+behind_by SourceFault closing told_old told_new number replies printing more = more
+behind_by (Halted halt) closing told_old told_new number replies printing more = absurd (cc)
 
--- nothing was cut off: so may it be said of each halt
-cut_halted : (halt : Halt) (source : Option (List ℕ)) (lines : List (List ℕ)) (old new : Stage) → new ≡ old → CutBy (Halted halt) source lines old new
-cut_halted NoMemory source lines old new same = inl same
-cut_halted SinkFault source lines old new same = same
-cut_halted FileFault source lines old new same = same
+one_text : (reply : Reply) (number : ℕ) → is_refusal reply ≡ false → text_of 0 reply ≡ console_text number (reply ∷ [])
+one_text reply number accepted = text_same reply 0 number accepted ∙ sym (append-nil (text_of number reply))
 
-cut_earlier : (ending : Ending) (halt : Halt) (source : Option (List ℕ)) (lines : List (List ℕ)) (old new : Stage) → CutBy ending source lines old new → CutBy (earlier ending halt) source lines old new
-cut_earlier End halt source lines old new cut = cut_halted halt source lines old new cut
-cut_earlier TooLong halt source lines old new cut = cut_halted halt source lines old new cut
-cut_earlier SourceFault NoMemory source lines old new cut = cut_halted NoMemory source lines old new cut
-cut_earlier SourceFault SinkFault source lines old new cut = cut
-cut_earlier SourceFault FileFault source lines old new cut = cut
-cut_earlier (Halted NoMemory) halt source lines old new cut = cut
-cut_earlier (Halted SinkFault) NoMemory source lines old new cut = cut_halted NoMemory source lines old new cut
-cut_earlier (Halted SinkFault) SinkFault source lines old new cut = cut
-cut_earlier (Halted SinkFault) FileFault source lines old new cut = cut
-cut_earlier (Halted FileFault) halt source lines old new cut = cut_halted halt source lines old new cut
+pub printed_behind : (ending : Ending) (told_old told_new : Option (List ℕ)) (reply : Reply) → prints ending ≡ true → is_refusal reply ≡ false → Prints told_old told_new (text_of 0 reply) (Ok (record {})) → (number : ℕ) → WroteBehind ending None told_old told_new number (reply ∷ [])
+printed_behind ending told_old told_new reply printing accepted here number =
+    behind_by ending None told_old told_new number (reply ∷ []) printing (subst (Appends told_old told_new) (one_text reply number accepted) here)
 
--- with another word of what is cut off
-pub played_by : (o after : Outset) (Was Now : Stage → Stage → Type 0) (lines : List (List ℕ)) (final : Stage) → ((old new : Stage) → Was old new → Now old new) → IsPlayed o after Was lines final → IsPlayed o after Now lines final
-played_by o after Was Now lines final so played = record { behind = played.behind; plays = played.plays; cut = played.cut; is_cut = so played.behind played.cut played.is_cut; closes = played.closes; kept = played.kept; clock = played.clock; clashes = played.clashes }
+cut_more : (halt : Halt) (told_old told_new : Option (List ℕ)) (reply : Reply) (number : ℕ) → is_refusal reply ≡ false → Prints told_old told_new (text_of 0 reply) (Err halt) → WroteMore (Some halt) told_old told_new number (reply ∷ [])
+cut_more NoMemory told_old told_new reply number accepted here = here
+cut_more SinkFault told_old told_new reply number accepted here = subst (AppendsPart told_old told_new) (one_text reply number accepted) here
+cut_more FileFault told_old told_new reply number accepted here = absurd here
 
--- the run was ended, and that was not printed whole
-pub finished_cut : (o : Outset) (ending : Ending) (halt : Halt) (source left told_first told_old told_new : Option (List ℕ)) (sink_first sink_old sink_new : ℕ) (old new : State) (before after : Outset) (refusals : Refusals) (reply : Reply)
-    → prints ending ≡ true → IsSome old.current → AnswersLine (Ok Stop) reply old new before after → new.current ≡ None → is_refusal reply ≡ false
-    → Prints told_old told_new (text_of 0 reply) (Err halt) → SinkBy halt sink_old sink_new → SinkCounts ending sink_first sink_old
-    → Played o ending source left told_first told_old old before refusals
-    → Finished o (earlier ending halt) source left told_first told_new (record { old = sink_first; new = sink_new }) new after refusals
-finished_cut o ending halt source left told_first told_old told_new sink_first sink_old sink_new old new before after refusals reply printing running answers idle accepted here by counts played =
-    let before_it : Appends told_first told_old (console_text 1 played.replies) = printed ending told_first told_old (console_text 1 played.replies) printing played.wrote in
-    let is_stopped = stopped o ending source left told_first told_old reply old new before after refusals played running answers idle in
-    record {
-      lines = played.lines;
-      replies = played.replies ++ reply ∷ [];
-      readings = is_stopped.0;
-      clashes = is_stopped.1;
-      played = played_by o after (CutBy ending source played.lines) (CutBy (earlier ending halt) source played.lines) played.lines (stage_of new (course_of is_stopped.0 is_stopped.1 (played.replies ++ reply ∷ []))) (cut_earlier ending halt source played.lines) is_stopped.2;
-      callers = is_stopped.3;
-      counts = counts_accepted played.replies reply refusals accepted played.counts;
-      are_lines = λ text told. lines_earlier ending halt text left played.lines (played.are_lines text told);
-      wrote = λ memory calm. absurd (no_calm ending halt sink_first sink_old sink_new printing by counts memory calm here);
-      wrote_part = subst (AppendsPart told_first told_new) (text_more played.replies reply accepted) (part_behind halt told_first told_old told_new (console_text 1 played.replies) (text_of 0 reply) before_it here);
-    }
-  where
-    no_calm : (e : Ending) (h : Halt) (k l m : ℕ) → prints e ≡ true → SinkBy h l m → SinkCounts e k l → earlier e h ≢ Halted NoMemory → ¬ Rose k m → Prints told_old told_new (text_of 0 reply) (Err h) → ⊥
-    no_calm End NoMemory k l m printing by counts memory calm here = memory refl
-    no_calm TooLong NoMemory k l m printing by counts memory calm here = memory refl
-    no_calm SourceFault NoMemory k l m printing by counts memory calm here = memory refl
-    no_calm End SinkFault k l m printing by counts memory calm here = calm (subst (λ (n : ℕ). Rose n m) counts by)
-    no_calm TooLong SinkFault k l m printing by counts memory calm here = calm (subst (λ (n : ℕ). Rose n m) counts by)
-    no_calm SourceFault SinkFault k l m printing by counts memory calm here = calm (subst (λ (n : ℕ). Rose n m) counts by)
-    no_calm e FileFault k l m printing by counts memory calm here = here
-    no_calm (Halted g) NoMemory k l m printing by counts memory calm here = cc
-    no_calm (Halted g) SinkFault k l m printing by counts memory calm here = cc
+pub cut_behind : (ending : Ending) (halt : Halt) (told_old told_new : Option (List ℕ)) (reply : Reply) → prints ending ≡ true → is_refusal reply ≡ false → Prints told_old told_new (text_of 0 reply) (Err halt) → (number : ℕ) → WroteBehind ending (Some halt) told_old told_new number (reply ∷ [])
+cut_behind ending halt told_old told_new reply printing accepted here number = behind_by ending (Some halt) told_old told_new number (reply ∷ []) printing (cut_more halt told_old told_new reply number accepted here)
+
+-- Behind the lines that alone fails which prints.
+pub may_print : (ending : Ending) (halt : Halt) → prints ending ≡ true → MayFail ending (Some halt)
+may_print ending NoMemory printing = printing
+may_print ending SinkFault printing = printing
+may_print ending FileFault printing = tt
+
+-- and it leaves the run files
+pub print_files : (halt : Halt) (told_old told_new : Option (List ℕ)) (text : List ℕ) (k l : ℕ) → Prints told_old told_new text (Err halt) → l ≡ k → HaltBy halt k l
+print_files NoMemory told_old told_new text k l here same = same
+print_files SinkFault told_old told_new text k l here same = same
+print_files FileFault told_old told_new text k l here same = absurd here
+
+pub some_same : (one other : Halt) → Some one ≡ Some other → one ≡ other
+some_same one other is = cc
+
+pub print_sound : (halt : Halt) (told_old told_new : Option (List ℕ)) (text : List ℕ) → Prints told_old told_new text (Err halt) → halt ≢ FileFault
+print_sound NoMemory told_old told_new text here is = cc
+print_sound SinkFault told_old told_new text here is = cc
+print_sound FileFault told_old told_new text here is = here

@@ -28,10 +28,12 @@ use Rattle.session_console.specs.declared.records.RunRecord.{RunRecord}
 use Rattle.session_console.specs.declared.records.FrontTally.{FrontTally}
 use Rattle.session_console.specs.declared.records.SessionRecord.{SessionRecord}
 use Rattle.session_console.specs.declared.replies.Reply.{Reply}
-use Rattle.daq_session.specs.declared.causes.Cause.{Cause}
+use Rattle.daq_session.specs.declared.endings.Ending.{Ending}
 use Rattle.daq_session.specs.RunCalls.{IsSet, AreSets, number_asked, running_set, stopped_set}
 use Rattle.daq_session.specs.RunRecordFits.{GivesNumber, StartsIn, StopsBy, RunRecordFits, FitsHistory}
-use Rattle.daq_session.specs.Sessions.{CutsBy, IsPlayed, IsRecorded}
+use Rattle.daq_session.specs.Playing.{CutBy}
+use Rattle.daq_session.specs.Played.{IsPlayed}
+use Rattle.daq_session.specs.Sessions.{IsRecorded}
 use Rattle.daq_session.specs.Stages.{Outset, Stage, opening, called, Begins, Refuses, EndsRun, completed_record, refused_record, next_order}
 use Rattle.daq_session.proofs.PlayedLaws.{IsKeptByLines, script_keeps}
 
@@ -273,7 +275,7 @@ recorded_fits final (Some s) stands recorded legal =
     subst (λ (runs : List RunRecord). All (FitsHistory s.database) runs) (sym recorded.1)
     (subst (λ (es : List DatabaseEntry). All (RunRecordFits es) final.runs) (sym own) (stands.fits.runs_fit gives))
 
-pub session_fits : (o after : Outset) (cause : Cause) (source : Option (List ℕ)) (lines : List (List ℕ)) (final : Stage) (session : Option SessionRecord) → IsPlayed o after (CutsBy cause source lines) lines final
+pub session_fits : (o after : Outset) (ending : Ending) (source : Option (List ℕ)) (lines : List (List ℕ)) (final : Stage) (session : Option SessionRecord) → IsPlayed o after (CutBy ending source lines) lines final
     → IsRecorded final session → IfSome session (λ s. IsLegal session_rows s.database) → IfSome session (λ s. All (FitsHistory s.database) s.runs)
-session_fits o after cause source lines final session played recorded legal =
-    recorded_fits final session (script_keeps Stands o after cause source lines final kept_by_lines played (opening_stands o.clashes)) recorded legal
+session_fits o after ending source lines final session played recorded legal =
+    recorded_fits final session (script_keeps Stands o after ending source lines final kept_by_lines played (opening_stands o.clashes)) recorded legal

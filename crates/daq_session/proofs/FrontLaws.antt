@@ -9,12 +9,14 @@ use Rattle.daq_types.specs.declared.runs.Order.{Order}
 use Rattle.odb_value.specs.Values.{HeldValue}
 use Rattle.odb_tree.specs.declared.entry.DatabaseEntry.{DatabaseEntry}
 use Rattle.odb_tree.specs.declared.refusals.OdbRefusal.{OdbRefusal}
-use Rattle.daq_session.specs.declared.causes.Cause.{Cause}
+use Rattle.daq_session.specs.declared.endings.Ending.{Ending}
 use Rattle.session_console.specs.declared.records.RunRecord.{RunRecord}
 use Rattle.session_console.specs.declared.records.SessionRecord.{SessionRecord}
 use Rattle.daq_session.specs.FrontSets.{AreCallers, IsSentSet, AreSentSets, set_numbers, IsFrontsPass}
 use Rattle.daq_session.specs.RunCalls.{number_asked}
-use Rattle.daq_session.specs.Sessions.{CutsBy, IsPlayed, IsRecorded}
+use Rattle.daq_session.specs.Playing.{CutBy}
+use Rattle.daq_session.specs.Played.{IsPlayed}
+use Rattle.daq_session.specs.Sessions.{IsRecorded}
 use Rattle.daq_session.specs.Stages.{Outset, Stage, opening, called, Begins, Refuses, EndsRun, completed_record, refused_record, next_order}
 use Rattle.daq_session.proofs.PlayedLaws.{IsKeptByLines, script_keeps, script_idle}
 
@@ -83,11 +85,11 @@ pass_by final (Some s) idle stands recorded =
     (subst (λ (ns : List ℕ). AreSentSets ns final.front) (at_rest final idle) stands.sets))
 
 -- what the record of a session says of it
-pub session_fronts : (o after : Outset) (cause : Cause) (source : Option (List ℕ)) (lines : List (List ℕ)) (final : Stage) (session : Option SessionRecord) → IsPlayed o after (CutsBy cause source lines) lines final
+pub session_fronts : (o after : Outset) (ending : Ending) (source : Option (List ℕ)) (lines : List (List ℕ)) (final : Stage) (session : Option SessionRecord) → IsPlayed o after (CutBy ending source lines) lines final
     → IsRecorded final session → IfSome session (λ s. IsFrontsPass s.database s.runs)
-session_fronts o after cause source lines final session played recorded =
-    pass_by final session (script_idle o after (CutsBy cause source lines) lines final played)
-    (script_keeps Stands o after cause source lines final kept_by_lines played (record { sets = tt })) recorded
+session_fronts o after ending source lines final session played recorded =
+    pass_by final session (script_idle o after (CutBy ending source lines) lines final played)
+    (script_keeps Stands o after ending source lines final kept_by_lines played (record { sets = tt })) recorded
 
 -- who made the calls of its database
 pub callers_by : (session : Option SessionRecord) (history : List (ℕ × DatabaseEntry)) → IfSome session (λ s. s.database ≡ history) → AreCallers history → IfSome session (λ s. AreCallers s.database)

@@ -19,7 +19,7 @@ use Rattle.odb_commands.specs.declared.replies.CommandReply.{CommandReply}
 use Rattle.odb_commands.specs.CommandCalls.{IsSettled, Performs, IsCutShort}
 use Rattle.odb_commands.specs.CommandCallLaws.{own_main, none_main, cut_main}
 use Rattle.daq_session.specs.declared.halts.Halt.{Halt}
-use Rattle.daq_session.specs.declared.halts.Halt.TheVariants.{NoMemory}
+use Rattle.daq_session.specs.declared.halts.Halt.TheVariants.{NoMemory, FileFault}
 use Rattle.session_console.specs.FrontNames.{front_name}
 use Rattle.session_console.specs.declared.replies.Reply.{Reply}
 use Rattle.daq_session.specs.declared.state.State.{State}
@@ -190,7 +190,12 @@ opening_halted (Ok t) old q idle shut unmade = tt
 opening_halted (Err why) old q idle shut unmade = opening_broken old q idle shut unmade
 
 -- So a line is handled.
-pub memory_handled : (Way : Outset → Stage → Stage → Type 0) (Leaves : (old new : State) (before after : Outset) → Type 0) (old new : State) (before after : Outset) (result : Result Reply Halt) → IsErr result → IsErrAnd result (λ (h : Halt). h ≡ NoMemory)
-    → Leaves old new before after → IsReady after.files new.current → HandlesBy Way Leaves old new before after result
-memory_handled Way Leaves old new before after (Ok reply) err is leaves ready = absurd (false≢true err)
-memory_handled Way Leaves old new before after (Err h) err is leaves ready = rw is (leaves, ready)
+pub memory_handled : (Way : Outset → Stage → Stage → Type 0) (Leaves : (old new : State) (before after : Outset) → Type 0) (Fails : (old : State) (before after : Outset) → Type 0) (old new : State) (before after : Outset) (result : Result Reply Halt) → IsErr result → IsErrAnd result (λ (h : Halt). h ≡ NoMemory)
+    → Leaves old new before after → IsReady after.files new.current → HandlesBy Way Leaves Fails old new before after result
+memory_handled Way Leaves Fails old new before after (Ok reply) err is leaves ready = absurd (false≢true err)
+memory_handled Way Leaves Fails old new before after (Err h) err is leaves ready = rw is (leaves, ready)
+
+pub fault_handled : (Way : Outset → Stage → Stage → Type 0) (Leaves : (old new : State) (before after : Outset) → Type 0) (Fails : (old : State) (before after : Outset) → Type 0) (old new : State) (before after : Outset) (result : Result Reply Halt)
+    → IsErr result → IsErrAnd result (λ (h : Halt). h ≡ FileFault) → Fails old before after → HandlesBy Way Leaves Fails old new before after result
+fault_handled Way Leaves Fails old new before after (Ok reply) err is fails = absurd (false≢true err)
+fault_handled Way Leaves Fails old new before after (Err h) err is fails = rw is fails

@@ -29,10 +29,10 @@ filed_beside old new name touched r avoids filed k d h = touched.others _ (avoid
 pub all_filed : (old new : Seen) (name : List ℕ) → Touches old new name → ((bytes : List ℕ) → old.at name ≢ Some (stored_closed bytes)) → (runs : List RunRecord) → All (IsFiled old.at) runs → All (IsFiled new.at) runs
 all_filed old new name touched not_closed runs = All-weaker (IsFiled old.at) (IsFiled new.at) (λ r filed. filed_beside old new name touched r (closed_avoids old.at name not_closed r filed) filed) runs
 
-absent_is_not_closed : (at : List ℕ → Option Stored) (name : List ℕ) → at name ≡ None → (bytes : List ℕ) → at name ≢ Some (stored_closed bytes)
+pub absent_is_not_closed : (at : List ℕ → Option Stored) (name : List ℕ) → at name ≡ None → (bytes : List ℕ) → at name ≢ Some (stored_closed bytes)
 absent_is_not_closed at name e bytes f = let clash : None ≡ Some (stored_closed bytes) = sym e ∙ f in cc
 
-open_is_not_closed : (at : List ℕ → Option Stored) (name so_far : List ℕ) → at name ≡ Some (stored_open so_far) → (bytes : List ℕ) → at name ≢ Some (stored_closed bytes)
+pub open_is_not_closed : (at : List ℕ → Option Stored) (name so_far : List ℕ) → at name ≡ Some (stored_open so_far) → (bytes : List ℕ) → at name ≢ Some (stored_closed bytes)
 open_is_not_closed at name so_far e bytes f =
     let clash : Some (stored_open so_far) ≡ Some (stored_closed bytes) = sym e ∙ f in
     let same : stored_open so_far ≡ stored_closed bytes = cc clash in
@@ -77,7 +77,7 @@ kept_refused first now runs order kept = record {
 }
 
 -- the bytes of a run file, from those that it began with
-whole_file : (order quoted : Order) (n time : ℕ) → order.start ≡ quoted.start → order.time ≡ quoted.time
+pub whole_file : (order quoted : Order) (n time : ℕ) → order.start ≡ quoted.start → order.time ≡ quoted.time
     → begun_file order.run order.time [] [] ++ (all_encoded (generated_events order 1 0 n) ++ encoding (end_record order.run time [])) ≡ begun_file order.run order.time [] (generated_events quoted 1 0 n) ++ encoding (end_record order.run time [])
 whole_file order quoted n time s t = rw (generated_events-by order quoted 1 0 n s t, append-nil (encoding (begin_record order.run order.time []))) (sym (append_assoc (encoding (begin_record order.run order.time [])) (all_encoded (generated_events quoted 1 0 n)) (encoding (end_record order.run time []))))
 

@@ -4,6 +4,7 @@ mod Keeping
 mod Interrupting
 mod OwnCalls
 mod Leading
+mod RunsBroken
 mod Starting
 mod Options
 mod GivenLines

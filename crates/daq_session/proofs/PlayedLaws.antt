@@ -18,13 +18,14 @@ use Rattle.odb_script.specs.declared.refusals.LineRefusal.TheVariants.{BadComman
 use Rattle.odb_script.specs.Forms.{command_of}
 use Rattle.odb_commands.specs.CommandCalls.{IsSettled, Performs, IsCutShort}
 use Rattle.odb_commands.specs.CommandCallLaws.{Spares, performs_spares}
-use Rattle.daq_session.specs.declared.causes.Cause.{Cause}
-use Rattle.daq_session.specs.declared.causes.Cause.TheVariants.{Done, CommandRefused, Usage, BadInput, SourceFault, SinkFault, FileFault, NoMemory}
+use Rattle.daq_session.specs.declared.endings.Ending.{Ending}
+use Rattle.daq_session.specs.declared.endings.Ending.TheVariants.{End, TooLong, SourceFault, Halted}
+use Rattle.daq_session.specs.declared.halts.Halt.TheVariants.{NoMemory, SinkFault, FileFault}
 use Rattle.session_console.specs.declared.replies.Reply.{Reply}
 use Rattle.session_console.specs.declared.replies.Reply.TheVariants.{Silent, BadCommand, WrongState, RunNumber, Database}
 use Rattle.daq_types.specs.declared.runs.RunState.TheVariants.{Stopped, Running}
-use Rattle.daq_session.specs.Playing.{StopsAt}
-use Rattle.daq_session.specs.Sessions.{CutsBy, IsPlayed}
+use Rattle.daq_session.specs.Playing.{CutBy, StopsAt}
+use Rattle.daq_session.specs.Played.{IsPlayed}
 use Rattle.daq_session.specs.RunCalls.{AreSets, key_made, number_asked}
 use Rattle.daq_session.specs.Stages.{Outset, Stage, opening, answered, called, OpensSession, Begins, Refuses, EndsRun, StartsRun, StartsFrom, DoesStart, DoesStop, DoesCommand, DoesByLine, Plays, CallsStart, CallsLine, opened_by, Interrupts}
 
@@ -138,26 +139,24 @@ stops_keep : (P : Stage → Type 0) (source : Option (List ℕ)) (lines : List (
 stops_keep P source lines old new k (inl same) here = subst P (sym same) here
 stops_keep P source lines old new k (inr stops) here = break_keeps P (command_of stops.line) old new k stops.interrupts here
 
-cut_keeps : (P : Stage → Type 0) (cause : Cause) (source : Option (List ℕ)) (lines : List (List ℕ)) (old new : Stage) → IsKeptByLines P → CutsBy cause source lines old new → P old → P new
-cut_keeps P Done source lines old new k cut here = subst P (sym cut) here
-cut_keeps P (CommandRefused count first) source lines old new k cut here = subst P (sym cut) here
-cut_keeps P (BadInput fault) source lines old new k cut here = subst P (sym cut) here
-cut_keeps P Usage source lines old new k cut here = absurd cut
+cut_keeps : (P : Stage → Type 0) (ending : Ending) (source : Option (List ℕ)) (lines : List (List ℕ)) (old new : Stage) → IsKeptByLines P → CutBy ending source lines old new → P old → P new
+cut_keeps P End source lines old new k cut here = subst P (sym cut) here
+cut_keeps P TooLong source lines old new k cut here = subst P (sym cut) here
 cut_keeps P SourceFault source lines old new k cut here = subst P (sym cut) here
-cut_keeps P SinkFault source lines old new k cut here = subst P (sym cut) here
-cut_keeps P (FileFault name) source lines old new k cut here = subst P (sym cut) here
-cut_keeps P NoMemory source lines old new k cut here = stops_keep P source lines old new k cut here
+cut_keeps P (Halted NoMemory) source lines old new k cut here = stops_keep P source lines old new k cut here
+cut_keeps P (Halted SinkFault) source lines old new k cut here = subst P (sym cut) here
+cut_keeps P (Halted FileFault) source lines old new k cut here = subst P (sym cut) here
 
 closes_keep : (P : Stage → Type 0) (o : Outset) (on : Option Order) (old new : Stage) → IsKeptByLines P → old.on ≡ on → MatchOption on (new ≡ old) (λ (order : Order). DoesByLine o old (Ok Stop) new) → P old → P new
 closes_keep P o None old new k idle same here = subst P (sym same) here
 closes_keep P o (Some order) old new k on does here = line_keeps P o (Ok Stop) old new k does here
 
 -- So the whole script does.
-pub script_keeps : (P : Stage → Type 0) (o after : Outset) (cause : Cause) (source : Option (List ℕ)) (lines : List (List ℕ)) (final : Stage) → IsKeptByLines P → IsPlayed o after (CutsBy cause source lines) lines final
+pub script_keeps : (P : Stage → Type 0) (o after : Outset) (ending : Ending) (source : Option (List ℕ)) (lines : List (List ℕ)) (final : Stage) → IsKeptByLines P → IsPlayed o after (CutBy ending source lines) lines final
     → P (opening o.clashes) → P final
-script_keeps P o after cause source lines final k played here =
+script_keeps P o after ending source lines final k played here =
     closes_keep P o played.cut.on played.cut final k refl played.closes
-    (cut_keeps P cause source lines played.behind played.cut k played.is_cut (plays_keep P o (map command_of lines) (opening o.clashes) played.behind k played.plays here))
+    (cut_keeps P ending source lines played.behind played.cut k played.is_cut (plays_keep P o (map command_of lines) (opening o.clashes) played.behind k played.plays here))
 
 -- no run is on at its end
 closes_idle : (o : Outset) (on : Option Order) (old new : Stage) → old.on ≡ on → MatchOption on (new ≡ old) (λ (order : Order). DoesByLine o old (Ok Stop) new) → new.on ≡ None

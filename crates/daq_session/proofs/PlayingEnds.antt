@@ -1,9 +1,9 @@
 -- How the lines of a script end.
-use Rattle.std.proofs.Common.{◌≡◌, ℕ, ◌+◌, List, [], ◌∷◌, ◌++◌, Option, Some, refl, ap, sym, subst, arith, inl, inr}
+use Rattle.std.proofs.Common.{◌≡◌, ℕ, ◌+◌, List, [], ◌∷◌, ◌++◌, Option, Some, refl, ap, sym, subst, ◌∙◌, arith, inl, inr}
 use Rattle.std.specs.Prelude.{Result, Ok, Err}
 use Rattle.std.proofs.Math.Logic.{⊎_elim}
 use Rattle.std.specs.Io.KnownBytes.{Appends}
-use Rattle.daq_io.specs.Streams.{Appends-kept}
+use Rattle.daq_io.specs.Streams.{AppendsPart, Appends-kept}
 use Rattle.odb_script.specs.Lines.{Reading, kept, ReadsLine, ReadsLast, ReadsNone, ReadsTooMuch, ReadsPart}
 use Rattle.odb_script.specs.ReadLines.{HasReadLines, lines_at_fault, text_within_end, text_within_last}
 use Rattle.odb_script.specs.Exits.{GoOn, stop_at_exit, lines_first, lines_first_line, lines_first_last, lines_at_exit, lines_until_end, lines_until_last, lines_until_limit}
@@ -22,8 +22,8 @@ use Rattle.odb_script.specs.declared.forms.Command.{Command}
 use Rattle.odb_script.specs.declared.refusals.LineRefusal.{LineRefusal}
 use Rattle.odb_script.specs.KeptForms.{command_of-kept}
 use Rattle.daq_session.specs.Standing.{Course, stage_of, IsReady}
-use Rattle.daq_session.specs.Playing.{course_of, Moment, Replied, Unanswered, DoesLine, AreFirst, AreLines, CutBy, Wrote, Played, PlaysTo}
-use Rattle.daq_session.proofs.PlayingLaws.{SoFar, moment_more, stops, wrote_more, wrote_part, wrote_none, wrote_whole}
+use Rattle.daq_session.specs.Playing.{course_of, Moment, Replied, Unanswered, FailedLine, DoesLine, AreFirst, AreLines, CutBy, Wrote, Played, PlayedUpTo, PlaysTo}
+use Rattle.daq_session.proofs.PlayingLaws.{SoFar, moment_more, stops, wrote_more}
 
 -- what was read of a source that told this text
 told_read : (first now : Option (List ℕ)) (reading : Reading) (lines : List (List ℕ)) (text : List ℕ) → first ≡ Some text → HasReadLines first now reading lines → HasReadLines (Some text) now reading lines
@@ -40,7 +40,7 @@ cut_none (Halted FileFault) source lines s = refl
 
 -- the lines were answered, and nothing else was done
 answered_played : (o : Outset) (ending : Ending) (source left told_first told_now : Option (List ℕ)) (lines : List (List ℕ)) (replies : List Reply) (s : State) (now : Outset) (refusals : Refusals)
-    → Moment o lines replies s now refusals → IsReady now.files s.current → ((text : List ℕ) → source ≡ Some text → AreLines ending text left lines) → Wrote ending told_first told_now (console_text 1 replies)
+    → Moment o lines replies s now refusals → IsReady now.files s.current → ((text : List ℕ) → source ≡ Some text → AreLines ending text left lines) → Wrote ending told_first told_now replies
     → Played o ending source left told_first told_now s now refusals
 answered_played o ending source left told_first told_now lines replies s now refusals moment ready are wrote = record {
   lines = lines;
@@ -86,7 +86,7 @@ fault_played o source_first source_old source_new told_first told_now old new s 
 -- one line more was answered, and it was the last that was played
 behind_played : (o : Outset) (ending : Ending) (source_first source_old left told_first told_old told_new : Option (List ℕ)) (reading : Reading) (old new : State) (before after : Outset) (was now : Refusals) (number : ℕ) (line : List ℕ) (reply : Reply)
     → (so_far : SoFar o source_first source_old told_first told_old reading old before was number) → Replied (kept line) (number + 1) reply old new before after was now
-    → ((text : List ℕ) → source_first ≡ Some text → AreLines ending text left (so_far.lines ++ line ∷ [])) → Wrote ending told_first told_new (console_text 1 (so_far.replies ++ reply ∷ []))
+    → ((text : List ℕ) → source_first ≡ Some text → AreLines ending text left (so_far.lines ++ line ∷ [])) → Wrote ending told_first told_new (so_far.replies ++ reply ∷ [])
     → Played o ending source_first left told_first told_new new after now
 behind_played o ending source_first source_old left told_first told_old told_new reading old new before after was now number line reply so_far replied are wrote =
     answered_played o ending source_first left told_first told_new (so_far.lines ++ line ∷ []) (so_far.replies ++ reply ∷ []) new after now
@@ -161,20 +161,47 @@ broken_played o source_first source_old left told_first told_old told_new readin
   counts = rw unanswered.same so_far.moment.counts;
   ready = unanswered.ready;
   are_lines = λ text told. lines_first text source_old reading so_far.lines (told_read source_first source_old reading so_far.lines text told so_far.read) so_far.go_on;
-  wrote = wrote_whole told_first told_new (console_text 1 so_far.replies) (Appends-kept told_first told_old told_new (console_text 1 so_far.replies) so_far.wrote unanswered.kept);
+  wrote = inl (Appends-kept told_first told_old told_new (console_text 1 so_far.replies) so_far.wrote unanswered.kept);
 }
+
+-- a call on the run files failed in a line
+failed_played : (o : Outset) (source_first source_old told_first told_old told_new : Option (List ℕ)) (reading : Reading) (old : State) (before after : Outset) (was now : Refusals) (number : ℕ) (line : List ℕ)
+    → (so_far : SoFar o source_first source_old told_first told_old reading old before was number) → AreFirstOf source_first (so_far.lines ++ line ∷ []) → FailedLine (kept line) old before after told_old told_new was now
+    → PlayedUpTo o source_first told_first told_new after now
+failed_played o source_first source_old told_first told_old told_new reading old before after was now number line so_far first failed =
+    let course : Course = course_of so_far.moment.readings so_far.moment.clashes so_far.replies in
+    record {
+      lines = so_far.lines;
+      behind = stage_of old course;
+      plays = so_far.moment.plays;
+      fails = record { line = line; next = first; command = sym (command_of-kept line) ∙ failed.fails.0; breaks = failed.fails.1 o course so_far.moment.at };
+      counts = rw failed.same so_far.moment.counts;
+      are_lines = λ text told. lines_first text source_old reading so_far.lines (told_read source_first source_old reading so_far.lines text told so_far.read) so_far.go_on;
+      wrote = Appends-kept told_first told_old told_new (console_text 1 so_far.replies) so_far.wrote failed.kept;
+    }
 
 -- the session halted at a line
 halted_played : (o : Outset) (halt : Halt) (source_first source_old left told_first told_old told_new : Option (List ℕ)) (reading : Reading) (old new : State) (before after : Outset) (was now : Refusals) (number : ℕ) (line : List ℕ)
     → (so_far : SoFar o source_first source_old told_first told_old reading old before was number) → AreFirstOf source_first (so_far.lines ++ line ∷ [])
     → DoesLine (kept line) (number + 1) old new before after told_old told_new was now (Err halt) → PlaysTo o (Halted halt) source_first left told_first told_new new after now
-halted_played o FileFault source_first source_old left told_first told_old told_new reading old new before after was now number line so_far first does = tt
+halted_played o FileFault source_first source_old left told_first told_old told_new reading old new before after was now number line so_far first does =
+    failed_played o source_first source_old told_first told_old told_new reading old before after was now number line so_far first does
 halted_played o SinkFault source_first source_old left told_first told_old told_new reading old new before after was now number line so_far first does =
     behind_played o (Halted SinkFault) source_first source_old left told_first told_old told_new reading old new before after was now number line does.0 so_far does.1 first
-    (wrote_part told_first told_old told_new so_far.replies does.0 (number + 1) (omega (arith, so_far.is_number, so_far.moment.numbered)) so_far.wrote does.2)
+    (record {
+      before = so_far.replies;
+      last = does.0;
+      replies_are = refl;
+      told = told_old;
+      whole = so_far.wrote;
+      part = subst (λ (n : ℕ). AppendsPart told_old told_new (text_of n does.0)) (place so_far.is_number so_far.moment.numbered) does.2;
+    })
+  where
+    place : {n k l : ℕ} → l ≡ n → k ≡ l → n + 1 ≡ 1 + k
+    place a b = omega (arith, a, b)
 halted_played o NoMemory source_first source_old left told_first told_old told_new reading old new before after was now number line so_far first does = ⊎_elim
     (λ answered. behind_played o (Halted NoMemory) source_first source_old left told_first told_old told_new reading old new before after was now number line answered.0 so_far answered.1 first
-    (wrote_none told_first told_old told_new so_far.replies answered.0 so_far.wrote answered.2))
+    (inr (record { before = so_far.replies; last = answered.0; replies_are = refl; whole = Appends-kept told_first told_old told_new (console_text 1 so_far.replies) so_far.wrote answered.2 })))
     (λ unanswered. broken_played o source_first source_old left told_first told_old told_new reading old new before after was now number line so_far first unanswered)
     does
 

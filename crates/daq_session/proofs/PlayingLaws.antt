@@ -1,5 +1,5 @@
 -- A script played line by line.
-use Rattle.std.proofs.Common.{◌≡◌, ℕ, ◌+◌, ◌*◌, ◌≤◌, List, [], ◌∷◌, ◌++◌, Option, length, take, refl, ap, sym, subst, ◌∙◌, arith, length-append, zero-add, inl}
+use Rattle.std.proofs.Common.{◌≡◌, ℕ, ◌+◌, ◌*◌, ◌≤◌, List, [], ◌∷◌, ◌++◌, Option, Some, None, length, take, refl, ap, sym, subst, ◌∙◌, arith, length-append, zero-add, inl, inr}
 use Rattle.std.specs.Prelude.{map, Result, Err, true, false}
 use Rattle.std.specs.Str.Lines.{strip_carriage_return}
 use Rattle.std.proofs.lemmas.List.{map-append, take_all}
@@ -25,7 +25,7 @@ use Rattle.session_console.specs.Refused.{counts_noted}
 use Rattle.daq_session.specs.RunRecords.{IsFiled}
 use Rattle.daq_session.specs.Stages.{Outset, Stage, opening, DoesByLine, Plays}
 use Rattle.daq_session.specs.FrontSets.{AreCallers}
-use Rattle.daq_session.specs.Standing.{Course, behind_reply, order_in, stage_of, IsReady}
+use Rattle.daq_session.specs.Standing.{Course, behind_reply, order_in, stage_of, Handles, IsReady}
 use Rattle.odb_script.specs.Lines.{Reading, nothing_read, ReadsLine}
 use Rattle.odb_script.specs.ReadLines.{HasReadLines, has_read_none, has_read_line}
 use Rattle.daq_session.specs.declared.desk.Going.TheVariants.{On, Exit}
@@ -80,21 +80,10 @@ pub wrote_more : (first old new : Option (List ℕ)) (replies : List Reply) (rep
 wrote_more first old new replies reply number place before here =
     subst (Appends first new) (ap (λ (n : ℕ). console_text 1 replies ++ text_of n reply) place ∙ sym (console_text-more 1 replies reply)) (Appends-trans first old new (console_text 1 replies) (text_of number reply) before here)
 
--- or a part of it
-pub wrote_part : (first old new : Option (List ℕ)) (replies : List Reply) (reply : Reply) (number : ℕ) → number ≡ 1 + length replies
-    → Appends first old (console_text 1 replies) → AppendsPart old new (text_of number reply) → AppendsPart first new (console_text 1 (replies ++ reply ∷ []))
-wrote_part first old new replies reply number place before here = record {
-  count = length (console_text 1 replies) + here.count;
-  appends = subst (Appends first new) (sym (ap (take (length (console_text 1 replies) + here.count)) (console_text-more 1 replies reply ∙ ap (λ (n : ℕ). console_text 1 replies ++ text_of n reply) (sym place))
-      ∙ take-append-add (console_text 1 replies) (text_of number reply) here.count)) (Appends-trans first old new (console_text 1 replies) (take here.count (text_of number reply)) before here.appends);
-}
-
--- or nothing of it
-pub wrote_none : (first old new : Option (List ℕ)) (replies : List Reply) (reply : Reply) → Appends first old (console_text 1 replies) → Keeps old new → AppendsPart first new (console_text 1 (replies ++ reply ∷ []))
-wrote_none first old new replies reply before kept_so = record {
-  count = length (console_text 1 replies);
-  appends = subst (Appends first new) (sym (ap (take (length (console_text 1 replies))) (console_text-more 1 replies reply) ∙ take-append_seam (console_text 1 replies) (text_of (1 + length replies) reply))) (Appends-kept first old new (console_text 1 replies) before kept_so);
-}
+-- nothing was written
+pub keeps_same : (told : Option (List ℕ)) → Keeps told told
+keeps_same None = tt
+keeps_same (Some bytes) = refl
 
 -- what was written whole was written in part
 pub wrote_whole : (first now : Option (List ℕ)) (text : List ℕ) → Appends first now text → AppendsPart first now text
@@ -158,4 +147,11 @@ pub halts_line : (line : List ℕ) (number : ℕ) (old new : State) (before afte
     → Replied line number reply old new before after was now → Prints told_old told_new (text_of number reply) (Err halt) → DoesLine line number old new before after told_old told_new was now (Err halt)
 halts_line line number old new before after told_old told_new was now reply SinkFault replied prints = (reply, replied, prints)
 halts_line line number old new before after told_old told_new was now reply NoMemory replied prints = inl (reply, replied, prints)
-halts_line line number old new before after told_old told_new was now reply FileFault replied prints = tt
+halts_line line number old new before after told_old told_new was now reply FileFault replied prints = absurd prints
+
+-- a line was not answered
+pub halts_unanswered : (line : List ℕ) (number : ℕ) (old new : State) (before after : Outset) (told : Option (List ℕ)) (refusals : Refusals) (halt : Halt)
+    → Handles (command_of line) old new before after (Err halt) → DoesLine line number old new before after told told refusals refusals (Err halt)
+halts_unanswered line number old new before after told refusals NoMemory handles = inr (record { breaks = handles.0; ready = handles.1; same = refl; kept = keeps_same told })
+halts_unanswered line number old new before after told refusals SinkFault handles = absurd handles
+halts_unanswered line number old new before after told refusals FileFault handles = record { fails = handles; same = refl; kept = keeps_same told }

@@ -17,12 +17,15 @@ use Rattle.odb_runinfo.specs.declared.keys.RunKey.TheVariants.{RunNumber as numb
 use Rattle.odb_runinfo.specs.declared.sets.RunNumber.{RunNumber as NoNext}
 use Rattle.odb_runinfo.specs.RunKeys.{key_path, sent_path}
 use Rattle.odb_runinfo.specs.RunSets.{have_of, next_run, number_got, front_made}
+use Rattle.odb_script.specs.declared.forms.Command.{Command}
 use Rattle.odb_script.specs.declared.forms.Command.TheVariants.{Start}
+use Rattle.odb_script.specs.declared.refusals.LineRefusal.{LineRefusal}
 use Rattle.odb_commands.specs.CommandCalls.{IsSettled}
 use Rattle.odb_commands.specs.CommandCallLaws.{get_settled, create_settled}
 use Rattle.daq_session.specs.declared.halts.Halt.{Halt}
 use Rattle.daq_session.specs.declared.halts.Halt.TheVariants.{NoMemory, SinkFault, FileFault}
 use Rattle.session_console.specs.FrontNames.{front_name}
+use Rattle.session_console.specs.declared.records.RunRecord.{RunRecord}
 use Rattle.session_console.specs.declared.replies.Reply.{Reply}
 use Rattle.session_console.specs.declared.replies.Reply.TheVariants.{RunNumber}
 use Rattle.daq_session.specs.declared.state.State.{State}
@@ -30,7 +33,8 @@ use Rattle.daq_session.specs.declared.state.OpenRun.{OpenRun}
 use Rattle.daq_session.specs.FrontSets.{AreCallers}
 use Rattle.daq_session.specs.RunCalls.{key_made, number_asked}
 use Rattle.daq_session.specs.Stages.{Outset, Stage, DoesByLine, DoesStart, OpensSession, StartsFrom, StartsRun, Interrupts, called}
-use Rattle.daq_session.specs.Standing.{Course, behind_reply, stage_of, order_in, IsAt, IsReady, Breaks, Stays, LineDoes, Handles, HandlesRun}
+use Rattle.daq_session.specs.Standing.{Course, behind_reply, stage_of, order_in, IsAt, IsReady, Breaks, Stays, FailsLine, LineDoes, Handles, HandlesRun}
+use Rattle.daq_session.specs.BrokenRuns.{BreaksRun, turning}
 use Rattle.daq_session.proofs.OwnCalls.{own_grown, callers_grown, main_called}
 use Rattle.daq_session.proofs.Leading.{stage_is}
 use Rattle.daq_session.proofs.Interrupting.{at_same, cut_own, interrupts_start, memory_handled, with_calls}
@@ -170,7 +174,16 @@ run_handled old opened asked new run before after (Err NoMemory) is is_asked is_
   handles.1,
 )
 run_handled old opened asked new run before after (Err SinkFault) is is_asked is_next handles = handles
-run_handled old opened asked new run before after (Err FileFault) is is_asked is_next handles = tt
+run_handled old opened asked new run before after (Err FileFault) is is_asked is_next handles = (
+  ap start_or_stop (sym is.idle),
+  λ o c at.
+      subst (λ (runs : List RunRecord). BreaksRun o c.readings runs (order_in old.current) after.files) (is_asked.runs ∙ is.runs)
+      (subst (λ (on : Option OpenRun). BreaksRun o c.readings asked.runs.items (order_in on) after.files) (is_asked.current ∙ is.current)
+      (handles o c (at_same old asked before (is_asked.runs ∙ is.runs) (is_asked.current ∙ is.current) (asked_callers old opened asked.database is is_asked.grows) o c at))),
+)
+  where
+    start_or_stop : Option OpenRun → Result Command LineRefusal
+    start_or_stop on = Ok (turning (order_in on))
 
 -- a start that found no memory for the number
 pub start_broken : (old opened new : State) (now : Outset) (result : Result Reply Halt) → IsErr result → IsErrAnd result (λ (h : Halt). h ≡ NoMemory) → IsOpened old opened
@@ -178,7 +191,7 @@ pub start_broken : (old opened new : State) (now : Outset) (result : Result Repl
     → EndsEarly opened.database new.database (number_got opened.database.rows) → Handles (Ok Start) old new now now result
 start_broken old opened new now result err wanting is is_quota is_starts is_opened is_runs is_current ends =
     let cut = cut_own opened.database new.database (number_asked (number_of opened.database.rows) ∷ []) ends in
-    memory_handled (LineDoes (Ok Start)) (Breaks (Ok Start)) old new now now result err wanting
+    memory_handled (LineDoes (Ok Start)) (Breaks (Ok Start)) (FailsLine (Ok Start)) old new now now result err wanting
     (record {
       stage = λ c. subst (λ (s : Stage). Interrupts (Ok Start) (stage_of old c) s) (sym (same c)) (number_broken old opened new.database is ends c);
       at = at_same old new now (is_runs ∙ is.runs) (is_current ∙ is.current) (λ before. cut.callers (is.callers before));

@@ -1,11 +1,7 @@
--- How a session is closed behind its last line, and which cause an ending is.
-use Rattle.std.specs.Prelude.{◌≡◌, ◌≢◌, ℕ, ◌==◌, Bool, true, false, if◌then◌else◌, IsTrue, List, Option, Some, ⊤}
-use Rattle.std.specs.Io.KnownBytes.{Appends}
+-- How a session is closed behind its last line, and how a script ended with that.
+use Rattle.std.specs.Prelude.{◌≡◌, ◌≢◌, ℕ, ◌+◌, Bool, true, false, List, ◌++◌, length, Option, Some, None, ⊤}
+use Rattle.std.specs.Io.KnownBytes.{Appends, Keeps}
 use Rattle.daq_io.specs.Streams.{AppendsPart}
-use Rattle.daq_session.specs.declared.causes.Cause.{Cause}
-use Rattle.daq_session.specs.declared.causes.Cause.TheVariants.{Done, CommandRefused, BadInput, SourceFault as source_fault, SinkFault as sink_fault, FileFault as file_fault, NoMemory as no_memory}
-use Rattle.midas_tools.specs.declared.ends.InputFault.TheVariants.{ScriptTooLong}
-use Rattle.daq_session.specs.declared.closing.Closed.{Closed}
 use Rattle.daq_session.specs.declared.endings.Ending.{Ending}
 use Rattle.daq_session.specs.declared.endings.Ending.TheVariants.{End, TooLong, SourceFault, Halted}
 use Rattle.daq_session.specs.declared.halts.Halt.{Halt}
@@ -14,20 +10,27 @@ use Rattle.session_console.specs.declared.refusals.Refusals.{Refusals}
 use Rattle.session_console.specs.declared.replies.Reply.{Reply}
 use Rattle.daq_session.specs.declared.state.State.{State}
 use Rattle.session_console.specs.Console.{console_text, refused_lines}
-use Rattle.daq_session.specs.Endings.{SourceCounts, SinkCounts, FileCounts}
-use Rattle.daq_session.specs.FrontSets.{AreCallers}
-use Rattle.daq_session.specs.Playing.{AreLines, CutBy, Played, course_of}
 use Rattle.session_console.specs.Refused.{Counts}
-use Rattle.daq_session.specs.Sessions.{IsPlayed, Count, Rises, Stands}
+use Rattle.daq_session.specs.FrontSets.{AreCallers}
+use Rattle.daq_session.specs.Halts.{HaltBy, SinkBy}
+use Rattle.daq_session.specs.Playing.{AreLines, CutBy, Played, Wrote, course_of}
+use Rattle.daq_session.specs.Played.{IsPlayed}
 use Rattle.daq_session.specs.Stages.{Outset}
 use Rattle.daq_session.specs.Standing.{stage_of}
 
--- whether anything more may be printed
+-- whether anything more may be printed behind the lines
 abbrev pub prints : Ending → Bool
 prints End = true
 prints TooLong = true
 prints SourceFault = true
 prints (Halted halt) = false
+
+-- What may fail as the run that was still on is stopped behind the lines: what that prints only where anything is printed.
+abbrev pub MayFail : Ending → Option Halt → Type 0
+MayFail ending (Some NoMemory) = prints ending ≡ true
+MayFail ending (Some SinkFault) = prints ending ≡ true
+MayFail ending (Some FileFault) = ⊤
+MayFail ending None = ⊤
 
 -- The earlier of two causes: of an ending, and of a halt behind it. Want of memory comes first, then the source, the
 -- sink and the run files, and last the script's length.
@@ -43,45 +46,52 @@ earlier (Halted SinkFault) SinkFault = Halted SinkFault
 earlier (Halted SinkFault) FileFault = Halted SinkFault
 earlier (Halted FileFault) halt = Halted halt
 
--- What a session made of its script, by the ending.
-pub record Finished (o : Outset) (ending : Ending) (source left told_first told_now : Option (List ℕ)) (sink : Count) (s : State) (after : Outset) (refusals : Refusals) : Type 0 where
+-- how a script ended whose lines ended so, and behind which this failed
+abbrev pub ended_by : Ending → (closing : Option Halt) → Ending
+ended_by ending None = ending
+ended_by ending (Some halt) = earlier ending halt
+
+-- the counts of faults of the sink and of the run files behind the lines
+abbrev pub SinkBehind : (closing : Option Halt) → (old new : ℕ) → Type 0
+SinkBehind None old new = new ≡ old
+SinkBehind (Some halt) old new = SinkBy halt old new
+
+abbrev pub FilesBehind : (closing : Option Halt) → (old new : ℕ) → Type 0
+FilesBehind None old new = new ≡ old
+FilesBehind (Some halt) old new = HaltBy halt old new
+
+-- What was written behind the lines of replies of which the first has this number: all; a first part where the sink failed;
+-- and nothing where there was no memory or a call on the run files failed.
+abbrev pub WroteMore : (closing : Option Halt) → (told_lines told_now : Option (List ℕ)) → (number : ℕ) → List Reply → Type 0
+WroteMore None told_lines told_now number replies = Appends told_lines told_now (console_text number replies)
+WroteMore (Some SinkFault) told_lines told_now number replies = AppendsPart told_lines told_now (console_text number replies)
+WroteMore (Some NoMemory) told_lines told_now number replies = Keeps told_lines told_now
+WroteMore (Some FileFault) told_lines told_now number replies = Keeps told_lines told_now
+
+-- Nothing at all is written behind lines that ended for want of memory or at a fault of the sink.
+abbrev pub WroteBehind : Ending → (closing : Option Halt) → (told_lines told_now : Option (List ℕ)) → (number : ℕ) → List Reply → Type 0
+WroteBehind End closing told_lines told_now number replies = WroteMore closing told_lines told_now number replies
+WroteBehind TooLong closing told_lines told_now number replies = WroteMore closing told_lines told_now number replies
+WroteBehind SourceFault closing told_lines told_now number replies = WroteMore closing told_lines told_now number replies
+WroteBehind (Halted halt) closing told_lines told_now number replies = Keeps told_lines told_now
+
+-- What a session made of its script: the replies to the lines, and behind them that of the stop, where one was given.
+pub record Finished (o : Outset) (ending : Ending) (closing : Option Halt) (source left told_first told_now : Option (List ℕ)) (s : State) (after : Outset) (refusals : Refusals) : Type 0 where
   pub lines : List (List ℕ)
   pub replies : List Reply
+  pub behind : List Reply
   pub readings : ℕ
   pub clashes : ℕ
-  pub played : IsPlayed o after (CutBy ending source lines) lines (stage_of s (course_of readings clashes replies))
+  pub played : IsPlayed o after (CutBy ending source lines) lines (stage_of s (course_of readings clashes (replies ++ behind)))
   pub callers : AreCallers s.database.history
-  pub counts : Counts (refused_lines 1 replies) refusals
+  pub counts : Counts (refused_lines 1 (replies ++ behind)) refusals
   pub are_lines : (text : List ℕ) → source ≡ Some text → AreLines ending text left lines
-  pub wrote : ending ≢ Halted NoMemory → ¬ Rises sink → Appends told_first told_now (console_text 1 replies)
-  pub wrote_part : AppendsPart told_first told_now (console_text 1 replies)
+  pub told_lines : Option (List ℕ)
+  pub wrote_lines : Wrote ending told_first told_lines replies
+  pub wrote_behind : WroteBehind ending closing told_lines told_now (1 + length replies) behind
 
--- Whatever was played before, the session is finished so.
-abbrev pub Finishes : (ending : Ending) (old new : State) (before after : Outset) (told_old told_new : Option (List ℕ)) (refusals : Refusals) (sink_old sink_new : ℕ) → Closed → Type 0
-Finishes ending old new before after told_old told_new refusals sink_old sink_new closed =
-    IsTrue closed.whole → (o : Outset) (source left told_first : Option (List ℕ)) (sink_first : ℕ) → Played o ending source left told_first told_old old before refusals → SinkCounts ending sink_first sink_old
-    → Finished o closed.ending source left told_first told_new (record { old = sink_first; new = sink_new }) new after refusals
-
--- the counts of faults by the ending of a whole call
-abbrev pub FaultsOf : Ending → (source sink files : Count) → Type 0
-FaultsOf End source sink files = Stands source × Stands sink × Stands files
-FaultsOf TooLong source sink files = Stands source × Stands sink × Stands files
-FaultsOf SourceFault source sink files = Rises source
-FaultsOf (Halted NoMemory) source sink files = Stands sink
-FaultsOf (Halted SinkFault) source sink files = Stands source × Rises sink
-FaultsOf (Halted FileFault) source sink files = Stands source × Stands sink × Rises files
-
--- Whatever the counts were before, they go on so.
-abbrev pub CountsOn : (ending : Ending) (sink_old sink_new files_old files_new : ℕ) → Closed → Type 0
-CountsOn ending sink_old sink_new files_old files_new closed =
-    (source : Count) (sink_first files_first : ℕ) → SourceCounts ending source.old source.new → SinkCounts ending sink_first sink_old → FileCounts ending files_first files_old
-    → FaultsOf closed.ending source (record { old = sink_first; new = sink_new }) (record { old = files_first; new = files_new })
-
--- the cause that an ending is, with these lines refused, where the first fault of the run files was at this name
-abbrev pub CauseBy : Ending → Refusals → (first : Option (List ℕ)) → Cause → Type 0
-CauseBy End refusals first cause = cause ≡ (if refusals.count == 0 then Done else CommandRefused refusals.count refusals.first)
-CauseBy TooLong refusals first cause = cause ≡ BadInput ScriptTooLong
-CauseBy SourceFault refusals first cause = cause ≡ source_fault
-CauseBy (Halted NoMemory) refusals first cause = cause ≡ no_memory
-CauseBy (Halted SinkFault) refusals first cause = cause ≡ sink_fault
-CauseBy (Halted FileFault) refusals first cause = (name : List ℕ) × (cause ≡ file_fault name) × (first ≡ Some name)
+-- Whatever was played before, the session is finished so, unless a call on the run files failed.
+abbrev pub Finishes : (ending : Ending) (closing : Option Halt) (old new : State) (before after : Outset) (told_old told_new : Option (List ℕ)) (refusals : Refusals) → Type 0
+Finishes ending closing old new before after told_old told_new refusals =
+    closing ≢ Some FileFault → (o : Outset) (source left told_first : Option (List ℕ)) → Played o ending source left told_first told_old old before refusals
+    → Finished o ending closing source left told_first told_new new after refusals

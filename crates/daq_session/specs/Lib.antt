@@ -6,12 +6,13 @@ pub mod Stages
 pub mod RecordBytes
 pub mod Tallies
 pub mod Halts
+pub mod BrokenRuns
 pub mod Standing
 pub mod BegunFiles
 pub mod FileFaults
 pub mod Playing
 pub mod Endings
-pub mod Sessions
+pub mod Played
 pub mod Closing
 pub mod BufferEntries
 pub mod BufferRecords
@@ -19,3 +20,4 @@ pub mod RunHistories
 pub mod SystemCalls
 pub mod RunsTold
 pub mod RunRecordFits
+pub mod Sessions

@@ -1,6 +1,7 @@
 -- A script played by a session: line by line, and what was written.
-use Rattle.std.specs.Prelude.{◌≡◌, ℕ, ◌<◌, ◌≤◌, true, false, List, [], ◌∷◌, ◌++◌, length, map, take, Option, Some, None, Result, Ok, Err, ◌⊎◌, ⊤}
+use Rattle.std.specs.Prelude.{◌≡◌, ℕ, ◌+◌, ◌<◌, ◌≤◌, true, false, List, [], ◌∷◌, ◌++◌, length, map, take, Option, Some, None, Result, Ok, Err, ◌⊎◌, ⊤}
 use Rattle.std.specs.Io.KnownBytes.{Appends, Keeps}
+use Rattle.daq_io.specs.Seen.{Seen}
 use Rattle.daq_io.specs.Streams.{AppendsPart}
 use Rattle.odb_script.specs.declared.forms.Command.{Command}
 use Rattle.odb_script.specs.declared.refusals.LineRefusal.{LineRefusal}
@@ -20,7 +21,8 @@ use Rattle.daq_session.specs.declared.state.State.{State}
 use Rattle.session_console.specs.Console.{text_of, console_text, is_refusal, refused_lines}
 use Rattle.session_console.specs.Refused.{noted, Counts}
 use Rattle.daq_session.specs.Stages.{Outset, Stage, opening, Plays, Interrupts}
-use Rattle.daq_session.specs.Standing.{Course, stage_of, IsAt, IsReady, AnswersLine, Breaks}
+use Rattle.daq_session.specs.Standing.{Course, stage_of, IsAt, IsReady, AnswersLine, Breaks, FailsLine}
+use Rattle.daq_session.specs.BrokenRuns.{BreaksRun, turning}
 
 abbrev pub course_of : (readings clashes : ℕ) → List Reply → Course
 course_of readings clashes replies = record { readings = readings; clashes = clashes; replies = replies }
@@ -56,19 +58,25 @@ pub record Unanswered (line : List ℕ) (old new : State) (before after : Outset
   pub same : now ≡ was
   pub kept : Keeps told_old told_new
 
+-- A call on the run files failed in the line, and nothing was written.
+pub record FailedLine (line : List ℕ) (old : State) (before after : Outset) (told_old told_new : Option (List ℕ)) (was now : Refusals) : Type 0 where
+  pub fails : FailsLine (command_of line) old before after
+  pub same : now ≡ was
+  pub kept : Keeps told_old told_new
+
 -- whether the script goes on behind a command: not behind `exit`
 abbrev pub GoesBehind : Going → Result Command LineRefusal → Type 0
 GoesBehind On command = is_exit command ≡ false
 GoesBehind Exit command = is_exit command ≡ true
 
 -- What the line of this number does to the session, the outside, the text told and the refusals: it is answered and its
--- text is written; or it is answered and its text is not written whole; or it is not answered.
+-- text is written; or it is answered and its text is not written whole; or it is not answered; or the run files fail.
 abbrev pub DoesLine : (line : List ℕ) (number : ℕ) (old new : State) (before after : Outset) (told_old told_new : Option (List ℕ)) (was now : Refusals) → Result Going Halt → Type 0
 DoesLine line number old new before after told_old told_new was now (Ok going) = (reply : Reply) × Replied line number reply old new before after was now × Appends told_old told_new (text_of number reply) × GoesBehind going (command_of line)
 DoesLine line number old new before after told_old told_new was now (Err SinkFault) = (reply : Reply) × Replied line number reply old new before after was now × AppendsPart told_old told_new (text_of number reply)
 DoesLine line number old new before after told_old told_new was now (Err NoMemory) =
     ((reply : Reply) × Replied line number reply old new before after was now × Keeps told_old told_new) ⊎ Unanswered line old new before after told_old told_new was now
-DoesLine line number old new before after told_old told_new was now (Err FileFault) = ⊤
+DoesLine line number old new before after told_old told_new was now (Err FileFault) = FailedLine line old before after told_old told_new was now
 
 -- a text was written; or a part of it, where the sink failed; or nothing, for want of memory
 abbrev pub Prints : (told_old told_new : Option (List ℕ)) → List ℕ → Result (Unit {0}) Halt → Type 0
@@ -123,12 +131,31 @@ CutBy (Halted NoMemory) source lines old new = (new ≡ old) ⊎ StopsAt source 
 CutBy (Halted SinkFault) source lines old new = new ≡ old
 CutBy (Halted FileFault) source lines old new = new ≡ old
 
--- What was written of the replies' text: all of it, but for its end where the sink failed or there was no memory.
-abbrev pub Wrote : Ending → (told_first told_now : Option (List ℕ)) → List ℕ → Type 0
-Wrote End told_first told_now text = Appends told_first told_now text
-Wrote TooLong told_first told_now text = Appends told_first told_now text
-Wrote SourceFault told_first told_now text = Appends told_first told_now text
-Wrote (Halted halt) told_first told_now text = AppendsPart told_first told_now text
+-- The replies but for the last were written whole, and of the last a first part.
+pub record WroteUpTo (told_first told_now : Option (List ℕ)) (replies : List Reply) : Type 0 where
+  pub before : List Reply
+  pub last : Reply
+  pub replies_are : replies ≡ before ++ last ∷ []
+  pub told : Option (List ℕ)
+  pub whole : Appends told_first told (console_text 1 before)
+  pub part : AppendsPart told told_now (text_of (1 + length before) last)
+
+-- The replies but for the last were written whole, and nothing of the last.
+pub record WroteBut (told_first told_now : Option (List ℕ)) (replies : List Reply) : Type 0 where
+  pub before : List Reply
+  pub last : Reply
+  pub replies_are : replies ≡ before ++ last ∷ []
+  pub whole : Appends told_first told_now (console_text 1 before)
+
+-- What was written of the replies to the lines, by how these ended: all; of the last only a first part where the sink
+-- failed, with which the lines end; and maybe nothing of the last where there was no memory.
+abbrev pub Wrote : Ending → (told_first told_now : Option (List ℕ)) → List Reply → Type 0
+Wrote End told_first told_now replies = Appends told_first told_now (console_text 1 replies)
+Wrote TooLong told_first told_now replies = Appends told_first told_now (console_text 1 replies)
+Wrote SourceFault told_first told_now replies = Appends told_first told_now (console_text 1 replies)
+Wrote (Halted SinkFault) told_first told_now replies = WroteUpTo told_first told_now replies
+Wrote (Halted NoMemory) told_first told_now replies = Appends told_first told_now (console_text 1 replies) ⊎ WroteBut told_first told_now replies
+Wrote (Halted FileFault) told_first told_now replies = Appends told_first told_now (console_text 1 replies)
 
 -- A script was played up to this ending, and this is left in the source.
 pub record Played (o : Outset) (ending : Ending) (source left told_first told_now : Option (List ℕ)) (s : State) (now : Outset) (refusals : Refusals) : Type 0 where
@@ -143,11 +170,28 @@ pub record Played (o : Outset) (ending : Ending) (source left told_first told_no
   pub counts : Counts (refused_lines 1 replies) refusals
   pub ready : IsReady now.files s.current
   pub are_lines : (text : List ℕ) → source ≡ Some text → AreLines ending text left lines
-  pub wrote : Wrote ending told_first told_now (console_text 1 replies)
+  pub wrote : Wrote ending told_first told_now replies
 
--- nothing is said where a call on the run files failed
+-- A call on the run files failed in the next line, a start or a stop, and left this of them.
+pub record FailsAt (o : Outset) (source : Option (List ℕ)) (lines : List (List ℕ)) (s : Stage) (now : Seen) : Type 0 where
+  pub line : List ℕ
+  pub next : IsNext source lines line
+  pub command : command_of line ≡ Ok (turning s.on)
+  pub breaks : BreaksRun o s.readings s.runs s.on now
+
+-- A script was played up to such a line, and the text is that of the lines before.
+pub record PlayedUpTo (o : Outset) (source told_first told_now : Option (List ℕ)) (now : Outset) (refusals : Refusals) : Type 0 where
+  pub lines : List (List ℕ)
+  pub behind : Stage
+  pub plays : Plays o (opening o.clashes) (map command_of lines) behind
+  pub fails : FailsAt o source lines behind now.files
+  pub counts : Counts (refused_lines 1 behind.replies) refusals
+  pub are_lines : (text : List ℕ) → source ≡ Some text → AreFirst text lines
+  pub wrote : Appends told_first told_now (console_text 1 behind.replies)
+
+-- what became of a script, by how its lines ended
 abbrev pub PlaysTo : (o : Outset) (ending : Ending) (source left told_first told_now : Option (List ℕ)) (s : State) (now : Outset) (refusals : Refusals) → Type 0
-PlaysTo o (Halted FileFault) source left told_first told_now s now refusals = ⊤
+PlaysTo o (Halted FileFault) source left told_first told_now s now refusals = PlayedUpTo o source told_first told_now now refusals
 PlaysTo o (Halted NoMemory) source left told_first told_now s now refusals = Played o (Halted NoMemory) source left told_first told_now s now refusals
 PlaysTo o (Halted SinkFault) source left told_first told_now s now refusals = Played o (Halted SinkFault) source left told_first told_now s now refusals
 PlaysTo o End source left told_first told_now s now refusals = Played o End source left told_first told_now s now refusals

@@ -1,76 +1,47 @@
 -- A script and what a session made of it: the records of its runs, the run files, the text written, and the cause.
-use Rattle.std.specs.Prelude.{◌≡◌, ◌≢◌, ◌⊎◌, ℕ, ◌<◌, true, false, List, [], length, map, Option, Some, None, Ok, MatchOption, ⊤}
+use Rattle.std.specs.Prelude.{◌≡◌, ◌≢◌, ℕ, ◌+◌, ◌==◌, if◌then◌else◌, true, false, List, ◌++◌, length, map, Option, Some, None, All, IfSome, IsTrue}
 use Rattle.std.specs.Io.KnownBytes.{Appends}
 use Rattle.daq_types.specs.Callers.{entries_by}
+use Rattle.daq_types.specs.declared.runs.Order.{Order}
 use Rattle.daq_io.specs.Counts.{Rose}
+use Rattle.daq_io.specs.Seen.{Seen}
 use Rattle.daq_io.specs.Streams.{AppendsPart}
-use Rattle.odb_script.specs.declared.forms.Command.TheVariants.{Stop}
+use Rattle.odb_tree.specs.Histories.{IsLegal}
+use Rattle.odb_runinfo.specs.RunKeys.{session_rows}
 use Rattle.odb_script.specs.Forms.{command_of}
-use Rattle.daq_session.specs.declared.causes.Cause.{Cause}
-use Rattle.daq_session.specs.declared.causes.Cause.TheVariants.{Done, CommandRefused, Usage, BadInput, SourceFault, SinkFault, FileFault, NoMemory}
 use Rattle.session_console.specs.declared.records.SessionRecord.{SessionRecord}
-use Rattle.session_console.specs.Console.{console_text, refused_lines, first_line}
-use Rattle.daq_session.specs.Playing.{AreWhole, AreTooMany, AreGiven, AreFirst, StopsAt}
-use Rattle.daq_session.specs.RunRecords.{IsKept}
-use Rattle.midas_tools.specs.declared.ends.InputFault.TheVariants.{ScriptTooLong}
-use Rattle.daq_session.specs.Standing.{IsClock}
-use Rattle.daq_session.specs.Stages.{Outset, Stage, opening, DoesByLine, Plays}
+use Rattle.session_console.specs.declared.refusals.Refusals.{Refusals}
+use Rattle.session_console.specs.declared.replies.Reply.{Reply}
+use Rattle.session_console.specs.Refused.{Counts}
+use Rattle.session_console.specs.Console.{console_text, refused_lines}
+use Rattle.daq_session.specs.declared.endings.Ending.{Ending}
+use Rattle.daq_session.specs.declared.endings.Ending.TheVariants.{End, TooLong as too_long, SourceFault as source_fault, Halted}
+use Rattle.daq_session.specs.declared.ends.ScriptEnd.{ScriptEnd}
+use Rattle.daq_session.specs.declared.ends.ScriptEnd.TheVariants.{Done, CommandRefused, TooLong, SourceFault, SinkFault, FileFault, NoMemory}
+use Rattle.daq_session.specs.declared.halts.Halt.{Halt}
+use Rattle.daq_session.specs.declared.halts.Halt.TheVariants.{NoMemory as no_memory, SinkFault as sink_fault, FileFault as file_fault}
+use Rattle.daq_session.specs.BrokenRuns.{StopBreaks}
+use Rattle.daq_session.specs.BufferRecords.{IsOneHistory, IsSystem, history_in}
+use Rattle.daq_session.specs.Closing.{MayFail, ended_by, SinkBehind, FilesBehind, WroteBehind}
+use Rattle.daq_session.specs.Endings.{SourceCounts, SinkCounts, FileCounts}
+use Rattle.daq_session.specs.FrontSets.{AreCallers, IsFrontsPass}
+use Rattle.daq_session.specs.Played.{IsPlayed}
+use Rattle.daq_session.specs.Playing.{AreLines, CutBy, FailsAt, Wrote}
+use Rattle.daq_session.specs.RunHistories.{AreSentByFronts, HoldSegments}
+use Rattle.daq_session.specs.RunRecordFits.{FitsHistory}
+use Rattle.daq_session.specs.Stages.{Outset, Stage, Plays, opening}
+use Rattle.daq_session.specs.SystemCalls.{AreSystemCalls}
 
--- the stop at the script's end, which is given where a run is on
-abbrev pub ClosesRun : Outset → Stage → Stage → Type 0
-ClosesRun o old new = MatchOption old.on (new ≡ old) (λ order. DoesByLine o old (Ok Stop) new)
-
--- The lines were played from the opening on; then maybe a command was cut off; and the run was ended that was still on.
--- The files are as the records say, the clock was read as often as the lines ask for, and no name clashed but for the starts that were refused.
-pub record IsPlayed (o after : Outset) (IsCut : Stage → Stage → Type 0) (lines : List (List ℕ)) (final : Stage) : Type 0 where
-  pub behind : Stage
-  pub plays : Plays o (opening o.clashes) (map command_of lines) behind
-  pub cut : Stage
-  pub is_cut : IsCut behind cut
-  pub closes : ClosesRun o cut final
-  pub kept : IsKept o.files after.files final.runs None
-  pub clock : IsClock o final.readings after
-  pub clashes : after.clashes ≡ final.clashes
-
--- The record of a session that ended so: there is one exactly where a start opened the session, and it has the records of
--- the runs, and the calls on the database: the main thread's, caller 0, and the front-end's, caller 1.
-abbrev pub IsRecorded : Stage → Option SessionRecord → Type 0
-IsRecorded final None = final.opened ≡ false
-IsRecorded final (Some session) = (final.opened ≡ true) × (session.runs ≡ final.runs) × (entries_by 0 session.database ≡ final.own) × (entries_by 1 session.database ≡ final.front)
-
--- A command is cut off where it found no memory, and then alone.
-abbrev pub CutsBy : Cause → (source : Option (List ℕ)) → (lines : List (List ℕ)) → Stage → Stage → Type 0
-CutsBy Done source lines old new = new ≡ old
-CutsBy (CommandRefused count first) source lines old new = new ≡ old
-CutsBy (BadInput fault) source lines old new = new ≡ old
-CutsBy Usage source lines old new = ⊥
-CutsBy SourceFault source lines old new = new ≡ old
-CutsBy SinkFault source lines old new = new ≡ old
-CutsBy (FileFault name) source lines old new = new ≡ old
-CutsBy NoMemory source lines old new = (new ≡ old) ⊎ StopsAt source lines old new
-
--- Which lines of the script's text were played, where this is left in the source: all of them, where the script was read
--- to its end or is too long; those that were given, where the source failed; and else the first.
-abbrev pub ReadBy : Cause → (text : List ℕ) → (left : Option (List ℕ)) → List (List ℕ) → Type 0
-ReadBy Done text left lines = AreWhole text lines
-ReadBy (CommandRefused count first) text left lines = AreWhole text lines
-ReadBy (BadInput fault) text left lines = fault ≡ ScriptTooLong × AreTooMany text lines
-ReadBy Usage text left lines = ⊥
-ReadBy SourceFault text left lines = AreGiven text left lines
-ReadBy SinkFault text left lines = AreFirst text lines
-ReadBy (FileFault name) text left lines = AreFirst text lines
-ReadBy NoMemory text left lines = AreFirst text lines
-
--- what the cause says of the lines that were refused
-abbrev pub RefusedBy : Cause → List ℕ → Type 0
-RefusedBy Done refused = refused ≡ []
-RefusedBy (CommandRefused count first) refused = (0 < count) × (count ≡ length refused) × (first ≡ first_line refused)
-RefusedBy (BadInput fault) refused = ⊤
-RefusedBy Usage refused = ⊥
-RefusedBy SourceFault refused = ⊤
-RefusedBy SinkFault refused = ⊤
-RefusedBy (FileFault name) refused = ⊤
-RefusedBy NoMemory refused = ⊤
+-- What the outside tells of itself: what is left of the script, the text written so far, the run files and the clock, and the
+-- counts of faults, with the name of the file of the first.
+pub record Environment : Type 0 where
+  pub source : Option (List ℕ)
+  pub source_faults : ℕ
+  pub written : Option (List ℕ)
+  pub sink_faults : ℕ
+  pub outset : Outset
+  pub file_faults : ℕ
+  pub first_fault : Option (List ℕ)
 
 -- A count before a call and after it.
 pub record Count : Type 0 where
@@ -86,24 +57,127 @@ Stands count = count.new ≡ count.old
 -- what the cause says of the counts of faults of the source, the sink and the run files, and of the file of the first
 -- fault: a fault is the cause exactly where that count rose and no earlier cause holds. Where there was no memory nothing
 -- is printed behind that, and so the sink's count stands
-abbrev pub FaultsBy : Cause → (source sink files : Count) → (first : Option (List ℕ)) → Type 0
+abbrev pub FaultsBy : ScriptEnd → (source sink files : Count) → (first : Option (List ℕ)) → Type 0
 FaultsBy Done source sink files first = Stands source × Stands sink × Stands files
 FaultsBy (CommandRefused count line) source sink files first = Stands source × Stands sink × Stands files
-FaultsBy (BadInput fault) source sink files first = Stands source × Stands sink × Stands files
-FaultsBy Usage source sink files first = ⊥
+FaultsBy TooLong source sink files first = Stands source × Stands sink × Stands files
 FaultsBy SourceFault source sink files first = Rises source
 FaultsBy SinkFault source sink files first = Stands source × Rises sink
 FaultsBy (FileFault name) source sink files first = Stands source × Stands sink × Rises files × (first ≡ Some name)
 FaultsBy NoMemory source sink files first = Stands sink
 
+-- why a script ended that ended so, with these lines refused, where the first fault of the run files was at this name
+abbrev pub IsScriptEnd : Ending → Refusals → (first : Option (List ℕ)) → ScriptEnd → Type 0
+IsScriptEnd End refusals first end = end ≡ (if refusals.count == 0 then Done else CommandRefused refusals.count refusals.first)
+IsScriptEnd too_long refusals first end = end ≡ TooLong
+IsScriptEnd source_fault refusals first end = end ≡ SourceFault
+IsScriptEnd (Halted no_memory) refusals first end = end ≡ NoMemory
+IsScriptEnd (Halted sink_fault) refusals first end = end ≡ SinkFault
+IsScriptEnd (Halted file_fault) refusals first end = (name : List ℕ) × (end ≡ FileFault name) × (first ≡ Some name)
+
+-- How a script ended: how its lines did, and what failed as the run that was still on was stopped behind them. Each count
+-- rose exactly where one of these says so, but for want of memory, which is tied to none.
+pub record EndsScript (before after : Environment) (end : ScriptEnd) : Type 0 where
+  pub ending : Ending
+  pub closing : Option Halt
+  pub may : MayFail ending closing
+  pub refusals : Refusals
+  pub end_is : IsScriptEnd (ended_by ending closing) refusals after.first_fault end
+  pub source : SourceCounts ending before.source_faults after.source_faults
+  pub sink_lines : ℕ
+  pub sink : SinkCounts ending before.sink_faults sink_lines
+  pub sink_behind : SinkBehind closing sink_lines after.sink_faults
+  pub files_lines : ℕ
+  pub files : FileCounts ending before.file_faults files_lines
+  pub files_behind : FilesBehind closing files_lines after.file_faults
+
+-- The record of a session that ended so: there is one exactly where a start opened the session, and it has the records of
+-- the runs, and the calls on the database: the main thread's, caller 0, and the front-end's, caller 1.
+abbrev pub IsRecorded : Stage → Option SessionRecord → Type 0
+IsRecorded final None = final.opened ≡ false
+IsRecorded final (Some session) = (final.opened ≡ true) × (session.runs ≡ final.runs) × (entries_by 0 session.database ≡ final.own) × (entries_by 1 session.database ≡ final.front)
+
 -- What a session made of its script, where no call on the run files failed. The last reply is that of the stop at the
 -- end, where one was given.
-pub record IsSession (o after : Outset) (source left told_first told_now : Option (List ℕ)) (sink : Count) (cause : Cause) (session : Option SessionRecord) : Type 0 where
+pub record IsSession (before after : Environment) (end : ScriptEnd) (ends : EndsScript before after end) (session : Option SessionRecord) : Type 0 where
   pub lines : List (List ℕ)
   pub final : Stage
-  pub played : IsPlayed o after (CutsBy cause source lines) lines final
+  pub played : IsPlayed before.outset after.outset (CutBy ends.ending before.source lines) lines final
   pub recorded : IsRecorded final session
-  pub read : (text : List ℕ) → source ≡ Some text → ReadBy cause text left lines
-  pub refused : RefusedBy cause (refused_lines 1 final.replies)
-  pub wrote : cause ≢ NoMemory → ¬ Rises sink → Appends told_first told_now (console_text 1 final.replies)
-  pub wrote_part : AppendsPart told_first told_now (console_text 1 final.replies)
+  pub read : (text : List ℕ) → before.source ≡ Some text → AreLines ends.ending text after.source lines
+  pub refused : Counts (refused_lines 1 final.replies) ends.refusals
+  -- the replies to the lines, and behind them that of the stop; and what was told as the lines ended
+  pub replies : List Reply
+  pub behind : List Reply
+  pub replies_are : final.replies ≡ replies ++ behind
+  pub told_lines : Option (List ℕ)
+  pub wrote_lines : Wrote ends.ending before.written told_lines replies
+  pub wrote_behind : WroteBehind ends.ending ends.closing told_lines after.written (1 + length replies) behind
+  -- so the text is that of all replies, but for its end where the sink failed or memory was wanting
+  pub wrote : end ≢ NoMemory → ¬ Rose before.sink_faults after.sink_faults → Appends before.written after.written (console_text 1 final.replies)
+  pub wrote_part : AppendsPart before.written after.written (console_text 1 final.replies)
+
+-- A stop failed behind the lines, of the run that was still on; before it maybe a command was cut off.
+pub record FailsBehind (ending : Ending) (o : Outset) (source : Option (List ℕ)) (lines : List (List ℕ)) (behind : Stage) (now : Seen) : Type 0 where
+  pub cut : Stage
+  pub is_cut : CutBy ending source lines behind cut
+  pub order : Order
+  pub on : cut.on ≡ Some order
+  pub breaks : StopBreaks o cut.readings cut.runs order now
+
+-- where a call on the run files failed: in the next line, or in the stop behind all lines
+abbrev pub FailsBy : Ending → (o : Outset) (source : Option (List ℕ)) (lines : List (List ℕ)) (behind : Stage) (now : Seen) → Type 0
+FailsBy End o source lines behind now = FailsBehind End o source lines behind now
+FailsBy too_long o source lines behind now = FailsBehind too_long o source lines behind now
+FailsBy source_fault o source lines behind now = FailsBehind source_fault o source lines behind now
+FailsBy (Halted no_memory) o source lines behind now = FailsBehind (Halted no_memory) o source lines behind now
+FailsBy (Halted sink_fault) o source lines behind now = FailsBehind (Halted sink_fault) o source lines behind now
+FailsBy (Halted file_fault) o source lines behind now = FailsAt o source lines behind now
+
+-- What is left of a script where a call on the run files failed. These lines were played before; the text is that of their
+-- replies, as at their ending, and nothing more; the files of the recorded runs are whole, the file of the run that failed
+-- has a first part of its bytes, and every other name is as it was at first.
+pub record IsBrokenOff (before after : Environment) (ending : Ending) (refusals : Refusals) : Type 0 where
+  pub lines : List (List ℕ)
+  pub behind : Stage
+  pub plays : Plays before.outset (opening before.outset.clashes) (map command_of lines) behind
+  pub fails : FailsBy ending before.outset before.source lines behind after.outset.files
+  pub read : (text : List ℕ) → before.source ≡ Some text → AreLines ending text after.source lines
+  pub refused : Counts (refused_lines 1 behind.replies) refusals
+  pub wrote : Wrote ending before.written after.written behind.replies
+
+-- What is said of the record of a session: of its objects, and of its runs.
+pub record HoldsRecord (before after : Environment) (s : SessionRecord) : Type 0 where
+  -- the calls on the online database are those of one database that opened with the run's parameters
+  pub database : IsLegal session_rows s.database
+  -- there is one buffer, SYSTEM, and its history is that of one buffer
+  pub buffers : IsSystem (history_in s.buffers) s.buffers
+  pub one_history : All IsOneHistory s.buffers
+  -- whose calls stand in that history: first the logger attaches the channel's client and makes its one request, for all
+  -- events; then the front-end only sends in runs, and the logger marks the runs and receives for its client
+  pub system_calls : AreSystemCalls (history_in s.buffers)
+  -- each file of a run holds the events between the run's marks, of which the channel's client got just those that it asked
+  -- for; and these are the events that the front-end sent in that run
+  pub run_files : ¬ Rose before.file_faults after.file_faults → IsTrue before.outset.files.tells → All (HoldSegments s.buffers after.outset.files.at) s.runs
+  pub front_end_sends : All (AreSentByFronts s.buffers) s.runs
+  -- the front-end's calls on the database: it sets the number of its events sent to 0 as each run begins, and to the number
+  -- that it sent as the run ends, and nothing else; all other calls are the main thread's
+  pub front_end_sets : IsFrontsPass s.database s.runs
+  pub callers : AreCallers s.database
+  -- each run's record stands to the main thread's own calls: its start got the run number before it and set the run's keys,
+  -- its stop set them, in order and with none of its calls between
+  pub record_fits : All (FitsHistory s.database) s.runs
+
+-- A script was read and the session run that it commands.
+pub record RunsScript (before after : Environment) (end : ScriptEnd) (recorded : Option SessionRecord) : Type 0 where
+  -- a fault is the cause exactly where its count rose and no earlier cause holds
+  pub faults : FaultsBy end (record { old = before.source_faults; new = after.source_faults }) (record { old = before.sink_faults; new = after.sink_faults }) (record { old = before.file_faults; new = after.file_faults }) after.first_fault
+  pub ends : EndsScript before after end
+  -- the records, the run files, the text and the cause are what the script asks for
+  pub session : ¬ Rose before.file_faults after.file_faults → IsSession before after end ends recorded
+  -- there is no record where a call on the run files failed
+  pub broken : after.file_faults ≢ before.file_faults → recorded ≡ None
+  -- and of text and files this is left
+  pub broken_off : after.file_faults ≢ before.file_faults → IsBrokenOff before after ends.ending ends.refusals
+  -- and a record says this of its objects
+  pub record_holds : IfSome recorded (HoldsRecord before after)

@@ -14,6 +14,7 @@ use Rattle.daq_session.specs.declared.state.OpenRun.{OpenRun}
 use Rattle.daq_session.specs.FrontSets.{AreCallers}
 use Rattle.daq_session.specs.RunRecords.{IsKept}
 use Rattle.daq_session.specs.Stages.{Outset, Stage, DoesByLine, StartsRun, Interrupts}
+use Rattle.daq_session.specs.BrokenRuns.{BreaksRun, turning}
 
 -- the order of the run that is on
 abbrev pub order_in : Option OpenRun → Option Order
@@ -82,17 +83,26 @@ pub record Stays (old new : State) (before after : Outset) : Type 0 where
   pub stage : (c : Course) → stage_of new c ≡ stage_of old c
   pub at : (o : Outset) (c : Course) → IsAt o c old before → IsAt o c new after
 
--- What is done in this way: it is answered, or memory ended and left this, or a call on the run files failed.
-abbrev pub HandlesBy : (Outset → Stage → Stage → Type 0) → ((old new : State) (before after : Outset) → Type 0) → (old new : State) (before after : Outset) → Result Reply Halt → Type 0
-HandlesBy Way Leaves old new before after (Ok reply) = AnswersBy Way reply old new before after × IsReady after.files new.current
-HandlesBy Way Leaves old new before after (Err NoMemory) = Leaves old new before after × IsReady after.files new.current
-HandlesBy Way Leaves old new before after (Err SinkFault) = ⊥
-HandlesBy Way Leaves old new before after (Err FileFault) = ⊤
+-- A call on the run files failed as a run was started, or stopped where one is on, wherever the script began and whatever
+-- came before.
+abbrev pub FailsRun : (old : State) (before after : Outset) → Type 0
+FailsRun old before after = (o : Outset) (c : Course) → IsAt o c old before → BreaksRun o c.readings old.runs.items (order_in old.current) after.files
+
+-- so in a line, which was a start or a stop
+abbrev pub FailsLine : Result Command LineRefusal → (old : State) (before after : Outset) → Type 0
+FailsLine line old before after = (line ≡ Ok (turning (order_in old.current))) × FailsRun old before after
+
+-- What is done in this way: it is answered, or memory ended and left this, or a call on the run files failed and left that.
+abbrev pub HandlesBy : (Outset → Stage → Stage → Type 0) → ((old new : State) (before after : Outset) → Type 0) → ((old : State) (before after : Outset) → Type 0) → (old new : State) (before after : Outset) → Result Reply Halt → Type 0
+HandlesBy Way Leaves Fails old new before after (Ok reply) = AnswersBy Way reply old new before after × IsReady after.files new.current
+HandlesBy Way Leaves Fails old new before after (Err NoMemory) = Leaves old new before after × IsReady after.files new.current
+HandlesBy Way Leaves Fails old new before after (Err SinkFault) = ⊥
+HandlesBy Way Leaves Fails old new before after (Err FileFault) = Fails old before after
 
 -- what a line does
 abbrev pub Handles : Result Command LineRefusal → (old new : State) (before after : Outset) → Result Reply Halt → Type 0
-Handles line = HandlesBy (LineDoes line) (Breaks line)
+Handles line = HandlesBy (LineDoes line) (Breaks line) (FailsLine line)
 
 -- and what the start of a run does
 abbrev pub HandlesRun : (run : ℕ) → (old new : State) (before after : Outset) → Result Reply Halt → Type 0
-HandlesRun run = HandlesBy (RunStarts run) Stays
+HandlesRun run = HandlesBy (RunStarts run) Stays FailsRun

@@ -1,26 +1,17 @@
-ghost use Rattle.std.specs.Prelude.{◌≡◌, ◌≢◌, ◌≤◌, ◌<◌, ◌+◌, ◌^◌, ℕ, [], None, IfOk, IsTrue, ◌↔◌, true, false};
-ghost use Rattle.daq_io.specs.Counts.{Rose};
-ghost use Rattle.daq_session.specs.Closing.{CauseBy, CountsOn, Finishes, earlier, prints};
-ghost use Rattle.daq_session.specs.Standing.{IsReady};
+ghost use Rattle.std.specs.Prelude.{◌≡◌, ◌<◌, IsTrue, Ok, Some, ◌↔◌};
+ghost use Rattle.odb_script.specs.declared.forms.Command.TheVariants.{Stop};
+ghost use Rattle.daq_session.specs.Closing.{Finishes, FilesBehind, MayFail, SinkBehind, earlier, ended_by, prints};
+ghost use Rattle.daq_session.specs.Sessions.{IsScriptEnd};
+ghost use Rattle.daq_session.specs.Standing.{FailsLine, IsReady};
 
-use crate::causes::Cause;
 use crate::console::print_reply;
 use crate::desk::Desk;
 use crate::endings::Ending;
+use crate::ends::ScriptEnd;
 use crate::halts::Halt;
 use daq_io::{Clock, Files, Sink};
-use midas_tools::InputFault;
 use session_console::Refusals;
 use std::alloc::Global;
-
-/// How a session was closed.
-#[derive(Clone, Copy, Debug, PartialEq, Eq)]
-pub struct Closed {
-    /// Why it ended.
-    pub ending: Ending,
-    /// Whether the run that was on was ended, or none was on.
-    pub whole: bool,
-}
 
 impl Ending {
     /// Whether anything more may be printed.
@@ -43,6 +34,16 @@ impl Ending {
                 halt: Halt::FileFault
             }
         )
+    }
+
+    /// How a script ended whose lines ended so, and behind which this failed.
+    pub fn with_closing(self, closing: Option<Halt>) -> Ending
+        ensures { result ≡ ended_by self closing }
+    {
+        match closing {
+            None => self,
+            Some(halt) => self.earlier(halt),
+        }
     }
 
     /// The earlier cause of this ending and of a halt behind it.
@@ -72,7 +73,8 @@ impl Ending {
     }
 }
 
-/// Ends the run that is on, if one is, and writes what that prints, unless the sink failed or there was no memory.
+/// Stops the run that is on, if one is, behind a script whose lines ended so, and writes what that prints, unless the sink
+/// failed or there was no memory. Answers what failed in that.
 pub fn close_run<K: Sink, F: Files, C: Clock>(
     alloc: Global,
     desk: &mut Desk,
@@ -80,94 +82,86 @@ pub fn close_run<K: Sink, F: Files, C: Clock>(
     out: &mut K,
     files: &mut F,
     clock: &mut C,
-) -> Closed
-    requires sound { ending ≢ Ending.Halted Halt.FileFault }
+) -> Option<Halt>
     requires ready { IsReady (F.seen files.old) desk.old.session.state.current }
-    ensures finishes { Finishes ending desk.old.session.state desk.new.session.state
+    ensures finishes { Finishes ending result desk.old.session.state desk.new.session.state
         (record {
           files = F.seen files.old;
           clashes = F.clashes files.old;
-          clock_tells = C.tells
-              clock.old;
+          clock_tells = C.tells clock.old;
           ahead = C.ahead clock.old;
         })
         (record {
           files = F.seen files.new;
           clashes = F.clashes files.new;
-          clock_tells = C.tells
-              clock.new;
+          clock_tells = C.tells clock.new;
           ahead = C.ahead clock.new;
-        }) (K.written out.old) (K.written out.new)
-        desk.old.refusals (K.faults out.old) (K.faults out.new) result }
+        })
+        (K.written out.old) (K.written out.new) desk.old.refusals }
+    ensures broken { result ≡ Some Halt.FileFault → FailsLine (Ok Stop) desk.old.session.state
+        (record {
+          files = F.seen files.old;
+          clashes = F.clashes files.old;
+          clock_tells = C.tells clock.old;
+          ahead = C.ahead clock.old;
+        })
+        (record {
+          files = F.seen files.new;
+          clashes = F.clashes files.new;
+          clock_tells = C.tells clock.new;
+          ahead = C.ahead clock.new;
+        }) }
+    ensures unprinted { result ≡ Some Halt.FileFault → K.written out.new ≡ K.written out.old }
     ensures refusals { desk.new.refusals ≡ desk.old.refusals }
-    ensures counts { CountsOn ending (K.faults out.old) (K.faults out.new) (F.faults files.old)
-        (F.faults files.new) result }
-    ensures broken { result.whole ≡ false → Rose (F.faults files.old) (F.faults files.new) }
-    ensures file_fault { result.whole ≡ false → result.ending ≡ earlier ending Halt.FileFault }
-    ensures calm { result.whole ≡ true → F.faults files.new ≡ F.faults files.old }
+    ensures may { MayFail ending result }
+    ensures sink { SinkBehind result (K.faults out.old) (K.faults out.new) }
+    ensures files { FilesBehind result (F.faults files.old) (F.faults files.new) }
 {
     if desk.session.state.current.is_none() {
-        return Closed {
-            ending,
-            whole: true,
-        };
+        return None;
     }
     match desk.session.stop_run(alloc, files, clock) {
-        Err(_) => Closed {
-            ending: ending.earlier(Halt::FileFault),
-            whole: false,
-        },
+        Err(_) => Some(Halt::FileFault),
         Ok(reply) => {
             if !ending.prints() {
-                return Closed {
-                    ending,
-                    whole: true,
-                };
+                return None;
             }
             match print_reply(&mut desk.text, 0, &reply, out) {
-                Ok(()) => Closed {
-                    ending,
-                    whole: true,
-                },
-                Err(halt) => Closed {
-                    ending: ending.earlier(halt),
-                    whole: true,
-                },
+                Ok(()) => None,
+                Err(halt) => Some(halt),
             }
         }
     }
 }
 
-/// The cause that an ending is.
-pub fn cause_of<F: Files>(ending: Ending, refusals: &Refusals, files: &F) -> Cause
+/// Why a script ended that ended so, with these lines refused.
+pub fn end_of<F: Files>(ending: Ending, refusals: &Refusals, files: &F) -> ScriptEnd
     requires { ending ≡ Ending.Halted Halt.FileFault → 0 < F.faults files.now }
-    ensures { CauseBy ending refusals.now (F.first files.now) result }
+    ensures { IsScriptEnd ending refusals.now (F.first files.now) result }
 {
     match ending {
         Ending::End => {
             if refusals.count == 0 {
-                Cause::Done
+                ScriptEnd::Done
             } else {
-                Cause::CommandRefused {
+                ScriptEnd::CommandRefused {
                     count: refusals.count,
                     first: refusals.first,
                 }
             }
         }
-        Ending::TooLong => Cause::BadInput {
-            fault: InputFault::ScriptTooLong,
-        },
-        Ending::SourceFault => Cause::SourceFault,
+        Ending::TooLong => ScriptEnd::TooLong,
+        Ending::SourceFault => ScriptEnd::SourceFault,
         Ending::Halted {
             halt: Halt::NoMemory,
-        } => Cause::NoMemory,
+        } => ScriptEnd::NoMemory,
         Ending::Halted {
             halt: Halt::SinkFault,
-        } => Cause::SinkFault,
+        } => ScriptEnd::SinkFault,
         Ending::Halted {
             halt: Halt::FileFault,
         } => match files.first_fault() {
-            Some(name) => Cause::FileFault { name },
+            Some(name) => ScriptEnd::FileFault { name },
             None => unreachable!(),
         },
     }

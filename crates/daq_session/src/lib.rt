@@ -2,12 +2,12 @@
 //! a record of each run.
 #![tactic(auto)]
 
-mod causes;
 mod closing;
 mod console;
 mod data_path;
 mod desk;
 mod endings;
+mod ends;
 mod halts;
 mod rooms;
 mod run;
@@ -18,8 +18,8 @@ mod session;
 mod state;
 mod transitions;
 
-pub use causes::Cause;
 pub use daq_types::{FrontEnded, StartOutcome, Why};
+pub use ends::ScriptEnd;
 pub use run::run_script;
 pub use run_names::name_of_run;
 pub use session_console::{

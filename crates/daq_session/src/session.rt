@@ -5,7 +5,7 @@ ghost use Rattle.daq_io.specs.Counts.{CountsFault};
 ghost use Rattle.odb_script.specs.declared.forms.Command.TheVariants.{Nothing, Stop};
 ghost use Rattle.session_console.specs.Console.{is_refusal};
 ghost use Rattle.daq_session.specs.Halts.{CountsHalt};
-ghost use Rattle.daq_session.specs.Standing.{AnswersLine, Course, Handles, IsReady, behind_reply, stage_of};
+ghost use Rattle.daq_session.specs.Standing.{AnswersLine, Course, FailsLine, Handles, IsReady, behind_reply, stage_of};
 ghost use Rattle.daq_session.specs.Stages.{DoesCommand, Interrupts};
 ghost use Rattle.daq_session.specs.FrontSets.{AreCallers};
 ghost use Rattle.daq_session.specs.declared.halts.Halt.TheVariants.{NoMemory as no_memory};
@@ -165,6 +165,21 @@ impl Session {
               files = F.seen files.old;
               clashes = F.clashes files.old;
               clock_tells = C.tells clock.old;
+              ahead = C.ahead clock.old;
+            })
+            (record {
+              files = F.seen files.new;
+              clashes = F.clashes files.new;
+              clock_tells =
+                  C.tells clock.new;
+              ahead = C.ahead clock.new;
+            })) }
+        ensures broken { OnErr result (FailsLine (Ok Stop) self.old.state
+            (record {
+              files = F.seen files.old;
+              clashes = F.clashes files.old;
+              clock_tells =
+                  C.tells clock.old;
               ahead = C.ahead clock.old;
             })
             (record {

@@ -16,7 +16,7 @@ ghost use Rattle.session_console.specs.FrontNames.{front_name};
 ghost use Rattle.daq_session.specs.RunNames.{run_name};
 ghost use Rattle.daq_session.specs.FrontSets.{AreCallers};
 ghost use Rattle.daq_session.specs.Stages.{Interrupts, OpensSession, completed_record, file_record, refused_record};
-ghost use Rattle.daq_session.specs.Standing.{AnswersLine, Course, Handles, HandlesRun, IsReady, stage_of};
+ghost use Rattle.daq_session.specs.Standing.{AnswersLine, Course, FailsLine, Handles, HandlesRun, IsReady, stage_of};
 ghost use Rattle.odb_script.specs.declared.forms.Command.TheVariants.{Start, Stop};
 ghost use Rattle.daq_session.specs.Halts.{CountsHalt};
 
@@ -318,6 +318,21 @@ pub fn stop<F: Files, C: Clock>(
         state.old.starts state.old.runs.items state.old.current ∥₁ }
     requires ready { IsReady (F.seen files.old) state.old.current }
     ensures did { IfOk result (λ reply. AnswersLine (Ok Stop) reply state.old state.new
+        (record {
+          files = F.seen files.old;
+          clashes = F.clashes files.old;
+          clock_tells = C.tells
+              clock.old;
+          ahead = C.ahead clock.old;
+        })
+        (record {
+          files = F.seen files.new;
+          clashes = F.clashes files.new;
+          clock_tells = C.tells
+              clock.new;
+          ahead = C.ahead clock.new;
+        })) }
+    ensures broken { OnErr result (FailsLine (Ok Stop) state.old
         (record {
           files = F.seen files.old;
           clashes = F.clashes files.old;

@@ -1,8 +1,8 @@
 -- What a call of a tool comes to.
 use Rattle.std.specs.Prelude.{◌≡◌, ℕ, List, Option, Some}
 use Rattle.daq_io.specs.Seen.{Seen}
-use Rattle.daq_session.specs.declared.causes.Cause.{Cause}
-use Rattle.daq_session.specs.declared.causes.Cause.TheVariants as causes
+use Rattle.midas_cli.specs.declared.causes.Cause.{Cause}
+use Rattle.midas_cli.specs.declared.causes.Cause.TheVariants as causes
 use Rattle.midas_tools.specs.Analyses.{Analyzes}
 use Rattle.midas_tools.specs.Checks.{Checks}
 use Rattle.midas_tools.specs.Dumps.{WritesOn}

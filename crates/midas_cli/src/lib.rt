@@ -1,6 +1,7 @@
 //! What the program `midas` does: the words of its command line, the top call, and the real objects that it runs over.
 #![tactic(auto)]
 
+mod causes;
 mod outcome;
 mod real;
 #[cfg(test)]
@@ -9,6 +10,7 @@ mod tools;
 mod top;
 mod words;
 
+pub use causes::Cause;
 pub use outcome::Outcome;
 pub use real::run_program;
 pub use top::midas;

@@ -1,7 +1,8 @@
 ghost use Rattle.std.specs.Prelude.{◌≡◌};
 ghost use Rattle.midas_cli.specs.Outcomes.{status_of};
 
-use daq_session::{Cause, SessionRecord};
+use crate::causes::Cause;
+use daq_session::SessionRecord;
 
 /// What a call of the program came to.
 #[derive(Drop)]
@@ -22,7 +23,7 @@ pub fn status(cause: &Cause) -> u8
         Cause::Done => 0,
         Cause::CommandRefused { .. } => 1,
         Cause::Usage => 2,
-        Cause::BadInput { .. } => 3,
+        Cause::BadInput(_) => 3,
         Cause::SourceFault | Cause::SinkFault | Cause::FileFault { .. } => 4,
         Cause::NoMemory => 5,
     }

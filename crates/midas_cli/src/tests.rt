@@ -1,9 +1,9 @@
 //! The program over objects in memory: run files byte for byte, console text and status.
+use crate::causes::Cause;
 use crate::outcome::Outcome;
 use crate::top::midas;
 use daq_io::Outside;
 use daq_mem::{FileFail, FileOp, MemClock, MemFiles, MemPick, MemSink, MemSource, NoGate};
-use daq_session::Cause;
 use daq_std::StdFiles;
 use daq_types::{FileName, NoMemory, Words};
 use midas_tools::InputFault;
@@ -290,6 +290,19 @@ fn faults_and_taken_names(rt: HostRuntime) -> Result<(), Fail> {
     assert!(rt; outcome.cause == Cause::SinkFault);
     assert!(rt; after.run_files.is_closed(&name));
 
+    // The text of the first line is not written, so the start behind it is not done.
+    let unwritten = outside(
+        alloc,
+        "stop\nstart\n",
+        Vec::new(alloc),
+        [0].to_vec(alloc)?,
+        Vec::new(alloc),
+    )?;
+    let (outcome, after) = play(&rt, alloc, unwritten)?;
+    assert!(rt; outcome.cause == Cause::SinkFault);
+    assert!(rt; outcome.session.is_none());
+    assert!(rt; after.run_files.find(&name).is_none());
+
     let fail = FileFail {
         op: FileOp::Append,
         call: 1,
@@ -356,12 +369,7 @@ fn script_over_the_limit(rt: HostRuntime) -> Result<(), Fail> {
     let mut outside = outside(alloc, "", Vec::new(alloc), Vec::new(alloc), Vec::new(alloc))?;
     outside.src = MemSource::new(vec![in alloc; b'x'; 16_777_217]?, Vec::new(alloc));
     let (outcome, after) = play(&rt, alloc, outside)?;
-    assert!(rt;
-        outcome.cause
-            == Cause::BadInput {
-                fault: InputFault::ScriptTooLong
-            }
-    );
+    assert!(rt; outcome.cause == Cause::BadInput(InputFault::ScriptTooLong));
     assert_eq!(rt; outcome.status, 3);
     assert!(rt; after.out.bytes().is_empty());
     Ok(())

@@ -4,10 +4,10 @@ ghost use Rattle.midas_cli.specs.Outcomes.{status_of};
 ghost use Rattle.midas_cli.specs.Tools.{IsCauseOf, ToolRan, ToolWrites};
 ghost use Rattle.midas_tools.specs.Findings.{ClashCounts, Completes, FilesByEnd, SinkByEnd};
 
+use crate::causes::Cause;
 use crate::outcome::{Outcome, status};
 use crate::words::{Tool, ToolCall};
 use daq_io::{Files, Outside, Sink};
-use daq_session::Cause;
 use daq_types::FileName;
 use midas_tools::{ToolEnd, analyze_file, check_file, dump_file};
 use std::alloc::Global;
@@ -19,7 +19,7 @@ fn cause_of<F: Files>(end: ToolEnd, files: &F) -> Cause
 {
     match end {
         ToolEnd::Done => Cause::Done,
-        ToolEnd::Input(fault) => Cause::BadInput { fault },
+        ToolEnd::Input(fault) => Cause::BadInput(fault),
         ToolEnd::FileFault => match files.first_fault() {
             Some(name) => Cause::FileFault { name },
             None => unreachable!(),

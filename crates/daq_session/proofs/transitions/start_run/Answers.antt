@@ -9,20 +9,27 @@ use Rattle.daq_session.specs.BufferEntries.{begin_entry}
 use Rattle.daq_session.proofs.RunsKept.{standing_begun, standing_refused}
 use Rattle.session_console.specs.declared.records.RunRecord.{RunRecord}
 use Rattle.daq_session.specs.declared.state.OpenRun.{OpenRun}
-use Rattle.daq_session.specs.Standing.{IsReady, RunStarts, Stays}
+use Rattle.daq_session.specs.Standing.{FailsRun, IsReady, RunStarts, Stays}
 use Rattle.daq_session.proofs.OwnCalls.{begun_calls, refused_calls}
-use Rattle.daq_session.proofs.Interrupting.{memory_handled}
+use Rattle.daq_session.proofs.Interrupting.{fault_handled, memory_handled}
 use Rattle.daq_session.proofs.Starting.{stays_by}
 use Rattle.daq_session.proofs.Leading.{begun_leads, refused_leads}
+use Rattle.daq_session.proofs.RunsBroken.{start_breaks}
 use Rattle.daq_session.proofs.transitions.start_run.Goals as goal
 
 pub returns-in_err-name-clause-did : goal.returns-in_err-name-clause-did
 returns-in_err-name-clause-did g c =
     let idle : c.prepare_run.new.state.current ≡ None = c.prepare_run.ensures.current ∙ c.requires.idle in
-    memory_handled (RunStarts c.args.run) Stays c.args.state.now c.prepare_run.new.state _ _ c.from_residual.result c.from_residual.ensures.0 c.from_residual.ensures.1
+    memory_handled (RunStarts c.args.run) Stays FailsRun c.args.state.now c.prepare_run.new.state _ _ c.from_residual.result c.from_residual.ensures.0 c.from_residual.ensures.1
     (stays_by c.args.state.now c.prepare_run.new.state _ c.prepare_run.ensures.quota c.prepare_run.ensures.starts c.prepare_run.ensures.opened c.prepare_run.ensures.runs c.prepare_run.ensures.current
     c.prepare_run.ensures.calls)
     (subst (λ (on : Option OpenRun). IsReady (g.F.Files.seen c.args.files.now) on) (sym idle) tt)
+
+pub returns-in_err-begun-clause-did : goal.returns-in_err-begun-clause-did
+returns-in_err-begun-clause-did g c =
+    fault_handled (RunStarts c.args.run) Stays FailsRun c.args.state.now _ _ _ c.from_residual-in_err-begun.result c.from_residual-in_err-begun.ensures.0 c.from_residual-in_err-begun.ensures.1
+    (λ o course at. start_breaks o course c.args.state.now _ _ c.args.run c.now.result c.in_ok-name.field-0.name at c.requires.idle
+    c.now.ensures.value c.in_ok-name.ensures.named c.in_err-begun.ensures.broken)
 
 pub returns-in-Writing-clause-did : goal.returns-in-Writing-clause-did
 returns-in-Writing-clause-did g c =

@@ -5,6 +5,7 @@ use Rattle.daq_session.proofs.RunsKept.{standing_broken, standing_ended}
 use Rattle.session_console.specs.declared.records.RunRecord.{RunRecord}
 use Rattle.daq_session.proofs.OwnCalls.{ended_calls}
 use Rattle.daq_session.proofs.Leading.{ended_leads}
+use Rattle.daq_session.proofs.RunsBroken.{stop_fails}
 use Rattle.daq_session.proofs.transitions.stop.Goals as goal
 
 pub returns-in_ok-ended-in-Some-clause-did : goal.returns-in_ok-ended-in-Some-clause-did
@@ -16,6 +17,12 @@ returns-in_ok-ended-in-Some-clause-did g c = λ o course at.
     c.in_ok-ended-in-Some.ensures.file c.end_run.ensures.clashes c.in_ok-ended-in-Some.ensures.tally c.in_ok-ended-in-Some.ensures.named refl refl refl
     (c.push_reserved.ensures.items ∙ ap (λ (r : RunRecord). c.args.state.now.runs.items ++ r ∷ []) c.in_ok-ended-in-Some.ensures.recorded) c.take.ensures.after
     calls.are_sets calls.sent_all calls.own calls.front (calls.callers at.callers)
+
+pub returns-in_err-ended-in-Some-clause-broken : goal.returns-in_err-ended-in-Some-clause-broken
+returns-in_err-ended-in-Some-clause-broken g c =
+    let is_on : c.args.state.now.current ≡ Some c.in-Some.run' = sym c.take.ensures.value ∙ c.in-Some.is in
+    stop_fails _ c.args.state.now _ _ c.now-time.result c.in-Some.run' is_on
+    c.now-time.ensures.value c.in_err-ended-in-Some.ensures.broken
 
 pub returns-in_err-ended-in-Some-clause-told : goal.returns-in_err-ended-in-Some-clause-told
 returns-in_err-ended-in-Some-clause-told g c =

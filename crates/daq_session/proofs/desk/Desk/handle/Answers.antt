@@ -2,7 +2,7 @@ use Rattle.std.proofs.Common.{ap, ◌∙◌}
 use Rattle.std.proofs.lemmas.Result.{err_from_is_err_and}
 use Rattle.odb_script.specs.Forms.{command_of}
 use Rattle.odb_script.specs.KeptForms.{command_of-nil}
-use Rattle.daq_session.proofs.PlayingLaws.{halts_line}
+use Rattle.daq_session.proofs.PlayingLaws.{halts_line, halts_unanswered}
 use Rattle.daq_session.proofs.desk.Desk.handle.Goals as goal
 
 pub returns-in_err-reply-clause-empty : goal.returns-in_err-reply-clause-empty
