@@ -19,11 +19,12 @@ use Rattle.daq_session.specs.declared.halts.Halt.TheVariants.{NoMemory}
 use Rattle.session_console.specs.declared.replies.Reply.{Reply}
 use Rattle.session_console.specs.declared.replies.Reply.TheVariants.{Database}
 use Rattle.daq_session.specs.declared.state.State.{State}
-use Rattle.daq_session.specs.FrontSets.{AreCallers}
+use Rattle.daq_session.specs.RunTransitions.{CallsMore}
 use Rattle.daq_session.specs.Stages.{Outset, Stage, DoesByLine, DoesCommand, Interrupts, answered, called}
 use Rattle.daq_session.specs.Standing.{Course, behind_reply, stage_of, IsReady, AnswersBy, LineDoes, Handles, Breaks}
 use Rattle.daq_session.specs.Halts.{CountsHalt}
-use Rattle.daq_session.proofs.OwnCalls.{own_grown, callers_grown, main_called}
+use Rattle.daq_session.proofs.OwnCalls.{own_grown, more_grown, main_called}
+use Rattle.daq_session.proofs.TransitionLaws.{more_none, more_after}
 use Rattle.daq_session.proofs.Interrupting.{at_same, cut_own, interrupts_command, with_calls}
 
 -- the answer of a command of the database
@@ -61,10 +62,14 @@ interrupted_answer (Err why) command old between q some same ends =
     interrupts_command command old q found.answer.calls found.answer.reply found.performs
     (cut_own old.database q found.answer.calls (ends_answer command old.database between q found.answer same found.is ends))
 
-pub interrupted_callers : (command : Command) (p between q : Noted) → IsSome (answer_of p.rows command) → KeepsCalls p between → EndsEarly between q (calls_of (answer_of between.rows command)) → AreCallers p.history → AreCallers q.history
-interrupted_callers command p between q some same ends =
+-- no call was made
+pub kept_more : (p q : Noted) → KeepsCalls p q → CallsMore p.history q.history
+kept_more p q same = more_none p.history q.history same.history
+
+pub interrupted_more : (command : Command) (p between q : Noted) → IsSome (answer_of p.rows command) → KeepsCalls p between → EndsEarly between q (calls_of (answer_of between.rows command)) → CallsMore p.history q.history
+interrupted_more command p between q some same ends =
     let found = answer_is p.rows command some in
-    (cut_own p q found.answer.calls (ends_answer command p between q found.answer same found.is ends)).callers
+    (cut_own p q found.answer.calls (ends_answer command p between q found.answer same found.is ends)).more
 
 -- it made its calls
 pub answers_calls : (command : Command) (p between q : Noted) (reply : CommandReply) → IsSome (answer_of p.rows command) → KeepsCalls p between → AnswersIf between q (answer_of between.rows command) (Some reply)
@@ -90,24 +95,24 @@ command_done command old between q reply some same answers c =
           ∙ ap (λ (es : List DatabaseEntry). record (stage_of old c) { own = entries_by 0 old.database.history ++ made.0; front = es; replies = c.replies ++ Database reply ∷ [] }) front,
     )
 
-pub command_callers : (command : Command) (p between q : Noted) (reply : CommandReply) → IsSome (answer_of p.rows command) → KeepsCalls p between → AnswersIf between q (answer_of between.rows command) (Some reply)
-    → AreCallers p.history → AreCallers q.history
-command_callers command p between q reply some same answers before =
+pub command_more : (command : Command) (p between q : Noted) (reply : CommandReply) → IsSome (answer_of p.rows command) → KeepsCalls p between → AnswersIf between q (answer_of between.rows command) (Some reply)
+    → CallsMore p.history q.history
+command_more command p between q reply some same answers =
     let made = answers_calls command p between q reply some same answers in
-    callers_grown between q (by_main made.0) made.2 (main_called made.0) (subst AreCallers (sym same.history) before)
+    more_after p.history between.history q.history (more_none p.history between.history same.history) (more_grown between q (by_main made.0) made.2 (main_called made.0))
 
 -- the line was answered in this way
 pub answers_inside : (Way : Outset → Stage → Stage → Type 0) (reply : Reply) (old new : State) (outside : Outset) → new.runs.items ≡ old.runs.items → new.current ≡ old.current
-    → (AreCallers old.database.history → AreCallers new.database.history)
+    → CallsMore old.database.history new.database.history
     → ((o : Outset) (c : Course) → Way o (stage_of old c) (stage_of new (behind_reply c c.readings c.clashes reply)))
     → AnswersBy Way reply old new outside outside
-answers_inside Way reply old new outside runs current callers does = λ o c at.
-    let same = at_same old new outside runs current callers o c at in
+answers_inside Way reply old new outside runs current more does = λ o c at.
+    let same = at_same old new outside runs current more o c at in
     record {
       readings = c.readings;
       clashes = c.clashes;
       does = does o c;
-      at = record { kept = same.kept; clock = same.clock; clashes = same.clashes; callers = same.callers };
+      at = record { kept = same.kept; clock = same.clock; clashes = same.clashes; calls = same.calls };
     }
 
 -- a command of the database does what its answer says
@@ -126,21 +131,21 @@ call_does o old new Exit does = absurd does.2
 
 -- a command of the database was answered, or found no memory
 pub handles_call : (line : Result Command LineRefusal) (command : Command) (old new : State) (outside : Outset) (result : Result Reply Halt) → line ≡ Ok command
-    → new.runs.items ≡ old.runs.items → new.current ≡ old.current → IsReady outside.files old.current → (AreCallers old.database.history → AreCallers new.database.history)
+    → new.runs.items ≡ old.runs.items → new.current ≡ old.current → IsReady outside.files old.current → CallsMore old.database.history new.database.history
     → IfOk result (λ reply. (c : Course) → DoesCommand (stage_of old c) command (stage_of new (behind_reply c c.readings c.clashes reply)))
     → IfErr result (λ halt. halt ≡ NoMemory)
     → OnErr result ((c : Course) → Interrupts (Ok command) (stage_of old c) (stage_of new c))
     → Handles line old new outside outside result
-handles_call line command old new outside (Ok reply) is runs current ready callers answered halted interrupted = (
-  answers_inside (LineDoes line) reply old new outside runs current callers
+handles_call line command old new outside (Ok reply) is runs current ready more answered halted interrupted = (
+  answers_inside (LineDoes line) reply old new outside runs current more
       (λ o c. rw is (call_does o (stage_of old c) (stage_of new (behind_reply c c.readings c.clashes reply)) command (answered c))),
   rw current ready,
 )
-handles_call line command old new outside (Err halt) is runs current ready callers answered halted interrupted =
+handles_call line command old new outside (Err halt) is runs current ready more answered halted interrupted =
     rw halted (
       record {
         stage = subst (λ (l : Result Command LineRefusal). (c : Course) → Interrupts l (stage_of old c) (stage_of new c)) (sym is) interrupted;
-        at = at_same old new outside runs current callers;
+        at = at_same old new outside runs current more;
       },
       rw current ready,
     )

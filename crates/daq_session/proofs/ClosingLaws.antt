@@ -24,7 +24,7 @@ use Rattle.daq_session.specs.declared.state.State.{State}
 use Rattle.daq_session.specs.declared.state.OpenRun.{OpenRun}
 use Rattle.session_console.specs.Console.{console_text, text_of, is_refusal, refused_lines, refused_lines-more}
 use Rattle.session_console.specs.Refused.{Counts}
-use Rattle.daq_session.specs.FrontSets.{AreCallers}
+use Rattle.daq_session.specs.RunTransitions.{CallsStand}
 use Rattle.daq_session.specs.RunRecords.{IsKept}
 use Rattle.daq_session.specs.Endings.{SinkCounts}
 use Rattle.daq_session.specs.Halts.{HaltBy}
@@ -178,7 +178,7 @@ closes_some o (Some run) old new some does = does
 
 stopped : (o : Outset) (ending : Ending) (source left told_first told : Option (List ℕ)) (reply : Reply) (old new : State) (before after : Outset) (refusals : Refusals)
     → (played : Played o ending source left told_first told old before refusals) → IsSome old.current → AnswersLine (Ok Stop) reply old new before after → new.current ≡ None
-    → (readings : ℕ) × (clashes : ℕ) × IsPlayed o after (CutBy ending source played.lines) played.lines (stage_of new (course_of readings clashes (played.replies ++ reply ∷ []))) × AreCallers new.database.history
+    → (readings : ℕ) × (clashes : ℕ) × IsPlayed o after (CutBy ending source played.lines) played.lines (stage_of new (course_of readings clashes (played.replies ++ reply ∷ []))) × CallsStand new.database.history new.runs.items None
 stopped o ending source left told_first told reply old new before after refusals played running answers idle =
     let course : Course = course_of played.readings played.clashes played.replies in
     let leads = answers o course played.at in (
@@ -194,7 +194,7 @@ stopped o ending source left told_first told reply old new before after refusals
         clock = leads.at.clock;
         clashes = leads.at.clashes;
       },
-      leads.at.callers,
+      subst (λ (on : Option OpenRun). CallsStand new.database.history new.runs.items (order_in on)) idle leads.at.calls,
     )
 
 -- The ways to close.
@@ -232,7 +232,7 @@ finished_idle o ending source left told_first told s now refusals idle played =
         clock = played.at.clock;
         clashes = played.at.clashes;
       });
-      callers = played.at.callers;
+      calls = subst (λ (on : Option OpenRun). CallsStand s.database.history s.runs.items (order_in on)) idle played.at.calls;
       counts = subst (λ (rs : List Reply). Counts (refused_lines 1 rs) refusals) (sym same) played.counts;
       are_lines = played.are_lines;
       told_lines = told;
@@ -254,7 +254,7 @@ finished_stopped o ending closing source left told_first told_old told_new old n
       readings = is_stopped.0;
       clashes = is_stopped.1;
       played = is_stopped.2;
-      callers = is_stopped.3;
+      calls = is_stopped.3;
       counts = counts_accepted played.replies reply refusals accepted played.counts;
       are_lines = played.are_lines;
       told_lines = told_old;

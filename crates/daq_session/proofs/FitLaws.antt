@@ -25,7 +25,8 @@ use Rattle.odb_runinfo.specs.RunSets.{Assignment, have_of, number_in, next_run, 
 use Rattle.odb_commands.specs.CommandCalls.{IsSettled}
 use Rattle.odb_commands.specs.CommandCallLaws.{Spares}
 use Rattle.session_console.specs.declared.records.RunRecord.{RunRecord}
-use Rattle.session_console.specs.declared.records.FrontTally.{FrontTally}
+use Rattle.daq_types.specs.declared.runs.StartOutcome.{StartOutcome}
+use Rattle.daq_types.specs.declared.runs.StartOutcome.TheVariants.{Completed, Refused}
 use Rattle.session_console.specs.declared.records.SessionRecord.{SessionRecord}
 use Rattle.session_console.specs.declared.replies.Reply.{Reply}
 use Rattle.daq_session.specs.declared.endings.Ending.{Ending}
@@ -53,9 +54,9 @@ starts_on own more run time outcome starts = record {
       ∙ ap (λ (es : List DatabaseEntry). starts.before ++ number_asked starts.got ∷ es) (append_assoc starts.sets starts.after more);
 }
 
-stops_on : (own more : List DatabaseEntry) (r : RunRecord) (fronts : List FrontTally) → StopsBy own r fronts → StopsBy (own ++ more) r fronts
-stops_on own more r [] stops = tt
-stops_on own more r (front ∷ fronts) stops = record {
+stops_on : (own more : List DatabaseEntry) (r : RunRecord) (outcome : StartOutcome) → StopsBy own r outcome → StopsBy (own ++ more) r outcome
+stops_on own more r (Refused client why) stops = tt
+stops_on own more r Completed stops = record {
   before = stops.before;
   after = stops.after ++ more;
   started = stops.started;
@@ -67,7 +68,7 @@ stops_on own more r (front ∷ fronts) stops = record {
 }
 
 fits_on : (own more : List DatabaseEntry) (r : RunRecord) → RunRecordFits own r → RunRecordFits (own ++ more) r
-fits_on own more r fits = record { start = starts_on own more _ _ _ fits.start; stop = stops_on own more r r.fronts fits.stop }
+fits_on own more r fits = record { start = starts_on own more _ _ _ fits.start; stop = stops_on own more r r.outcome fits.stop }
 
 -- the run that is on was started
 abbrev OnFits : List DatabaseEntry → Option Order → Type 0

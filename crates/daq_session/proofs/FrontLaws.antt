@@ -14,6 +14,7 @@ use Rattle.session_console.specs.declared.records.RunRecord.{RunRecord}
 use Rattle.session_console.specs.declared.records.SessionRecord.{SessionRecord}
 use Rattle.daq_session.specs.FrontSets.{AreCallers, IsSentSet, AreSentSets, set_numbers, IsFrontsPass}
 use Rattle.daq_session.specs.RunCalls.{number_asked}
+use Rattle.daq_session.specs.RunTransitions.{HoldsRuns}
 use Rattle.daq_session.specs.Playing.{CutBy}
 use Rattle.daq_session.specs.Played.{IsPlayed}
 use Rattle.daq_session.specs.Sessions.{IsRecorded}
@@ -92,6 +93,13 @@ session_fronts o after ending source lines final session played recorded =
     (script_keeps Stands o after ending source lines final kept_by_lines played (record { sets = tt })) recorded
 
 -- who made the calls of its database
-pub callers_by : (session : Option SessionRecord) (history : List (ℕ × DatabaseEntry)) → IfSome session (λ s. s.database ≡ history) → AreCallers history → IfSome session (λ s. AreCallers s.database)
-callers_by None history is callers = tt
-callers_by (Some s) history is callers = subst AreCallers (sym is) callers
+pub recorded_callers : (session : Option SessionRecord) (history : List (ℕ × DatabaseEntry)) → IfSome session (λ s. s.database ≡ history) → AreCallers history → IfSome session (λ s. AreCallers s.database)
+recorded_callers None history is callers = tt
+recorded_callers (Some s) history is callers = subst AreCallers (sym is) callers
+
+-- and where the runs stand in them
+pub recorded_runs : (final : Stage) (session : Option SessionRecord) (history : List (ℕ × DatabaseEntry)) → IfSome session (λ s. s.database ≡ history) → IsRecorded final session → HoldsRuns history final.runs
+    → IfSome session (λ s. HoldsRuns s.database s.runs)
+recorded_runs final None history is recorded holds = tt
+recorded_runs final (Some s) history is recorded holds =
+    subst (λ (runs : List RunRecord). HoldsRuns s.database runs) (sym recorded.1) (subst (λ (h : List (ℕ × DatabaseEntry)). HoldsRuns h final.runs) (sym is) holds)

@@ -23,11 +23,12 @@ use Rattle.daq_session.specs.declared.halts.Halt.TheVariants.{NoMemory, FileFaul
 use Rattle.session_console.specs.FrontNames.{front_name}
 use Rattle.session_console.specs.declared.replies.Reply.{Reply}
 use Rattle.daq_session.specs.declared.state.State.{State}
-use Rattle.daq_session.specs.FrontSets.{AreCallers}
+use Rattle.daq_session.specs.RunTransitions.{CallsMore}
 use Rattle.daq_session.specs.RunCalls.{key_made, number_asked, is_settled, opens_session}
 use Rattle.daq_session.specs.Stages.{Outset, Stage, OpensSession, CallsLine, CallsStart, Interrupts, called, opened_by}
-use Rattle.daq_session.specs.Standing.{Course, stage_of, IsAt, IsReady, HandlesBy}
-use Rattle.daq_session.proofs.OwnCalls.{own_grown, callers_grown, main_called, none_called}
+use Rattle.daq_session.specs.Standing.{Course, stage_of, order_in, IsAt, IsReady, HandlesBy}
+use Rattle.daq_session.proofs.OwnCalls.{own_grown, more_grown, main_called}
+use Rattle.daq_session.proofs.TransitionLaws.{stand_more}
 
 -- Of the main thread's calls the first were made.
 pub record CutOwn (p q : Noted) (calls : List DatabaseEntry) : Type 0 where
@@ -35,7 +36,7 @@ pub record CutOwn (p q : Noted) (calls : List DatabaseEntry) : Type 0 where
   pub short : IsCutShort calls made
   pub own : entries_by 0 q.history ≡ entries_by 0 p.history ++ made
   pub front : entries_by 1 q.history ≡ entries_by 1 p.history
-  pub callers : AreCallers p.history → AreCallers q.history
+  pub more : CallsMore p.history q.history
 
 pub cut_own : (p q : Noted) (calls : List DatabaseEntry) → EndsEarly p q (by_main calls) → CutOwn p q calls
 cut_own p q calls ends =
@@ -46,13 +47,18 @@ cut_own p q calls ends =
       short = cut.2;
       own = own_grown p q (by_main cut.0) 0 grows ∙ ap (λ (es : List DatabaseEntry). entries_by 0 p.history ++ es) (own_main cut.0);
       front = own_grown p q (by_main cut.0) 1 grows ∙ ap (λ (es : List DatabaseEntry). entries_by 1 p.history ++ es) (none_main cut.0) ∙ append-nil (entries_by 1 p.history);
-      callers = callers_grown p q (by_main cut.0) grows (main_called cut.0);
+      more = more_grown p q (by_main cut.0) grows (main_called cut.0);
     }
 
 -- the outside stands as it did against a state with the same runs
-pub at_same : (old new : State) (now : Outset) → new.runs.items ≡ old.runs.items → new.current ≡ old.current → (AreCallers old.database.history → AreCallers new.database.history)
+pub at_same : (old new : State) (now : Outset) → new.runs.items ≡ old.runs.items → new.current ≡ old.current → CallsMore old.database.history new.database.history
     → (o : Outset) (c : Course) → IsAt o c old now → IsAt o c new now
-at_same old new now is_runs is_current callers o c at = record { kept = rw (is_runs, is_current) at.kept; clock = at.clock; clashes = at.clashes; callers = callers at.callers }
+at_same old new now is_runs is_current more o c at = record {
+  kept = rw (is_runs, is_current) at.kept;
+  clock = at.clock;
+  clashes = at.clashes;
+  calls = rw (is_runs, is_current) (stand_more old.database.history new.database.history old.runs.items (order_in old.current) more at.calls);
+}
 
 -- A command of the database.
 

@@ -19,7 +19,8 @@ use Rattle.session_console.specs.declared.replies.Reply.{Reply}
 use Rattle.session_console.specs.declared.replies.Reply.TheVariants.{StartRefused, Started, Stopped as run_stopped}
 use Rattle.daq_session.specs.declared.state.State.{State}
 use Rattle.daq_session.specs.declared.state.OpenRun.{OpenRun}
-use Rattle.daq_session.specs.FrontSets.{AreCallers, IsSentSet}
+use Rattle.daq_session.specs.FrontSets.{IsSentSet}
+use Rattle.daq_session.specs.RunTransitions.{CallsStand}
 use Rattle.daq_session.specs.RunCalls.{AreSets, running_set, stopped_set}
 use Rattle.daq_session.specs.RunNames.{run_name}
 use Rattle.daq_session.specs.RunRecords.{IsKept}
@@ -57,9 +58,9 @@ pub begun_leads : (o : Outset) (c : Course) (old new : State) (before after : Ou
     → run.order ≡ next_order (stage_of old c) number time
     → new.quota ≡ old.quota → new.starts ≡ old.starts + 1 → new.opened ≡ old.opened → new.runs.items ≡ old.runs.items → new.current ≡ Some run
     → AreSets (start_sets number time ++ running_set) sets → IsSentSet 0 sent
-    → entries_by 0 new.database.history ≡ entries_by 0 old.database.history ++ sets → entries_by 1 new.database.history ≡ entries_by 1 old.database.history ++ sent ∷ [] → AreCallers new.database.history
-    → LeadsOutside (RunStarts number) o c (Started number) old new after
-begun_leads o c old new before after number time run sets sent at idle reads made clashes is_order is_quota is_starts is_opened is_runs is_current are_sets sent_none is_own is_front callers =
+    → entries_by 0 new.database.history ≡ entries_by 0 old.database.history ++ sets → entries_by 1 new.database.history ≡ entries_by 1 old.database.history ++ sent ∷ []
+    → CallsStand new.database.history old.runs.items (Some run.order) → LeadsOutside (RunStarts number) o c (Started number) old new after
+begun_leads o c old new before after number time run sets sent at idle reads made clashes is_order is_quota is_starts is_opened is_runs is_current are_sets sent_none is_own is_front calls =
     let kept : IsKept o.files before.files old.runs.items None = subst (λ (on : Option OpenRun). IsKept o.files before.files old.runs.items on) idle at.kept in
     let free : IsTrue o.files.tells → IsFreeName o old.runs.items (run_name number) = λ told.
     kept_free o.files before.files old.runs.items (run_name number) kept told
@@ -82,7 +83,7 @@ begun_leads o c old new before after number time run sets sent at idle reads mad
         kept = rw (is_runs, is_current) filed;
         clock = one_reading o c.readings time before after at.clock reads;
         clashes = clashes ∙ at.clashes;
-        callers = callers;
+        calls = rw (is_runs, is_current) calls;
       };
     }
 
@@ -91,9 +92,9 @@ pub refused_leads : (o : Outset) (c : Course) (old new : State) (before after : 
     → order ≡ next_order (stage_of old c) number time
     → new.quota ≡ old.quota → new.starts ≡ old.starts + 1 → new.opened ≡ old.opened → new.runs.items ≡ old.runs.items ++ refused_record order ∷ [] → new.current ≡ None
     → AreSets (start_sets number time ++ refused_sets number) sets
-    → entries_by 0 new.database.history ≡ entries_by 0 old.database.history ++ sets → entries_by 1 new.database.history ≡ entries_by 1 old.database.history → AreCallers new.database.history
+    → entries_by 0 new.database.history ≡ entries_by 0 old.database.history ++ sets → entries_by 1 new.database.history ≡ entries_by 1 old.database.history → CallsStand new.database.history (old.runs.items ++ refused_record order ∷ []) None
     → LeadsOutside (RunStarts number) o c (StartRefused 1 (Exists 0)) old new after
-refused_leads o c old new before after number time order name sets at idle reads same there clashed is_name is_order is_quota is_starts is_opened is_runs is_current are_sets is_own is_front callers =
+refused_leads o c old new before after number time order name sets at idle reads same there clashed is_name is_order is_quota is_starts is_opened is_runs is_current are_sets is_own is_front calls =
     let kept : IsKept o.files before.files old.runs.items None = subst (λ (on : Option OpenRun). IsKept o.files before.files old.runs.items on) idle at.kept in
     let taken : IsTrue o.files.tells → ¬ IsFreeName o old.runs.items (run_name number) = λ told.
     kept_taken o.files before.files old.runs.items (run_name number) kept told (subst (λ (n : List ℕ). IsSome (before.files.at n)) is_name (there (kept.tells ∙ told))) in
@@ -115,7 +116,7 @@ refused_leads o c old new before after number time order name sets at idle reads
         kept = rw (is_runs, is_current) (kept_refused o.files after.files old.runs.items order (kept_same o.files before.files after.files old.runs.items kept same));
         clock = one_reading o c.readings time before after at.clock reads;
         clashes = refl;
-        callers = callers;
+        calls = rw (is_runs, is_current) calls;
       };
     }
 
@@ -125,9 +126,9 @@ pub ended_leads : (o : Outset) (c : Course) (old new : State) (before after : Ou
     → IsTally run.order.quota front → file ≡ file_record run.order.run
     → new.quota ≡ old.quota → new.starts ≡ old.starts → new.opened ≡ old.opened → new.runs.items ≡ old.runs.items ++ completed_record run.order time front ∷ [] → new.current ≡ None
     → AreSets (stopping_sets time ++ stopped_set) sets → IsSentSet front.sent sent
-    → entries_by 0 new.database.history ≡ entries_by 0 old.database.history ++ sets → entries_by 1 new.database.history ≡ entries_by 1 old.database.history ++ sent ∷ [] → AreCallers new.database.history
-    → LeadsOutside (LineDoes (Ok Stop)) o c (run_stopped run.order.run front file) old new after
-ended_leads o c old new before after time run front file sets sent at running reads closed clashes tally is_file is_quota is_starts is_opened is_runs is_current are_sets sent_all is_own is_front callers =
+    → entries_by 0 new.database.history ≡ entries_by 0 old.database.history ++ sets → entries_by 1 new.database.history ≡ entries_by 1 old.database.history ++ sent ∷ []
+    → CallsStand new.database.history (old.runs.items ++ completed_record run.order time front ∷ []) None → LeadsOutside (LineDoes (Ok Stop)) o c (run_stopped run.order.run front file) old new after
+ended_leads o c old new before after time run front file sets sent at running reads closed clashes tally is_file is_quota is_starts is_opened is_runs is_current are_sets sent_all is_own is_front calls =
     let kept : IsKept o.files before.files old.runs.items (Some run) = subst (λ (on : Option OpenRun). IsKept o.files before.files old.runs.items on) running at.kept in
     record {
       readings = c.readings + 1;
@@ -149,6 +150,6 @@ ended_leads o c old new before after time run front file sets sent at running re
         kept = rw (is_runs, is_current) (kept_ended o.files before.files after.files old.runs.items run front time kept closed);
         clock = one_reading o c.readings time before after at.clock reads;
         clashes = clashes ∙ at.clashes;
-        callers = callers;
+        calls = rw (is_runs, is_current) calls;
       };
     }

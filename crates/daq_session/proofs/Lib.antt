@@ -3,6 +3,7 @@ mod BrokenFiles
 mod Keeping
 mod Interrupting
 mod OwnCalls
+mod TransitionLaws
 mod Leading
 mod RunsBroken
 mod Starting
@@ -17,7 +18,11 @@ mod BufferLaws
 mod RunsTelling
 mod RunsHeld
 mod CallsKept
+mod OfRuns
+mod OpeningRuns
+mod WholeFiles
 mod RunsKept
+mod NumberLaws
 mod Answering
 mod PlayedLaws
 mod FrontLaws

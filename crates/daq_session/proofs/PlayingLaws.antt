@@ -24,12 +24,12 @@ use Rattle.session_console.specs.Console.{text_of, console_text, console_text-mo
 use Rattle.session_console.specs.Refused.{counts_noted}
 use Rattle.daq_session.specs.RunRecords.{IsFiled}
 use Rattle.daq_session.specs.Stages.{Outset, Stage, opening, DoesByLine, Plays}
-use Rattle.daq_session.specs.FrontSets.{AreCallers}
+use Rattle.daq_session.specs.RunTransitions.{CallsStand}
 use Rattle.daq_session.specs.Standing.{Course, behind_reply, order_in, stage_of, Handles, IsReady}
 use Rattle.odb_script.specs.Lines.{Reading, nothing_read, ReadsLine}
 use Rattle.odb_script.specs.ReadLines.{HasReadLines, has_read_none, has_read_line}
 use Rattle.daq_session.specs.declared.desk.Going.TheVariants.{On, Exit}
-use Rattle.daq_session.proofs.OwnCalls.{none_called}
+use Rattle.daq_session.proofs.TransitionLaws.{stand_none}
 use Rattle.daq_session.proofs.Leading.{stage_is}
 use Rattle.daq_session.specs.Playing.{course_of, Moment, IsNew, Replied, GoesBehind, DoesLine, Prints}
 
@@ -48,7 +48,7 @@ moment_new o s refusals new none = record {
     kept = rw (new.runs, new.current) (record { tells = refl; filed = λ told. All-nil (IsFiled o.files.at); begun = λ told. tt; others = λ told name avoids ne. refl });
     clock = record { tells = refl; ahead = λ told n. ap o.ahead (sym (zero-add n)) };
     clashes = refl;
-    callers = subst AreCallers (sym new.calls) none_called;
+    calls = rw (new.calls, new.runs, new.current) stand_none;
   };
   counts = rw none (record { count = refl; first = refl });
   numbered = refl;

@@ -35,9 +35,13 @@ use Rattle.odb_tree.specs.Histories.{IsLegal}
 use Rattle.odb_runinfo.specs.RunKeys.{session_rows}
 use Rattle.daq_session.specs.BufferRecords.{IsOneHistory, IsSystem, history_in}
 use Rattle.daq_session.specs.FrontSets.{AreCallers, IsFrontsPass}
+use Rattle.daq_session.specs.RunTransitions.{HoldsRuns}
+use Rattle.daq_session.specs.TakenNames.{AreWithinRise}
+use Rattle.daq_session.proofs.NumberLaws.{script_numbered}
+use Rattle.daq_session.proofs.FrontLaws.{recorded_runs}
 use Rattle.daq_session.specs.RunHistories.{AreSentByFronts, HoldSegments}
 use Rattle.daq_session.specs.RunRecordFits.{FitsHistory}
-use Rattle.daq_session.specs.SystemCalls.{AreSystemCalls}
+use Rattle.daq_session.specs.SystemCalls.{AreSystemCalls, IsOfRuns, completed_starts}
 use Rattle.daq_session.proofs.ClosingLaws.{text_part, text_whole}
 use Rattle.daq_session.proofs.PlayingLaws.{keeps_same}
 
@@ -275,9 +279,9 @@ broken_stop before after ending closing ended end refusals shown s now told soun
 
 -- where none of their calls failed
 pub ran_whole : (before after : Environment) (ending : Ending) (closing : Option Halt) (ended : Ending) (end : ScriptEnd) (refusals shown : Refusals) (s : State) (session : Option SessionRecord) → ending ≢ Halted FileFault → closing ≢ Some FileFault
-    → (c : Counted before after ending closing) → after.file_faults ≡ before.file_faults → shown ≡ refusals → ended ≡ ended_by ending closing → IsScriptEnd ended shown after.first_fault end → ((course : Course) → IsRecorded (stage_of s course) session)
+    → (c : Counted before after ending closing) → after.file_faults ≡ before.file_faults → shown ≡ refusals → ended ≡ ended_by ending closing → IsScriptEnd ended shown after.first_fault end → ((course : Course) → IsRecorded (stage_of s course) session) → IsLegal session_rows s.database.history
     → Finished before.outset ending closing before.source after.source before.written after.written s after.outset refusals → ((ends : EndsScript before after end) → IsSession before after end ends session → IfSome session (HoldsRecord before after)) → RunsScript before after end session
-ran_whole before after ending closing ended end refusals shown s session sound none c calm same is_ended is_end recorded finished holds =
+ran_whole before after ending closing ended end refusals shown s session sound none c calm same is_ended is_end recorded legal finished holds =
     let by : IsScriptEnd (ended_by ending closing) refusals after.first_fault end = subst (λ (r : Refusals). IsScriptEnd (ended_by ending closing) r after.first_fault end) same (subst (λ (e : Ending). IsScriptEnd e shown after.first_fault end) is_ended is_end) in
     let ends : EndsScript before after end = ends_by before after ending closing end refusals c by in
     let is : IsSession before after end ends session = record {
@@ -285,6 +289,7 @@ ran_whole before after ending closing ended end refusals shown s session sound n
       final = stage_of s (course_of finished.readings finished.clashes (finished.replies ++ finished.behind));
       played = finished.played;
       recorded = recorded (course_of finished.readings finished.clashes (finished.replies ++ finished.behind));
+      called = record { history = s.database.history; legal = legal; callers = finished.calls.callers; own = refl; front = refl };
       read = finished.are_lines;
       refused = finished.counts;
       replies = finished.replies;
@@ -327,6 +332,7 @@ ran_none before =
           clashes = refl;
         };
         recorded = refl;
+        called = record { history = []; legal = tt; callers = All-nil (λ e. e.0 ≤ 1); own = refl; front = refl };
         read = λ text known. refl;
         refused = record { count = refl; first = refl };
         replies = [];
@@ -346,9 +352,10 @@ ran_none before =
 -- What a record says of its objects, from what is said of each.
 pub record_holds : (before after : Environment) (session : Option SessionRecord) → IfSome session (λ s. IsLegal session_rows s.database) → IfSome session (λ s. IsSystem (history_in s.buffers) s.buffers) → IfSome session (λ s. All IsOneHistory s.buffers)
     → IfSome session (λ s. AreSystemCalls (history_in s.buffers)) → (¬ Rose before.file_faults after.file_faults → IsTrue before.outset.files.tells → IfSome session (λ s. All (HoldSegments s.buffers after.outset.files.at) s.runs)) → IfSome session (λ s. All (AreSentByFronts s.buffers) s.runs)
-    → IfSome session (λ s. IsFrontsPass s.database s.runs) → IfSome session (λ s. AreCallers s.database) → IfSome session (λ s. All (FitsHistory s.database) s.runs) → IfSome session (HoldsRecord before after)
-record_holds before after None database buffers one_history system_calls run_files sends sets callers fits = tt
-record_holds before after (Some s) database buffers one_history system_calls run_files sends sets callers fits = record {
+    → IfSome session (λ s. IsFrontsPass s.database s.runs) → IfSome session (λ s. AreCallers s.database) → IfSome session (λ s. All (FitsHistory s.database) s.runs) → IfSome session (λ s. HoldsRuns s.database s.runs) → IfSome session (λ s. All (IsOfRuns (completed_starts s.runs)) (history_in s.buffers))
+    → IfSome session (λ s. AreWithinRise s.runs before.outset.clashes after.outset.clashes) → IfSome session (HoldsRecord before after)
+record_holds before after None database buffers one_history system_calls run_files sends sets callers fits turns others taken = tt
+record_holds before after (Some s) database buffers one_history system_calls run_files sends sets callers fits turns others taken = record {
   database = database;
   buffers = buffers;
   one_history = one_history;
@@ -357,5 +364,20 @@ record_holds before after (Some s) database buffers one_history system_calls run
   front_end_sends = sends;
   front_end_sets = sets;
   callers = callers;
+  run_turns = turns;
+  no_other_run = others;
+  refused_starts = taken;
   record_fits = fits;
 }
+
+-- Each start of a finished session has its record.
+pub finished_numbered : (o : Outset) (ending : Ending) (closing : Option Halt) (source left told_first told_now : Option (List ℕ)) (s : State) (after : Outset) (refusals : Refusals)
+    → Finished o ending closing source left told_first told_now s after refusals → length s.runs.items ≡ s.starts
+finished_numbered o ending closing source left told_first told_now s after refusals finished =
+    script_numbered o after ending source finished.lines (stage_of s (course_of finished.readings finished.clashes (finished.replies ++ finished.behind))) finished.played
+
+-- Where the runs of a finished session stand in its record.
+pub finished_runs : (o : Outset) (ending : Ending) (closing : Option Halt) (source left told_first told_now : Option (List ℕ)) (s : State) (after : Outset) (refusals : Refusals) (session : Option SessionRecord)
+    → Finished o ending closing source left told_first told_now s after refusals → IfSome session (λ r. r.database ≡ s.database.history) → ((c : Course) → IsRecorded (stage_of s c) session) → IfSome session (λ r. HoldsRuns r.database r.runs)
+finished_runs o ending closing source left told_first told_now s after refusals session finished is recorded =
+    recorded_runs (stage_of s (course_of 0 0 [])) session s.database.history is (recorded (course_of 0 0 [])) finished.calls.held

@@ -1,6 +1,6 @@
 -- How a session keeps what the history of its buffer tells of its runs: as a run begins, as its events pass, as it ends.
-use Rattle.std.specs.Prelude.{◌≡◌, ◌≢◌, ℕ, suc, ◌+◌, ◌<◌, ◌≤◌, List, [], ◌∷◌, ◌++◌, length, Option, Some, None, Result, Ok, All, ⊤, MatchOption, IfSome, refl}
-use Rattle.std.proofs.Common.{ap, sym, ◌∙◌, subst, arith, append_assoc}
+use Rattle.std.specs.Prelude.{◌≡◌, ◌≢◌, ℕ, suc, ◌+◌, ◌^◌, ◌<◌, ◌≤◌, List, [], ◌∷◌, ◌++◌, length, Option, Some, None, Result, Ok, All, ⊤, MatchOption, IfSome, refl}
+use Rattle.std.proofs.Common.{ap, sym, ◌∙◌, subst, arith, append_assoc, length-append}
 use Rattle.std.proofs.lemmas.List.{append-nil}
 use Rattle.std.proofs.lemmas.List.Elements.{All-nil, All-cons, All-push, All-weaker}
 use Rattle.daq_types.specs.declared.events.Event.{Event}
@@ -17,7 +17,7 @@ use Rattle.buffer_core.specs.declared.replies.Received.TheVariants.{Got}
 use Rattle.buffer_core.specs.Points.{past_of}
 use Rattle.buffer_core.specs.Readers.{among, places_got, places_of}
 use Rattle.buffer_core.specs.Runs.{begun_at, ended_at, segment}
-use Rattle.daq_model.specs.RunFile.{run_file}
+use Rattle.daq_model.specs.RunFile.{run_file, IsRunFile}
 use Rattle.session_console.specs.declared.records.RunRecord.{RunRecord}
 use Rattle.session_console.specs.declared.records.SessionRecord.{SessionRecord}
 use Rattle.daq_session.specs.BufferRecords.{history_in}
@@ -28,17 +28,20 @@ use Rattle.daq_session.specs.declared.state.OpenRun.{OpenRun}
 use Rattle.daq_session.specs.BufferEntries.{front_caller, logger_caller, begin_entry, passed_entries, end_entry, PassesFirst}
 use Rattle.daq_session.specs.RunRecords.{order_of, sent_in, file_of, IsFiled, generated_events-by}
 use Rattle.daq_session.specs.Stages.{Stage, completed_record}
-use Rattle.daq_session.specs.RunHistories.{sent_by, wanted_of, events_of, segment_file, HoldsSegment, HoldSegments, IsSentByFront, AreSentByFronts, IsHeldRun}
-use Rattle.daq_session.specs.RunsTold.{IsRead, IsFresh, IsOn, IsDone, TellsRun, IsTold, IsOnRun, IsEnded, IsStanding, KeepsTold, EndsTold}
+use Rattle.daq_session.specs.RunHistories.{sent_by, wanted_of, events_of, segment_file, IsSegmentFile, HoldsSegment, HoldSegments, IsSentByFront, AreSentByFronts, IsHeldRun}
+use Rattle.daq_session.specs.RunsTold.{IsRead, IsFresh, IsOn, IsDone, TellsRun, IsTold, IsOnRun, IsEnded, IsStanding, KeepsTold, EndsTold, AddsOf, start_on}
 use Rattle.daq_session.proofs.CallsKept.{calls_push}
 use Rattle.daq_session.proofs.RunsHeld.{IsHeld, is_held}
+use Rattle.daq_session.specs.SystemCalls.{IsOfRuns, start_by, completed_starts}
+use Rattle.daq_session.proofs.OfRuns.{of_begin, of_ended, starts_push}
+use Rattle.daq_session.proofs.WholeFiles.{generated_file}
 use Rattle.daq_session.proofs.RunsTelling.{past_of-push, SentMore, sent_by-push, read_begun, fresh_begun, on_begun, done_begun, read_passed, fresh_passed, on_passed, done_passed, read_ended, fresh_ended, done_on, done_ended}
 
 -- what holds of the runs told, whichever they are, goes on with the history
 still_told : (h more : List (ℕ × BufferEntry)) → ((start from : ℕ) (events : List Event) → IsDone (past_of h) (sent_by h front_caller) start from events → IsDone (past_of more) (sent_by more front_caller) start from events)
     → (r : RunRecord) (fronts : List FrontTally) → TellsRun h r fronts → TellsRun more r fronts
 still_told h more goes_on r [] none = none
-still_told h more goes_on r (front ∷ fronts) told = (record { from = told.0.from; client = told.0.client; done = goes_on r.start told.0.from (generated_events (order_of r) 1 0 front.sent) told.0.done }, told.1)
+still_told h more goes_on r (front ∷ fronts) told = (record { from = told.0.from; client = told.0.client; few = told.0.few; done = goes_on r.start told.0.from (generated_events (order_of r) 1 0 front.sent) told.0.done }, told.1)
 
 all_still : (h more : List (ℕ × BufferEntry)) (runs : List RunRecord) → ((start from : ℕ) (events : List Event) → IsDone (past_of h) (sent_by h front_caller) start from events → IsDone (past_of more) (sent_by more front_caller) start from events)
     → All (λ r. TellsRun h r r.fronts) runs → All (λ r. TellsRun more r r.fronts) runs
@@ -156,9 +159,9 @@ done_run h count last start from place runs events is p =
 
 -- Records.
 
-pub told_completed : (h : List (ℕ × BufferEntry)) (count last from time : ℕ) (runs : List RunRecord) (order : Order) (front : FrontTally) → front.client ≡ 0 → IsDone (past_of h) (sent_by h front_caller) order.start from (generated_events order 1 0 front.sent)
+pub told_completed : (h : List (ℕ × BufferEntry)) (count last from time : ℕ) (runs : List RunRecord) (order : Order) (front : FrontTally) → front.client ≡ 0 → front.sent < 2 ^ 32 → IsDone (past_of h) (sent_by h front_caller) order.start from (generated_events order 1 0 front.sent)
     → IsTold h count last runs → IsTold h count last (runs ++ completed_record order time front ∷ [])
-told_completed h count last from time runs order front client done t =
+told_completed h count last from time runs order front client few done t =
     let r : RunRecord = completed_record order time front in
     let same : generated_events order 1 0 front.sent ≡ generated_events (order_of r) 1 0 front.sent = generated_events-by order (order_of r) 1 0 front.sent refl refl in
     record {
@@ -166,7 +169,7 @@ told_completed h count last from time runs order front client done t =
       read = t.read;
       fresh = t.fresh;
       done = All-push (λ x. TellsRun h x x.fronts) runs r t.done
-          (record { from = from; client = client; done = subst (λ (es : List Event). IsDone (past_of h) (sent_by h front_caller) order.start from es) same done }, refl);
+          (record { from = from; client = client; few = few; done = subst (λ (es : List Event). IsDone (past_of h) (sent_by h front_caller) order.start from es) same done }, refl);
     }
 
 pub told_refused : (h : List (ℕ × BufferEntry)) (count last after : ℕ) (runs : List RunRecord) (r : RunRecord) → last ≤ after → r.fronts ≡ [] → r.files ≡ [] → IsTold h count last runs → IsTold h count after (runs ++ r ∷ [])
@@ -193,6 +196,7 @@ held_by h count r [] same read none = record {
   fronts = subst (λ (xs : List FrontTally). All (IsSentByFront h r) xs) same (All-nil (IsSentByFront h r));
   got = subst (λ (fs : List FileRecord). All (λ f. among (segment h r.start) (places_got h 0) ≡ places_of (wanted_of h any any r.start)) fs) (sym none) (All-nil (λ f. among (segment h r.start) (places_got h 0) ≡ places_of (wanted_of h any any r.start)));
   file = subst (λ (fs : List FileRecord). All (λ f. segment_file h r ≡ file_of r) fs) (sym none) (All-nil (λ f. segment_file h r ≡ file_of r));
+  run_file = subst (λ (fs : List FileRecord). All (λ f. IsSegmentFile h r) fs) (sym none) (All-nil (λ f. IsSegmentFile h r));
 }
 held_by h count r (front ∷ fronts) same read told =
     let events : List Event = generated_events (order_of r) 1 0 front.sent in
@@ -207,6 +211,8 @@ held_by h count r (front ∷ fronts) same read told =
       }) (All-nil (IsSentByFront h r)));
       got = λ k d less. held.got;
       file = λ k d less. ap (λ (es : List Event). run_file r.run r.time0 [] es r.time1 []) said;
+      run_file = λ k d less. subst (λ (es : List Event). IsRunFile (run_file r.run r.time0 [] es r.time1 []) r.run r.time0 [] es r.time1 []) (sym said)
+          (generated_file (order_of r) r.run r.time0 r.time1 (sent_in r.fronts) (subst (λ (n : ℕ). n < 2 ^ 32) (sym sent) told.0.few));
     }
 
 pub held_runs : (h : List (ℕ × BufferEntry)) (count last : ℕ) (runs : List RunRecord) → IsTold h count last runs → All (IsHeldRun h) runs
@@ -241,40 +247,107 @@ end_done old between new order room place middle front p is_new = λ starts runs
 
 -- What stands at the begin of a run and at its end.
 
-pub standing_begun : (h new : List (ℕ × BufferEntry)) (count after starts : ℕ) (runs more : List RunRecord) (current : Option OpenRun) (r : OpenRun) → r.order.start ≡ starts + 1 → new ≡ h ++ begin_entry r.order.start count ∷ [] → after ≡ count → more ≡ runs
+-- no run is on: the calls of the recorded runs
+record IsAtRest (h : List (ℕ × BufferEntry)) (starts : ℕ) (runs : List RunRecord) : Type 0 where
+  most : length runs ≤ starts
+  of_runs : length runs ≡ starts → All (IsOfRuns (completed_starts runs)) h
+
+at_rest : (h : List (ℕ × BufferEntry)) (count starts : ℕ) (runs : List RunRecord) (current : Option OpenRun) → current ≡ None → IsStanding h count starts runs current → IsAtRest h starts runs
+at_rest h count starts runs current idle s =
+    let stands : IsStanding h count starts runs None = subst (λ (o : Option OpenRun). IsStanding h count starts runs o) idle s in
+    record {
+      most = omega (arith, stands.most);
+      of_runs = λ all. subst (λ (xs : List ℕ). All (IsOfRuns xs) h) (append-nil (completed_starts runs)) (stands.of_runs (omega (arith, all)));
+    }
+
+pub rest_of_runs : (h : List (ℕ × BufferEntry)) (count starts : ℕ) (runs : List RunRecord) (current : Option OpenRun) → IsStanding h count starts runs current → length runs ≡ starts → All (IsOfRuns (completed_starts runs)) h
+rest_of_runs h count starts runs None s all = (at_rest h count starts runs None refl s).of_runs all
+rest_of_runs h count starts runs (Some r) s all = absurd (omega (arith, all, s.most))
+
+-- one is on
+record IsWithRun (h : List (ℕ × BufferEntry)) (starts : ℕ) (runs : List RunRecord) (start : ℕ) : Type 0 where
+  most : length runs + 1 ≤ starts
+  of_runs : length runs + 1 ≡ starts → All (IsOfRuns (completed_starts runs ++ start ∷ [])) h
+
+with_run : (h : List (ℕ × BufferEntry)) (count starts : ℕ) (runs : List RunRecord) (current : Option OpenRun) (r : OpenRun) → current ≡ Some r → IsStanding h count starts runs current → IsWithRun h starts runs r.order.start
+with_run h count starts runs current r is_on s =
+    let stands : IsStanding h count starts runs (Some r) = subst (λ (o : Option OpenRun). IsStanding h count starts runs o) is_on s in
+    record { most = omega (arith, stands.most); of_runs = λ all. stands.of_runs (omega (arith, all)) }
+
+-- the same where none is on any more
+still_none : (h : List (ℕ × BufferEntry)) (starts : ℕ) (runs : List RunRecord) (left : Option OpenRun) → left ≡ None → IsAtRest h starts runs
+    → (length runs + length (start_on left) ≤ starts) × (length runs + length (start_on left) ≡ starts → All (IsOfRuns (completed_starts runs ++ start_on left)) h)
+still_none h starts runs left is_off rest =
+    subst (λ (o : Option OpenRun). (length runs + length (start_on o) ≤ starts) × (length runs + length (start_on o) ≡ starts → All (IsOfRuns (completed_starts runs ++ start_on o)) h)) (sym is_off)
+    (omega (arith, rest.most), λ all. subst (λ (xs : List ℕ). All (IsOfRuns xs) h) (sym (append-nil (completed_starts runs))) (rest.of_runs (omega (arith, all))))
+
+pub standing_begun : (h new : List (ℕ × BufferEntry)) (count after starts : ℕ) (runs more : List RunRecord) (current : Option OpenRun) (r : OpenRun) → current ≡ None → r.order.start ≡ starts + 1 → new ≡ h ++ begin_entry r.order.start count ∷ [] → after ≡ count → more ≡ runs
     → IsStanding h count starts runs current → IsStanding new after r.order.start more (Some r)
-standing_begun h new count after starts runs more current r is_start is_new is_after is_more s =
+standing_begun h new count after starts runs more current r idle is_start is_new is_after is_more s =
     let later : starts < r.order.start = omega (arith, is_start) in
     let begun : List (ℕ × BufferEntry) = h ++ begin_entry r.order.start count ∷ [] in
     let on : IsOnRun begun r.order.start count [] = on_run_begun h count starts r.order.start count runs later refl s.told in
+    let rest : IsAtRest h starts runs = at_rest h count starts runs current idle s in
     record {
       told = subst (λ (rs : List RunRecord). IsTold new after r.order.start rs) (sym is_more) (told_at begun new count after r.order.start runs is_new is_after (told_begun h count starts r.order.start count runs later s.told));
       begun = subst (λ (x : List (ℕ × BufferEntry)). IsOnRun x r.order.start after []) (sym is_new) (subst (λ (n : ℕ). IsOnRun begun r.order.start n []) (sym is_after) on);
+      most = omega (arith, is_start, rest.most, ap (λ (rs : List RunRecord). length rs) is_more);
+      of_runs = λ all. subst (λ (rs : List RunRecord). All (IsOfRuns (completed_starts rs ++ r.order.start ∷ [])) new) (sym is_more)
+          (subst (λ (x : List (ℕ × BufferEntry)). All (IsOfRuns (completed_starts runs ++ r.order.start ∷ [])) x) (sym is_new)
+          (of_begin (completed_starts runs) r.order.start count h (rest.of_runs (omega (arith, all, is_start, ap (λ (rs : List RunRecord). length rs) is_more)))));
     }
 
-pub standing_refused : (h new : List (ℕ × BufferEntry)) (count after starts last : ℕ) (runs more : List RunRecord) (current : Option OpenRun) (r : RunRecord) → current ≡ None → starts ≤ last → new ≡ h → after ≡ count → more ≡ runs ++ r ∷ [] → r.fronts ≡ [] → r.files ≡ []
+pub standing_refused : (h new : List (ℕ × BufferEntry)) (count after starts last : ℕ) (runs more : List RunRecord) (current : Option OpenRun) (r : RunRecord) → current ≡ None → last ≡ starts + 1 → new ≡ h → after ≡ count → more ≡ runs ++ r ∷ [] → r.fronts ≡ [] → r.files ≡ [] → start_by r r.outcome ≡ []
     → IsStanding h count starts runs current → IsStanding new after last more current
-standing_refused h new count after starts last runs more current r idle later is_new is_after is_more no_fronts no_files s = record {
-  told = subst (λ (rs : List RunRecord). IsTold new after last rs) (sym is_more) (told_at h new count after last (runs ++ r ∷ []) is_new is_after (told_refused h count starts last runs r later no_fronts no_files s.told));
-  begun = subst (λ (o : Option OpenRun). MatchOption o ⊤ (λ x. IsOnRun new x.order.start after [])) (sym idle) tt;
-}
+standing_refused h new count after starts last runs more current r idle later is_new is_after is_more no_fronts no_files no_start s =
+    let rest : IsAtRest h starts runs = at_rest h count starts runs current idle s in
+    let counted : length more ≡ length runs + 1 = ap (λ (rs : List RunRecord). length rs) is_more ∙ length-append runs (r ∷ []) in
+    let starts_are : completed_starts more ≡ completed_starts runs =
+    ap completed_starts is_more ∙ starts_push runs r ∙ ap (λ (xs : List ℕ). completed_starts runs ++ xs) no_start ∙ append-nil (completed_starts runs) in
+    let none = still_none new last more current idle (record {
+      most = omega (arith, counted, later, rest.most);
+      of_runs = λ all. subst (λ (xs : List ℕ). All (IsOfRuns xs) new) (sym starts_are)
+          (subst (λ (x : List (ℕ × BufferEntry)). All (IsOfRuns (completed_starts runs)) x) (sym is_new) (rest.of_runs (omega (arith, all, counted, later))));
+    }) in
+    record {
+      told = subst (λ (rs : List RunRecord). IsTold new after last rs) (sym is_more) (told_at h new count after last (runs ++ r ∷ []) is_new is_after (told_refused h count starts last runs r (omega (arith, later)) no_fronts no_files s.told));
+      begun = subst (λ (o : Option OpenRun). MatchOption o ⊤ (λ x. IsOnRun new x.order.start after [])) (sym idle) tt;
+      most = none.0;
+      of_runs = none.1;
+    }
 
 pub standing_broken : (h new : List (ℕ × BufferEntry)) (count after starts : ℕ) (runs : List RunRecord) (current left : Option OpenRun) (r : OpenRun) → current ≡ Some r → left ≡ None → r.order.start ≤ starts → KeepsTold h new count after r.order
     → IsStanding h count starts runs current → IsStanding new after starts runs left
 standing_broken h new count after starts runs current left r is_on is_off early keeps s =
     let on : IsOnRun h r.order.start count [] = subst (λ (o : Option OpenRun). MatchOption o ⊤ (λ x. IsOnRun h x.order.start count [])) is_on s.begun in
-    record { told = keeps starts runs early s.told on; begun = subst (λ (o : Option OpenRun). MatchOption o ⊤ (λ x. IsOnRun new x.order.start after [])) (sym is_off) tt }
+    let run : IsWithRun h starts runs r.order.start = with_run h count starts runs current r is_on s in
+    let none = still_none new starts runs left is_off (record { most = omega (arith, run.most); of_runs = λ all. absurd (omega (arith, all, run.most)) }) in
+    record {
+      told = keeps starts runs early s.told on;
+      begun = subst (λ (o : Option OpenRun). MatchOption o ⊤ (λ x. IsOnRun new x.order.start after [])) (sym is_off) tt;
+      most = none.0;
+      of_runs = none.1;
+    }
 
-pub standing_ended : (h new : List (ℕ × BufferEntry)) (count after starts time : ℕ) (runs more : List RunRecord) (current left : Option OpenRun) (r : OpenRun) (front : FrontTally) → current ≡ Some r → left ≡ None → r.order.start ≤ starts → front.client ≡ 0
-    → more ≡ runs ++ completed_record r.order time front ∷ [] → KeepsTold h new count after r.order → EndsTold h new count r.order front.sent
+pub standing_ended : (h new : List (ℕ × BufferEntry)) (count after starts time : ℕ) (runs more : List RunRecord) (current left : Option OpenRun) (r : OpenRun) (front : FrontTally) → current ≡ Some r → left ≡ None → r.order.start ≤ starts → front.client ≡ 0 → front.sent < 2 ^ 32
+    → more ≡ runs ++ completed_record r.order time front ∷ [] → KeepsTold h new count after r.order → EndsTold h new count r.order front.sent → AddsOf r.order.start h new
     → IsStanding h count starts runs current → IsStanding new after starts more left
-standing_ended h new count after starts time runs more current left r front is_on is_off early client is_more keeps ends s =
+standing_ended h new count after starts time runs more current left r front is_on is_off early client few is_more keeps ends adds s =
     let on : IsOnRun h r.order.start count [] = subst (λ (o : Option OpenRun). MatchOption o ⊤ (λ x. IsOnRun h x.order.start count [])) is_on s.begun in
     let ended : IsEnded new r.order front.sent = ends starts runs early s.told on in
+    let run : IsWithRun h starts runs r.order.start = with_run h count starts runs current r is_on s in
+    let counted : length more ≡ length runs + 1 = ap (λ (rs : List RunRecord). length rs) is_more ∙ length-append runs (completed_record r.order time front ∷ []) in
+    let starts_are : completed_starts more ≡ completed_starts runs ++ r.order.start ∷ [] = ap completed_starts is_more ∙ starts_push runs (completed_record r.order time front) in
+    let none = still_none new starts more left is_off (record {
+      most = omega (arith, counted, run.most);
+      of_runs = λ all. subst (λ (xs : List ℕ). All (IsOfRuns xs) new) (sym starts_are) (of_ended (completed_starts runs) r.order.start h new adds (run.of_runs (omega (arith, all, counted))));
+    }) in
     record {
       told = subst (λ (rs : List RunRecord). IsTold new after starts rs) (sym is_more)
-          (told_completed new after starts ended.from time runs r.order front client ended.done (keeps starts runs early s.told on));
+          (told_completed new after starts ended.from time runs r.order front client few ended.done (keeps starts runs early s.told on));
       begun = subst (λ (o : Option OpenRun). MatchOption o ⊤ (λ x. IsOnRun new x.order.start after [])) (sym is_off) tt;
+      most = none.0;
+      of_runs = none.1;
     }
 
 -- The files.
@@ -282,6 +355,7 @@ standing_ended h new count after starts time runs more current left r front is_o
 filed_by : (h : List (ℕ × BufferEntry)) (at : List ℕ → Option Stored) (r : RunRecord) → IsFiled at r → IsHeldRun h r → All (HoldsSegment h at r) r.files
 filed_by h at r filed held = λ k d less. record {
   file = filed k d less ∙ ap (λ (bytes : List ℕ). Some (stored_closed bytes)) (sym (held.file k d less));
+  is_run_file = held.run_file k d less;
   got = held.got k d less;
 }
 

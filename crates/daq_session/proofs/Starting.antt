@@ -30,12 +30,13 @@ use Rattle.session_console.specs.declared.replies.Reply.{Reply}
 use Rattle.session_console.specs.declared.replies.Reply.TheVariants.{RunNumber}
 use Rattle.daq_session.specs.declared.state.State.{State}
 use Rattle.daq_session.specs.declared.state.OpenRun.{OpenRun}
-use Rattle.daq_session.specs.FrontSets.{AreCallers}
+use Rattle.daq_session.specs.RunTransitions.{CallsMore}
 use Rattle.daq_session.specs.RunCalls.{key_made, number_asked}
 use Rattle.daq_session.specs.Stages.{Outset, Stage, DoesByLine, DoesStart, OpensSession, StartsFrom, StartsRun, Interrupts, called}
 use Rattle.daq_session.specs.Standing.{Course, behind_reply, stage_of, order_in, IsAt, IsReady, Breaks, Stays, FailsLine, LineDoes, Handles, HandlesRun}
 use Rattle.daq_session.specs.BrokenRuns.{BreaksRun, turning}
-use Rattle.daq_session.proofs.OwnCalls.{own_grown, callers_grown, main_called}
+use Rattle.daq_session.proofs.OwnCalls.{own_grown, more_grown, main_called}
+use Rattle.daq_session.proofs.TransitionLaws.{more_none, more_after}
 use Rattle.daq_session.proofs.Leading.{stage_is}
 use Rattle.daq_session.proofs.Interrupting.{at_same, cut_own, interrupts_start, memory_handled, with_calls}
 
@@ -68,7 +69,7 @@ pub stays_by : (old new : State) (now : Outset) → new.quota ≡ old.quota → 
 stays_by old new now is_quota is_starts is_opened is_runs is_current same = record {
   stage = λ c. stage_is is_quota is_starts refl refl is_opened (ap order_in is_current) is_runs
       (ap (λ (h : List (ℕ × DatabaseEntry)). entries_by 0 h) same.history) (ap (λ (h : List (ℕ × DatabaseEntry)). entries_by 1 h) same.history) refl;
-  at = at_same old new now is_runs is_current (λ before. subst AreCallers (sym same.history) before);
+  at = at_same old new now is_runs is_current (more_none old.database.history new.database.history same.history);
 }
 
 -- Behind the opening, which left this state.
@@ -77,7 +78,7 @@ pub record IsOpened (old opened : State) : Type 0 where
   pub opens : (c : Course) → OpensSession old.opened (stage_of old c) (stage_of opened c)
   pub runs : opened.runs.items ≡ old.runs.items
   pub current : opened.current ≡ old.current
-  pub callers : AreCallers old.database.history → AreCallers opened.database.history
+  pub more : CallsMore old.database.history opened.database.history
 
 idle_stage : (old : State) (c : Course) → old.current ≡ None → (stage_of old c).on ≡ None
 idle_stage old c idle = ap order_in idle
@@ -115,8 +116,9 @@ starts_from o old opened asked new q next c d is grows is_next is_asked starts =
       },
     )
 
-asked_callers : (old opened : State) (q : Noted) → IsOpened old opened → Grows opened.database q (number_got opened.database.rows) → AreCallers old.database.history → AreCallers q.history
-asked_callers old opened q is grows before = callers_grown opened.database q (number_got opened.database.rows) grows (main_called (number_asked (number_of opened.database.rows) ∷ [])) (is.callers before)
+asked_more : (old opened : State) (q : Noted) → IsOpened old opened → Grows opened.database q (number_got opened.database.rows) → CallsMore old.database.history q.history
+asked_more old opened q is grows =
+    more_after old.database.history opened.database.history q.history is.more (more_grown opened.database q (number_got opened.database.rows) grows (main_called (number_asked (number_of opened.database.rows) ∷ [])))
 
 -- the number was got, and that alone was done since the opening
 pub record IsAsked (opened asked : State) : Type 0 where
@@ -135,12 +137,12 @@ pub unnumbered_handled : (old opened asked : State) (no_next : NoNext) (now : Ou
     → next_run (have_of (number_of opened.database.rows)) ≡ Err no_next → IsReady now.files asked.current → Handles (Ok Start) old asked now now (Ok (RunNumber no_next.have))
 unnumbered_handled old opened asked no_next now is is_asked is_next ready = (
   λ o c at.
-      let same = at_same old asked now (is_asked.runs ∙ is.runs) (is_asked.current ∙ is.current) (asked_callers old opened asked.database is is_asked.grows) o c at in
+      let same = at_same old asked now (is_asked.runs ∙ is.runs) (is_asked.current ∙ is.current) (asked_more old opened asked.database is is_asked.grows) o c at in
       record {
         readings = c.readings;
         clashes = c.clashes;
         does = starts_from o old opened asked asked asked.database (Err no_next) c (behind_reply c c.readings c.clashes (RunNumber no_next.have)) is is_asked.grows is_next (asked_is opened asked is_asked c) refl;
-        at = record { kept = same.kept; clock = same.clock; clashes = same.clashes; callers = same.callers };
+        at = record { kept = same.kept; clock = same.clock; clashes = same.clashes; calls = same.calls };
       },
   ready,
 )
@@ -155,7 +157,7 @@ pub run_handled : (old opened asked new : State) (run : ℕ) (before after : Out
     → next_run (have_of (number_of opened.database.rows)) ≡ Ok run → HandlesRun run asked new before after result → Handles (Ok Start) old new before after result
 run_handled old opened asked new run before after (Ok reply) is is_asked is_next handles = (
   λ o c at.
-      let leads = handles.0 o c (at_same old asked before (is_asked.runs ∙ is.runs) (is_asked.current ∙ is.current) (asked_callers old opened asked.database is is_asked.grows) o c at) in
+      let leads = handles.0 o c (at_same old asked before (is_asked.runs ∙ is.runs) (is_asked.current ∙ is.current) (asked_more old opened asked.database is is_asked.grows) o c at) in
       record {
         readings = leads.readings;
         clashes = leads.clashes;
@@ -169,7 +171,7 @@ run_handled old opened asked new run before after (Err NoMemory) is is_asked is_
     stage = λ c.
         interrupts_start (stage_of old c) (stage_of opened c) (stage_of new c) (number_of opened.database.rows) (number_asked (number_of opened.database.rows) ∷ []) (idle_stage old c is.idle) (is.opens c)
         (inl (refl, tt)) (handles.0.stage c ∙ asked_is opened asked is_asked c ∙ asked_stage opened asked.database is_asked.grows c);
-    at = λ o c at. handles.0.at o c (at_same old asked before (is_asked.runs ∙ is.runs) (is_asked.current ∙ is.current) (asked_callers old opened asked.database is is_asked.grows) o c at);
+    at = λ o c at. handles.0.at o c (at_same old asked before (is_asked.runs ∙ is.runs) (is_asked.current ∙ is.current) (asked_more old opened asked.database is is_asked.grows) o c at);
   },
   handles.1,
 )
@@ -179,7 +181,7 @@ run_handled old opened asked new run before after (Err FileFault) is is_asked is
   λ o c at.
       subst (λ (runs : List RunRecord). BreaksRun o c.readings runs (order_in old.current) after.files) (is_asked.runs ∙ is.runs)
       (subst (λ (on : Option OpenRun). BreaksRun o c.readings asked.runs.items (order_in on) after.files) (is_asked.current ∙ is.current)
-      (handles o c (at_same old asked before (is_asked.runs ∙ is.runs) (is_asked.current ∙ is.current) (asked_callers old opened asked.database is is_asked.grows) o c at))),
+      (handles o c (at_same old asked before (is_asked.runs ∙ is.runs) (is_asked.current ∙ is.current) (asked_more old opened asked.database is is_asked.grows) o c at))),
 )
   where
     start_or_stop : Option OpenRun → Result Command LineRefusal
@@ -194,7 +196,7 @@ start_broken old opened new now result err wanting is is_quota is_starts is_open
     memory_handled (LineDoes (Ok Start)) (Breaks (Ok Start)) (FailsLine (Ok Start)) old new now now result err wanting
     (record {
       stage = λ c. subst (λ (s : Stage). Interrupts (Ok Start) (stage_of old c) s) (sym (same c)) (number_broken old opened new.database is ends c);
-      at = at_same old new now (is_runs ∙ is.runs) (is_current ∙ is.current) (λ before. cut.callers (is.callers before));
+      at = at_same old new now (is_runs ∙ is.runs) (is_current ∙ is.current) (more_after old.database.history opened.database.history new.database.history is.more cut.more);
     })
     (subst (λ (on : Option OpenRun). IsReady now.files on) (sym (is_current ∙ (is.current ∙ is.idle))) tt)
   where

@@ -11,7 +11,7 @@ use Rattle.session_console.specs.declared.replies.Reply.{Reply}
 use Rattle.daq_session.specs.declared.state.State.{State}
 use Rattle.session_console.specs.Console.{console_text, refused_lines}
 use Rattle.session_console.specs.Refused.{Counts}
-use Rattle.daq_session.specs.FrontSets.{AreCallers}
+use Rattle.daq_session.specs.RunTransitions.{CallsStand}
 use Rattle.daq_session.specs.Halts.{HaltBy, SinkBy}
 use Rattle.daq_session.specs.Playing.{AreLines, CutBy, Played, Wrote, course_of}
 use Rattle.daq_session.specs.Played.{IsPlayed}
@@ -83,7 +83,7 @@ pub record Finished (o : Outset) (ending : Ending) (closing : Option Halt) (sour
   pub readings : ℕ
   pub clashes : ℕ
   pub played : IsPlayed o after (CutBy ending source lines) lines (stage_of s (course_of readings clashes (replies ++ behind)))
-  pub callers : AreCallers s.database.history
+  pub calls : CallsStand s.database.history s.runs.items None
   pub counts : Counts (refused_lines 1 (replies ++ behind)) refusals
   pub are_lines : (text : List ℕ) → source ≡ Some text → AreLines ending text left lines
   pub told_lines : Option (List ℕ)

@@ -2,6 +2,8 @@
 use Rattle.std.specs.Prelude.{◌≡◌, ℕ, ◌≤◌, List, [], ◌∷◌, Result, All, ⊤}
 use Rattle.std.specs.List.{flat_map}
 use Rattle.daq_types.specs.Callers.{entries_by}
+use Rattle.daq_types.specs.declared.runs.StartOutcome.{StartOutcome}
+use Rattle.daq_types.specs.declared.runs.StartOutcome.TheVariants.{Completed, Refused}
 use Rattle.odb_value.specs.declared.items.Item.TheVariants.{UInt64}
 use Rattle.odb_tree.specs.declared.entry.DatabaseEntry.{DatabaseEntry}
 use Rattle.odb_tree.specs.declared.entry.DatabaseEntry.TheVariants.{Set}
@@ -28,9 +30,13 @@ abbrev pub numbers_of : List FrontTally → List ℕ
 numbers_of [] = []
 numbers_of (front ∷ fronts) = 0 ∷ front.sent ∷ []
 
--- so in a recorded run; a refused start has no front-end
+-- so in a run whose start had this outcome: in a refused one nothing is set
+abbrev pub numbers_by : StartOutcome → List FrontTally → List ℕ
+numbers_by Completed fronts = numbers_of fronts
+numbers_by (Refused client why) fronts = []
+
 abbrev pub set_numbers : RunRecord → List ℕ
-set_numbers r = numbers_of r.fronts
+set_numbers r = numbers_by r.outcome r.fronts
 
 -- the calls of the front-end, caller 1, are those that set these numbers, run by run
 abbrev pub IsFrontsPass : (calls : List (ℕ × DatabaseEntry)) → (runs : List RunRecord) → Type 0

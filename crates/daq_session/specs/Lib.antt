@@ -2,6 +2,7 @@ pub mod RunNames
 pub mod RunRecords
 pub mod FrontSets
 pub mod RunCalls
+pub mod RunTransitions
 pub mod Stages
 pub mod RecordBytes
 pub mod Tallies
@@ -18,6 +19,7 @@ pub mod BufferEntries
 pub mod BufferRecords
 pub mod RunHistories
 pub mod SystemCalls
+pub mod TakenNames
 pub mod RunsTold
 pub mod RunRecordFits
 pub mod Sessions

@@ -3,7 +3,7 @@ use Rattle.std.specs.Prelude.{◌≡◌, ℕ, ◌==◌, if◌then◌else◌, Lis
 use Rattle.std.specs.List.{filter_map}
 use Rattle.daq_types.specs.declared.events.Event.{Event}
 use Rattle.daq_types.specs.Callers.{caller_of_client}
-use Rattle.daq_model.specs.RunFile.{run_file}
+use Rattle.daq_model.specs.RunFile.{run_file, IsRunFile}
 use Rattle.daq_model.specs.Generator.{generated_events}
 use Rattle.daq_io.specs.Seen.{Stored, stored_closed}
 use Rattle.buffer_core.specs.declared.entry.BufferEntry.{BufferEntry}
@@ -38,11 +38,16 @@ events_of = map (λ e. e.1.event)
 abbrev pub segment_file : List (ℕ × BufferEntry) → RunRecord → List ℕ
 segment_file h r = run_file r.run r.time0 [] (events_of (wanted_of h any any r.start)) r.time1 []
 
+-- it is a run file with these events, within all limits of one
+abbrev pub IsSegmentFile : List (ℕ × BufferEntry) → RunRecord → Type 0
+IsSegmentFile h r = IsRunFile (segment_file h r) r.run r.time0 [] (events_of (wanted_of h any any r.start)) r.time1 []
+
 -- A file that the record names is closed and holds, between its records, the events between the run's marks that the
--- channel's request wants; and of the places between the marks the channel's client got just those, in order. The
--- channel asks for any id and mask, and its client has number 0.
+-- channel's request wants, as a run file; and of the places between the marks the channel's client got just those, in
+-- order. The channel asks for any id and mask, and its client has number 0.
 pub record HoldsSegment (h : List (ℕ × BufferEntry)) (at : List ℕ → Option Stored) (r : RunRecord) (f : FileRecord) : Type 0 where
   pub file : at f.name ≡ Some (stored_closed (segment_file h r))
+  pub is_run_file : IsSegmentFile h r
   pub got : among (segment h r.start) (places_got h 0) ≡ places_of (wanted_of h any any r.start)
 
 -- What the front-end sent in the run are events 1 to n of its generator, in
@@ -52,11 +57,12 @@ pub record IsSentByFront (h : List (ℕ × BufferEntry)) (r : RunRecord) (front 
   pub only : events_of (segment h r.start) ≡ sent_by h (caller_of_client front.client) r.start
 
 -- Of a recorded run: what the front-ends sent; what the channel's client got, for each file; and that the file that the
--- history says is the one that the record says.
+-- history says is the one that the record says, and a run file.
 pub record IsHeldRun (h : List (ℕ × BufferEntry)) (r : RunRecord) : Type 0 where
   pub fronts : All (IsSentByFront h r) r.fronts
   pub got : All (λ f. among (segment h r.start) (places_got h 0) ≡ places_of (wanted_of h any any r.start)) r.files
   pub file : All (λ f. segment_file h r ≡ file_of r) r.files
+  pub run_file : All (λ f. IsSegmentFile h r) r.files
 
 -- so of each file that the record names, with the history of the buffer SYSTEM
 abbrev pub HoldSegments : List BufferRecord → (at : List ℕ → Option Stored) → RunRecord → Type 0

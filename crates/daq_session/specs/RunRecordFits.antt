@@ -8,7 +8,8 @@ use Rattle.odb_tree.specs.declared.entry.DatabaseEntry.{DatabaseEntry}
 use Rattle.odb_tree.specs.declared.refusals.OdbRefusal.{OdbRefusal}
 use Rattle.odb_runinfo.specs.RunSets.{Assignment, have_of, next_run, start_sets, refused_sets, stopping_sets}
 use Rattle.session_console.specs.declared.records.RunRecord.{RunRecord}
-use Rattle.session_console.specs.declared.records.FrontTally.{FrontTally}
+use Rattle.daq_types.specs.declared.runs.StartOutcome.{StartOutcome}
+use Rattle.daq_types.specs.declared.runs.StartOutcome.TheVariants.{Completed, Refused}
 use Rattle.daq_session.specs.RunCalls.{AreSets, number_asked, running_set, stopped_set}
 
 -- the reply of a `get` is a value with this number in item 0
@@ -40,20 +41,20 @@ pub record StopsIn (own : List DatabaseEntry) (r : RunRecord) : Type 0 where
   pub are_sets : AreSets (stopping_sets r.time1 ++ stopped_set) sets
   pub calls : own ≡ before ++ (sets ++ after)
 
--- what a start set last, which had these front-ends: a refused start has none, and set the run number back
-abbrev pub outcome_sets : (run : ℕ) → List FrontTally → List Assignment
-outcome_sets run [] = refused_sets run
-outcome_sets run (front ∷ fronts) = running_set
+-- what a start with this outcome set last: a refused one set the run number back
+abbrev pub outcome_sets : (run : ℕ) → StartOutcome → List Assignment
+outcome_sets run Completed = running_set
+outcome_sets run (Refused client why) = refused_sets run
 
 -- a run that came about was stopped
-abbrev pub StopsBy : List DatabaseEntry → RunRecord → List FrontTally → Type 0
-StopsBy own r [] = ⊤
-StopsBy own r (front ∷ fronts) = StopsIn own r
+abbrev pub StopsBy : List DatabaseEntry → RunRecord → StartOutcome → Type 0
+StopsBy own r Completed = StopsIn own r
+StopsBy own r (Refused client why) = ⊤
 
 -- The record of a run against the main thread's calls: where the start stands in them, and where the stop.
 pub record RunRecordFits (own : List DatabaseEntry) (r : RunRecord) : Type 0 where
-  pub start : StartsIn own r.run r.time0 (outcome_sets r.run r.fronts)
-  pub stop : StopsBy own r r.fronts
+  pub start : StartsIn own r.run r.time0 (outcome_sets r.run r.outcome)
+  pub stop : StopsBy own r r.outcome
 
 -- the same in a history of the database
 abbrev pub FitsHistory : (history : List (ℕ × DatabaseEntry)) → RunRecord → Type 0

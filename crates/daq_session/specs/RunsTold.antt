@@ -1,5 +1,5 @@
 -- What the history of the buffer tells of the runs of a session.
-use Rattle.std.specs.Prelude.{◌≡◌, ℕ, zero, suc, ◌+◌, ◌<◌, ◌≤◌, List, [], ◌∷◌, length, map, take, drop, Option, Some, None, All, ⊤, MatchOption}
+use Rattle.std.specs.Prelude.{◌≡◌, ℕ, zero, suc, ◌+◌, ◌^◌, ◌<◌, ◌≤◌, List, [], ◌∷◌, ◌++◌, length, map, take, drop, Option, Some, None, All, ⊤, MatchOption}
 use Rattle.daq_types.specs.declared.events.Event.{Event}
 use Rattle.daq_types.specs.declared.runs.Order.{Order}
 use Rattle.daq_model.specs.Generator.{generated_events}
@@ -13,7 +13,7 @@ use Rattle.daq_session.specs.BufferEntries.{front_caller}
 use Rattle.daq_session.specs.declared.state.OpenRun.{OpenRun}
 use Rattle.daq_session.specs.RunRecords.{order_of}
 use Rattle.daq_session.specs.RunHistories.{sent_by}
-use Rattle.daq_session.specs.SystemCalls.{AreSystemCalls}
+use Rattle.daq_session.specs.SystemCalls.{AreSystemCalls, IsOfRuns, completed_starts}
 
 -- the events as they were sent in the run
 abbrev pub in_run : (start : ℕ) → Event → Sent
@@ -57,6 +57,7 @@ pub record IsDone (past : List (ℕ × BufferEntry)) (sends : ℕ → List Event
 pub record IsDoneRun (h : List (ℕ × BufferEntry)) (r : RunRecord) (front : FrontTally) : Type 0 where
   pub from : ℕ
   pub client : front.client ≡ 0
+  pub few : front.sent < 2 ^ 32
   pub done : IsDone (past_of h) (sent_by h front_caller) r.start from (generated_events (order_of r) 1 0 front.sent)
 
 -- the record has the one front-end, or is that of a refused start
@@ -89,7 +90,21 @@ KeepsTold old new before after order = (starts : ℕ) (runs : List RunRecord) �
 abbrev pub EndsTold : (old new : List (ℕ × BufferEntry)) (before : ℕ) (order : Order) (sent : ℕ) → Type 0
 EndsTold old new before order sent = (starts : ℕ) (runs : List RunRecord) → order.start ≤ starts → IsTold old before starts runs → IsOnRun old order.start before [] → IsEnded new order sent
 
--- the history tells the recorded runs, and that the one that is on has no event yet
+-- calls more, each of which speaks of no run or of that with this start number
+pub record AddsOf (start : ℕ) (old new : List (ℕ × BufferEntry)) : Type 0 where
+  pub more : List (ℕ × BufferEntry)
+  pub history : new ≡ old ++ more
+  pub each : All (IsOfRuns (start ∷ [])) more
+
+-- the start number of the run that is on
+abbrev pub start_on : Option OpenRun → List ℕ
+start_on None = []
+start_on (Some r) = r.order.start ∷ []
+
+-- The history tells the recorded runs, and that the one that is on has no event yet. Where each start that was begun has
+-- its record or is on, no call speaks of another run. One has none whose file failed.
 pub record IsStanding (h : List (ℕ × BufferEntry)) (count starts : ℕ) (runs : List RunRecord) (on : Option OpenRun) : Type 0 where
   pub told : IsTold h count starts runs
   pub begun : MatchOption on ⊤ (λ r. IsOnRun h r.order.start count [])
+  pub most : length runs + length (start_on on) ≤ starts
+  pub of_runs : length runs + length (start_on on) ≡ starts → All (IsOfRuns (completed_starts runs ++ start_on on)) h

@@ -6,6 +6,7 @@ use Rattle.daq_types.specs.declared.runs.Order.{Order}
 use Rattle.daq_io.specs.Counts.{Rose}
 use Rattle.daq_io.specs.Seen.{Seen}
 use Rattle.daq_io.specs.Streams.{AppendsPart}
+use Rattle.odb_tree.specs.declared.entry.DatabaseEntry.{DatabaseEntry}
 use Rattle.odb_tree.specs.Histories.{IsLegal}
 use Rattle.odb_runinfo.specs.RunKeys.{session_rows}
 use Rattle.odb_script.specs.Forms.{command_of}
@@ -29,8 +30,10 @@ use Rattle.daq_session.specs.Played.{IsPlayed}
 use Rattle.daq_session.specs.Playing.{AreLines, CutBy, FailsAt, Wrote}
 use Rattle.daq_session.specs.RunHistories.{AreSentByFronts, HoldSegments}
 use Rattle.daq_session.specs.RunRecordFits.{FitsHistory}
+use Rattle.daq_session.specs.RunTransitions.{HoldsRuns}
 use Rattle.daq_session.specs.Stages.{Outset, Stage, Plays, opening}
-use Rattle.daq_session.specs.SystemCalls.{AreSystemCalls}
+use Rattle.daq_session.specs.SystemCalls.{AreSystemCalls, IsOfRuns, completed_starts}
+use Rattle.daq_session.specs.TakenNames.{AreWithinRise}
 
 -- What the outside tells of itself: what is left of the script, the text written so far, the run files and the clock, and the
 -- counts of faults, with the name of the file of the first.
@@ -55,7 +58,8 @@ abbrev pub Stands : Count → Type 0
 Stands count = count.new ≡ count.old
 
 -- what the cause says of the counts of faults of the source, the sink and the run files, and of the file of the first
--- fault: a fault is the cause exactly where that count rose and no earlier cause holds. Where there was no memory nothing
+-- fault: a fault is the cause exactly where that count rose and no earlier cause holds. The input is bad only where the
+-- script is too long. Where there was no memory nothing
 -- is printed behind that, and so the sink's count stands
 abbrev pub FaultsBy : ScriptEnd → (source sink files : Count) → (first : Option (List ℕ)) → Type 0
 FaultsBy Done source sink files first = Stands source × Stands sink × Stands files
@@ -97,6 +101,15 @@ abbrev pub IsRecorded : Stage → Option SessionRecord → Type 0
 IsRecorded final None = final.opened ≡ false
 IsRecorded final (Some session) = (final.opened ≡ true) × (session.runs ≡ final.runs) × (entries_by 0 session.database ≡ final.own) × (entries_by 1 session.database ≡ final.front)
 
+-- The calls on the database, recorded or not, are those of one history that is legal from a session's first rows: the
+-- main thread's, caller 0, the front-end's, caller 1, and no other's. So each reply is that of the rows at its point.
+pub record HasHistory (final : Stage) : Type 0 where
+  pub history : List (ℕ × DatabaseEntry)
+  pub legal : IsLegal session_rows history
+  pub callers : AreCallers history
+  pub own : entries_by 0 history ≡ final.own
+  pub front : entries_by 1 history ≡ final.front
+
 -- What a session made of its script, where no call on the run files failed. The last reply is that of the stop at the
 -- end, where one was given.
 pub record IsSession (before after : Environment) (end : ScriptEnd) (ends : EndsScript before after end) (session : Option SessionRecord) : Type 0 where
@@ -104,6 +117,7 @@ pub record IsSession (before after : Environment) (end : ScriptEnd) (ends : Ends
   pub final : Stage
   pub played : IsPlayed before.outset after.outset (CutBy ends.ending before.source lines) lines final
   pub recorded : IsRecorded final session
+  pub called : HasHistory final
   pub read : (text : List ℕ) → before.source ≡ Some text → AreLines ends.ending text after.source lines
   pub refused : Counts (refused_lines 1 final.replies) ends.refusals
   -- the replies to the lines, and behind them that of the stop; and what was told as the lines ended
@@ -156,6 +170,10 @@ pub record HoldsRecord (before after : Environment) (s : SessionRecord) : Type 0
   -- whose calls stand in that history: first the logger attaches the channel's client and makes its one request, for all
   -- events; then the front-end only sends in runs, and the logger marks the runs and receives for its client
   pub system_calls : AreSystemCalls (history_in s.buffers)
+  -- each run that was begun there, and each event, stands under the start number of a completed run
+  pub no_other_run : All (IsOfRuns (completed_starts s.runs)) (history_in s.buffers)
+  -- the starts that were refused for a taken name are no more than what the count of clashes rose by
+  pub refused_starts : AreWithinRise s.runs before.outset.clashes after.outset.clashes
   -- each file of a run holds the events between the run's marks, of which the channel's client got just those that it asked
   -- for; and these are the events that the front-end sent in that run
   pub run_files : ¬ Rose before.file_faults after.file_faults → IsTrue before.outset.files.tells → All (HoldSegments s.buffers after.outset.files.at) s.runs
@@ -167,6 +185,9 @@ pub record HoldsRecord (before after : Environment) (s : SessionRecord) : Type 0
   -- each run's record stands to the main thread's own calls: its start got the run number before it and set the run's keys,
   -- its stop set them, in order and with none of its calls between
   pub record_fits : All (FitsHistory s.database) s.runs
+  -- the runs stand in that history one behind the other, each by its outcome: the front-end sets its number in its turn,
+  -- behind what the main thread sets as a start or a stop begins and before what it sets as that ends
+  pub run_turns : HoldsRuns s.database s.runs
 
 -- A script was read and the session run that it commands.
 pub record RunsScript (before after : Environment) (end : ScriptEnd) (recorded : Option SessionRecord) : Type 0 where

@@ -11,7 +11,7 @@ use Rattle.daq_session.specs.declared.halts.Halt.TheVariants.{NoMemory, SinkFaul
 use Rattle.session_console.specs.declared.replies.Reply.{Reply}
 use Rattle.daq_session.specs.declared.state.State.{State}
 use Rattle.daq_session.specs.declared.state.OpenRun.{OpenRun}
-use Rattle.daq_session.specs.FrontSets.{AreCallers}
+use Rattle.daq_session.specs.RunTransitions.{CallsStand}
 use Rattle.daq_session.specs.RunRecords.{IsKept}
 use Rattle.daq_session.specs.Stages.{Outset, Stage, DoesByLine, StartsRun, Interrupts}
 use Rattle.daq_session.specs.BrokenRuns.{BreaksRun, turning}
@@ -40,12 +40,13 @@ pub record IsClock (o : Outset) (readings : ℕ) (now : Outset) : Type 0 where
   pub tells : now.clock_tells ≡ o.clock_tells
   pub ahead : IsTrue o.clock_tells → (n : ℕ) → now.ahead n ≡ o.ahead (readings + n)
 
--- The outside now, against the outside as the script began, the records, and the course so far; and who called the database.
+-- The outside now, against the outside as the script began, the records, and the course so far; and the calls on the
+-- database.
 pub record IsAt (o : Outset) (c : Course) (s : State) (now : Outset) : Type 0 where
   pub kept : IsKept o.files now.files s.runs.items s.current
   pub clock : IsClock o c.readings now
   pub clashes : now.clashes ≡ c.clashes
-  pub callers : AreCallers s.database.history
+  pub calls : CallsStand s.database.history s.runs.items (order_in s.current)
 
 -- the file of the run that is on is being written
 abbrev pub IsReady : Seen → Option OpenRun → Type 0

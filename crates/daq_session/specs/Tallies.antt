@@ -1,5 +1,5 @@
 -- What a front-end says that it sent.
-use Rattle.std.specs.Prelude.{◌≡◌, ℕ, ◌*◌}
+use Rattle.std.specs.Prelude.{◌≡◌, ℕ, ◌*◌, ◌^◌, ◌<◌}
 use Rattle.session_console.specs.declared.records.FrontTally.{FrontTally}
 use Rattle.daq_types.specs.declared.runs.FrontEnded.{FrontEnded}
 use Rattle.daq_types.specs.declared.runs.FrontEnded.TheVariants.{Quota, Paused, Spent}
@@ -18,7 +18,8 @@ EndsBy Quota sent quota = sent ≡ quota
 EndsBy Paused sent quota = ⊥
 EndsBy (Spent total) sent quota = ⊥
 
--- what the front-end FE, client 0, sent of this quota
+-- what the front-end FE, client 0, sent of this quota, counted in 32 bits
 pub record IsTally (quota : ℕ) (front : FrontTally) : Type 0 where
   pub client : front.client ≡ 0
+  pub few : front.sent < 2 ^ 32
   pub ends : EndsBy front.ended front.sent quota

@@ -10,6 +10,7 @@ ghost use Rattle.ring_bytes.specs.Rings.{most_bytes};
 ghost use Rattle.daq_session.specs.BufferEntries.{front_caller, logger_caller, opening_entries, begin_entry, passed_entries, end_entry, PassesFirst};
 ghost use Rattle.daq_session.specs.BufferRecords.{IsOneHistory, IsSystem};
 ghost use Rattle.daq_session.specs.RunsTold.{IsTold};
+ghost use Rattle.daq_session.specs.SystemCalls.{IsOfRuns};
 ghost use Rattle.daq_session.specs.Tallies.{IsTally, most_spent, most_starts};
 
 use buffer_core::laws;
@@ -136,12 +137,14 @@ fn system_name() -> Name
 
 impl DataPath {
     /// The way of a session's events, before its first run.
+    #[tactic(auto, using(crate::proofs::OpeningRuns::none_of_runs))]
     pub fn new(alloc: Global) -> Result<DataPath, NoMemory>
         ensures shut { IfOk result (λ path. path.port.window.gate ≡ Shut) }
         ensures last { IfOk result (λ path. path.port.window.last ≡ 0) }
         ensures total { IfOk result (λ path. path.port.window.total ≡ 0) }
         ensures told { IfOk result (λ path. IsTold path.port.history
             (accepted_of path.port.window) 0 []) }
+        ensures no_run { IfOk result (λ path. All (IsOfRuns []) path.port.history) }
     {
         let sent = EventBuf::new(alloc, EVENT_ROOM)?;
         let port = system_port(alloc)?;

@@ -1,8 +1,8 @@
-ghost use Rattle.std.specs.Prelude.{◌≡◌, ◌↔◌, All, IfSome, IsTrue, Some};
+ghost use Rattle.std.specs.Prelude.{◌≡◌, ◌↔◌, length, All, IfSome, IsTrue, Some};
 ghost use Rattle.daq_session.specs.BufferRecords.{IsOneHistory, IsSystem, history_in};
 ghost use Rattle.daq_session.specs.RunHistories.{IsHeldRun};
 ghost use Rattle.daq_session.specs.Sessions.{IsRecorded, RunsScript};
-ghost use Rattle.daq_session.specs.SystemCalls.{AreSystemCalls};
+ghost use Rattle.daq_session.specs.SystemCalls.{AreSystemCalls, IsOfRuns, completed_starts};
 ghost use Rattle.daq_session.specs.Standing.{Course, stage_of};
 ghost use Rattle.odb_tree.specs.Histories.{IsLegal};
 ghost use Rattle.odb_runinfo.specs.RunKeys.{session_rows};
@@ -23,18 +23,21 @@ use std::thread::Threads;
 /// The record of a session that is over; none where no start opened it.
 fn record_of(session: Session) -> Option<SessionRecord>
     ensures recorded { (c : Course) → IsRecorded (stage_of session.state c) result }
+    ensures legal { IsLegal session_rows session.state.database.history }
     ensures history { IfSome result (λ s. s.database ≡ session.state.database.history) }
     ensures database { IfSome result (λ s. IsLegal session_rows s.database) }
     ensures buffers { IfSome result (λ s. IsSystem (history_in s.buffers) s.buffers) }
     ensures one_history { IfSome result (λ s. All IsOneHistory s.buffers) }
     ensures system_calls { IfSome result (λ s. AreSystemCalls (history_in s.buffers)) }
+    ensures no_other_run { length session.state.runs.items ≡ session.state.starts
+        → IfSome result (λ s. All (IsOfRuns (completed_starts s.runs)) (history_in s.buffers)) }
     ensures held { IfSome result (λ s. All (IsHeldRun (history_in s.buffers)) s.runs) }
 {
     let state = session.state;
+    let (_, database) = state.database.into_parts();
     if !state.opened {
         return None;
     }
-    let (_, database) = state.database.into_parts();
     Some(SessionRecord {
         runs: Entries::of(state.runs),
         buffers: session.path.into_records(),

@@ -7,7 +7,7 @@ ghost use Rattle.session_console.specs.Console.{is_refusal};
 ghost use Rattle.daq_session.specs.Halts.{CountsHalt};
 ghost use Rattle.daq_session.specs.Standing.{AnswersLine, Course, FailsLine, Handles, IsReady, behind_reply, stage_of};
 ghost use Rattle.daq_session.specs.Stages.{DoesCommand, Interrupts};
-ghost use Rattle.daq_session.specs.FrontSets.{AreCallers};
+ghost use Rattle.daq_session.specs.RunTransitions.{CallsMore};
 ghost use Rattle.daq_session.specs.declared.halts.Halt.TheVariants.{NoMemory as no_memory};
 ghost use Rattle.odb_commands.specs.Answers.{answer_of};
 ghost use Rattle.odb_runinfo.specs.RunKeys.{session_rows};
@@ -71,8 +71,7 @@ fn call(alloc: Global, state: &mut State, command: &Command<'_>) -> Result<Reply
     ensures halted { IfErr result (λ halt. halt ≡ no_memory) }
     ensures interrupted { OnErr result ((c : Course) → Interrupts (Ok command.now)
         (stage_of state.old c) (stage_of state.new c)) }
-    ensures callers { AreCallers state.old.database.history
-        → AreCallers state.new.database.history }
+    ensures calls { CallsMore state.old.database.history state.new.database.history }
     ensures current { state.new.current ≡ state.old.current }
     ensures runs { state.new.runs.items ≡ state.old.runs.items }
     ensures starts { state.new.starts ≡ state.old.starts }
@@ -86,6 +85,7 @@ fn call(alloc: Global, state: &mut State, command: &Command<'_>) -> Result<Reply
 
 impl Session {
     /// A session before its first line.
+    #[tactic(auto, using(crate::proofs::OpeningRuns::standing_new))]
     pub fn new(alloc: Global) -> Result<Session, NoMemory>
         ensures stopped { IfOk result (λ s. s.state.current ≡ None) }
         ensures runs { IfOk result (λ s. s.state.runs.items ≡ []) }

@@ -8,13 +8,13 @@ ghost use Rattle.daq_io.specs.Counts.{CountsFault};
 ghost use Rattle.daq_io.specs.Seen.{Closes};
 ghost use Rattle.buffer_core.specs.Window.{accepted_of};
 ghost use Rattle.daq_session.specs.FileFaults.{BreaksFile};
-ghost use Rattle.daq_session.specs.RunsTold.{IsStanding, KeepsTold, EndsTold};
+ghost use Rattle.daq_session.specs.RunsTold.{AddsOf, IsStanding, KeepsTold, EndsTold};
 ghost use Rattle.daq_session.specs.Tallies.{IsTally, most_spent, most_starts};
 ghost use Rattle.session_console.specs.Console.{is_refusal};
 ghost use Rattle.odb_journal.specs.Noted.{KeepsCalls};
 ghost use Rattle.session_console.specs.FrontNames.{front_name};
 ghost use Rattle.daq_session.specs.RunNames.{run_name};
-ghost use Rattle.daq_session.specs.FrontSets.{AreCallers};
+ghost use Rattle.daq_session.specs.RunTransitions.{CallsMore};
 ghost use Rattle.daq_session.specs.Stages.{Interrupts, OpensSession, completed_record, file_record, refused_record};
 ghost use Rattle.daq_session.specs.Standing.{AnswersLine, Course, FailsLine, Handles, HandlesRun, IsReady, stage_of};
 ghost use Rattle.odb_script.specs.declared.forms.Command.TheVariants.{Start, Stop};
@@ -75,8 +75,7 @@ fn open_session(alloc: Global, state: &mut State) -> Result<(), NoMemory>
         (stage_of state.old c) (stage_of state.new c)) }
     ensures interrupted { OnErr result ((c : Course) → Interrupts (Ok Start)
         (stage_of state.old c) (stage_of state.new c)) }
-    ensures callers { AreCallers state.old.database.history
-        → AreCallers state.new.database.history }
+    ensures calls { CallsMore state.old.database.history state.new.database.history }
     ensures current { state.new.current ≡ state.old.current }
     ensures runs { state.new.runs.items ≡ state.old.runs.items }
     ensures starts { state.new.starts ≡ state.old.starts }
@@ -434,6 +433,7 @@ fn end_run<F: Files>(
         (accepted_of path.old.port.window) (accepted_of path.new.port.window) order }
     ensures done { IfOk result (λ e. EndsTold path.old.port.history path.new.port.history
         (accepted_of path.old.port.window) order e.front.sent) }
+    ensures of_run { AddsOf order.start path.old.port.history path.new.port.history }
     ensures clashes { F.clashes files.new ≡ F.clashes files.old }
     ensures faults { CountsFault (F.faults files.old) (F.faults files.new) result }
 {

@@ -1,9 +1,14 @@
-use Rattle.std.proofs.Common.{◌≡◌, ◌≢◌, Some, true, false, sym, ◌∙◌}
+use Rattle.std.proofs.Common.{◌≡◌, ◌≢◌, [], Some, true, false, sym, subst, ◌∙◌}
+use Rattle.daq_session.specs.declared.endings.Ending.{Ending}
 use Rattle.daq_session.specs.declared.endings.Ending.TheVariants.{Halted}
 use Rattle.daq_session.specs.declared.halts.Halt.TheVariants.{FileFault}
+use Rattle.daq_session.specs.Endings.{SourceCounts, SinkCounts, FileCounts}
+use Rattle.daq_session.specs.Playing.{PlaysTo, course_of}
+use Rattle.daq_session.specs.Sessions.{IsScriptEnd}
 use Rattle.daq_session.proofs.FitLaws.{session_fits}
-use Rattle.daq_session.proofs.FrontLaws.{session_fronts, callers_by}
-use Rattle.daq_session.proofs.RunLaws.{plays_played, ran_none, broken_at, broken_stop, ran_whole, record_holds, risen_end, files_still}
+use Rattle.daq_session.proofs.FrontLaws.{session_fronts, recorded_callers}
+use Rattle.daq_session.proofs.RunLaws.{plays_played, finished_numbered, finished_runs, ran_none, broken_at, broken_stop, ran_whole, record_holds, risen_end, files_still}
+use Rattle.daq_session.proofs.NumberLaws.{session_within}
 use Rattle.daq_session.proofs.RunsKept.{session_filed, session_sent}
 use Rattle.daq_session.proofs.run.run.Given.{Over}
 use Rattle.daq_session.proofs.run.run.Goals as goal
@@ -42,8 +47,11 @@ returns-clause-ran g c =
     ran_whole _ _ c.play-ending.result c.close_run-closing.result _ _ _ _ _ c.record_of.result sound other
     (record { may = c.close_run-closing.ensures.may; source = c.play-ending.ensures.source; sink_lines = _; sink = c.play-ending.ensures.sink; sink_behind = c.close_run-closing.ensures.sink; files_lines = _; files = c.play-ending.ensures.files; files_behind = c.close_run-closing.ensures.files })
     (files_still c.play-ending.result c.close_run-closing.result _ _ _ sound other c.play-ending.ensures.files c.close_run-closing.ensures.files) c.close_run-closing.ensures.refusals
-    c.with_closing-ended.ensures c.end_of-end.ensures c.record_of.ensures.recorded finished
+    c.with_closing-ended.ensures c.end_of-end.ensures c.record_of.ensures.recorded c.record_of.ensures.legal finished
     (λ ends is. record_holds _ _ c.record_of.result c.record_of.ensures.database c.record_of.ensures.buffers c.record_of.ensures.one_history c.record_of.ensures.system_calls
     (λ calm tells. session_filed is.final c.record_of.result _ is.recorded (is.played.kept.filed tells) c.record_of.ensures.held) (session_sent c.record_of.result c.record_of.ensures.held)
-    (session_fronts _ _ _ _ is.lines is.final _ is.played is.recorded) (callers_by c.record_of.result _ c.record_of.ensures.history finished.callers)
-    (session_fits _ _ _ _ is.lines is.final _ is.played is.recorded c.record_of.ensures.database))
+    (session_fronts _ _ _ _ is.lines is.final _ is.played is.recorded) (recorded_callers c.record_of.result _ c.record_of.ensures.history finished.calls.callers)
+    (session_fits _ _ _ _ is.lines is.final _ is.played is.recorded c.record_of.ensures.database)
+    (finished_runs _ _ _ _ _ _ _ _ _ _ c.record_of.result finished c.record_of.ensures.history c.record_of.ensures.recorded)
+    (c.record_of.ensures.no_other_run (finished_numbered _ c.play-ending.result c.close_run-closing.result _ _ _ _ _ _ _ finished))
+    (session_within _ _ _ _ is.lines is.final _ is.played is.recorded))

@@ -7,6 +7,7 @@ use Rattle.daq_io.specs.SeenLaws.{Extends-Closes}
 use Rattle.buffer_core.specs.Window.{accepted_of}
 use Rattle.daq_session.specs.FileFaults.{BreaksFile}
 use Rattle.daq_session.proofs.BrokenFiles.{on_err, part_breaks, part_of_more, quota_sent, then_breaks}
+use Rattle.daq_session.proofs.OfRuns.{adds_of}
 use Rattle.daq_session.proofs.RunsKept.{end_told, end_done}
 use Rattle.daq_session.proofs.transitions.end_run.Goals as goal
 
@@ -55,3 +56,21 @@ returns-in_err-end_file-clause-broken g c =
     (subst Breaks (quota_sent c.in_ok-front.front c.in_ok-front.ensures.tally)
     (then_breaks (all c.in_ok-front.front.sent) ends c.in_ok-front.ensures.written
     c.in_err-end_file.ensures.broken))
+
+pub returns-in_err-front-clause-of_run : goal.returns-in_err-front-clause-of_run
+returns-in_err-front-clause-of_run g c =
+    adds_of c.args.path.now.port.history c.send_events-sent.new.self.port.history c.end.new.self.port.history c.args.order c.args.path.now.got.room
+    (accepted_of c.args.path.now.port.window) (accepted_of c.send_events-sent.new.self.port.window) (accepted_of c.send_events-sent.new.self.port.window)
+    c.send_events-sent.result c.send_events-sent.ensures.history c.end.ensures.history
+
+pub returns-in_err-end_file-clause-of_run : goal.returns-in_err-end_file-clause-of_run
+returns-in_err-end_file-clause-of_run g c =
+    adds_of c.args.path.now.port.history c.send_events-sent.new.self.port.history c.end.new.self.port.history c.args.order c.args.path.now.got.room
+    (accepted_of c.args.path.now.port.window) (accepted_of c.send_events-sent.new.self.port.window) (accepted_of c.send_events-sent.new.self.port.window)
+    c.send_events-sent.result c.send_events-sent.ensures.history c.end.ensures.history
+
+pub returns-clause-of_run : goal.returns-clause-of_run
+returns-clause-of_run g c =
+    adds_of c.args.path.now.port.history c.send_events-sent.new.self.port.history c.end.new.self.port.history c.args.order c.args.path.now.got.room
+    (accepted_of c.args.path.now.port.window) (accepted_of c.send_events-sent.new.self.port.window) (accepted_of c.send_events-sent.new.self.port.window)
+    c.send_events-sent.result c.send_events-sent.ensures.history c.end.ensures.history

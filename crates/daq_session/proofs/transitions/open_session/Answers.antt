@@ -2,6 +2,7 @@ use Rattle.std.proofs.Common.{List, ℕ, subst}
 use Rattle.odb_runinfo.specs.RunSets.{MakesNoKey}
 use Rattle.daq_session.proofs.Interrupting.{opening_halted}
 use Rattle.daq_session.proofs.Starting.{opened_now}
+use Rattle.daq_session.proofs.OwnCalls.{made_called, more_grown, unmade_more}
 use Rattle.daq_session.proofs.transitions.open_session.Goals as goal
 
 pub returns-in_err-open_front-clause-interrupted : goal.returns-in_err-open_front-clause-interrupted
@@ -12,3 +13,10 @@ returns-in_err-open_front-clause-interrupted c =
 pub returns-in_ok-open_front-clause-opens : goal.returns-in_ok-open_front-clause-opens
 returns-in_ok-open_front-clause-opens c =
     opened_now c.args.state.now.opened c.args.state.now c.open_front.new.database c.front_name.result c.if-not-state.true c.front_name.ensures c.in_ok-open_front.ensures.calls
+
+pub returns-in_err-open_front-clause-calls : goal.returns-in_err-open_front-clause-calls
+returns-in_err-open_front-clause-calls c = unmade_more c.args.state.now.database.history c.open_front.new.database.history c.front_name.result c.in_err-open_front.ensures.unmade
+
+pub returns-in_ok-open_front-clause-calls : goal.returns-in_ok-open_front-clause-calls
+returns-in_ok-open_front-clause-calls c =
+    more_grown c.args.state.now.database c.open_front.new.database _ c.in_ok-open_front.ensures.calls (made_called c.args.state.now.database.rows c.front_name.result)

@@ -6,6 +6,7 @@ use Rattle.session_console.specs.declared.records.RunRecord.{RunRecord}
 use Rattle.daq_session.proofs.OwnCalls.{ended_calls}
 use Rattle.daq_session.proofs.Leading.{ended_leads}
 use Rattle.daq_session.proofs.RunsBroken.{stop_fails}
+use Rattle.daq_session.proofs.TransitionLaws.{running_stand, stand_ended}
 use Rattle.daq_session.proofs.transitions.stop.Goals as goal
 
 pub returns-in_ok-ended-in-Some-clause-did : goal.returns-in_ok-ended-in-Some-clause-did
@@ -16,7 +17,9 @@ returns-in_ok-ended-in-Some-clause-did g c = λ o course at.
     (sym c.take.ensures.value ∙ c.in-Some.is) (record { tells = c.now-time.ensures.tells; value = c.now-time.ensures.value; later = c.now-time.ensures.later })
     c.in_ok-ended-in-Some.ensures.file c.end_run.ensures.clashes c.in_ok-ended-in-Some.ensures.tally c.in_ok-ended-in-Some.ensures.named refl refl refl
     (c.push_reserved.ensures.items ∙ ap (λ (r : RunRecord). c.args.state.now.runs.items ++ r ∷ []) c.in_ok-ended-in-Some.ensures.recorded) c.take.ensures.after
-    calls.are_sets calls.sent_all calls.own calls.front (calls.callers at.callers)
+    calls.are_sets calls.sent_all calls.own calls.front
+    (stand_ended c.args.state.now.database.history c.set_stopped.new.database.history c.args.state.now.runs.items c.in-Some.run'.order c.now-time.result c.in_ok-ended-in-Some.ended.front calls.more calls.transition
+    (running_stand o course c.args.state.now _ c.in-Some.run' at (sym c.take.ensures.value ∙ c.in-Some.is)))
 
 pub returns-in_err-ended-in-Some-clause-broken : goal.returns-in_err-ended-in-Some-clause-broken
 returns-in_err-ended-in-Some-clause-broken g c =
@@ -39,6 +42,6 @@ returns-in_ok-ended-in-Some-clause-told g c =
     ∥∥₁_map c.requires.told
     (standing_ended c.args.path.now.port.history c.end_run.new.path.port.history (accepted_of c.args.path.now.port.window) (accepted_of c.end_run.new.path.port.window) c.args.state.now.starts c.now-time.result
     c.args.state.now.runs.items c.push_reserved.new.self.items c.args.state.now.current c.take.new.self c.in-Some.run' c.in_ok-ended-in-Some.ended.front is_on c.take.ensures.after early
-    c.in_ok-ended-in-Some.ensures.tally.client
+    c.in_ok-ended-in-Some.ensures.tally.client c.in_ok-ended-in-Some.ensures.tally.few
     (c.push_reserved.ensures.items ∙ ap (λ (r : RunRecord). c.args.state.now.runs.items ++ r ∷ []) c.in_ok-ended-in-Some.ensures.recorded)
-    c.end_run.ensures.told c.in_ok-ended-in-Some.ensures.done)
+    c.end_run.ensures.told c.in_ok-ended-in-Some.ensures.done c.end_run.ensures.of_run)
