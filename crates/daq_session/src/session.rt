@@ -21,11 +21,11 @@ use crate::state::State;
 use crate::transitions::{start, stop};
 use daq_io::{Clock, Failed, Files};
 use daq_types::NoMemory;
+use odb_arena::ArenaTree;
 use odb_commands::{COMMAND_CALLS, run_command};
 use odb_journal::LocalDatabase;
 use odb_runinfo::{STOP_CALLS, open};
 use odb_script::{Command, LineRefusal};
-use odb_tree::PlainTree;
 use session_console::Reply;
 use std::alloc::Global;
 
@@ -53,12 +53,12 @@ pub struct Session {
 }
 
 /// The online database of a session: the run's parameters, and no call noted.
-fn open_database(alloc: Global) -> Result<LocalDatabase<PlainTree>, NoMemory>
+fn open_database(alloc: Global) -> Result<LocalDatabase<ArenaTree>, NoMemory>
     ensures start { IfOk result (λ database. database.start ≡ session_rows) }
     ensures rows { IfOk result (λ database. database.rows ≡ session_rows) }
     ensures calls { IfOk result (λ database. database.history ≡ []) }
 {
-    let mut tree = PlainTree::new(alloc);
+    let mut tree = ArenaTree::new(alloc);
     open(alloc, &mut tree)?;
     Ok(LocalDatabase::new(alloc, tree))
 }

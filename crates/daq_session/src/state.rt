@@ -6,9 +6,9 @@ ghost use Rattle.session_console.specs.FrontNames.{front_name};
 
 use crate::rooms::Rooms;
 use daq_types::{FileName, Order};
+use odb_arena::ArenaTree;
 use odb_journal::LocalDatabase;
 use odb_runinfo::{StoppedPaths, StoppingPaths};
-use odb_tree::PlainTree;
 use session_console::RunRecord;
 
 /// Where a session stands between two lines of its script.
@@ -25,7 +25,7 @@ pub struct State {
     /// The run that is on.
     pub current: Option<OpenRun>,
     /// The online database, with the journal of its calls.
-    pub database: LocalDatabase<PlainTree>,
+    pub database: LocalDatabase<ArenaTree>,
     // The record of the run that is on needs no memory.
     ghost room: { ForSome current (λ _. vec_len runs < vec_capacity runs) },
     // The calls are noted since the session's first rows.
