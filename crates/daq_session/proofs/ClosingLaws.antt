@@ -235,6 +235,7 @@ finished_idle o ending source left told_first told s now refusals idle played =
       calls = subst (λ (on : Option OpenRun). CallsStand s.database.history s.runs.items (order_in on)) idle played.at.calls;
       counts = subst (λ (rs : List Reply). Counts (refused_lines 1 rs) refusals) (sym same) played.counts;
       are_lines = played.are_lines;
+      numbered = played.numbered;
       told_lines = told;
       wrote_lines = played.wrote;
       wrote_behind = nothing_behind ending told (1 + length played.replies);
@@ -257,6 +258,7 @@ finished_stopped o ending closing source left told_first told_old told_new old n
       calls = is_stopped.3;
       counts = counts_accepted played.replies reply refusals accepted played.counts;
       are_lines = played.are_lines;
+      numbered = played.numbered;
       told_lines = told_old;
       wrote_lines = played.wrote;
       wrote_behind = here (1 + length played.replies);

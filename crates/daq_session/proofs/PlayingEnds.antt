@@ -49,6 +49,7 @@ answered_played o ending source left told_first told_now lines replies s now ref
   plays = moment.plays;
   readings = moment.readings;
   clashes = moment.clashes;
+  numbered = moment.numbered;
   cut = cut_none ending source lines (stage_of s (course_of moment.readings moment.clashes replies));
   at = moment.at;
   counts = moment.counts;
@@ -151,6 +152,7 @@ broken_played o source_first source_old left told_first told_old told_new readin
   plays = so_far.moment.plays;
   readings = so_far.moment.readings;
   clashes = so_far.moment.clashes;
+  numbered = so_far.moment.numbered;
   cut = inr (record {
     line = line;
     next = first;

@@ -1,5 +1,5 @@
 -- From how a session was closed to why its script ended.
-use Rattle.std.proofs.Common.{◌≡◌, ◌≢◌, ℕ, ◌<◌, List, [], ◌∷◌, ◌++◌, Option, Some, None, true, false, Bool, length, refl, ap, sym, subst, ◌∙◌, arith, zero-add, inl, inr}
+use Rattle.std.proofs.Common.{◌≡◌, ◌≢◌, ℕ, ◌<◌, ◌≤◌, List, [], ◌∷◌, ◌++◌, Option, Some, None, true, false, Bool, length, refl, ap, sym, subst, ◌∙◌, arith, zero-add, inl, inr}
 use Rattle.std.specs.Prelude.{◌==◌, if◌then◌else◌, ◌+◌, IfSome, Result, Ok}
 use Rattle.std.proofs.lemmas.List.Elements.{All-nil}
 use Rattle.daq_io.specs.Counts.{Rose}
@@ -44,6 +44,10 @@ use Rattle.daq_session.specs.RunRecordFits.{FitsHistory}
 use Rattle.daq_session.specs.SystemCalls.{AreSystemCalls, IsOfRuns, completed_starts}
 use Rattle.daq_session.proofs.ClosingLaws.{text_part, text_whole}
 use Rattle.daq_session.proofs.PlayingLaws.{keeps_same}
+
+-- a test does not answer both ways
+pub not_both : true ≢ false
+not_both e = cc
 
 pub plays_played : (o : Outset) (ending : Ending) (source left told_first told_now : Option (List ℕ)) (s : State) (now : Outset) (refusals : Refusals) → ending ≢ Halted FileFault
     → PlaysTo o ending source left told_first told_now s now refusals → Played o ending source left told_first told_now s now refusals
@@ -295,6 +299,7 @@ ran_whole before after ending closing ended end refusals shown s session sound n
       replies = finished.replies;
       behind = finished.behind;
       replies_are = refl;
+      numbered = finished.numbered;
       told_lines = finished.told_lines;
       wrote_lines = finished.wrote_lines;
       wrote_behind = finished.wrote_behind;
@@ -338,6 +343,7 @@ ran_none before =
         replies = [];
         behind = [];
         replies_are = refl;
+        numbered = refl;
         told_lines = before.written;
         wrote_lines = inl (Appends-nil before.written);
         wrote_behind = keeps_same before.written;

@@ -86,6 +86,7 @@ pub record Finished (o : Outset) (ending : Ending) (closing : Option Halt) (sour
   pub calls : CallsStand s.database.history s.runs.items None
   pub counts : Counts (refused_lines 1 (replies ++ behind)) refusals
   pub are_lines : (text : List ℕ) → source ≡ Some text → AreLines ending text left lines
+  pub numbered : length replies ≡ length lines
   pub told_lines : Option (List ℕ)
   pub wrote_lines : Wrote ending told_first told_lines replies
   pub wrote_behind : WroteBehind ending closing told_lines told_now (1 + length replies) behind

@@ -165,6 +165,7 @@ pub record Played (o : Outset) (ending : Ending) (source left told_first told_no
   pub plays : Plays o (opening o.clashes) (map command_of lines) behind
   pub readings : ℕ
   pub clashes : ℕ
+  pub numbered : length replies ≡ length lines
   pub cut : CutBy ending source lines behind (stage_of s (course_of readings clashes replies))
   pub at : IsAt o (course_of readings clashes replies) s now
   pub counts : Counts (refused_lines 1 replies) refusals

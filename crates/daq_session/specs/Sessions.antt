@@ -120,10 +120,11 @@ pub record IsSession (before after : Environment) (end : ScriptEnd) (ends : Ends
   pub called : HasHistory final
   pub read : (text : List ℕ) → before.source ≡ Some text → AreLines ends.ending text after.source lines
   pub refused : Counts (refused_lines 1 final.replies) ends.refusals
-  -- the replies to the lines, and behind them that of the stop; and what was told as the lines ended
+  -- the replies to the lines, one each, and behind them that of the stop; and what was told as the lines ended
   pub replies : List Reply
   pub behind : List Reply
   pub replies_are : final.replies ≡ replies ++ behind
+  pub numbered : length replies ≡ length lines
   pub told_lines : Option (List ℕ)
   pub wrote_lines : Wrote ends.ending before.written told_lines replies
   pub wrote_behind : WroteBehind ends.ending ends.closing told_lines after.written (1 + length replies) behind

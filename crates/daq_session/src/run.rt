@@ -34,8 +34,9 @@ fn record_of(session: Session) -> Option<SessionRecord>
     ensures held { IfSome result (λ s. All (IsHeldRun (history_in s.buffers)) s.runs) }
 {
     let state = session.state;
+    let opened = state.opened;
     let (_, database) = state.database.into_parts();
-    if !state.opened {
+    if !opened {
         return None;
     }
     Some(SessionRecord {

@@ -7,7 +7,7 @@ use Rattle.daq_session.specs.Playing.{PlaysTo, course_of}
 use Rattle.daq_session.specs.Sessions.{IsScriptEnd}
 use Rattle.daq_session.proofs.FitLaws.{session_fits}
 use Rattle.daq_session.proofs.FrontLaws.{session_fronts, recorded_callers}
-use Rattle.daq_session.proofs.RunLaws.{plays_played, finished_numbered, finished_runs, ran_none, broken_at, broken_stop, ran_whole, record_holds, risen_end, files_still}
+use Rattle.daq_session.proofs.RunLaws.{not_both, plays_played, finished_numbered, finished_runs, ran_none, broken_at, broken_stop, ran_whole, record_holds, risen_end, files_still}
 use Rattle.daq_session.proofs.NumberLaws.{session_within}
 use Rattle.daq_session.proofs.RunsKept.{session_filed, session_sent}
 use Rattle.daq_session.proofs.run.run.Given.{Over}
@@ -26,12 +26,12 @@ returns-then-is_file_fault-clause-ran g c =
 
 pub end_of-end-requires : goal.end_of-end-requires
 end_of-end-requires g c = λ e.
-    let sound : c.play-ending.result ≢ Halted FileFault = λ is. let clash : true ≡ false = sym (c.is_file_fault.ensures.1 is) ∙ c.if-is_file_fault.false in cc in
+    let sound : c.play-ending.result ≢ Halted FileFault = λ is. not_both (sym (c.is_file_fault.ensures.1 is) ∙ c.if-is_file_fault.false) in
     risen_end c.play-ending.result c.close_run-closing.result _ _ sound c.close_run-closing.ensures.files (sym c.with_closing-ended.ensures ∙ e)
 
 pub returns-then-broke_files-clause-ran : goal.returns-then-broke_files-clause-ran
 returns-then-broke_files-clause-ran g c =
-    let sound : c.play-ending.result ≢ Halted FileFault = λ is. let clash : true ≡ false = sym (c.is_file_fault.ensures.1 is) ∙ c.if-is_file_fault.false in cc in
+    let sound : c.play-ending.result ≢ Halted FileFault = λ is. not_both (sym (c.is_file_fault.ensures.1 is) ∙ c.if-is_file_fault.false) in
     let is : c.close_run-closing.result ≡ Some FileFault = c.broke_files.ensures.0 c.if-broke_files.true in
     broken_stop _ _ c.play-ending.result c.close_run-closing.result _ _ _ _ _ _ _ sound is
     (record { may = c.close_run-closing.ensures.may; source = c.play-ending.ensures.source; sink_lines = _; sink = c.play-ending.ensures.sink; sink_behind = c.close_run-closing.ensures.sink; files_lines = _; files = c.play-ending.ensures.files; files_behind = c.close_run-closing.ensures.files })
@@ -40,8 +40,8 @@ returns-then-broke_files-clause-ran g c =
 
 pub returns-clause-ran : goal.returns-clause-ran
 returns-clause-ran g c =
-    let sound : c.play-ending.result ≢ Halted FileFault = λ is. let clash : true ≡ false = sym (c.is_file_fault.ensures.1 is) ∙ c.if-is_file_fault.false in cc in
-    let other : c.close_run-closing.result ≢ Some FileFault = λ is. let clash : true ≡ false = sym (c.broke_files.ensures.1 is) ∙ c.if-broke_files.false in cc in
+    let sound : c.play-ending.result ≢ Halted FileFault = λ is. not_both (sym (c.is_file_fault.ensures.1 is) ∙ c.if-is_file_fault.false) in
+    let other : c.close_run-closing.result ≢ Some FileFault = λ is. not_both (sym (c.broke_files.ensures.1 is) ∙ c.if-broke_files.false) in
     let played = plays_played _ c.play-ending.result _ _ _ _ _ _ _ sound c.play-ending.ensures.did in
     let finished = c.close_run-closing.ensures.finishes other _ _ _ _ played in
     ran_whole _ _ c.play-ending.result c.close_run-closing.result _ _ _ _ _ c.record_of.result sound other
