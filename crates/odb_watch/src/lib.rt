@@ -12,6 +12,3 @@ mod watched;
 pub use entry::WatchEntry;
 pub use notes::{NoWatch, Note, Notes, Watch, WatchRefusal};
 pub use watched::Watches;
-
-#[cfg(test)]
-mod tests;

@@ -1,16 +1,17 @@
-//! Worked rows of watches, and each call once.
-use crate::{NoWatch, Note, Notes, WatchRefusal, Watches};
+//! Worked rows of watches, over both databases, and each call once.
 use daq_types::Tid;
+use odb_arena::ArenaTree;
 use odb_path::Path;
 use odb_tree::{Database, NewKey, PlainTree};
 use odb_value::Item;
+use odb_watch::{NoWatch, Note, Notes, WatchRefusal, Watches};
 use std::alloc::Global;
+use std::process::Abort;
 use std::test::Fail;
 
-#[test]
-fn the_257th_note_is_lost(rt: HostRuntime) -> Result<(), Fail> {
-    let alloc = rt.alloc();
-    let mut database = Watches::new(alloc, PlainTree::new(alloc));
+/// Watches a directory with one key, sets the key 257 times, and takes the notes.
+fn loses_the_257th<D: Database>(rt: &impl Abort, alloc: Global, tree: D) -> Result<(), Fail> {
+    let mut database = Watches::new(alloc, tree);
     let key = Path::read(alloc, b"/A/x")?;
     let kind = NewKey::Keys {
         tid: Tid::UInt32,
@@ -32,6 +33,13 @@ fn the_257th_note_is_lost(rt: HostRuntime) -> Result<(), Fail> {
     Ok(())
 }
 
+#[test]
+fn the_257th_note_is_lost(rt: HostRuntime) -> Result<(), Fail> {
+    let alloc = rt.alloc();
+    loses_the_257th(&rt, alloc, PlainTree::new(alloc))?;
+    loses_the_257th(&rt, alloc, ArenaTree::new(alloc))
+}
+
 /// Makes, sets whole, resizes, sets and removes a key.
 fn change<D: Database>(alloc: Global, database: &mut D) -> Result<(), Fail> {
     let key = Path::read(alloc, b"/A/x")?;
@@ -48,10 +56,9 @@ fn change<D: Database>(alloc: Global, database: &mut D) -> Result<(), Fail> {
     Ok(())
 }
 
-#[test]
-fn each_change_is_noted(rt: HostRuntime) -> Result<(), Fail> {
-    let alloc = rt.alloc();
-    let mut database = Watches::new(alloc, PlainTree::new(alloc));
+/// Watches the root, makes these changes, and takes the notes from a copy.
+fn notes_each_change<D: Database>(rt: &impl Abort, alloc: Global, tree: D) -> Result<(), Fail> {
+    let mut database = Watches::new(alloc, tree);
     assert_eq!(rt; database.watch(alloc, 0), Ok(0));
     change(alloc, &mut database)?;
     let mut copy = database.copy(alloc)?;
@@ -75,9 +82,16 @@ fn each_change_is_noted(rt: HostRuntime) -> Result<(), Fail> {
 }
 
 #[test]
+fn each_change_is_noted(rt: HostRuntime) -> Result<(), Fail> {
+    let alloc = rt.alloc();
+    notes_each_change(&rt, alloc, PlainTree::new(alloc))?;
+    notes_each_change(&rt, alloc, ArenaTree::new(alloc))
+}
+
+#[test]
 fn sixty_four_watches_live(rt: HostRuntime) -> Result<(), Fail> {
     let alloc = rt.alloc();
-    let mut database = Watches::new(alloc, PlainTree::new(alloc));
+    let mut database = Watches::new(alloc, ArenaTree::new(alloc));
     for number in 0..64 {
         assert_eq!(rt; database.watch(alloc, 0), Ok(number));
     }
