@@ -102,7 +102,7 @@ command_more command p between q reply some same answers =
     more_after p.history between.history q.history (more_none p.history between.history same.history) (more_grown between q (by_main made.0) made.2 (main_called made.0))
 
 -- the line was answered in this way
-pub answers_inside : (Way : Outset → Stage → Stage → Type 0) (reply : Reply) (old new : State) (outside : Outset) → new.runs.items ≡ old.runs.items → new.current ≡ old.current
+pub answers_inside : (Way : Outset → Stage → Stage → Type 0) (reply : Reply) (old new : State) (outside : Outset) → new.recorder.runs ≡ old.recorder.runs → new.recorder.on ≡ old.recorder.on
     → CallsMore old.database.history new.database.history
     → ((o : Outset) (c : Course) → Way o (stage_of old c) (stage_of new (behind_reply c c.readings c.clashes reply)))
     → AnswersBy Way reply old new outside outside
@@ -131,7 +131,7 @@ call_does o old new Exit does = absurd does.2
 
 -- a command of the database was answered, or found no memory
 pub handles_call : (line : Result Command LineRefusal) (command : Command) (old new : State) (outside : Outset) (result : Result Reply Halt) → line ≡ Ok command
-    → new.runs.items ≡ old.runs.items → new.current ≡ old.current → IsReady outside.files old.current → CallsMore old.database.history new.database.history
+    → new.recorder.runs ≡ old.recorder.runs → new.recorder.on ≡ old.recorder.on → IsReady outside.files old.recorder.on → CallsMore old.database.history new.database.history
     → IfOk result (λ reply. (c : Course) → DoesCommand (stage_of old c) command (stage_of new (behind_reply c c.readings c.clashes reply)))
     → IfErr result (λ halt. halt ≡ NoMemory)
     → OnErr result ((c : Course) → Interrupts (Ok command) (stage_of old c) (stage_of new c))

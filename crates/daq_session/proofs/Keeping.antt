@@ -11,10 +11,9 @@ use Rattle.daq_io.specs.Seen.{Seen, Stored, stored_open, stored_closed, Same, Cr
 use Rattle.session_console.specs.declared.records.RunRecord.{RunRecord}
 use Rattle.session_console.specs.declared.records.FrontTally.{FrontTally}
 use Rattle.session_console.specs.declared.records.FileRecord.{FileRecord}
-use Rattle.daq_session.specs.declared.state.OpenRun.{OpenRun}
-use Rattle.daq_session.specs.RunRecords.{file_of, IsFiled, Avoids, IsKept, order_of, generated_events-by}
-use Rattle.daq_session.specs.Stages.{refused_record, file_record, completed_record}
-use Rattle.daq_session.specs.RunNames.{run_name}
+use Rattle.run_recorder.specs.RunRecords.{RunOn}
+use Rattle.run_recorder.specs.RunRecords.{refused_record, file_record, completed_record, file_of, IsFiled, Avoids, IsKept, order_of, generated_events-by}
+use Rattle.run_recorder.specs.RunNames.{run_name}
 
 -- a name that is not of a closed file is of no recorded run
 pub closed_avoids : (at : List ℕ → Option Stored) (name : List ℕ) → ((bytes : List ℕ) → at name ≢ Some (stored_closed bytes)) → (r : RunRecord) → IsFiled at r → Avoids name r
@@ -50,10 +49,10 @@ kept_taken first now runs name kept told there free =
     let clash : false ≡ true = subst (λ (file : Option Stored). IsSome file) (kept.others told name free.1 tt ∙ free.0) there in cc
 
 -- a run began
-pub kept_begun : (first old new : Seen) (runs : List RunRecord) (run : OpenRun) → IsKept first old runs None → Creates old new run.name run.file (begun_file run.order.run run.order.time [] []) → IsKept first new runs (Some run)
+pub kept_begun : (first old new : Seen) (runs : List RunRecord) (run : RunOn) → IsKept first old runs None → Creates old new (run_name run.order.run) run.file (begun_file run.order.run run.order.time [] []) → IsKept first new runs (Some run)
 kept_begun first old new runs run kept made = record {
   tells = made.touches.tells ∙ kept.tells;
-  filed = λ told. all_filed old new run.name made.touches (absent_is_not_closed old.at run.name (made.fresh (kept.tells ∙ told))) runs (kept.filed told);
+  filed = λ told. all_filed old new (run_name run.order.run) made.touches (absent_is_not_closed old.at (run_name run.order.run) (made.fresh (kept.tells ∙ told))) runs (kept.filed told);
   begun = λ told. record { named = made.named; holds = made.holds (kept.tells ∙ told) };
   others = λ told name avoids ne. made.touches.others name (λ e. ne (sym e)) ∙ kept.others told name avoids tt;
 }
@@ -82,28 +81,27 @@ pub whole_file : (order quoted : Order) (n time : ℕ) → order.start ≡ quote
 whole_file order quoted n time s t = rw (generated_events-by order quoted 1 0 n s t, append-nil (encoding (begin_record order.run order.time []))) (sym (append_assoc (encoding (begin_record order.run order.time [])) (all_encoded (generated_events quoted 1 0 n)) (encoding (end_record order.run time []))))
 
 -- a run ended: its events and its end record were appended, and its file was closed
-pub kept_ended : (first old new : Seen) (runs : List RunRecord) (run : OpenRun) (front : FrontTally) (time : ℕ) → IsKept first old runs (Some run)
+pub kept_ended : (first old new : Seen) (runs : List RunRecord) (run : RunOn) (front : FrontTally) (time : ℕ) → IsKept first old runs (Some run)
     → Closes old new run.file (all_encoded (generated_events run.order 1 0 front.sent) ++ encoding (end_record run.order.run time []))
     → IsKept first new (runs ++ completed_record run.order time front ∷ []) None
 kept_ended first old new runs run front time kept closed =
     let rec : RunRecord = completed_record run.order time front in
     let more : List ℕ = all_encoded (generated_events run.order 1 0 front.sent) ++ encoding (end_record run.order.run time []) in
     let begun : List ℕ = begun_file run.order.run run.order.time [] [] in
-    let touched : IsTrue first.tells → Touches old new run.name = λ told. subst (λ (n : List ℕ). Touches old new n) (kept.begun told).named closed.touches in
-    let whole : IsTrue first.tells → new.at run.name ≡ Some (stored_closed (begun ++ more)) = λ told.
+    let touched : IsTrue first.tells → Touches old new (run_name run.order.run) = λ told. subst (λ (n : List ℕ). Touches old new n) (kept.begun told).named closed.touches in
+    let whole : IsTrue first.tells → new.at (run_name run.order.run) ≡ Some (stored_closed (begun ++ more)) = λ told.
     subst (λ (n : List ℕ). new.at n ≡ Some (stored_closed (begun ++ more))) (kept.begun told).named
     (closed.holds (kept.tells ∙ told) begun (subst (λ (n : List ℕ). old.at n ≡ Some (stored_open begun)) (sym (kept.begun told).named) (kept.begun told).holds)) in
     let filed : IsTrue first.tells → new.at (run_name run.order.run) ≡ Some (stored_closed (file_of rec)) = λ told.
-    subst (λ (n : List ℕ). new.at n ≡ Some (stored_closed (file_of rec))) run.named
-    (whole told ∙ ap (λ (bytes : List ℕ). Some (stored_closed bytes)) (whole_file run.order (order_of rec) front.sent time refl refl)) in
+    whole told ∙ ap (λ (bytes : List ℕ). Some (stored_closed bytes)) (whole_file run.order (order_of rec) front.sent time refl refl) in
     record {
       tells = closed.touches.tells ∙ kept.tells;
       filed = λ told. All-push (IsFiled new.at) runs rec
-          (all_filed old new run.name (touched told) (open_is_not_closed old.at run.name begun (kept.begun told).holds) runs (kept.filed told))
+          (all_filed old new (run_name run.order.run) (touched told) (open_is_not_closed old.at (run_name run.order.run) begun (kept.begun told).holds) runs (kept.filed told))
           (All-cons (λ (f : FileRecord). new.at f.name ≡ Some (stored_closed (file_of rec))) (file_record run.order.run) [] (filed told) (All-nil (λ (f : FileRecord). new.at f.name ≡ Some (stored_closed (file_of rec)))));
       begun = λ told. tt;
       others = λ told name avoids free.
           let both = All-pop (Avoids name) (runs ++ rec ∷ []) runs (Some rec) refl avoids in
-          let ne : run.name ≢ name = λ e. All-head (λ (f : FileRecord). f.name ≢ name) (file_record run.order.run) [] both.1 (sym run.named ∙ e) in
+          let ne : run_name run.order.run ≢ name = λ e. All-head (λ (f : FileRecord). f.name ≢ name) (file_record run.order.run) [] both.1 e in
           (touched told).others name (λ e. ne (sym e)) ∙ kept.others told name both.0 ne;
     }

@@ -40,7 +40,7 @@ cut_none (Halted FileFault) source lines s = refl
 
 -- the lines were answered, and nothing else was done
 answered_played : (o : Outset) (ending : Ending) (source left told_first told_now : Option (List ℕ)) (lines : List (List ℕ)) (replies : List Reply) (s : State) (now : Outset) (refusals : Refusals)
-    → Moment o lines replies s now refusals → IsReady now.files s.current → ((text : List ℕ) → source ≡ Some text → AreLines ending text left lines) → Wrote ending told_first told_now replies
+    → Moment o lines replies s now refusals → IsReady now.files s.recorder.on → ((text : List ℕ) → source ≡ Some text → AreLines ending text left lines) → Wrote ending told_first told_now replies
     → Played o ending source left told_first told_now s now refusals
 answered_played o ending source left told_first told_now lines replies s now refusals moment ready are wrote = record {
   lines = lines;
@@ -176,7 +176,7 @@ failed_played o source_first source_old told_first told_old told_new reading old
       lines = so_far.lines;
       behind = stage_of old course;
       plays = so_far.moment.plays;
-      fails = record { line = line; next = first; command = sym (command_of-kept line) ∙ failed.fails.0; breaks = failed.fails.1 o course so_far.moment.at };
+      fails = record { line = line; next = first; command = sym (command_of-kept line) ∙ failed.fails.0; called = record { history = old.database.history; legal = failed.legal; callers = so_far.moment.at.calls.callers; own = refl; front = refl }; breaks = failed.fails.1 o course so_far.moment.at };
       counts = rw failed.same so_far.moment.counts;
       are_lines = λ text told. lines_first text source_old reading so_far.lines (told_read source_first source_old reading so_far.lines text told so_far.read) so_far.go_on;
       wrote = Appends-kept told_first told_old told_new (console_text 1 so_far.replies) so_far.wrote failed.kept;

@@ -22,13 +22,15 @@ use Rattle.session_console.specs.declared.refusals.Refusals.{Refusals}
 use Rattle.daq_session.specs.declared.state.State.{State}
 use Rattle.session_console.specs.Console.{text_of, console_text, console_text-more}
 use Rattle.session_console.specs.Refused.{counts_noted}
-use Rattle.daq_session.specs.RunRecords.{IsFiled}
+use Rattle.run_recorder.specs.RunRecords.{IsFiled}
 use Rattle.daq_session.specs.Stages.{Outset, Stage, opening, DoesByLine, Plays}
 use Rattle.daq_session.specs.RunTransitions.{CallsStand}
 use Rattle.daq_session.specs.Standing.{Course, behind_reply, order_in, stage_of, Handles, IsReady}
 use Rattle.odb_script.specs.Lines.{Reading, nothing_read, ReadsLine}
 use Rattle.odb_script.specs.ReadLines.{HasReadLines, has_read_none, has_read_line}
 use Rattle.daq_session.specs.declared.desk.Going.TheVariants.{On, Exit}
+use Rattle.odb_tree.specs.Histories.{IsLegal}
+use Rattle.odb_runinfo.specs.RunKeys.{session_rows}
 use Rattle.daq_session.proofs.TransitionLaws.{stand_none}
 use Rattle.daq_session.proofs.Leading.{stage_is}
 use Rattle.daq_session.specs.Playing.{course_of, Moment, IsNew, Replied, GoesBehind, DoesLine, Prints}
@@ -97,7 +99,7 @@ pub record SoFar (o : Outset) (source_first source_now told_first told_now : Opt
   pub read : HasReadLines source_first source_now reading lines
   pub go_on : GoOn lines
   pub wrote : Appends told_first told_now (console_text 1 replies)
-  pub ready : IsReady now.files s.current
+  pub ready : IsReady now.files s.recorder.on
   pub is_number : length lines ≡ number
 
 -- none
@@ -150,8 +152,11 @@ halts_line line number old new before after told_old told_new was now reply NoMe
 halts_line line number old new before after told_old told_new was now reply FileFault replied prints = absurd prints
 
 -- a line was not answered
-pub halts_unanswered : (line : List ℕ) (number : ℕ) (old new : State) (before after : Outset) (told : Option (List ℕ)) (refusals : Refusals) (halt : Halt)
-    → Handles (command_of line) old new before after (Err halt) → DoesLine line number old new before after told told refusals refusals (Err halt)
-halts_unanswered line number old new before after told refusals NoMemory handles = inr (record { breaks = handles.0; ready = handles.1; same = refl; kept = keeps_same told })
-halts_unanswered line number old new before after told refusals SinkFault handles = absurd handles
-halts_unanswered line number old new before after told refusals FileFault handles = record { fails = handles; same = refl; kept = keeps_same told }
+pub halts_unanswered : (line : List ℕ) (number : ℕ) (command : Result Command LineRefusal) (old new : State) (before after : Outset) (told : Option (List ℕ)) (refusals : Refusals) (halt : Halt)
+    → command ≡ command_of line → IsLegal session_rows old.database.history → Handles command old new before after (Err halt) → DoesLine line number old new before after told told refusals refusals (Err halt)
+halts_unanswered line number command old new before after told refusals halt is legal handles = by_halt halt (subst (λ (c : Result Command LineRefusal). Handles c old new before after (Err halt)) is handles)
+  where
+    by_halt : (halt : Halt) → Handles (command_of line) old new before after (Err halt) → DoesLine line number old new before after told told refusals refusals (Err halt)
+    by_halt NoMemory handles = inr (record { breaks = handles.0; ready = handles.1; same = refl; kept = keeps_same told })
+    by_halt SinkFault handles = absurd handles
+    by_halt FileFault handles = record { legal = legal; fails = handles; same = refl; kept = keeps_same told }

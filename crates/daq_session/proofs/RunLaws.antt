@@ -19,7 +19,7 @@ use Rattle.daq_session.specs.declared.halts.Halt.TheVariants.{NoMemory, SinkFaul
 use Rattle.session_console.specs.declared.refusals.Refusals.{Refusals}
 use Rattle.daq_session.specs.declared.state.State.{State}
 use Rattle.session_console.specs.Console.{refused_lines}
-use Rattle.daq_session.specs.RunRecords.{IsFiled}
+use Rattle.run_recorder.specs.RunRecords.{IsFiled}
 use Rattle.session_console.specs.Refused.{Counts}
 use Rattle.session_console.specs.declared.records.SessionRecord.{SessionRecord}
 use Rattle.session_console.specs.declared.replies.Reply.{Reply}
@@ -33,15 +33,15 @@ use Rattle.daq_session.specs.Sessions.{Environment, Count, Rises, Stands, Faults
 use Rattle.std.specs.Prelude.{All, IsTrue}
 use Rattle.odb_tree.specs.Histories.{IsLegal}
 use Rattle.odb_runinfo.specs.RunKeys.{session_rows}
-use Rattle.daq_session.specs.BufferRecords.{IsOneHistory, IsSystem, history_in}
+use Rattle.run_recorder.specs.BufferRecords.{IsOneHistory, IsSystem, history_in}
 use Rattle.daq_session.specs.FrontSets.{AreCallers, IsFrontsPass}
 use Rattle.daq_session.specs.RunTransitions.{HoldsRuns}
 use Rattle.daq_session.specs.TakenNames.{AreWithinRise}
 use Rattle.daq_session.proofs.NumberLaws.{script_numbered}
 use Rattle.daq_session.proofs.FrontLaws.{recorded_runs}
-use Rattle.daq_session.specs.RunHistories.{AreSentByFronts, HoldSegments}
+use Rattle.run_recorder.specs.RunHistories.{HoldSegments, IsHeldRun}
 use Rattle.daq_session.specs.RunRecordFits.{FitsHistory}
-use Rattle.daq_session.specs.SystemCalls.{AreSystemCalls, IsOfRuns, completed_starts}
+use Rattle.run_recorder.specs.SystemCalls.{AreSystemCalls, IsOfRuns, completed_starts}
 use Rattle.daq_session.proofs.ClosingLaws.{text_part, text_whole}
 use Rattle.daq_session.proofs.PlayingLaws.{keeps_same}
 
@@ -225,17 +225,18 @@ stop_order : (on : Option Order) → ◌≡◌ {A = Result Command LineRefusal} 
 stop_order None is = absurd (cc)
 stop_order (Some order) is = (order, refl)
 
-behind_fails : (o : Outset) (ending : Ending) (source left told_first told : Option (List ℕ)) (s : State) (now after : Outset) (refusals : Refusals) → (played : Played o ending source left told_first told s now refusals)
+behind_fails : (o : Outset) (ending : Ending) (source left told_first told : Option (List ℕ)) (s : State) (now after : Outset) (refusals : Refusals) → IsLegal session_rows s.database.history → (played : Played o ending source left told_first told s now refusals)
     → FailsLine (Ok Stop) s now after → FailsBehind ending o source played.lines played.behind after.files
-behind_fails o ending source left told_first told s now after refusals played fails =
+behind_fails o ending source left told_first told s now after refusals legal played fails =
     let course : Course = course_of played.readings played.clashes played.replies in
-    let on = stop_order (order_in s.current) fails.0 in
+    let on = stop_order (order_in s.recorder.on) fails.0 in
     record {
       cut = stage_of s course;
       is_cut = played.cut;
+      called = record { history = s.database.history; legal = legal; callers = played.at.calls.callers; own = refl; front = refl };
       order = on.0;
       on = on.1;
-      breaks = subst (λ (run : Option Order). BreaksRun o course.readings s.runs.items run after.files) on.1 (fails.1 o course played.at);
+      breaks = subst (λ (run : Option Order). BreaksRun o course.readings s.recorder.runs run after.files) on.1 (fails.1 o course played.at);
     }
 
 fails_by : (ending : Ending) (o : Outset) (source : Option (List ℕ)) (lines : List (List ℕ)) (behind : Stage) (now : Seen) → ending ≢ Halted FileFault → FailsBehind ending o source lines behind now → FailsBy ending o source lines behind now
@@ -259,8 +260,8 @@ cut_replies (Halted FileFault) source lines old new cut = ap (λ (s : Stage). s.
 -- at a fault of the run files behind the lines
 pub broken_stop : (before after : Environment) (ending : Ending) (closing : Option Halt) (ended : Ending) (end : ScriptEnd) (refusals shown : Refusals) (s : State) (now : Outset) (told : Option (List ℕ)) → ending ≢ Halted FileFault → closing ≡ Some FileFault
     → (c : Counted before after ending closing) → shown ≡ refusals → ended ≡ ended_by ending closing → IsScriptEnd ended shown after.first_fault end → Played before.outset ending before.source after.source before.written told s now refusals
-    → FailsLine (Ok Stop) s now after.outset → after.written ≡ told → RunsScript before after end None
-broken_stop before after ending closing ended end refusals shown s now told sound is c same is_ended is_end played fails unprinted =
+    → IsLegal session_rows s.database.history → FailsLine (Ok Stop) s now after.outset → after.written ≡ told → RunsScript before after end None
+broken_stop before after ending closing ended end refusals shown s now told sound is c same is_ended is_end played legal fails unprinted =
     let by : IsScriptEnd (ended_by ending closing) refusals after.first_fault end = subst (λ (r : Refusals). IsScriptEnd (ended_by ending closing) r after.first_fault end) same (subst (λ (e : Ending). IsScriptEnd e shown after.first_fault end) is_ended is_end) in
     let replies : played.replies ≡ played.behind.replies = cut_replies ending before.source played.lines played.behind (stage_of s (course_of played.readings played.clashes played.replies)) played.cut in
     record {
@@ -273,7 +274,7 @@ broken_stop before after ending closing ended end refusals shown s now told soun
         lines = played.lines;
         behind = played.behind;
         plays = played.plays;
-        fails = fails_by ending before.outset before.source played.lines played.behind after.outset.files sound (behind_fails before.outset ending before.source after.source before.written told s now after.outset refusals played fails);
+        fails = fails_by ending before.outset before.source played.lines played.behind after.outset.files sound (behind_fails before.outset ending before.source after.source before.written told s now after.outset refusals legal played fails);
         read = played.are_lines;
         refused = subst (λ (rs : List Reply). Counts (refused_lines 1 rs) refusals) replies played.counts;
         wrote = subst (λ (rs : List Reply). Wrote ending before.written after.written rs) replies (subst (λ (text : Option (List ℕ)). Wrote ending before.written text played.replies) (sym unprinted) played.wrote);
@@ -294,6 +295,7 @@ ran_whole before after ending closing ended end refusals shown s session sound n
       played = finished.played;
       recorded = recorded (course_of finished.readings finished.clashes (finished.replies ++ finished.behind));
       called = record { history = s.database.history; legal = legal; callers = finished.calls.callers; own = refl; front = refl };
+      idle = finished.idle;
       read = finished.are_lines;
       refused = finished.counts;
       replies = finished.replies;
@@ -338,6 +340,7 @@ ran_none before =
         };
         recorded = refl;
         called = record { history = []; legal = tt; callers = All-nil (λ e. e.0 ≤ 1); own = refl; front = refl };
+        idle = λ is. refl;
         read = λ text known. refl;
         refused = record { count = refl; first = refl };
         replies = [];
@@ -357,17 +360,17 @@ ran_none before =
 
 -- What a record says of its objects, from what is said of each.
 pub record_holds : (before after : Environment) (session : Option SessionRecord) → IfSome session (λ s. IsLegal session_rows s.database) → IfSome session (λ s. IsSystem (history_in s.buffers) s.buffers) → IfSome session (λ s. All IsOneHistory s.buffers)
-    → IfSome session (λ s. AreSystemCalls (history_in s.buffers)) → (¬ Rose before.file_faults after.file_faults → IsTrue before.outset.files.tells → IfSome session (λ s. All (HoldSegments s.buffers after.outset.files.at) s.runs)) → IfSome session (λ s. All (AreSentByFronts s.buffers) s.runs)
+    → IfSome session (λ s. AreSystemCalls (history_in s.buffers)) → (IsTrue before.outset.files.tells → IfSome session (λ s. All (HoldSegments s.buffers after.outset.files.at) s.runs)) → IfSome session (λ s. All (IsHeldRun (history_in s.buffers)) s.runs)
     → IfSome session (λ s. IsFrontsPass s.database s.runs) → IfSome session (λ s. AreCallers s.database) → IfSome session (λ s. All (FitsHistory s.database) s.runs) → IfSome session (λ s. HoldsRuns s.database s.runs) → IfSome session (λ s. All (IsOfRuns (completed_starts s.runs)) (history_in s.buffers))
     → IfSome session (λ s. AreWithinRise s.runs before.outset.clashes after.outset.clashes) → IfSome session (HoldsRecord before after)
-record_holds before after None database buffers one_history system_calls run_files sends sets callers fits turns others taken = tt
-record_holds before after (Some s) database buffers one_history system_calls run_files sends sets callers fits turns others taken = record {
+record_holds before after None database buffers one_history system_calls run_files held sets callers fits turns others taken = tt
+record_holds before after (Some s) database buffers one_history system_calls run_files held sets callers fits turns others taken = record {
   database = database;
   buffers = buffers;
   one_history = one_history;
   system_calls = system_calls;
   run_files = run_files;
-  front_end_sends = sends;
+  held = held;
   front_end_sets = sets;
   callers = callers;
   run_turns = turns;
@@ -378,7 +381,7 @@ record_holds before after (Some s) database buffers one_history system_calls run
 
 -- Each start of a finished session has its record.
 pub finished_numbered : (o : Outset) (ending : Ending) (closing : Option Halt) (source left told_first told_now : Option (List ℕ)) (s : State) (after : Outset) (refusals : Refusals)
-    → Finished o ending closing source left told_first told_now s after refusals → length s.runs.items ≡ s.starts
+    → Finished o ending closing source left told_first told_now s after refusals → length s.recorder.runs ≡ s.recorder.starts
 finished_numbered o ending closing source left told_first told_now s after refusals finished =
     script_numbered o after ending source finished.lines (stage_of s (course_of finished.readings finished.clashes (finished.replies ++ finished.behind))) finished.played
 

@@ -83,7 +83,9 @@ pub record Finished (o : Outset) (ending : Ending) (closing : Option Halt) (sour
   pub readings : ℕ
   pub clashes : ℕ
   pub played : IsPlayed o after (CutBy ending source lines) lines (stage_of s (course_of readings clashes (replies ++ behind)))
-  pub calls : CallsStand s.database.history s.runs.items None
+  -- where no run was on, no stop was given that could fail
+  pub idle : played.cut.on ≡ None → closing ≡ None
+  pub calls : CallsStand s.database.history s.recorder.runs None
   pub counts : Counts (refused_lines 1 (replies ++ behind)) refusals
   pub are_lines : (text : List ℕ) → source ≡ Some text → AreLines ending text left lines
   pub numbered : length replies ≡ length lines

@@ -8,6 +8,8 @@ use Rattle.odb_script.specs.declared.refusals.LineRefusal.{LineRefusal}
 use Rattle.odb_script.specs.Forms.{command_of}
 use Rattle.odb_script.specs.Lines.{lines_of, script_limit}
 use Rattle.odb_script.specs.ReadLines.{AreGivenLines}
+use Rattle.odb_tree.specs.Histories.{IsLegal}
+use Rattle.odb_runinfo.specs.RunKeys.{session_rows}
 use Rattle.odb_script.specs.Exits.{GoOn, StopAtExit, is_exit, until_exit}
 use Rattle.daq_session.specs.declared.desk.Going.{Going}
 use Rattle.daq_session.specs.declared.desk.Going.TheVariants.{On, Exit}
@@ -20,7 +22,7 @@ use Rattle.session_console.specs.declared.refusals.Refusals.{Refusals}
 use Rattle.daq_session.specs.declared.state.State.{State}
 use Rattle.session_console.specs.Console.{text_of, console_text, is_refusal, refused_lines}
 use Rattle.session_console.specs.Refused.{noted, Counts}
-use Rattle.daq_session.specs.Stages.{Outset, Stage, opening, Plays, Interrupts}
+use Rattle.daq_session.specs.Stages.{HasHistory, Outset, Stage, opening, Plays, Interrupts}
 use Rattle.daq_session.specs.Standing.{Course, stage_of, IsAt, IsReady, AnswersLine, Breaks, FailsLine}
 use Rattle.daq_session.specs.BrokenRuns.{BreaksRun, turning}
 
@@ -39,27 +41,28 @@ pub record Moment (o : Outset) (lines : List (List ℕ)) (replies : List Reply) 
 -- a state before the first line
 pub record IsNew (s : State) : Type 0 where
   pub quota : s.quota ≡ 0
-  pub starts : s.starts ≡ 0
+  pub starts : s.recorder.starts ≡ 0
   pub opened : s.opened ≡ false
-  pub runs : s.runs.items ≡ []
-  pub current : s.current ≡ None
+  pub runs : s.recorder.runs ≡ []
+  pub current : s.recorder.on ≡ None
   pub calls : s.database.history ≡ []
 
 -- A line was answered, and noted where it was refused.
 pub record Replied (line : List ℕ) (number : ℕ) (reply : Reply) (old new : State) (before after : Outset) (was now : Refusals) : Type 0 where
   pub answers : AnswersLine (command_of line) reply old new before after
-  pub ready : IsReady after.files new.current
+  pub ready : IsReady after.files new.recorder.on
   pub is_noted : now ≡ noted was number (is_refusal reply)
 
 -- The line was not answered, for want of memory.
 pub record Unanswered (line : List ℕ) (old new : State) (before after : Outset) (told_old told_new : Option (List ℕ)) (was now : Refusals) : Type 0 where
   pub breaks : Breaks (command_of line) old new before after
-  pub ready : IsReady after.files new.current
+  pub ready : IsReady after.files new.recorder.on
   pub same : now ≡ was
   pub kept : Keeps told_old told_new
 
--- A call on the run files failed in the line, and nothing was written.
+-- A call on the run files failed in the line, and nothing was written; the calls on the database before it are legal.
 pub record FailedLine (line : List ℕ) (old : State) (before after : Outset) (told_old told_new : Option (List ℕ)) (was now : Refusals) : Type 0 where
+  pub legal : IsLegal session_rows old.database.history
   pub fails : FailsLine (command_of line) old before after
   pub same : now ≡ was
   pub kept : Keeps told_old told_new
@@ -169,15 +172,17 @@ pub record Played (o : Outset) (ending : Ending) (source left told_first told_no
   pub cut : CutBy ending source lines behind (stage_of s (course_of readings clashes replies))
   pub at : IsAt o (course_of readings clashes replies) s now
   pub counts : Counts (refused_lines 1 replies) refusals
-  pub ready : IsReady now.files s.current
+  pub ready : IsReady now.files s.recorder.on
   pub are_lines : (text : List ℕ) → source ≡ Some text → AreLines ending text left lines
   pub wrote : Wrote ending told_first told_now replies
 
--- A call on the run files failed in the next line, a start or a stop, and left this of them.
+-- A call on the run files failed in the next line, a start or a stop, and left this of them. The calls on the database
+-- before that line are legal.
 pub record FailsAt (o : Outset) (source : Option (List ℕ)) (lines : List (List ℕ)) (s : Stage) (now : Seen) : Type 0 where
   pub line : List ℕ
   pub next : IsNext source lines line
   pub command : command_of line ≡ Ok (turning s.on)
+  pub called : HasHistory s
   pub breaks : BreaksRun o s.readings s.runs s.on now
 
 -- A script was played up to such a line, and the text is that of the lines before.

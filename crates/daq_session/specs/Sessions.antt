@@ -6,7 +6,6 @@ use Rattle.daq_types.specs.declared.runs.Order.{Order}
 use Rattle.daq_io.specs.Counts.{Rose}
 use Rattle.daq_io.specs.Seen.{Seen}
 use Rattle.daq_io.specs.Streams.{AppendsPart}
-use Rattle.odb_tree.specs.declared.entry.DatabaseEntry.{DatabaseEntry}
 use Rattle.odb_tree.specs.Histories.{IsLegal}
 use Rattle.odb_runinfo.specs.RunKeys.{session_rows}
 use Rattle.odb_script.specs.Forms.{command_of}
@@ -22,17 +21,17 @@ use Rattle.daq_session.specs.declared.ends.ScriptEnd.TheVariants.{Done, CommandR
 use Rattle.daq_session.specs.declared.halts.Halt.{Halt}
 use Rattle.daq_session.specs.declared.halts.Halt.TheVariants.{NoMemory as no_memory, SinkFault as sink_fault, FileFault as file_fault}
 use Rattle.daq_session.specs.BrokenRuns.{StopBreaks}
-use Rattle.daq_session.specs.BufferRecords.{IsOneHistory, IsSystem, history_in}
+use Rattle.run_recorder.specs.BufferRecords.{IsOneHistory, IsSystem, history_in}
 use Rattle.daq_session.specs.Closing.{MayFail, ended_by, SinkBehind, FilesBehind, WroteBehind}
 use Rattle.daq_session.specs.Endings.{SourceCounts, SinkCounts, FileCounts}
 use Rattle.daq_session.specs.FrontSets.{AreCallers, IsFrontsPass}
 use Rattle.daq_session.specs.Played.{IsPlayed}
 use Rattle.daq_session.specs.Playing.{AreLines, CutBy, FailsAt, Wrote}
-use Rattle.daq_session.specs.RunHistories.{AreSentByFronts, HoldSegments}
+use Rattle.run_recorder.specs.RunHistories.{HoldSegments, IsHeldRun}
 use Rattle.daq_session.specs.RunRecordFits.{FitsHistory}
 use Rattle.daq_session.specs.RunTransitions.{HoldsRuns}
-use Rattle.daq_session.specs.Stages.{Outset, Stage, Plays, opening}
-use Rattle.daq_session.specs.SystemCalls.{AreSystemCalls, IsOfRuns, completed_starts}
+use Rattle.daq_session.specs.Stages.{HasHistory, Outset, Stage, Plays, opening}
+use Rattle.run_recorder.specs.SystemCalls.{AreSystemCalls, IsOfRuns, completed_starts}
 use Rattle.daq_session.specs.TakenNames.{AreWithinRise}
 
 -- What the outside tells of itself: what is left of the script, the text written so far, the run files and the clock, and the
@@ -101,15 +100,6 @@ abbrev pub IsRecorded : Stage → Option SessionRecord → Type 0
 IsRecorded final None = final.opened ≡ false
 IsRecorded final (Some session) = (final.opened ≡ true) × (session.runs ≡ final.runs) × (entries_by 0 session.database ≡ final.own) × (entries_by 1 session.database ≡ final.front)
 
--- The calls on the database, recorded or not, are those of one history that is legal from a session's first rows: the
--- main thread's, caller 0, the front-end's, caller 1, and no other's. So each reply is that of the rows at its point.
-pub record HasHistory (final : Stage) : Type 0 where
-  pub history : List (ℕ × DatabaseEntry)
-  pub legal : IsLegal session_rows history
-  pub callers : AreCallers history
-  pub own : entries_by 0 history ≡ final.own
-  pub front : entries_by 1 history ≡ final.front
-
 -- What a session made of its script, where no call on the run files failed. The last reply is that of the stop at the
 -- end, where one was given.
 pub record IsSession (before after : Environment) (end : ScriptEnd) (ends : EndsScript before after end) (session : Option SessionRecord) : Type 0 where
@@ -118,6 +108,8 @@ pub record IsSession (before after : Environment) (end : ScriptEnd) (ends : Ends
   pub played : IsPlayed before.outset after.outset (CutBy ends.ending before.source lines) lines final
   pub recorded : IsRecorded final session
   pub called : HasHistory final
+  -- nothing failed behind the lines where no run was on
+  pub idle : played.cut.on ≡ None → ends.closing ≡ None
   pub read : (text : List ℕ) → before.source ≡ Some text → AreLines ends.ending text after.source lines
   pub refused : Counts (refused_lines 1 final.replies) ends.refusals
   -- the replies to the lines, one each, and behind them that of the stop; and what was told as the lines ended
@@ -132,10 +124,12 @@ pub record IsSession (before after : Environment) (end : ScriptEnd) (ends : Ends
   pub wrote : end ≢ NoMemory → ¬ Rose before.sink_faults after.sink_faults → Appends before.written after.written (console_text 1 final.replies)
   pub wrote_part : AppendsPart before.written after.written (console_text 1 final.replies)
 
--- A stop failed behind the lines, of the run that was still on; before it maybe a command was cut off.
+-- A stop failed behind the lines, of the run that was still on; before it maybe a command was cut off. The calls on the
+-- database up to there are legal.
 pub record FailsBehind (ending : Ending) (o : Outset) (source : Option (List ℕ)) (lines : List (List ℕ)) (behind : Stage) (now : Seen) : Type 0 where
   pub cut : Stage
   pub is_cut : CutBy ending source lines behind cut
+  pub called : HasHistory cut
   pub order : Order
   pub on : cut.on ≡ Some order
   pub breaks : StopBreaks o cut.readings cut.runs order now
@@ -150,8 +144,8 @@ FailsBy (Halted sink_fault) o source lines behind now = FailsBehind (Halted sink
 FailsBy (Halted file_fault) o source lines behind now = FailsAt o source lines behind now
 
 -- What is left of a script where a call on the run files failed. These lines were played before; the text is that of their
--- replies, as at their ending, and nothing more; the files of the recorded runs are whole, the file of the run that failed
--- has a first part of its bytes, and every other name is as it was at first.
+-- replies, as at their ending, and nothing more; the calls on the database up to there are legal; the files of the recorded
+-- runs are whole, the file of the run that failed has a first part of its bytes, and every other name is as it was at first.
 pub record IsBrokenOff (before after : Environment) (ending : Ending) (refusals : Refusals) : Type 0 where
   pub lines : List (List ℕ)
   pub behind : Stage
@@ -175,10 +169,11 @@ pub record HoldsRecord (before after : Environment) (s : SessionRecord) : Type 0
   pub no_other_run : All (IsOfRuns (completed_starts s.runs)) (history_in s.buffers)
   -- the starts that were refused for a taken name are no more than what the count of clashes rose by
   pub refused_starts : AreWithinRise s.runs before.outset.clashes after.outset.clashes
-  -- each file of a run holds the events between the run's marks, of which the channel's client got just those that it asked
-  -- for; and these are the events that the front-end sent in that run
-  pub run_files : ¬ Rose before.file_faults after.file_faults → IsTrue before.outset.files.tells → All (HoldSegments s.buffers after.outset.files.at) s.runs
-  pub front_end_sends : All (AreSentByFronts s.buffers) s.runs
+  -- each completed run has its marks; between them stands what the front-end sent in it and nothing else, and the channel's
+  -- client got just those of these events that it asked for
+  pub held : All (IsHeldRun (history_in s.buffers)) s.runs
+  -- and each file of a run holds them
+  pub run_files : IsTrue before.outset.files.tells → All (HoldSegments s.buffers after.outset.files.at) s.runs
   -- the front-end's calls on the database: it sets the number of its events sent to 0 as each run begins, and to the number
   -- that it sent as the run ends, and nothing else; all other calls are the main thread's
   pub front_end_sets : IsFrontsPass s.database s.runs

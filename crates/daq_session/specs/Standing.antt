@@ -10,14 +10,14 @@ use Rattle.daq_session.specs.declared.halts.Halt.{Halt}
 use Rattle.daq_session.specs.declared.halts.Halt.TheVariants.{NoMemory, SinkFault, FileFault}
 use Rattle.session_console.specs.declared.replies.Reply.{Reply}
 use Rattle.daq_session.specs.declared.state.State.{State}
-use Rattle.daq_session.specs.declared.state.OpenRun.{OpenRun}
+use Rattle.run_recorder.specs.RunRecords.{RunOn}
 use Rattle.daq_session.specs.RunTransitions.{CallsStand}
-use Rattle.daq_session.specs.RunRecords.{IsKept}
+use Rattle.run_recorder.specs.RunRecords.{IsKept}
 use Rattle.daq_session.specs.Stages.{Outset, Stage, DoesByLine, StartsRun, Interrupts}
 use Rattle.daq_session.specs.BrokenRuns.{BreaksRun, turning}
 
 -- the order of the run that is on
-abbrev pub order_in : Option OpenRun → Option Order
+abbrev pub order_in : Option RunOn → Option Order
 order_in = option_map (λ r. r.order)
 
 -- What a script came to so far, besides the session's state: how often the clock was read, the count of clashes, and the
@@ -33,7 +33,7 @@ behind_reply c readings clashes reply = record { readings = readings; clashes = 
 
 -- the stage of a state
 abbrev pub stage_of : State → Course → Stage
-stage_of s c = record { quota = s.quota; starts = s.starts; readings = c.readings; clashes = c.clashes; opened = s.opened; on = order_in s.current; runs = s.runs.items; own = entries_by 0 s.database.history; front = entries_by 1 s.database.history; replies = c.replies }
+stage_of s c = record { quota = s.quota; starts = s.recorder.starts; readings = c.readings; clashes = c.clashes; opened = s.opened; on = order_in s.recorder.on; runs = s.recorder.runs; own = entries_by 0 s.database.history; front = entries_by 1 s.database.history; replies = c.replies }
 
 -- The clock after so many readings: what lies ahead is what lay ahead behind them.
 pub record IsClock (o : Outset) (readings : ℕ) (now : Outset) : Type 0 where
@@ -43,13 +43,13 @@ pub record IsClock (o : Outset) (readings : ℕ) (now : Outset) : Type 0 where
 -- The outside now, against the outside as the script began, the records, and the course so far; and the calls on the
 -- database.
 pub record IsAt (o : Outset) (c : Course) (s : State) (now : Outset) : Type 0 where
-  pub kept : IsKept o.files now.files s.runs.items s.current
+  pub kept : IsKept o.files now.files s.recorder.runs s.recorder.on
   pub clock : IsClock o c.readings now
   pub clashes : now.clashes ≡ c.clashes
-  pub calls : CallsStand s.database.history s.runs.items (order_in s.current)
+  pub calls : CallsStand s.database.history s.recorder.runs (order_in s.recorder.on)
 
 -- the file of the run that is on is being written
-abbrev pub IsReady : Seen → Option OpenRun → Type 0
+abbrev pub IsReady : Seen → Option RunOn → Type 0
 IsReady now on = MatchOption on ⊤ (λ r. IsTrue (now.writes r.file))
 
 -- What a state and the outside become in this way and with this reply, wherever the script began and whatever came before.
@@ -87,16 +87,16 @@ pub record Stays (old new : State) (before after : Outset) : Type 0 where
 -- A call on the run files failed as a run was started, or stopped where one is on, wherever the script began and whatever
 -- came before.
 abbrev pub FailsRun : (old : State) (before after : Outset) → Type 0
-FailsRun old before after = (o : Outset) (c : Course) → IsAt o c old before → BreaksRun o c.readings old.runs.items (order_in old.current) after.files
+FailsRun old before after = (o : Outset) (c : Course) → IsAt o c old before → BreaksRun o c.readings old.recorder.runs (order_in old.recorder.on) after.files
 
 -- so in a line, which was a start or a stop
 abbrev pub FailsLine : Result Command LineRefusal → (old : State) (before after : Outset) → Type 0
-FailsLine line old before after = (line ≡ Ok (turning (order_in old.current))) × FailsRun old before after
+FailsLine line old before after = (line ≡ Ok (turning (order_in old.recorder.on))) × FailsRun old before after
 
 -- What is done in this way: it is answered, or memory ended and left this, or a call on the run files failed and left that.
 abbrev pub HandlesBy : (Outset → Stage → Stage → Type 0) → ((old new : State) (before after : Outset) → Type 0) → ((old : State) (before after : Outset) → Type 0) → (old new : State) (before after : Outset) → Result Reply Halt → Type 0
-HandlesBy Way Leaves Fails old new before after (Ok reply) = AnswersBy Way reply old new before after × IsReady after.files new.current
-HandlesBy Way Leaves Fails old new before after (Err NoMemory) = Leaves old new before after × IsReady after.files new.current
+HandlesBy Way Leaves Fails old new before after (Ok reply) = AnswersBy Way reply old new before after × IsReady after.files new.recorder.on
+HandlesBy Way Leaves Fails old new before after (Err NoMemory) = Leaves old new before after × IsReady after.files new.recorder.on
 HandlesBy Way Leaves Fails old new before after (Err SinkFault) = ⊥
 HandlesBy Way Leaves Fails old new before after (Err FileFault) = Fails old before after
 

@@ -1,6 +1,8 @@
 ghost use Rattle.std.specs.Prelude.{◌≡◌, ◌<◌, IsTrue, Ok, Some, ◌↔◌};
 ghost use Rattle.odb_script.specs.declared.forms.Command.TheVariants.{Stop};
 ghost use Rattle.daq_session.specs.Closing.{Finishes, FilesBehind, MayFail, SinkBehind, earlier, ended_by, prints};
+ghost use Rattle.odb_tree.specs.Histories.{IsLegal};
+ghost use Rattle.odb_runinfo.specs.RunKeys.{session_rows};
 ghost use Rattle.daq_session.specs.Sessions.{IsScriptEnd};
 ghost use Rattle.daq_session.specs.Standing.{FailsLine, IsReady};
 
@@ -83,7 +85,7 @@ pub fn close_run<K: Sink, F: Files, C: Clock>(
     files: &mut F,
     clock: &mut C,
 ) -> Option<Halt>
-    requires ready { IsReady (F.seen files.old) desk.old.session.state.current }
+    requires ready { IsReady (F.seen files.old) desk.old.session.state.recorder.on }
     ensures finishes { Finishes ending result desk.old.session.state desk.new.session.state
         (record {
           files = F.seen files.old;
@@ -111,13 +113,15 @@ pub fn close_run<K: Sink, F: Files, C: Clock>(
           clock_tells = C.tells clock.new;
           ahead = C.ahead clock.new;
         }) }
+    ensures legal { IsLegal session_rows desk.old.session.state.database.history }
     ensures unprinted { result ≡ Some Halt.FileFault → K.written out.new ≡ K.written out.old }
     ensures refusals { desk.new.refusals ≡ desk.old.refusals }
     ensures may { MayFail ending result }
     ensures sink { SinkBehind result (K.faults out.old) (K.faults out.new) }
     ensures files { FilesBehind result (F.faults files.old) (F.faults files.new) }
 {
-    if desk.session.state.current.is_none() {
+    desk.session.state.database.tells_legal();
+    if !desk.session.state.recorder.is_on() {
         return None;
     }
     match desk.session.stop_run(alloc, files, clock) {

@@ -2,7 +2,7 @@ ghost use Rattle.std.specs.Prelude.{◌≡◌, ◌≤◌, ◌<◌, ◌+◌, ◌^
 ghost use Rattle.daq_session.specs.Halts.{CountsHalt, CountsSink};
 ghost use Rattle.daq_session.specs.Standing.{IsReady};
 ghost use Rattle.daq_session.specs.Playing.{DoesLine, GoesBehind, IsNew};
-ghost use Rattle.daq_session.specs.Tallies.{most_starts};
+ghost use Rattle.run_recorder.specs.Tallies.{most_starts};
 
 use crate::console::print_reply;
 use crate::halts::Halt;
@@ -68,9 +68,9 @@ impl Desk {
         files: &mut F,
         clock: &mut C,
     ) -> Result<Going, Halt>
-        requires few { self.old.session.state.starts + 1 ≤ most_starts }
+        requires few { self.old.session.state.recorder.starts + 1 ≤ most_starts }
         requires counted { self.old.refusals.count + 1 < 2 ^ 64 }
-        requires ready { IsReady (F.seen files.old) self.old.session.state.current }
+        requires ready { IsReady (F.seen files.old) self.old.session.state.recorder.on }
         ensures did { DoesLine line.now number self.old.session.state self.new.session.state
             (record {
               files = F.seen files.old;
@@ -87,13 +87,14 @@ impl Desk {
               ahead = C.ahead clock.new;
             }) (K.written out.old)
             (K.written out.new) self.old.refusals self.new.refusals result }
-        ensures starts { self.new.session.state.starts ≤ self.old.session.state.starts + 1 }
-        ensures empty { line.now ≡ [] → self.new.session.state.starts
-            ≡ self.old.session.state.starts }
+        ensures starts { self.new.session.state.recorder.starts ≤ self.old.session.state.recorder.starts + 1 }
+        ensures empty { line.now ≡ [] → self.new.session.state.recorder.starts
+            ≡ self.old.session.state.recorder.starts }
         ensures refusals { self.new.refusals.count ≤ self.old.refusals.count + 1 }
         ensures files { CountsHalt (F.faults files.old) (F.faults files.new) result }
         ensures sink { CountsSink (K.faults out.old) (K.faults out.new) result }
     {
+        self.session.state.database.tells_legal();
         let command = Command::read(line);
         let going = going_behind(&command);
         let reply = self.session.answer(alloc, command, files, clock)?;

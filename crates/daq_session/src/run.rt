@@ -1,8 +1,8 @@
 ghost use Rattle.std.specs.Prelude.{◌≡◌, ◌↔◌, length, All, IfSome, IsTrue, Some};
-ghost use Rattle.daq_session.specs.BufferRecords.{IsOneHistory, IsSystem, history_in};
-ghost use Rattle.daq_session.specs.RunHistories.{IsHeldRun};
+ghost use Rattle.run_recorder.specs.BufferRecords.{IsOneHistory, IsSystem, history_in};
+ghost use Rattle.run_recorder.specs.RunHistories.{IsHeldRun};
 ghost use Rattle.daq_session.specs.Sessions.{IsRecorded, RunsScript};
-ghost use Rattle.daq_session.specs.SystemCalls.{AreSystemCalls, IsOfRuns, completed_starts};
+ghost use Rattle.run_recorder.specs.SystemCalls.{AreSystemCalls, IsOfRuns, completed_starts};
 ghost use Rattle.daq_session.specs.Standing.{Course, stage_of};
 ghost use Rattle.odb_tree.specs.Histories.{IsLegal};
 ghost use Rattle.odb_runinfo.specs.RunKeys.{session_rows};
@@ -15,7 +15,7 @@ use crate::script::play;
 use crate::session::Session;
 use daq_io::{Clock, Files, Gate, Outside, Pick, Sink, Source};
 use odb_script::LineReader;
-use session_console::{Entries, SessionRecord};
+use session_console::SessionRecord;
 use std::alloc::Global;
 use std::sync::Wait;
 use std::thread::Threads;
@@ -29,19 +29,20 @@ fn record_of(session: Session) -> Option<SessionRecord>
     ensures buffers { IfSome result (λ s. IsSystem (history_in s.buffers) s.buffers) }
     ensures one_history { IfSome result (λ s. All IsOneHistory s.buffers) }
     ensures system_calls { IfSome result (λ s. AreSystemCalls (history_in s.buffers)) }
-    ensures no_other_run { length session.state.runs.items ≡ session.state.starts
+    ensures no_other_run { length session.state.recorder.runs ≡ session.state.recorder.starts
         → IfSome result (λ s. All (IsOfRuns (completed_starts s.runs)) (history_in s.buffers)) }
     ensures held { IfSome result (λ s. All (IsHeldRun (history_in s.buffers)) s.runs) }
 {
     let state = session.state;
     let opened = state.opened;
     let (_, database) = state.database.into_parts();
+    let (runs, buffers) = state.recorder.into_records();
     if !opened {
         return None;
     }
     Some(SessionRecord {
-        runs: Entries::of(state.runs),
-        buffers: session.path.into_records(),
+        runs,
+        buffers,
         database,
     })
 }

@@ -1,6 +1,4 @@
 ghost use Rattle.std.specs.Prelude.{◌≡◌, ◌≤◌, ◌<◌, ◌+◌, ◌*◌, ◌^◌, ◌++◌, ◌∷◌, ℕ, List, [], None, Ok, IfOk, IfErr, OnErr, OnOk, IsSome, false};
-ghost use Rattle.std.specs.Option.{ForNone, ForSome};
-ghost use Rattle.buffer_core.specs.declared.gate.RunGate.TheVariants.{Running, Shut};
 ghost use Rattle.daq_io.specs.Counts.{CountsFault};
 ghost use Rattle.odb_script.specs.declared.forms.Command.TheVariants.{Nothing, Stop};
 ghost use Rattle.session_console.specs.Console.{is_refusal};
@@ -11,11 +9,8 @@ ghost use Rattle.daq_session.specs.RunTransitions.{CallsMore};
 ghost use Rattle.daq_session.specs.declared.halts.Halt.TheVariants.{NoMemory as no_memory};
 ghost use Rattle.odb_commands.specs.Answers.{answer_of};
 ghost use Rattle.odb_runinfo.specs.RunKeys.{session_rows};
-ghost use Rattle.buffer_core.specs.Window.{accepted_of};
-ghost use Rattle.daq_session.specs.RunsTold.{IsStanding};
-ghost use Rattle.daq_session.specs.Tallies.{most_spent, most_starts};
+ghost use Rattle.run_recorder.specs.Tallies.{most_starts};
 
-use crate::data_path::DataPath;
 use crate::halts::Halt;
 use crate::state::State;
 use crate::transitions::{start, stop};
@@ -26,30 +21,15 @@ use odb_commands::{COMMAND_CALLS, run_command};
 use odb_journal::LocalDatabase;
 use odb_runinfo::{STOP_CALLS, open};
 use odb_script::{Command, LineRefusal};
+use run_recorder::RunRecorder;
 use session_console::Reply;
 use std::alloc::Global;
 
-/// A session: where it stands in its script, and the way of its events.
+/// A session.
 #[derive(Drop)]
 pub struct Session {
     /// Where the session stands.
     pub state: State,
-    /// The way of its events.
-    pub path: DataPath,
-    // The buffer takes the events of the run that is on, and none where none is on.
-    ghost shut: { ForNone state.current (path.port.window.gate ≡ Shut) },
-    ghost open_gate: { ForSome state.current (λ r. path.port.window.gate ≡ Running r.order.start) },
-    ghost later: { path.port.window.last ≤ state.starts },
-    ghost few: { state.starts ≤ most_starts },
-    // Each run that was begun had room for all its events, and so has the one that is on.
-    ghost spent: { path.port.window.total ≤ most_spent state.starts },
-    ghost spends: { ForSome state.current (λ r. path.port.window.total + most_spent 1 ≤ most_spent r.order.start) },
-    ghost begun: { ForSome state.current (λ r. r.order.start ≤ state.starts) },
-    // There is room to note the calls of the run that is on, up to its end.
-    ghost entries: { ForSome state.current (λ r. 2 * r.order.quota + 1 ≤ path.port.entries) },
-    ghost bytes: { ForSome state.current (λ r. 80 * r.order.quota ≤ path.port.bytes) },
-    // The history of the buffer tells the recorded runs, and that the one that is on has no event yet.
-    ghost told: { ∥ IsStanding path.port.history (accepted_of path.port.window) state.starts state.runs.items state.current ∥₁ },
 }
 
 /// The online database of a session: the run's parameters, and no call noted.
@@ -72,9 +52,7 @@ fn call(alloc: Global, state: &mut State, command: &Command<'_>) -> Result<Reply
     ensures interrupted { OnErr result ((c : Course) → Interrupts (Ok command.now)
         (stage_of state.old c) (stage_of state.new c)) }
     ensures calls { CallsMore state.old.database.history state.new.database.history }
-    ensures current { state.new.current ≡ state.old.current }
-    ensures runs { state.new.runs.items ≡ state.old.runs.items }
-    ensures starts { state.new.starts ≡ state.old.starts }
+    ensures recorder { state.new.recorder ≡ state.old.recorder }
 {
     state.database.reserve(STOP_CALLS + COMMAND_CALLS)?;
     match run_command(alloc, &mut state.database, command)? {
@@ -85,28 +63,25 @@ fn call(alloc: Global, state: &mut State, command: &Command<'_>) -> Result<Reply
 
 impl Session {
     /// A session before its first line.
-    #[tactic(auto, using(crate::proofs::OpeningRuns::standing_new))]
     pub fn new(alloc: Global) -> Result<Session, NoMemory>
-        ensures stopped { IfOk result (λ s. s.state.current ≡ None) }
-        ensures runs { IfOk result (λ s. s.state.runs.items ≡ []) }
+        ensures stopped { IfOk result (λ s. s.state.recorder.on ≡ None) }
+        ensures runs { IfOk result (λ s. s.state.recorder.runs ≡ []) }
         ensures quota { IfOk result (λ s. s.state.quota ≡ 0) }
-        ensures starts { IfOk result (λ s. s.state.starts ≡ 0) }
+        ensures starts { IfOk result (λ s. s.state.recorder.starts ≡ 0) }
         ensures opened { IfOk result (λ s. s.state.opened ≡ false) }
         ensures rows { IfOk result (λ s. s.state.database.rows ≡ session_rows) }
         ensures calls { IfOk result (λ s. s.state.database.history ≡ []) }
     {
-        let path = DataPath::new(alloc)?;
+        let recorder = RunRecorder::new(alloc)?;
         let database = open_database(alloc)?;
         Ok(Session {
             state: State {
                 quota: 0,
-                starts: 0,
                 opened: false,
-                runs: Vec::new(alloc),
-                current: None,
+                recorder,
+                stop_paths: None,
                 database,
             },
-            path,
         })
     }
 
@@ -118,8 +93,8 @@ impl Session {
         files: &mut F,
         clock: &mut C,
     ) -> Result<Reply, Halt>
-        requires few { self.old.state.starts + 1 ≤ most_starts }
-        requires ready { IsReady (F.seen files.old) self.old.state.current }
+        requires few { self.old.state.recorder.starts + 1 ≤ most_starts }
+        requires ready { IsReady (F.seen files.old) self.old.state.recorder.on }
         ensures did { Handles line.entry self.old.state self.new.state
             (record {
               files = F.seen files.old;
@@ -135,8 +110,8 @@ impl Session {
                   C.tells clock.new;
               ahead = C.ahead clock.new;
             }) result }
-        ensures starts { self.new.state.starts ≤ self.old.state.starts + 1 }
-        ensures nothing { line.entry ≡ Ok Nothing → self.new.state.starts ≡ self.old.state.starts }
+        ensures starts { self.new.state.recorder.starts ≤ self.old.state.recorder.starts + 1 }
+        ensures nothing { line.entry ≡ Ok Nothing → self.new.state.recorder.starts ≡ self.old.state.recorder.starts }
         ensures faults { CountsHalt (F.faults files.old) (F.faults files.new) result }
     {
         match line {
@@ -146,8 +121,8 @@ impl Session {
                 self.state.quota = count;
                 Ok(Reply::Silent)
             }
-            Ok(Command::Start) => start(alloc, &mut self.state, &mut self.path, files, clock),
-            Ok(Command::Stop) => Ok(stop(alloc, &mut self.state, &mut self.path, files, clock)?),
+            Ok(Command::Start) => start(alloc, &mut self.state, files, clock),
+            Ok(Command::Stop) => Ok(stop(alloc, &mut self.state, files, clock)?),
             Ok(command) => call(alloc, &mut self.state, &command),
         }
     }
@@ -159,7 +134,7 @@ impl Session {
         files: &mut F,
         clock: &mut C,
     ) -> Result<Reply, Failed>
-        requires ready { IsReady (F.seen files.old) self.old.state.current }
+        requires ready { IsReady (F.seen files.old) self.old.state.recorder.on }
         ensures did { IfOk result (λ reply. AnswersLine (Ok Stop) reply self.old.state
             self.new.state (record {
               files = F.seen files.old;
@@ -189,11 +164,11 @@ impl Session {
                   C.tells clock.new;
               ahead = C.ahead clock.new;
             })) }
-        ensures idle { OnOk result (self.new.state.current ≡ None) }
-        ensures accepted { IfOk result (λ reply. IsSome self.old.state.current → is_refusal reply
+        ensures idle { OnOk result (self.new.state.recorder.on ≡ None) }
+        ensures accepted { IfOk result (λ reply. IsSome self.old.state.recorder.on → is_refusal reply
             ≡ false) }
         ensures faults { CountsFault (F.faults files.old) (F.faults files.new) result }
     {
-        stop(alloc, &mut self.state, &mut self.path, files, clock)
+        stop(alloc, &mut self.state, files, clock)
     }
 }
