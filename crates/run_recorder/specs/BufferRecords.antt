@@ -6,6 +6,7 @@ use Rattle.buffer_core.specs.Histories.{IsLegal}
 use Rattle.buffer_core.specs.Delivered.{Delivers}
 use Rattle.buffer_core.specs.Runs.{KeepsRuns}
 use Rattle.session_console.specs.declared.records.BufferRecord.{BufferRecord}
+use Rattle.run_recorder.specs.declared.data_path.TheConstants.{SYSTEM_BYTES}
 
 -- The history is that of one buffer, which opened empty with the recorded size: each reply is the one that it gave there.
 -- Each client got what its requests ask for, and the events of each run stand between its marks.
@@ -19,7 +20,7 @@ pub record IsSystem (history : List (ℕ × BufferEntry)) (buffers : List Buffer
   pub buffer : BufferRecord
   pub alone : buffers ≡ buffer ∷ []
   pub name : buffer.name ≡ codes "SYSTEM"
-  pub size : buffer.size ≡ 1048576
+  pub size : buffer.size ≡ SYSTEM_BYTES
   pub history_is : buffer.history.entries ≡ history
 
 -- the history of the first of these buffers, SYSTEM, through which all events go

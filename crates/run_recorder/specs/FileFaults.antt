@@ -19,6 +19,6 @@ pub record CutsFile (old new : Seen) (name bytes : List ℕ) : Type 0 where
   pub fresh : IsTrue old.tells → old.at name ≡ None
   pub holds : IsTrue old.tells → new.at name ≡ Some (stored_open (take count bytes))
 
--- nothing changed, or the file was made and cut short
+-- no file changed, as where none was made; or the file was made and cut short
 abbrev pub BeginBreaks : (old new : Seen) (name bytes : List ℕ) → Type 0
 BeginBreaks old new name bytes = Same old new ⊎ CutsFile old new name bytes

@@ -6,6 +6,7 @@ use Rattle.daq_model.specs.Events.{encoding, all_encoded}
 use Rattle.daq_model.specs.Generator.{generated_events}
 use Rattle.daq_model.specs.RunFile.{end_record}
 use Rattle.daq_io.specs.Seen.{Seen, Closes}
+use Rattle.frontend_kit.specs.declared.generator.TheConstants.{EVENT_ROOM}
 use Rattle.session_console.specs.declared.records.RunRecord.{RunRecord}
 use Rattle.run_recorder.specs.declared.run_files.Begun.{Begun}
 use Rattle.run_recorder.specs.declared.run_files.Begun.TheVariants.{Writing, Taken}
@@ -13,6 +14,7 @@ use Rattle.run_recorder.specs.declared.ended_run.EndedRun.{EndedRun}
 use Rattle.run_recorder.specs.RunRecords.{RunOn, file_record, refused_record, completed_record}
 use Rattle.run_recorder.specs.Tallies.{IsTally}
 
+-- What a recorder keeps, as its calls see it.
 pub record Recording : Type 0 where
   -- how many starts were begun
   pub starts : ℕ
@@ -35,7 +37,7 @@ pub record KeepsRecording (old new : Recording) : Type 0 where
 -- there is room for the calls of a run of so many events, each sent and got, from its begin to its end; and for its record
 pub record HasRoomForRun (r : Recording) (quota : ℕ) : Type 0 where
   pub calls : 2 * quota + 2 ≤ r.calls
-  pub bytes : 80 * quota ≤ r.bytes
+  pub bytes : EVENT_ROOM * quota ≤ r.bytes
   pub records : 1 ≤ r.records
 
 -- What the members are told at the next start: its number is one above that of the last.

@@ -33,6 +33,7 @@ sent_by h caller start = filter_map (λ e. if e.0 == caller then sent_in_run sta
 abbrev pub wanted_of : (history : List (ℕ × BufferEntry)) → (id mask start : ℕ) → List (ℕ × Sent)
 wanted_of h id mask start = wanted id mask (segment h start)
 
+-- the events alone
 abbrev pub events_of : List (ℕ × Sent) → List Event
 events_of = map (λ e. e.1.event)
 

@@ -7,11 +7,13 @@ ghost use Rattle.buffer_core.specs.declared.gate.RunGate.TheVariants.{Shut, Runn
 ghost use Rattle.buffer_core.specs.ReadingLaws.{IsDrained};
 ghost use Rattle.buffer_core.specs.Window.{opening, accepted_of};
 ghost use Rattle.ring_bytes.specs.Rings.{most_bytes};
+ghost use Rattle.frontend_kit.specs.declared.generator.TheConstants.{EVENT_ROOM};
+ghost use Rattle.run_recorder.specs.declared.data_path.TheConstants.{SYSTEM_BYTES};
 ghost use Rattle.run_recorder.specs.BufferEntries.{front_caller, logger_caller, opening_entries, begin_entry, passed_entries, end_entry, PassesFirst};
 ghost use Rattle.run_recorder.specs.BufferRecords.{IsOneHistory, IsSystem};
 ghost use Rattle.run_recorder.specs.RunsTold.{IsTold};
 ghost use Rattle.run_recorder.specs.SystemCalls.{IsOfRuns};
-ghost use Rattle.run_recorder.specs.Tallies.{IsTally, most_spent, most_starts};
+ghost use Rattle.run_recorder.specs.Tallies.{IsTally, event_slot, most_spent, most_starts};
 
 use buffer_core::laws;
 use daq_io::{Failed, Files};
@@ -52,9 +54,6 @@ const EVENT_CALLS: u64 = 2;
 /// How many calls are noted for a run besides: the buffer is opened for it, and shut behind it.
 const RUN_CALLS: u64 = 2;
 
-/// The most bytes of data of an event.
-const EVENT_BYTES: u64 = 80;
-
 /// The way of the events from the front-end to the run file: through the buffer SYSTEM, of which the logger gets all.
 #[derive(Drop)]
 pub struct DataPath {
@@ -63,10 +62,10 @@ pub struct DataPath {
     got: EventBuf,
     // Room for the record of the buffer.
     records: Vec<BufferRecord>,
-    ghost sent_room: { 80 ≤ sent.room },
-    ghost got_room: { 80 ≤ got.room },
-    ghost size: { port.window.size ≡ 1048576 },
-    ghost opens: { port.start ≡ opening 1048576 },
+    ghost sent_room: { EVENT_ROOM ≤ sent.room },
+    ghost got_room: { EVENT_ROOM ≤ got.room },
+    ghost size: { port.window.size ≡ SYSTEM_BYTES },
+    ghost opens: { port.start ≡ opening SYSTEM_BYTES },
     ghost record_room: { 1 ≤ vec_capacity records },
     ghost no_record: { vec_len records ≡ 0 },
     // Between two calls the logger has got each event that was sent.
@@ -98,11 +97,11 @@ fn new_buffer(alloc: Global, size: u32) -> Result<RingBuffer, NoMemory>
 
 /// A port to the buffer SYSTEM, with the logger's client, which asks for all events.
 fn system_port(alloc: Global) -> Result<LocalPort<RingBuffer>, NoMemory>
-    ensures opens { IfOk result (λ port. port.start ≡ opening 1048576) }
+    ensures opens { IfOk result (λ port. port.start ≡ opening SYSTEM_BYTES) }
     ensures drained { IfOk result (λ port. IsDrained port.window 0) }
     ensures shut { IfOk result (λ port. port.window.gate ≡ Shut) }
     ensures last { IfOk result (λ port. port.window.last ≡ 0) }
-    ensures size { IfOk result (λ port. port.window.size ≡ 1048576) }
+    ensures size { IfOk result (λ port. port.window.size ≡ SYSTEM_BYTES) }
     ensures total { IfOk result (λ port. port.window.total ≡ 0) }
     ensures accepted { IfOk result (λ port. accepted_of port.window ≡ 0) }
     ensures history { IfOk result (λ port. port.history ≡ opening_entries (codes "Logger")) }
@@ -164,11 +163,13 @@ impl DataPath {
         ensures history { self.new.port.history ≡ self.old.port.history }
         ensures got { self.new.got ≡ self.old.got }
         ensures entries { OnOk result (2 * quota + 2 ≤ self.new.port.entries) }
-        ensures bytes { OnOk result (80 * quota ≤ self.new.port.bytes) }
+        ensures bytes { OnOk result (EVENT_ROOM * quota ≤ self.new.port.bytes) }
     {
         let events = u64::from(quota);
-        self.port
-            .reserve(EVENT_CALLS * events + RUN_CALLS, EVENT_BYTES * events)
+        self.port.reserve(
+            EVENT_CALLS * events + RUN_CALLS,
+            u64::from(EVENT_ROOM) * events,
+        )
     }
 
     /// Opens the buffer for the events of a run.
@@ -209,14 +210,14 @@ impl DataPath {
     /// Sends the event that the front-end wrote into the buffer, and takes it out again for the logger.
     fn pass_on(&mut self, start: u32)
         requires gate { self.old.port.window.gate ≡ Running start }
-        requires small { length self.old.sent.event.body ≤ 80 }
-        requires slot { slot_size self.old.sent.event ≤ 104 }
+        requires small { length self.old.sent.event.body ≤ EVENT_ROOM }
+        requires slot { slot_size self.old.sent.event ≤ event_slot }
         requires free { is_reserved self.old.sent.event.id ≡ false }
-        requires unspent { self.old.port.window.total + 104 ≤ 2 ^ 62 }
+        requires unspent { self.old.port.window.total + event_slot ≤ 2 ^ 62 }
         requires entries { 2 ≤ self.old.port.entries }
-        requires bytes { 80 ≤ self.old.port.bytes }
+        requires bytes { EVENT_ROOM ≤ self.old.port.bytes }
         ensures event { self.new.got.event ≡ self.old.sent.event }
-        ensures total { self.new.port.window.total ≤ self.old.port.window.total + 104 }
+        ensures total { self.new.port.window.total ≤ self.old.port.window.total + event_slot }
         ensures gate { self.new.port.window.gate ≡ self.old.port.window.gate }
         ensures last { self.new.port.window.last ≡ self.old.port.window.last }
         ensures sent { self.new.sent ≡ self.old.sent }
@@ -226,7 +227,7 @@ impl DataPath {
             self.old.got.room (accepted_of self.old.port.window) (self.old.sent.event ∷ []) }
         ensures room { self.new.got.room ≡ self.old.got.room }
         ensures entries { self.old.port.entries ≤ self.new.port.entries + 2 }
-        ensures bytes { self.old.port.bytes ≤ self.new.port.bytes + 80 }
+        ensures bytes { self.old.port.bytes ≤ self.new.port.bytes + EVENT_ROOM }
     {
         let header = self.sent.header();
         front_calls(&mut self.port);
@@ -251,7 +252,7 @@ impl DataPath {
         requires few { order.now.start ≤ most_starts }
         requires spends { self.old.port.window.total + most_spent 1 ≤ most_spent order.now.start }
         requires entries { 2 * order.now.quota ≤ self.old.port.entries }
-        requires bytes { 80 * order.now.quota ≤ self.old.port.bytes }
+        requires bytes { EVENT_ROOM * order.now.quota ≤ self.old.port.bytes }
         ensures written { IfOk result (λ front. Extends (F.seen files.old) (F.seen files.new) file
             (all_encoded (generated_events order.now 1 0 front.sent))) }
         ensures broken { OnErr result (ExtendsPart (F.seen files.old) (F.seen files.new) file

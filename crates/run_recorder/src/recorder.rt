@@ -7,6 +7,7 @@ ghost use Rattle.daq_model.specs.Generator.{generated_events};
 ghost use Rattle.daq_model.specs.RunFile.{begun_file, end_record};
 ghost use Rattle.daq_io.specs.Counts.{CountsFault};
 ghost use Rattle.daq_io.specs.Seen.{Closes};
+ghost use Rattle.frontend_kit.specs.declared.generator.TheConstants.{EVENT_ROOM};
 ghost use Rattle.run_recorder.specs.BegunFiles.{BeginsFile, ClashesBegun};
 ghost use Rattle.run_recorder.specs.BufferRecords.{IsOneHistory, IsSystem, history_in};
 ghost use Rattle.run_recorder.specs.FileFaults.{BeginBreaks, BreaksFile};
@@ -72,7 +73,7 @@ pub struct RunRecorder {
     ghost begun: { ForSome on (λ r. r.order.start ≤ starts) },
     // There is room to note the calls of the run that is on, up to its end.
     ghost entries: { ForSome on (λ r. 2 * r.order.quota + 1 ≤ path.port.entries) },
-    ghost bytes: { ForSome on (λ r. 80 * r.order.quota ≤ path.port.bytes) },
+    ghost bytes: { ForSome on (λ r. EVENT_ROOM * r.order.quota ≤ path.port.bytes) },
 }
 
 impl Model for RunRecorder {
@@ -124,7 +125,7 @@ fn end_run<F: Files>(
     requires few { run.order.start ≤ most_starts }
     requires spends { path.old.port.window.total + most_spent 1 ≤ most_spent run.order.start }
     requires entries { 2 * run.order.quota + 1 ≤ path.old.port.entries }
-    requires bytes { 80 * run.order.quota ≤ path.old.port.bytes }
+    requires bytes { EVENT_ROOM * run.order.quota ≤ path.old.port.bytes }
     ensures file { IfOk result (λ e. Closes (F.seen files.old) (F.seen files.new) run.file
         (all_encoded (generated_events run.order 1 0 e.front.sent) ++ encoding
         (end_record run.order.run time []))) }
@@ -236,6 +237,7 @@ impl RunRecorder {
         ensures broken { OnErr result (BeginBreaks (F.seen files.old) (F.seen files.new)
             (run_name plan.run) (begun_file plan.run time [] [])) }
         ensures clashes { IfOk result (ClashesBegun (F.clashes files.old) (F.clashes files.new)) }
+        ensures unclashed { OnErr result (F.clashes files.new ≡ F.clashes files.old) }
         ensures faults { CountsFault (F.faults files.old) (F.faults files.new) result }
         ensures starts { OnOk result (self.new.starts ≡ self.old.starts + 1) }
         ensures begun { IfOk result (BeginsRun self.old self.new

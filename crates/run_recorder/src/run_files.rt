@@ -56,6 +56,7 @@ pub fn begin_file<F: Files>(
         (begun_file run time [] [])) }
     ensures broken { OnErr result (BeginBreaks (F.seen files.old) (F.seen files.new) name.now
         (begun_file run time [] [])) }
+    ensures unclashed { OnErr result (F.clashes files.new ≡ F.clashes files.old) }
     ensures faults { CountsFault (F.faults files.old) (F.faults files.new) result }
 {
     match files.create(name) {
