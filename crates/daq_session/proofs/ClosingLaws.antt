@@ -20,7 +20,7 @@ use Rattle.daq_session.specs.declared.halts.Halt.TheVariants.{NoMemory, SinkFaul
 use Rattle.session_console.specs.declared.refusals.Refusals.{Refusals}
 use Rattle.session_console.specs.declared.replies.Reply.{Reply}
 use Rattle.session_console.specs.declared.replies.Reply.TheVariants.{Silent, BadCommand, WrongState, RunNumber, StartRefused, Started, Stopped as run_stopped, Database}
-use Rattle.daq_session.specs.declared.state.State.{State}
+use Rattle.daq_session.specs.declared.session.Session.{Session}
 use Rattle.run_recorder.specs.RunRecords.{RunOn}
 use Rattle.session_console.specs.Console.{console_text, text_of, is_refusal, refused_lines, refused_lines-more}
 use Rattle.session_console.specs.Refused.{Counts}
@@ -180,7 +180,7 @@ on_some : (on : Option RunOn) → IsSome on → order_in on ≢ None
 on_some None some is = absurd (cc)
 on_some (Some run) some is = let clash : Some run.order ≡ None = is in cc
 
-stopped : (o : Outset) (ending : Ending) (source left told_first told : Option (List ℕ)) (reply : Reply) (old new : State) (before after : Outset) (refusals : Refusals)
+stopped : (o : Outset) (ending : Ending) (source left told_first told : Option (List ℕ)) (reply : Reply) (old new : Session) (before after : Outset) (refusals : Refusals)
     → (played : Played o ending source left told_first told old before refusals) → IsSome old.recorder.on → AnswersLine (Ok Stop) reply old new before after → new.recorder.on ≡ None
     → (readings : ℕ) × (clashes : ℕ) × (p : IsPlayed o after (CutBy ending source played.lines) played.lines (stage_of new (course_of readings clashes (played.replies ++ reply ∷ [])))) × CallsStand new.database.history new.recorder.runs None × (p.cut.on ≢ None)
 stopped o ending source left told_first told reply old new before after refusals played running answers idle =
@@ -217,7 +217,7 @@ nothing_behind SourceFault told number = nothing_more None told number
 nothing_behind (Halted halt) told number = keeps_same told
 
 -- no run was on
-pub finished_idle : (o : Outset) (ending : Ending) (source left told_first told : Option (List ℕ)) (s : State) (now : Outset) (refusals : Refusals)
+pub finished_idle : (o : Outset) (ending : Ending) (source left told_first told : Option (List ℕ)) (s : Session) (now : Outset) (refusals : Refusals)
     → s.recorder.on ≡ None → Played o ending source left told_first told s now refusals → Finished o ending None source left told_first told s now refusals
 finished_idle o ending source left told_first told s now refusals idle played =
     let same : played.replies ++ [] ≡ played.replies = append-nil played.replies in
@@ -248,7 +248,7 @@ finished_idle o ending source left told_first told s now refusals idle played =
     }
 
 -- the run was stopped, and this was written of that
-pub finished_stopped : (o : Outset) (ending : Ending) (closing : Option Halt) (source left told_first told_old told_new : Option (List ℕ)) (old new : State) (before after : Outset) (refusals : Refusals) (reply : Reply)
+pub finished_stopped : (o : Outset) (ending : Ending) (closing : Option Halt) (source left told_first told_old told_new : Option (List ℕ)) (old new : Session) (before after : Outset) (refusals : Refusals) (reply : Reply)
     → IsSome old.recorder.on → AnswersLine (Ok Stop) reply old new before after → new.recorder.on ≡ None → is_refusal reply ≡ false
     → ((number : ℕ) → WroteBehind ending closing told_old told_new number (reply ∷ []))
     → Played o ending source left told_first told_old old before refusals → Finished o ending closing source left told_first told_new new after refusals

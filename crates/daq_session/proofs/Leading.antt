@@ -17,7 +17,7 @@ use Rattle.session_console.specs.declared.records.FileRecord.{FileRecord}
 use Rattle.daq_types.specs.declared.runs.Why.TheVariants.{Exists}
 use Rattle.session_console.specs.declared.replies.Reply.{Reply}
 use Rattle.session_console.specs.declared.replies.Reply.TheVariants.{StartRefused, Started, Stopped as run_stopped}
-use Rattle.daq_session.specs.declared.state.State.{State}
+use Rattle.daq_session.specs.declared.session.Session.{Session}
 use Rattle.run_recorder.specs.RunRecords.{RunOn}
 use Rattle.daq_session.specs.FrontSets.{IsSentSet}
 use Rattle.daq_session.specs.RunTransitions.{CallsStand}
@@ -28,7 +28,7 @@ use Rattle.run_recorder.specs.Tallies.{IsTally}
 use Rattle.run_recorder.specs.RunRecords.{refused_record, completed_record, file_record}
 use Rattle.daq_session.specs.Stages.{Outset, Stage, IsReading, IsFreeName, DoesStop, next_order}
 use Rattle.daq_session.specs.Standing.{Course, behind_reply, order_in, stage_of, IsClock, IsAt, LeadsOutside, LineDoes, RunStarts}
-use Rattle.daq_session.proofs.Keeping.{kept_begun, kept_same, kept_refused, kept_ended, kept_free, kept_taken}
+use Rattle.run_recorder.specs.KeptLaws.{kept_begun, kept_same, kept_refused, kept_ended, kept_free, kept_taken}
 
 -- two stages whose parts are the same
 pub stage_is : {q q' s s' r r' k k' : ℕ} {p p' : Bool} {on on' : Option Order} {runs runs' : List RunRecord} {own own' front front' : List DatabaseEntry} {replies replies' : List Reply}
@@ -44,17 +44,17 @@ pub record Reads (old new : Outset) (time : ℕ) : Type 0 where
   pub later : IsTrue old.clock_tells → (n : ℕ) → new.ahead n ≡ old.ahead (n + 1)
 
 -- the reading is the next one
-next_reading : (o : Outset) (readings time : ℕ) (old new : Outset) → IsClock o readings old → Reads old new time → IsReading o readings time
+pub next_reading : (o : Outset) (readings time : ℕ) (old new : Outset) → IsClock o readings old → Reads old new time → IsReading o readings time
 next_reading o readings time old new clock reads told = reads.value (clock.tells ∙ told) ∙ clock.ahead told 0 ∙ ap o.ahead (add-zero readings)
 
 -- and the clock has had one more
-one_reading : (o : Outset) (readings time : ℕ) (old new : Outset) → IsClock o readings old → Reads old new time → IsClock o (readings + 1) new
+pub one_reading : (o : Outset) (readings time : ℕ) (old new : Outset) → IsClock o readings old → Reads old new time → IsClock o (readings + 1) new
 one_reading o readings time old new clock reads = record {
   tells = reads.tells ∙ clock.tells;
   ahead = λ told n. reads.later (clock.tells ∙ told) n ∙ clock.ahead told (n + 1) ∙ ap o.ahead (omega arith);
 }
 
-pub begun_leads : (o : Outset) (c : Course) (old new : State) (before after : Outset) (number time : ℕ) (run : RunOn) (sets : List DatabaseEntry) (sent : DatabaseEntry)
+pub begun_leads : (o : Outset) (c : Course) (old new : Session) (before after : Outset) (number time : ℕ) (run : RunOn) (sets : List DatabaseEntry) (sent : DatabaseEntry)
     → IsAt o c old before → old.recorder.on ≡ None → Reads before after time → Creates before.files after.files (run_name run.order.run) run.file (begun_file run.order.run run.order.time [] []) → after.clashes ≡ before.clashes
     → run.order ≡ next_order (stage_of old c) number time
     → new.quota ≡ old.quota → new.recorder.starts ≡ old.recorder.starts + 1 → new.opened ≡ old.opened → new.recorder.runs ≡ old.recorder.runs → new.recorder.on ≡ Some run
@@ -88,7 +88,7 @@ begun_leads o c old new before after number time run sets sent at idle reads mad
       };
     }
 
-pub refused_leads : (o : Outset) (c : Course) (old new : State) (before after : Outset) (number time : ℕ) (order : Order) (sets : List DatabaseEntry)
+pub refused_leads : (o : Outset) (c : Course) (old new : Session) (before after : Outset) (number time : ℕ) (order : Order) (sets : List DatabaseEntry)
     → IsAt o c old before → old.recorder.on ≡ None → Reads before after time → Same before.files after.files → (IsTrue before.files.tells → IsSome (before.files.at (run_name number))) → Rose before.clashes after.clashes
     → order ≡ next_order (stage_of old c) number time
     → new.quota ≡ old.quota → new.recorder.starts ≡ old.recorder.starts + 1 → new.opened ≡ old.opened → new.recorder.runs ≡ old.recorder.runs ++ refused_record order ∷ [] → new.recorder.on ≡ None
@@ -121,7 +121,7 @@ refused_leads o c old new before after number time order sets at idle reads same
       };
     }
 
-pub ended_leads : (o : Outset) (c : Course) (old new : State) (before after : Outset) (number time : ℕ) (run : RunOn) (front : FrontTally) (file : FileRecord) (sets : List DatabaseEntry) (sent : DatabaseEntry)
+pub ended_leads : (o : Outset) (c : Course) (old new : Session) (before after : Outset) (number time : ℕ) (run : RunOn) (front : FrontTally) (file : FileRecord) (sets : List DatabaseEntry) (sent : DatabaseEntry)
     → IsAt o c old before → old.recorder.on ≡ Some run → Reads before after time
     → Closes before.files after.files run.file (all_encoded (generated_events run.order 1 0 front.sent) ++ encoding (end_record run.order.run time [])) → after.clashes ≡ before.clashes
     → IsTally run.order.quota front → number ≡ run.order.run → file ≡ file_record run.order.run

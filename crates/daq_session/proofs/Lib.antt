@@ -1,4 +1,3 @@
-mod Keeping
 mod Interrupting
 mod OwnCalls
 mod TransitionLaws

@@ -20,7 +20,8 @@ pub record CutsRun (o : Outset) (readings : ℕ) (runs : List RunRecord) (now : 
   pub kept : IsKeptBut o.files now runs (run_name run)
   pub own : IsTrue o.files.tells → HasFirstPart now (run_name run) (begun_file run time [] [])
 
--- a start failed: its file was not made, and all is as it was; or it was made, and not begun
+-- A start failed: every file is as it was, as where none was made; or its file was made, and has a first part of the begin
+-- record. Of one that was made and removed again the files tell no more than of one that was not made.
 abbrev pub StartBreaks : (o : Outset) (readings : ℕ) (runs : List RunRecord) (now : Seen) → Type 0
 StartBreaks o readings runs now = IsKept o.files now runs None ⊎ CutsRun o readings runs now
 

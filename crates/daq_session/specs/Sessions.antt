@@ -4,7 +4,6 @@ use Rattle.std.specs.Io.KnownBytes.{Appends}
 use Rattle.daq_types.specs.Callers.{entries_by}
 use Rattle.daq_types.specs.declared.runs.Order.{Order}
 use Rattle.daq_io.specs.Counts.{Rose}
-use Rattle.daq_io.specs.Seen.{Seen}
 use Rattle.daq_io.specs.Streams.{AppendsPart}
 use Rattle.odb_tree.specs.Histories.{IsLegal}
 use Rattle.odb_runinfo.specs.RunKeys.{session_rows}
@@ -20,9 +19,8 @@ use Rattle.daq_session.specs.declared.ends.ScriptEnd.{ScriptEnd}
 use Rattle.daq_session.specs.declared.ends.ScriptEnd.TheVariants.{Done, CommandRefused, TooLong, SourceFault, SinkFault, FileFault, NoMemory}
 use Rattle.daq_session.specs.declared.halts.Halt.{Halt}
 use Rattle.daq_session.specs.declared.halts.Halt.TheVariants.{NoMemory as no_memory, SinkFault as sink_fault, FileFault as file_fault}
-use Rattle.daq_session.specs.BrokenRuns.{StopBreaks}
 use Rattle.run_recorder.specs.BufferRecords.{IsOneHistory, IsSystem, history_in}
-use Rattle.daq_session.specs.Closing.{MayFail, ended_by, SinkBehind, FilesBehind, WroteBehind}
+use Rattle.daq_session.specs.Closing.{FailsFiles, MayFail, ended_by, SinkBehind, FilesBehind, WroteBehind}
 use Rattle.daq_session.specs.Endings.{SourceCounts, SinkCounts, FileCounts}
 use Rattle.daq_session.specs.FrontSets.{AreCallers, IsFrontsPass}
 use Rattle.daq_session.specs.Played.{IsPlayed}
@@ -31,6 +29,7 @@ use Rattle.run_recorder.specs.RunHistories.{HoldSegments, IsHeldRun}
 use Rattle.daq_session.specs.RunRecordFits.{FitsHistory}
 use Rattle.daq_session.specs.RunTransitions.{HoldsRuns}
 use Rattle.daq_session.specs.Stages.{HasHistory, Outset, Stage, Plays, opening}
+use Rattle.daq_session.specs.Standing.{FailsTurn}
 use Rattle.run_recorder.specs.SystemCalls.{AreSystemCalls, IsOfRuns, completed_starts}
 use Rattle.daq_session.specs.TakenNames.{AreWithinRise}
 
@@ -50,16 +49,17 @@ pub record Count : Type 0 where
   pub old : ℕ
   pub new : ℕ
 
+-- it rose
 abbrev pub Rises : Count → Type 0
 Rises count = Rose count.old count.new
 
+-- it is as it was
 abbrev pub Stands : Count → Type 0
 Stands count = count.new ≡ count.old
 
 -- what the cause says of the counts of faults of the source, the sink and the run files, and of the file of the first
--- fault: a fault is the cause exactly where that count rose and no earlier cause holds. The input is bad only where the
--- script is too long. Where there was no memory nothing
--- is printed behind that, and so the sink's count stands
+-- fault: a fault is the cause exactly where that count rose and no earlier cause holds. Where there was no memory nothing is
+-- printed behind that, and so the sink's count stands
 abbrev pub FaultsBy : ScriptEnd → (source sink files : Count) → (first : Option (List ℕ)) → Type 0
 FaultsBy Done source sink files first = Stands source × Stands sink × Stands files
 FaultsBy (CommandRefused count line) source sink files first = Stands source × Stands sink × Stands files
@@ -126,16 +126,16 @@ pub record IsSession (before after : Environment) (end : ScriptEnd) (ends : Ends
 
 -- A stop failed behind the lines, of the run that was still on; before it maybe a command was cut off. The calls on the
 -- database up to there are legal.
-pub record FailsBehind (ending : Ending) (o : Outset) (source : Option (List ℕ)) (lines : List (List ℕ)) (behind : Stage) (now : Seen) : Type 0 where
+pub record FailsBehind (ending : Ending) (o : Outset) (source : Option (List ℕ)) (lines : List (List ℕ)) (behind : Stage) (now : Outset) : Type 0 where
   pub cut : Stage
   pub is_cut : CutBy ending source lines behind cut
   pub called : HasHistory cut
   pub order : Order
   pub on : cut.on ≡ Some order
-  pub breaks : StopBreaks o cut.readings cut.runs order now
+  pub fails : FailsTurn o cut.readings cut.clashes cut.runs (Some order) now
 
 -- where a call on the run files failed: in the next line, or in the stop behind all lines
-abbrev pub FailsBy : Ending → (o : Outset) (source : Option (List ℕ)) (lines : List (List ℕ)) (behind : Stage) (now : Seen) → Type 0
+abbrev pub FailsBy : Ending → (o : Outset) (source : Option (List ℕ)) (lines : List (List ℕ)) (behind : Stage) (now : Outset) → Type 0
 FailsBy End o source lines behind now = FailsBehind End o source lines behind now
 FailsBy too_long o source lines behind now = FailsBehind too_long o source lines behind now
 FailsBy source_fault o source lines behind now = FailsBehind source_fault o source lines behind now
@@ -150,7 +150,7 @@ pub record IsBrokenOff (before after : Environment) (ending : Ending) (refusals 
   pub lines : List (List ℕ)
   pub behind : Stage
   pub plays : Plays before.outset (opening before.outset.clashes) (map command_of lines) behind
-  pub fails : FailsBy ending before.outset before.source lines behind after.outset.files
+  pub fails : FailsBy ending before.outset before.source lines behind after.outset
   pub read : (text : List ℕ) → before.source ≡ Some text → AreLines ending text after.source lines
   pub refused : Counts (refused_lines 1 behind.replies) refusals
   pub wrote : Wrote ending before.written after.written behind.replies
@@ -190,11 +190,11 @@ pub record RunsScript (before after : Environment) (end : ScriptEnd) (recorded :
   -- a fault is the cause exactly where its count rose and no earlier cause holds
   pub faults : FaultsBy end (record { old = before.source_faults; new = after.source_faults }) (record { old = before.sink_faults; new = after.sink_faults }) (record { old = before.file_faults; new = after.file_faults }) after.first_fault
   pub ends : EndsScript before after end
-  -- the records, the run files, the text and the cause are what the script asks for
-  pub session : ¬ Rose before.file_faults after.file_faults → IsSession before after end ends recorded
-  -- there is no record where a call on the run files failed
-  pub broken : after.file_faults ≢ before.file_faults → recorded ≡ None
+  -- where no call on the run files failed, the records, the run files, the text and the cause are what the script asks for
+  pub session : ¬ FailsFiles ends.ending ends.closing → IsSession before after end ends recorded
+  -- where one failed, there is no record
+  pub broken : FailsFiles ends.ending ends.closing → recorded ≡ None
   -- and of text and files this is left
-  pub broken_off : after.file_faults ≢ before.file_faults → IsBrokenOff before after ends.ending ends.refusals
+  pub broken_off : FailsFiles ends.ending ends.closing → IsBrokenOff before after ends.ending ends.refusals
   -- and a record says this of its objects
   pub record_holds : IfSome recorded (HoldsRecord before after)

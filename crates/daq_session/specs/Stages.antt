@@ -38,6 +38,10 @@ pub record Outset : Type 0 where
   pub clock_tells : Bool
   pub ahead : ℕ → ℕ
 
+-- the same, of what is told in this order
+abbrev pub outset_of : Seen → (clashes : ℕ) → (clock_tells : Bool) → (ahead : ℕ → ℕ) → Outset
+outset_of files clashes clock_tells ahead = record { files = files; clashes = clashes; clock_tells = clock_tells; ahead = ahead }
+
 -- Where a session stands after some lines of its script.
 pub record Stage : Type 0 where
   -- the quota of the runs that are started from here on
@@ -61,6 +65,7 @@ pub record Stage : Type 0 where
   -- the replies so far, one for each line
   pub replies : List Reply
 
+-- a session before its first line, where the count of clashes is this
 abbrev pub opening : (clashes : ℕ) → Stage
 opening clashes = record { quota = 0; starts = 0; readings = 0; clashes = clashes; opened = false; on = None; runs = []; own = []; front = []; replies = [] }
 

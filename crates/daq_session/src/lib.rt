@@ -11,7 +11,6 @@ mod halts;
 mod run;
 mod script;
 mod session;
-mod state;
 mod transitions;
 
 pub use daq_types::{FrontEnded, StartOutcome, Why};

@@ -8,11 +8,11 @@ ghost use Rattle.session_console.specs.Console.{is_refusal};
 ghost use Rattle.session_console.specs.FrontNames.{front_name};
 ghost use Rattle.daq_session.specs.RunTransitions.{CallsMore};
 ghost use Rattle.daq_session.specs.Halts.{CountsHalt};
-ghost use Rattle.daq_session.specs.Stages.{Interrupts, OpensSession};
-ghost use Rattle.daq_session.specs.Standing.{AnswersLine, Course, FailsLine, Handles, HandlesRun, IsReady, stage_of};
+ghost use Rattle.daq_session.specs.Stages.{outset_of};
+ghost use Rattle.daq_session.specs.Standing.{AnswersLine, BecomesOpen, CutsLine, FailsLine, Handles, HandlesRun, IsReady};
 
 use crate::halts::Halt;
-use crate::state::{State, StopPaths};
+use crate::session::{Session, StopPaths};
 use daq_io::{Clock, Failed, Files};
 use daq_types::{Name, NoMemory, RunState, Why};
 use odb_runinfo::{
@@ -33,99 +33,11 @@ fn front_name() -> Name
     }
 }
 
-/// Opens the session, where no start did so before. No run is on.
-fn open_session(alloc: Global, state: &mut State) -> Result<(), NoMemory>
-    requires idle { state.old.recorder.on ≡ None }
-    ensures opens { OnOk result ((c : Course) → OpensSession state.old.opened
-        (stage_of state.old c) (stage_of state.new c)) }
-    ensures interrupted { OnErr result ((c : Course) → Interrupts (Ok Start)
-        (stage_of state.old c) (stage_of state.new c)) }
-    ensures calls { CallsMore state.old.database.history state.new.database.history }
-    ensures recorder { state.new.recorder ≡ state.old.recorder }
-{
-    if !state.opened {
-        open_front(alloc, &mut state.database, front_name())?;
-        state.opened = true;
-    }
-    Ok(())
-}
-
 /// What a run needs that takes memory, made before the run begins.
 #[derive(Drop)]
 struct RunPlan {
     run: PreparedRun,
     paths: RunPaths,
-}
-
-/// Makes what the run of this number needs, and room for its record and for all calls up to its end.
-fn prepare_run(alloc: Global, state: &mut State, run: u32) -> Result<RunPlan, NoMemory>
-    requires idle { state.old.recorder.on ≡ None }
-    ensures run { IfOk result (λ plan. plan.run.run ≡ run) }
-    ensures events { IfOk result (λ plan. plan.run.quota ≡ state.old.quota) }
-    ensures front { IfOk result (λ plan. plan.paths.front ≡ front_name) }
-    ensures calls { KeepsCalls state.old.database state.new.database }
-    ensures quota { state.new.quota ≡ state.old.quota }
-    ensures opened { state.new.opened ≡ state.old.opened }
-    ensures recorder { KeepsRecording state.old.recorder state.new.recorder }
-    ensures database_room { OnOk result (10 ≤ state.new.database.room) }
-    ensures room { OnOk result (HasRoomForRun state.new.recorder state.old.quota) }
-{
-    let paths = RunPaths::new(alloc, front_name())?;
-    state.database.reserve(START_CALLS + STOP_CALLS)?;
-    let run = state.recorder.prepare(alloc, run, state.quota)?;
-    Ok(RunPlan { run, paths })
-}
-
-/// Starts the run of this number, where none is on.
-fn start_run<F: Files, C: Clock>(
-    alloc: Global,
-    state: &mut State,
-    files: &mut F,
-    clock: &mut C,
-    run: u32,
-) -> Result<Reply, Halt>
-    requires first { 1 ≤ run }
-    requires small { run < 2 ^ 31 }
-    requires idle { state.old.recorder.on ≡ None }
-    requires few { state.old.recorder.starts + 1 ≤ most_starts }
-    ensures did { HandlesRun run state.old state.new
-        (record {
-          files = F.seen files.old;
-          clashes = F.clashes files.old;
-          clock_tells = C.tells
-              clock.old;
-          ahead = C.ahead clock.old;
-        })
-        (record {
-          files = F.seen files.new;
-          clashes = F.clashes files.new;
-          clock_tells = C.tells
-              clock.new;
-          ahead = C.ahead clock.new;
-        }) result }
-    ensures starts { state.new.recorder.starts ≤ state.old.recorder.starts + 1 }
-    ensures faults { CountsHalt (F.faults files.old) (F.faults files.new) result }
-{
-    let RunPlan { run: plan, paths } = prepare_run(alloc, state, run)?;
-    let time = clock.now();
-    set_start(alloc, &mut state.database, paths.start, run, time);
-    match state.recorder.begin(alloc, files, plan, time)? {
-        Begun::Writing { .. } => {
-            set_started(alloc, &mut state.database, paths.started);
-            state.stop_paths = Some(StopPaths {
-                stopping: paths.stopping,
-                stopped: paths.stopped,
-            });
-            Ok(Reply::Started { run })
-        }
-        Begun::Taken => {
-            set_refused(alloc, &mut state.database, paths.refused, run);
-            Ok(Reply::StartRefused {
-                client: LOGGER_CLIENT,
-                why: Why::Exists { channel: CHANNEL },
-            })
-        }
-    }
 }
 
 /// What `start` is answered where the database has no next run number.
@@ -135,104 +47,146 @@ fn no_number(refusal: RunNumber) -> Reply
     Reply::RunNumber { have: refusal.have }
 }
 
-/// Answers `start`.
-pub fn start<F: Files, C: Clock>(
-    alloc: Global,
-    state: &mut State,
-    files: &mut F,
-    clock: &mut C,
-) -> Result<Reply, Halt>
-    requires few { state.old.recorder.starts + 1 ≤ most_starts }
-    requires ready { IsReady (F.seen files.old) state.old.recorder.on }
-    ensures did { Handles (Ok Start) state.old state.new
-        (record {
-          files = F.seen files.old;
-          clashes = F.clashes files.old;
-          clock_tells = C.tells
-              clock.old;
-          ahead = C.ahead clock.old;
-        })
-        (record {
-          files = F.seen files.new;
-          clashes = F.clashes files.new;
-          clock_tells = C.tells
-              clock.new;
-          ahead = C.ahead clock.new;
-        }) result }
-    ensures starts { state.new.recorder.starts ≤ state.old.recorder.starts + 1 }
-    ensures faults { CountsHalt (F.faults files.old) (F.faults files.new) result }
-{
-    if state.recorder.is_on() {
-        return Ok(Reply::WrongState {
-            state: RunState::Running,
-        });
+impl Session {
+    /// Opens the session, where no start did so before. No run is on.
+    fn open_session(&mut self, alloc: Global) -> Result<(), NoMemory>
+        requires idle { self.old.recorder.on ≡ None }
+        ensures opens { OnOk result (BecomesOpen self.old self.new) }
+        ensures interrupted { OnErr result (CutsLine (Ok Start) self.old self.new) }
+        ensures calls { CallsMore self.old.database.history self.new.database.history }
+        ensures recorder { self.new.recorder ≡ self.old.recorder }
+    {
+        if !self.opened {
+            open_front(alloc, &mut self.database, front_name())?;
+            self.opened = true;
+        }
+        Ok(())
     }
-    open_session(alloc, state)?;
-    match next_run(alloc, &mut state.database)? {
-        Err(refusal) => Ok(no_number(refusal)),
-        Ok(run) => start_run(alloc, state, files, clock, run),
-    }
-}
 
-/// Answers `stop`: the front-end sends its events, and the run's file is ended.
-pub fn stop<F: Files, C: Clock>(
-    alloc: Global,
-    state: &mut State,
-    files: &mut F,
-    clock: &mut C,
-) -> Result<Reply, Failed>
-    requires ready { IsReady (F.seen files.old) state.old.recorder.on }
-    ensures did { IfOk result (λ reply. AnswersLine (Ok Stop) reply state.old state.new
-        (record {
-          files = F.seen files.old;
-          clashes = F.clashes files.old;
-          clock_tells = C.tells
-              clock.old;
-          ahead = C.ahead clock.old;
-        })
-        (record {
-          files = F.seen files.new;
-          clashes = F.clashes files.new;
-          clock_tells = C.tells
-              clock.new;
-          ahead = C.ahead clock.new;
-        })) }
-    ensures broken { OnErr result (FailsLine (Ok Stop) state.old
-        (record {
-          files = F.seen files.old;
-          clashes = F.clashes files.old;
-          clock_tells = C.tells
-              clock.old;
-          ahead = C.ahead clock.old;
-        })
-        (record {
-          files = F.seen files.new;
-          clashes = F.clashes files.new;
-          clock_tells = C.tells
-              clock.new;
-          ahead = C.ahead clock.new;
-        })) }
-    ensures idle { OnOk result (state.new.recorder.on ≡ None) }
-    ensures accepted { IfOk result (λ reply. IsSome state.old.recorder.on → is_refusal reply
-        ≡ false) }
-    ensures starts { state.new.recorder.starts ≡ state.old.recorder.starts }
-    ensures faults { CountsFault (F.faults files.old) (F.faults files.new) result }
-{
-    match state.stop_paths.take() {
-        None => Ok(Reply::WrongState {
-            state: RunState::Stopped,
-        }),
-        Some(paths) => {
-            let StopPaths { stopping, stopped } = paths;
-            let time = clock.now();
-            set_stopping(alloc, &mut state.database, stopping, time);
-            let ended = state.recorder.end(files, time)?;
-            set_stopped(alloc, &mut state.database, stopped, ended.front.sent as u32);
-            Ok(Reply::Stopped {
-                run: ended.run,
-                front: ended.front,
-                file: ended.file,
-            })
+    /// Makes what the run of this number needs, and room for its record and for all calls up to its end.
+    fn prepare_run(&mut self, alloc: Global, run: u32) -> Result<RunPlan, NoMemory>
+        requires idle { self.old.recorder.on ≡ None }
+        ensures run { IfOk result (λ plan. plan.run.run ≡ run) }
+        ensures events { IfOk result (λ plan. plan.run.quota ≡ self.old.quota) }
+        ensures front { IfOk result (λ plan. plan.paths.front ≡ front_name) }
+        ensures calls { KeepsCalls self.old.database self.new.database }
+        ensures quota { self.new.quota ≡ self.old.quota }
+        ensures opened { self.new.opened ≡ self.old.opened }
+        ensures recorder { KeepsRecording self.old.recorder self.new.recorder }
+        ensures database_room { OnOk result (10 ≤ self.new.database.room) }
+        ensures room { OnOk result (HasRoomForRun self.new.recorder self.old.quota) }
+    {
+        let paths = RunPaths::new(alloc, front_name())?;
+        self.database.reserve(START_CALLS + STOP_CALLS)?;
+        let run = self.recorder.prepare(alloc, run, self.quota)?;
+        Ok(RunPlan { run, paths })
+    }
+
+    /// Starts the run of this number, where none is on.
+    fn start_run<F: Files, C: Clock>(
+        &mut self,
+        alloc: Global,
+        files: &mut F,
+        clock: &mut C,
+        run: u32,
+    ) -> Result<Reply, Halt>
+        requires first { 1 ≤ run }
+        requires small { run < 2 ^ 31 }
+        requires idle { self.old.recorder.on ≡ None }
+        requires few { self.old.recorder.starts + 1 ≤ most_starts }
+        ensures did { HandlesRun run self.old self.new
+            (outset_of (F.seen files.old) (F.clashes files.old) (C.tells clock.old) (C.ahead clock.old))
+            (outset_of (F.seen files.new) (F.clashes files.new) (C.tells clock.new) (C.ahead clock.new))
+            result }
+        ensures starts { self.new.recorder.starts ≤ self.old.recorder.starts + 1 }
+        ensures faults { CountsHalt (F.faults files.old) (F.faults files.new) result }
+    {
+        let RunPlan { run: plan, paths } = self.prepare_run(alloc, run)?;
+        let time = clock.now();
+        set_start(alloc, &mut self.database, paths.start, run, time);
+        match self.recorder.begin(alloc, files, plan, time)? {
+            Begun::Writing { .. } => {
+                set_started(alloc, &mut self.database, paths.started);
+                self.stop_paths = Some(StopPaths {
+                    stopping: paths.stopping,
+                    stopped: paths.stopped,
+                });
+                Ok(Reply::Started { run })
+            }
+            Begun::Taken => {
+                set_refused(alloc, &mut self.database, paths.refused, run);
+                Ok(Reply::StartRefused {
+                    client: LOGGER_CLIENT,
+                    why: Why::Exists { channel: CHANNEL },
+                })
+            }
+        }
+    }
+
+    /// Answers `start`.
+    pub fn start<F: Files, C: Clock>(
+        &mut self,
+        alloc: Global,
+        files: &mut F,
+        clock: &mut C,
+    ) -> Result<Reply, Halt>
+        requires few { self.old.recorder.starts + 1 ≤ most_starts }
+        requires ready { IsReady (F.seen files.old) self.old.recorder.on }
+        ensures did { Handles (Ok Start) self.old self.new
+            (outset_of (F.seen files.old) (F.clashes files.old) (C.tells clock.old) (C.ahead clock.old))
+            (outset_of (F.seen files.new) (F.clashes files.new) (C.tells clock.new) (C.ahead clock.new))
+            result }
+        ensures starts { self.new.recorder.starts ≤ self.old.recorder.starts + 1 }
+        ensures faults { CountsHalt (F.faults files.old) (F.faults files.new) result }
+    {
+        if self.recorder.is_on() {
+            return Ok(Reply::WrongState {
+                state: RunState::Running,
+            });
+        }
+        self.open_session(alloc)?;
+        match next_run(alloc, &mut self.database)? {
+            Err(refusal) => Ok(no_number(refusal)),
+            Ok(run) => self.start_run(alloc, files, clock, run),
+        }
+    }
+
+    /// Answers `stop`: the front-end sends its events, and the run's file is ended.
+    pub fn stop<F: Files, C: Clock>(
+        &mut self,
+        alloc: Global,
+        files: &mut F,
+        clock: &mut C,
+    ) -> Result<Reply, Failed>
+        requires ready { IsReady (F.seen files.old) self.old.recorder.on }
+        ensures did { IfOk result (λ reply. AnswersLine (Ok Stop) reply self.old self.new
+            (outset_of (F.seen files.old) (F.clashes files.old) (C.tells clock.old) (C.ahead clock.old))
+            (outset_of (F.seen files.new) (F.clashes files.new) (C.tells clock.new) (C.ahead clock.new))) }
+        ensures broken { OnErr result (FailsLine (Ok Stop) self.old
+            (outset_of (F.seen files.old) (F.clashes files.old) (C.tells clock.old) (C.ahead clock.old))
+            (outset_of (F.seen files.new) (F.clashes files.new) (C.tells clock.new) (C.ahead clock.new))) }
+        ensures idle { OnOk result (self.new.recorder.on ≡ None) }
+        ensures accepted { IfOk result (λ reply. IsSome self.old.recorder.on
+            → is_refusal reply ≡ false) }
+        ensures starts { self.new.recorder.starts ≡ self.old.recorder.starts }
+        ensures faults { CountsFault (F.faults files.old) (F.faults files.new) result }
+    {
+        match self.stop_paths.take() {
+            None => Ok(Reply::WrongState {
+                state: RunState::Stopped,
+            }),
+            Some(paths) => {
+                let StopPaths { stopping, stopped } = paths;
+                let time = clock.now();
+                set_stopping(alloc, &mut self.database, stopping, time);
+                let ended = self.recorder.end(files, time)?;
+                set_stopped(alloc, &mut self.database, stopped, ended.front.sent as u32);
+                Ok(Reply::Stopped {
+                    run: ended.run,
+                    front: ended.front,
+                    file: ended.file,
+                })
+            }
         }
     }
 }

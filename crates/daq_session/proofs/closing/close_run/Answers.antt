@@ -6,7 +6,7 @@ use Rattle.daq_session.proofs.closing.close_run.Goals as goal
 
 pub returns-then-not-is_on-clause-finishes : goal.returns-then-not-is_on-clause-finishes
 returns-then-not-is_on-clause-finishes g c = λ whole o source left told_first played.
-    finished_idle o c.args.ending source left told_first _ _ _ _ (none_from c.args.desk.now.session.state.recorder.on (sym c.if-not-is_on.true ∙ c.is_on.ensures)) played
+    finished_idle o c.args.ending source left told_first _ _ _ _ (none_from c.args.desk.now.session.recorder.on (sym c.if-not-is_on.true ∙ c.is_on.ensures)) played
 
 pub returns-then-not-prints-clause-finishes : goal.returns-then-not-prints-clause-finishes
 returns-then-not-prints-clause-finishes g c = λ whole o source left told_first played.

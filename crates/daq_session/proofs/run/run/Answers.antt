@@ -7,7 +7,7 @@ use Rattle.daq_session.specs.Playing.{PlaysTo, course_of}
 use Rattle.daq_session.specs.Sessions.{IsScriptEnd}
 use Rattle.daq_session.proofs.FitLaws.{session_fits}
 use Rattle.daq_session.proofs.FrontLaws.{session_fronts, recorded_callers}
-use Rattle.daq_session.proofs.RunLaws.{not_both, plays_played, finished_numbered, finished_runs, ran_none, broken_at, broken_stop, ran_whole, record_holds, risen_end, files_still}
+use Rattle.daq_session.proofs.RunLaws.{not_both, plays_played, finished_numbered, finished_runs, ran_none, broken_at, broken_stop, ran_whole, record_holds, risen_end}
 use Rattle.daq_session.proofs.NumberLaws.{session_within}
 use Rattle.daq_session.proofs.RunsFiled.{session_filed}
 use Rattle.daq_session.proofs.run.run.Given.{Over}
@@ -46,7 +46,7 @@ returns-clause-ran g c =
     let finished = c.close_run-closing.ensures.finishes other _ _ _ _ played in
     ran_whole _ _ c.play-ending.result c.close_run-closing.result _ _ _ _ _ c.record_of.result sound other
     (record { may = c.close_run-closing.ensures.may; source = c.play-ending.ensures.source; sink_lines = _; sink = c.play-ending.ensures.sink; sink_behind = c.close_run-closing.ensures.sink; files_lines = _; files = c.play-ending.ensures.files; files_behind = c.close_run-closing.ensures.files })
-    (files_still c.play-ending.result c.close_run-closing.result _ _ _ sound other c.play-ending.ensures.files c.close_run-closing.ensures.files) c.close_run-closing.ensures.refusals
+    c.close_run-closing.ensures.refusals
     c.with_closing-ended.ensures c.end_of-end.ensures c.record_of.ensures.recorded c.record_of.ensures.legal finished
     (λ ends is. record_holds _ _ c.record_of.result c.record_of.ensures.database c.record_of.ensures.buffers c.record_of.ensures.one_history c.record_of.ensures.system_calls
     (λ tells. session_filed is.final c.record_of.result _ is.recorded (is.played.kept.filed tells) c.record_of.ensures.held) c.record_of.ensures.held

@@ -27,7 +27,7 @@ returns-in_err-print_reply-clause-did g c =
 pub returns-in_err-reply-clause-did : goal.returns-in_err-reply-clause-did
 returns-in_err-reply-clause-did g c =
     let halted = err_from_is_err_and c.from_residual.result c.from_residual.ensures.1 in
-    let legal : IsLegal session_rows c.args.self.now.session.state.database.history =
-    subst (λ (rows : Rows). IsLegal rows c.args.self.now.session.state.database.history) c.args.self.now.session.state.opens c.tells_legal.ensures in
+    let legal : IsLegal session_rows c.args.self.now.session.database.history =
+    subst (λ (rows : Rows). IsLegal rows c.args.self.now.session.database.history) c.args.self.now.session.opens c.tells_legal.ensures in
     rw (halted.1, halted.2)
     (halts_unanswered c.args.line.now c.args.number _ _ _ _ _ _ _ c.in_err-reply.field-0.0 c.read-command.ensures legal c.in_err-reply.ensures.did)
