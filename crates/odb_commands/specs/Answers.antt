@@ -1,6 +1,6 @@
 -- The answers of the database's commands: the calls that a command makes, with their replies, and its own reply, both
 -- given by the rows.
-use Rattle.std.specs.Prelude.{◌≡◌, ℕ, Bool, true, nat_lt, if◌then◌else◌, List, [], ◌∷◌, length, slice_get, Option, Some, None, Result, Ok, Err, codes}
+use Rattle.std.specs.Prelude.{ℕ, Bool, true, nat_lt, if◌then◌else◌, List, [], ◌∷◌, length, slice_get, Option, Some, None, Result, Ok, Err, codes}
 use Rattle.std.specs.Option.{unwrap_or}
 use Rattle.odb_path.specs.declared.refusals.PathRefusal.{PathRefusal}
 use Rattle.odb_path.specs.Paths.{same_name}
@@ -18,7 +18,6 @@ use Rattle.odb_tree.specs.declared.rows.NewKey.{NewKey}
 use Rattle.odb_tree.specs.declared.rows.NewKey.TheVariants.{Dir, Keys}
 use Rattle.odb_tree.specs.Rows.{Rows}
 use Rattle.odb_tree.specs.Calls.{create_reply, set_reply, get_reply, find_reply, list_reply, delete_reply, path_with}
-use Rattle.odb_journal.specs.Noted.{Noted, Grows, EndsEarly, by_main}
 use Rattle.odb_script.specs.declared.forms.Command.{Command}
 use Rattle.odb_script.specs.declared.forms.Command.TheVariants as command
 use Rattle.odb_commands.specs.declared.replies.CommandRefusal.{CommandRefusal}
@@ -134,23 +133,3 @@ answer_of s (command.Get path index) = Some (at_path (path_reply path) (get_at s
 answer_of s (command.List path) = Some (at_path (path_reply path) (list_at s))
 answer_of s (command.Remove path) = Some (at_path (path_reply path) (remove_at s))
 answer_of s command.Exit = None
-
--- the command made these calls, and this is its reply
-pub record Answers (p q : Noted) (answer : Answer) (reply : CommandReply) : Type 0 where
-  pub calls : Grows p q (by_main answer.calls)
-  pub answered : reply ≡ answer.reply
-
--- the same for a command that may be another's, which makes no call
-abbrev pub AnswersIf : (p q : Noted) → Option Answer → Option CommandReply → Type 0
-AnswersIf p q None None = q ≡ p
-AnswersIf p q (Some answer) (Some reply) = Answers p q answer reply
-AnswersIf p q answer reply = ⊥
-
--- memory ended before the command was answered
-abbrev pub EndsAnswer : (p q : Noted) → Answer → Type 0
-EndsAnswer p q answer = EndsEarly p q (by_main answer.calls)
-
--- the calls of a command that may be another's
-abbrev pub calls_of : Option Answer → List (ℕ × DatabaseEntry)
-calls_of None = []
-calls_of (Some answer) = by_main answer.calls

@@ -4,7 +4,6 @@ use Rattle.std.specs.Prelude.{◌≡◌, ◌≢◌, ◌⊎◌, ℕ, Bool, true, 
 use Rattle.std.specs.Option.{option_or, option_map, is_some}
 use Rattle.std.proofs.Common.{ap, ◌∙◌, sym, subst, inl, inr}
 use Rattle.daq_types.specs.declared.types.Tid.{Tid}
-use Rattle.daq_types.specs.Callers.{entries_by}
 use Rattle.odb_path.specs.declared.refusals.PathRefusal.{PathRefusal}
 use Rattle.odb_path.specs.Paths.{same_name}
 use Rattle.odb_path.specs.PathText.{path_reply}
@@ -25,7 +24,7 @@ use Rattle.odb_tree.specs.Lookups.{obstacle_at, obstacle_from, obstacle_to, obst
 use Rattle.odb_tree.specs.Limits.{limit_fault, passed, text_fault}
 use Rattle.odb_tree.specs.Calls.{reply_or, exists_fault, tid_fault, kept_fault, items_fault, create_fault, create_reply, after_create, type_fault, index_fault, set_fault, set_reply_to, set_reply, after_set, value_reply, get_reply, number_reply, find_reply, children_or, list_reply, delete_reply, path_with, count_gone}
 use Rattle.odb_tree.specs.Making.{new_number}
-use Rattle.odb_journal.specs.Noted.{AreCutShort, by_main, unanswered}
+use Rattle.odb_port.specs.DatabasePorts.{IsSettled, calls_by}
 use Rattle.odb_runinfo.specs.RunNumberKept.{StandsApart, AllSpareRuninfo}
 use Rattle.odb_script.specs.declared.forms.Command.{Command}
 use Rattle.odb_script.specs.declared.forms.Command.TheVariants as command
@@ -33,7 +32,7 @@ use Rattle.odb_commands.specs.declared.replies.CommandRefusal.{CommandRefusal}
 use Rattle.odb_commands.specs.declared.replies.CommandRefusal.TheVariants.{Protected}
 use Rattle.odb_commands.specs.declared.replies.CommandReply.{CommandReply}
 use Rattle.odb_commands.specs.Answers.{Answer, refused, at_path, create_at, item_for, set_item, set_in, set_at, key_named, key_found, shown, get_in, get_at, list_at, is_protected, removed, remove_at, answer_of}
-use Rattle.odb_commands.specs.CommandCalls.{IsSettled, AtPath, CreatesKey, SetsItem, SetsIn, Sets, Names, NamesFound, Shows, GetsIn, Gets, Lists, RemovesIf, RemovesKey, Performs, IsCutShort}
+use Rattle.odb_commands.specs.CommandCalls.{AtPath, CreatesKey, SetsItem, SetsIn, Sets, Names, NamesFound, Shows, GetsIn, Gets, Lists, RemovesIf, RemovesKey, Performs}
 
 -- A refusal by the rows is never one for want of memory.
 
@@ -239,7 +238,7 @@ performs_answer s command.Exit = tt
 -- No command replaces a whole value or removes anything of `/Runinfo`.
 
 abbrev pub Spares : List DatabaseEntry → Type 0
-Spares calls = AllSpareRuninfo (by_main calls)
+Spares calls = AllSpareRuninfo (calls_by 0 calls)
 
 spares_by : (calls more : List DatabaseEntry) → calls ≡ more → Spares more → Spares calls
 spares_by calls more is spares = subst Spares (sym is) spares
@@ -294,22 +293,3 @@ performs_spares (command.List path) calls reply does =
     path_spares (path_reply path) Lists calls reply (λ p it. spares_by calls (call.ListDir p it.0 ∷ []) it.1 (tt, tt)) does
 performs_spares (command.Remove path) calls reply does = path_spares (path_reply path) RemovesKey calls reply (λ p it. remove_spares p calls reply it) does
 performs_spares command.Exit calls reply does = absurd does
-
--- The main thread's calls among those of a history.
-
-pub own_main : (calls : List DatabaseEntry) → entries_by 0 (by_main calls) ≡ calls
-own_main [] = refl
-own_main (c ∷ calls) = ap (λ (more : List DatabaseEntry). c ∷ more) (own_main calls)
-
-pub none_main : (calls : List DatabaseEntry) → entries_by 1 (by_main calls) ≡ []
-none_main [] = refl
-none_main (c ∷ calls) = none_main calls
-
-pub cut_main : (calls : List DatabaseEntry) (made : List (ℕ × DatabaseEntry)) → AreCutShort (by_main calls) made → (own : List DatabaseEntry) × (made ≡ by_main own) × IsCutShort calls own
-cut_main calls [] short = ([], refl, tt)
-cut_main [] (e ∷ made) short = absurd short
-cut_main (c ∷ calls) (e ∷ made) (inl here) =
-    let rest = cut_main calls made here.1 in
-    (c ∷ rest.0, ap (λ (x : ℕ × DatabaseEntry). x ∷ made) here.0 ∙ ap (λ (more : List (ℕ × DatabaseEntry)). (0, c) ∷ more) rest.1, inl (refl, rest.2))
-cut_main (c ∷ calls) (e ∷ made) (inr last) =
-    (unanswered c ∷ [], ap (λ (x : ℕ × DatabaseEntry). x ∷ made) last.0 ∙ ap (λ (more : List (ℕ × DatabaseEntry)). (0, unanswered c) ∷ more) last.1, inr (refl, refl))

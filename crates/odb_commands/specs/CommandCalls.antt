@@ -1,6 +1,6 @@
 -- What a command of the database does: the calls that it makes, in order, each with the reply that it got, whatever that
 -- is; and what the command is answered, by its line and these replies alone.
-use Rattle.std.specs.Prelude.{◌≡◌, ◌≢◌, ◌⊎◌, ℕ, Bool, true, false, List, [], ◌∷◌, length, slice_get, Option, Some, None, Result, Ok, Err}
+use Rattle.std.specs.Prelude.{◌≡◌, ◌≢◌, ℕ, Bool, true, false, List, [], ◌∷◌, length, slice_get, Option, Some, None, Result, Ok, Err}
 use Rattle.std.specs.Option.{unwrap_or}
 use Rattle.odb_path.specs.declared.refusals.PathRefusal.{PathRefusal}
 use Rattle.odb_path.specs.PathText.{path_reply}
@@ -10,12 +10,11 @@ use Rattle.odb_tree.specs.declared.children.Child.{Child}
 use Rattle.odb_tree.specs.declared.entry.DatabaseEntry.{DatabaseEntry}
 use Rattle.odb_tree.specs.declared.entry.DatabaseEntry.TheVariants as call
 use Rattle.odb_tree.specs.declared.refusals.OdbRefusal.{OdbRefusal}
-use Rattle.odb_tree.specs.declared.refusals.OdbRefusal.TheVariants.{NoMemory as no_memory}
 use Rattle.odb_tree.specs.declared.rows.NewKey.{NewKey}
 use Rattle.odb_tree.specs.declared.rows.NewKey.TheVariants.{Dir, Keys}
 use Rattle.odb_tree.specs.Rows.{Rows}
 use Rattle.odb_tree.specs.Calls.{rows_after}
-use Rattle.odb_journal.specs.Noted.{unanswered}
+use Rattle.odb_port.specs.DatabasePorts.{DatabaseAccess, AddsCalls, CutsCalls, IsSettled}
 use Rattle.odb_script.specs.declared.forms.Command.{Command}
 use Rattle.odb_script.specs.declared.forms.Command.TheVariants as command
 use Rattle.odb_commands.specs.declared.replies.CommandRefusal.{CommandRefusal}
@@ -23,11 +22,6 @@ use Rattle.odb_commands.specs.declared.replies.CommandRefusal.TheVariants.{Path,
 use Rattle.odb_commands.specs.declared.replies.CommandReply.{CommandReply}
 use Rattle.odb_commands.specs.declared.replies.CommandReply.TheVariants.{Key, Refused}
 use Rattle.odb_commands.specs.Answers.{Answer, done_or, item_for, is_protected, listed_or, one_or}
-
--- memory was not wanting for a call
-abbrev pub IsSettled : {X : Type 0} → Result X OdbRefusal → Type 0
-IsSettled (Ok x) = Unit {0}
-IsSettled (Err refusal) = refusal ≢ no_memory
 
 -- no call, and this answer
 abbrev pub SaysAtOnce : CommandReply → (calls : List DatabaseEntry) → (reply : CommandReply) → Type 0
@@ -100,6 +94,35 @@ Performs command.Start calls reply = ⊥
 Performs command.Stop calls reply = ⊥
 Performs command.Exit calls reply = ⊥
 
+-- Calls were made that do so, and this is the reply.
+pub record Answers (a b : DatabaseAccess) (Does : List DatabaseEntry → CommandReply → Type 0) (reply : CommandReply) : Type 0 where
+  pub calls : List DatabaseEntry
+  pub made : AddsCalls a b calls
+  pub does : Does calls reply
+
+-- Memory ended before the reply: the first calls were made of some that do so.
+abbrev pub CutsAnswer : (a b : DatabaseAccess) → (Does : List DatabaseEntry → CommandReply → Type 0) → Type 0
+CutsAnswer a b Does = CutsCalls a b (λ calls. (reply : CommandReply) × Does calls reply)
+
+-- whether the command is one of the database's
+abbrev pub calls_database : Command → Bool
+calls_database (command.Create tid path len) = true
+calls_database (command.CreateDir path) = true
+calls_database (command.Set path index value) = true
+calls_database (command.Get path index) = true
+calls_database (command.List path) = true
+calls_database (command.Remove path) = true
+calls_database command.Nothing = false
+calls_database (command.Events count) = false
+calls_database command.Start = false
+calls_database command.Stop = false
+calls_database command.Exit = false
+
+-- the same for a command that may be another's, which makes no call and has no reply
+abbrev pub AnswersIf : (a b : DatabaseAccess) → Command → Option CommandReply → Type 0
+AnswersIf a b command None = (b ≡ a) × (calls_database command ≡ false)
+AnswersIf a b command (Some reply) = Answers a b (Performs command) reply
+
 -- These are the calls and the reply of the answer.
 abbrev pub IsAnswered : Answer → (calls : List DatabaseEntry) → (reply : CommandReply) → Type 0
 IsAnswered answer calls reply = (calls ≡ answer.calls) × (reply ≡ answer.reply)
@@ -113,9 +136,3 @@ IsAnswerOf (Some answer) calls reply = IsAnswered answer calls reply
 abbrev pub OthersLeave : Rows → List (ℕ × DatabaseEntry) → Type 0
 OthersLeave s [] = Unit {0}
 OthersLeave s (e ∷ history) = (e.0 ≢ 0 → rows_after s e.1 ≡ s) × OthersLeave (rows_after s e.1) history
-
--- Of these calls the first were made, and the last of them may be the one for which memory was wanting.
-abbrev pub IsCutShort : (calls made : List DatabaseEntry) → Type 0
-IsCutShort calls [] = Unit {0}
-IsCutShort [] (e ∷ made) = ⊥
-IsCutShort (c ∷ calls) (e ∷ made) = ((e ≡ c) × IsCutShort calls made) ⊎ ((e ≡ unanswered c) × (made ≡ []))

@@ -9,7 +9,7 @@ use Rattle.odb_tree.specs.declared.refusals.OdbRefusal.{OdbRefusal}
 use Rattle.odb_tree.specs.declared.rows.NewKey.TheVariants.{Dir, Keys}
 use Rattle.odb_tree.specs.Rows.{Rows}
 use Rattle.odb_tree.specs.Calls.{get_reply, find_reply}
-use Rattle.odb_journal.specs.Noted.{by_main}
+use Rattle.odb_port.specs.DatabasePorts.{calls_by}
 use Rattle.odb_script.specs.declared.forms.Command.{Command}
 use Rattle.odb_script.specs.declared.forms.Command.TheVariants.{Nothing, Events, Start, Stop, Create, CreateDir, Set, Get, List as Ls, Remove, Exit}
 use Rattle.odb_runinfo.specs.RunNumberKept.{AllSpareRuninfo}
@@ -18,7 +18,7 @@ use Rattle.odb_commands.specs.declared.replies.CommandRefusal.TheVariants.{Prote
 use Rattle.odb_commands.specs.Answers.{Answer, refused, at_path, create_at, item_for, set_item, set_in, set_at, key_found, shown, get_in, get_at, list_at, removed, remove_at, answer_of}
 
 abbrev pub AnswerSpares : Answer → Type 0
-AnswerSpares answer = AllSpareRuninfo (by_main answer.calls)
+AnswerSpares answer = AllSpareRuninfo (calls_by 0 answer.calls)
 
 abbrev pub SparesIf : Option Answer → Type 0
 SparesIf None = Unit {0}

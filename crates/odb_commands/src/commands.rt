@@ -1,18 +1,21 @@
-ghost use Rattle.std.specs.Prelude.{◌≡◌, ◌≤◌, ◌+◌, IfOk, OnErr, OnOk, Ok, Err};
+ghost use Rattle.std.specs.Prelude.{◌≡◌, ◌≤◌, ◌+◌, IfOk, OnErr, Err};
+ghost use Rattle.daq_types.specs.Callers.{main_caller};
 ghost use Rattle.odb_path.specs.PathText.{path_reply};
-ghost use Rattle.odb_journal.specs.Noted.{EndsEarly, KeepsCalls};
+ghost use Rattle.odb_port.specs.DatabasePorts.{IsSamePort};
 ghost use Rattle.odb_tree.specs.declared.rows.NewKey.TheVariants.{Dir, Keys};
-ghost use Rattle.odb_commands.specs.Answers.{Answers, AnswersIf, EndsAnswer, answer_of, at_path, calls_of, create_at, done_or, get_at, get_in, key_found, key_named, list_at, listed_or, remove_at, set_at, set_in, set_item, shown};
+ghost use Rattle.odb_commands.specs.Answers.{done_or, listed_or};
+ghost use Rattle.odb_commands.specs.CommandCalls.{Answers, AnswersIf, AtPath, CreatesKey, CutsAnswer, Gets, GetsIn, Lists, Names, NamesFound, Performs, RemovesKey, Sets, SetsIn, SetsItem, Shows};
 
 use crate::reading::{is_protected, item_for, one_of, read_path, settled};
 use crate::replies::{CommandRefusal, CommandReply};
 use daq_types::NoMemory;
-use odb_journal::LocalDatabase;
 use odb_path::{Path, PathRefusal};
+use odb_port::DatabasePort;
 use odb_script::Command;
-use odb_tree::{Children, Database, NewKey, OdbRefusal};
+use odb_tree::{Children, NewKey, OdbRefusal};
 use odb_value::{Item, Value};
 use std::alloc::Global;
+use std::sync::Wait;
 
 /// The most calls of a command.
 pub const COMMAND_CALLS: u32 = 3;
@@ -46,21 +49,6 @@ fn listed_or(reply: Result<Children, OdbRefusal>) -> CommandReply
     }
 }
 
-/// The path of a text, or why it is none, with room for so many calls.
-fn prepare<D: Database>(
-    alloc: Global,
-    database: &mut LocalDatabase<D>,
-    text: &[u8],
-    calls: u32,
-) -> Result<Result<Path, PathRefusal>, NoMemory>
-    ensures path { IfOk result (λ path. path ≡ path_reply text.now) }
-    ensures same { KeepsCalls database.old database.new }
-    ensures room { OnOk result (calls ≤ database.new.room) }
-{
-    database.reserve(calls)?;
-    read_path(alloc, text)
-}
-
 /// The reply where a text is no path.
 fn no_path(why: PathRefusal) -> CommandReply
     ensures { result ≡ CommandReply.Refused (CommandRefusal.Path why) }
@@ -71,350 +59,375 @@ fn no_path(why: PathRefusal) -> CommandReply
 }
 
 /// The command at this path.
-fn create_at<D: Database>(
+fn create_at<R: Wait, P: DatabasePort>(
+    rt: &R,
     alloc: Global,
-    database: &mut LocalDatabase<D>,
+    port: &mut P,
     path: Path,
     kind: NewKey,
 ) -> Result<CommandReply, NoMemory>
-    requires room { 1 ≤ database.old.room }
-    ensures did { IfOk result (λ reply. Answers database.old database.new
-        (create_at database.old.rows kind path) reply) }
-    ensures start { database.new.start ≡ database.old.start }
-    ensures room { database.old.room ≤ database.new.room + 1 }
-    ensures interrupted { OnErr result (EndsAnswer database.old database.new
-        (create_at database.old.rows kind path)) }
+    requires main { (P.access port.old).caller ≡ main_caller }
+    requires room { 1 ≤ (P.access port.old).room }
+    ensures did { IfOk result (Answers (P.access port.old) (P.access port.new)
+        (CreatesKey kind path)) }
+    ensures interrupted { OnErr result (CutsAnswer (P.access port.old) (P.access port.new)
+        (CreatesKey kind path)) }
+    ensures same { IsSamePort (P.access port.old) (P.access port.new) }
+    ensures room { (P.access port.old).room ≤ (P.access port.new).room + 1 }
 {
-    let reply = settled(database.create(alloc, path, kind))?;
+    let reply = settled(port.create(rt, alloc, path, kind))?;
     Ok(done_or(reply))
 }
 
 /// The command `create`: makes a key or a directory at the path of this text.
-pub fn create<D: Database>(
+pub fn create<R: Wait, P: DatabasePort>(
+    rt: &R,
     alloc: Global,
-    database: &mut LocalDatabase<D>,
+    port: &mut P,
     path: &[u8],
     kind: NewKey,
 ) -> Result<CommandReply, NoMemory>
-    ensures did { IfOk result (λ reply. Answers database.old database.new
-        (at_path (path_reply path.now) (create_at database.old.rows kind)) reply) }
-    ensures start { database.new.start ≡ database.old.start }
-    ensures room { database.old.room ≤ database.new.room + 3 }
-    ensures interrupted { OnErr result (EndsAnswer database.old database.new
-        (at_path (path_reply path.now) (create_at database.old.rows kind))) }
+    requires main { (P.access port.old).caller ≡ main_caller }
+    requires room { 1 ≤ (P.access port.old).room }
+    ensures did { IfOk result (Answers (P.access port.old) (P.access port.new)
+        (AtPath (path_reply path.now) (CreatesKey kind))) }
+    ensures interrupted { OnErr result (CutsAnswer (P.access port.old) (P.access port.new)
+        (AtPath (path_reply path.now) (CreatesKey kind))) }
+    ensures same { IsSamePort (P.access port.old) (P.access port.new) }
+    ensures room { (P.access port.old).room ≤ (P.access port.new).room + 1 }
 {
-    match prepare(alloc, database, path, 1)? {
+    match read_path(alloc, path)? {
         Err(why) => Ok(no_path(why)),
-        Ok(path) => create_at(alloc, database, path, kind),
+        Ok(path) => create_at(rt, alloc, port, path, kind),
     }
 }
 
 /// Sets the item, where there is one.
-fn set_item<D: Database>(
+fn set_item<R: Wait, P: DatabasePort>(
+    rt: &R,
     alloc: Global,
-    database: &mut LocalDatabase<D>,
+    port: &mut P,
     path: Path,
     index: u32,
     item: Result<Item, CommandRefusal>,
 ) -> Result<CommandReply, NoMemory>
-    requires room { 1 ≤ database.old.room }
-    ensures did { IfOk result (λ reply. Answers database.old database.new
-        (set_item database.old.rows path index item) reply) }
-    ensures start { database.new.start ≡ database.old.start }
-    ensures room { database.old.room ≤ database.new.room + 1 }
-    ensures interrupted { OnErr result (EndsAnswer database.old database.new
-        (set_item database.old.rows path index item)) }
+    requires room { 1 ≤ (P.access port.old).room }
+    ensures did { IfOk result (Answers (P.access port.old) (P.access port.new)
+        (SetsItem path index item)) }
+    ensures interrupted { OnErr result (CutsAnswer (P.access port.old) (P.access port.new)
+        (SetsItem path index item)) }
+    ensures same { IsSamePort (P.access port.old) (P.access port.new) }
+    ensures room { (P.access port.old).room ≤ (P.access port.new).room + 1 }
 {
     match item {
         Err(why) => Ok(CommandReply::Refused { why }),
         Ok(item) => {
-            let reply = settled(database.set(alloc, 0, path, index, item))?;
+            let reply = settled(port.set(rt, alloc, path, index, item))?;
             Ok(done_or(reply))
         }
     }
 }
 
 /// Sets an item of the key that was got.
-fn set_in<D: Database>(
+fn set_in<R: Wait, P: DatabasePort>(
+    rt: &R,
     alloc: Global,
-    database: &mut LocalDatabase<D>,
+    port: &mut P,
     path: Path,
     index: u32,
     text: &[u8],
     got: Result<Value, OdbRefusal>,
 ) -> Result<CommandReply, NoMemory>
-    requires room { 1 ≤ database.old.room }
-    ensures did { IfOk result (λ reply. Answers database.old database.new
-        (set_in database.old.rows path index text.now got) reply) }
-    ensures start { database.new.start ≡ database.old.start }
-    ensures room { database.old.room ≤ database.new.room + 1 }
-    ensures interrupted { OnErr result (EndsAnswer database.old database.new
-        (set_in database.old.rows path index text.now got)) }
+    requires room { 1 ≤ (P.access port.old).room }
+    ensures did { IfOk result (Answers (P.access port.old) (P.access port.new)
+        (SetsIn path index text.now got)) }
+    ensures interrupted { OnErr result (CutsAnswer (P.access port.old) (P.access port.new)
+        (SetsIn path index text.now got)) }
+    ensures same { IsSamePort (P.access port.old) (P.access port.new) }
+    ensures room { (P.access port.old).room ≤ (P.access port.new).room + 1 }
 {
     match got {
         Err(why) => Ok(refused_by(why)),
         Ok(value) => {
             let item = item_for(alloc, &value, index, text)?;
-            set_item(alloc, database, path, index, item)
+            set_item(rt, alloc, port, path, index, item)
         }
     }
 }
 
 /// The command at this path.
-fn set_at<D: Database>(
+fn set_at<R: Wait, P: DatabasePort>(
+    rt: &R,
     alloc: Global,
-    database: &mut LocalDatabase<D>,
+    port: &mut P,
     path: Path,
     index: u32,
     text: &[u8],
 ) -> Result<CommandReply, NoMemory>
-    requires room { 2 ≤ database.old.room }
-    ensures did { IfOk result (λ reply. Answers database.old database.new
-        (set_at database.old.rows index text.now path) reply) }
-    ensures start { database.new.start ≡ database.old.start }
-    ensures room { database.old.room ≤ database.new.room + 2 }
-    ensures interrupted { OnErr result (EndsAnswer database.old database.new
-        (set_at database.old.rows index text.now path)) }
+    requires room { 2 ≤ (P.access port.old).room }
+    ensures did { IfOk result (Answers (P.access port.old) (P.access port.new)
+        (Sets index text.now path)) }
+    ensures interrupted { OnErr result (CutsAnswer (P.access port.old) (P.access port.new)
+        (Sets index text.now path)) }
+    ensures same { IsSamePort (P.access port.old) (P.access port.new) }
+    ensures room { (P.access port.old).room ≤ (P.access port.new).room + 2 }
 {
     let copy = path.try_clone(alloc)?;
-    let got = settled(database.get(alloc, 0, copy))?;
-    set_in(alloc, database, path, index, text, got)
+    let got = settled(port.get(rt, alloc, copy))?;
+    set_in(rt, alloc, port, path, index, text, got)
 }
 
 /// The command `set`: sets an item of the key at the path of this text, as the other text spells it.
-pub fn set<D: Database>(
+pub fn set<R: Wait, P: DatabasePort>(
+    rt: &R,
     alloc: Global,
-    database: &mut LocalDatabase<D>,
+    port: &mut P,
     path: &[u8],
     index: u32,
     text: &[u8],
 ) -> Result<CommandReply, NoMemory>
-    ensures did { IfOk result (λ reply. Answers database.old database.new
-        (at_path (path_reply path.now) (set_at database.old.rows index text.now)) reply) }
-    ensures start { database.new.start ≡ database.old.start }
-    ensures room { database.old.room ≤ database.new.room + 3 }
-    ensures interrupted { OnErr result (EndsAnswer database.old database.new
-        (at_path (path_reply path.now) (set_at database.old.rows index text.now))) }
+    requires room { 2 ≤ (P.access port.old).room }
+    ensures did { IfOk result (Answers (P.access port.old) (P.access port.new)
+        (AtPath (path_reply path.now) (Sets index text.now))) }
+    ensures interrupted { OnErr result (CutsAnswer (P.access port.old) (P.access port.new)
+        (AtPath (path_reply path.now) (Sets index text.now))) }
+    ensures same { IsSamePort (P.access port.old) (P.access port.new) }
+    ensures room { (P.access port.old).room ≤ (P.access port.new).room + 2 }
 {
-    match prepare(alloc, database, path, 2)? {
+    match read_path(alloc, path)? {
         Err(why) => Ok(no_path(why)),
-        Ok(path) => set_at(alloc, database, path, index, text),
+        Ok(path) => set_at(rt, alloc, port, path, index, text),
     }
 }
 
 /// The reply with the lines of the key in this row.
-fn key_named<D: Database>(
+fn key_named<R: Wait, P: DatabasePort>(
+    rt: &R,
     alloc: Global,
-    database: &mut LocalDatabase<D>,
+    port: &mut P,
     value: Value,
     row: u32,
 ) -> Result<CommandReply, NoMemory>
-    requires room { 1 ≤ database.old.room }
-    ensures did { IfOk result (λ reply. Answers database.old database.new
-        (key_named database.old.rows value row) reply) }
-    ensures start { database.new.start ≡ database.old.start }
-    ensures room { database.old.room ≤ database.new.room + 1 }
-    ensures interrupted { OnErr result (EndsAnswer database.old database.new
-        (key_named database.old.rows value row)) }
+    requires room { 1 ≤ (P.access port.old).room }
+    ensures did { IfOk result (Answers (P.access port.old) (P.access port.new)
+        (Names value row)) }
+    ensures interrupted { OnErr result (CutsAnswer (P.access port.old) (P.access port.new)
+        (Names value row)) }
+    ensures same { IsSamePort (P.access port.old) (P.access port.new) }
+    ensures room { (P.access port.old).room ≤ (P.access port.new).room + 1 }
 {
-    let path = database.path_of(alloc, 0, row)?;
+    let path = port.path_of(rt, alloc, row)?;
     let path = path.unwrap_or(Path::root(alloc));
     Ok(CommandReply::Key { path, value })
 }
 
 /// The reply with the lines of the key that was found.
-fn key_found<D: Database>(
+fn key_found<R: Wait, P: DatabasePort>(
+    rt: &R,
     alloc: Global,
-    database: &mut LocalDatabase<D>,
+    port: &mut P,
     value: Value,
     found: Result<u32, OdbRefusal>,
 ) -> Result<CommandReply, NoMemory>
-    requires room { 1 ≤ database.old.room }
-    ensures did { IfOk result (λ reply. Answers database.old database.new
-        (key_found database.old.rows value found) reply) }
-    ensures start { database.new.start ≡ database.old.start }
-    ensures room { database.old.room ≤ database.new.room + 1 }
-    ensures interrupted { OnErr result (EndsAnswer database.old database.new
-        (key_found database.old.rows value found)) }
+    requires room { 1 ≤ (P.access port.old).room }
+    ensures did { IfOk result (Answers (P.access port.old) (P.access port.new)
+        (NamesFound value found)) }
+    ensures interrupted { OnErr result (CutsAnswer (P.access port.old) (P.access port.new)
+        (NamesFound value found)) }
+    ensures same { IsSamePort (P.access port.old) (P.access port.new) }
+    ensures room { (P.access port.old).room ≤ (P.access port.new).room + 1 }
 {
     match found {
         Err(why) => Ok(refused_by(why)),
-        Ok(row) => key_named(alloc, database, value, row),
+        Ok(row) => key_named(rt, alloc, port, value, row),
     }
 }
 
 /// The reply with a key's lines, or with one item.
-fn shown<D: Database>(
+fn shown<R: Wait, P: DatabasePort>(
+    rt: &R,
     alloc: Global,
-    database: &mut LocalDatabase<D>,
+    port: &mut P,
     path: Path,
     index: Option<u32>,
     value: Value,
 ) -> Result<CommandReply, NoMemory>
-    requires room { 2 ≤ database.old.room }
-    ensures did { IfOk result (λ reply. Answers database.old database.new
-        (shown database.old.rows path index value) reply) }
-    ensures start { database.new.start ≡ database.old.start }
-    ensures room { database.old.room ≤ database.new.room + 2 }
-    ensures interrupted { OnErr result (EndsAnswer database.old database.new
-        (shown database.old.rows path index value)) }
+    requires room { 2 ≤ (P.access port.old).room }
+    ensures did { IfOk result (Answers (P.access port.old) (P.access port.new)
+        (Shows path index value)) }
+    ensures interrupted { OnErr result (CutsAnswer (P.access port.old) (P.access port.new)
+        (Shows path index value)) }
+    ensures same { IsSamePort (P.access port.old) (P.access port.new) }
+    ensures room { (P.access port.old).room ≤ (P.access port.new).room + 2 }
 {
     match index {
         Some(index) => one_of(alloc, &value, index),
         None => {
-            let found = database.find(0, path);
-            key_found(alloc, database, value, found)
+            let found = port.find(rt, path);
+            key_found(rt, alloc, port, value, found)
         }
     }
 }
 
 /// The reply with what was got.
-fn get_in<D: Database>(
+fn get_in<R: Wait, P: DatabasePort>(
+    rt: &R,
     alloc: Global,
-    database: &mut LocalDatabase<D>,
+    port: &mut P,
     path: Path,
     index: Option<u32>,
     got: Result<Value, OdbRefusal>,
 ) -> Result<CommandReply, NoMemory>
-    requires room { 2 ≤ database.old.room }
-    ensures did { IfOk result (λ reply. Answers database.old database.new
-        (get_in database.old.rows path index got) reply) }
-    ensures start { database.new.start ≡ database.old.start }
-    ensures room { database.old.room ≤ database.new.room + 2 }
-    ensures interrupted { OnErr result (EndsAnswer database.old database.new
-        (get_in database.old.rows path index got)) }
+    requires room { 2 ≤ (P.access port.old).room }
+    ensures did { IfOk result (Answers (P.access port.old) (P.access port.new)
+        (GetsIn path index got)) }
+    ensures interrupted { OnErr result (CutsAnswer (P.access port.old) (P.access port.new)
+        (GetsIn path index got)) }
+    ensures same { IsSamePort (P.access port.old) (P.access port.new) }
+    ensures room { (P.access port.old).room ≤ (P.access port.new).room + 2 }
 {
     match got {
         Err(why) => Ok(refused_by(why)),
-        Ok(value) => shown(alloc, database, path, index, value),
+        Ok(value) => shown(rt, alloc, port, path, index, value),
     }
 }
 
 /// The command at this path.
-fn get_at<D: Database>(
+fn get_at<R: Wait, P: DatabasePort>(
+    rt: &R,
     alloc: Global,
-    database: &mut LocalDatabase<D>,
+    port: &mut P,
     path: Path,
     index: Option<u32>,
 ) -> Result<CommandReply, NoMemory>
-    requires room { 3 ≤ database.old.room }
-    ensures did { IfOk result (λ reply. Answers database.old database.new
-        (get_at database.old.rows index path) reply) }
-    ensures start { database.new.start ≡ database.old.start }
-    ensures room { database.old.room ≤ database.new.room + 3 }
-    ensures interrupted { OnErr result (EndsAnswer database.old database.new
-        (get_at database.old.rows index path)) }
+    requires room { 3 ≤ (P.access port.old).room }
+    ensures did { IfOk result (Answers (P.access port.old) (P.access port.new)
+        (Gets index path)) }
+    ensures interrupted { OnErr result (CutsAnswer (P.access port.old) (P.access port.new)
+        (Gets index path)) }
+    ensures same { IsSamePort (P.access port.old) (P.access port.new) }
+    ensures room { (P.access port.old).room ≤ (P.access port.new).room + 3 }
 {
     let copy = path.try_clone(alloc)?;
-    let got = settled(database.get(alloc, 0, copy))?;
-    get_in(alloc, database, path, index, got)
+    let got = settled(port.get(rt, alloc, copy))?;
+    get_in(rt, alloc, port, path, index, got)
 }
 
 /// The command `get`: the value of the key at the path of this text, or one item of it.
-pub fn get<D: Database>(
+pub fn get<R: Wait, P: DatabasePort>(
+    rt: &R,
     alloc: Global,
-    database: &mut LocalDatabase<D>,
+    port: &mut P,
     path: &[u8],
     index: Option<u32>,
 ) -> Result<CommandReply, NoMemory>
-    ensures did { IfOk result (λ reply. Answers database.old database.new
-        (at_path (path_reply path.now) (get_at database.old.rows index)) reply) }
-    ensures start { database.new.start ≡ database.old.start }
-    ensures room { database.old.room ≤ database.new.room + 3 }
-    ensures interrupted { OnErr result (EndsAnswer database.old database.new
-        (at_path (path_reply path.now) (get_at database.old.rows index))) }
+    requires room { 3 ≤ (P.access port.old).room }
+    ensures did { IfOk result (Answers (P.access port.old) (P.access port.new)
+        (AtPath (path_reply path.now) (Gets index))) }
+    ensures interrupted { OnErr result (CutsAnswer (P.access port.old) (P.access port.new)
+        (AtPath (path_reply path.now) (Gets index))) }
+    ensures same { IsSamePort (P.access port.old) (P.access port.new) }
+    ensures room { (P.access port.old).room ≤ (P.access port.new).room + 3 }
 {
-    match prepare(alloc, database, path, 3)? {
+    match read_path(alloc, path)? {
         Err(why) => Ok(no_path(why)),
-        Ok(path) => get_at(alloc, database, path, index),
+        Ok(path) => get_at(rt, alloc, port, path, index),
     }
 }
 
 /// The command at this path.
-fn list_at<D: Database>(
+fn list_at<R: Wait, P: DatabasePort>(
+    rt: &R,
     alloc: Global,
-    database: &mut LocalDatabase<D>,
+    port: &mut P,
     path: Path,
 ) -> Result<CommandReply, NoMemory>
-    requires room { 1 ≤ database.old.room }
-    ensures did { IfOk result (λ reply. Answers database.old database.new
-        (list_at database.old.rows path) reply) }
-    ensures start { database.new.start ≡ database.old.start }
-    ensures room { database.old.room ≤ database.new.room + 1 }
-    ensures interrupted { OnErr result (EndsAnswer database.old database.new
-        (list_at database.old.rows path)) }
+    requires room { 1 ≤ (P.access port.old).room }
+    ensures did { IfOk result (Answers (P.access port.old) (P.access port.new)
+        (Lists path)) }
+    ensures interrupted { OnErr result (CutsAnswer (P.access port.old) (P.access port.new)
+        (Lists path)) }
+    ensures same { IsSamePort (P.access port.old) (P.access port.new) }
+    ensures room { (P.access port.old).room ≤ (P.access port.new).room + 1 }
 {
-    let children = settled(database.list(alloc, 0, path))?;
+    let children = settled(port.list(rt, alloc, path))?;
     Ok(listed_or(children))
 }
 
 /// The command `ls`: what stands in the directory at the path of this text.
-pub fn list<D: Database>(
+pub fn list<R: Wait, P: DatabasePort>(
+    rt: &R,
     alloc: Global,
-    database: &mut LocalDatabase<D>,
+    port: &mut P,
     path: &[u8],
 ) -> Result<CommandReply, NoMemory>
-    ensures did { IfOk result (λ reply. Answers database.old database.new
-        (at_path (path_reply path.now) (list_at database.old.rows)) reply) }
-    ensures start { database.new.start ≡ database.old.start }
-    ensures room { database.old.room ≤ database.new.room + 3 }
-    ensures interrupted { OnErr result (EndsAnswer database.old database.new
-        (at_path (path_reply path.now) (list_at database.old.rows))) }
+    requires room { 1 ≤ (P.access port.old).room }
+    ensures did { IfOk result (Answers (P.access port.old) (P.access port.new)
+        (AtPath (path_reply path.now) Lists)) }
+    ensures interrupted { OnErr result (CutsAnswer (P.access port.old) (P.access port.new)
+        (AtPath (path_reply path.now) Lists)) }
+    ensures same { IsSamePort (P.access port.old) (P.access port.new) }
+    ensures room { (P.access port.old).room ≤ (P.access port.new).room + 1 }
 {
-    match prepare(alloc, database, path, 1)? {
+    match read_path(alloc, path)? {
         Err(why) => Ok(no_path(why)),
-        Ok(path) => list_at(alloc, database, path),
+        Ok(path) => list_at(rt, alloc, port, path),
     }
 }
 
 /// The command at this path.
-fn remove_at<D: Database>(database: &mut LocalDatabase<D>, path: Path) -> CommandReply
-    requires room { 1 ≤ database.old.room }
-    ensures did { Answers database.old database.new (remove_at database.old.rows path) result }
-    ensures start { database.new.start ≡ database.old.start }
-    ensures room { database.old.room ≤ database.new.room + 1 }
+fn remove_at<R: Wait, P: DatabasePort>(rt: &R, port: &mut P, path: Path) -> CommandReply
+    requires main { (P.access port.old).caller ≡ main_caller }
+    requires room { 1 ≤ (P.access port.old).room }
+    ensures did { Answers (P.access port.old) (P.access port.new) (RemovesKey path) result }
+    ensures same { IsSamePort (P.access port.old) (P.access port.new) }
+    ensures room { (P.access port.old).room ≤ (P.access port.new).room + 1 }
 {
     if is_protected(path.names()) {
         return CommandReply::Refused {
             why: CommandRefusal::Protected,
         };
     }
-    done_or(database.delete(path))
+    done_or(port.delete(rt, path))
 }
 
 /// The command `rm`: removes the row at the path of this text and all below it, unless it is protected.
-pub fn remove<D: Database>(
+pub fn remove<R: Wait, P: DatabasePort>(
+    rt: &R,
     alloc: Global,
-    database: &mut LocalDatabase<D>,
+    port: &mut P,
     path: &[u8],
 ) -> Result<CommandReply, NoMemory>
-    ensures did { IfOk result (λ reply. Answers database.old database.new
-        (at_path (path_reply path.now) (remove_at database.old.rows)) reply) }
-    ensures start { database.new.start ≡ database.old.start }
-    ensures room { database.old.room ≤ database.new.room + 3 }
-    ensures interrupted { OnErr result (EndsAnswer database.old database.new
-        (at_path (path_reply path.now) (remove_at database.old.rows))) }
+    requires main { (P.access port.old).caller ≡ main_caller }
+    requires room { 1 ≤ (P.access port.old).room }
+    ensures did { IfOk result (Answers (P.access port.old) (P.access port.new)
+        (AtPath (path_reply path.now) RemovesKey)) }
+    ensures interrupted { OnErr result (CutsAnswer (P.access port.old) (P.access port.new)
+        (AtPath (path_reply path.now) RemovesKey)) }
+    ensures same { IsSamePort (P.access port.old) (P.access port.new) }
+    ensures room { (P.access port.old).room ≤ (P.access port.new).room + 1 }
 {
-    match prepare(alloc, database, path, 1)? {
+    match read_path(alloc, path)? {
         Err(why) => Ok(no_path(why)),
-        Ok(path) => Ok(remove_at(database, path)),
+        Ok(path) => Ok(remove_at(rt, port, path)),
     }
 }
 
-/// Answers a command of the database, by the main thread: makes its calls, each noted once and in order, and gives the
-/// reply. None for any other command. Where memory ends, the first of its calls are noted, the last of them maybe with that reply, and
-/// nothing is printed.
-pub fn run_command<D: Database>(
+/// Answers a command of the database, by the main thread: makes its calls, each once and in order, and gives the reply. None
+/// for any other command. Where memory ends, the first of its calls were made, the last of them maybe with that reply.
+pub fn run_command<R: Wait, P: DatabasePort>(
+    rt: &R,
     alloc: Global,
-    database: &mut LocalDatabase<D>,
+    port: &mut P,
     command: &Command<'_>,
 ) -> Result<Option<CommandReply>, NoMemory>
-    ensures did { IfOk result (λ reply. AnswersIf database.old database.new
-        (answer_of database.old.rows command.now) reply) }
-    ensures start { database.new.start ≡ database.old.start }
-    ensures room { database.old.room ≤ database.new.room + 3 }
-    ensures interrupted { OnErr result (EndsEarly database.old database.new
-        (calls_of (answer_of database.old.rows command.now))) }
+    requires main { (P.access port.old).caller ≡ main_caller }
+    requires room { COMMAND_CALLS ≤ (P.access port.old).room }
+    ensures did { IfOk result (AnswersIf (P.access port.old) (P.access port.new) command.now) }
+    ensures interrupted { OnErr result (CutsAnswer (P.access port.old) (P.access port.new)
+        (Performs command.now)) }
+    ensures same { IsSamePort (P.access port.old) (P.access port.new) }
+    ensures room { (P.access port.old).room ≤ (P.access port.new).room + COMMAND_CALLS }
 {
     match command {
         Command::Create { tid, path, len } => {
@@ -422,17 +435,18 @@ pub fn run_command<D: Database>(
                 tid: *tid,
                 len: *len,
             };
-            Ok(Some(create(alloc, database, path.as_slice(), kind)?))
+            Ok(Some(create(rt, alloc, port, path.as_slice(), kind)?))
         }
         Command::CreateDir { path } => {
-            Ok(Some(create(alloc, database, path.as_slice(), NewKey::Dir)?))
+            Ok(Some(create(rt, alloc, port, path.as_slice(), NewKey::Dir)?))
         }
         Command::Set { path, index, value } => {
-            Ok(Some(set(alloc, database, path.as_slice(), *index, value.as_slice())?))
+            let text = value.as_slice();
+            Ok(Some(set(rt, alloc, port, path.as_slice(), *index, text)?))
         }
-        Command::Get { path, index } => Ok(Some(get(alloc, database, path.as_slice(), *index)?)),
-        Command::List { path } => Ok(Some(list(alloc, database, path.as_slice())?)),
-        Command::Remove { path } => Ok(Some(remove(alloc, database, path.as_slice())?)),
+        Command::Get { path, index } => Ok(Some(get(rt, alloc, port, path.as_slice(), *index)?)),
+        Command::List { path } => Ok(Some(list(rt, alloc, port, path.as_slice())?)),
+        Command::Remove { path } => Ok(Some(remove(rt, alloc, port, path.as_slice())?)),
         Command::Nothing
         | Command::Events { .. }
         | Command::Start

@@ -1,14 +1,14 @@
 //! What the database's commands leave alone.
 ghost use Rattle.odb_tree.specs.Rows.{Rows};
 ghost use Rattle.odb_script.specs.declared.forms.Command.{Command};
-ghost use Rattle.std.specs.Prelude.{List, ℕ};
+ghost use Rattle.std.specs.Prelude.{◌≡◌, List, ℕ, true};
 ghost use Rattle.daq_types.specs.Callers.{entries_by};
 ghost use Rattle.odb_tree.specs.Histories.{IsLegal};
-ghost use Rattle.odb_journal.specs.Noted.{by_main};
+ghost use Rattle.odb_port.specs.DatabasePorts.{calls_by};
 ghost use Rattle.odb_tree.specs.declared.entry.DatabaseEntry.{DatabaseEntry};
 ghost use Rattle.odb_commands.specs.declared.replies.CommandReply.{CommandReply};
 ghost use Rattle.odb_commands.specs.Answers.{answer_of};
-ghost use Rattle.odb_commands.specs.CommandCalls.{Performs, IsAnswerOf, OthersLeave};
+ghost use Rattle.odb_commands.specs.CommandCalls.{Performs, IsAnswerOf, OthersLeave, calls_database};
 ghost use Rattle.odb_commands.specs.CommandCallLaws.{PerformsIf, Spares};
 ghost use Rattle.odb_commands.specs.CommandLaws.{SparesIf};
 
@@ -31,7 +31,7 @@ pub fn calls_spare_runinfo()
 /// Where a command's calls are legal from some rows, they and its reply are those that these rows give.
 pub fn answers_are_legal()
     ensures { (s : Rows) (command : Command) (calls : List DatabaseEntry) (reply : CommandReply)
-        → Performs command calls reply → IsLegal s (by_main calls)
+        → Performs command calls reply → IsLegal s (calls_by 0 calls)
         → IsAnswerOf (answer_of s command) calls reply }
 {}
 
@@ -41,4 +41,10 @@ pub fn answers_among_others()
         (reply : CommandReply) → Performs command (entries_by 0 history) reply
         → IsLegal s history → OthersLeave s history
         → IsAnswerOf (answer_of s command) (entries_by 0 history) reply }
+{}
+
+/// Some calls and a reply do what a command of the database asks for.
+pub fn commands_are_answered()
+    ensures { (command : Command) → calls_database command ≡ true
+        → (calls : List DatabaseEntry) × (reply : CommandReply) × Performs command calls reply }
 {}

@@ -1,9 +1,8 @@
-ghost use Rattle.std.specs.Prelude.{◌≡◌, Err, IfOk, OnErr, Result, codes, length, slice_get};
+ghost use Rattle.std.specs.Prelude.{◌≡◌, Err, IfOk, OnErr, codes, length, slice_get};
 ghost use Rattle.odb_path.specs.Paths.{same_name};
 ghost use Rattle.odb_path.specs.PathText.{path_reply};
-ghost use Rattle.odb_tree.specs.declared.refusals.OdbRefusal.{OdbRefusal};
 ghost use Rattle.odb_tree.specs.declared.refusals.OdbRefusal.TheVariants.{NoMemory as no_memory};
-ghost use Rattle.odb_tree.specs.Calls.{Gives};
+ghost use Rattle.odb_port.specs.DatabasePorts.{IsSettled};
 ghost use Rattle.odb_commands.specs.Answers.{is_protected, item_for, one_or};
 
 use crate::replies::{CommandRefusal, CommandReply};
@@ -18,8 +17,7 @@ pub(crate) fn settled<T: Drop>(
     reply: Result<T, OdbRefusal>,
 ) -> Result<Result<T, OdbRefusal>, NoMemory>
     ensures same { IfOk result (λ settled. settled ≡ reply) }
-    ensures exact { IfOk result (λ settled. (is : Result T OdbRefusal) → Gives settled is → is
-        ≡ settled) }
+    ensures wanted { IfOk result (λ settled. IsSettled settled) }
     ensures memory { OnErr result (reply ≡ Err no_memory) }
 {
     match reply {

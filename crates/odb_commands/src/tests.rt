@@ -1,15 +1,37 @@
 //! Worked commands: what each prints, and how many calls it makes.
-use crate::run_command;
+ghost use Rattle.std.specs.Prelude.{◌≡◌};
+ghost use Rattle.daq_types.specs.Callers.{main_caller};
+
+use crate::{COMMAND_CALLS, CommandReply, run_command};
 use daq_text::TextBuffer;
+use daq_types::{Caller, NoMemory};
 use odb_journal::LocalDatabase;
+use odb_port::LocalAccess;
 use odb_script::Command;
 use odb_tree::PlainTree;
+use std::alloc::Global;
+use std::sync::Wait;
 use std::test::Fail;
+
+/// What the main thread's command is answered.
+fn answer<R: Wait>(
+    rt: &R,
+    alloc: Global,
+    port: &mut LocalAccess<PlainTree>,
+    command: &Command<'_>,
+) -> Result<Option<CommandReply>, NoMemory>
+    requires { port.old.caller ≡ main_caller }
+    ensures { port.new.caller ≡ main_caller }
+{
+    port.reserve(COMMAND_CALLS)?;
+    run_command(rt, alloc, port, command)
+}
 
 #[test]
 fn commands_in_a_row(rt: HostRuntime) -> Result<(), Fail> {
     let alloc = rt.alloc();
-    let mut database = LocalDatabase::new(alloc, PlainTree::new(alloc));
+    let database = LocalDatabase::new(alloc, PlainTree::new(alloc));
+    let mut port = LocalAccess::new(database, Caller::MAIN);
     let mut text = TextBuffer::new(alloc);
     for (number, (line, shown)) in [
         (1, ("create UINT8 /A/b 2", "")),
@@ -53,13 +75,13 @@ fn commands_in_a_row(rt: HostRuntime) -> Result<(), Fail> {
     ] {
         text.clear();
         if let Ok(command) = Command::read(line.as_bytes()) {
-            if let Some(reply) = run_command(alloc, &mut database, &command)? {
+            if let Some(reply) = answer(&rt, alloc, &mut port, &command)? {
                 reply.print(number, &mut text)?;
             }
         }
         assert_eq!(rt; text.as_slice(), shown.as_bytes(), "{line}");
     }
-    let (_, journal) = database.into_parts();
+    let (_, journal) = port.into_database().into_parts();
     assert_eq!(rt; journal.len(), 35);
     Ok(())
 }

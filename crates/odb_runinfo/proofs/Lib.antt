@@ -1,4 +1,4 @@
 pub mod Opens
 pub mod NumberKept
 pub mod RunSetLaws
-pub mod OpeningLaws
+pub mod SetCalls

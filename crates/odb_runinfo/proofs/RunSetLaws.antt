@@ -1,30 +1,54 @@
 -- Laws of what a session writes to the run's parameters.
-use Rattle.std.specs.Prelude.{◌≡◌, ℕ, ◌+◌, ◌-◌, nat_lt, ℤ, pos, negsuc, Bool, true, false, cond, List, [], ◌∷◌, ◌++◌, Ok, Err, refl}
-use Rattle.std.proofs.Common.{ap, arith}
+use Rattle.std.specs.Prelude.{◌≡◌, ℕ, ◌+◌, ◌-◌, nat_lt, ℤ, pos, negsuc, Bool, true, false, cond, List, [], ◌∷◌, ◌++◌, Result, Ok, Err, refl}
+use Rattle.std.proofs.Common.{ap, arith, subst, sym, ◌∙◌}
+use Rattle.std.proofs.lemmas.Bool.{false≢true}
+use Rattle.odb_value.specs.declared.items.Item.{Item}
+use Rattle.odb_value.specs.declared.items.Item.TheVariants.{Text}
+use Rattle.odb_value.specs.Values.{HeldValue}
 use Rattle.odb_tree.specs.declared.entry.DatabaseEntry.{DatabaseEntry}
+use Rattle.odb_tree.specs.declared.entry.DatabaseEntry.TheVariants.{Set}
+use Rattle.odb_tree.specs.declared.refusals.OdbRefusal.{OdbRefusal}
 use Rattle.odb_tree.specs.Rows.{Rows}
-use Rattle.odb_tree.specs.Calls.{rows_after}
-use Rattle.odb_tree.specs.Histories.{replay}
-use Rattle.odb_runinfo.specs.RunNumberKept.{AllSpareRuninfo}
-use Rattle.odb_runinfo.specs.RunSets.{Assignment, assigned, assignments, front_made, next_run, number_got}
+use Rattle.odb_tree.specs.Calls.{IsReply, rows_after, set_reply}
+use Rattle.odb_tree.specs.Histories.{IsLegal}
+use Rattle.odb_port.specs.DatabasePorts.{calls_by}
+use Rattle.odb_runinfo.specs.RunNumberKept.{AllSpareRuninfo, SparesRuninfo}
+use Rattle.odb_runinfo.specs.RunSets.{Assignment, AreNumbers, AreSets, IsSet, assigned, assignments, is_number, next_run, number_asked, sent_key_made}
 use Rattle.odb_runinfo.specs.declared.sets.RunNumber.{RunNumber as NoNext}
 
--- assignments in two parts
-pub assignments_append : (s : Rows) (some more : List Assignment) → assignments s (some ++ more) ≡ assignments s some ++ assignments (replay s (assignments s some)) more
-assignments_append s [] more = refl
-assignments_append s (x ∷ some) more =
-    ap (λ (h : List (ℕ × DatabaseEntry)). (x.caller, assigned s x) ∷ h) (assignments_append (rows_after s (assigned s x)) some more)
-
 -- the session's own calls keep the run number
-pub assignments_spare : (s : Rows) (sets : List Assignment) → AllSpareRuninfo (assignments s sets)
-assignments_spare s [] = tt
-assignments_spare s (x ∷ sets) = (tt, assignments_spare (rows_after s (assigned s x)) sets)
+set_spares : (a : Assignment) (entry : DatabaseEntry) → IsSet a entry → SparesRuninfo entry
+set_spares a entry set = subst SparesRuninfo (sym set.is) tt
 
-pub front_spares : (s : Rows) (front : List ℕ) → AllSpareRuninfo (front_made s front)
-front_spares s front = (tt, tt)
+pub sets_spare : (caller : ℕ) (sets : List Assignment) (calls : List DatabaseEntry) → AreSets sets calls → AllSpareRuninfo (calls_by caller calls)
+sets_spare caller [] [] are = tt
+sets_spare caller [] (entry ∷ calls) are = absurd are
+sets_spare caller (a ∷ sets) [] are = absurd are
+sets_spare caller (a ∷ sets) (entry ∷ calls) are = (set_spares a entry are.0, sets_spare caller sets calls are.1)
 
-pub number_spares : (s : Rows) → AllSpareRuninfo (number_got s)
-number_spares s = (tt, tt)
+pub front_spares : (front : List ℕ) (reply : Result ℕ OdbRefusal) → SparesRuninfo (sent_key_made front reply)
+front_spares front reply = tt
+
+pub number_spares : (got : Result HeldValue OdbRefusal) → SparesRuninfo (number_asked got)
+number_spares got = tt
+
+-- the reply to a set of a number is that of the rows
+number_set : (s : Rows) (path : List (List ℕ)) (item : Item) (reply : Result ℕ OdbRefusal) → is_number item ≡ true → IsReply s (Set path 0 item reply) → reply ≡ set_reply s path 0 item
+number_set s path (Text bytes) reply number is = absurd (false≢true number)
+number_set s path _ reply number is = is
+
+one_assigned : (s : Rows) (a : Assignment) (entry : DatabaseEntry) → IsSet a entry → is_number a.item ≡ true → IsReply s entry → entry ≡ assigned s a
+one_assigned s a entry set number is =
+    set.is ∙ ap (λ (r : Result ℕ OdbRefusal). Set a.path 0 a.item r) (number_set s a.path a.item set.reply number (subst (λ (e : DatabaseEntry). IsReply s e) set.is is))
+
+pub sets_assigned : (s : Rows) (caller : ℕ) (sets : List Assignment) (calls : List DatabaseEntry) → AreSets sets calls → AreNumbers sets → IsLegal s (calls_by caller calls) → calls ≡ assignments s sets
+sets_assigned s caller [] [] are numbers legal = refl
+sets_assigned s caller [] (entry ∷ calls) are numbers legal = absurd are
+sets_assigned s caller (a ∷ sets) [] are numbers legal = absurd are
+sets_assigned s caller (a ∷ sets) (entry ∷ calls) are numbers legal =
+    let here : entry ≡ assigned s a = one_assigned s a entry are.0 numbers.0 legal.0.reply in
+    let rest : calls ≡ assignments (rows_after s entry) sets = sets_assigned (rows_after s entry) caller sets calls are.1 numbers.1 legal.1 in
+    ap (λ (more : List DatabaseEntry). entry ∷ more) rest ∙ ap (λ (e : DatabaseEntry). e ∷ assignments (rows_after s e) sets) here
 
 -- the number before the next one
 pub before_next : (n : ℤ) (run : ℕ) → next_run n ≡ Ok run → n ≡ pos (run - 1)

@@ -1,5 +1,5 @@
--- What a session reads from the run's parameters, and writes to them.
-use Rattle.std.specs.Prelude.{◌≡◌, ◌⊎◌, ◌++◌, ℕ, ◌+◌, ◌-◌, nat_lt, if◌then◌else◌, Bool, true, false, ℤ, pos, negsuc, List, [], ◌∷◌, Result, Ok, Err}
+-- What a session reads from the run's parameters, and writes to them: the calls, each with whatever reply it got.
+use Rattle.std.specs.Prelude.{◌≡◌, ℕ, ◌+◌, ◌-◌, nat_lt, if◌then◌else◌, ℤ, pos, negsuc, Bool, true, false, List, [], ◌∷◌, Result, Ok, Err, ⊤}
 use Rattle.daq_types.specs.declared.types.Tid.TheVariants as tid
 use Rattle.odb_value.specs.declared.items.Item.{Item}
 use Rattle.odb_value.specs.declared.items.Item.TheVariants.{Int32, UInt32, UInt64, Text}
@@ -7,10 +7,10 @@ use Rattle.odb_value.specs.Values.{HeldValue}
 use Rattle.odb_tree.specs.declared.entry.DatabaseEntry.{DatabaseEntry}
 use Rattle.odb_tree.specs.declared.entry.DatabaseEntry.TheVariants.{Create, Get, Set}
 use Rattle.odb_tree.specs.declared.refusals.OdbRefusal.{OdbRefusal}
-use Rattle.odb_tree.specs.declared.refusals.OdbRefusal.TheVariants.{NoMemory as no_memory}
 use Rattle.odb_tree.specs.declared.rows.NewKey.TheVariants.{Keys}
 use Rattle.odb_tree.specs.Rows.{Rows}
-use Rattle.odb_tree.specs.Calls.{create_reply, get_reply, set_reply, rows_after}
+use Rattle.odb_tree.specs.Calls.{set_reply, rows_after}
+use Rattle.odb_port.specs.DatabasePorts.{DatabaseAccess, AddsCall, AddsCalls, IsSettled}
 use Rattle.odb_runinfo.specs.declared.keys.RunKey.{RunKey}
 use Rattle.odb_runinfo.specs.declared.keys.RunKey.TheVariants.{State, RunNumber, StartTime, StopTime}
 use Rattle.odb_runinfo.specs.declared.sets.RunNumber.{RunNumber as NoNext}
@@ -32,66 +32,99 @@ abbrev pub next_run : ℤ → Result ℕ NoNext
 next_run (pos n) = if nat_lt n 2147483647 then Ok (n + 1) else Err (record { have = pos n })
 next_run (negsuc n) = Err (record { have = negsuc n })
 
--- the call that gives it, by the main thread
-abbrev pub number_got : Rows → List (ℕ × DatabaseEntry)
-number_got s = (0, Get (key_path RunNumber) (get_reply s (key_path RunNumber))) ∷ []
+-- the call that gets the run number
+abbrev pub number_asked : Result HeldValue OdbRefusal → DatabaseEntry
+number_asked reply = Get (key_path RunNumber) reply
+
+-- The run number was got, and by it this is the number of the next run.
+pub record GetsNumber (a b : DatabaseAccess) (run : Result ℕ NoNext) : Type 0 where
+  pub got : Result HeldValue OdbRefusal
+  pub called : AddsCall a b (number_asked got)
+  pub settled : IsSettled got
+  pub run_is : run ≡ next_run (have_of got)
+
+-- The front-end's key.
+
+-- the call that makes the key in which the front-end of this name says how many events it sent
+abbrev pub sent_key_made : (front : List ℕ) → Result ℕ OdbRefusal → DatabaseEntry
+sent_key_made front reply = Create (sent_path front) (Keys tid.UInt64 1) reply
+
+-- The key was asked for: it was made, or the call was refused otherwise than for want of memory.
+pub record AsksKey (a b : DatabaseAccess) (front : List ℕ) : Type 0 where
+  pub reply : Result ℕ OdbRefusal
+  pub called : AddsCall a b (sent_key_made front reply)
+  pub settled : IsSettled reply
 
 -- Writing.
 
--- A number that a caller sets in item 0 of a key.
+-- A number to be set in item 0 of the key at this path.
 pub record Assignment : Type 0 where
-  pub caller : ℕ
   pub path : List (List ℕ)
   pub item : Item
 
--- the call, with the reply that the rows give
-abbrev pub assigned : Rows → Assignment → DatabaseEntry
-assigned s a = Set a.path 0 a.item (set_reply s a.path 0 a.item)
+-- the call sets this number in item 0 of this key
+pub record IsSet (a : Assignment) (entry : DatabaseEntry) : Type 0 where
+  pub reply : Result ℕ OdbRefusal
+  pub is : entry ≡ Set a.path 0 a.item reply
 
--- such calls one after the other
-abbrev pub assignments : Rows → List Assignment → List (ℕ × DatabaseEntry)
-assignments s [] = []
-assignments s (x ∷ xs) = (x.caller, assigned s x) ∷ assignments (rows_after s (assigned s x)) xs
+-- one such call for each of these, in order, and no other call
+abbrev pub AreSets : List Assignment → List DatabaseEntry → Type 0
+AreSets [] [] = ⊤
+AreSets [] (entry ∷ entries) = ⊥
+AreSets (a ∷ sets) [] = ⊥
+AreSets (a ∷ sets) (entry ∷ entries) = IsSet a entry × AreSets sets entries
+
+-- These numbers were set, one after the other.
+pub record SetsNumbers (a b : DatabaseAccess) (sets : List Assignment) : Type 0 where
+  pub calls : List DatabaseEntry
+  pub made : AddsCalls a b calls
+  pub are_sets : AreSets sets calls
 
 -- the items that are numbers: all but texts
 abbrev pub is_number : Item → Bool
 is_number (Text bytes) = false
 is_number item = true
 
--- a key of the run's parameters, by the main thread
-abbrev pub by_main : RunKey → Item → Assignment
-by_main key item = record { caller = 0; path = key_path key; item = item }
+-- a key of the run's parameters
+abbrev pub key_set : RunKey → Item → Assignment
+key_set key item = record { path = key_path key; item = item }
 
--- how many events the front-end of this name sent, by the front-end's pass
-abbrev pub by_front : (front : List ℕ) → (sent : ℕ) → Assignment
-by_front front sent = record { caller = 1; path = sent_path front; item = UInt64 sent }
+-- how many events the front-end of this name sent
+abbrev pub sent_set : (front : List ℕ) → (sent : ℕ) → Assignment
+sent_set front sent = record { path = sent_path front; item = UInt64 sent }
 
 -- a start, before its run begins: the state stopped, the run's number, the time of its start, and none of its stop
 abbrev pub start_sets : (run time : ℕ) → List Assignment
-start_sets run time = by_main State (Int32 (pos 1)) ∷ by_main RunNumber (Int32 (pos run)) ∷ by_main StartTime (UInt32 time) ∷ by_main StopTime (UInt32 0) ∷ []
+start_sets run time = key_set State (Int32 (pos 1)) ∷ key_set RunNumber (Int32 (pos run)) ∷ key_set StartTime (UInt32 time) ∷ key_set StopTime (UInt32 0) ∷ []
 
--- a start that came about: the front-end sent nothing yet, and then the state is running
-abbrev pub started_sets : (front : List ℕ) → List Assignment
-started_sets front = by_front front 0 ∷ by_main State (Int32 (pos 3)) ∷ []
+-- once a run came about the state is running
+abbrev pub running_set : List Assignment
+running_set = key_set State (Int32 (pos 3)) ∷ []
 
 -- a start that was refused: the run's number is set back by one
 abbrev pub refused_sets : (run : ℕ) → List Assignment
-refused_sets run = by_main RunNumber (Int32 (pos (run - 1))) ∷ []
+refused_sets run = key_set RunNumber (Int32 (pos (run - 1))) ∷ []
 
 -- a stop as it begins: the state is still running, and the time of the stop
 abbrev pub stopping_sets : (time : ℕ) → List Assignment
-stopping_sets time = by_main State (Int32 (pos 3)) ∷ by_main StopTime (UInt32 time) ∷ []
+stopping_sets time = key_set State (Int32 (pos 3)) ∷ key_set StopTime (UInt32 time) ∷ []
 
--- a stop as it ends: what the front-end sent, and then the state is stopped
-abbrev pub stopped_sets : (front : List ℕ) → (sent : ℕ) → List Assignment
-stopped_sets front sent = by_front front sent ∷ by_main State (Int32 (pos 1)) ∷ []
+-- and stopped once it is over
+abbrev pub stopped_set : List Assignment
+stopped_set = key_set State (Int32 (pos 1)) ∷ []
 
--- The front-end's key.
+-- Where the calls are legal.
 
--- the call that makes it, with one number, by the main thread
-abbrev pub front_made : Rows → (front : List ℕ) → List (ℕ × DatabaseEntry)
-front_made s front = (0, Create (sent_path front) (Keys tid.UInt64 1) (create_reply s (sent_path front) (Keys tid.UInt64 1))) ∷ []
+-- the call, with the reply that the rows give
+abbrev pub assigned : Rows → Assignment → DatabaseEntry
+assigned s a = Set a.path 0 a.item (set_reply s a.path 0 a.item)
 
--- The key was not made: it was not asked for, or memory was wanting for it.
-abbrev pub MakesNoKey : (before after : List (ℕ × DatabaseEntry)) → (front : List ℕ) → Type 0
-MakesNoKey before after front = (after ≡ before) ⊎ (after ≡ before ++ (0, Create (sent_path front) (Keys tid.UInt64 1) (Err no_memory)) ∷ [])
+-- such calls one after the other
+abbrev pub assignments : Rows → List Assignment → List DatabaseEntry
+assignments s [] = []
+assignments s (x ∷ xs) = assigned s x ∷ assignments (rows_after s (assigned s x)) xs
+
+-- all of these are numbers
+abbrev pub AreNumbers : List Assignment → Type 0
+AreNumbers [] = ⊤
+AreNumbers (x ∷ xs) = (is_number x.item ≡ true) × AreNumbers xs

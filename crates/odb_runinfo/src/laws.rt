@@ -1,14 +1,17 @@
 //! The run number is there throughout a session, and its database stays one.
 ghost use Rattle.odb_tree.specs.Databases.{IsDatabase};
-ghost use Rattle.std.specs.Prelude.{◌≡◌, ℕ, List, ◌++◌, Ok};
+ghost use Rattle.std.specs.Prelude.{◌≡◌, ℕ, List, Ok, Result};
 ghost use Rattle.odb_tree.specs.declared.entry.DatabaseEntry.{DatabaseEntry};
+ghost use Rattle.odb_tree.specs.declared.refusals.OdbRefusal.{OdbRefusal};
+ghost use Rattle.odb_value.specs.Values.{HeldValue};
+ghost use Rattle.odb_port.specs.DatabasePorts.{calls_by};
 ghost use Rattle.odb_tree.specs.Rows.{Rows};
 ghost use Rattle.odb_tree.specs.Histories.{IsLegal, replay};
 ghost use Rattle.odb_tree.specs.Calls.{get_reply};
 ghost use Rattle.odb_runinfo.specs.declared.keys.RunKey.TheVariants.{RunNumber};
 ghost use Rattle.odb_runinfo.specs.RunKeys.{key_path, session_rows};
-ghost use Rattle.odb_runinfo.specs.RunNumberKept.{AllSpareRuninfo, HasRunNumber};
-ghost use Rattle.odb_runinfo.specs.RunSets.{Assignment, assignments, front_made, have_of, number_got};
+ghost use Rattle.odb_runinfo.specs.RunNumberKept.{AllSpareRuninfo, HasRunNumber, SparesRuninfo};
+ghost use Rattle.odb_runinfo.specs.RunSets.{AreNumbers, AreSets, Assignment, assignments, have_of, number_asked, sent_key_made};
 
 /// After any legal calls that remove nothing below `/Runinfo`, the run number is there, an INT32 with an item 0.
 pub fn run_number_stays()
@@ -36,15 +39,18 @@ pub fn database_opens()
         → IsDatabase (replay session_rows history) }
 {}
 
-/// The session's own calls remove nothing below `/Runinfo`.
+/// The session's own calls remove nothing below `/Runinfo`, whatever they are answered.
 pub fn own_calls_spare()
-    ensures sets { (s : Rows) (sets : List Assignment) → AllSpareRuninfo (assignments s sets) }
-    ensures front { (s : Rows) (front : List ℕ) → AllSpareRuninfo (front_made s front) }
-    ensures number { (s : Rows) → AllSpareRuninfo (number_got s) }
+    ensures sets { (caller : ℕ) (sets : List Assignment) (calls : List DatabaseEntry)
+        → AreSets sets calls → AllSpareRuninfo (calls_by caller calls) }
+    ensures front { (front : List ℕ) (reply : Result ℕ OdbRefusal)
+        → SparesRuninfo (sent_key_made front reply) }
+    ensures number { (got : Result HeldValue OdbRefusal) → SparesRuninfo (number_asked got) }
 {}
 
-/// Assignments in two parts are those of the first part, and then those of the second.
-pub fn assignments_follow()
-    ensures { (s : Rows) (some more : List Assignment) → assignments s (some ++ more)
-        ≡ assignments s some ++ assignments (replay s (assignments s some)) more }
+/// Where the calls that set numbers are legal from some rows, each has the reply that these rows give at its point.
+pub fn sets_are_legal()
+    ensures { (s : Rows) (caller : ℕ) (sets : List Assignment) (calls : List DatabaseEntry)
+        → AreSets sets calls → AreNumbers sets → IsLegal s (calls_by caller calls)
+        → calls ≡ assignments s sets }
 {}

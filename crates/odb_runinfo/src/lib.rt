@@ -14,6 +14,6 @@ pub use keys::{RunKey, sent_path};
 pub use opening::open;
 pub use paths::{RunPaths, StartPaths, StartedPaths, StoppedPaths, StoppingPaths};
 pub use sets::{
-    RunNumber, START_CALLS, STOP_CALLS, next_run, open_front, set_refused, set_start, set_started,
-    set_stopped, set_stopping,
+    RunNumber, START_CALLS, STOP_CALLS, next_run, open_front, set_refused, set_running, set_sent,
+    set_start, set_stopped, set_stopping,
 };

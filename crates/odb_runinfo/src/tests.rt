@@ -1,14 +1,20 @@
 //! The database of a new session, and what starts and stops set in it.
+ghost use Rattle.std.specs.Prelude.{◌≡◌, IfOk};
+ghost use Rattle.daq_types.specs.Callers.{main_caller};
+
 use crate::{
-    RunKey, RunNumber, RunPaths, START_CALLS, STOP_CALLS, next_run, open, open_front, sent_path,
-    set_refused, set_start, set_started, set_stopped, set_stopping,
+    RunKey, RunNumber, RunPaths, START_CALLS, STOP_CALLS, StartPaths, StoppingPaths, next_run,
+    open, open_front, sent_path, set_refused, set_running, set_sent, set_start, set_stopped,
+    set_stopping,
 };
-use daq_types::{Name, NoMemory, Tid};
+use daq_types::{Caller, Name, NoMemory, Tid};
 use odb_journal::LocalDatabase;
 use odb_path::Path;
+use odb_port::{DatabasePort, LocalAccess};
 use odb_tree::{Database, DatabaseEntry, NewKey, OdbRefusal, PlainTree};
 use odb_value::Item;
 use std::alloc::Global;
+use std::sync::Wait;
 use std::test::Fail;
 
 /// The front-end.
@@ -19,78 +25,145 @@ fn front_end() -> Name {
     }
 }
 
+/// A port of the main thread to the database of a new session.
+fn session_port(alloc: Global) -> Result<LocalAccess<PlainTree>, NoMemory>
+    ensures { IfOk result (λ port. port.caller ≡ main_caller) }
+{
+    let mut tree = PlainTree::new(alloc);
+    open(alloc, &mut tree)?;
+    let database = LocalDatabase::new(alloc, tree);
+    Ok(LocalAccess::new(database, Caller::MAIN))
+}
+
 /// Opens the front-end.
-fn open_once(alloc: Global, database: &mut LocalDatabase<PlainTree>) -> Result<(), NoMemory> {
-    open_front(alloc, database, front_end())
+fn open_once<R: Wait>(
+    rt: &R,
+    alloc: Global,
+    port: &mut LocalAccess<PlainTree>,
+) -> Result<(), NoMemory>
+    requires { port.old.caller ≡ main_caller }
+    ensures { port.new.caller ≡ main_caller }
+{
+    port.reserve(1)?;
+    let opened = open_front(rt, alloc, port, front_end());
+    port.set_caller(Caller::MAIN);
+    opened
 }
 
-/// Starts and stops a run in which the front-end sends 5 events.
-fn run_once(
+/// Says that the front-end sent so many events.
+fn send_once<R: Wait>(
+    rt: &R,
     alloc: Global,
-    database: &mut LocalDatabase<PlainTree>,
-    run: u16,
+    port: &mut LocalAccess<PlainTree>,
+    sent: u32,
 ) -> Result<(), NoMemory> {
-    let RunPaths {
-        start,
-        started,
-        stopping,
-        stopped,
-        ..
-    } = RunPaths::new(alloc, front_end())?;
-    database.reserve(START_CALLS + STOP_CALLS)?;
-    set_start(alloc, database, start, run as u32, 1000);
-    set_started(alloc, database, started);
-    set_stopping(alloc, database, stopping, 1010);
-    set_stopped(alloc, database, stopped, 5);
-    Ok(())
-}
-
-/// Refuses the start of a run.
-fn refuse_once(
-    alloc: Global,
-    database: &mut LocalDatabase<PlainTree>,
-    run: u16,
-) -> Result<(), NoMemory> {
-    let RunPaths { start, refused, .. } = RunPaths::new(alloc, front_end())?;
-    database.reserve(START_CALLS)?;
-    set_start(alloc, database, start, run as u32 + 1, 1000);
-    set_refused(alloc, database, refused, run as u32 + 1);
+    let front = front_end();
+    let path = sent_path(alloc, front)?;
+    port.reserve(1)?;
+    port.set_caller(Caller::of_client(0));
+    set_sent(rt, alloc, port, front, path, sent);
+    port.set_caller(Caller::MAIN);
     Ok(())
 }
 
 /// Starts a run.
-fn start_once(alloc: Global, database: &mut LocalDatabase<PlainTree>) -> Result<(), NoMemory> {
-    let RunPaths { started, .. } = RunPaths::new(alloc, front_end())?;
-    database.reserve(START_CALLS)?;
-    set_started(alloc, database, started);
+fn start_once<R: Wait>(
+    rt: &R,
+    alloc: Global,
+    port: &mut LocalAccess<PlainTree>,
+    run: u16,
+) -> Result<(), NoMemory> {
+    let start = StartPaths::new(alloc)?;
+    let state = RunKey::State.path(alloc)?;
+    port.reserve(START_CALLS)?;
+    set_start(rt, alloc, port, start, run as u32, 1000);
+    set_running(rt, alloc, port, state);
     Ok(())
 }
 
-/// Makes this the number of the last run.
-fn number_is(
+/// Stops a run.
+fn stop_once<R: Wait>(
+    rt: &R,
     alloc: Global,
-    database: &mut LocalDatabase<PlainTree>,
+    port: &mut LocalAccess<PlainTree>,
+) -> Result<(), NoMemory> {
+    let stopping = StoppingPaths::new(alloc)?;
+    let state = RunKey::State.path(alloc)?;
+    port.reserve(STOP_CALLS)?;
+    set_stopping(rt, alloc, port, stopping, 1010);
+    set_stopped(rt, alloc, port, state);
+    Ok(())
+}
+
+/// Starts and stops a run in which the front-end sends 5 events.
+fn run_once<R: Wait>(
+    rt: &R,
+    alloc: Global,
+    port: &mut LocalAccess<PlainTree>,
+    run: u16,
+) -> Result<(), NoMemory> {
+    start_once(rt, alloc, port, run)?;
+    send_once(rt, alloc, port, 0)?;
+    send_once(rt, alloc, port, 5)?;
+    stop_once(rt, alloc, port)
+}
+
+/// Refuses the start of a run.
+fn refuse_once<R: Wait>(
+    rt: &R,
+    alloc: Global,
+    port: &mut LocalAccess<PlainTree>,
+    run: u16,
+) -> Result<(), NoMemory> {
+    let RunPaths { start, refused, .. } = RunPaths::new(alloc, front_end())?;
+    port.reserve(START_CALLS)?;
+    set_start(rt, alloc, port, start, run as u32 + 1, 1000);
+    set_refused(rt, alloc, port, refused, run as u32 + 1);
+    Ok(())
+}
+
+/// The number of the next run.
+fn next_once<R: Wait>(
+    rt: &R,
+    alloc: Global,
+    port: &mut LocalAccess<PlainTree>,
+) -> Result<Result<u32, RunNumber>, NoMemory> {
+    port.reserve(1)?;
+    next_run(rt, alloc, port)
+}
+
+/// Makes this the number of the last run.
+fn number_is<R: Wait>(
+    rt: &R,
+    alloc: Global,
+    port: &mut LocalAccess<PlainTree>,
     have: i32,
 ) -> Result<(), NoMemory> {
     let path = RunKey::RunNumber.path(alloc)?;
-    database.reserve(1)?;
-    let _ = database.set(alloc, 0, path, 0, Item::Int32(have));
+    port.reserve(1)?;
+    let _ = port.set(rt, alloc, path, 0, Item::Int32(have));
     Ok(())
 }
 
 /// Makes a key.
-fn make_key(
+fn make_key<R: Wait>(
+    rt: &R,
     alloc: Global,
-    database: &mut LocalDatabase<PlainTree>,
+    port: &mut LocalAccess<PlainTree>,
     path: &[u8],
-) -> Result<(), Fail> {
-    database.reserve(1)?;
+) -> Result<(), Fail>
+    requires { port.old.caller ≡ main_caller }
+    ensures { port.new.caller ≡ main_caller }
+{
+    port.reserve(1)?;
     let path = Path::read(alloc, path)?;
     let kind = NewKey::Keys {
         tid: Tid::UInt8,
         len: 1,
     };
-    database.create(alloc, path, kind)?;
+    let made = port.create(rt, alloc, path, kind);
+    port.set_caller(Caller::MAIN);
+    made?;
     Ok(())
 }
 
@@ -120,12 +193,10 @@ fn sent(alloc: Global, tree: &PlainTree) -> Result<u64, Fail> {
 #[test]
 fn the_first_run(rt: HostRuntime) -> Result<(), Fail> {
     let alloc = rt.alloc();
-    let mut tree = PlainTree::new(alloc);
-    open(alloc, &mut tree)?;
-    let mut database = LocalDatabase::new(alloc, tree);
-    open_once(alloc, &mut database)?;
-    run_once(alloc, &mut database, 1)?;
-    let (tree, journal) = database.into_parts();
+    let mut port = session_port(alloc)?;
+    open_once(&rt, alloc, &mut port)?;
+    run_once(&rt, alloc, &mut port, 1)?;
+    let (tree, journal) = port.into_database().into_parts();
     assert_eq!(rt; journal.len(), 11);
     assert_eq!(rt; parameter(alloc, &tree, RunKey::State)?, 1);
     assert_eq!(rt; parameter(alloc, &tree, RunKey::RunNumber)?, 1);
@@ -138,27 +209,23 @@ fn the_first_run(rt: HostRuntime) -> Result<(), Fail> {
 #[test]
 fn the_next_run(rt: HostRuntime) -> Result<(), Fail> {
     let alloc = rt.alloc();
-    let mut tree = PlainTree::new(alloc);
-    open(alloc, &mut tree)?;
-    let mut database = LocalDatabase::new(alloc, tree);
-    open_once(alloc, &mut database)?;
-    assert_eq!(rt; next_run(alloc, &mut database)?, Ok(1));
-    run_once(alloc, &mut database, 1)?;
-    assert_eq!(rt; next_run(alloc, &mut database)?, Ok(2));
-    refuse_once(alloc, &mut database, 1)?;
-    assert_eq!(rt; next_run(alloc, &mut database)?, Ok(2));
+    let mut port = session_port(alloc)?;
+    open_once(&rt, alloc, &mut port)?;
+    assert_eq!(rt; next_once(&rt, alloc, &mut port)?, Ok(1));
+    run_once(&rt, alloc, &mut port, 1)?;
+    assert_eq!(rt; next_once(&rt, alloc, &mut port)?, Ok(2));
+    refuse_once(&rt, alloc, &mut port, 1)?;
+    assert_eq!(rt; next_once(&rt, alloc, &mut port)?, Ok(2));
     Ok(())
 }
 
 #[test]
 fn no_number_comes_next(rt: HostRuntime) -> Result<(), Fail> {
     let alloc = rt.alloc();
-    let mut tree = PlainTree::new(alloc);
-    open(alloc, &mut tree)?;
-    let mut database = LocalDatabase::new(alloc, tree);
+    let mut port = session_port(alloc)?;
     for have in [i32::MAX, -1] {
-        number_is(alloc, &mut database, have)?;
-        assert_eq!(rt; next_run(alloc, &mut database)?, Err(RunNumber { have }));
+        number_is(&rt, alloc, &mut port, have)?;
+        assert_eq!(rt; next_once(&rt, alloc, &mut port)?, Err(RunNumber { have }));
     }
     Ok(())
 }
@@ -166,12 +233,10 @@ fn no_number_comes_next(rt: HostRuntime) -> Result<(), Fail> {
 #[test]
 fn the_front_end_is_there_already(rt: HostRuntime) -> Result<(), Fail> {
     let alloc = rt.alloc();
-    let mut tree = PlainTree::new(alloc);
-    open(alloc, &mut tree)?;
-    let mut database = LocalDatabase::new(alloc, tree);
-    open_once(alloc, &mut database)?;
-    open_once(alloc, &mut database)?;
-    let (tree, journal) = database.into_parts();
+    let mut port = session_port(alloc)?;
+    open_once(&rt, alloc, &mut port)?;
+    open_once(&rt, alloc, &mut port)?;
+    let (tree, journal) = port.into_database().into_parts();
     let entries = journal.as_slice();
     assert_eq!(rt; entries.len(), 2);
     let (caller, again) = &entries[1];
@@ -192,15 +257,13 @@ fn the_front_end_is_there_already(rt: HostRuntime) -> Result<(), Fail> {
 #[test]
 fn a_value_stands_in_the_place_of_the_front_end(rt: HostRuntime) -> Result<(), Fail> {
     let alloc = rt.alloc();
-    let mut tree = PlainTree::new(alloc);
-    open(alloc, &mut tree)?;
-    let mut database = LocalDatabase::new(alloc, tree);
-    make_key(alloc, &mut database, b"/Equipment/FE")?;
-    open_once(alloc, &mut database)?;
-    start_once(alloc, &mut database)?;
-    let (tree, journal) = database.into_parts();
+    let mut port = session_port(alloc)?;
+    make_key(&rt, alloc, &mut port, b"/Equipment/FE")?;
+    open_once(&rt, alloc, &mut port)?;
+    send_once(&rt, alloc, &mut port, 0)?;
+    let (_, journal) = port.into_database().into_parts();
     let entries = journal.as_slice();
-    assert_eq!(rt; entries.len(), 4);
+    assert_eq!(rt; entries.len(), 3);
     let (_, opened) = &entries[1];
     assert!(rt;
         matches!(
@@ -222,7 +285,6 @@ fn a_value_stands_in_the_place_of_the_front_end(rt: HostRuntime) -> Result<(), F
             }
         )
     );
-    assert_eq!(rt; parameter(alloc, &tree, RunKey::State)?, 3);
     Ok(())
 }
 
