@@ -14,15 +14,15 @@ use Rattle.odb_tree.specs.declared.refusals.OdbRefusal.{OdbRefusal}
 use Rattle.odb_tree.specs.Rows.{Rows}
 use Rattle.odb_tree.specs.Calls.{IsReply, get_reply, rows_after}
 use Rattle.odb_tree.specs.Histories.{IsLegal, shapes_rows}
-use Rattle.odb_journal.specs.Noted.{by_main}
-use Rattle.odb_journal.specs.HistoryLaws.{by_main-append}
+use Rattle.std.proofs.lemmas.List.{map-append}
+use Rattle.odb_port.specs.DatabasePorts.{calls_by}
 use Rattle.odb_runinfo.specs.declared.keys.RunKey.TheVariants.{RunNumber as number_key}
 use Rattle.odb_runinfo.specs.RunKeys.{key_path, session_rows}
 use Rattle.odb_runinfo.specs.RunNumberKept.{AllSpareRuninfo, HasRunNumber, SparesRuninfo}
 use Rattle.odb_runinfo.proofs.NumberKept.{number_stays, number_given, number_opens}
 use Rattle.odb_runinfo.proofs.RunSetLaws.{before_next}
 use Rattle.odb_runinfo.specs.RunSets.{Assignment, have_of, number_in, next_run, start_sets, refused_sets, stopping_sets}
-use Rattle.odb_commands.specs.CommandCalls.{IsSettled}
+use Rattle.odb_port.specs.DatabasePorts.{IsSettled}
 use Rattle.odb_commands.specs.CommandCallLaws.{Spares}
 use Rattle.session_console.specs.declared.records.RunRecord.{RunRecord}
 use Rattle.daq_types.specs.declared.runs.StartOutcome.{StartOutcome}
@@ -30,7 +30,7 @@ use Rattle.daq_types.specs.declared.runs.StartOutcome.TheVariants.{Completed, Re
 use Rattle.session_console.specs.declared.records.SessionRecord.{SessionRecord}
 use Rattle.session_console.specs.declared.replies.Reply.{Reply}
 use Rattle.daq_session.specs.declared.endings.Ending.{Ending}
-use Rattle.daq_session.specs.RunCalls.{IsSet, AreSets, number_asked, running_set, stopped_set}
+use Rattle.odb_runinfo.specs.RunSets.{IsSet, AreSets, number_asked, running_set, stopped_set}
 use Rattle.daq_session.specs.RunRecordFits.{GivesNumber, StartsIn, StopsBy, RunRecordFits, FitsHistory}
 use Rattle.daq_session.specs.Playing.{CutBy}
 use Rattle.daq_session.specs.Played.{IsPlayed}
@@ -115,7 +115,7 @@ spare_append [] more first rest = rest
 spare_append (e ∷ es) more first rest = (first.0, spare_append es more first.1 rest)
 
 more_spares : (own more : List DatabaseEntry) → Spares own → Spares more → Spares (own ++ more)
-more_spares own more first rest = subst AllSpareRuninfo (sym (by_main-append own more)) (spare_append (by_main own) (by_main more) first rest)
+more_spares own more first rest = subst AllSpareRuninfo (sym (map-append (λ (entry : DatabaseEntry). (0, entry)) own more)) (spare_append (calls_by 0 own) (calls_by 0 more) first rest)
 
 sets_spare : (sets : List Assignment) (entries : List DatabaseEntry) → AreSets sets entries → Spares entries
 sets_spare [] [] are = tt

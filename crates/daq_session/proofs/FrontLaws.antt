@@ -13,7 +13,7 @@ use Rattle.daq_session.specs.declared.endings.Ending.{Ending}
 use Rattle.session_console.specs.declared.records.RunRecord.{RunRecord}
 use Rattle.session_console.specs.declared.records.SessionRecord.{SessionRecord}
 use Rattle.daq_session.specs.FrontSets.{AreCallers, IsSentSet, AreSentSets, set_numbers, IsFrontsPass}
-use Rattle.daq_session.specs.RunCalls.{number_asked}
+use Rattle.odb_runinfo.specs.RunSets.{number_asked}
 use Rattle.daq_session.specs.RunTransitions.{HoldsRuns}
 use Rattle.daq_session.specs.Playing.{CutBy}
 use Rattle.daq_session.specs.Played.{IsPlayed}

@@ -10,45 +10,42 @@ use Rattle.odb_value.specs.Values.{HeldValue}
 use Rattle.odb_tree.specs.declared.entry.DatabaseEntry.{DatabaseEntry}
 use Rattle.odb_tree.specs.declared.refusals.OdbRefusal.{OdbRefusal}
 use Rattle.odb_tree.specs.declared.refusals.OdbRefusal.TheVariants.{NoKey, Exists, NotDir, NotValue, TypeMismatch, BadIndex, Limit, NotKept, NoMemory as no_memory}
-use Rattle.odb_journal.specs.Noted.{Noted, EndsEarly, Grows, KeepsCalls, by_main}
-use Rattle.odb_runinfo.specs.RunSets.{MakesNoKey}
+use Rattle.odb_port.specs.DatabasePorts.{AddsCall, AddsCalls, CalledDatabase, CutsCalls, MayAdd, local_access}
 use Rattle.odb_script.specs.declared.forms.Command.{Command}
 use Rattle.odb_script.specs.declared.forms.Command.TheVariants.{Nothing, Events, Start, Stop, Create, CreateDir, Set, Get, List as Ls, Remove, Exit}
 use Rattle.odb_script.specs.declared.refusals.LineRefusal.{LineRefusal}
 use Rattle.odb_commands.specs.declared.replies.CommandReply.{CommandReply}
-use Rattle.odb_commands.specs.CommandCalls.{IsSettled, Performs, IsCutShort}
-use Rattle.odb_commands.specs.CommandCallLaws.{own_main, none_main, cut_main}
+use Rattle.odb_port.specs.DatabasePorts.{IsSettled, IsCutShort}
+use Rattle.odb_commands.specs.CommandCalls.{Performs}
 use Rattle.daq_session.specs.declared.halts.Halt.{Halt}
 use Rattle.daq_session.specs.declared.halts.Halt.TheVariants.{NoMemory, FileFault}
 use Rattle.session_console.specs.FrontNames.{front_name}
 use Rattle.session_console.specs.declared.replies.Reply.{Reply}
 use Rattle.daq_session.specs.declared.session.Session.{Session}
 use Rattle.daq_session.specs.RunTransitions.{CallsMore}
-use Rattle.daq_session.specs.RunCalls.{key_made, number_asked, is_settled, opens_session}
+use Rattle.odb_runinfo.specs.RunSets.{number_asked}
+use Rattle.daq_session.specs.RunCalls.{key_made, is_settled, opens_session}
 use Rattle.daq_session.specs.Stages.{Outset, Stage, OpensSession, CallsLine, CallsStart, Interrupts, called, opened_by}
 use Rattle.daq_session.specs.Standing.{Course, stage_of, order_in, IsAt, IsReady, HandlesBy}
-use Rattle.daq_session.proofs.OwnCalls.{own_grown, more_grown, main_called}
+use Rattle.daq_session.proofs.OwnCalls.{StandAlone, MainCalls, call_noted, main_adds, main_calls, main_none}
 use Rattle.daq_session.proofs.TransitionLaws.{stand_more}
 
 -- Of the main thread's calls the first were made.
-pub record CutOwn (p q : Noted) (calls : List DatabaseEntry) : Type 0 where
+pub record CutOwn (p q : List (ℕ × DatabaseEntry)) (calls : List DatabaseEntry) : Type 0 where
   pub made : List DatabaseEntry
   pub short : IsCutShort calls made
-  pub own : entries_by 0 q.history ≡ entries_by 0 p.history ++ made
-  pub front : entries_by 1 q.history ≡ entries_by 1 p.history
-  pub more : CallsMore p.history q.history
+  pub main : MainCalls p q made
 
-pub cut_own : (p q : Noted) (calls : List DatabaseEntry) → EndsEarly p q (by_main calls) → CutOwn p q calls
-cut_own p q calls ends =
-    let cut = cut_main calls ends.made ends.short in
-    let grows : Grows p q (by_main cut.0) = subst (λ (more : List (ℕ × DatabaseEntry)). Grows p q more) cut.1 ends.grows in
-    record {
-      made = cut.0;
-      short = cut.2;
-      own = own_grown p q (by_main cut.0) 0 grows ∙ ap (λ (es : List DatabaseEntry). entries_by 0 p.history ++ es) (own_main cut.0);
-      front = own_grown p q (by_main cut.0) 1 grows ∙ ap (λ (es : List DatabaseEntry). entries_by 1 p.history ++ es) (none_main cut.0) ∙ append-nil (entries_by 1 p.history);
-      more = more_grown p q (by_main cut.0) grows (main_called cut.0);
-    }
+pub cut_own : StandAlone → (d e : CalledDatabase) (calls made : List DatabaseEntry) → d.caller ≡ 0 → IsCutShort calls made → AddsCalls (local_access d) (local_access e) made → CutOwn d.history e.history calls
+cut_own alone d e calls made is short adds = record { made = made; short = short; main = main_adds alone d e made is adds }
+
+-- none of them
+pub cut_none : (p q : List (ℕ × DatabaseEntry)) (calls : List DatabaseEntry) → q ≡ p → CutOwn p q calls
+cut_none p q calls same = record { made = []; short = tt; main = main_none p q same }
+
+-- behind no call
+pub cut_behind : (p between q : List (ℕ × DatabaseEntry)) (calls : List DatabaseEntry) → between ≡ p → CutOwn between q calls → CutOwn p q calls
+cut_behind p between q calls same cut = subst (λ (h : List (ℕ × DatabaseEntry)). CutOwn h q calls) same cut
 
 -- the outside stands as it did against a state with the same runs
 pub at_same : (old new : Session) (now : Outset) → new.recorder.runs ≡ old.recorder.runs → new.recorder.on ≡ old.recorder.on → CallsMore old.database.history new.database.history
@@ -89,18 +86,23 @@ open_as_before (Remove path) opened made calls reply does = refl
 open_as_before Exit opened made calls reply does = refl
 
 -- with these calls of the main thread more
-abbrev pub with_calls : Stage → Noted → Stage
-with_calls s q = record s { own = entries_by 0 q.history; front = entries_by 1 q.history }
+abbrev pub with_calls : Stage → List (ℕ × DatabaseEntry) → Stage
+with_calls s q = record s { own = entries_by 0 q; front = entries_by 1 q }
 
-pub interrupts_command : (command : Command) (old : Session) (q : Noted) (calls : List DatabaseEntry) (reply : CommandReply) → Performs command calls reply → CutOwn old.database q calls
+-- and these were made
+pub calls_stage : (s : Stage) (p q : List (ℕ × DatabaseEntry)) (made : List DatabaseEntry) → s.own ≡ entries_by 0 p → s.front ≡ entries_by 1 p → MainCalls p q made → with_calls s q ≡ called s made
+calls_stage s p q made own front main =
+    ap (λ (es : List DatabaseEntry). record s { own = es; front = entries_by 1 q }) (main.own ∙ ap (λ (es : List DatabaseEntry). es ++ made) (sym own))
+    ∙ ap (λ (es : List DatabaseEntry). record s { own = s.own ++ made; front = es }) (main.front ∙ sym front)
+
+pub interrupts_command : (command : Command) (old : Session) (q : List (ℕ × DatabaseEntry)) (calls : List DatabaseEntry) (reply : CommandReply) → Performs command calls reply → CutOwn old.database.history q calls
     → (c : Course) → Interrupts (Ok command) (stage_of old c) (with_calls (stage_of old c) q)
 interrupts_command command old q calls reply does cut c = record {
   calls = calls;
   are_calls = calls_command (stage_of old c) command calls reply does;
   made = cut.made;
   short = cut.short;
-  leads = ap (λ (own : List DatabaseEntry). record (stage_of old c) { own = own; front = entries_by 1 q.history }) cut.own
-      ∙ ap (λ (front : List DatabaseEntry). record (stage_of old c) { own = entries_by 0 old.database.history ++ cut.made; front = front }) cut.front
+  leads = calls_stage (stage_of old c) old.database.history q cut.made refl refl cut.main
       ∙ ap (λ (b : Bool). record (called (stage_of old c) cut.made) { opened = b }) (sym (open_as_before command old.opened cut.made calls reply does));
 }
 
@@ -164,36 +166,35 @@ interrupts_opening old new made shut idle short unopened leads = record {
   leads = leads ∙ ap (λ (b : Bool). record (called old made) { opened = b }) (sym (or_right old.opened (opens_session made) shut ∙ unopened ∙ sym shut));
 }
 
-still_own : (old : Session) (q : Noted) (c : Course) (made : List DatabaseEntry) → entries_by 0 q.history ≡ entries_by 0 old.database.history ++ made → entries_by 1 q.history ≡ entries_by 1 old.database.history
-    → with_calls (stage_of old c) q ≡ called (stage_of old c) made
-still_own old q c made own front =
-    ap (λ (es : List DatabaseEntry). record (stage_of old c) { own = es; front = entries_by 1 q.history }) own
-    ∙ ap (λ (es : List DatabaseEntry). record (stage_of old c) { own = entries_by 0 old.database.history ++ made; front = es }) front
+idle_stage : (old : Session) (c : Course) → old.recorder.on ≡ None → (stage_of old c).on ≡ None
+idle_stage old c idle = rw idle refl
 
--- nor was its key made
-pub opening_broken : (old : Session) (q : Noted) → old.recorder.on ≡ None → old.opened ≡ false → MakesNoKey old.database.history q.history front_name
-    → (c : Course) → Interrupts (Ok Start) (stage_of old c) (with_calls (stage_of old c) q)
-opening_broken old q idle shut (inl same) c =
-    interrupts_opening (stage_of old c) (with_calls (stage_of old c) q) [] shut (idle_stage old c idle) tt refl
-    (still_own old q c [] (ap (λ (h : List (ℕ × DatabaseEntry)). entries_by 0 h) same ∙ sym (append-nil (entries_by 0 old.database.history))) (ap (λ (h : List (ℕ × DatabaseEntry)). entries_by 1 h) same))
-  where
-    idle_stage : (old : Session) (c : Course) → old.recorder.on ≡ None → (stage_of old c).on ≡ None
-    idle_stage old c idle = rw idle refl
-opening_broken old q idle shut (inr wanting) c =
-    let grows : (by : ℕ) → entries_by by q.history ≡ entries_by by old.database.history ++ entries_by by ((0, key_made (Err no_memory)) ∷ []) = λ by. grown by old.database.history q.history wanting in
-    interrupts_opening (stage_of old c) (with_calls (stage_of old c) q) (key_made (Err no_memory) ∷ []) shut (idle_stage old c idle) (inr (refl, refl)) refl
-    (still_own old q c (key_made (Err no_memory) ∷ []) (grows 0) (grows 1 ∙ append-nil (entries_by 1 old.database.history)))
-  where
-    idle_stage : (old : Session) (c : Course) → old.recorder.on ≡ None → (stage_of old c).on ≡ None
-    idle_stage old c idle = rw idle refl
+-- nor was its key made: no call was made, or that one, and memory was wanting for it
+opening_broken : StandAlone → (old : Session) (d e : CalledDatabase) → d.history ≡ old.database.history → d.caller ≡ 0 → old.recorder.on ≡ None → old.opened ≡ false → MayAdd (local_access d) (local_access e) (key_made (Err no_memory))
+    → (c : Course) → Interrupts (Ok Start) (stage_of old c) (with_calls (stage_of old c) e.history)
+opening_broken alone old d e same main idle shut (inl none) c =
+    interrupts_opening (stage_of old c) (with_calls (stage_of old c) e.history) [] shut (idle_stage old c idle) tt refl
+    (calls_stage (stage_of old c) old.database.history e.history [] refl refl (main_none old.database.history e.history (ap (λ (a : _). a.seen) none ∙ same)))
+opening_broken alone old d e same main idle shut (inr add) c =
+    interrupts_opening (stage_of old c) (with_calls (stage_of old c) e.history) (key_made (Err no_memory) ∷ []) shut (idle_stage old c idle) (inr (refl, refl)) refl
+    (calls_stage (stage_of old c) old.database.history e.history (key_made (Err no_memory) ∷ []) refl refl
+    (subst (λ (h : List (ℕ × DatabaseEntry)). MainCalls h e.history (key_made (Err no_memory) ∷ [])) same (main_calls d.history e.history (key_made (Err no_memory) ∷ []) (call_noted alone d e 0 (key_made (Err no_memory)) main add))))
 
-    grown : (by : ℕ) (h k : List (ℕ × DatabaseEntry)) → k ≡ h ++ (0, key_made (Err no_memory)) ∷ [] → entries_by by k ≡ entries_by by h ++ entries_by by ((0, key_made (Err no_memory)) ∷ [])
-    grown by h k is = ap (λ (x : List (ℕ × DatabaseEntry)). entries_by by x) is ∙ entries_by-append by h ((0, key_made (Err no_memory)) ∷ [])
+pub opening_halted : {T E : Type 0} (result : Result T E) → StandAlone → (old : Session) (d e : CalledDatabase) → d.history ≡ old.database.history → d.caller ≡ 0 → old.recorder.on ≡ None → old.opened ≡ false
+    → MayAdd (local_access d) (local_access e) (key_made (Err no_memory)) → OnErr result ((c : Course) → Interrupts (Ok Start) (stage_of old c) (with_calls (stage_of old c) e.history))
+opening_halted (Ok t) alone old d e same main idle shut may = tt
+opening_halted (Err why) alone old d e same main idle shut may = opening_broken alone old d e same main idle shut may
 
-pub opening_halted : {T E : Type 0} (result : Result T E) (old : Session) (q : Noted) → old.recorder.on ≡ None → old.opened ≡ false → MakesNoKey old.database.history q.history front_name
+-- a start that made no call
+interrupts_unmade : (opened : Bool) (old new : Stage) → old.opened ≡ opened → old.on ≡ None → new ≡ old → Interrupts (Ok Start) old new
+interrupts_unmade false old new shut idle same = interrupts_opening old new [] shut idle tt refl (same ∙ ap (λ (own : List DatabaseEntry). record old { own = own }) (sym (append-nil old.own)))
+interrupts_unmade true old new is_open idle same = interrupts_by true old old new (Err NoKey) [] is_open idle refl tt (same ∙ ap (λ (own : List DatabaseEntry). record old { own = own }) (sym (append-nil old.own)))
+
+pub start_unmade : {T E : Type 0} (result : Result T E) (old : Session) (q : List (ℕ × DatabaseEntry)) → q ≡ old.database.history → old.recorder.on ≡ None
     → OnErr result ((c : Course) → Interrupts (Ok Start) (stage_of old c) (with_calls (stage_of old c) q))
-opening_halted (Ok t) old q idle shut unmade = tt
-opening_halted (Err why) old q idle shut unmade = opening_broken old q idle shut unmade
+start_unmade (Ok t) old q same idle = tt
+start_unmade (Err why) old q same idle = λ c.
+    interrupts_unmade old.opened (stage_of old c) (with_calls (stage_of old c) q) refl (idle_stage old c idle) (ap (λ (h : List (ℕ × DatabaseEntry)). with_calls (stage_of old c) h) same)
 
 -- So a line is handled.
 pub memory_handled : (Way : Outset → Stage → Stage → Type 0) (Leaves : (old new : Session) (before after : Outset) → Type 0) (Fails : (old : Session) (before after : Outset) → Type 0) (old new : Session) (before after : Outset) (result : Result Reply Halt) → IsErr result → IsErrAnd result (λ (h : Halt). h ≡ NoMemory)

@@ -21,7 +21,7 @@ use Rattle.daq_session.specs.declared.session.Session.{Session}
 use Rattle.run_recorder.specs.RunRecords.{RunOn}
 use Rattle.daq_session.specs.FrontSets.{IsSentSet}
 use Rattle.daq_session.specs.RunTransitions.{CallsStand}
-use Rattle.daq_session.specs.RunCalls.{AreSets, running_set, stopped_set}
+use Rattle.odb_runinfo.specs.RunSets.{AreSets, running_set, stopped_set}
 use Rattle.run_recorder.specs.RunNames.{run_name}
 use Rattle.run_recorder.specs.RunRecords.{IsKept}
 use Rattle.run_recorder.specs.Tallies.{IsTally}

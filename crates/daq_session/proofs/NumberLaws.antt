@@ -8,7 +8,7 @@ use Rattle.odb_tree.specs.declared.refusals.OdbRefusal.{OdbRefusal}
 use Rattle.session_console.specs.declared.records.RunRecord.{RunRecord}
 use Rattle.session_console.specs.declared.records.SessionRecord.{SessionRecord}
 use Rattle.daq_session.specs.declared.endings.Ending.{Ending}
-use Rattle.daq_session.specs.RunCalls.{number_asked}
+use Rattle.odb_runinfo.specs.RunSets.{number_asked}
 use Rattle.daq_session.specs.Played.{IsPlayed}
 use Rattle.daq_session.specs.Playing.{CutBy}
 use Rattle.daq_session.specs.Sessions.{IsRecorded}

@@ -1,228 +1,184 @@
 -- The calls of each caller, as calls are noted.
 use Rattle.std.proofs.Common.{◌≡◌, ℕ, ◌≤◌, inl, inr, List, [], ◌∷◌, ◌++◌, refl, ap, sym, subst, ◌∙◌, append_assoc, arith}
-use Rattle.std.specs.Prelude.{Err}
+use Rattle.std.specs.Prelude.{IsTrue, ◌⊎◌}
 use Rattle.std.proofs.lemmas.List.{append-nil}
 use Rattle.std.proofs.lemmas.List.Elements.{All-nil, All-cons, All-append}
 use Rattle.daq_types.specs.Callers.{entries_by, entries_by-append}
 use Rattle.odb_tree.specs.declared.entry.DatabaseEntry.{DatabaseEntry}
-use Rattle.odb_tree.specs.Rows.{Rows}
-use Rattle.odb_tree.specs.Calls.{rows_after}
-use Rattle.odb_journal.specs.Noted.{Noted, KeepsCalls, Grows, by_main}
-use Rattle.odb_runinfo.specs.RunSets.{by_front as sent_by, Assignment, assigned, assignments, start_sets, started_sets, refused_sets, stopping_sets, stopped_sets, front_made, MakesNoKey}
-use Rattle.odb_runinfo.specs.RunKeys.{sent_path}
-use Rattle.daq_types.specs.declared.types.Tid.TheVariants as tid
-use Rattle.odb_tree.specs.declared.entry.DatabaseEntry.TheVariants.{Create}
-use Rattle.odb_tree.specs.declared.rows.NewKey.TheVariants.{Keys}
-use Rattle.odb_tree.specs.declared.refusals.OdbRefusal.TheVariants.{NoMemory as no_memory}
+use Rattle.odb_port.specs.DatabasePorts.{DatabaseAccess, AddsCall, AddsCalls, CalledDatabase, calls_by, local_access}
+use Rattle.odb_runinfo.specs.RunSets.{Assignment, AreSets, SetsNumbers, start_sets, refused_sets, sent_set}
+use Rattle.odb_runinfo.proofs.SetCalls.{sets_behind}
 use Rattle.session_console.specs.FrontNames.{front_name}
-use Rattle.daq_session.specs.FrontSets.{AreCallers, IsSentSet}
-use Rattle.daq_session.specs.RunCalls.{IsSet, AreSets, running_set, stopped_set}
+use Rattle.daq_session.specs.FrontSets.{AreCallers, IsSentSet, MadeSent}
 use Rattle.daq_session.specs.RunTransitions.{CallsMore, HoldsTransition}
 
+-- on one thread a caller's calls are all that is new
+abbrev pub StandAlone : Type 0
+StandAlone = (a b : DatabaseAccess) (calls : List DatabaseEntry) → IsTrue a.undisturbed → AddsCalls a b calls → b.seen ≡ a.seen ++ calls_by a.caller calls
+
+pub calls_noted : StandAlone → (d e : CalledDatabase) (caller : ℕ) (calls : List DatabaseEntry) → d.caller ≡ caller → AddsCalls (local_access d) (local_access e) calls → e.history ≡ d.history ++ calls_by caller calls
+calls_noted alone d e caller calls is adds = alone (local_access d) (local_access e) calls refl adds ∙ ap (λ (by : ℕ). d.history ++ calls_by by calls) is
+
+pub call_noted : StandAlone → (d e : CalledDatabase) (caller : ℕ) (entry : DatabaseEntry) → d.caller ≡ caller → AddsCall (local_access d) (local_access e) entry → e.history ≡ d.history ++ (caller, entry) ∷ []
+call_noted alone d e caller entry is add = calls_noted alone d e caller (entry ∷ []) is (local_access e, add, refl)
+
 -- calls were noted
-pub own_grown : (p q : Noted) (more : List (ℕ × DatabaseEntry)) (by : ℕ) → Grows p q more → entries_by by q.history ≡ entries_by by p.history ++ entries_by by more
-own_grown p q more by grows = ap (λ (h : List (ℕ × DatabaseEntry)). entries_by by h) grows.history ∙ entries_by-append by p.history more
+pub own_grown : (h k more : List (ℕ × DatabaseEntry)) (by : ℕ) → k ≡ h ++ more → entries_by by k ≡ entries_by by h ++ entries_by by more
+own_grown h k more by grown = ap (λ (es : List (ℕ × DatabaseEntry)). entries_by by es) grown ∙ entries_by-append by h more
 
-pub more_grown : (p q : Noted) (more : List (ℕ × DatabaseEntry)) → Grows p q more → AreCallers more → CallsMore p.history q.history
-more_grown p q more grows are = record { more = more; history = grows.history; callers = are }
+-- The calls of the main thread, and of the front-end, among calls that are all theirs.
 
--- in two steps
-pub own_two : (p q r s : Noted) (first second : List (ℕ × DatabaseEntry)) (by : ℕ) → KeepsCalls p q → Grows q r first → Grows r s second
-    → entries_by by s.history ≡ entries_by by p.history ++ (entries_by by first ++ entries_by by second)
-own_two p q r s first second by same one two =
-    own_grown r s second by two
-    ∙ ap (λ (es : List DatabaseEntry). es ++ entries_by by second) (own_grown q r first by one ∙ ap (λ (h : List (ℕ × DatabaseEntry)). entries_by by h ++ entries_by by first) same.history)
-    ∙ append_assoc (entries_by by p.history) (entries_by by first) (entries_by by second)
+own_main : (calls : List DatabaseEntry) → entries_by 0 (calls_by 0 calls) ≡ calls
+own_main [] = refl
+own_main (c ∷ calls) = ap (λ (more : List DatabaseEntry). c ∷ more) (own_main calls)
 
-grown_two : (p q r s : Noted) (first second : List (ℕ × DatabaseEntry)) → KeepsCalls p q → Grows q r first → Grows r s second → s.history ≡ p.history ++ (first ++ second)
-grown_two p q r s first second same one two =
-    two.history ∙ ap (λ (h : List (ℕ × DatabaseEntry)). h ++ second) (one.history ∙ ap (λ (h : List (ℕ × DatabaseEntry)). h ++ first) same.history) ∙ append_assoc p.history first second
-
-both_called : (first second : List (ℕ × DatabaseEntry)) → AreCallers first → AreCallers second → AreCallers (first ++ second)
-both_called first second are also = All-append (λ (e : ℕ × DatabaseEntry). e.0 ≤ 1) first second are also
-
-pub keeps_itself : (p : Noted) → KeepsCalls p p
-keeps_itself p = record { start = refl; rows = refl; history = refl; room = omega arith }
+none_main : (calls : List DatabaseEntry) → entries_by 1 (calls_by 0 calls) ≡ []
+none_main [] = refl
+none_main (c ∷ calls) = none_main calls
 
 -- The callers.
 
 pub none_called : AreCallers []
 none_called = All-nil (λ (e : ℕ × DatabaseEntry). e.0 ≤ 1)
 
--- each of these is the main thread's or the front-end's
-abbrev ByTwo : List (ℕ × DatabaseEntry) → Type 0
-ByTwo [] = Unit {0}
-ByTwo (e ∷ calls) = (e.0 ≤ 1) × ByTwo calls
-
-two_called : (calls : List (ℕ × DatabaseEntry)) → ByTwo calls → AreCallers calls
-two_called [] by = none_called
-two_called (e ∷ calls) by = All-cons (λ (x : ℕ × DatabaseEntry). x.0 ≤ 1) e calls by.0 (two_called calls by.1)
-
-pub main_called : (calls : List DatabaseEntry) → AreCallers (by_main calls)
+main_called : (calls : List DatabaseEntry) → AreCallers (calls_by 0 calls)
 main_called [] = none_called
-main_called (e ∷ calls) = All-cons (λ (x : ℕ × DatabaseEntry). x.0 ≤ 1) (0, e) (by_main calls) (omega arith) (main_called calls)
+main_called (e ∷ calls) = All-cons (λ (x : ℕ × DatabaseEntry). x.0 ≤ 1) (0, e) (calls_by 0 calls) (omega arith) (main_called calls)
 
-pub start_called : (s : Rows) (run time : ℕ) → AreCallers (assignments s (start_sets run time))
-start_called s run time = two_called (assignments s (start_sets run time)) (omega arith, (omega arith, (omega arith, (omega arith, tt))))
+one_called : (caller : ℕ) (entry : DatabaseEntry) → caller ≤ 1 → AreCallers ((caller, entry) ∷ [])
+one_called caller entry is = All-cons (λ (x : ℕ × DatabaseEntry). x.0 ≤ 1) (caller, entry) [] is none_called
 
-pub started_called : (s : Rows) (front : List ℕ) → AreCallers (assignments s (started_sets front))
-started_called s front = two_called (assignments s (started_sets front)) (omega arith, (omega arith, tt))
+both_called : (first second : List (ℕ × DatabaseEntry)) → AreCallers first → AreCallers second → AreCallers (first ++ second)
+both_called first second are also = All-append (λ (e : ℕ × DatabaseEntry). e.0 ≤ 1) first second are also
 
-pub refused_called : (s : Rows) (run : ℕ) → AreCallers (assignments s (refused_sets run))
-refused_called s run = two_called (assignments s (refused_sets run)) (omega arith, tt)
+-- The main thread made these calls, and nobody made any other.
+pub record MainCalls (h k : List (ℕ × DatabaseEntry)) (calls : List DatabaseEntry) : Type 0 where
+  pub own : entries_by 0 k ≡ entries_by 0 h ++ calls
+  pub front : entries_by 1 k ≡ entries_by 1 h
+  pub more : CallsMore h k
 
-pub stopping_called : (s : Rows) (time : ℕ) → AreCallers (assignments s (stopping_sets time))
-stopping_called s time = two_called (assignments s (stopping_sets time)) (omega arith, (omega arith, tt))
-
-pub stopped_called : (s : Rows) (front : List ℕ) (sent : ℕ) → AreCallers (assignments s (stopped_sets front sent))
-stopped_called s front sent = two_called (assignments s (stopped_sets front sent)) (omega arith, (omega arith, tt))
-
-pub made_called : (s : Rows) (front : List ℕ) → AreCallers (front_made s front)
-made_called s front = two_called (front_made s front) (omega arith, tt)
-
--- the front-end's key was not made
-pub unmade_more : (old new : List (ℕ × DatabaseEntry)) (front : List ℕ) → MakesNoKey old new front → CallsMore old new
-unmade_more old new front (inl same) = record { more = []; history = same ∙ sym (append-nil old); callers = none_called }
-unmade_more old new front (inr one) = record { more = _; history = one; callers = two_called ((0, Create (sent_path front) (Keys tid.UInt64 1) (Err no_memory)) ∷ []) (omega arith, tt) }
-
--- The main thread's sets.
-
-pub start_made : (s r : Rows) (run time : ℕ) → AreSets (start_sets run time ++ running_set) (entries_by 0 (assignments s (start_sets run time)) ++ entries_by 0 (assignments r (started_sets front_name)))
-start_made s r run time = (record { reply = _; is = refl }, (record { reply = _; is = refl }, (record { reply = _; is = refl }, (record { reply = _; is = refl }, (record { reply = _; is = refl }, tt)))))
-
-pub refused_made : (s r : Rows) (run time : ℕ) → AreSets (start_sets run time ++ refused_sets run) (entries_by 0 (assignments s (start_sets run time)) ++ entries_by 0 (assignments r (refused_sets run)))
-refused_made s r run time = (record { reply = _; is = refl }, (record { reply = _; is = refl }, (record { reply = _; is = refl }, (record { reply = _; is = refl }, (record { reply = _; is = refl }, tt)))))
-
-pub stop_made : (s r : Rows) (time sent : ℕ) → AreSets (stopping_sets time ++ stopped_set) (entries_by 0 (assignments s (stopping_sets time)) ++ entries_by 0 (assignments r (stopped_sets front_name sent)))
-stop_made s r time sent = (record { reply = _; is = refl }, (record { reply = _; is = refl }, (record { reply = _; is = refl }, tt)))
-
--- The transitions: the main thread's sets, the front-end's turn, and the main thread's sets again.
-
-start_transition : (s r : Rows) (run time : ℕ) → HoldsTransition (assignments s (start_sets run time) ++ assignments r (started_sets front_name)) (start_sets run time) (0 ∷ []) running_set
-start_transition s r run time = record {
-  before = assignments s (start_sets run time);
-  turn = (1, assigned r (sent_by front_name 0)) ∷ [];
-  after = assignments (rows_after r (assigned r (sent_by front_name 0))) running_set;
-  calls_are = refl;
-  earlier = [];
-  first_sets = entries_by 0 (assignments s (start_sets run time));
-  are_first = (record { reply = _; is = refl }, (record { reply = _; is = refl }, (record { reply = _; is = refl }, (record { reply = _; is = refl }, tt))));
-  begins = refl;
-  waits = refl;
-  sent = (record { reply = _; is = refl }, tt);
-  last_sets = entries_by 0 (assignments (rows_after r (assigned r (sent_by front_name 0))) running_set);
-  later = [];
-  are_last = (record { reply = _; is = refl }, tt);
-  ends = refl;
+pub main_calls : (h k : List (ℕ × DatabaseEntry)) (calls : List DatabaseEntry) → k ≡ h ++ calls_by 0 calls → MainCalls h k calls
+main_calls h k calls grown = record {
+  own = own_grown h k (calls_by 0 calls) 0 grown ∙ ap (λ (es : List DatabaseEntry). entries_by 0 h ++ es) (own_main calls);
+  front = own_grown h k (calls_by 0 calls) 1 grown ∙ ap (λ (es : List DatabaseEntry). entries_by 1 h ++ es) (none_main calls) ∙ append-nil (entries_by 1 h);
+  more = record { more = calls_by 0 calls; history = grown; callers = main_called calls };
 }
 
-refused_transition : (s r : Rows) (run time : ℕ) → HoldsTransition (assignments s (start_sets run time) ++ assignments r (refused_sets run)) (start_sets run time) [] (refused_sets run)
-refused_transition s r run time = record {
-  before = assignments s (start_sets run time);
-  turn = [];
-  after = assignments r (refused_sets run);
-  calls_are = refl;
-  earlier = [];
-  first_sets = entries_by 0 (assignments s (start_sets run time));
-  are_first = (record { reply = _; is = refl }, (record { reply = _; is = refl }, (record { reply = _; is = refl }, (record { reply = _; is = refl }, tt))));
-  begins = refl;
-  waits = refl;
-  sent = tt;
-  last_sets = entries_by 0 (assignments r (refused_sets run));
-  later = [];
-  are_last = (record { reply = _; is = refl }, tt);
-  ends = refl;
-}
+pub main_none : (h k : List (ℕ × DatabaseEntry)) → k ≡ h → MainCalls h k []
+main_none h k same = main_calls h k [] (same ∙ sym (append-nil h))
 
-stop_transition : (s r : Rows) (time sent : ℕ) → HoldsTransition (assignments s (stopping_sets time) ++ assignments r (stopped_sets front_name sent)) (stopping_sets time) (sent ∷ []) stopped_set
-stop_transition s r time sent = record {
-  before = assignments s (stopping_sets time);
-  turn = (1, assigned r (sent_by front_name sent)) ∷ [];
-  after = assignments (rows_after r (assigned r (sent_by front_name sent))) stopped_set;
-  calls_are = refl;
-  earlier = [];
-  first_sets = entries_by 0 (assignments s (stopping_sets time));
-  are_first = (record { reply = _; is = refl }, (record { reply = _; is = refl }, tt));
-  begins = refl;
-  waits = refl;
-  sent = (record { reply = _; is = refl }, tt);
-  last_sets = entries_by 0 (assignments (rows_after r (assigned r (sent_by front_name sent))) stopped_set);
-  later = [];
-  are_last = (record { reply = _; is = refl }, tt);
-  ends = refl;
-}
+pub main_adds : StandAlone → (d e : CalledDatabase) (calls : List DatabaseEntry) → d.caller ≡ 0 → AddsCalls (local_access d) (local_access e) calls → MainCalls d.history e.history calls
+main_adds alone d e calls is adds = main_calls d.history e.history calls (calls_noted alone d e 0 calls is adds)
 
--- The calls of a start that came about, of one that was refused, and of a stop.
+-- The main thread set these numbers.
+pub record MadeSets (h k : List (ℕ × DatabaseEntry)) (sets : List Assignment) : Type 0 where
+  pub calls : List DatabaseEntry
+  pub are_sets : AreSets sets calls
+  pub grown : k ≡ h ++ calls_by 0 calls
 
-pub record BegunCalls (p s : Noted) (run time : ℕ) : Type 0 where
+pub made_sets : StandAlone → (d e : CalledDatabase) (sets : List Assignment) → d.caller ≡ 0 → SetsNumbers (local_access d) (local_access e) sets → MadeSets d.history e.history sets
+made_sets alone d e sets is set = record { calls = set.calls; are_sets = set.are_sets; grown = calls_noted alone d e 0 set.calls is set.made }
+
+-- behind no call
+pub sets_kept : (p between q : List (ℕ × DatabaseEntry)) (sets : List Assignment) → between ≡ p → MadeSets between q sets → MadeSets p q sets
+sets_kept p between q sets same made = subst (λ (h : List (ℕ × DatabaseEntry)). MadeSets h q sets) same made
+
+-- the front-end set its number
+sent_of : (number : ℕ) (h k : List (ℕ × DatabaseEntry)) (calls : List DatabaseEntry) → AreSets (sent_set front_name number ∷ []) calls → k ≡ h ++ calls_by 1 calls → MadeSent h k number
+sent_of number h k [] are grown = absurd are
+sent_of number h k (entry ∷ []) are grown = record { entry = entry; sent = record { reply = are.0.reply; is = are.0.is }; grown = grown }
+sent_of number h k (entry ∷ other ∷ calls) are grown = absurd are.1
+
+pub made_sent : StandAlone → (d e : CalledDatabase) (number : ℕ) → d.caller ≡ 1 → SetsNumbers (local_access d) (local_access e) (sent_set front_name number ∷ []) → MadeSent d.history e.history number
+made_sent alone d e number is set = sent_of number d.history e.history set.calls set.are_sets (calls_noted alone d e 1 set.calls is set.made)
+
+-- A transition: the main thread's sets, the front-end's turn, and the main thread's sets again.
+
+grown_two : (p q r : List (ℕ × DatabaseEntry)) (first second : List (ℕ × DatabaseEntry)) → q ≡ p ++ first → r ≡ q ++ second → r ≡ p ++ (first ++ second)
+grown_two p q r first second one two = two ∙ ap (λ (h : List (ℕ × DatabaseEntry)). h ++ second) one ∙ append_assoc p first second
+
+-- with the front-end's number set in its turn
+pub record TurnCalls (p s : List (ℕ × DatabaseEntry)) (first : List Assignment) (number : ℕ) (last : List Assignment) : Type 0 where
   pub sets : List DatabaseEntry
-  pub are_sets : AreSets (start_sets run time ++ running_set) sets
+  pub are_sets : AreSets (first ++ last) sets
   pub sent : DatabaseEntry
-  pub sent_none : IsSentSet 0 sent
-  pub own : entries_by 0 s.history ≡ entries_by 0 p.history ++ sets
-  pub front : entries_by 1 s.history ≡ entries_by 1 p.history ++ sent ∷ []
-  pub more : CallsMore p.history s.history
-  pub transition : HoldsTransition more.more (start_sets run time) (0 ∷ []) running_set
+  pub sent_is : IsSentSet number sent
+  pub own : entries_by 0 s ≡ entries_by 0 p ++ sets
+  pub front : entries_by 1 s ≡ entries_by 1 p ++ sent ∷ []
+  pub more : CallsMore p s
+  pub transition : HoldsTransition more.more first (number ∷ []) last
 
-pub begun_calls : (p q r s : Noted) (run time : ℕ) (front : List ℕ) → KeepsCalls p q → Grows q r (assignments q.rows (start_sets run time)) → Grows r s (assignments r.rows (started_sets front)) → front ≡ front_name → BegunCalls p s run time
-begun_calls p q r s run time front same one two is_front =
-    let first : List (ℕ × DatabaseEntry) = assignments q.rows (start_sets run time) in
-    let second : List (ℕ × DatabaseEntry) = assignments r.rows (started_sets front_name) in
-    let then : Grows r s second = subst (λ (name : List ℕ). Grows r s (assignments r.rows (started_sets name))) is_front two in
+pub turn_calls : (p q r s : List (ℕ × DatabaseEntry)) (first : List Assignment) (number : ℕ) (last : List Assignment) → MadeSets p q first → MadeSent q r number → MadeSets r s last → TurnCalls p s first number last
+turn_calls p q r s first number last begins turn ends =
+    let before : List (ℕ × DatabaseEntry) = calls_by 0 begins.calls in
+    let sent : List (ℕ × DatabaseEntry) = (1, turn.entry) ∷ [] in
+    let after : List (ℕ × DatabaseEntry) = calls_by 0 ends.calls in
+    let grown : s ≡ p ++ (before ++ (sent ++ after)) = grown_two p q s before (sent ++ after) begins.grown (grown_two q r s sent after turn.grown ends.grown) in
     record {
-      sets = entries_by 0 first ++ entries_by 0 second;
-      are_sets = start_made q.rows r.rows run time;
-      sent = assigned r.rows (sent_by front_name 0);
-      sent_none = record { reply = _; is = refl };
-      own = own_two p q r s first second 0 same one then;
-      front = own_two p q r s first second 1 same one then;
-      more = record { more = first ++ second; history = grown_two p q r s first second same one then; callers = both_called first second (start_called q.rows run time) (started_called r.rows front_name) };
-      transition = start_transition q.rows r.rows run time;
+      sets = begins.calls ++ ends.calls;
+      are_sets = sets_behind first last begins.calls ends.calls begins.are_sets ends.are_sets;
+      sent = turn.entry;
+      sent_is = turn.sent;
+      own = own_grown p s (before ++ (sent ++ after)) 0 grown
+          ∙ ap (λ (es : List DatabaseEntry). entries_by 0 p ++ es) (entries_by-append 0 before (sent ++ after) ∙ ap (λ (es : List DatabaseEntry). es ++ entries_by 0 after) (own_main begins.calls) ∙ ap (λ (es : List DatabaseEntry). begins.calls ++ es) (own_main ends.calls));
+      front = own_grown p s (before ++ (sent ++ after)) 1 grown
+          ∙ ap (λ (es : List DatabaseEntry). entries_by 1 p ++ es) (entries_by-append 1 before (sent ++ after) ∙ ap (λ (es : List DatabaseEntry). es ++ turn.entry ∷ entries_by 1 after) (none_main begins.calls) ∙ ap (λ (es : List DatabaseEntry). turn.entry ∷ es) (none_main ends.calls));
+      more = record { more = before ++ (sent ++ after); history = grown; callers = both_called before (sent ++ after) (main_called begins.calls) (both_called sent after (one_called 1 turn.entry (omega arith)) (main_called ends.calls)) };
+      transition = record {
+        before = before;
+        turn = sent;
+        after = after;
+        calls_are = refl;
+        earlier = [];
+        first_sets = begins.calls;
+        are_first = begins.are_sets;
+        begins = own_main begins.calls;
+        waits = refl;
+        sent = (turn.sent, tt);
+        last_sets = ends.calls;
+        later = [];
+        are_last = ends.are_sets;
+        ends = own_main ends.calls ∙ sym (append-nil ends.calls);
+      };
     }
 
-pub record RefusedCalls (p s : Noted) (run time : ℕ) : Type 0 where
+-- without
+pub record RefusedCalls (p s : List (ℕ × DatabaseEntry)) (run time : ℕ) : Type 0 where
   pub sets : List DatabaseEntry
   pub are_sets : AreSets (start_sets run time ++ refused_sets run) sets
-  pub own : entries_by 0 s.history ≡ entries_by 0 p.history ++ sets
-  pub front : entries_by 1 s.history ≡ entries_by 1 p.history
-  pub more : CallsMore p.history s.history
+  pub own : entries_by 0 s ≡ entries_by 0 p ++ sets
+  pub front : entries_by 1 s ≡ entries_by 1 p
+  pub more : CallsMore p s
   pub transition : HoldsTransition more.more (start_sets run time) [] (refused_sets run)
 
-pub refused_calls : (p q r s : Noted) (run time : ℕ) → KeepsCalls p q → Grows q r (assignments q.rows (start_sets run time)) → Grows r s (assignments r.rows (refused_sets run)) → RefusedCalls p s run time
-refused_calls p q r s run time same one two =
-    let first : List (ℕ × DatabaseEntry) = assignments q.rows (start_sets run time) in
-    let second : List (ℕ × DatabaseEntry) = assignments r.rows (refused_sets run) in
+pub refused_calls : (p q s : List (ℕ × DatabaseEntry)) (run time : ℕ) → MadeSets p q (start_sets run time) → MadeSets q s (refused_sets run) → RefusedCalls p s run time
+refused_calls p q s run time begins ends =
+    let before : List (ℕ × DatabaseEntry) = calls_by 0 begins.calls in
+    let after : List (ℕ × DatabaseEntry) = calls_by 0 ends.calls in
+    let grown : s ≡ p ++ (before ++ after) = grown_two p q s before after begins.grown ends.grown in
     record {
-      sets = entries_by 0 first ++ entries_by 0 second;
-      are_sets = refused_made q.rows r.rows run time;
-      own = own_two p q r s first second 0 same one two;
-      front = own_two p q r s first second 1 same one two ∙ append-nil (entries_by 1 p.history);
-      more = record { more = first ++ second; history = grown_two p q r s first second same one two; callers = both_called first second (start_called q.rows run time) (refused_called r.rows run) };
-      transition = refused_transition q.rows r.rows run time;
-    }
-
-pub record EndedCalls (p s : Noted) (time sent : ℕ) : Type 0 where
-  pub sets : List DatabaseEntry
-  pub are_sets : AreSets (stopping_sets time ++ stopped_set) sets
-  pub sent_call : DatabaseEntry
-  pub sent_all : IsSentSet sent sent_call
-  pub own : entries_by 0 s.history ≡ entries_by 0 p.history ++ sets
-  pub front : entries_by 1 s.history ≡ entries_by 1 p.history ++ sent_call ∷ []
-  pub more : CallsMore p.history s.history
-  pub transition : HoldsTransition more.more (stopping_sets time) (sent ∷ []) stopped_set
-
-pub ended_calls : (p r s : Noted) (time sent : ℕ) (front : List ℕ) → Grows p r (assignments p.rows (stopping_sets time)) → Grows r s (assignments r.rows (stopped_sets front sent)) → front ≡ front_name → EndedCalls p s time sent
-ended_calls p r s time sent front one two is_front =
-    let first : List (ℕ × DatabaseEntry) = assignments p.rows (stopping_sets time) in
-    let second : List (ℕ × DatabaseEntry) = assignments r.rows (stopped_sets front_name sent) in
-    let then : Grows r s second = subst (λ (name : List ℕ). Grows r s (assignments r.rows (stopped_sets name sent))) is_front two in
-    record {
-      sets = entries_by 0 first ++ entries_by 0 second;
-      are_sets = stop_made p.rows r.rows time sent;
-      sent_call = assigned r.rows (sent_by front_name sent);
-      sent_all = record { reply = _; is = refl };
-      own = own_two p p r s first second 0 (keeps_itself p) one then;
-      front = own_two p p r s first second 1 (keeps_itself p) one then;
-      more = record { more = first ++ second; history = grown_two p p r s first second (keeps_itself p) one then; callers = both_called first second (stopping_called p.rows time) (stopped_called r.rows front_name sent) };
-      transition = stop_transition p.rows r.rows time sent;
+      sets = begins.calls ++ ends.calls;
+      are_sets = sets_behind (start_sets run time) (refused_sets run) begins.calls ends.calls begins.are_sets ends.are_sets;
+      own = own_grown p s (before ++ after) 0 grown
+          ∙ ap (λ (es : List DatabaseEntry). entries_by 0 p ++ es) (entries_by-append 0 before after ∙ ap (λ (es : List DatabaseEntry). es ++ entries_by 0 after) (own_main begins.calls) ∙ ap (λ (es : List DatabaseEntry). begins.calls ++ es) (own_main ends.calls));
+      front = own_grown p s (before ++ after) 1 grown
+          ∙ ap (λ (es : List DatabaseEntry). entries_by 1 p ++ es) (entries_by-append 1 before after ∙ ap (λ (es : List DatabaseEntry). es ++ entries_by 1 after) (none_main begins.calls) ∙ none_main ends.calls)
+          ∙ append-nil (entries_by 1 p);
+      more = record { more = before ++ after; history = grown; callers = both_called before after (main_called begins.calls) (main_called ends.calls) };
+      transition = record {
+        before = before;
+        turn = [];
+        after = after;
+        calls_are = refl;
+        earlier = [];
+        first_sets = begins.calls;
+        are_first = begins.are_sets;
+        begins = own_main begins.calls;
+        waits = refl;
+        sent = tt;
+        last_sets = ends.calls;
+        later = [];
+        are_last = ends.are_sets;
+        ends = own_main ends.calls ∙ sym (append-nil ends.calls);
+      };
     }

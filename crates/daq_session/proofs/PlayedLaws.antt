@@ -16,7 +16,8 @@ use Rattle.odb_script.specs.declared.forms.Command.TheVariants.{Nothing, Events,
 use Rattle.odb_script.specs.declared.refusals.LineRefusal.{LineRefusal}
 use Rattle.odb_script.specs.declared.refusals.LineRefusal.TheVariants.{BadCommand as no_command}
 use Rattle.odb_script.specs.Forms.{command_of}
-use Rattle.odb_commands.specs.CommandCalls.{IsSettled, Performs, IsCutShort}
+use Rattle.odb_port.specs.DatabasePorts.{IsSettled, IsCutShort}
+use Rattle.odb_commands.specs.CommandCalls.{Performs}
 use Rattle.odb_commands.specs.CommandCallLaws.{Spares, performs_spares}
 use Rattle.daq_session.specs.declared.endings.Ending.{Ending}
 use Rattle.daq_session.specs.declared.endings.Ending.TheVariants.{End, TooLong, SourceFault, Halted}
@@ -26,7 +27,8 @@ use Rattle.session_console.specs.declared.replies.Reply.TheVariants.{Silent, Bad
 use Rattle.daq_types.specs.declared.runs.RunState.TheVariants.{Stopped, Running}
 use Rattle.daq_session.specs.Playing.{CutBy, StopsAt}
 use Rattle.daq_session.specs.Played.{IsPlayed}
-use Rattle.daq_session.specs.RunCalls.{AreSets, key_made, number_asked}
+use Rattle.odb_runinfo.specs.RunSets.{AreSets, number_asked}
+use Rattle.daq_session.specs.RunCalls.{key_made}
 use Rattle.daq_session.specs.Stages.{Outset, Stage, opening, answered, called, OpensSession, Begins, Refuses, EndsRun, StartsRun, StartsFrom, DoesStart, DoesStop, DoesCommand, DoesByLine, Plays, CallsStart, CallsLine, opened_by, Interrupts}
 
 -- what keeps a fact: a reply, another quota, calls of the main thread that remove nothing of `/Runinfo`, a run that begins

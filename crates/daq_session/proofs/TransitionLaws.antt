@@ -11,7 +11,7 @@ use Rattle.odb_runinfo.specs.RunSets.{Assignment, start_sets, refused_sets, stop
 use Rattle.session_console.specs.declared.records.RunRecord.{RunRecord}
 use Rattle.session_console.specs.declared.records.FrontTally.{FrontTally}
 use Rattle.daq_session.specs.FrontSets.{AreCallers}
-use Rattle.daq_session.specs.RunCalls.{running_set, stopped_set}
+use Rattle.odb_runinfo.specs.RunSets.{running_set, stopped_set}
 use Rattle.daq_session.specs.RunTransitions.{HoldsTransition, HoldsRun, HoldsRuns, HoldsSoFar, CallsStand, CallsMore}
 use Rattle.daq_session.specs.Stages.{Outset}
 use Rattle.daq_session.specs.declared.session.Session.{Session}

@@ -1,5 +1,5 @@
 -- What the front-end's pass does to the online database.
-use Rattle.std.specs.Prelude.{◌≡◌, ℕ, ◌≤◌, List, [], ◌∷◌, Result, All, ⊤}
+use Rattle.std.specs.Prelude.{◌≡◌, ℕ, ◌≤◌, List, [], ◌∷◌, ◌++◌, Result, All, ⊤}
 use Rattle.std.specs.List.{flat_map}
 use Rattle.daq_types.specs.Callers.{entries_by}
 use Rattle.daq_types.specs.declared.runs.StartOutcome.{StartOutcome}
@@ -17,6 +17,12 @@ use Rattle.session_console.specs.FrontNames.{front_name}
 pub record IsSentSet (number : ℕ) (entry : DatabaseEntry) : Type 0 where
   pub reply : Result ℕ OdbRefusal
   pub is : entry ≡ Set (sent_path front_name) 0 (UInt64 number) reply
+
+-- the front-end, caller 1, made one such call more, and nobody any other
+pub record MadeSent (old new : List (ℕ × DatabaseEntry)) (number : ℕ) : Type 0 where
+  pub entry : DatabaseEntry
+  pub sent : IsSentSet number entry
+  pub grown : new ≡ old ++ (1, entry) ∷ []
 
 -- one such call for each of these numbers, in order, and no other call
 abbrev pub AreSentSets : List ℕ → List DatabaseEntry → Type 0

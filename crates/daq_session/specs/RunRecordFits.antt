@@ -10,7 +10,7 @@ use Rattle.odb_runinfo.specs.RunSets.{Assignment, have_of, next_run, start_sets,
 use Rattle.session_console.specs.declared.records.RunRecord.{RunRecord}
 use Rattle.daq_types.specs.declared.runs.StartOutcome.{StartOutcome}
 use Rattle.daq_types.specs.declared.runs.StartOutcome.TheVariants.{Completed, Refused}
-use Rattle.daq_session.specs.RunCalls.{AreSets, number_asked, running_set, stopped_set}
+use Rattle.odb_runinfo.specs.RunSets.{AreSets, number_asked, running_set, stopped_set}
 
 -- the reply of a `get` is a value with this number in item 0
 pub record GivesNumber (reply : Result HeldValue OdbRefusal) (number : ℤ) : Type 0 where

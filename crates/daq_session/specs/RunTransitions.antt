@@ -9,7 +9,7 @@ use Rattle.odb_tree.specs.declared.entry.DatabaseEntry.{DatabaseEntry}
 use Rattle.odb_runinfo.specs.RunSets.{Assignment, start_sets, refused_sets, stopping_sets}
 use Rattle.session_console.specs.declared.records.RunRecord.{RunRecord}
 use Rattle.daq_session.specs.FrontSets.{AreCallers, AreSentSets}
-use Rattle.daq_session.specs.RunCalls.{AreSets, running_set, stopped_set}
+use Rattle.odb_runinfo.specs.RunSets.{AreSets, running_set, stopped_set}
 
 -- A transition of a run stands in these calls: the main thread sets what begins it; then the front-end has its turn, in
 -- which it sets its number to these, and the main thread calls nothing; and then the main thread sets what ends it.

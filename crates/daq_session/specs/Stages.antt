@@ -18,7 +18,8 @@ use Rattle.odb_script.specs.declared.forms.Command.TheVariants.{Nothing, Events,
 use Rattle.odb_script.specs.declared.refusals.LineRefusal.{LineRefusal}
 use Rattle.odb_script.specs.declared.refusals.LineRefusal.TheVariants.{BadCommand as no_command}
 use Rattle.odb_commands.specs.declared.replies.CommandReply.{CommandReply}
-use Rattle.odb_commands.specs.CommandCalls.{IsSettled, Performs, IsCutShort}
+use Rattle.odb_port.specs.DatabasePorts.{IsSettled, IsCutShort}
+use Rattle.odb_commands.specs.CommandCalls.{Performs}
 use Rattle.session_console.specs.declared.records.RunRecord.{RunRecord}
 use Rattle.session_console.specs.declared.records.FrontTally.{FrontTally}
 use Rattle.session_console.specs.declared.records.FileRecord.{FileRecord}
@@ -27,7 +28,8 @@ use Rattle.session_console.specs.declared.replies.Reply.{Reply}
 use Rattle.session_console.specs.declared.replies.Reply.TheVariants.{Silent, BadCommand, WrongState, RunNumber, StartRefused, Started, Stopped as run_stopped, Database}
 use Rattle.run_recorder.specs.Tallies.{IsTally}
 use Rattle.daq_session.specs.FrontSets.{AreCallers, IsSentSet}
-use Rattle.daq_session.specs.RunCalls.{AreSets, key_made, number_asked, running_set, stopped_set, opens_session}
+use Rattle.odb_runinfo.specs.RunSets.{AreSets, number_asked, running_set, stopped_set}
+use Rattle.daq_session.specs.RunCalls.{key_made, opens_session}
 use Rattle.run_recorder.specs.RunNames.{run_name}
 use Rattle.run_recorder.specs.RunRecords.{Avoids, refused_record, file_record, completed_record}
 

@@ -15,6 +15,7 @@ use crate::halts::Halt;
 use daq_io::{Clock, Files, Sink};
 use session_console::Refusals;
 use std::alloc::Global;
+use std::sync::Wait;
 
 impl Ending {
     /// Whether anything more may be printed.
@@ -78,7 +79,8 @@ impl Ending {
 
 /// Stops the run that is on, if one is, behind a script whose lines ended so, and writes what that prints, unless the sink
 /// failed or there was no memory. Answers what failed in that.
-pub fn close_run<K: Sink, F: Files, C: Clock>(
+pub fn close_run<R: Wait, K: Sink, F: Files, C: Clock>(
+    rt: &R,
     alloc: Global,
     desk: &mut Desk,
     ending: Ending,
@@ -93,7 +95,8 @@ pub fn close_run<K: Sink, F: Files, C: Clock>(
         (K.written out.old) (K.written out.new) desk.old.refusals }
     ensures broken { result ≡ Some Halt.FileFault → FailsLine (Ok Stop) desk.old.session
         (outset_of (F.seen files.old) (F.clashes files.old) (C.tells clock.old) (C.ahead clock.old))
-        (outset_of (F.seen files.new) (F.clashes files.new) (C.tells clock.new) (C.ahead clock.new)) }
+        (outset_of (F.seen files.new) (F.clashes files.new)
+        (C.tells clock.new) (C.ahead clock.new)) }
     ensures legal { IsLegal session_rows desk.old.session.database.history }
     ensures unprinted { result ≡ Some Halt.FileFault → K.written out.new ≡ K.written out.old }
     ensures refusals { desk.new.refusals ≡ desk.old.refusals }
@@ -105,7 +108,7 @@ pub fn close_run<K: Sink, F: Files, C: Clock>(
     if !desk.session.recorder.is_on() {
         return None;
     }
-    match desk.session.stop(alloc, files, clock) {
+    match desk.session.stop(rt, alloc, files, clock) {
         Err(_) => Some(Halt::FileFault),
         Ok(reply) => {
             if !ending.prints() {

@@ -14,6 +14,7 @@ use daq_types::NoMemory;
 use odb_script::{Command, LineRefusal};
 use session_console::Refusals;
 use std::alloc::Global;
+use std::sync::Wait;
 
 /// Whether a script goes on behind a line.
 #[derive(Clone, Copy, Debug, PartialEq, Eq)]
@@ -60,8 +61,9 @@ impl Desk {
     }
 
     /// Answers the script's line of this number and writes what it prints.
-    pub fn handle<K: Sink, F: Files, C: Clock>(
+    pub fn handle<R: Wait, K: Sink, F: Files, C: Clock>(
         &mut self,
+        rt: &R,
         alloc: Global,
         number: u64,
         line: &[u8],
@@ -73,8 +75,10 @@ impl Desk {
         requires counted { self.old.refusals.count + 1 < 2 ^ 64 }
         requires ready { IsReady (F.seen files.old) self.old.session.recorder.on }
         ensures did { DoesLine line.now number self.old.session self.new.session
-            (outset_of (F.seen files.old) (F.clashes files.old) (C.tells clock.old) (C.ahead clock.old))
-            (outset_of (F.seen files.new) (F.clashes files.new) (C.tells clock.new) (C.ahead clock.new)) (K.written out.old)
+            (outset_of (F.seen files.old) (F.clashes files.old)
+            (C.tells clock.old) (C.ahead clock.old))
+            (outset_of (F.seen files.new) (F.clashes files.new)
+            (C.tells clock.new) (C.ahead clock.new)) (K.written out.old)
             (K.written out.new) self.old.refusals self.new.refusals result }
         ensures starts { self.new.session.recorder.starts ≤ self.old.session.recorder.starts + 1 }
         ensures empty { line.now ≡ [] → self.new.session.recorder.starts
@@ -86,7 +90,7 @@ impl Desk {
         self.session.database.tells_legal();
         let command = Command::read(line);
         let going = going_behind(&command);
-        let reply = self.session.answer(alloc, command, files, clock)?;
+        let reply = self.session.answer(rt, alloc, command, files, clock)?;
         self.refusals.note(number, &reply);
         print_reply(&mut self.text, number, &reply, out)?;
         Ok(going)

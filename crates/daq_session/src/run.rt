@@ -35,7 +35,7 @@ fn record_of(session: Session) -> Option<SessionRecord>
     ensures held { IfSome result (λ s. All (IsHeldRun (history_in s.buffers)) s.runs) }
 {
     let opened = session.opened;
-    let (_, database) = session.database.into_parts();
+    let (_, database) = session.database.into_database().into_parts();
     let (runs, buffers) = session.recorder.into_records();
     if !opened {
         return None;
@@ -55,7 +55,8 @@ fn broke_files(closing: Option<Halt>) -> bool
 }
 
 /// Reads a script and runs the session that it commands. Answers why that ended, and the session's record.
-fn run<S: Source, K: Sink, F: Files, E, C: Clock, P>(
+fn run<R: Wait, S: Source, K: Sink, F: Files, E, C: Clock, P>(
+    rt: &R,
     alloc: Global,
     outside: &mut Outside<S, K, F, E, C, P>,
 ) -> (ScriptEnd, Option<SessionRecord>)
@@ -65,7 +66,8 @@ fn run<S: Source, K: Sink, F: Files, E, C: Clock, P>(
           source_faults = S.faults outside.old.src;
           written = K.written outside.old.out;
           sink_faults = K.faults outside.old.out;
-          outset = outset_of (F.seen outside.old.run_files) (F.clashes outside.old.run_files) (C.tells outside.old.clock) (C.ahead outside.old.clock);
+          outset = outset_of (F.seen outside.old.run_files) (F.clashes outside.old.run_files)
+              (C.tells outside.old.clock) (C.ahead outside.old.clock);
           file_faults = F.faults outside.old.run_files;
           first_fault = F.first outside.old.run_files;
         })
@@ -74,7 +76,8 @@ fn run<S: Source, K: Sink, F: Files, E, C: Clock, P>(
           source_faults = S.faults outside.new.src;
           written = K.written outside.new.out;
           sink_faults = K.faults outside.new.out;
-          outset = outset_of (F.seen outside.new.run_files) (F.clashes outside.new.run_files) (C.tells outside.new.clock) (C.ahead outside.new.clock);
+          outset = outset_of (F.seen outside.new.run_files) (F.clashes outside.new.run_files)
+              (C.tells outside.new.clock) (C.ahead outside.new.clock);
           file_faults = F.faults outside.new.run_files;
           first_fault = F.first outside.new.run_files;
         })
@@ -88,11 +91,12 @@ fn run<S: Source, K: Sink, F: Files, E, C: Clock, P>(
     let Ok(mut reader) = LineReader::new(alloc) else {
         return (ScriptEnd::NoMemory, None);
     };
-    let ending = play(alloc, &mut desk, &mut reader, outside);
+    let ending = play(rt, alloc, &mut desk, &mut reader, outside);
     if ending.is_file_fault() {
         return (end_of(ending, &desk.refusals, &outside.run_files), None);
     }
     let closing = close_run(
+        rt,
         alloc,
         &mut desk,
         ending,
@@ -120,7 +124,7 @@ pub fn run_script<
     P: Pick,
     G: Gate + Sync,
 >(
-    _rt: &R,
+    rt: &R,
     alloc: Global,
     _cooperative: bool,
     mut outside: Outside<S, K, F, E, C, P>,
@@ -132,7 +136,8 @@ pub fn run_script<
           source_faults = S.faults outside.src;
           written = K.written outside.out;
           sink_faults = K.faults outside.out;
-          outset = outset_of (F.seen outside.run_files) (F.clashes outside.run_files) (C.tells outside.clock) (C.ahead outside.clock);
+          outset = outset_of (F.seen outside.run_files) (F.clashes outside.run_files)
+              (C.tells outside.clock) (C.ahead outside.clock);
           file_faults = F.faults outside.run_files;
           first_fault = F.first outside.run_files;
         })
@@ -141,7 +146,8 @@ pub fn run_script<
           source_faults = S.faults result.2.src;
           written = K.written result.2.out;
           sink_faults = K.faults result.2.out;
-          outset = outset_of (F.seen result.2.run_files) (F.clashes result.2.run_files) (C.tells result.2.clock) (C.ahead result.2.clock);
+          outset = outset_of (F.seen result.2.run_files) (F.clashes result.2.run_files)
+              (C.tells result.2.clock) (C.ahead result.2.clock);
           file_faults = F.faults result.2.run_files;
           first_fault = F.first result.2.run_files;
         })
@@ -149,6 +155,6 @@ pub fn run_script<
     ensures database_files { result.2.odb_files ≡ outside.odb_files }
     ensures picks { result.2.pick ≡ outside.pick }
 {
-    let (end, session) = run(alloc, &mut outside);
+    let (end, session) = run(rt, alloc, &mut outside);
     (end, session, outside)
 }

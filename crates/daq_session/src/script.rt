@@ -9,12 +9,14 @@ use crate::endings::Ending;
 use daq_io::{Clock, Files, Outside, Sink, Source};
 use odb_script::{LineReader, NextLine};
 use std::alloc::Global;
+use std::sync::Wait;
 
 /// No script has more lines: each but the last has at least its end.
 const SCRIPT_LINES: u32 = 16_777_217;
 
 /// Plays the lines of the script as they come.
-pub fn play<S: Source, K: Sink, F: Files, E, C: Clock, P>(
+pub fn play<R: Wait, S: Source, K: Sink, F: Files, E, C: Clock, P>(
+    rt: &R,
     alloc: Global,
     desk: &mut Desk,
     reader: &mut LineReader,
@@ -23,9 +25,13 @@ pub fn play<S: Source, K: Sink, F: Files, E, C: Clock, P>(
     requires new { IsNew desk.old.session }
     requires none { desk.old.refusals ≡ record { count = 0; first = 0 } }
     requires unread { reader.old ≡ nothing_read }
-    ensures did { PlaysTo (outset_of (F.seen outside.old.run_files) (F.clashes outside.old.run_files) (C.tells outside.old.clock) (C.ahead outside.old.clock)) result (S.left outside.old.src) (S.left outside.new.src)
-        (K.written outside.old.out) (K.written outside.new.out) desk.new.session
-        (outset_of (F.seen outside.new.run_files) (F.clashes outside.new.run_files) (C.tells outside.new.clock) (C.ahead outside.new.clock))
+    ensures did { PlaysTo
+        (outset_of (F.seen outside.old.run_files) (F.clashes outside.old.run_files)
+        (C.tells outside.old.clock) (C.ahead outside.old.clock))
+        result (S.left outside.old.src) (S.left outside.new.src) (K.written outside.old.out)
+        (K.written outside.new.out) desk.new.session
+        (outset_of (F.seen outside.new.run_files) (F.clashes outside.new.run_files)
+        (C.tells outside.new.clock) (C.ahead outside.new.clock))
         desk.new.refusals }
     ensures source { SourceCounts result (S.faults outside.old.src) (S.faults outside.new.src) }
     ensures sink { SinkCounts result (K.faults outside.old.out) (K.faults outside.new.out) }
@@ -38,6 +44,7 @@ pub fn play<S: Source, K: Sink, F: Files, E, C: Clock, P>(
         match reader.advance(&mut outside.src) {
             NextLine::Line => {
                 let handled = desk.handle(
+                    rt,
                     alloc,
                     number as u64 + 1,
                     reader.line(),
@@ -53,6 +60,7 @@ pub fn play<S: Source, K: Sink, F: Files, E, C: Clock, P>(
             }
             NextLine::Last => {
                 let handled = desk.handle(
+                    rt,
                     alloc,
                     number as u64 + 1,
                     reader.line(),

@@ -1,11 +1,14 @@
 ghost use Rattle.std.specs.Prelude.{◌≡◌, ◌≤◌, ◌<◌, ◌+◌, ◌^◌, ℕ, IfOk, IsSome, OnOk, OnErr, false, None, Ok};
 ghost use Rattle.daq_io.specs.Counts.{CountsFault};
-ghost use Rattle.odb_journal.specs.Noted.{KeepsCalls};
+ghost use Rattle.daq_types.specs.Callers.{main_caller};
+ghost use Rattle.odb_port.specs.DatabasePorts.{KeepsDatabase};
+ghost use Rattle.odb_runinfo.specs.RunKeys.{sent_path};
 ghost use Rattle.odb_script.specs.declared.forms.Command.TheVariants.{Start, Stop};
 ghost use Rattle.run_recorder.specs.Recordings.{HasRoomForRun, KeepsRecording};
 ghost use Rattle.run_recorder.specs.Tallies.{most_starts};
 ghost use Rattle.session_console.specs.Console.{is_refusal};
 ghost use Rattle.session_console.specs.FrontNames.{front_name};
+ghost use Rattle.daq_session.specs.FrontSets.{MadeSent};
 ghost use Rattle.daq_session.specs.RunTransitions.{CallsMore};
 ghost use Rattle.daq_session.specs.Halts.{CountsHalt};
 ghost use Rattle.daq_session.specs.Stages.{outset_of};
@@ -14,14 +17,25 @@ ghost use Rattle.daq_session.specs.Standing.{AnswersLine, BecomesOpen, CutsLine,
 use crate::halts::Halt;
 use crate::session::{Session, StopPaths};
 use daq_io::{Clock, Failed, Files};
-use daq_types::{Name, NoMemory, RunState, Why};
+use daq_types::{Caller, Name, NoMemory, RunState, Why};
+use odb_arena::ArenaTree;
+use odb_path::Path;
+use odb_port::LocalAccess;
+use odb_port::laws::{calls_add_up, calls_stand_alone};
 use odb_runinfo::{
-    RunNumber, RunPaths, START_CALLS, STOP_CALLS, next_run, open_front, set_refused, set_start,
-    set_started, set_stopped, set_stopping,
+    RunNumber, RunPaths, START_CALLS, STOP_CALLS, StartedPaths, StoppedPaths, next_run, open_front,
+    set_refused, set_running, set_sent, set_start, set_stopped, set_stopping,
 };
 use run_recorder::{Begun, CHANNEL, LOGGER_CLIENT, PreparedRun};
 use session_console::Reply;
 use std::alloc::Global;
+use std::sync::Wait;
+
+/// The client number of the front-end.
+const FRONT_CLIENT: u32 = 0;
+
+/// How many calls a start makes before it knows its run number: the one that opens the session, and the one that gets it.
+const OPENING_CALLS: u32 = 2;
 
 /// The name of the front-end.
 fn front_name() -> Name
@@ -31,6 +45,29 @@ fn front_name() -> Name
         Ok(name) => name,
         Err(_) => unreachable!(),
     }
+}
+
+/// The front-end's pass says how many events it sent. The next calls are the main thread's again.
+fn tell_sent<R: Wait>(
+    rt: &R,
+    alloc: Global,
+    database: &mut LocalAccess<ArenaTree>,
+    path: Path,
+    sent: u32,
+)
+    requires path { path ≡ sent_path front_name }
+    requires room { 1 ≤ database.old.room }
+    ensures told { MadeSent database.old.history database.new.history sent }
+    ensures start { database.new.start ≡ database.old.start }
+    ensures main { database.new.caller ≡ main_caller }
+    ensures room { database.old.room ≤ database.new.room + 1 }
+{
+    calls_add_up();
+    calls_stand_alone();
+    let front = front_name();
+    database.set_caller(Caller::of_client(FRONT_CLIENT));
+    set_sent(rt, alloc, database, front, path, sent);
+    database.set_caller(Caller::MAIN);
 }
 
 /// What a run needs that takes memory, made before the run begins.
@@ -48,16 +85,20 @@ fn no_number(refusal: RunNumber) -> Reply
 }
 
 impl Session {
-    /// Opens the session, where no start did so before. No run is on.
-    fn open_session(&mut self, alloc: Global) -> Result<(), NoMemory>
+    /// Opens the session, where no start did so before, with room to note the call that gets the run number. No run is on.
+    fn open_session<R: Wait>(&mut self, rt: &R, alloc: Global) -> Result<(), NoMemory>
         requires idle { self.old.recorder.on ≡ None }
         ensures opens { OnOk result (BecomesOpen self.old self.new) }
         ensures interrupted { OnErr result (CutsLine (Ok Start) self.old self.new) }
         ensures calls { CallsMore self.old.database.history self.new.database.history }
         ensures recorder { self.new.recorder ≡ self.old.recorder }
+        ensures room { OnOk result (1 ≤ self.new.database.room) }
     {
+        calls_add_up();
+        calls_stand_alone();
+        self.database.reserve(OPENING_CALLS)?;
         if !self.opened {
-            open_front(alloc, &mut self.database, front_name())?;
+            open_front(rt, alloc, &mut self.database, front_name())?;
             self.opened = true;
         }
         Ok(())
@@ -69,7 +110,7 @@ impl Session {
         ensures run { IfOk result (λ plan. plan.run.run ≡ run) }
         ensures events { IfOk result (λ plan. plan.run.quota ≡ self.old.quota) }
         ensures front { IfOk result (λ plan. plan.paths.front ≡ front_name) }
-        ensures calls { KeepsCalls self.old.database self.new.database }
+        ensures calls { KeepsDatabase self.old.database self.new.database }
         ensures quota { self.new.quota ≡ self.old.quota }
         ensures opened { self.new.opened ≡ self.old.opened }
         ensures recorder { KeepsRecording self.old.recorder self.new.recorder }
@@ -83,8 +124,9 @@ impl Session {
     }
 
     /// Starts the run of this number, where none is on.
-    fn start_run<F: Files, C: Clock>(
+    fn start_run<R: Wait, F: Files, C: Clock>(
         &mut self,
+        rt: &R,
         alloc: Global,
         files: &mut F,
         clock: &mut C,
@@ -95,18 +137,24 @@ impl Session {
         requires idle { self.old.recorder.on ≡ None }
         requires few { self.old.recorder.starts + 1 ≤ most_starts }
         ensures did { HandlesRun run self.old self.new
-            (outset_of (F.seen files.old) (F.clashes files.old) (C.tells clock.old) (C.ahead clock.old))
-            (outset_of (F.seen files.new) (F.clashes files.new) (C.tells clock.new) (C.ahead clock.new))
+            (outset_of (F.seen files.old) (F.clashes files.old)
+            (C.tells clock.old) (C.ahead clock.old))
+            (outset_of (F.seen files.new) (F.clashes files.new)
+            (C.tells clock.new) (C.ahead clock.new))
             result }
         ensures starts { self.new.recorder.starts ≤ self.old.recorder.starts + 1 }
         ensures faults { CountsHalt (F.faults files.old) (F.faults files.new) result }
     {
         let RunPlan { run: plan, paths } = self.prepare_run(alloc, run)?;
         let time = clock.now();
-        set_start(alloc, &mut self.database, paths.start, run, time);
+        calls_add_up();
+        calls_stand_alone();
+        set_start(rt, alloc, &mut self.database, paths.start, run, time);
         match self.recorder.begin(alloc, files, plan, time)? {
             Begun::Writing { .. } => {
-                set_started(alloc, &mut self.database, paths.started);
+                let StartedPaths { sent, state, .. } = paths.started;
+                tell_sent(rt, alloc, &mut self.database, sent, 0);
+                set_running(rt, alloc, &mut self.database, state);
                 self.stop_paths = Some(StopPaths {
                     stopping: paths.stopping,
                     stopped: paths.stopped,
@@ -114,7 +162,7 @@ impl Session {
                 Ok(Reply::Started { run })
             }
             Begun::Taken => {
-                set_refused(alloc, &mut self.database, paths.refused, run);
+                set_refused(rt, alloc, &mut self.database, paths.refused, run);
                 Ok(Reply::StartRefused {
                     client: LOGGER_CLIENT,
                     why: Why::Exists { channel: CHANNEL },
@@ -124,8 +172,9 @@ impl Session {
     }
 
     /// Answers `start`.
-    pub fn start<F: Files, C: Clock>(
+    pub fn start<R: Wait, F: Files, C: Clock>(
         &mut self,
+        rt: &R,
         alloc: Global,
         files: &mut F,
         clock: &mut C,
@@ -133,8 +182,10 @@ impl Session {
         requires few { self.old.recorder.starts + 1 ≤ most_starts }
         requires ready { IsReady (F.seen files.old) self.old.recorder.on }
         ensures did { Handles (Ok Start) self.old self.new
-            (outset_of (F.seen files.old) (F.clashes files.old) (C.tells clock.old) (C.ahead clock.old))
-            (outset_of (F.seen files.new) (F.clashes files.new) (C.tells clock.new) (C.ahead clock.new))
+            (outset_of (F.seen files.old) (F.clashes files.old)
+            (C.tells clock.old) (C.ahead clock.old))
+            (outset_of (F.seen files.new) (F.clashes files.new)
+            (C.tells clock.new) (C.ahead clock.new))
             result }
         ensures starts { self.new.recorder.starts ≤ self.old.recorder.starts + 1 }
         ensures faults { CountsHalt (F.faults files.old) (F.faults files.new) result }
@@ -144,27 +195,34 @@ impl Session {
                 state: RunState::Running,
             });
         }
-        self.open_session(alloc)?;
-        match next_run(alloc, &mut self.database)? {
+        calls_add_up();
+        calls_stand_alone();
+        self.open_session(rt, alloc)?;
+        match next_run(rt, alloc, &mut self.database)? {
             Err(refusal) => Ok(no_number(refusal)),
-            Ok(run) => self.start_run(alloc, files, clock, run),
+            Ok(run) => self.start_run(rt, alloc, files, clock, run),
         }
     }
 
     /// Answers `stop`: the front-end sends its events, and the run's file is ended.
-    pub fn stop<F: Files, C: Clock>(
+    pub fn stop<R: Wait, F: Files, C: Clock>(
         &mut self,
+        rt: &R,
         alloc: Global,
         files: &mut F,
         clock: &mut C,
     ) -> Result<Reply, Failed>
         requires ready { IsReady (F.seen files.old) self.old.recorder.on }
         ensures did { IfOk result (λ reply. AnswersLine (Ok Stop) reply self.old self.new
-            (outset_of (F.seen files.old) (F.clashes files.old) (C.tells clock.old) (C.ahead clock.old))
-            (outset_of (F.seen files.new) (F.clashes files.new) (C.tells clock.new) (C.ahead clock.new))) }
+            (outset_of (F.seen files.old) (F.clashes files.old)
+            (C.tells clock.old) (C.ahead clock.old))
+            (outset_of (F.seen files.new) (F.clashes files.new)
+            (C.tells clock.new) (C.ahead clock.new))) }
         ensures broken { OnErr result (FailsLine (Ok Stop) self.old
-            (outset_of (F.seen files.old) (F.clashes files.old) (C.tells clock.old) (C.ahead clock.old))
-            (outset_of (F.seen files.new) (F.clashes files.new) (C.tells clock.new) (C.ahead clock.new))) }
+            (outset_of (F.seen files.old) (F.clashes files.old)
+            (C.tells clock.old) (C.ahead clock.old))
+            (outset_of (F.seen files.new) (F.clashes files.new)
+            (C.tells clock.new) (C.ahead clock.new))) }
         ensures idle { OnOk result (self.new.recorder.on ≡ None) }
         ensures accepted { IfOk result (λ reply. IsSome self.old.recorder.on
             → is_refusal reply ≡ false) }
@@ -178,9 +236,13 @@ impl Session {
             Some(paths) => {
                 let StopPaths { stopping, stopped } = paths;
                 let time = clock.now();
-                set_stopping(alloc, &mut self.database, stopping, time);
+                calls_add_up();
+                calls_stand_alone();
+                set_stopping(rt, alloc, &mut self.database, stopping, time);
                 let ended = self.recorder.end(files, time)?;
-                set_stopped(alloc, &mut self.database, stopped, ended.front.sent as u32);
+                let StoppedPaths { sent, state, .. } = stopped;
+                tell_sent(rt, alloc, &mut self.database, sent, ended.front.sent as u32);
+                set_stopped(rt, alloc, &mut self.database, state);
                 Ok(Reply::Stopped {
                     run: ended.run,
                     front: ended.front,
