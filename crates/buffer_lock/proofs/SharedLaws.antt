@@ -1,13 +1,13 @@
 -- What the lock tells of a call, in the words of buffers.
 use Rattle.std.specs.Prelude.{◌≡◌, ℕ, List, [], ◌∷◌, ◌++◌, refl}
-use Rattle.std.proofs.Common.{ap, sym, subst, ◌∙◌}
+use Rattle.std.proofs.Common.{sym, subst}
 use Rattle.daq_types.specs.declared.events.Event.{Event}
 use Rattle.buffer_core.specs.declared.replies.Received.{Received}
 use Rattle.buffer_core.specs.declared.replies.Received.TheVariants.{Got, Empty, NoClient as NoReader, SmallBuf}
 use Rattle.buffer_core.specs.declared.entry.BufferEntry.{BufferEntry}
 use Rattle.buffer_core.specs.declared.entry.BufferEntry.TheVariants.{Receive}
 use Rattle.buffer_core.specs.Window.{Window, IsWindow}
-use Rattle.buffer_core.specs.Calls.{IsReply, window_after, event_after}
+use Rattle.buffer_core.specs.Calls.{window_after, event_after}
 use Rattle.buffer_core.specs.Histories.{IsLegal, replay}
 use Rattle.turn_lock.specs.History.{Leads}
 use Rattle.buffer_lock.specs.BufferSteps.{StepsWindow}

@@ -1,6 +1,6 @@
 -- Each call by a port to a shared buffer is one of the port's caller.
-use Rattle.std.specs.Prelude.{◌≡◌, ℕ, ◌+◌, ◌-◌, ◌^◌, ◌≤◌, List, [], ◌∷◌, ◌++◌, Contains, min, Result, Ok, Err, IfOk, IfErr, refl}
-use Rattle.std.proofs.Common.{ap, sym, subst, ◌∙◌, arith, ⊎_elim, inl, inr, append-nil}
+use Rattle.std.specs.Prelude.{◌≡◌, ℕ, ◌-◌, ◌^◌, ◌≤◌, List, [], ◌∷◌, ◌++◌, min, Result, Ok, Err, IfOk, IfErr, refl}
+use Rattle.std.proofs.Common.{ap, sym, subst, ◌∙◌, arith, ⊎_elim, inr, append-nil}
 use Rattle.daq_types.specs.declared.events.Event.{Event}
 use Rattle.daq_model.specs.Events.{event_limit}
 use Rattle.daq_types.specs.Callers.{entries_by, entries_by-append}
@@ -14,11 +14,11 @@ use Rattle.buffer_core.specs.Calls.{IsReply, window_after, event_after}
 use Rattle.buffer_core.specs.Histories.{IsLegal, replay}
 use Rattle.buffer_core.specs.HistoryLaws.{replay-push}
 use Rattle.buffer_core.specs.Ports.{Access, BufferIdentity, GotEvent, Called, Calls, Receives, IsNewNumber, knowing, IsGivenAt, got_after, slots_got, GivesSound, IsSmallBuf, IsSendFault, IsRunSendFault}
-use Rattle.local_port.specs.Ported.{Ported, IsPorted, AppendsCall, access_of, given_by, given_in, taken_back_in}
+use Rattle.local_port.specs.Ported.{AppendsCall, access_of, given_by, given_in}
 use Rattle.local_port.proofs.NumberLaws.{new_number}
-use Rattle.local_port.proofs.PortLaws.{called, calls, receives, gives_sound, gives_whole, gets_few, size_stays}
+use Rattle.local_port.proofs.PortLaws.{calls, receives, gives_sound, gives_whole, gets_few, size_stays}
 use Rattle.turn_lock.specs.History.{Appends}
-use Rattle.buffer_lock.specs.SharedPorts.{endless, ported_by, access_to}
+use Rattle.buffer_lock.specs.SharedPorts.{ported_by, access_to}
 use Rattle.buffer_lock.proofs.ForeignLaws.{given_stays, taken_back_stays, newly_taken}
 use Rattle.buffer_lock.proofs.SharedLaws.{event_still}
 use Rattle.buffer_lock.proofs.SendFaults.{send_fault, run_send_fault}

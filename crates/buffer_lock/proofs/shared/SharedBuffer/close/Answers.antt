@@ -1,7 +1,7 @@
 use Rattle.std.proofs.Common.{subst}
 use Rattle.buffer_core.specs.Window.{Window}
 use Rattle.buffer_core.specs.Histories.{IsLegal}
-use Rattle.turn_lock.specs.Closing.{opened_with, history_of}
+use Rattle.turn_lock.specs.Closing.{history_of}
 use Rattle.buffer_lock.proofs.SharedLaws.{leads_legal, leads_replay}
 use Rattle.buffer_lock.proofs.shared.SharedBuffer.close.Goals as goal
 
