@@ -1,8 +1,8 @@
 -- The turns of a client are turns as an engine gives them: what holds of them and of the engine at each point of a history.
-use Rattle.std.specs.Prelude.{◌≡◌, ◌≢◌, ℕ, suc, ◌≤◌, ◌==◌, ◌&&◌, Bool, true, false, if◌then◌else◌, List, [], ◌∷◌, ◌++◌, drop, fold, map, slice_get, Option, Some, None, Ok, Err, refl, ⊤, ◌⊎◌}
+use Rattle.std.specs.Prelude.{◌≡◌, ◌≢◌, ℕ, suc, ◌≤◌, ◌==◌, ◌&&◌, Bool, true, false, if◌then◌else◌, List, [], ◌∷◌, drop, fold, map, Option, Some, None, Ok, Err, refl, ⊤}
 use Rattle.std.specs.List.{filter}
 use Rattle.std.specs.Option.{option_map}
-use Rattle.std.proofs.Common.{ap, sym, ◌∙◌, subst, arith, inl, inr, ne_eqb, eq-eqb}
+use Rattle.std.proofs.Common.{ap, sym, ◌∙◌, subst, arith, inr}
 use Rattle.std.proofs.lemmas.Bool.{eqb-true, eqb-false}
 use Rattle.daq_types.specs.Callers.{entries_by}
 use Rattle.daq_types.specs.declared.runs.Order.{Order}
@@ -32,11 +32,11 @@ use Rattle.transitions.specs.EngineCalls.{turn_kind, turn_of, is_start, is_next,
 use Rattle.transitions.specs.EngineHistories.{EngineHistory, IsLegalEngine, engine_replay}
 use Rattle.transitions.specs.GivenTurns.{is_of_client, SpeaksFor}
 use Rattle.transitions.specs.TurnOrder.{number_with}
-use Rattle.member_model.specs.Turns.{MemberTurn, HasTurn, NoneOpen, IsOfRun, IsNextTurn, AreEngineTurns}
-use Rattle.member_model.specs.TurnCalls.{turn_told, turn_answered, turns_with, member_turns}
+use Rattle.member_model.specs.Turns.{MemberTurn, NoneOpen, IsOfRun, IsNextTurn, AreEngineTurns}
+use Rattle.member_model.specs.TurnCalls.{turn_told, turn_answered, turns_with}
 use Rattle.engine_laws.specs.EngineLaws.{GivesEngineTurns}
 use Rattle.engine_laws.proofs.Replies.{Begins, begins, GivesTurn, gives_turn, Owes, owes, owes_none, Finishes, finishes}
-use Rattle.engine_laws.proofs.TurnLists.{IsIn, AreDistinct, to_call, called_distinct, distinct_drop, to_call_more, front_in, front_gone, other_front, HaveUpTo, HaveBelow, up_to_more, up_to_push, up_to_answered, with_answer, Phase, phase_weaker, phase_answered, phase_next, phase_push, told_new, answered_none}
+use Rattle.engine_laws.proofs.TurnLists.{IsIn, AreDistinct, to_call, called_distinct, distinct_drop, to_call_more, front_in, front_gone, other_front, HaveUpTo, up_to_more, up_to_push, up_to_answered, Phase, phase_weaker, phase_answered, phase_next, phase_push, told_new, answered_none}
 
 -- the state of the engine fits the transition in progress
 abbrev pub StateFits : Transition → Option Refusal → List Called → RunState → Type 0
@@ -333,7 +333,7 @@ owes_nothing : (state : RunState) (start client : ℕ) (ts : List MemberTurn) (o
 owes_nothing state start client ts None now none = now.none
 owes_nothing state start client ts (Some u) now none = subst (λ (b : Bool). OpenFor b u ts) none now.open_turn
 
-gave_unaccepted : (s : EngineState) (client other : ℕ) (ts : List MemberTurn) (answer : ClientAnswer) → Gave s client ts → owes_answer s.underway other ≡ false → (if other == client then turn_answered ts answer else ts) ≡ ts
+pub gave_unaccepted : (s : EngineState) (client other : ℕ) (ts : List MemberTurn) (answer : ClientAnswer) → Gave s client ts → owes_answer s.underway other ≡ false → (if other == client then turn_answered ts answer else ts) ≡ ts
 gave_unaccepted s client other ts answer g none =
     split (other == client) (λ b. (other == client) ≡ b → (if b then turn_answered ts answer else ts) ≡ ts)
     (λ h e. answered_none ts answer (owes_nothing s.state s.start client ts s.underway g.now (subst (λ (n : ℕ). owes_answer s.underway n ≡ false) (eqb-true other client e) none)))

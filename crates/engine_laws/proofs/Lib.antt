@@ -1,3 +1,5 @@
 pub mod Replies
 pub mod TurnLists
 pub mod Gave
+pub mod Begun
+pub mod Tallied

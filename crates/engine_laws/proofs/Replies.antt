@@ -1,8 +1,7 @@
 -- What an accepted call says of the engine.
-use Rattle.std.specs.Prelude.{◌≡◌, ℕ, suc, ◌+◌, ◌≤◌, ◌&&◌, Bool, true, false, nat_lt, if◌then◌else◌, List, [], ◌∷◌, slice_get, Option, Some, None, Ok, Err, refl, ⊤}
-use Rattle.std.proofs.Common.{ap, sym, ◌∙◌, arith}
+use Rattle.std.specs.Prelude.{◌≡◌, ℕ, suc, ◌+◌, true, false, nat_lt, if◌then◌else◌, List, [], ◌∷◌, slice_get, Option, Some, None, Result, Ok, Err, refl, ⊤}
+use Rattle.std.proofs.Common.{arith}
 use Rattle.std.proofs.lemmas.Bool.{and_parts}
-use Rattle.daq_types.specs.declared.runs.RunState.{RunState}
 use Rattle.daq_types.specs.declared.runs.Transition.{Transition}
 use Rattle.daq_types.specs.declared.runs.Transition.TheVariants.{Start, Stop, Pause, Resume, StartAbort}
 use Rattle.daq_types.specs.declared.runs.Order.{Order}
@@ -19,7 +18,7 @@ use Rattle.transitions.specs.declared.replies.Polled.TheVariants.{Turn, Idle, Cl
 use Rattle.transitions.specs.declared.replies.Progress.TheVariants.{Done}
 use Rattle.transitions.specs.Limits.{last_start_number}
 use Rattle.transitions.specs.Engines.{Underway, EngineState}
-use Rattle.transitions.specs.EngineCalls.{is_next, turn_of, gets_dump, gets_blank, turn_reply, begin_reply, begin_reply_in, start_reply, poll_reply, poll_reply_to, poll_reply_in, owes_answer, answer_reply, not_your_turn, outcome_of, progress_of, check_reply, check_reply_in}
+use Rattle.transitions.specs.EngineCalls.{is_next, turn_of, gets_dump, turn_reply, begin_reply, begin_reply_in, start_reply, poll_reply, poll_reply_to, poll_reply_in, owes_answer, answer_reply, not_your_turn, outcome_of, progress_of, check_reply, check_reply_in}
 use Rattle.transitions.specs.TurnOrder.{number_with}
 
 -- Begin.
@@ -97,9 +96,12 @@ owes s client done e =
     split (owes_answer s.underway client) (λ b. owes_answer s.underway client ≡ b → Ok done ≡ (if b then Ok tt else Err not_your_turn) → Owes s client)
     (λ h g e'. owes_in s client s.underway refl g) (λ h g e'. absurd cc) refl e
 
+abbrev owed : Result ⊤ NotYourTurn
+owed = Ok tt
+
 pub owes_none : (s : EngineState) (client : ℕ) (why : NotYourTurn) → Err why ≡ answer_reply s client → owes_answer s.underway client ≡ false
 owes_none s client why e =
-    split (owes_answer s.underway client) (λ b. Err why ≡ (if b then Ok tt else Err not_your_turn) → b ≡ false)
+    split (owes_answer s.underway client) (λ b. Err why ≡ (if b then owed else Err not_your_turn) → b ≡ false)
     (λ h e'. absurd cc) (λ h e'. refl) e
 
 -- Check.

@@ -1,8 +1,8 @@
 -- The turns of a client, and the clients that are still to be called.
-use Rattle.std.specs.Prelude.{◌≡◌, ◌≢◌, ℕ, suc, ◌<◌, ◌≤◌, ◌==◌, ◌&&◌, Bool, true, false, is_some, if◌then◌else◌, List, [], ◌∷◌, drop, slice_get, Option, Some, None, refl, ⊤, ◌⊎◌}
+use Rattle.std.specs.Prelude.{◌≡◌, ◌≢◌, ℕ, ◌<◌, ◌≤◌, Bool, true, false, is_some, if◌then◌else◌, List, [], ◌∷◌, drop, slice_get, Option, Some, None, refl, ⊤, ◌⊎◌}
 use Rattle.std.specs.List.{AllByRecursion}
-use Rattle.std.proofs.Common.{ap, sym, ◌∙◌, subst, arith, inl, inr, ne_eqb, eq-eqb}
-use Rattle.std.proofs.lemmas.Bool.{eqb-true, eqb-false}
+use Rattle.std.proofs.Common.{ap, sym, ◌∙◌, subst, arith, inl, inr, ne_eqb}
+use Rattle.std.proofs.lemmas.Bool.{eqb-true}
 use Rattle.daq_types.specs.declared.runs.Order.{Order}
 use Rattle.daq_types.specs.declared.runs.Transition.{Transition}
 use Rattle.daq_types.specs.declared.runs.Transition.TheVariants.{Start, Stop, Pause, Resume, StartAbort}
@@ -13,7 +13,7 @@ use Rattle.transitions.specs.declared.answers.Answer.{Answer}
 use Rattle.transitions.specs.Called.{called_list}
 use Rattle.transitions.specs.CalledOrder.{IsBefore, AreInOrder, IsCalledIn, IsRegisteredFor, IsCalledList}
 use Rattle.transitions.specs.EngineCalls.{is_next}
-use Rattle.member_model.specs.Turns.{MemberTurn, HasTurn, IsAnswered, NoneOpen, current_run, HasNoStart, IsOfRun, IsNewStart, IsNextTurn, AreEngineTurns}
+use Rattle.member_model.specs.Turns.{MemberTurn, HasTurn, IsAnswered, NoneOpen, current_run, HasNoStart, IsOfRun, IsNextTurn}
 use Rattle.member_model.specs.TurnCalls.{turn_told, turn_answered}
 
 -- Clients to be called.

@@ -1,11 +1,6 @@
 //! Laws of the turns of one client of an engine: each function does nothing, and its contract is the law.
 
-ghost use Rattle.daq_types.specs.declared.runs.Transition.{Transition};
-ghost use Rattle.std.specs.Prelude.{List};
-ghost use Rattle.transitions.specs.declared.client.Registered.{Registered};
-ghost use Rattle.transitions.specs.Called.{called_list};
-ghost use Rattle.transitions.specs.CalledOrder.{IsCalledList};
-ghost use Rattle.engine_laws.specs.EngineLaws.{GivesEngineTurns};
+ghost use Rattle.engine_laws.specs.EngineLaws.{GivesEngineTurns, TurnsWereBegun, StartsFromStopped, StopsFromRun, DonesHaveBegins, TalliesAreAnswers};
 
 use transitions::laws;
 
@@ -15,4 +10,24 @@ pub fn gives_turns()
     ensures { GivesEngineTurns }
 {
     laws::called_in_order();
+}
+
+/// Each of these turns is one of a transition that was begun in the history, with its order and at most its dump: a start from
+/// the stopped state, a stop from another.
+pub fn turns_begun()
+    ensures begun { TurnsWereBegun }
+    ensures starts { StartsFromStopped }
+    ensures stops { StopsFromRun }
+{
+    laws::called_in_order();
+}
+
+/// Each Done belongs to the begin before it, and each tally of a client in it is what its caller answered to the client's turn
+/// of that transition; the turn of the one client that wants the dump has it.
+pub fn tallies_answered()
+    ensures begins { DonesHaveBegins }
+    ensures tallies { TalliesAreAnswers }
+{
+    laws::called_in_order();
+    laws::tallies_belong();
 }
