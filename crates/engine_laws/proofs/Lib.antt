@@ -3,3 +3,4 @@ pub mod TurnLists
 pub mod Gave
 pub mod Begun
 pub mod Tallied
+pub mod Completed

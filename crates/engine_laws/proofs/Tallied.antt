@@ -118,12 +118,12 @@ register_number_in : (o : Option Underway) (count n : ℕ) → Ok n ≡ register
 register_number_in None count n e = (refl, count_in count n e)
 register_number_in (Some u) count n e = absurd (cc (e))
 
-register_number : (s : EngineState) (n : ℕ) → Ok n ≡ register_reply s → (s.underway ≡ None) × (n ≡ length s.clients)
+pub register_number : (s : EngineState) (n : ℕ) → Ok n ≡ register_reply s → (s.underway ≡ None) × (n ≡ length s.clients)
 register_number s n e =
     split s.closed (λ b. Ok n ≡ (if b then Err RegisterClosed else register_reply_in s.underway (length s.clients)) → (s.underway ≡ None) × (n ≡ length s.clients))
     (λ h e'. absurd cc) (λ h e'. register_number_in s.underway (length s.clients) n e') e
 
-either_end : (cs : List Registered) (c d : Registered) (i : ℕ) → slice_get (cs ++ c ∷ []) i ≡ Some d → (slice_get cs i ≡ Some d) ⊎ ((i ≡ length cs) × (c ≡ d))
+pub either_end : (cs : List Registered) (c d : Registered) (i : ℕ) → slice_get (cs ++ c ∷ []) i ≡ Some d → (slice_get cs i ≡ Some d) ⊎ ((i ≡ length cs) × (c ≡ d))
 either_end [] c d zero e = inr (refl, cc (e))
 either_end [] c d (suc i) e = absurd (cc (e))
 either_end (y ∷ ys) c d zero e = inl e
@@ -132,10 +132,10 @@ either_end (y ∷ ys) c d (suc i) e = elim (either_end ys c d i e) as (λ w. (sl
   | inr new ↦ inr (omega (arith, new.0), new.1)
 ]
 
-polled_clients : (s : EngineState) (client : ℕ) (turn : Transition) (order : Order) (dump : Option (List ℕ)) (p : GivesTurn s client turn order dump) → (after_poll_by s (slice_get s.clients client)).clients ≡ s.clients
+pub polled_clients : (s : EngineState) (client : ℕ) (turn : Transition) (order : Order) (dump : Option (List ℕ)) (p : GivesTurn s client turn order dump) → (after_poll_by s (slice_get s.clients client)).clients ≡ s.clients
 polled_clients s client turn order dump p = ap (λ (o : Option Registered). (after_poll_by s o).clients) p.client_is
 
-answered_clients : (s : EngineState) (client : ℕ) (answer : ClientAnswer) (o : Option Underway) → (after_answer_in s client answer o).clients ≡ s.clients
+pub answered_clients : (s : EngineState) (client : ℕ) (answer : ClientAnswer) (o : Option Underway) → (after_answer_in s client answer o).clients ≡ s.clients
 answered_clients s client answer None = refl
 answered_clients s client answer (Some u) = refl
 
@@ -389,7 +389,7 @@ record Goes (wants : Type 0) (transition : Transition) (sheet : Sheet) (start cl
   only : wants → OnlyWants client s.clients
   since : Since wants transition sheet start client past ts u
 
-same_underway : (s : EngineState) (u v : Underway) → s.underway ≡ Some u → s.underway ≡ Some v → u ≡ v
+pub same_underway : (s : EngineState) (u v : Underway) → s.underway ≡ Some u → s.underway ≡ Some v → u ≡ v
 same_underway s u v one other = let both : Some u ≡ Some v = sym one ∙ other in cc (both)
 
 goes_step : (wants : Type 0) (transition : Transition) (sheet : Sheet) (start client : ℕ) (past ts : List MemberTurn) (s : EngineState) (e : EngineEntry) → Gave s client ts → NoneOpen past → is_mark e ≡ false → IsEngineReply s e

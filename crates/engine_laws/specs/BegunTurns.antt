@@ -1,5 +1,7 @@
 -- Where the turns of a client come from, and where its answers go.
-use Rattle.std.specs.Prelude.{◌≡◌, ℕ, true, List, ◌∷◌, ◌++◌, ◌⊎◌, ◌↔◌, Some, Ok, ⊤}
+use Rattle.run_states.specs.declared.sequences.Sequences.{Sequences}
+use Rattle.run_states.specs.Sequences.{sequence_for}
+use Rattle.std.specs.Prelude.{Bool, slice_get, ◌≡◌, ℕ, true, List, ◌∷◌, ◌++◌, ◌⊎◌, ◌↔◌, Some, Ok, ⊤}
 use Rattle.std.specs.List.{AllByRecursion}
 use Rattle.daq_types.specs.declared.runs.Transition.{Transition}
 use Rattle.daq_types.specs.declared.runs.Transition.TheVariants.{Start, StartAbort}
@@ -47,6 +49,23 @@ pub record HasTransition (history : EngineHistory) (transition : Transition) (sh
   pub closer : ℕ
   pub whole : history ≡ earlier ++ (opener, Begin transition sheet (Ok start)) ∷ (between ++ (closer, Check (Done outcome) tallies) ∷ later)
   pub on : HasNoMark between
+
+-- the client was registered in the history, with a sequence number for the transition: it is called for it
+pub record IsRegisteredIn (history : EngineHistory) (client : ℕ) (transition : Transition) : Type 0 where
+  pub before : EngineHistory
+  pub after : EngineHistory
+  pub caller : ℕ
+  pub name : List ℕ
+  pub sequences : Sequences
+  pub wants_dump : Bool
+  pub wants_report : Bool
+  pub stands : history ≡ before ++ (caller, Register name sequences wants_dump wants_report (Ok client)) ∷ after
+  pub sequence : ℕ
+  pub called : sequence_for sequences transition ≡ Some sequence
+
+-- a tally of this client is among these
+abbrev pub HasTally : (client : ℕ) → List ClientTally → Type 0
+HasTally client tallies = (index : ℕ) × (tally : Tally) × (slice_get tallies index ≡ Some (record { client = client; tally = tally }))
 
 -- this client wants the dump, and no other
 abbrev pub WantsAlone : (client : ℕ) → ℕ × EngineEntry → Type 0

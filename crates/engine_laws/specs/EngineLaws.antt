@@ -15,7 +15,8 @@ use Rattle.transitions.specs.EngineHistories.{EngineHistory, IsLegalEngine}
 use Rattle.transitions.specs.GivenTurns.{SpeaksFor}
 use Rattle.member_model.specs.Turns.{MemberTurn, HasTurn, AreEngineTurns}
 use Rattle.member_model.specs.TurnCalls.{member_turns}
-use Rattle.engine_laws.specs.BegunTurns.{WasBegun, HasTransition, IsTallyOfTurn}
+use Rattle.daq_types.specs.declared.runs.StartOutcome.TheVariants.{Completed}
+use Rattle.engine_laws.specs.BegunTurns.{WasBegun, HasTransition, IsRegisteredIn, HasTally, IsTallyOfTurn}
 
 -- The turns that the caller of a client reads off its own calls are turns as an engine gives them, where this caller alone
 -- polls and answers for the client.
@@ -59,3 +60,10 @@ TalliesAreAnswers = (by client : ℕ) → (history : EngineHistory) →
     HasTransition history transition sheet start outcome tallies →
     (index : ℕ) → (tally : Tally) → slice_get tallies index ≡ Some (record { client = client; tally = tally }) →
     IsTallyOfTurn history client (member_turns client (entries_by by history)) transition sheet start tally
+
+-- Where a transition was not refused, each client that is called for it has a tally in its Done.
+abbrev pub CalledAreTold : Type 0
+CalledAreTold = (client : ℕ) → (history : EngineHistory) → IsLegalEngine engine_opening history →
+    (transition : Transition) → (sheet : Sheet) → (start : ℕ) → (tallies : List ClientTally) →
+    (has : HasTransition history transition sheet start Completed tallies) → IsRegisteredIn has.earlier client transition →
+    HasTally client tallies

@@ -1,6 +1,6 @@
 //! Laws of the turns of one client of an engine: each function does nothing, and its contract is the law.
 
-ghost use Rattle.engine_laws.specs.EngineLaws.{GivesEngineTurns, TurnsWereBegun, StartsFromStopped, StopsFromRun, DonesHaveBegins, TalliesAreAnswers};
+ghost use Rattle.engine_laws.specs.EngineLaws.{GivesEngineTurns, TurnsWereBegun, StartsFromStopped, StopsFromRun, DonesHaveBegins, TalliesAreAnswers, CalledAreTold};
 
 use transitions::laws;
 
@@ -30,4 +30,11 @@ pub fn tallies_answered()
 {
     laws::called_in_order();
     laws::tallies_belong();
+}
+
+/// Where a transition was not refused, each client that is called for it has its tally in the Done.
+pub fn called_told()
+    ensures { CalledAreTold }
+{
+    laws::called_in_order();
 }
