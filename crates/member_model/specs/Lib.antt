@@ -1,5 +1,6 @@
 pub mod Turns
 pub mod TurnLaws
+pub mod TurnCalls
 pub mod SentCalls
 pub mod SentLaws
 pub mod OwnCalls

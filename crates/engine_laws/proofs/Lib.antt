@@ -1,0 +1,6 @@
+pub mod Replies
+pub mod TurnLists
+pub mod Gave
+pub mod Begun
+pub mod Tallied
+pub mod Completed
