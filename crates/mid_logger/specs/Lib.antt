@@ -1,3 +1,5 @@
 pub mod Patterns
 pub mod Channels
 pub mod Pulls
+pub mod Beside
+pub mod RecordFiles
