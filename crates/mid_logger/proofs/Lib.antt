@@ -6,3 +6,4 @@ pub mod PatternLaws
 pub mod FileParts
 pub mod MarkSteps
 pub mod FileSteps
+pub mod OpenSteps

@@ -24,7 +24,7 @@ own_push own e keeps none is_own = record {
 }
 
 -- an own client stays one
-gave_stays : (e : BufferEntry) (past : List BufferEntry) (client : ℕ) → gave_number past client ≡ true → gave_number (e ∷ past) client ≡ true
+pub gave_stays : (e : BufferEntry) (past : List BufferEntry) (client : ℕ) → gave_number past client ≡ true → gave_number (e ∷ past) client ≡ true
 gave_stays (Attach name (Ok n)) past client gave = elim (eqb_tells n client) as (λ w. gave_number (Attach name (Ok n) ∷ past) client ≡ true) [
   | inl is ↦ rw is.0 refl
   | inr other ↦ rw other.0 gave

@@ -3,3 +3,4 @@ pub mod Channels
 pub mod Pulls
 pub mod Beside
 pub mod RecordFiles
+pub mod ChannelTurns

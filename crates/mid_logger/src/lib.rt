@@ -4,6 +4,7 @@
 mod channel;
 mod channel_spec;
 pub mod laws;
+mod opening;
 mod pattern;
 mod pulled;
 mod record_files;
