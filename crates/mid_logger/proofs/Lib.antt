@@ -7,3 +7,4 @@ pub mod FileParts
 pub mod MarkSteps
 pub mod FileSteps
 pub mod OpenSteps
+pub mod EndSteps

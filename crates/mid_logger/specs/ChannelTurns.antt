@@ -1,33 +1,59 @@
--- What a channel does where a run is started, ended and called off.
-use Rattle.std.specs.Prelude.{◌≡◌, ◌≤◌, ℕ, codes, Bool, true, Result, Ok, Err, List, [], Option, Some, None, ◌⊎◌, ⊤, length}
-use mathlib.Core.List.{IsPrefix}
-use Rattle.daq_types.specs.declared.events.Event.{Event}
+-- What a channel does where a run is started.
+use Rattle.std.specs.Prelude.{◌≡◌, ◌≤◌, ℕ, codes, Bool, true, IsTrue, Result, Ok, Err, List, [], Option, Some, None, ◌⊎◌, ⊤, length}
 use Rattle.daq_types.specs.declared.runs.Kind.TheVariants.{All}
 use Rattle.daq_types.specs.declared.runs.Order.{Order}
 use Rattle.daq_types.specs.declared.runs.Why.{Why}
 use Rattle.daq_types.specs.declared.runs.Why.TheVariants.{NotReady, Exists, Fault, BufferRefused}
-use Rattle.daq_types.specs.declared.runs.ChannelState.{ChannelState}
-use Rattle.daq_types.specs.declared.runs.ChannelState.TheVariants.{Ended, NoEnd, NoMark, Broken as IsBroken, Idle as IsIdle, Writing as IsWriting}
-use Rattle.daq_model.specs.Events.{encoding, record_limit}
-use Rattle.daq_model.specs.RunFile.{begun_file, run_file, end_record, IsFileEvent}
+use Rattle.daq_model.specs.RunFile.{begun_file}
 use Rattle.daq_io.specs.Counts.{Rose, first_of}
 use Rattle.daq_io.specs.declared.folder.NameRefused.{NameRefused}
 use Rattle.daq_io.specs.declared.folder.NameRefused.TheVariants.{Exists as NameTaken, Missing, Failed}
-use Rattle.daq_io.specs.Seen.{Seen, Same, Touches, KeepsNumbers, Creates, Closes, IsStored}
+use Rattle.daq_io.specs.Seen.{Seen, Same, Creates}
 use Rattle.buffer_core.specs.declared.replies.NoSlot.{NoSlot}
 use Rattle.buffer_core.specs.declared.replies.RequestRefusal.{RequestRefusal}
-use Rattle.buffer_core.specs.declared.entry.BufferEntry.{BufferEntry}
 use Rattle.buffer_core.specs.declared.entry.BufferEntry.TheVariants.{Attach, Request}
-use Rattle.buffer_core.specs.Ports.{Access, GotEvent, Calls, IsNewNumber, knowing}
+use Rattle.buffer_core.specs.Ports.{Access, Calls, IsNewNumber, knowing}
 use Rattle.mid_logger.specs.declared.channel_spec.ChannelSpec.{ChannelSpec}
 use Rattle.mid_logger.specs.declared.stage.ChannelRun.{ChannelRun}
 use Rattle.mid_logger.specs.declared.stage.BegunRun.{BegunRun}
 use Rattle.mid_logger.specs.declared.stage.ChannelStage.{ChannelStage}
 use Rattle.mid_logger.specs.declared.stage.ChannelStage.TheVariants.{Idle, Asking, Writing, Draining, Drained, Broken}
 use Rattle.mid_logger.specs.Patterns.{file_name_by}
-use Rattle.mid_logger.specs.Channels.{FileHead, CancelsRequest}
 use Rattle.mid_logger.specs.Pulls.{NamesMore}
-use Rattle.mid_logger.specs.RecordFiles.{RoseTwice, DropsFile, IsGone, UndoesFile}
+use Rattle.mid_logger.specs.RecordFiles.{RoseTwice, UndoesFile}
+
+-- the run whose request stands
+abbrev pub asking_run : ChannelStage → Option ChannelRun
+asking_run Idle = None
+asking_run (Asking opened) = Some opened
+asking_run (Writing opened begun) = Some opened
+asking_run (Draining run) = Some run.opened
+asking_run (Drained run) = None
+asking_run (Broken run) = None
+
+-- the run whose file is being written
+abbrev pub written_run : ChannelStage → Option ChannelRun
+written_run Idle = None
+written_run (Asking opened) = Some opened
+written_run (Writing opened begun) = Some opened
+written_run (Draining run) = Some run.opened
+written_run (Drained run) = Some run.opened
+written_run (Broken run) = None
+
+-- the run that broke off
+abbrev pub broken_run : ChannelStage → Option BegunRun
+broken_run (Broken run) = Some run
+broken_run stage = None
+
+-- the run that the client has read, whose file has no end record yet
+abbrev pub drained_run : ChannelStage → Option BegunRun
+drained_run (Drained run) = Some run
+drained_run stage = None
+
+-- the file of the run is in use for writing, under its name
+abbrev pub IsOpenFile : Seen → ChannelSpec → Option ChannelRun → Type 0
+IsOpenFile seen spec None = ⊤
+IsOpenFile seen spec (Some opened) = IsTrue (seen.writes opened.file) × (seen.name_of opened.file ≡ file_name_by spec.pattern opened.run)
 
 -- the name under which the logger attaches its clients
 abbrev pub logger_name : List ℕ
@@ -123,23 +149,3 @@ OpenFirst result name old new = new ≡ old
 -- No call on the files failed, or one did, which is kept in mind.
 abbrev pub NotesFault : (failed later_failed : Bool) → (faults later_faults : ℕ) → Type 0
 NotesFault failed later_failed faults later_faults = ((later_failed ≡ failed) × (later_faults ≡ faults)) ⊎ ((later_failed ≡ true) × Rose faults later_faults)
-
--- The file of a run that broke off is removed, but where that failed.
-pub record RemovesFile (a b : ChannelAt) (name : List ℕ) : Type 0 where
-  pub touches : Touches a.files b.files name
-  pub numbers : KeepsNumbers a.files b.files
-  pub gone : IsGone b.files name ⊎ Rose a.faults b.faults
-
--- The file of a run is closed and removed, but where that failed.
-pub record DropsRunFile (a b : ChannelAt) (file : ℕ) (name : List ℕ) : Type 0 where
-  pub drops : DropsFile a.files b.files file name
-  pub gone : IsGone b.files name ⊎ Rose a.faults b.faults
-
--- what is called off: a request that stands, and the file
-abbrev pub CallsOffRun : ChannelStage → ChannelSpec → (a b : ChannelAt) → Type 0
-CallsOffRun Idle spec a b = (b.port ≡ a.port) × (b.files ≡ a.files) × (b.faults ≡ a.faults)
-CallsOffRun (Asking opened) spec a b = CancelsRequest a.port b.port opened × DropsRunFile a b opened.file (file_name_by spec.pattern opened.run)
-CallsOffRun (Writing opened begun) spec a b = CancelsRequest a.port b.port opened × DropsRunFile a b opened.file (file_name_by spec.pattern opened.run)
-CallsOffRun (Draining run) spec a b = CancelsRequest a.port b.port run.opened × DropsRunFile a b run.opened.file (file_name_by spec.pattern run.opened.run)
-CallsOffRun (Drained run) spec a b = (b.port ≡ a.port) × DropsRunFile a b run.opened.file (file_name_by spec.pattern run.opened.run)
-CallsOffRun (Broken run) spec a b = (b.port ≡ a.port) × RemovesFile a b (file_name_by spec.pattern run.opened.run)

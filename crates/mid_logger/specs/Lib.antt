@@ -4,3 +4,4 @@ pub mod Pulls
 pub mod Beside
 pub mod RecordFiles
 pub mod ChannelTurns
+pub mod ChannelEnds

@@ -3,6 +3,7 @@
 
 mod channel;
 mod channel_spec;
+mod ending;
 pub mod laws;
 mod opening;
 mod pattern;

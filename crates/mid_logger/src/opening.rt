@@ -94,7 +94,7 @@ impl Channel {
     }
 
     /// Closes and removes the file of this number and name. A failure is kept in mind.
-    fn drop_run<F: Files>(&mut self, files: &mut F, file: u32, name: &FileName)
+    pub(crate) fn drop_run<F: Files>(&mut self, files: &mut F, file: u32, name: &FileName)
         requires writes { IsTrue ((F.seen files.old).writes file) }
         requires named { (F.seen files.old).name_of file ≡ name.now }
         ensures channel { self.new ≡ record self.old { failed = self.new.failed } }
