@@ -13,7 +13,7 @@ use Rattle.mid_logger.specs.declared.channel_spec.ChannelSpec.{ChannelSpec}
 use Rattle.mid_logger.specs.declared.stage.ChannelRun.{ChannelRun}
 use Rattle.mid_logger.specs.declared.stage.ChannelStage.{ChannelStage}
 use Rattle.mid_logger.specs.declared.stage.ChannelStage.TheVariants.{Idle, Asking, Writing, Draining, Drained, Broken}
-use Rattle.mid_logger.specs.Channels.{FileHead, ChannelStands, StageAt, channel_run, stage_ended, place_marked, ended_by}
+use Rattle.mid_logger.specs.Channels.{FileHead, ChannelStands, channel_run, written_run, stage_begun, stage_ended, place_marked, ended_by}
 use Rattle.mid_logger.specs.Beside.{LeavesClient}
 use Rattle.mid_logger.proofs.OwnSteps.{own_push, own_client_push}
 use Rattle.mid_logger.proofs.StageSteps.{call_beside}
@@ -108,3 +108,14 @@ ended_kept spec client (Drained run) opened reply head own got seen is stands = 
 ended_kept spec client (Broken run) opened reply head own got seen is stands =
     let same : run.opened ≡ opened = cc (is) in
     subst (λ (r : ChannelRun). KeptEnded spec client (Broken run) head own got seen reply r.start) same (broken_ended spec client run.opened run.begun run.ended reply head own got seen stands)
+
+-- The file of the run stays the one that is written.
+
+pub begun_written : (stage : ChannelStage) (begun : ℕ) → written_run (stage_begun stage begun) ≡ written_run stage
+begun_written (Asking opened) begun = refl
+begun_written stage begun = refl
+
+pub ended_written : (stage : ChannelStage) (ended : Option ℕ) → written_run (stage_ended stage ended) ≡ written_run stage
+ended_written (Writing opened begun) ended = refl
+ended_written (Broken run) ended = refl
+ended_written stage ended = refl

@@ -24,7 +24,7 @@ use Rattle.mid_logger.specs.declared.stage.ChannelRun.{ChannelRun}
 use Rattle.mid_logger.specs.declared.stage.ChannelStage.{ChannelStage}
 use Rattle.mid_logger.specs.declared.stage.ChannelStage.TheVariants.{Idle, Asking}
 use Rattle.mid_logger.specs.Patterns.{file_name_by}
-use Rattle.mid_logger.specs.Channels.{FileHead, KeepsOwnCalls, IsOwnClient, AsksNothing, FileHolds, ChannelStands}
+use Rattle.mid_logger.specs.Channels.{FileHead, KeepsOwnCalls, IsOwnClient, AsksNothing, FileHolds, ChannelStands, written_run, IsOpenFile}
 use Rattle.mid_logger.specs.ChannelTurns.{logger_name, HasClient, MakesRequest, AsksEvents, ChannelAt, StartsAsking, OpensRun, LeavesPort, RefusesRun, OpensBy}
 use Rattle.mid_logger.proofs.OwnSteps.{own_push, own_client_push, gave_stays}
 use Rattle.mid_logger.proofs.StageSteps.{call_beside}
@@ -219,3 +219,8 @@ not_opened_kept spec order dump (Ok u) a b opens idle = tt
 not_opened_kept spec order dump (Err why) a b opens idle = λ head none stands.
     let at_idle : ChannelStands spec a.client Idle head a.port.own a.port.got a.files = subst (λ (s : ChannelStage). ChannelStands spec a.client s head a.port.own a.port.got a.files) idle stands in
     rw (opens.0, idle) (refusal_kept spec (file_name_by spec.pattern order.run) why a b head opens.1 (none_in b.port.taken_back none) at_idle)
+
+-- the file of the run that was opened is in use for writing, under its name
+pub opened_file : (spec : ChannelSpec) (order : Order) (dump : List ℕ) (r : Result ⊤ Why) (a b : ChannelAt) → OpensBy r spec order dump a b → a.stage ≡ Idle → IsOpenFile b.files spec (written_run b.stage)
+opened_file spec order dump (Ok u) a b opens idle = rw opens.asks.stage (opens.makes.writes, opens.makes.named)
+opened_file spec order dump (Err why) a b opens idle = rw (opens.0, idle) tt

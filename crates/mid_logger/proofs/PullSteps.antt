@@ -8,7 +8,7 @@ use Rattle.daq_types.specs.declared.events.Event.{Event}
 use Rattle.daq_model.specs.Events.{encoding}
 use Rattle.daq_model.specs.RunFile.{begun_file, IsFileEvent}
 use Rattle.daq_io.specs.Seen.{Seen}
-use Rattle.daq_io.specs.SeenLaws.{Extends-writes, IsWritten-Closes}
+use Rattle.daq_io.specs.SeenLaws.{Extends-name, Extends-writes, IsWritten-Closes}
 use Rattle.buffer_core.specs.declared.replies.Received.{Received}
 use Rattle.buffer_core.specs.declared.replies.Received.TheVariants.{Got, Empty, NoClient, SmallBuf}
 use Rattle.buffer_core.specs.declared.replies.RequestRefusal.{RequestRefusal}
@@ -19,9 +19,10 @@ use Rattle.member_model.specs.OwnCalls.{HasDrained, events_at}
 use Rattle.mid_logger.specs.declared.channel_spec.ChannelSpec.{ChannelSpec}
 use Rattle.mid_logger.specs.declared.pulled.Pulled.{Pulled}
 use Rattle.mid_logger.specs.declared.stage.BegunRun.{BegunRun}
+use Rattle.mid_logger.specs.declared.stage.ChannelRun.{ChannelRun}
 use Rattle.mid_logger.specs.declared.stage.ChannelStage.{ChannelStage}
 use Rattle.mid_logger.specs.declared.stage.ChannelStage.TheVariants.{Idle, Asking, Writing, Draining, Drained, Broken}
-use Rattle.mid_logger.specs.Channels.{FileHead, KeepsOwnCalls, IsOwnClient, AsksNothing, FileHolds, ReadsUntil, ReadingAt, StageAt, ChannelStands, is_in_run, is_behind_end, run_on, reading_run, CancelsRequest, IsUsed, HasOpenFile}
+use Rattle.mid_logger.specs.Channels.{FileHead, KeepsOwnCalls, IsOwnClient, AsksNothing, FileHolds, ReadsUntil, ReadingAt, StageAt, ChannelStands, is_in_run, is_behind_end, run_on, reading_run, CancelsRequest, written_run, IsOpenFile}
 use Rattle.mid_logger.specs.Pulls.{PullOf, LeavesAll, TakesBy, drains_at_none, FindsNone, TakesReply, PullsOnce, PullsIn, Pulls}
 use Rattle.mid_logger.proofs.OwnSteps.{own_push, own_client_push, given_by_reply, got_after_is}
 use Rattle.mid_logger.proofs.ReadSteps.{received, in_run, before_run, behind_run, event_taken, event_left, asks_still, asks_no_more, drained, part_read, file_event, begun_file_part, holds_more}
@@ -199,38 +200,47 @@ pull_kept spec client head p room pulls stands = stage_kept spec client head p r
 
 -- The file of the open run stays in use.
 
-leaves_used : (p : PullOf) (answer : Pulled) → HasOpenFile p.files p.stage → LeavesAll p answer → HasOpenFile p.later_files p.later_stage
-leaves_used p answer used leaves = rw (leaves.stage, leaves.files) used
+leaves_used : (spec : ChannelSpec) (p : PullOf) (answer : Pulled) → IsOpenFile p.files spec (written_run p.stage) → LeavesAll p answer → IsOpenFile p.later_files spec (written_run p.later_stage)
+leaves_used spec p answer used leaves = rw (leaves.stage, leaves.files) used
 
-taken_used : (p : PullOf) (run : BegunRun) (place : ℕ) (e : Event) (behind early : Bool) → HasOpenFile p.files p.stage → IsUsed p.files (Some run.opened.file) → ((seen : Seen) → IsUsed seen (Some run.opened.file) → HasOpenFile seen p.stage)
-    → TakesBy behind early p run place e → HasOpenFile p.later_files p.later_stage
-taken_used p run place e true early used file back taken = rw (taken.stage, taken.files) file
-taken_used p run place e false true used file back taken = leaves_used p _ used taken
-taken_used p run place e false false used file back taken = elim taken as (λ w. HasOpenFile p.later_files p.later_stage) [
-  | inl writes ↦ subst (λ (s : ChannelStage). HasOpenFile p.later_files s) (sym writes.stage) (back p.later_files (Extends-writes writes.files))
-  | inr breaks ↦ subst (λ (s : ChannelStage). HasOpenFile p.later_files s) (sym breaks.stage) tt
+-- in this stage the file of the run is written
+abbrev WritesRun : ChannelSpec → ChannelStage → BegunRun → Type 0
+WritesRun spec stage run = (seen : Seen) → IsOpenFile seen spec (Some run.opened) → IsOpenFile seen spec (written_run stage)
+
+taken_used : (spec : ChannelSpec) (p : PullOf) (run : BegunRun) (place : ℕ) (e : Event) (behind early : Bool) → IsOpenFile p.files spec (written_run p.stage) → IsOpenFile p.files spec (Some run.opened) → WritesRun spec p.stage run
+    → TakesBy behind early p run place e → IsOpenFile p.later_files spec (written_run p.later_stage)
+taken_used spec p run place e true early used file back taken = rw (taken.stage, taken.files) file
+taken_used spec p run place e false true used file back taken = leaves_used spec p _ used taken
+taken_used spec p run place e false false used file back taken = elim taken as (λ w. IsOpenFile p.later_files spec (written_run p.later_stage)) [
+  | inl writes ↦ subst (λ (s : ChannelStage). IsOpenFile p.later_files spec (written_run s)) (sym writes.stage) (back p.later_files (Extends-writes writes.files, Extends-name writes.files ∙ file.1))
+  | inr breaks ↦ subst (λ (s : ChannelStage). IsOpenFile p.later_files spec (written_run s)) (sym breaks.stage) tt
 ]
 
-none_used : (p : PullOf) (run : BegunRun) (drains : Bool) → HasOpenFile p.files p.stage → IsUsed p.files (Some run.opened.file) → FindsNone drains p run → HasOpenFile p.later_files p.later_stage
-none_used p run true used file found = rw (found.stage, found.files) file
-none_used p run false used file found = leaves_used p _ used found
+none_used : (spec : ChannelSpec) (p : PullOf) (run : BegunRun) (drains : Bool) → IsOpenFile p.files spec (written_run p.stage) → IsOpenFile p.files spec (Some run.opened) → FindsNone drains p run → IsOpenFile p.later_files spec (written_run p.later_stage)
+none_used spec p run true used file found = rw (found.stage, found.files) file
+none_used spec p run false used file found = leaves_used spec p _ used found
 
-reply_used : (p : PullOf) (run : BegunRun) (reply : Received) (e : Event) → HasOpenFile p.files p.stage → IsUsed p.files (Some run.opened.file) → ((seen : Seen) → IsUsed seen (Some run.opened.file) → HasOpenFile seen p.stage)
-    → TakesReply p run reply e → HasOpenFile p.later_files p.later_stage
-reply_used p run (Got place start) e used file back taken = taken_used p run place e (is_behind_end run.ended place) (nat_lt place run.begun) used file back taken
-reply_used p run (Empty gate last) e used file back taken = none_used p run (drains_at_none p.stage) used file taken
-reply_used p run NoClient e used file back taken = leaves_used p _ used taken
-reply_used p run (SmallBuf need) e used file back taken = absurd taken
+reply_used : (spec : ChannelSpec) (p : PullOf) (run : BegunRun) (reply : Received) (e : Event) → IsOpenFile p.files spec (written_run p.stage) → IsOpenFile p.files spec (Some run.opened) → WritesRun spec p.stage run
+    → TakesReply p run reply e → IsOpenFile p.later_files spec (written_run p.later_stage)
+reply_used spec p run (Got place start) e used file back taken = taken_used spec p run place e (is_behind_end run.ended place) (nat_lt place run.begun) used file back taken
+reply_used spec p run (Empty gate last) e used file back taken = none_used spec p run (drains_at_none p.stage) used file taken
+reply_used spec p run NoClient e used file back taken = leaves_used spec p _ used taken
+reply_used spec p run (SmallBuf need) e used file back taken = absurd taken
 
-stage_used : (p : PullOf) (room : ℕ) (stage : ChannelStage) → p.stage ≡ stage → PullsIn (reading_run stage) p room → HasOpenFile p.files p.stage → HasOpenFile p.later_files p.later_stage
-stage_used p room Idle is pulls used = leaves_used p _ used pulls
-stage_used p room (Asking opened) is pulls used = leaves_used p _ used pulls
-stage_used p room (Writing opened begun) is pulls used =
-    reply_used (behind_receive p pulls.middle) (run_on opened begun) pulls.reply pulls.event used (subst (λ (s : ChannelStage). HasOpenFile p.files s) is used) (λ seen file. subst (λ (s : ChannelStage). HasOpenFile seen s) (sym is) file) pulls.taken
-stage_used p room (Draining run) is pulls used =
-    reply_used (behind_receive p pulls.middle) run pulls.reply pulls.event used (subst (λ (s : ChannelStage). HasOpenFile p.files s) is used) (λ seen file. subst (λ (s : ChannelStage). HasOpenFile seen s) (sym is) file) pulls.taken
-stage_used p room (Drained run) is pulls used = leaves_used p _ used pulls
-stage_used p room (Broken run) is pulls used = leaves_used p _ used pulls
+run_used : (spec : ChannelSpec) (p : PullOf) (room : ℕ) (stage : ChannelStage) (run : BegunRun) → p.stage ≡ stage → written_run stage ≡ Some run.opened → PullsOnce p run room → IsOpenFile p.files spec (written_run p.stage)
+    → IsOpenFile p.later_files spec (written_run p.later_stage)
+run_used spec p room stage run is writes pulls used =
+    let same : written_run p.stage ≡ Some run.opened = ap (λ (s : ChannelStage). written_run s) is ∙ writes in
+    reply_used spec (behind_receive p pulls.middle) run pulls.reply pulls.event used (subst (λ (o : Option ChannelRun). IsOpenFile p.files spec o) same used)
+    (λ seen file. subst (λ (o : Option ChannelRun). IsOpenFile seen spec o) (sym same) file) pulls.taken
 
-pub pull_used : (p : PullOf) (room : ℕ) → Pulls p room → HasOpenFile p.files p.stage → HasOpenFile p.later_files p.later_stage
-pull_used p room pulls used = stage_used p room p.stage refl pulls used
+stage_used : (spec : ChannelSpec) (p : PullOf) (room : ℕ) (stage : ChannelStage) → p.stage ≡ stage → PullsIn (reading_run stage) p room → IsOpenFile p.files spec (written_run p.stage) → IsOpenFile p.later_files spec (written_run p.later_stage)
+stage_used spec p room Idle is pulls used = leaves_used spec p _ used pulls
+stage_used spec p room (Asking opened) is pulls used = leaves_used spec p _ used pulls
+stage_used spec p room (Writing opened begun) is pulls used = run_used spec p room (Writing opened begun) (run_on opened begun) is refl pulls used
+stage_used spec p room (Draining run) is pulls used = run_used spec p room (Draining run) run is refl pulls used
+stage_used spec p room (Drained run) is pulls used = leaves_used spec p _ used pulls
+stage_used spec p room (Broken run) is pulls used = leaves_used spec p _ used pulls
+
+pub pull_used : (spec : ChannelSpec) (p : PullOf) (room : ℕ) → Pulls p room → IsOpenFile p.files spec (written_run p.stage) → IsOpenFile p.later_files spec (written_run p.later_stage)
+pull_used spec p room pulls used = stage_used spec p room p.stage refl pulls used

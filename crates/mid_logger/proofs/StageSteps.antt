@@ -182,21 +182,21 @@ call_beside spec client stage head own got seen e stands none is_own leaves name
 in_use : (s : Seen) (n : ℕ) → IsTrue (s.writes n) → InUse s n
 in_use s n h = rw h refl
 
-written_left : {old new : Seen} {name bytes : List ℕ} {number : ℕ} → IsWritten old number name bytes → LeavesFile old new name (Some number) → IsWritten new number name bytes
-written_left {old} {new} {name} {bytes} {number} p leaves = record {
-  writes = leaves.written.writes ∙ p.writes;
-  named = leaves.written.name (in_use old number p.writes) ∙ p.named;
+written_left : {old new : Seen} {name bytes : List ℕ} (opened : ChannelRun) → IsWritten old opened.file name bytes → LeavesFile old new name (Some opened) → IsWritten new opened.file name bytes
+written_left {old} {new} {name} {bytes} opened p leaves = record {
+  writes = leaves.number.writes ∙ p.writes;
+  named = leaves.number.name (in_use old opened.file p.writes) ∙ p.named;
   holds = λ told. let before : IsTrue old.tells = sym leaves.tells ∙ told in leaves.at before ∙ p.holds before;
 }
 
 stored_left : {old new : Seen} {name bytes : List ℕ} → IsStored old name bytes → LeavesFile old new name None → IsStored new name bytes
 stored_left {old} p leaves = record { holds = λ told. let before : IsTrue old.tells = sym leaves.tells ∙ told in leaves.at before ∙ p.holds before }
 
-holds_left : (spec : ChannelSpec) (head : FileHead) (old new : Seen) (opened : ChannelRun) (events : List Event) → FileHolds spec head old opened events → LeavesFile old new (file_name_by spec.pattern opened.run) (Some opened.file) → FileHolds spec head new opened events
-holds_left spec head old new opened events holds leaves = record { run = holds.run; small = holds.small; fine = holds.fine; file = written_left holds.file leaves }
+holds_left : (spec : ChannelSpec) (head : FileHead) (old new : Seen) (opened : ChannelRun) (events : List Event) → FileHolds spec head old opened events → LeavesFile old new (file_name_by spec.pattern opened.run) (Some opened) → FileHolds spec head new opened events
+holds_left spec head old new opened events holds leaves = record { run = holds.run; small = holds.small; fine = holds.fine; file = written_left opened holds.file leaves }
 
 reading_left : (spec : ChannelSpec) (client : Option ℕ) (run : BegunRun) (head : FileHead) (own : List BufferEntry) (got : List GotEvent) (old new : Seen) → ReadingAt spec client run head own got old
-    → LeavesFile old new (file_name_by spec.pattern run.opened.run) (Some run.opened.file) → ReadingAt spec client run head own got new
+    → LeavesFile old new (file_name_by spec.pattern run.opened.run) (Some run.opened) → ReadingAt spec client run head own got new
 reading_left spec client run head own got old new at leaves = record { events = at.events; of = at.of; reads = at.reads; holds = holds_left spec head old new run.opened at.events at.holds leaves }
 
 stage_left : (spec : ChannelSpec) (client : Option ℕ) (stage : ChannelStage) (head : FileHead) (own : List BufferEntry) (got : List GotEvent) (old new : Seen) → StageAt spec client stage head own got old → LeavesChannelFile spec stage old new

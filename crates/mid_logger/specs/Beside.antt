@@ -8,8 +8,7 @@ use Rattle.member_model.specs.OwnCalls.{calls_after, IsOwnCall, SendsNone, Leave
 use Rattle.mid_logger.specs.declared.channel_spec.ChannelSpec.{ChannelSpec}
 use Rattle.mid_logger.specs.declared.stage.ChannelRun.{ChannelRun}
 use Rattle.mid_logger.specs.declared.stage.ChannelStage.{ChannelStage}
-use Rattle.mid_logger.specs.Patterns.{file_name_by}
-use Rattle.mid_logger.specs.Channels.{FileHead, ChannelStands, channel_run, open_file}
+use Rattle.mid_logger.specs.Channels.{FileHead, ChannelStands, channel_run, written_run, run_name}
 
 -- the call neither receives for the client, nor makes or cancels a request of it, nor attaches or detaches it
 abbrev pub LeavesClient : Option ℕ → BufferEntry → Type 0
@@ -17,24 +16,20 @@ LeavesClient None entry = ⊤
 LeavesClient (Some client) (Receive c room reply) = c ≢ client
 LeavesClient (Some client) entry = LeavesAsking client entry
 
--- The number, if there is one, is in use as it was.
-abbrev pub LeavesNumber : Option ℕ → (old new : Seen) → Type 0
+-- the number under which the file of the run, if there is one, is written is in use as it was
+abbrev pub LeavesNumber : Option ChannelRun → (old new : Seen) → Type 0
 LeavesNumber None old new = ⊤
-LeavesNumber (Some number) old new = KeepsNumber old new number
+LeavesNumber (Some opened) old new = KeepsNumber old new opened.file
 
--- The file of this name stays as it is, where it is told, and so does the number under which it is written.
-pub record LeavesFile (old new : Seen) (name : List ℕ) (number : Option ℕ) : Type 0 where
+-- The file of this name stays as it is, where it is told, and so does the number under which it is written, if it is.
+pub record LeavesFile (old new : Seen) (name : List ℕ) (written : Option ChannelRun) : Type 0 where
   pub tells : new.tells ≡ old.tells
   pub at : IsTrue old.tells → new.at name ≡ old.at name
-  pub written : LeavesNumber number old new
-
-abbrev pub LeavesRunFile : ChannelSpec → Option ChannelRun → (number : Option ℕ) → (old new : Seen) → Type 0
-LeavesRunFile spec None number old new = ⊤
-LeavesRunFile spec (Some opened) number old new = LeavesFile old new (file_name_by spec.pattern opened.run) number
+  pub number : LeavesNumber written old new
 
 -- the file of the run that the channel writes, or broke off, stays as it is
 abbrev pub LeavesChannelFile : ChannelSpec → ChannelStage → (old new : Seen) → Type 0
-LeavesChannelFile spec stage old new = LeavesRunFile spec (channel_run stage) (open_file stage) old new
+LeavesChannelFile spec stage old new = LeavesFile old new (run_name spec (channel_run stage)) (written_run stage)
 
 -- A call of the logger on the channel's buffer that leaves the channel's client, and gives these events, leaves what the
 -- channel keeps.

@@ -35,11 +35,6 @@ RemovesFile None (Some run) spec a b faults later =
     Touches a b (file_name_by spec.pattern run.opened.run) × KeepsNumbers a b × (IsGone b (file_name_by spec.pattern run.opened.run) ⊎ Rose faults later)
 RemovesFile None None spec a b faults later = (b ≡ a) × (later ≡ faults)
 
--- the name of the file of this run, if there is one
-abbrev pub run_name : ChannelSpec → Option ChannelRun → List ℕ
-run_name spec None = []
-run_name spec (Some opened) = file_name_by spec.pattern opened.run
-
 -- Ending a file.
 
 -- what a file gets behind its events: the end record, where the end of the run was marked and there is a dump

@@ -1,5 +1,5 @@
 -- What a channel does where a run is started.
-use Rattle.std.specs.Prelude.{◌≡◌, ◌≤◌, ℕ, codes, Bool, true, IsTrue, Result, Ok, Err, List, [], Option, Some, None, ◌⊎◌, ⊤, length}
+use Rattle.std.specs.Prelude.{◌≡◌, ◌≤◌, ℕ, codes, Bool, true, Result, Ok, Err, List, [], Option, Some, None, ◌⊎◌, ⊤, length}
 use Rattle.daq_types.specs.declared.runs.Kind.TheVariants.{All}
 use Rattle.daq_types.specs.declared.runs.Order.{Order}
 use Rattle.daq_types.specs.declared.runs.Why.{Why}
@@ -31,15 +31,6 @@ asking_run (Draining run) = Some run.opened
 asking_run (Drained run) = None
 asking_run (Broken run) = None
 
--- the run whose file is being written
-abbrev pub written_run : ChannelStage → Option ChannelRun
-written_run Idle = None
-written_run (Asking opened) = Some opened
-written_run (Writing opened begun) = Some opened
-written_run (Draining run) = Some run.opened
-written_run (Drained run) = Some run.opened
-written_run (Broken run) = None
-
 -- the run that broke off
 abbrev pub broken_run : ChannelStage → Option BegunRun
 broken_run (Broken run) = Some run
@@ -49,11 +40,6 @@ broken_run stage = None
 abbrev pub drained_run : ChannelStage → Option BegunRun
 drained_run (Drained run) = Some run
 drained_run stage = None
-
--- the file of the run is in use for writing, under its name
-abbrev pub IsOpenFile : Seen → ChannelSpec → Option ChannelRun → Type 0
-IsOpenFile seen spec None = ⊤
-IsOpenFile seen spec (Some opened) = IsTrue (seen.writes opened.file) × (seen.name_of opened.file ≡ file_name_by spec.pattern opened.run)
 
 -- the name under which the logger attaches its clients
 abbrev pub logger_name : List ℕ

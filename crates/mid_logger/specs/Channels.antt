@@ -123,22 +123,24 @@ pub record ChannelStands (spec : ChannelSpec) (client : Option ℕ) (stage : Cha
   pub own_client : IsOwnClient client own
   pub at : StageAt spec client stage head own got seen
 
--- the number of the file of the open run
-abbrev pub open_file : ChannelStage → Option ℕ
-open_file Idle = None
-open_file (Asking opened) = Some opened.file
-open_file (Writing opened begun) = Some opened.file
-open_file (Draining run) = Some run.opened.file
-open_file (Drained run) = Some run.opened.file
-open_file (Broken run) = None
+-- the run whose file is being written
+abbrev pub written_run : ChannelStage → Option ChannelRun
+written_run Idle = None
+written_run (Asking opened) = Some opened
+written_run (Writing opened begun) = Some opened
+written_run (Draining run) = Some run.opened
+written_run (Drained run) = Some run.opened
+written_run (Broken run) = None
 
-abbrev pub IsUsed : Seen → Option ℕ → Type 0
-IsUsed seen None = ⊤
-IsUsed seen (Some file) = IsTrue (seen.writes file)
+-- the file of the run, if there is one, is in use for writing, under its name
+abbrev pub IsOpenFile : Seen → ChannelSpec → Option ChannelRun → Type 0
+IsOpenFile seen spec None = ⊤
+IsOpenFile seen spec (Some opened) = IsTrue (seen.writes opened.file) × (seen.name_of opened.file ≡ file_name_by spec.pattern opened.run)
 
--- the file of the open run, if there is one, is in use for writing
-abbrev pub HasOpenFile : Seen → ChannelStage → Type 0
-HasOpenFile seen stage = IsUsed seen (open_file stage)
+-- the name of the file of this run, if there is one
+abbrev pub run_name : ChannelSpec → Option ChannelRun → List ℕ
+run_name spec None = []
+run_name spec (Some opened) = file_name_by spec.pattern opened.run
 
 -- the stage once the run was begun at this place
 abbrev pub stage_begun : ChannelStage → (begun : ℕ) → ChannelStage

@@ -116,8 +116,3 @@ PullFirst answer name old new = new ≡ old
 -- the name of the first fault, behind a call on the file of this name that may have failed
 abbrev pub NamesMore : (name : List ℕ) → (old new : Option (List ℕ)) → Type 0
 NamesMore name old new = (new ≡ old) ⊎ (new ≡ first_of old name)
-
--- the name of the file of this number, if it is one
-abbrev pub name_under : Seen → (file : Option ℕ) → List ℕ
-name_under seen None = []
-name_under seen (Some file) = seen.name_of file

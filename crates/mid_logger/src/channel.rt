@@ -1,4 +1,4 @@
-ghost use Rattle.std.specs.Prelude.{◌≡◌, ◌≤◌, ◌-◌, ◌++◌, ◌∷◌, [], true, ℕ, List, Result, min, OnOk, OnErr, Ok, Err, Some, None};
+ghost use Rattle.std.specs.Prelude.{◌≡◌, ◌≤◌, ◌-◌, ◌++◌, ◌∷◌, [], true, ℕ, List, Result, min, IsTrue, OnOk, OnErr, Ok, Err, Some, None};
 ghost use Rattle.daq_model.specs.Events.{encoding, event_limit};
 ghost use Rattle.daq_io.specs.Counts.{CountsFault, NamesFirst};
 ghost use Rattle.daq_io.specs.Seen.{Seen, Extends, Closes};
@@ -8,8 +8,8 @@ ghost use Rattle.buffer_core.specs.declared.entry.BufferEntry.TheVariants.{Begin
 ghost use Rattle.buffer_core.specs.Ports.{GotEvent};
 ghost use Rattle.mid_logger.specs.declared.stage.ChannelRun.{ChannelRun};
 ghost use Rattle.mid_logger.specs.declared.stage.ChannelStage.TheVariants.{Asking, Drained, Broken};
-ghost use Rattle.mid_logger.specs.Channels.{FileHead, ChannelStands, HasOpenFile, IsUsed, ClosesPart, CancelsRequest, is_behind_end, reading_run, open_file, stage_begun, stage_ended, ended_by, channel_run, place_marked};
-ghost use Rattle.mid_logger.specs.Pulls.{TakesEvent, PullsOnce, Pulls, PullFaults, PullFirst, NamesMore, failed_by, name_under, drains_at_none};
+ghost use Rattle.mid_logger.specs.Channels.{FileHead, ChannelStands, IsOpenFile, ClosesPart, CancelsRequest, is_behind_end, reading_run, written_run, run_name, stage_begun, stage_ended, ended_by, channel_run, place_marked};
+ghost use Rattle.mid_logger.specs.Pulls.{TakesEvent, PullsOnce, Pulls, PullFaults, PullFirst, NamesMore, failed_by, drains_at_none};
 
 use crate::channel_spec::ChannelSpec;
 use crate::pulled::Pulled;
@@ -117,7 +117,7 @@ impl Channel {
         port: &mut P,
         run: BegunRun,
     )
-        requires file { IsUsed (F.seen files.old) (Some run.opened.file) }
+        requires file { IsTrue ((F.seen files.old).writes run.opened.file) }
         requires entries { 1 ≤ (P.access port.old).entries }
         ensures stage { self.new ≡ record self.old
             { stage = Broken run; failed = true } }
@@ -143,7 +143,7 @@ impl Channel {
         port: &mut P,
         run: BegunRun,
     ) -> Result<(), Failed>
-        requires file { IsUsed (F.seen files.old) (Some run.opened.file) }
+        requires file { IsTrue ((F.seen files.old).writes run.opened.file) }
         requires entries { 1 ≤ (P.access port.old).entries }
         ensures wrote { OnOk result (Extends (F.seen files.old) (F.seen files.new) run.opened.file
             (encoding self.old.event.event)) }
@@ -189,7 +189,7 @@ impl Channel {
         run: BegunRun,
         place: u64,
     ) -> Pulled
-        requires file { IsUsed (F.seen files.old) (Some run.opened.file) }
+        requires file { IsTrue ((F.seen files.old).writes run.opened.file) }
         requires entries { 1 ≤ (P.access port.old).entries }
         ensures spec { self.new.spec ≡ self.old.spec }
         ensures client { self.new.client ≡ self.old.client }
@@ -229,7 +229,7 @@ impl Channel {
         files: &mut F,
         port: &mut P,
     ) -> Pulled
-        requires file { HasOpenFile (F.seen files.old) self.old.stage }
+        requires file { IsOpenFile (F.seen files.old) self.old.spec (written_run self.old.stage) }
         requires entries { 2 ≤ (P.access port.old).entries }
         requires room { min event_limit ((P.access port.old).size - 24) ≤ self.old.event.room }
         ensures spec { self.new.spec ≡ self.old.spec }
@@ -247,9 +247,9 @@ impl Channel {
         }) self.old.event.room }
         ensures faults { PullFaults result (F.faults files.old) (F.faults files.new) }
         ensures clashes { F.clashes files.new ≡ F.clashes files.old }
-        ensures first { PullFirst result (name_under (F.seen files.old) (open_file self.old.stage))
+        ensures first { PullFirst result (run_name self.old.spec (written_run self.old.stage))
             (F.first files.old) (F.first files.new) }
-        ensures file { HasOpenFile (F.seen files.new) self.new.stage }
+        ensures file { IsOpenFile (F.seen files.new) self.new.spec (written_run self.new.stage) }
         ensures keeps { (head : FileHead) →
             ChannelStands self.old.spec self.old.client self.old.stage head (P.access port.old).own
             (P.access port.old).got (F.seen files.old) →
@@ -266,7 +266,7 @@ impl Channel {
         files: &mut F,
         port: &mut P,
     ) -> Pulled
-        requires file { HasOpenFile (F.seen files.old) self.old.stage }
+        requires file { IsOpenFile (F.seen files.old) self.old.spec (written_run self.old.stage) }
         requires entries { 2 ≤ (P.access port.old).entries }
         requires room { min event_limit ((P.access port.old).size - 24) ≤ self.old.event.room }
         ensures spec { self.new.spec ≡ self.old.spec }
@@ -284,7 +284,7 @@ impl Channel {
         }) self.old.event.room }
         ensures faults { PullFaults result (F.faults files.old) (F.faults files.new) }
         ensures clashes { F.clashes files.new ≡ F.clashes files.old }
-        ensures first { PullFirst result (name_under (F.seen files.old) (open_file self.old.stage))
+        ensures first { PullFirst result (run_name self.old.spec (written_run self.old.stage))
             (F.first files.old) (F.first files.new) }
     {
         let Some(run) = run_read(self.stage) else {
@@ -303,7 +303,7 @@ impl Channel {
         run: BegunRun,
         stopped: bool,
     ) -> Pulled
-        requires file { IsUsed (F.seen files.old) (Some run.opened.file) }
+        requires file { IsTrue ((F.seen files.old).writes run.opened.file) }
         requires entries { 2 ≤ (P.access port.old).entries }
         requires room { min event_limit ((P.access port.old).size - 24) ≤ self.old.event.room }
         requires stopped { stopped ≡ drains_at_none self.old.stage }
@@ -343,6 +343,7 @@ impl Channel {
         ensures failed { self.new.failed ≡ self.old.failed }
         ensures event { self.new.event ≡ self.old.event }
         ensures stage { self.new.stage ≡ stage_begun self.old.stage begun }
+        ensures file { written_run self.new.stage ≡ written_run self.old.stage }
         ensures keeps { (opened : ChannelRun) → (head : FileHead) → (own : List BufferEntry) →
             (got : List GotEvent) → (seen : Seen) →
             self.old.stage ≡ Asking opened →
@@ -360,6 +361,7 @@ impl Channel {
         ensures failed { self.new.failed ≡ self.old.failed }
         ensures event { self.new.event ≡ self.old.event }
         ensures stage { self.new.stage ≡ stage_ended self.old.stage ended }
+        ensures file { written_run self.new.stage ≡ written_run self.old.stage }
         ensures keeps { (opened : ChannelRun) → (reply : Result ℕ MarkRefusal) → (head : FileHead) →
             (own : List BufferEntry) → (got : List GotEvent) → (seen : Seen) →
             channel_run self.old.stage ≡ Some opened → ended ≡ place_marked reply →

@@ -7,10 +7,10 @@ ghost use Rattle.daq_io.specs.Seen.{Closes};
 ghost use Rattle.buffer_core.specs.declared.entry.BufferEntry.{BufferEntry};
 ghost use Rattle.buffer_core.specs.Ports.{GotEvent};
 ghost use Rattle.mid_logger.specs.declared.stage.ChannelStage.TheVariants.{Idle};
-ghost use Rattle.mid_logger.specs.Channels.{FileHead, ChannelStands, ClosesPart, channel_run};
+ghost use Rattle.mid_logger.specs.Channels.{FileHead, ChannelStands, ClosesPart, IsOpenFile, channel_run, written_run, run_name};
 ghost use Rattle.mid_logger.specs.Pulls.{NamesMore};
-ghost use Rattle.mid_logger.specs.ChannelTurns.{NotesFault, IsOpenFile, asking_run, written_run, broken_run, drained_run};
-ghost use Rattle.mid_logger.specs.ChannelEnds.{CancelsStanding, RemovesFile, ClosesFile, HasLeft, run_name, last_bytes, state_ended, state_otherwise, stage_settled};
+ghost use Rattle.mid_logger.specs.ChannelTurns.{NotesFault, asking_run, broken_run, drained_run};
+ghost use Rattle.mid_logger.specs.ChannelEnds.{CancelsStanding, RemovesFile, ClosesFile, HasLeft, last_bytes, state_ended, state_otherwise, stage_settled};
 
 use crate::channel::Channel;
 use crate::record_files::end_file;

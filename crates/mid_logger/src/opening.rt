@@ -6,7 +6,7 @@ ghost use Rattle.daq_model.specs.Events.{record_limit};
 ghost use Rattle.daq_io.specs.Counts.{Rose};
 ghost use Rattle.mid_logger.specs.declared.stage.ChannelStage.TheVariants.{Idle};
 ghost use Rattle.mid_logger.specs.Patterns.{file_name_by};
-ghost use Rattle.mid_logger.specs.Channels.{FileHead, ChannelStands};
+ghost use Rattle.mid_logger.specs.Channels.{FileHead, ChannelStands, IsOpenFile, written_run};
 ghost use Rattle.mid_logger.specs.Pulls.{NamesMore};
 ghost use Rattle.mid_logger.specs.RecordFiles.{DropsFile, IsGone};
 ghost use Rattle.mid_logger.specs.ChannelTurns.{AsksEvents, StartsAsking, HasClient, OpensBy, OpenFaults, OpenClashes, OpenFirst, NotesFault, IsRefusalOf, failed_at};
@@ -210,6 +210,7 @@ impl Channel {
         ensures clashes { OpenClashes result (F.clashes files.old) (F.clashes files.new) }
         ensures first { OpenFirst result (file_name_by self.old.spec.pattern order.now.run)
             (F.first files.old) (F.first files.new) }
+        ensures file { IsOpenFile (F.seen files.new) self.new.spec (written_run self.new.stage) }
         ensures asking { OnOk result ((before : FileHead) → (P.access port.new).taken_back ≡ [] →
             ChannelStands self.old.spec self.old.client self.old.stage before
             (P.access port.old).own (P.access port.old).got (F.seen files.old) →

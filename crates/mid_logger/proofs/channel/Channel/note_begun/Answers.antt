@@ -2,7 +2,7 @@ use Rattle.std.proofs.Common.{◌≡◌, ◌∙◌, ap, subst}
 use Rattle.mid_logger.specs.declared.stage.ChannelStage.{ChannelStage}
 use Rattle.mid_logger.specs.declared.stage.ChannelStage.TheVariants.{Writing}
 use Rattle.mid_logger.specs.Channels.{ChannelStands, stage_begun}
-use Rattle.mid_logger.proofs.MarkSteps.{begun_kept}
+use Rattle.mid_logger.proofs.MarkSteps.{begun_kept, begun_written}
 use Rattle.mid_logger.proofs.channel.Channel.note_begun.Goals as goal
 
 pub returns-clause-keeps : goal.returns-clause-keeps
@@ -11,3 +11,6 @@ returns-clause-keeps c = λ opened head own got seen is stands.
     rw now
     (begun_kept c.args.self.now.spec c.args.self.now.client opened c.args.begun head own got seen
     (subst (λ (s : ChannelStage). ChannelStands c.args.self.now.spec c.args.self.now.client s head own got seen) is stands))
+
+pub returns-clause-file : goal.returns-clause-file
+returns-clause-file c = rw c.begun_stage-self.ensures (begun_written c.args.self.now.stage c.args.begun)
