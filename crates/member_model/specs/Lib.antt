@@ -5,4 +5,5 @@ pub mod SentCalls
 pub mod SentLaws
 pub mod OwnCalls
 pub mod ReadRuns
+pub mod CutRuns
 pub mod ReadLaws
