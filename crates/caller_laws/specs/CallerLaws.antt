@@ -16,7 +16,7 @@ use Rattle.member_model.specs.SentCalls.{own_sent, IsSendInRun, EachCall}
 use Rattle.member_model.specs.OwnCalls.{calls_after, IsOwnCall, AreOwnCalls, SendsNone, AreGivenBy}
 use Rattle.member_model.specs.ReadRuns.{HasReadRun}
 use Rattle.caller_laws.specs.OneCaller.{IsCallersPart, HaveOwnClients, SendsInRuns, HaveRunSends, events_in}
-use Rattle.caller_laws.specs.CutRuns.{HasCutRun}
+use Rattle.member_model.specs.CutRuns.{HasCutRun}
 use Rattle.caller_laws.specs.SentRuns.{places_sent, events_at_places}
 use Rattle.caller_laws.specs.SeenRuns.{events_with_start, SeesRun}
 

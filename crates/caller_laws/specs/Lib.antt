@@ -1,6 +1,5 @@
 pub mod BufferLaws
 pub mod OneCaller
-pub mod CutRuns
 pub mod SeenRuns
 pub mod SentRuns
 pub mod CallerLaws

@@ -5,4 +5,6 @@ pub mod SentCalls
 pub mod SentLaws
 pub mod OwnCalls
 pub mod ReadRuns
+pub mod CutRuns
 pub mod ReadLaws
+pub mod LoggerKept

@@ -1,0 +1,3 @@
+pub mod SessionTurns
+pub mod SentTogether
+pub mod FilesTogether
