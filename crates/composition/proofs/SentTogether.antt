@@ -26,11 +26,11 @@ use Rattle.member_model.specs.SentCalls.{own_sent, IsSendInRun, EachCall, WasSpe
 use Rattle.member_model.specs.OwnCalls.{SendsNone}
 use Rattle.front_ends.specs.FrontKept.{made_events, IsAcceptedStart, EndedSo, IsFrontTally, KeepsFront}
 use Rattle.caller_laws.specs.OneCaller.{HaveOwnClients, HaveRunSends}
-use Rattle.caller_laws.specs.CallerLaws.{IsSendOf, SentByCaller, SendsOrReads, MembersFit}
+use Rattle.caller_laws.specs.CallerLaws.{IsSendOf, SendsStandInOrder, SentByCaller, SendsOrReads, MembersFit}
 use Rattle.engine_laws.specs.BegunTurns.{HasTally}
 use Rattle.composition.specs.Sessions.{Session, SessionFront, HasFront, IsFrontCaller, turns_of, buffer_calls, MembersKeep}
 use Rattle.composition.specs.SessionRuns.{SessionRun, IsStoppedRun, run_order, TellsFront, EndedIn, FrontSent, IsOfFront}
-use Rattle.composition.specs.CompositionLaws.{FrontsTell, FrontsSent, OnlyFrontsSent}
+use Rattle.composition.specs.CompositionLaws.{FrontsTell, FrontsSent, FrontsStand, OnlyFrontsSent}
 use Rattle.composition.proofs.SessionTurns.{EngineFacts, are_turns, IsStartTurn, start_turn, StopTally, number_of, stop_tally, HasStartTally, start_tally, last_tally}
 
 -- What a front-end told at the stop.
@@ -76,6 +76,10 @@ fronts_sent laws s keep r run f has sent ended tells =
       ended_so = ended_in laws s keep r run f sent ended t tally.ended_so;
     }
 
+pub fronts_stand : EngineFacts → SendsStandInOrder → FrontsStand
+fronts_stand laws stand s keep r run f has sent ended tells =
+    sym (stand (s.size f.buffer) (s.history f.buffer) (keep.buffers_legal f.buffer) (caller_of_client f.client) r.start) ∙ (fronts_sent laws s keep r run f has sent ended tells).events
+
 -- That it told at all.
 
 taken_plain : (takes : Bool) (tally : Tally) (a : Answer) → Some a ≡ Some (if takes then Yes Plain else No NotReady) → a ≡ Yes tally → Some a ≡ Some (Yes Plain)
@@ -86,7 +90,7 @@ retold : (r : SessionRun) (client index : ℕ) (tally : Tally) (sent : ℕ) (end
 retold r client index tally sent ended at is = (index, at ∙ ap (λ (x : Tally). Some (record { client = client; tally = x })) is)
 
 told_as : (tally : Tally) (answer : Answer) (sent : ℕ) (ended : FrontEnded) → tally ≡ tally_of answer → answer ≡ Yes (Front sent ended) → tally ≡ Front sent ended
-told_as tally answer sent ended is yes = is ∙ ap tally_of yes
+told_as tally answer sent ended is answered = is ∙ ap tally_of answered
 
 pub fronts_tell : EngineFacts → FrontsTell
 fronts_tell laws s keep r run f has =

@@ -1,17 +1,22 @@
 //! Laws of a session's members together: each function does nothing, and its contract is the law.
 
-ghost use Rattle.composition.specs.CompositionLaws.{FrontsTell, FrontsSent, OnlyFrontsSent, FilesHoldRuns, FilesHoldParts};
+ghost use Rattle.composition.specs.CompositionLaws.{FrontsTell, FrontsSent, FrontsStand, OnlyFrontsSent, FilesHoldRuns, FilesHoldParts};
+ghost use Rattle.daq_types.specs.declared.runs.ChannelState.TheVariants.{Ended};
+ghost use Rattle.composition.specs.Sessions.{MembersKeep};
+ghost use Rattle.composition.specs.SessionRuns.{IsStoppedRun, ToldState};
+ghost use Rattle.composition.specs.SessionSamples.{sample_session, sample_run, sample_channel};
 
 use caller_laws::laws as callers;
 use engine_laws::laws as turns;
 use transitions::laws as engine;
 
 /// In a run that was not refused and was stopped each front-end told in the Done of the stop what it sent, and that is what
-/// it sent: the first events of its equipment, in order. Each event between the marks of a run was sent in that run by a
+/// it sent: the first events of its equipment, in order. They all stand between the marks of the run. Each event between the marks of a run was sent in that run by a
 /// front-end of that buffer.
 pub fn fronts()
     ensures tell { FrontsTell }
     ensures sent { FrontsSent }
+    ensures stand { FrontsStand }
     ensures only { OnlyFrontsSent }
 {
     callers::sent_by();
@@ -40,3 +45,10 @@ pub fn files()
     turns::called_told();
     engine::start_numbers_rise();
 }
+
+/// What these laws ask is met by a session with a run, a front-end that sends an event, and a channel that ended.
+pub fn is_met()
+    ensures session { MembersKeep sample_session }
+    ensures run { IsStoppedRun sample_session sample_run }
+    ensures channel { ToldState sample_session sample_run sample_channel Ended }
+{}
