@@ -34,7 +34,7 @@ use Rattle.engine_laws.proofs.Replies.{Begins, begins, GivesTurn, gives_turn, Ow
 use Rattle.engine_laws.proofs.TurnLists.{IsIn}
 use Rattle.engine_laws.proofs.Gave.{CalledLists}
 use Rattle.engine_laws.proofs.Begun.{polled_underway, answered_underway}
-use Rattle.engine_laws.proofs.Tallied.{legal_apart, register_number, polled_clients, answered_clients, same_underway}
+use Rattle.engine_laws.proofs.Tallied.{legal_apart, register_number, polled_clients, answered_clients, same_underway, unrefused}
 
 -- A registered client stays.
 
@@ -151,10 +151,6 @@ comes_step client s (Close (Err r)) mark reply c = c
 comes_all : (client : ℕ) (s : EngineState) (h : EngineHistory) → IsLegalEngine s h → HasNoMark h → ComesIn client s → ComesIn client (engine_replay s h)
 comes_all client s [] legal marks c = c
 comes_all client s (x ∷ h) legal marks c = comes_all client (engine_after s x.1) h legal.2 marks.1 (comes_step client s x.1 marks.0 legal.1 c)
-
-unrefused : (r : Option Refusal) → Completed ≡ outcome_of r → r ≡ None
-unrefused None e = refl
-unrefused (Some refusal) e = absurd (cc (e))
 
 done_told : (client : ℕ) (s : EngineState) (tallies : List ClientTally) → ComesIn client s → IsEngineReply s (Check (Done Completed) tallies) → HasTally client tallies
 done_told client s tallies c reply =

@@ -7,6 +7,7 @@ use Rattle.std.proofs.lemmas.Bool.{eqb-true, eqb-false}
 use Rattle.daq_types.specs.Callers.{entries_by, entries_by-append}
 use Rattle.daq_types.specs.declared.runs.Order.{Order}
 use Rattle.daq_types.specs.declared.runs.StartOutcome.{StartOutcome}
+use Rattle.daq_types.specs.declared.runs.StartOutcome.TheVariants.{Completed}
 use Rattle.daq_types.specs.declared.runs.RunState.{RunState}
 use Rattle.daq_types.specs.declared.runs.Transition.{Transition}
 use Rattle.daq_types.specs.declared.runs.Transition.TheVariants.{Start, StartAbort}
@@ -28,7 +29,7 @@ use Rattle.transitions.specs.declared.entry.EngineEntry.{EngineEntry}
 use Rattle.transitions.specs.declared.entry.EngineEntry.TheVariants.{Register, Begin, Poll, Answer, Check, Close}
 use Rattle.transitions.specs.Limits.{most_clients}
 use Rattle.transitions.specs.Engines.{Underway, EngineState, engine_opening}
-use Rattle.transitions.specs.EngineCalls.{turn_kind, turn_of, is_start, is_next, begun, gets_dump, polled_by, told, refused_by, answered_by, after_poll_by, after_answer_in, register_reply, register_reply_in, tallies_in, IsEngineReply, engine_after}
+use Rattle.transitions.specs.EngineCalls.{turn_kind, turn_of, is_start, is_next, begun, gets_dump, polled_by, told, refused_by, answered_by, after_poll_by, after_answer_in, register_reply, register_reply_in, tallies_in, IsEngineReply, engine_after, outcome_of}
 use Rattle.transitions.specs.EngineHistories.{EngineHistory, IsLegalEngine, engine_replay}
 use Rattle.transitions.specs.EnginePoints.{tally_of}
 use Rattle.transitions.specs.GivenTurns.{SpeaksFor}
@@ -37,7 +38,7 @@ use Rattle.member_model.specs.Turns.{MemberTurn, HasTurn, IsAnswered, NoneOpen}
 use Rattle.member_model.specs.TurnCalls.{turn_told, turn_answered, turns_with, member_turns}
 use Rattle.engine_laws.specs.BegunTurns.{IsOfBegin, WantsAlone, OneWantsDump, IsTallyOfTurn}
 use Rattle.engine_laws.specs.EngineLaws.{DonesHaveBegins, TalliesAreAnswers}
-use Rattle.engine_laws.proofs.Replies.{Begins, begins, GivesTurn, gives_turn, Owes, owes, owes_none}
+use Rattle.engine_laws.proofs.Replies.{Begins, begins, GivesTurn, gives_turn, Owes, owes, owes_none, Finishes, finishes}
 use Rattle.engine_laws.proofs.TurnLists.{IsIn, to_call, to_call_more, front_gone, front_in, with_answer, told_new}
 use Rattle.engine_laws.proofs.Gave.{OpenFor, RunsOn, StandsAt, CalledLists, Gave, GaveAt, gave_step, gave_all, gave_unaccepted, other_step, own_or_other, opening_gave}
 use Rattle.engine_laws.proofs.Begun.{StartIfRefused, FromBegin, from_begun, from_polled, from_told, from_refused, turn_from, turn_of_begin, of_begin_answered, polled_underway, answered_underway}
@@ -189,11 +190,16 @@ record IsTold (since : List MemberTurn) (tally : Tally) : Type 0 where
 abbrev TellsMine : (client : ℕ) → List MemberTurn → ClientTally → Type 0
 TellsMine client since x = x.client ≡ client → IsTold since x.tally
 
+-- the turn is of the transition itself
+abbrev IsOfKind : Transition → MemberTurn → Type 0
+IsOfKind transition t = t.transition ≡ transition
+
 record Since (wants : Type 0) (transition : Transition) (sheet : Sheet) (start client : ℕ) (past ts : List MemberTurn) (u : Underway) : Type 0 where
   from : FromBegin transition sheet start u
   since : List MemberTurn
   ts_is : ts ≡ since ++ past
   turns : AllByRecursion (SinceTurn wants transition sheet start) since
+  plain : u.refusal ≡ None → AllByRecursion (IsOfKind transition) since
   told : AllByRecursion (TellsMine client since) u.tallies
   fresh : wants → u.refusal ≡ None → IsIn client (to_call u.has_polled u.called) → u.dump ≡ sheet.dump
 
@@ -237,6 +243,7 @@ since_fresh wants transition sheet start client past ts u c dump s wish dump_is 
         },
         s.turns,
       );
+      plain = λ none. (ap (λ (r : Option Refusal). turn_kind u.transition r) none ∙ s.from.transition_is, s.plain none);
       told = told_weaker client s.since (t ∷ s.since) (λ v answer is has. inr has) u.tallies s.told;
       fresh = λ w refusal is. absurd (gone is);
     }
@@ -248,6 +255,7 @@ since_again wants transition sheet start client past ts later u c s same wish = 
   since = s.since;
   ts_is = same ∙ s.ts_is;
   turns = s.turns;
+  plain = s.plain;
   told = s.told;
   fresh = λ w refusal is. none_taken c.wants_dump u.has_polled u.dump (wish w is) ∙ s.fresh w refusal (to_call_more u.has_polled client u.called is);
 }
@@ -288,10 +296,11 @@ latest_since (x ∷ xs) past rest t unanswered none is =
     record { rest = xs; is = ap (λ (y : MemberTurn). y ∷ xs) same }
 
 -- what the client's answer leaves of the turns since
-record AnsweredSince (wants : Type 0) (transition : Transition) (sheet : Sheet) (start client : ℕ) (past ts : List MemberTurn) (tallies : List ClientTally) (kind : Transition) (answer : ClientAnswer) : Type 0 where
+record AnsweredSince (wants : Type 0) (transition : Transition) (sheet : Sheet) (start client : ℕ) (past ts : List MemberTurn) (tallies : List ClientTally) (refusal : Option Refusal) (kind : Transition) (answer : ClientAnswer) : Type 0 where
   since : List MemberTurn
   ts_is : ts ≡ since ++ past
   turns : AllByRecursion (SinceTurn wants transition sheet start) since
+  plain : refusal ≡ None → AllByRecursion (IsOfKind transition) since
   told : AllByRecursion (TellsMine client since) tallies
   latest : MemberTurn
   stands : HasTurn since latest
@@ -299,7 +308,7 @@ record AnsweredSince (wants : Type 0) (transition : Transition) (sheet : Sheet) 
   of_kind : latest.transition ≡ kind
 
 answered_since : (wants : Type 0) (transition : Transition) (sheet : Sheet) (start client : ℕ) (past ts : List MemberTurn) (u : Underway) (answer : ClientAnswer) → Since wants transition sheet start client past ts u → NoneOpen past → OpenFor true u ts
-    → AnsweredSince wants transition sheet start client past (turn_answered ts answer) u.tallies (turn_of u) answer
+    → AnsweredSince wants transition sheet start client past (turn_answered ts answer) u.tallies u.refusal (turn_of u) answer
 answered_since wants transition sheet start client past ts u answer s none still =
     let t : MemberTurn = turn_from u still.0 in
     let latest : LatestSince s.since t = latest_since s.since past still.1 t refl none (sym s.ts_is ∙ still.2) in
@@ -309,6 +318,7 @@ answered_since wants transition sheet start client past ts u answer s none still
       since = with_answer t answer ∷ latest.rest;
       ts_is = ap (λ (xs : List MemberTurn). turn_answered xs answer) (s.ts_is ∙ ap (λ (xs : List MemberTurn). xs ++ past) latest.is);
       turns = (record { of_begin = of_begin_answered transition sheet start t answer turns.0.of_begin; dump = turns.0.dump }, turns.1);
+      plain = λ un. let all : AllByRecursion (IsOfKind transition) (t ∷ latest.rest) = subst (AllByRecursion (IsOfKind transition)) latest.is (s.plain un) in (all.0, all.1);
       told = told_weaker client (t ∷ latest.rest) (with_answer t answer ∷ latest.rest) stays u.tallies told_so;
       latest = with_answer t answer;
       stands = inl refl;
@@ -323,7 +333,7 @@ answered_since wants transition sheet start client past ts u answer s none still
 
 -- the turns since, once this client or another answered
 abbrev Behind : (wants : Type 0) → Transition → Sheet → (start client other : ℕ) → (past ts : List MemberTurn) → Underway → ClientAnswer → Type 0
-Behind wants transition sheet start client other past ts u answer = (other ≡ client) × AnsweredSince wants transition sheet start client past ts u.tallies (turn_of u) answer ⊎ (other ≢ client) × Since wants transition sheet start client past ts u
+Behind wants transition sheet start client other past ts u answer = (other ≡ client) × AnsweredSince wants transition sheet start client past ts u.tallies u.refusal (turn_of u) answer ⊎ (other ≢ client) × Since wants transition sheet start client past ts u
 
 fresh_told : (wants : Type 0) (client : ℕ) (sheet : Sheet) (u : Underway) → u.has_polled ≡ true → (wants → u.refusal ≡ None → IsIn client (to_call u.has_polled u.called) → u.dump ≡ sheet.dump) → wants → u.refusal ≡ None → IsIn client (drop 1 u.called) → u.dump ≡ sheet.dump
 fresh_told wants client sheet u polled fresh w refusal is = fresh w refusal (subst (λ (b : Bool). IsIn client (to_call b u.called)) (sym polled) is)
@@ -335,6 +345,7 @@ since_told wants transition sheet start client other past ts later u answer tall
   since = a.since;
   ts_is = a.ts_is;
   turns = a.turns;
+  plain = a.plain;
   told = all_push (TellsMine client a.since) u.tallies (record { client = other; tally = tally }) a.told
       (λ mine. record { turn = a.latest; stands = a.stands; answer = answer; answered = a.answered; tally_is = is; accepted = λ starts. accepted (sym a.of_kind ∙ starts) });
   fresh = fresh_told wants client sheet u polled s.fresh;
@@ -344,6 +355,7 @@ since_told wants transition sheet start client other past ts later u answer tall
   since = b.since;
   ts_is = b.ts_is;
   turns = b.turns;
+  plain = b.plain;
   told = all_push (TellsMine client b.since) u.tallies (record { client = other; tally = tally }) b.told (λ mine. absurd (differs mine));
   fresh = fresh_told wants client sheet u polled s.fresh;
 }
@@ -351,9 +363,9 @@ since_told wants transition sheet start client other past ts later u answer tall
 since_refused : (wants : Type 0) (transition : Transition) (sheet : Sheet) (start client other : ℕ) (past ts later : List MemberTurn) (u : Underway) (clients : List Registered) (answer : ClientAnswer) (why : Why) → Since wants transition sheet start client past ts u
     → is_start (turn_of u) ≡ true → Behind wants transition sheet start client other past later u answer → Since wants transition sheet start client past later (refused_by clients other why u)
 since_refused wants transition sheet start client other past ts later u clients answer why s starts (inl (same, a)) =
-    record { from = from_refused transition sheet start u clients other why starts s.from; since = a.since; ts_is = a.ts_is; turns = a.turns; told = a.told; fresh = λ w refusal is. absurd (cc (refusal)) }
+    record { from = from_refused transition sheet start u clients other why starts s.from; since = a.since; ts_is = a.ts_is; turns = a.turns; plain = λ un. absurd (cc (un)); told = a.told; fresh = λ w refusal is. absurd (cc (refusal)) }
 since_refused wants transition sheet start client other past ts later u clients answer why s starts (inr (differs, b)) =
-    record { from = from_refused transition sheet start u clients other why starts s.from; since = b.since; ts_is = b.ts_is; turns = b.turns; told = b.told; fresh = λ w refusal is. absurd (cc (refusal)) }
+    record { from = from_refused transition sheet start u clients other why starts s.from; since = b.since; ts_is = b.ts_is; turns = b.turns; plain = λ un. absurd (cc (un)); told = b.told; fresh = λ w refusal is. absurd (cc (refusal)) }
 
 not_start : (k : Transition) (answer : ClientAnswer) (tally : Tally) → is_start k ≡ false → k ≡ Start → answer ≡ Yes tally
 not_start k answer tally not starts = absurd (let e : is_start Start ≡ false = ap is_start (sym starts) ∙ not in cc (e))
@@ -445,6 +457,10 @@ goes_all lists wants transition sheet start by client past ts s (x ∷ h) legal 
     goes_all lists wants transition sheet start by client past ts (engine_after s x.1) h legal.2 alone.1 marks.1 none (subst (Gave (engine_after s x.1) client) same next)
     (subst (λ (y : List MemberTurn). Goes wants transition sheet start client past y (engine_after s x.1)) same goes_next))
 
+pub unrefused : (r : Option Refusal) → Completed ≡ outcome_of r → r ≡ None
+unrefused None e = refl
+unrefused (Some refusal) e = absurd (cc (e))
+
 -- From the begin to the Done.
 
 goes_begun : (wants : Type 0) (client : ℕ) (ts : List MemberTurn) (s : EngineState) (t : Transition) (sheet : Sheet) (n : ℕ) → Begins s t n → (wants → OnlyWants client s.clients) → Goes wants t sheet n client ts ts (engine_after s (Begin t sheet (Ok n)))
@@ -452,7 +468,7 @@ goes_begun wants client ts s t sheet n b only = record {
   u = begun s t sheet n;
   underway_is = refl;
   only = only;
-  since = record { from = from_begun s t sheet n b.allowed; since = []; ts_is = refl; turns = tt; told = tt; fresh = λ w refusal is. refl };
+  since = record { from = from_begun s t sheet n b.allowed; since = []; ts_is = refl; turns = tt; plain = λ un. tt; told = tt; fresh = λ w refusal is. refl };
 }
 
 -- the turns of the caller's calls in two parts
@@ -464,15 +480,20 @@ turns_begin : (by client : ℕ) (ts : List MemberTurn) (opener : ℕ) (t : Trans
 turns_begin by client ts opener t sheet n ys =
     own_or_other by client (opener, Begin t sheet (Ok n)) ys (λ es. fold (turns_with client) ts es ≡ fold (turns_with client) ts (entries_by by ys)) (λ (is : false ≡ true). absurd (cc (is))) refl (λ not. refl)
 
+at_turn : (P : MemberTurn → Type 0) (t : MemberTurn) (xs : List MemberTurn) → AllByRecursion P xs → HasTurn xs t → P t
+at_turn P t [] all has = absurd has
+at_turn P t (x ∷ xs) all (inl same) = subst P same all.0
+at_turn P t (x ∷ xs) all (inr before) = at_turn P t xs all.1 before
+
 -- what the Done tells, and that it is still so at the history's end
 tally_told : (wants : Type 0) (transition : Transition) (sheet : Sheet) (start by client : ℕ) (past ts : List MemberTurn) (s : EngineState) (closer : ℕ) (outcome : StartOutcome) (tallies : List ClientTally) (later : EngineHistory) (index : ℕ) (tally : Tally)
     → Goes wants transition sheet start client past ts s → IsEngineReply s (Check (Done outcome) tallies) → slice_get tallies index ≡ Some (record { client = client; tally = tally })
-    → (history : EngineHistory) → (OneWantsDump client history → wants) → IsTallyOfTurn history client (fold (turns_with client) ts (entries_by by ((closer, Check (Done outcome) tallies) ∷ later))) transition sheet start tally
+    → (history : EngineHistory) → (OneWantsDump client history → wants) → IsTallyOfTurn history client (fold (turns_with client) ts (entries_by by ((closer, Check (Done outcome) tallies) ∷ later))) transition sheet start outcome tally
 tally_told wants transition sheet start by client past ts s closer outcome tallies later index tally goes reply at history wish =
     let told_so : tallies ≡ goes.u.tallies = reply.1 ∙ (ap (λ (p : Progress). tallies_in p s.underway) (sym reply.0) ∙ ap (tallies_in (Done outcome)) goes.underway_is) in
     let mine : IsTold goes.since.since tally =
     all_at (TellsMine client goes.since.since) goes.u.tallies index (record { client = client; tally = tally }) goes.since.told (subst (λ (xs : List ClientTally). slice_get xs index ≡ Some (record { client = client; tally = tally })) told_so at) refl in
-    let turn : SinceTurn wants transition sheet start mine.turn = at_turn mine.turn goes.since.since goes.since.turns mine.stands in
+    let turn : SinceTurn wants transition sheet start mine.turn = at_turn (SinceTurn wants transition sheet start) mine.turn goes.since.since goes.since.turns mine.stands in
     let there : HasTurn ts mine.turn = subst (λ (xs : List MemberTurn). HasTurn xs mine.turn) (sym goes.since.ts_is) (has_front goes.since.since past mine.turn mine.stands) in
     record {
       turn = mine.turn;
@@ -482,13 +503,13 @@ tally_told wants transition sheet start by client past ts s closer outcome talli
       answered = mine.answered;
       tally_is = mine.tally_is;
       accepted = mine.accepted;
+      completed = λ done.
+          let f : Finishes s outcome = finishes s outcome reply.0 in
+          let un : f.u.refusal ≡ None = unrefused f.u.refusal (sym done ∙ f.outcome_is) in
+          let mine_un : goes.u.refusal ≡ None = ap (λ (u : Underway). u.refusal) (same_underway s goes.u f.u goes.underway_is f.underway_is) ∙ un in
+          at_turn (IsOfKind transition) mine.turn goes.since.since (goes.since.plain mine_un) mine.stands;
       dump = λ one kind. turn.dump (wish one) kind;
     }
-  where
-    at_turn : (t : MemberTurn) (xs : List MemberTurn) → AllByRecursion (SinceTurn wants transition sheet start) xs → HasTurn xs t → SinceTurn wants transition sheet start t
-    at_turn t [] all has = absurd has
-    at_turn t (x ∷ xs) all (inl same) = subst (SinceTurn wants transition sheet start) same all.0
-    at_turn t (x ∷ xs) all (inr before) = at_turn t xs all.1 before
 
 rests_none : (client : ℕ) (ts : List MemberTurn) (s : EngineState) → s.underway ≡ None → Gave s client ts → NoneOpen ts
 rests_none client ts s free g = (subst (StandsAt s.state s.start client ts) free g.now).none
@@ -520,7 +541,7 @@ tallies_are_answers lists by client history legal alone transition sheet start o
     let turns_are : turns ≡ fold (turns_with client) ts3 (entries_by by (done ∷ has.later)) =
     ap (λ (h : EngineHistory). member_turns client (entries_by by h)) has.whole
     ∙ (turns_apart by client [] has.earlier (begin ∷ rest) ∙ (turns_begin by client ts1 has.opener transition sheet start rest ∙ turns_apart by client ts1 has.between (done ∷ has.later))) in
-    subst (λ (xs : List MemberTurn). IsTallyOfTurn history client xs transition sheet start tally) (sym turns_are)
+    subst (λ (xs : List MemberTurn). IsTallyOfTurn history client xs transition sheet start outcome tally) (sym turns_are)
     (tally_told wants transition sheet start by client ts1 ts3 (engine_replay s2 has.between) has.closer outcome tallies has.later index tally goes3 second.1.1 at history
     (λ one. all_front (WantsAlone client) has.earlier (begin ∷ rest) (subst (OneWantsDump client) has.whole one)))
 

@@ -6,6 +6,7 @@ use Rattle.std.specs.List.{AllByRecursion}
 use Rattle.daq_types.specs.declared.runs.Transition.{Transition}
 use Rattle.daq_types.specs.declared.runs.Transition.TheVariants.{Start, StartAbort}
 use Rattle.daq_types.specs.declared.runs.StartOutcome.{StartOutcome}
+use Rattle.daq_types.specs.declared.runs.StartOutcome.TheVariants.{Completed}
 use Rattle.run_states.specs.States.{is_allowed}
 use Rattle.transitions.specs.declared.sheet.Sheet.{Sheet}
 use Rattle.transitions.specs.declared.answers.Answer.{Answer}
@@ -76,9 +77,9 @@ abbrev pub OneWantsDump : (client : ℕ) → EngineHistory → Type 0
 OneWantsDump client history = AllByRecursion (WantsAlone client) history
 
 -- One of these turns is of the transition, and this tally is its answer: a start that was answered No has none, and a No to
--- any other transition is told as Yes without a tally. The turn of the one client that wants the dump has it, unless it is one
--- of a start-abort.
-pub record IsTallyOfTurn (history : EngineHistory) (client : ℕ) (turns : List MemberTurn) (transition : Transition) (sheet : Sheet) (start : ℕ) (tally : Tally) : Type 0 where
+-- any other transition is told as Yes without a tally. Where no start was refused, the turn is none of a start-abort. The turn
+-- of the one client that wants the dump has it, unless it is one of a start-abort.
+pub record IsTallyOfTurn (history : EngineHistory) (client : ℕ) (turns : List MemberTurn) (transition : Transition) (sheet : Sheet) (start : ℕ) (outcome : StartOutcome) (tally : Tally) : Type 0 where
   pub turn : MemberTurn
   pub stands : HasTurn turns turn
   pub of_begin : IsOfBegin transition sheet start turn
@@ -86,4 +87,5 @@ pub record IsTallyOfTurn (history : EngineHistory) (client : ℕ) (turns : List 
   pub answered : turn.answer ≡ Some answer
   pub tally_is : tally ≡ tally_of answer
   pub accepted : turn.transition ≡ Start → answer ≡ Yes tally
+  pub completed : outcome ≡ Completed → turn.transition ≡ transition
   pub dump : OneWantsDump client history → turn.transition ≡ transition → turn.dump ≡ sheet.dump

@@ -59,7 +59,7 @@ TalliesAreAnswers = (by client : ℕ) → (history : EngineHistory) →
     (transition : Transition) → (sheet : Sheet) → (start : ℕ) → (outcome : StartOutcome) → (tallies : List ClientTally) →
     HasTransition history transition sheet start outcome tallies →
     (index : ℕ) → (tally : Tally) → slice_get tallies index ≡ Some (record { client = client; tally = tally }) →
-    IsTallyOfTurn history client (member_turns client (entries_by by history)) transition sheet start tally
+    IsTallyOfTurn history client (member_turns client (entries_by by history)) transition sheet start outcome tally
 
 -- Where a transition was not refused, each client that is called for it has a tally in its Done.
 abbrev pub CalledAreTold : Type 0

@@ -7,3 +7,4 @@ pub mod OwnCalls
 pub mod ReadRuns
 pub mod CutRuns
 pub mod ReadLaws
+pub mod LoggerKept
