@@ -28,7 +28,7 @@ use Rattle.mid_logger.proofs.OwnSteps.{client_stays_own, given_by_reply, got_aft
 use Rattle.mid_logger.proofs.StageSteps.{calls_beside, call_beside, files_beside}
 
 -- the other channel stands at this point
-abbrev OtherAt : ChannelSpec → Option ℕ → ChannelStage → FileHead → Access → Seen → Type 0
+abbrev pub OtherAt : ChannelSpec → Option ℕ → ChannelStage → FileHead → Access → Seen → Type 0
 OtherAt spec client stage head a seen = ChannelStands spec client stage head a.own a.got seen
 
 -- Files.
@@ -47,7 +47,7 @@ run_left spec old new name (Some s) written touches names keeps = record {
   number = number_left old new written keeps;
 }
 
-changed_beside : (other : ChannelSpec) (other_client : Option ℕ) (stage : ChannelStage) (head : FileHead) (own : List BufferEntry) (got : List GotEvent) (old new : Seen) (name : List ℕ) → Touches old new name
+pub changed_beside : (other : ChannelSpec) (other_client : Option ℕ) (stage : ChannelStage) (head : FileHead) (own : List BufferEntry) (got : List GotEvent) (old new : Seen) (name : List ℕ) → Touches old new name
     → ((s : ChannelRun) → channel_run stage ≡ Some s → IsTrue old.tells → name ≢ file_name_by other.pattern s.run) → ((s : ChannelRun) → written_run stage ≡ Some s → KeepsNumber old new s.file)
     → ChannelStands other other_client stage head own got old → ChannelStands other other_client stage head own got new
 changed_beside other other_client stage head own got old new name touches names keeps stands =

@@ -9,3 +9,4 @@ pub mod FileSteps
 pub mod OpenSteps
 pub mod EndSteps
 pub mod BesideSteps
+pub mod OpenBeside

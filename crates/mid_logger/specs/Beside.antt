@@ -11,6 +11,7 @@ use Rattle.member_model.specs.OwnCalls.{calls_after, IsOwnCall, SendsNone, Leave
 use Rattle.mid_logger.specs.declared.channel_spec.ChannelSpec.{ChannelSpec}
 use Rattle.mid_logger.specs.declared.stage.ChannelRun.{ChannelRun}
 use Rattle.mid_logger.specs.declared.stage.ChannelStage.{ChannelStage}
+use Rattle.mid_logger.specs.declared.stage.ChannelStage.TheVariants.{Idle}
 use Rattle.mid_logger.specs.Patterns.{file_name_by}
 use Rattle.mid_logger.specs.Channels.{FileHead, ChannelStands, IsOpenFile, channel_run, written_run}
 use Rattle.mid_logger.specs.Pulls.{PullOf, Pulls}
@@ -97,3 +98,15 @@ ClosesBeside = (spec : ChannelSpec) → (client : Option ℕ) → (stage : Chann
     ChannelsApart old spec client stage other other_client other_stage →
     ChannelStands other other_client other_stage other_head own got old →
     ChannelStands other other_client other_stage other_head own got new
+
+-- So does the opening of a run, or its refusal, where no client of the logger is known to be detached by another; and the two
+-- channels are apart then.
+abbrev pub OpensBeside : Type 0
+OpensBeside = (spec : ChannelSpec) → (order : Order) → (dump : List ℕ) → (answer : Result ⊤ Why) → (a b : ChannelAt) → (head : FileHead) →
+    (other : ChannelSpec) → (other_client : Option ℕ) → (other_stage : ChannelStage) → (other_head : FileHead) →
+    OpensBy answer spec order dump a b → b.port.taken_back ≡ [] → a.stage ≡ Idle →
+    ChannelStands spec a.client a.stage head a.port.own a.port.got a.files →
+    ChannelsApart a.files spec a.client a.stage other other_client other_stage →
+    ChannelStands other other_client other_stage other_head a.port.own a.port.got a.files →
+    ChannelStands other other_client other_stage other_head b.port.own b.port.got b.files
+    × ChannelsApart b.files spec b.client b.stage other other_client other_stage

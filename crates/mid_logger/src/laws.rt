@@ -1,6 +1,6 @@
 //! What leaves a channel as it stands: each function does nothing, and its contract is the law.
 
-ghost use Rattle.mid_logger.specs.Beside.{AbortsBeside, CallsBeside, ClosesBeside, FilesBeside, PullsBeside};
+ghost use Rattle.mid_logger.specs.Beside.{AbortsBeside, CallsBeside, ClosesBeside, FilesBeside, OpensBeside, PullsBeside};
 
 /// A call on the channel's buffer that names another client leaves what the channel keeps: calls of other channels, and
 /// pauses and resumes.
@@ -26,4 +26,9 @@ pub fn aborts_beside()
 /// So does the ending of its file.
 pub fn closes_beside()
     ensures { ClosesBeside }
+{}
+
+/// So does the opening of a run, and its refusal; and the two channels are apart then.
+pub fn opens_beside()
+    ensures { OpensBeside }
 {}
