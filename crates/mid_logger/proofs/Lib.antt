@@ -8,3 +8,5 @@ pub mod MarkSteps
 pub mod FileSteps
 pub mod OpenSteps
 pub mod EndSteps
+pub mod BesideSteps
+pub mod OpenBeside

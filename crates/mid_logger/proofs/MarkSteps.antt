@@ -13,7 +13,7 @@ use Rattle.mid_logger.specs.declared.channel_spec.ChannelSpec.{ChannelSpec}
 use Rattle.mid_logger.specs.declared.stage.ChannelRun.{ChannelRun}
 use Rattle.mid_logger.specs.declared.stage.ChannelStage.{ChannelStage}
 use Rattle.mid_logger.specs.declared.stage.ChannelStage.TheVariants.{Idle, Asking, Writing, Draining, Drained, Broken}
-use Rattle.mid_logger.specs.Channels.{FileHead, ChannelStands, channel_run, written_run, stage_begun, stage_ended, place_marked, ended_by}
+use Rattle.mid_logger.specs.Channels.{FileHead, ChannelStands, channel_run, written_run, stage_begun, stage_ended, place_marked, end_marked}
 use Rattle.mid_logger.specs.Beside.{LeavesClient}
 use Rattle.mid_logger.proofs.OwnSteps.{own_push, own_client_push}
 use Rattle.mid_logger.proofs.StageSteps.{call_beside}
@@ -71,7 +71,7 @@ cut_ended own got client id mask request start begun end events has = record {
 
 broken_ended : (spec : ChannelSpec) (client : Option ℕ) (opened : ChannelRun) (begun : ℕ) (ended : Option ℕ) (reply : Result ℕ MarkRefusal) (head : FileHead) (own : List BufferEntry) (got : List GotEvent) (seen : Seen)
     → ChannelStands spec client (Broken (record { opened = opened; begun = begun; ended = ended })) head own got seen
-    → ChannelStands spec client (Broken (record { opened = opened; begun = begun; ended = ended_by ended (place_marked reply) })) head (own ++ End opened.start reply ∷ []) got seen
+    → ChannelStands spec client (Broken (record { opened = opened; begun = begun; ended = end_marked ended (place_marked reply) })) head (own ++ End opened.start reply ∷ []) got seen
 broken_ended spec client opened begun None (Ok end) head own got seen stands = record {
   port = own_push own (End opened.start (Ok end)) stands.port tt tt;
   own_client = own_client_push client own (End opened.start (Ok end)) stands.own_client;

@@ -81,7 +81,7 @@ none_detached past (e ∷ es) zero c own is =
 none_detached past (e ∷ es) (suc i) c own is = none_detached (e ∷ past) es i c own is
 
 -- a number that an attach gives was given by none before, where nothing is known to be taken back
-never_given : (a b : Access) (n : ℕ) → KeepsOwnCalls a.own → IsNewNumber (knowing a b) n → ((call : ℕ) → Contains b.taken_back call → ⊥) → gave_number (calls_after [] a.own) n ≡ false
+pub never_given : (a b : Access) (n : ℕ) → KeepsOwnCalls a.own → IsNewNumber (knowing a b) n → ((call : ℕ) → Contains b.taken_back call → ⊥) → gave_number (calls_after [] a.own) n ≡ false
 never_given a b n keeps new none =
     elim (gave_number (calls_after [] a.own) n) as (λ w. gave_number (calls_after [] a.own) n ≡ w → w ≡ false) [
       | true ↦ λ gave. elim (given_among [] a.own n gave) as (λ w. true ≡ false) [
@@ -118,10 +118,10 @@ unasked (e ∷ es) c n own none =
 
 -- A client is attached.
 
-abbrev NoneTaken : Access → Type 0
+abbrev pub NoneTaken : Access → Type 0
 NoneTaken a = (call : ℕ) → Contains a.taken_back call → ⊥
 
-gave_now : (past : List BufferEntry) (name : List ℕ) (n : ℕ) → gave_number (Attach name (Ok n) ∷ past) n ≡ true
+pub gave_now : (past : List BufferEntry) (name : List ℕ) (n : ℕ) → gave_number (Attach name (Ok n) ∷ past) n ≡ true
 gave_now past name n = elim (eqb_tells n n) as (λ w. gave_number (Attach name (Ok n) ∷ past) n ≡ true) [
   | inl same ↦ rw same.0 refl
   | inr other ↦ absurd (other.1 refl)
@@ -154,7 +154,7 @@ no_request_kept spec (Some c) a b head seen makes stands =
     rw (makes.1.own, makes.1.got_is) now
 no_request_kept spec None a b head seen makes stands = rw makes stands
 
-still_none : (spec : ChannelSpec) (client request : Option ℕ) (a b : Access) → MakesRequest spec client request a b → NoneTaken b → NoneTaken a
+pub still_none : (spec : ChannelSpec) (client request : Option ℕ) (a b : Access) → MakesRequest spec client request a b → NoneTaken b → NoneTaken a
 still_none spec (Some c) (Some r) a b makes none = λ call has. none call (makes.still_known call has)
 still_none spec (Some c) None a b makes none = λ call has. none call (makes.1.still_known call has)
 still_none spec None (Some r) a b makes none = absurd makes
@@ -194,7 +194,7 @@ StandsAt spec a head = ChannelStands spec a.client a.stage head a.port.own a.por
 idle_elsewhere : (spec : ChannelSpec) (client : Option ℕ) (head other : FileHead) (own : List BufferEntry) (got : List GotEvent) (seen later : Seen) → ChannelStands spec client Idle head own got seen → ChannelStands spec client Idle other own got later
 idle_elsewhere spec client head other own got seen later stands = record { port = stands.port; own_client = stands.own_client; at = stands.at }
 
-none_in : {X : Type 0} (xs : List X) → xs ≡ [] → (x : X) → Contains xs x → ⊥
+pub none_in : {X : Type 0} (xs : List X) → xs ≡ [] → (x : X) → Contains xs x → ⊥
 none_in {X} xs is x has = let never : Contains [] x = subst (λ (l : List X). Contains l x) is has in omega (arith, never.1)
 
 pub opened_kept : (spec : ChannelSpec) (order : Order) (dump : List ℕ) (r : Result ⊤ Why) (a b : ChannelAt) → OpensBy r spec order dump a b → a.stage ≡ Idle → length dump ≤ record_limit

@@ -138,9 +138,9 @@ IsOpenFile seen spec None = ⊤
 IsOpenFile seen spec (Some opened) = IsTrue (seen.writes opened.file) × (seen.name_of opened.file ≡ file_name_by spec.pattern opened.run)
 
 -- the name of the file of this run, if there is one
-abbrev pub run_name : ChannelSpec → Option ChannelRun → List ℕ
-run_name spec None = []
-run_name spec (Some opened) = file_name_by spec.pattern opened.run
+abbrev pub channel_file : ChannelSpec → Option ChannelRun → List ℕ
+channel_file spec None = []
+channel_file spec (Some opened) = file_name_by spec.pattern opened.run
 
 -- the stage once the run was begun at this place
 abbrev pub stage_begun : ChannelStage → (begun : ℕ) → ChannelStage
@@ -148,14 +148,14 @@ stage_begun (Asking opened) begun = Writing opened begun
 stage_begun stage begun = stage
 
 -- the place at which a run was ended, with this mark more
-abbrev pub ended_by : (before mark : Option ℕ) → Option ℕ
-ended_by None mark = mark
-ended_by (Some end) mark = Some end
+abbrev pub end_marked : (before mark : Option ℕ) → Option ℕ
+end_marked None mark = mark
+end_marked (Some end) mark = Some end
 
 -- the stage once the run was ended at this place, or could not be
 abbrev pub stage_ended : ChannelStage → (ended : Option ℕ) → ChannelStage
 stage_ended (Writing opened begun) ended = Draining (record { opened = opened; begun = begun; ended = ended })
-stage_ended (Broken run) ended = Broken (record run { ended = ended_by run.ended ended })
+stage_ended (Broken run) ended = Broken (record run { ended = end_marked run.ended ended })
 stage_ended stage ended = stage
 
 -- the run that the channel writes, or broke off

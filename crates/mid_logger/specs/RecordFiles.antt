@@ -16,8 +16,9 @@ pub record DropsFile (old new : Seen) (number : ℕ) (name : List ℕ) : Type 0 
 abbrev pub IsGone : Seen → (name : List ℕ) → Type 0
 IsGone seen name = IsTrue seen.tells → seen.at name ≡ None
 
--- A file of this name was made and is no more written. It is gone, unless the count of faults rose so.
+-- There was no file of this name; one was made, perhaps, and is no more written. It is gone, unless the count of faults rose so.
 pub record UndoesFile (Rises : ℕ → ℕ → Type 0) (old new : Seen) (name : List ℕ) (faults later_faults : ℕ) : Type 0 where
   pub touches : Touches old new name
   pub numbers : KeepsNumbers old new
+  pub fresh : IsGone old name
   pub gone : IsGone new name ⊎ Rises faults later_faults

@@ -8,7 +8,7 @@ ghost use Rattle.buffer_core.specs.declared.entry.BufferEntry.TheVariants.{Begin
 ghost use Rattle.buffer_core.specs.Ports.{GotEvent};
 ghost use Rattle.mid_logger.specs.declared.stage.ChannelRun.{ChannelRun};
 ghost use Rattle.mid_logger.specs.declared.stage.ChannelStage.TheVariants.{Asking, Drained, Broken};
-ghost use Rattle.mid_logger.specs.Channels.{FileHead, ChannelStands, IsOpenFile, ClosesPart, CancelsRequest, is_behind_end, reading_run, written_run, run_name, stage_begun, stage_ended, ended_by, channel_run, place_marked};
+ghost use Rattle.mid_logger.specs.Channels.{FileHead, ChannelStands, IsOpenFile, ClosesPart, CancelsRequest, is_behind_end, reading_run, written_run, channel_file, stage_begun, stage_ended, end_marked, channel_run, place_marked};
 ghost use Rattle.mid_logger.specs.Pulls.{TakesEvent, PullsOnce, Pulls, PullFaults, PullFirst, NamesMore, failed_by, drains_at_none};
 
 use crate::channel_spec::ChannelSpec;
@@ -77,7 +77,7 @@ fn begun_stage(stage: ChannelStage, begun: u64) -> ChannelStage
 
 /// The place at which a run was ended, with this mark more.
 fn ended_first(before: Option<u64>, mark: Option<u64>) -> Option<u64>
-    ensures { result ≡ ended_by before mark }
+    ensures { result ≡ end_marked before mark }
 {
     match before {
         None => mark,
@@ -247,7 +247,7 @@ impl Channel {
         }) self.old.event.room }
         ensures faults { PullFaults result (F.faults files.old) (F.faults files.new) }
         ensures clashes { F.clashes files.new ≡ F.clashes files.old }
-        ensures first { PullFirst result (run_name self.old.spec (written_run self.old.stage))
+        ensures first { PullFirst result (channel_file self.old.spec (written_run self.old.stage))
             (F.first files.old) (F.first files.new) }
         ensures file { IsOpenFile (F.seen files.new) self.new.spec (written_run self.new.stage) }
         ensures keeps { (head : FileHead) →
@@ -284,7 +284,7 @@ impl Channel {
         }) self.old.event.room }
         ensures faults { PullFaults result (F.faults files.old) (F.faults files.new) }
         ensures clashes { F.clashes files.new ≡ F.clashes files.old }
-        ensures first { PullFirst result (run_name self.old.spec (written_run self.old.stage))
+        ensures first { PullFirst result (channel_file self.old.spec (written_run self.old.stage))
             (F.first files.old) (F.first files.new) }
     {
         let Some(run) = run_read(self.stage) else {

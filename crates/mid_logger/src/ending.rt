@@ -7,7 +7,7 @@ ghost use Rattle.daq_io.specs.Seen.{Closes};
 ghost use Rattle.buffer_core.specs.declared.entry.BufferEntry.{BufferEntry};
 ghost use Rattle.buffer_core.specs.Ports.{GotEvent};
 ghost use Rattle.mid_logger.specs.declared.stage.ChannelStage.TheVariants.{Idle};
-ghost use Rattle.mid_logger.specs.Channels.{FileHead, ChannelStands, ClosesPart, IsOpenFile, channel_run, written_run, run_name};
+ghost use Rattle.mid_logger.specs.Channels.{FileHead, ChannelStands, ClosesPart, IsOpenFile, channel_run, written_run, channel_file};
 ghost use Rattle.mid_logger.specs.Pulls.{NamesMore};
 ghost use Rattle.mid_logger.specs.ChannelTurns.{NotesFault, asking_run, broken_run, drained_run};
 ghost use Rattle.mid_logger.specs.ChannelEnds.{CancelsStanding, RemovesFile, ClosesFile, HasLeft, last_bytes, state_ended, state_otherwise, stage_settled};
@@ -148,7 +148,7 @@ impl Channel {
         ensures failed { NotesFault self.old.failed self.new.failed (F.faults files.old)
             (F.faults files.new) }
         ensures clashes { F.clashes files.new ≡ F.clashes files.old }
-        ensures first { NamesMore (run_name self.old.spec (channel_run self.old.stage))
+        ensures first { NamesMore (channel_file self.old.spec (channel_run self.old.stage))
             (F.first files.old) (F.first files.new) }
     {
         if let Some(opened) = run_written(self.stage) {
@@ -177,7 +177,7 @@ impl Channel {
         ensures failed { NotesFault self.old.failed self.new.failed (F.faults files.old)
             (F.faults files.new) }
         ensures clashes { F.clashes files.new ≡ F.clashes files.old }
-        ensures first { NamesMore (run_name self.old.spec (channel_run self.old.stage))
+        ensures first { NamesMore (channel_file self.old.spec (channel_run self.old.stage))
             (F.first files.old) (F.first files.new) }
         ensures keeps { (head : FileHead) →
             ChannelStands self.old.spec self.old.client self.old.stage head (P.access port.old).own
@@ -207,7 +207,7 @@ impl Channel {
         ensures failed { NotesFault self.old.failed self.new.failed (F.faults files.old)
             (F.faults files.new) }
         ensures clashes { F.clashes files.new ≡ F.clashes files.old }
-        ensures first { NamesMore (run_name self.old.spec (channel_run self.old.stage))
+        ensures first { NamesMore (channel_file self.old.spec (channel_run self.old.stage))
             (F.first files.old) (F.first files.new) }
         ensures left { (head : FileHead) → (own : List BufferEntry) → (got : List GotEvent) →
             ChannelStands self.old.spec self.old.client self.old.stage head own got
@@ -239,7 +239,7 @@ impl Channel {
         ensures failed { NotesFault self.old.failed self.new.failed (F.faults files.old)
             (F.faults files.new) }
         ensures clashes { F.clashes files.new ≡ F.clashes files.old }
-        ensures first { NamesMore (run_name self.old.spec (channel_run self.old.stage))
+        ensures first { NamesMore (channel_file self.old.spec (channel_run self.old.stage))
             (F.first files.old) (F.first files.new) }
     {
         let stage = self.stage;

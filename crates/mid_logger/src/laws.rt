@@ -1,6 +1,6 @@
 //! What leaves a channel as it stands: each function does nothing, and its contract is the law.
 
-ghost use Rattle.mid_logger.specs.Beside.{CallsBeside, FilesBeside};
+ghost use Rattle.mid_logger.specs.Beside.{AbortsBeside, CallsBeside, ClosesBeside, FilesBeside, OpensBeside, PullsBeside};
 
 /// A call on the channel's buffer that names another client leaves what the channel keeps: calls of other channels, and
 /// pauses and resumes.
@@ -11,4 +11,24 @@ pub fn calls_beside()
 /// A change of other files leaves what the channel keeps.
 pub fn files_beside()
     ensures { FilesBeside }
+{}
+
+/// What one channel pulls leaves what another channel on the buffer keeps, where each has a client and a file of its own.
+pub fn pulls_beside()
+    ensures { PullsBeside }
+{}
+
+/// So does the calling off of its run.
+pub fn aborts_beside()
+    ensures { AbortsBeside }
+{}
+
+/// So does the ending of its file.
+pub fn closes_beside()
+    ensures { ClosesBeside }
+{}
+
+/// So does the opening of a run, and its refusal; and the two channels are apart then.
+pub fn opens_beside()
+    ensures { OpensBeside }
 {}
