@@ -18,7 +18,7 @@ use Rattle.daq_session.specs.declared.halts.Halt.{Halt}
 use Rattle.daq_session.specs.declared.halts.Halt.TheVariants.{NoMemory}
 use Rattle.session_console.specs.declared.replies.Reply.{Reply}
 use Rattle.session_console.specs.declared.replies.Reply.TheVariants.{Database}
-use Rattle.daq_session.specs.declared.state.State.{State}
+use Rattle.daq_session.specs.declared.session.Session.{Session}
 use Rattle.daq_session.specs.RunTransitions.{CallsMore}
 use Rattle.daq_session.specs.Stages.{Outset, Stage, DoesByLine, DoesCommand, Interrupts, answered, called}
 use Rattle.daq_session.specs.Standing.{Course, behind_reply, stage_of, IsReady, AnswersBy, LineDoes, Handles, Breaks}
@@ -41,7 +41,7 @@ answer_is : (s : Rows) (command : Command) → IsSome (answer_of s command) → 
 answer_is s command some = let found = answer_some command (answer_of s command) some (performs_answer s command) in record { answer = found.0; is = found.1; performs = found.2 }
 
 -- the first of its calls were made, or none
-pub interrupted_none : {T E : Type 0} (result : Result T E) (command : Command) (old : State) (q : Noted) → IsSome (answer_of old.database.rows command) → KeepsCalls old.database q
+pub interrupted_none : {T E : Type 0} (result : Result T E) (command : Command) (old : Session) (q : Noted) → IsSome (answer_of old.database.rows command) → KeepsCalls old.database q
     → OnErr result ((c : Course) → Interrupts (Ok command) (stage_of old c) (with_calls (stage_of old c) q))
 interrupted_none (Ok t) command old q some same = tt
 interrupted_none (Err why) command old q some same =
@@ -53,7 +53,7 @@ ends_answer command p between q answer same is ends =
     ends_kept p between q (by_main answer.calls) same
     (subst (λ (o : Option Answer). EndsEarly between q (calls_of o)) (ap (λ (rows : Rows). answer_of rows command) same.rows ∙ is) ends)
 
-pub interrupted_answer : {T E : Type 0} (result : Result T E) (command : Command) (old : State) (between q : Noted) → IsSome (answer_of old.database.rows command) → KeepsCalls old.database between
+pub interrupted_answer : {T E : Type 0} (result : Result T E) (command : Command) (old : Session) (between q : Noted) → IsSome (answer_of old.database.rows command) → KeepsCalls old.database between
     → EndsEarly between q (calls_of (answer_of between.rows command))
     → OnErr result ((c : Course) → Interrupts (Ok command) (stage_of old c) (with_calls (stage_of old c) q))
 interrupted_answer (Ok t) command old between q some same ends = tt
@@ -79,7 +79,7 @@ answers_calls command p between q reply some same answers =
     let is : Answers between q found.answer reply = subst (λ (o : Option Answer). AnswersIf between q o (Some reply)) (ap (λ (rows : Rows). answer_of rows command) same.rows ∙ found.is) answers in
     (found.answer.calls, subst (λ (r : CommandReply). Performs command found.answer.calls r) (sym is.answered) found.performs, is.calls)
 
-pub command_done : (command : Command) (old : State) (between q : Noted) (reply : CommandReply) → IsSome (answer_of old.database.rows command) → KeepsCalls old.database between
+pub command_done : (command : Command) (old : Session) (between q : Noted) (reply : CommandReply) → IsSome (answer_of old.database.rows command) → KeepsCalls old.database between
     → AnswersIf between q (answer_of between.rows command) (Some reply)
     → (c : Course) → DoesCommand (stage_of old c) command (record (with_calls (stage_of old c) q) { replies = c.replies ++ Database reply ∷ [] })
 command_done command old between q reply some same answers c =
@@ -102,7 +102,7 @@ command_more command p between q reply some same answers =
     more_after p.history between.history q.history (more_none p.history between.history same.history) (more_grown between q (by_main made.0) made.2 (main_called made.0))
 
 -- the line was answered in this way
-pub answers_inside : (Way : Outset → Stage → Stage → Type 0) (reply : Reply) (old new : State) (outside : Outset) → new.runs.items ≡ old.runs.items → new.current ≡ old.current
+pub answers_inside : (Way : Outset → Stage → Stage → Type 0) (reply : Reply) (old new : Session) (outside : Outset) → new.recorder.runs ≡ old.recorder.runs → new.recorder.on ≡ old.recorder.on
     → CallsMore old.database.history new.database.history
     → ((o : Outset) (c : Course) → Way o (stage_of old c) (stage_of new (behind_reply c c.readings c.clashes reply)))
     → AnswersBy Way reply old new outside outside
@@ -130,8 +130,8 @@ call_does o old new (Remove path) does = does
 call_does o old new Exit does = absurd does.2
 
 -- a command of the database was answered, or found no memory
-pub handles_call : (line : Result Command LineRefusal) (command : Command) (old new : State) (outside : Outset) (result : Result Reply Halt) → line ≡ Ok command
-    → new.runs.items ≡ old.runs.items → new.current ≡ old.current → IsReady outside.files old.current → CallsMore old.database.history new.database.history
+pub handles_call : (line : Result Command LineRefusal) (command : Command) (old new : Session) (outside : Outset) (result : Result Reply Halt) → line ≡ Ok command
+    → new.recorder.runs ≡ old.recorder.runs → new.recorder.on ≡ old.recorder.on → IsReady outside.files old.recorder.on → CallsMore old.database.history new.database.history
     → IfOk result (λ reply. (c : Course) → DoesCommand (stage_of old c) command (stage_of new (behind_reply c c.readings c.clashes reply)))
     → IfErr result (λ halt. halt ≡ NoMemory)
     → OnErr result ((c : Course) → Interrupts (Ok command) (stage_of old c) (stage_of new c))

@@ -20,12 +20,12 @@ use Rattle.daq_session.specs.declared.halts.Halt.TheVariants.{NoMemory, SinkFaul
 use Rattle.session_console.specs.declared.refusals.Refusals.{Refusals}
 use Rattle.session_console.specs.declared.replies.Reply.{Reply}
 use Rattle.session_console.specs.declared.replies.Reply.TheVariants.{Silent, BadCommand, WrongState, RunNumber, StartRefused, Started, Stopped as run_stopped, Database}
-use Rattle.daq_session.specs.declared.state.State.{State}
-use Rattle.daq_session.specs.declared.state.OpenRun.{OpenRun}
+use Rattle.daq_session.specs.declared.session.Session.{Session}
+use Rattle.run_recorder.specs.RunRecords.{RunOn}
 use Rattle.session_console.specs.Console.{console_text, text_of, is_refusal, refused_lines, refused_lines-more}
 use Rattle.session_console.specs.Refused.{Counts}
 use Rattle.daq_session.specs.RunTransitions.{CallsStand}
-use Rattle.daq_session.specs.RunRecords.{IsKept}
+use Rattle.run_recorder.specs.RunRecords.{IsKept}
 use Rattle.daq_session.specs.Endings.{SinkCounts}
 use Rattle.daq_session.specs.Halts.{HaltBy}
 use Rattle.daq_session.specs.Stages.{Outset, Stage, DoesByLine}
@@ -169,16 +169,20 @@ counts_accepted replies reply refusals accepted counts =
 
 -- The stop at the end.
 
-closes_none : (o : Outset) (on : Option OpenRun) (s : Stage) → on ≡ None → MatchOption (order_in on) (s ≡ s) (λ (order : Order). DoesByLine o s (Ok Stop) s)
-closes_none o on s idle = subst (λ (run : Option OpenRun). MatchOption (order_in run) (s ≡ s) (λ (order : Order). DoesByLine o s (Ok Stop) s)) (sym idle) refl
+closes_none : (o : Outset) (on : Option RunOn) (s : Stage) → on ≡ None → MatchOption (order_in on) (s ≡ s) (λ (order : Order). DoesByLine o s (Ok Stop) s)
+closes_none o on s idle = subst (λ (run : Option RunOn). MatchOption (order_in run) (s ≡ s) (λ (order : Order). DoesByLine o s (Ok Stop) s)) (sym idle) refl
 
-closes_some : (o : Outset) (on : Option OpenRun) (old new : Stage) → IsSome on → DoesByLine o old (Ok Stop) new → MatchOption (order_in on) (new ≡ old) (λ (order : Order). DoesByLine o old (Ok Stop) new)
+closes_some : (o : Outset) (on : Option RunOn) (old new : Stage) → IsSome on → DoesByLine o old (Ok Stop) new → MatchOption (order_in on) (new ≡ old) (λ (order : Order). DoesByLine o old (Ok Stop) new)
 closes_some o None old new some does = absurd (cc)
 closes_some o (Some run) old new some does = does
 
-stopped : (o : Outset) (ending : Ending) (source left told_first told : Option (List ℕ)) (reply : Reply) (old new : State) (before after : Outset) (refusals : Refusals)
-    → (played : Played o ending source left told_first told old before refusals) → IsSome old.current → AnswersLine (Ok Stop) reply old new before after → new.current ≡ None
-    → (readings : ℕ) × (clashes : ℕ) × IsPlayed o after (CutBy ending source played.lines) played.lines (stage_of new (course_of readings clashes (played.replies ++ reply ∷ []))) × CallsStand new.database.history new.runs.items None
+on_some : (on : Option RunOn) → IsSome on → order_in on ≢ None
+on_some None some is = absurd (cc)
+on_some (Some run) some is = let clash : Some run.order ≡ None = is in cc
+
+stopped : (o : Outset) (ending : Ending) (source left told_first told : Option (List ℕ)) (reply : Reply) (old new : Session) (before after : Outset) (refusals : Refusals)
+    → (played : Played o ending source left told_first told old before refusals) → IsSome old.recorder.on → AnswersLine (Ok Stop) reply old new before after → new.recorder.on ≡ None
+    → (readings : ℕ) × (clashes : ℕ) × (p : IsPlayed o after (CutBy ending source played.lines) played.lines (stage_of new (course_of readings clashes (played.replies ++ reply ∷ [])))) × CallsStand new.database.history new.recorder.runs None × (p.cut.on ≢ None)
 stopped o ending source left told_first told reply old new before after refusals played running answers idle =
     let course : Course = course_of played.readings played.clashes played.replies in
     let leads = answers o course played.at in (
@@ -189,12 +193,13 @@ stopped o ending source left told_first told reply old new before after refusals
         plays = played.plays;
         cut = stage_of old course;
         is_cut = played.cut;
-        closes = closes_some o old.current (stage_of old course) (stage_of new (behind_reply course leads.readings leads.clashes reply)) running leads.does;
-        kept = subst (λ (on : Option OpenRun). IsKept o.files after.files new.runs.items on) idle leads.at.kept;
+        closes = closes_some o old.recorder.on (stage_of old course) (stage_of new (behind_reply course leads.readings leads.clashes reply)) running leads.does;
+        kept = subst (λ (on : Option RunOn). IsKept o.files after.files new.recorder.runs on) idle leads.at.kept;
         clock = leads.at.clock;
         clashes = leads.at.clashes;
       },
-      subst (λ (on : Option OpenRun). CallsStand new.database.history new.runs.items (order_in on)) idle leads.at.calls,
+      subst (λ (on : Option RunOn). CallsStand new.database.history new.recorder.runs (order_in on)) idle leads.at.calls,
+      on_some old.recorder.on running,
     )
 
 -- The ways to close.
@@ -212,8 +217,8 @@ nothing_behind SourceFault told number = nothing_more None told number
 nothing_behind (Halted halt) told number = keeps_same told
 
 -- no run was on
-pub finished_idle : (o : Outset) (ending : Ending) (source left told_first told : Option (List ℕ)) (s : State) (now : Outset) (refusals : Refusals)
-    → s.current ≡ None → Played o ending source left told_first told s now refusals → Finished o ending None source left told_first told s now refusals
+pub finished_idle : (o : Outset) (ending : Ending) (source left told_first told : Option (List ℕ)) (s : Session) (now : Outset) (refusals : Refusals)
+    → s.recorder.on ≡ None → Played o ending source left told_first told s now refusals → Finished o ending None source left told_first told s now refusals
 finished_idle o ending source left told_first told s now refusals idle played =
     let same : played.replies ++ [] ≡ played.replies = append-nil played.replies in
     record {
@@ -227,12 +232,13 @@ finished_idle o ending source left told_first told s now refusals idle played =
         plays = played.plays;
         cut = stage_of s (course_of played.readings played.clashes played.replies);
         is_cut = played.cut;
-        closes = closes_none o s.current (stage_of s (course_of played.readings played.clashes played.replies)) idle;
-        kept = subst (λ (on : Option OpenRun). IsKept o.files now.files s.runs.items on) idle played.at.kept;
+        closes = closes_none o s.recorder.on (stage_of s (course_of played.readings played.clashes played.replies)) idle;
+        kept = subst (λ (on : Option RunOn). IsKept o.files now.files s.recorder.runs on) idle played.at.kept;
         clock = played.at.clock;
         clashes = played.at.clashes;
       });
-      calls = subst (λ (on : Option OpenRun). CallsStand s.database.history s.runs.items (order_in on)) idle played.at.calls;
+      idle = λ is. refl;
+      calls = subst (λ (on : Option RunOn). CallsStand s.database.history s.recorder.runs (order_in on)) idle played.at.calls;
       counts = subst (λ (rs : List Reply). Counts (refused_lines 1 rs) refusals) (sym same) played.counts;
       are_lines = played.are_lines;
       numbered = played.numbered;
@@ -242,8 +248,8 @@ finished_idle o ending source left told_first told s now refusals idle played =
     }
 
 -- the run was stopped, and this was written of that
-pub finished_stopped : (o : Outset) (ending : Ending) (closing : Option Halt) (source left told_first told_old told_new : Option (List ℕ)) (old new : State) (before after : Outset) (refusals : Refusals) (reply : Reply)
-    → IsSome old.current → AnswersLine (Ok Stop) reply old new before after → new.current ≡ None → is_refusal reply ≡ false
+pub finished_stopped : (o : Outset) (ending : Ending) (closing : Option Halt) (source left told_first told_old told_new : Option (List ℕ)) (old new : Session) (before after : Outset) (refusals : Refusals) (reply : Reply)
+    → IsSome old.recorder.on → AnswersLine (Ok Stop) reply old new before after → new.recorder.on ≡ None → is_refusal reply ≡ false
     → ((number : ℕ) → WroteBehind ending closing told_old told_new number (reply ∷ []))
     → Played o ending source left told_first told_old old before refusals → Finished o ending closing source left told_first told_new new after refusals
 finished_stopped o ending closing source left told_first told_old told_new old new before after refusals reply running answers idle accepted here played =
@@ -255,6 +261,7 @@ finished_stopped o ending closing source left told_first told_old told_new old n
       readings = is_stopped.0;
       clashes = is_stopped.1;
       played = is_stopped.2;
+      idle = λ is. absurd (is_stopped.4 is);
       calls = is_stopped.3;
       counts = counts_accepted played.replies reply refusals accepted played.counts;
       are_lines = played.are_lines;

@@ -35,7 +35,8 @@ use Rattle.daq_session.specs.RunRecordFits.{GivesNumber, StartsIn, StopsBy, RunR
 use Rattle.daq_session.specs.Playing.{CutBy}
 use Rattle.daq_session.specs.Played.{IsPlayed}
 use Rattle.daq_session.specs.Sessions.{IsRecorded}
-use Rattle.daq_session.specs.Stages.{Outset, Stage, opening, called, Begins, Refuses, EndsRun, completed_record, refused_record, next_order}
+use Rattle.daq_session.specs.Stages.{Outset, Stage, opening, called, Begins, Refuses, EndsRun, next_order}
+use Rattle.run_recorder.specs.RunRecords.{completed_record, refused_record}
 use Rattle.daq_session.proofs.PlayedLaws.{IsKeptByLines, script_keeps}
 
 -- Calls more.

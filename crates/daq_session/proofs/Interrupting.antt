@@ -22,7 +22,7 @@ use Rattle.daq_session.specs.declared.halts.Halt.{Halt}
 use Rattle.daq_session.specs.declared.halts.Halt.TheVariants.{NoMemory, FileFault}
 use Rattle.session_console.specs.FrontNames.{front_name}
 use Rattle.session_console.specs.declared.replies.Reply.{Reply}
-use Rattle.daq_session.specs.declared.state.State.{State}
+use Rattle.daq_session.specs.declared.session.Session.{Session}
 use Rattle.daq_session.specs.RunTransitions.{CallsMore}
 use Rattle.daq_session.specs.RunCalls.{key_made, number_asked, is_settled, opens_session}
 use Rattle.daq_session.specs.Stages.{Outset, Stage, OpensSession, CallsLine, CallsStart, Interrupts, called, opened_by}
@@ -51,13 +51,13 @@ cut_own p q calls ends =
     }
 
 -- the outside stands as it did against a state with the same runs
-pub at_same : (old new : State) (now : Outset) → new.runs.items ≡ old.runs.items → new.current ≡ old.current → CallsMore old.database.history new.database.history
+pub at_same : (old new : Session) (now : Outset) → new.recorder.runs ≡ old.recorder.runs → new.recorder.on ≡ old.recorder.on → CallsMore old.database.history new.database.history
     → (o : Outset) (c : Course) → IsAt o c old now → IsAt o c new now
 at_same old new now is_runs is_current more o c at = record {
   kept = rw (is_runs, is_current) at.kept;
   clock = at.clock;
   clashes = at.clashes;
-  calls = rw (is_runs, is_current) (stand_more old.database.history new.database.history old.runs.items (order_in old.current) more at.calls);
+  calls = rw (is_runs, is_current) (stand_more old.database.history new.database.history old.recorder.runs (order_in old.recorder.on) more at.calls);
 }
 
 -- A command of the database.
@@ -92,7 +92,7 @@ open_as_before Exit opened made calls reply does = refl
 abbrev pub with_calls : Stage → Noted → Stage
 with_calls s q = record s { own = entries_by 0 q.history; front = entries_by 1 q.history }
 
-pub interrupts_command : (command : Command) (old : State) (q : Noted) (calls : List DatabaseEntry) (reply : CommandReply) → Performs command calls reply → CutOwn old.database q calls
+pub interrupts_command : (command : Command) (old : Session) (q : Noted) (calls : List DatabaseEntry) (reply : CommandReply) → Performs command calls reply → CutOwn old.database q calls
     → (c : Course) → Interrupts (Ok command) (stage_of old c) (with_calls (stage_of old c) q)
 interrupts_command command old q calls reply does cut c = record {
   calls = calls;
@@ -164,44 +164,44 @@ interrupts_opening old new made shut idle short unopened leads = record {
   leads = leads ∙ ap (λ (b : Bool). record (called old made) { opened = b }) (sym (or_right old.opened (opens_session made) shut ∙ unopened ∙ sym shut));
 }
 
-still_own : (old : State) (q : Noted) (c : Course) (made : List DatabaseEntry) → entries_by 0 q.history ≡ entries_by 0 old.database.history ++ made → entries_by 1 q.history ≡ entries_by 1 old.database.history
+still_own : (old : Session) (q : Noted) (c : Course) (made : List DatabaseEntry) → entries_by 0 q.history ≡ entries_by 0 old.database.history ++ made → entries_by 1 q.history ≡ entries_by 1 old.database.history
     → with_calls (stage_of old c) q ≡ called (stage_of old c) made
 still_own old q c made own front =
     ap (λ (es : List DatabaseEntry). record (stage_of old c) { own = es; front = entries_by 1 q.history }) own
     ∙ ap (λ (es : List DatabaseEntry). record (stage_of old c) { own = entries_by 0 old.database.history ++ made; front = es }) front
 
 -- nor was its key made
-pub opening_broken : (old : State) (q : Noted) → old.current ≡ None → old.opened ≡ false → MakesNoKey old.database.history q.history front_name
+pub opening_broken : (old : Session) (q : Noted) → old.recorder.on ≡ None → old.opened ≡ false → MakesNoKey old.database.history q.history front_name
     → (c : Course) → Interrupts (Ok Start) (stage_of old c) (with_calls (stage_of old c) q)
 opening_broken old q idle shut (inl same) c =
     interrupts_opening (stage_of old c) (with_calls (stage_of old c) q) [] shut (idle_stage old c idle) tt refl
     (still_own old q c [] (ap (λ (h : List (ℕ × DatabaseEntry)). entries_by 0 h) same ∙ sym (append-nil (entries_by 0 old.database.history))) (ap (λ (h : List (ℕ × DatabaseEntry)). entries_by 1 h) same))
   where
-    idle_stage : (old : State) (c : Course) → old.current ≡ None → (stage_of old c).on ≡ None
+    idle_stage : (old : Session) (c : Course) → old.recorder.on ≡ None → (stage_of old c).on ≡ None
     idle_stage old c idle = rw idle refl
 opening_broken old q idle shut (inr wanting) c =
     let grows : (by : ℕ) → entries_by by q.history ≡ entries_by by old.database.history ++ entries_by by ((0, key_made (Err no_memory)) ∷ []) = λ by. grown by old.database.history q.history wanting in
     interrupts_opening (stage_of old c) (with_calls (stage_of old c) q) (key_made (Err no_memory) ∷ []) shut (idle_stage old c idle) (inr (refl, refl)) refl
     (still_own old q c (key_made (Err no_memory) ∷ []) (grows 0) (grows 1 ∙ append-nil (entries_by 1 old.database.history)))
   where
-    idle_stage : (old : State) (c : Course) → old.current ≡ None → (stage_of old c).on ≡ None
+    idle_stage : (old : Session) (c : Course) → old.recorder.on ≡ None → (stage_of old c).on ≡ None
     idle_stage old c idle = rw idle refl
 
     grown : (by : ℕ) (h k : List (ℕ × DatabaseEntry)) → k ≡ h ++ (0, key_made (Err no_memory)) ∷ [] → entries_by by k ≡ entries_by by h ++ entries_by by ((0, key_made (Err no_memory)) ∷ [])
     grown by h k is = ap (λ (x : List (ℕ × DatabaseEntry)). entries_by by x) is ∙ entries_by-append by h ((0, key_made (Err no_memory)) ∷ [])
 
-pub opening_halted : {T E : Type 0} (result : Result T E) (old : State) (q : Noted) → old.current ≡ None → old.opened ≡ false → MakesNoKey old.database.history q.history front_name
+pub opening_halted : {T E : Type 0} (result : Result T E) (old : Session) (q : Noted) → old.recorder.on ≡ None → old.opened ≡ false → MakesNoKey old.database.history q.history front_name
     → OnErr result ((c : Course) → Interrupts (Ok Start) (stage_of old c) (with_calls (stage_of old c) q))
 opening_halted (Ok t) old q idle shut unmade = tt
 opening_halted (Err why) old q idle shut unmade = opening_broken old q idle shut unmade
 
 -- So a line is handled.
-pub memory_handled : (Way : Outset → Stage → Stage → Type 0) (Leaves : (old new : State) (before after : Outset) → Type 0) (Fails : (old : State) (before after : Outset) → Type 0) (old new : State) (before after : Outset) (result : Result Reply Halt) → IsErr result → IsErrAnd result (λ (h : Halt). h ≡ NoMemory)
-    → Leaves old new before after → IsReady after.files new.current → HandlesBy Way Leaves Fails old new before after result
+pub memory_handled : (Way : Outset → Stage → Stage → Type 0) (Leaves : (old new : Session) (before after : Outset) → Type 0) (Fails : (old : Session) (before after : Outset) → Type 0) (old new : Session) (before after : Outset) (result : Result Reply Halt) → IsErr result → IsErrAnd result (λ (h : Halt). h ≡ NoMemory)
+    → Leaves old new before after → IsReady after.files new.recorder.on → HandlesBy Way Leaves Fails old new before after result
 memory_handled Way Leaves Fails old new before after (Ok reply) err is leaves ready = absurd (false≢true err)
 memory_handled Way Leaves Fails old new before after (Err h) err is leaves ready = rw is (leaves, ready)
 
-pub fault_handled : (Way : Outset → Stage → Stage → Type 0) (Leaves : (old new : State) (before after : Outset) → Type 0) (Fails : (old : State) (before after : Outset) → Type 0) (old new : State) (before after : Outset) (result : Result Reply Halt)
+pub fault_handled : (Way : Outset → Stage → Stage → Type 0) (Leaves : (old new : Session) (before after : Outset) → Type 0) (Fails : (old : Session) (before after : Outset) → Type 0) (old new : Session) (before after : Outset) (result : Result Reply Halt)
     → IsErr result → IsErrAnd result (λ (h : Halt). h ≡ FileFault) → Fails old before after → HandlesBy Way Leaves Fails old new before after result
 fault_handled Way Leaves Fails old new before after (Ok reply) err is fails = absurd (false≢true err)
 fault_handled Way Leaves Fails old new before after (Err h) err is fails = rw is fails

@@ -1,6 +1,3 @@
-mod Sending
-mod BrokenFiles
-mod Keeping
 mod Interrupting
 mod OwnCalls
 mod TransitionLaws
@@ -13,16 +10,8 @@ mod PlayingLaws
 mod PlayingEnds
 mod ClosingLaws
 mod RunLaws
-mod Passing
-mod BufferLaws
-mod RunsTelling
-mod RunsHeld
-mod CallsKept
-mod OfRuns
-mod OpeningRuns
-mod WholeFiles
-mod RunsKept
 mod NumberLaws
+mod RunsFiled
 mod Answering
 mod PlayedLaws
 mod FrontLaws

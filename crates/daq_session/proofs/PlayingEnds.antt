@@ -15,7 +15,7 @@ use Rattle.daq_session.specs.declared.endings.Ending.{Ending}
 use Rattle.daq_session.specs.declared.endings.Ending.TheVariants.{End, TooLong, SourceFault, Halted}
 use Rattle.session_console.specs.declared.replies.Reply.{Reply}
 use Rattle.session_console.specs.declared.refusals.Refusals.{Refusals}
-use Rattle.daq_session.specs.declared.state.State.{State}
+use Rattle.daq_session.specs.declared.session.Session.{Session}
 use Rattle.session_console.specs.Console.{text_of, console_text}
 use Rattle.daq_session.specs.Stages.{Outset, Stage, Interrupts}
 use Rattle.odb_script.specs.declared.forms.Command.{Command}
@@ -39,8 +39,8 @@ cut_none (Halted SinkFault) source lines s = refl
 cut_none (Halted FileFault) source lines s = refl
 
 -- the lines were answered, and nothing else was done
-answered_played : (o : Outset) (ending : Ending) (source left told_first told_now : Option (List ℕ)) (lines : List (List ℕ)) (replies : List Reply) (s : State) (now : Outset) (refusals : Refusals)
-    → Moment o lines replies s now refusals → IsReady now.files s.current → ((text : List ℕ) → source ≡ Some text → AreLines ending text left lines) → Wrote ending told_first told_now replies
+answered_played : (o : Outset) (ending : Ending) (source left told_first told_now : Option (List ℕ)) (lines : List (List ℕ)) (replies : List Reply) (s : Session) (now : Outset) (refusals : Refusals)
+    → Moment o lines replies s now refusals → IsReady now.files s.recorder.on → ((text : List ℕ) → source ≡ Some text → AreLines ending text left lines) → Wrote ending told_first told_now replies
     → Played o ending source left told_first told_now s now refusals
 answered_played o ending source left told_first told_now lines replies s now refusals moment ready are wrote = record {
   lines = lines;
@@ -59,7 +59,7 @@ answered_played o ending source left told_first told_now lines replies s now ref
 }
 
 -- the source ended between two lines
-pub ended_played : (o : Outset) (source_first source_old source_new told_first told_now : Option (List ℕ)) (old new : Reading) (s : State) (now : Outset) (refusals : Refusals) (number : ℕ)
+pub ended_played : (o : Outset) (source_first source_old source_new told_first told_now : Option (List ℕ)) (old new : Reading) (s : Session) (now : Outset) (refusals : Refusals) (number : ℕ)
     → SoFar o source_first source_old told_first told_now old s now refusals number → ReadsNone old new source_old source_new → Played o End source_first source_new told_first told_now s now refusals
 ended_played o source_first source_old source_new told_first told_now old new s now refusals number so_far reads =
     answered_played o End source_first source_new told_first told_now so_far.lines so_far.replies s now refusals so_far.moment so_far.ready
@@ -68,7 +68,7 @@ ended_played o source_first source_old source_new told_first told_now old new s 
     so_far.wrote
 
 -- the script is too long
-pub too_long_played : (o : Outset) (source_first source_old source_new told_first told_now : Option (List ℕ)) (old new : Reading) (s : State) (now : Outset) (refusals : Refusals) (number : ℕ)
+pub too_long_played : (o : Outset) (source_first source_old source_new told_first told_now : Option (List ℕ)) (old new : Reading) (s : Session) (now : Outset) (refusals : Refusals) (number : ℕ)
     → SoFar o source_first source_old told_first told_now old s now refusals number → ReadsTooMuch old new source_old source_new → Played o TooLong source_first source_new told_first told_now s now refusals
 too_long_played o source_first source_old source_new told_first told_now old new s now refusals number so_far reads =
     answered_played o TooLong source_first source_new told_first told_now so_far.lines so_far.replies s now refusals so_far.moment so_far.ready
@@ -77,7 +77,7 @@ too_long_played o source_first source_old source_new told_first told_now old new
     so_far.wrote
 
 -- the source failed
-pub fault_played : (o : Outset) (source_first source_old source_new told_first told_now : Option (List ℕ)) (old new : Reading) (s : State) (now : Outset) (refusals : Refusals) (number : ℕ)
+pub fault_played : (o : Outset) (source_first source_old source_new told_first told_now : Option (List ℕ)) (old new : Reading) (s : Session) (now : Outset) (refusals : Refusals) (number : ℕ)
     → SoFar o source_first source_old told_first told_now old s now refusals number → ReadsPart old new source_old source_new → Played o SourceFault source_first source_new told_first told_now s now refusals
 fault_played o source_first source_old source_new told_first told_now old new s now refusals number so_far reads =
     answered_played o SourceFault source_first source_new told_first told_now so_far.lines so_far.replies s now refusals so_far.moment so_far.ready
@@ -85,7 +85,7 @@ fault_played o source_first source_old source_new told_first told_now old new s 
     so_far.wrote
 
 -- one line more was answered, and it was the last that was played
-behind_played : (o : Outset) (ending : Ending) (source_first source_old left told_first told_old told_new : Option (List ℕ)) (reading : Reading) (old new : State) (before after : Outset) (was now : Refusals) (number : ℕ) (line : List ℕ) (reply : Reply)
+behind_played : (o : Outset) (ending : Ending) (source_first source_old left told_first told_old told_new : Option (List ℕ)) (reading : Reading) (old new : Session) (before after : Outset) (was now : Refusals) (number : ℕ) (line : List ℕ) (reply : Reply)
     → (so_far : SoFar o source_first source_old told_first told_old reading old before was number) → Replied (kept line) (number + 1) reply old new before after was now
     → ((text : List ℕ) → source_first ≡ Some text → AreLines ending text left (so_far.lines ++ line ∷ [])) → Wrote ending told_first told_new (so_far.replies ++ reply ∷ [])
     → Played o ending source_first left told_first told_new new after now
@@ -95,14 +95,14 @@ behind_played o ending source_first source_old left told_first told_old told_new
     replied.ready are wrote
 
 -- the text of one line more was written
-wrote_behind : (o : Outset) (source_first source_old told_first told_old told_new : Option (List ℕ)) (reading : Reading) (s : State) (before : Outset) (was : Refusals) (number : ℕ) (reply : Reply)
+wrote_behind : (o : Outset) (source_first source_old told_first told_old told_new : Option (List ℕ)) (reading : Reading) (s : Session) (before : Outset) (was : Refusals) (number : ℕ) (reply : Reply)
     → (so_far : SoFar o source_first source_old told_first told_old reading s before was number) → Appends told_old told_new (text_of (number + 1) reply)
     → Appends told_first told_new (console_text 1 (so_far.replies ++ reply ∷ []))
 wrote_behind o source_first source_old told_first told_old told_new reading s before was number reply so_far here =
     wrote_more told_first told_old told_new so_far.replies reply (number + 1) (omega (arith, so_far.is_number, so_far.moment.numbered)) so_far.wrote here
 
 -- the last line was answered, an `exit` or not
-pub last_played : (o : Outset) (source_first source_old source_new told_first told_old told_new : Option (List ℕ)) (reading_old reading_new : Reading) (old new : State) (before after : Outset) (was now : Refusals) (number : ℕ) (line shown : List ℕ) (going : Going)
+pub last_played : (o : Outset) (source_first source_old source_new told_first told_old told_new : Option (List ℕ)) (reading_old reading_new : Reading) (old new : Session) (before after : Outset) (was now : Refusals) (number : ℕ) (line shown : List ℕ) (going : Going)
     → SoFar o source_first source_old told_first told_old reading_old old before was number → ReadsLast reading_old reading_new source_old source_new line → shown ≡ kept line
     → DoesLine shown (number + 1) old new before after told_old told_new was now (Ok going) → Played o End source_first source_new told_first told_new new after now
 last_played o source_first source_old source_new told_first told_old told_new reading_old reading_new old new before after was now number line shown going so_far reads is_shown answered =
@@ -117,7 +117,7 @@ last_played o source_first source_old source_new told_first told_old told_new re
     (wrote_behind o source_first source_old told_first told_old told_new reading_old old before was number does.0 so_far does.2)
 
 -- an `exit` was answered
-pub exit_played : (o : Outset) (source_first source_old source_new told_first told_old told_new : Option (List ℕ)) (reading_old reading_new : Reading) (old new : State) (before after : Outset) (was now : Refusals) (number : ℕ) (line shown : List ℕ)
+pub exit_played : (o : Outset) (source_first source_old source_new told_first told_old told_new : Option (List ℕ)) (reading_old reading_new : Reading) (old new : Session) (before after : Outset) (was now : Refusals) (number : ℕ) (line shown : List ℕ)
     → SoFar o source_first source_old told_first told_old reading_old old before was number → ReadsLine reading_old reading_new source_old source_new line → shown ≡ kept line
     → DoesLine shown (number + 1) old new before after told_old told_new was now (Ok Exit) → Played o End source_first source_new told_first told_new new after now
 exit_played o source_first source_old source_new told_first told_old told_new reading_old reading_new old new before after was now number line shown so_far reads is_shown answered =
@@ -142,7 +142,7 @@ pub first_by_last : (source_first source_old source_new : Option (List ℕ)) (ol
 first_by_last source_first source_old source_new old new lines line read on reads text told = lines_first_last text source_old source_new old new lines line (told_read source_first source_old old lines text told read) on reads
 
 -- a line was not answered
-broken_played : (o : Outset) (source_first source_old left told_first told_old told_new : Option (List ℕ)) (reading : Reading) (old new : State) (before after : Outset) (was now : Refusals) (number : ℕ) (line : List ℕ)
+broken_played : (o : Outset) (source_first source_old left told_first told_old told_new : Option (List ℕ)) (reading : Reading) (old new : Session) (before after : Outset) (was now : Refusals) (number : ℕ) (line : List ℕ)
     → (so_far : SoFar o source_first source_old told_first told_old reading old before was number) → AreFirstOf source_first (so_far.lines ++ line ∷ []) → Unanswered (kept line) old new before after told_old told_new was now
     → Played o (Halted NoMemory) source_first left told_first told_new new after now
 broken_played o source_first source_old left told_first told_old told_new reading old new before after was now number line so_far first unanswered = record {
@@ -167,7 +167,7 @@ broken_played o source_first source_old left told_first told_old told_new readin
 }
 
 -- a call on the run files failed in a line
-failed_played : (o : Outset) (source_first source_old told_first told_old told_new : Option (List ℕ)) (reading : Reading) (old : State) (before after : Outset) (was now : Refusals) (number : ℕ) (line : List ℕ)
+failed_played : (o : Outset) (source_first source_old told_first told_old told_new : Option (List ℕ)) (reading : Reading) (old : Session) (before after : Outset) (was now : Refusals) (number : ℕ) (line : List ℕ)
     → (so_far : SoFar o source_first source_old told_first told_old reading old before was number) → AreFirstOf source_first (so_far.lines ++ line ∷ []) → FailedLine (kept line) old before after told_old told_new was now
     → PlayedUpTo o source_first told_first told_new after now
 failed_played o source_first source_old told_first told_old told_new reading old before after was now number line so_far first failed =
@@ -176,14 +176,14 @@ failed_played o source_first source_old told_first told_old told_new reading old
       lines = so_far.lines;
       behind = stage_of old course;
       plays = so_far.moment.plays;
-      fails = record { line = line; next = first; command = sym (command_of-kept line) ∙ failed.fails.0; breaks = failed.fails.1 o course so_far.moment.at };
+      fails = record { line = line; next = first; command = sym (command_of-kept line) ∙ failed.fails.0; called = record { history = old.database.history; legal = failed.legal; callers = so_far.moment.at.calls.callers; own = refl; front = refl }; fails = failed.fails.1 o course so_far.moment.at };
       counts = rw failed.same so_far.moment.counts;
       are_lines = λ text told. lines_first text source_old reading so_far.lines (told_read source_first source_old reading so_far.lines text told so_far.read) so_far.go_on;
       wrote = Appends-kept told_first told_old told_new (console_text 1 so_far.replies) so_far.wrote failed.kept;
     }
 
 -- the session halted at a line
-halted_played : (o : Outset) (halt : Halt) (source_first source_old left told_first told_old told_new : Option (List ℕ)) (reading : Reading) (old new : State) (before after : Outset) (was now : Refusals) (number : ℕ) (line : List ℕ)
+halted_played : (o : Outset) (halt : Halt) (source_first source_old left told_first told_old told_new : Option (List ℕ)) (reading : Reading) (old new : Session) (before after : Outset) (was now : Refusals) (number : ℕ) (line : List ℕ)
     → (so_far : SoFar o source_first source_old told_first told_old reading old before was number) → AreFirstOf source_first (so_far.lines ++ line ∷ [])
     → DoesLine (kept line) (number + 1) old new before after told_old told_new was now (Err halt) → PlaysTo o (Halted halt) source_first left told_first told_new new after now
 halted_played o FileFault source_first source_old left told_first told_old told_new reading old new before after was now number line so_far first does =
@@ -208,7 +208,7 @@ halted_played o NoMemory source_first source_old left told_first told_old told_n
     does
 
 -- the same, of the line as it is kept
-pub halted_at : (o : Outset) (halt : Halt) (source_first source_old left told_first told_old told_new : Option (List ℕ)) (reading : Reading) (old new : State) (before after : Outset) (was now : Refusals) (number : ℕ) (line shown : List ℕ)
+pub halted_at : (o : Outset) (halt : Halt) (source_first source_old left told_first told_old told_new : Option (List ℕ)) (reading : Reading) (old new : Session) (before after : Outset) (was now : Refusals) (number : ℕ) (line shown : List ℕ)
     → (so_far : SoFar o source_first source_old told_first told_old reading old before was number) → AreFirstOf source_first (so_far.lines ++ line ∷ []) → shown ≡ kept line
     → DoesLine shown (number + 1) old new before after told_old told_new was now (Err halt) → PlaysTo o (Halted halt) source_first left told_first told_new new after now
 halted_at o halt source_first source_old left told_first told_old told_new reading old new before after was now number line shown so_far first is_shown does =

@@ -19,16 +19,18 @@ use Rattle.daq_session.specs.declared.halts.Halt.{Halt}
 use Rattle.daq_session.specs.declared.halts.Halt.TheVariants.{NoMemory, SinkFault, FileFault}
 use Rattle.session_console.specs.declared.replies.Reply.{Reply}
 use Rattle.session_console.specs.declared.refusals.Refusals.{Refusals}
-use Rattle.daq_session.specs.declared.state.State.{State}
+use Rattle.daq_session.specs.declared.session.Session.{Session}
 use Rattle.session_console.specs.Console.{text_of, console_text, console_text-more}
 use Rattle.session_console.specs.Refused.{counts_noted}
-use Rattle.daq_session.specs.RunRecords.{IsFiled}
+use Rattle.run_recorder.specs.RunRecords.{IsFiled}
 use Rattle.daq_session.specs.Stages.{Outset, Stage, opening, DoesByLine, Plays}
 use Rattle.daq_session.specs.RunTransitions.{CallsStand}
 use Rattle.daq_session.specs.Standing.{Course, behind_reply, order_in, stage_of, Handles, IsReady}
 use Rattle.odb_script.specs.Lines.{Reading, nothing_read, ReadsLine}
 use Rattle.odb_script.specs.ReadLines.{HasReadLines, has_read_none, has_read_line}
 use Rattle.daq_session.specs.declared.desk.Going.TheVariants.{On, Exit}
+use Rattle.odb_tree.specs.Histories.{IsLegal}
+use Rattle.odb_runinfo.specs.RunKeys.{session_rows}
 use Rattle.daq_session.proofs.TransitionLaws.{stand_none}
 use Rattle.daq_session.proofs.Leading.{stage_is}
 use Rattle.daq_session.specs.Playing.{course_of, Moment, IsNew, Replied, GoesBehind, DoesLine, Prints}
@@ -39,7 +41,7 @@ Plays-more o [] line old between new same does = (new, subst (λ (s : Stage). Do
 Plays-more o (first ∷ lines) line old between new plays does = (plays.0, plays.1, Plays-more o lines line plays.0 between new plays.2 does)
 
 -- no line yet
-pub moment_new : (o : Outset) (s : State) (refusals : Refusals) → IsNew s → refusals ≡ record { count = 0; first = 0 } → Moment o [] [] s o refusals
+pub moment_new : (o : Outset) (s : Session) (refusals : Refusals) → IsNew s → refusals ≡ record { count = 0; first = 0 } → Moment o [] [] s o refusals
 moment_new o s refusals new none = record {
   readings = 0;
   clashes = o.clashes;
@@ -55,7 +57,7 @@ moment_new o s refusals new none = record {
 }
 
 -- a line more was answered
-pub moment_more : (o : Outset) (lines : List (List ℕ)) (line : List ℕ) (replies : List Reply) (reply : Reply) (number : ℕ) (old new : State) (before after : Outset) (was now : Refusals)
+pub moment_more : (o : Outset) (lines : List (List ℕ)) (line : List ℕ) (replies : List Reply) (reply : Reply) (number : ℕ) (old new : Session) (before after : Outset) (was now : Refusals)
     → Moment o lines replies old before was → Replied (kept line) number reply old new before after was now → number ≡ length lines + 1
     → Moment o (lines ++ line ∷ []) (replies ++ reply ∷ []) new after now
 moment_more o lines line replies reply number old new before after was now moment replied is_number =
@@ -90,18 +92,18 @@ pub wrote_whole : (first now : Option (List ℕ)) (text : List ℕ) → Appends 
 wrote_whole first now text all = record { count = length text; appends = subst (Appends first now) (sym (take_all (length text) text (omega arith))) all }
 
 -- So many lines were answered, none of them an `exit`, and their text was written.
-pub record SoFar (o : Outset) (source_first source_now told_first told_now : Option (List ℕ)) (reading : Reading) (s : State) (now : Outset) (refusals : Refusals) (number : ℕ) : Type 0 where
+pub record SoFar (o : Outset) (source_first source_now told_first told_now : Option (List ℕ)) (reading : Reading) (s : Session) (now : Outset) (refusals : Refusals) (number : ℕ) : Type 0 where
   pub lines : List (List ℕ)
   pub replies : List Reply
   pub moment : Moment o lines replies s now refusals
   pub read : HasReadLines source_first source_now reading lines
   pub go_on : GoOn lines
   pub wrote : Appends told_first told_now (console_text 1 replies)
-  pub ready : IsReady now.files s.current
+  pub ready : IsReady now.files s.recorder.on
   pub is_number : length lines ≡ number
 
 -- none
-pub so_far_new : (o : Outset) (source told : Option (List ℕ)) (reading : Reading) (s : State) (refusals : Refusals) → IsNew s → refusals ≡ record { count = 0; first = 0 } → reading ≡ nothing_read → SoFar o source source told told reading s o refusals 0
+pub so_far_new : (o : Outset) (source told : Option (List ℕ)) (reading : Reading) (s : Session) (refusals : Refusals) → IsNew s → refusals ≡ record { count = 0; first = 0 } → reading ≡ nothing_read → SoFar o source source told told reading s o refusals 0
 so_far_new o source told reading s refusals new none unread = record {
   lines = [];
   replies = [];
@@ -121,7 +123,7 @@ pub stops : (line : List ℕ) → GoesBehind Exit (command_of (kept line)) → e
 stops line exit = sym (ends_script-kept line) ∙ exit
 
 -- one line more
-pub so_far_more : (o : Outset) (source_first source_old source_new told_first told_old told_new : Option (List ℕ)) (reading_old reading_new : Reading) (old new : State) (before after : Outset) (was now : Refusals) (number : ℕ) (line : List ℕ) (reply : Reply)
+pub so_far_more : (o : Outset) (source_first source_old source_new told_first told_old told_new : Option (List ℕ)) (reading_old reading_new : Reading) (old new : Session) (before after : Outset) (was now : Refusals) (number : ℕ) (line : List ℕ) (reply : Reply)
     → SoFar o source_first source_old told_first told_old reading_old old before was number → ReadsLine reading_old reading_new source_old source_new line
     → Replied (kept line) (number + 1) reply old new before after was now → Appends told_old told_new (text_of (number + 1) reply) → GoesBehind On (command_of (kept line))
     → SoFar o source_first source_new told_first told_new reading_new new after now (number + 1)
@@ -143,15 +145,18 @@ few_more [] line had old new taken stripped is_kept one empty few = omega (arith
 few_more (b ∷ bs) line had old new taken stripped is_kept one empty few = omega (arith, few, one)
 
 -- a line was answered, and its text was not printed whole
-pub halts_line : (line : List ℕ) (number : ℕ) (old new : State) (before after : Outset) (told_old told_new : Option (List ℕ)) (was now : Refusals) (reply : Reply) (halt : Halt)
+pub halts_line : (line : List ℕ) (number : ℕ) (old new : Session) (before after : Outset) (told_old told_new : Option (List ℕ)) (was now : Refusals) (reply : Reply) (halt : Halt)
     → Replied line number reply old new before after was now → Prints told_old told_new (text_of number reply) (Err halt) → DoesLine line number old new before after told_old told_new was now (Err halt)
 halts_line line number old new before after told_old told_new was now reply SinkFault replied prints = (reply, replied, prints)
 halts_line line number old new before after told_old told_new was now reply NoMemory replied prints = inl (reply, replied, prints)
 halts_line line number old new before after told_old told_new was now reply FileFault replied prints = absurd prints
 
 -- a line was not answered
-pub halts_unanswered : (line : List ℕ) (number : ℕ) (old new : State) (before after : Outset) (told : Option (List ℕ)) (refusals : Refusals) (halt : Halt)
-    → Handles (command_of line) old new before after (Err halt) → DoesLine line number old new before after told told refusals refusals (Err halt)
-halts_unanswered line number old new before after told refusals NoMemory handles = inr (record { breaks = handles.0; ready = handles.1; same = refl; kept = keeps_same told })
-halts_unanswered line number old new before after told refusals SinkFault handles = absurd handles
-halts_unanswered line number old new before after told refusals FileFault handles = record { fails = handles; same = refl; kept = keeps_same told }
+pub halts_unanswered : (line : List ℕ) (number : ℕ) (command : Result Command LineRefusal) (old new : Session) (before after : Outset) (told : Option (List ℕ)) (refusals : Refusals) (halt : Halt)
+    → command ≡ command_of line → IsLegal session_rows old.database.history → Handles command old new before after (Err halt) → DoesLine line number old new before after told told refusals refusals (Err halt)
+halts_unanswered line number command old new before after told refusals halt is legal handles = by_halt halt (subst (λ (c : Result Command LineRefusal). Handles c old new before after (Err halt)) is handles)
+  where
+    by_halt : (halt : Halt) → Handles (command_of line) old new before after (Err halt) → DoesLine line number old new before after told told refusals refusals (Err halt)
+    by_halt NoMemory handles = inr (record { breaks = handles.0; ready = handles.1; same = refl; kept = keeps_same told })
+    by_halt SinkFault handles = absurd handles
+    by_halt FileFault handles = record { legal = legal; fails = handles; same = refl; kept = keeps_same told }

@@ -3,7 +3,6 @@ use Rattle.std.proofs.Common.{◌≡◌, ◌≢◌, ℕ, ◌<◌, ◌≤◌, Lis
 use Rattle.std.specs.Prelude.{◌==◌, if◌then◌else◌, ◌+◌, IfSome, Result, Ok}
 use Rattle.std.proofs.lemmas.List.Elements.{All-nil}
 use Rattle.daq_io.specs.Counts.{Rose}
-use Rattle.daq_io.specs.Seen.{Seen}
 use Rattle.daq_types.specs.declared.runs.Order.{Order}
 use Rattle.odb_script.specs.declared.forms.Command.{Command}
 use Rattle.odb_script.specs.declared.forms.Command.TheVariants.{Stop}
@@ -17,31 +16,31 @@ use Rattle.daq_session.specs.declared.endings.Ending.TheVariants.{End, TooLong, 
 use Rattle.daq_session.specs.declared.halts.Halt.{Halt}
 use Rattle.daq_session.specs.declared.halts.Halt.TheVariants.{NoMemory, SinkFault, FileFault}
 use Rattle.session_console.specs.declared.refusals.Refusals.{Refusals}
-use Rattle.daq_session.specs.declared.state.State.{State}
+use Rattle.daq_session.specs.declared.session.Session.{Session}
 use Rattle.session_console.specs.Console.{refused_lines}
-use Rattle.daq_session.specs.RunRecords.{IsFiled}
+use Rattle.run_recorder.specs.RunRecords.{IsFiled}
 use Rattle.session_console.specs.Refused.{Counts}
 use Rattle.session_console.specs.declared.records.SessionRecord.{SessionRecord}
 use Rattle.session_console.specs.declared.replies.Reply.{Reply}
 use Rattle.daq_session.specs.Stages.{Outset, Stage, opening}
-use Rattle.daq_session.specs.BrokenRuns.{BreaksRun, turning}
-use Rattle.daq_session.specs.Standing.{Course, FailsLine, order_in, stage_of}
+use Rattle.daq_session.specs.BrokenRuns.{turning}
+use Rattle.daq_session.specs.Standing.{Course, FailsLine, FailsTurn, order_in, stage_of}
 use Rattle.daq_session.specs.Endings.{SourceCounts, SinkCounts, FileCounts}
 use Rattle.daq_session.specs.Playing.{course_of, CutBy, Played, PlayedUpTo, PlaysTo, Wrote}
-use Rattle.daq_session.specs.Closing.{MayFail, Finished, ended_by, earlier, SinkBehind, FilesBehind}
+use Rattle.daq_session.specs.Closing.{FailsFiles, MayFail, Finished, ended_by, earlier, SinkBehind, FilesBehind}
 use Rattle.daq_session.specs.Sessions.{Environment, Count, Rises, Stands, FaultsBy, IsScriptEnd, EndsScript, FailsBehind, FailsBy, HoldsRecord, IsRecorded, IsSession, RunsScript}
 use Rattle.std.specs.Prelude.{All, IsTrue}
 use Rattle.odb_tree.specs.Histories.{IsLegal}
 use Rattle.odb_runinfo.specs.RunKeys.{session_rows}
-use Rattle.daq_session.specs.BufferRecords.{IsOneHistory, IsSystem, history_in}
+use Rattle.run_recorder.specs.BufferRecords.{IsOneHistory, IsSystem, history_in}
 use Rattle.daq_session.specs.FrontSets.{AreCallers, IsFrontsPass}
 use Rattle.daq_session.specs.RunTransitions.{HoldsRuns}
 use Rattle.daq_session.specs.TakenNames.{AreWithinRise}
 use Rattle.daq_session.proofs.NumberLaws.{script_numbered}
 use Rattle.daq_session.proofs.FrontLaws.{recorded_runs}
-use Rattle.daq_session.specs.RunHistories.{AreSentByFronts, HoldSegments}
+use Rattle.run_recorder.specs.RunHistories.{HoldSegments, IsHeldRun}
 use Rattle.daq_session.specs.RunRecordFits.{FitsHistory}
-use Rattle.daq_session.specs.SystemCalls.{AreSystemCalls, IsOfRuns, completed_starts}
+use Rattle.run_recorder.specs.SystemCalls.{AreSystemCalls, IsOfRuns, completed_starts}
 use Rattle.daq_session.proofs.ClosingLaws.{text_part, text_whole}
 use Rattle.daq_session.proofs.PlayingLaws.{keeps_same}
 
@@ -49,7 +48,7 @@ use Rattle.daq_session.proofs.PlayingLaws.{keeps_same}
 pub not_both : true ≢ false
 not_both e = cc
 
-pub plays_played : (o : Outset) (ending : Ending) (source left told_first told_now : Option (List ℕ)) (s : State) (now : Outset) (refusals : Refusals) → ending ≢ Halted FileFault
+pub plays_played : (o : Outset) (ending : Ending) (source left told_first told_now : Option (List ℕ)) (s : Session) (now : Outset) (refusals : Refusals) → ending ≢ Halted FileFault
     → PlaysTo o ending source left told_first told_now s now refusals → Played o ending source left told_first told_now s now refusals
 plays_played o End source left told_first told_now s now refusals sound plays = plays
 plays_played o TooLong source left told_first told_now s now refusals sound plays = plays
@@ -171,24 +170,6 @@ risen_end ending (Some NoMemory) k l sound files is = absurd (sound_earlier endi
 risen_end ending (Some SinkFault) k l sound files is = absurd (sound_earlier ending SinkFault sound (λ e. cc) is)
 risen_end ending (Some FileFault) k l sound files is = risen_some k l files
 
--- where it was not, their count stands
-lines_still : (ending : Ending) (f k : ℕ) → ending ≢ Halted FileFault → FileCounts ending f k → k ≡ f
-lines_still End f k sound lines = lines
-lines_still TooLong f k sound lines = lines
-lines_still SourceFault f k sound lines = lines
-lines_still (Halted NoMemory) f k sound lines = lines
-lines_still (Halted SinkFault) f k sound lines = lines
-lines_still (Halted FileFault) f k sound lines = absurd (sound refl)
-
-behind_still : (closing : Option Halt) (k l : ℕ) → closing ≢ Some FileFault → FilesBehind closing k l → l ≡ k
-behind_still None k l other behind = behind
-behind_still (Some NoMemory) k l other behind = behind
-behind_still (Some SinkFault) k l other behind = behind
-behind_still (Some FileFault) k l other behind = absurd (other refl)
-
-pub files_still : (ending : Ending) (closing : Option Halt) (f k l : ℕ) → ending ≢ Halted FileFault → closing ≢ Some FileFault → FileCounts ending f k → FilesBehind closing k l → l ≡ f
-files_still ending closing f k l sound other lines behind = behind_still closing k l other behind ∙ lines_still ending f k sound lines
-
 -- at a fault of the run files, in a line
 broken_line : (before after : Environment) (end : ScriptEnd) (refusals : Refusals) → IsScriptEnd (Halted FileFault) refusals after.first_fault end → SourceCounts (Halted FileFault) before.source_faults after.source_faults
     → SinkCounts (Halted FileFault) before.sink_faults after.sink_faults → FileCounts (Halted FileFault) before.file_faults after.file_faults → PlayedUpTo before.outset before.source before.written after.written after.outset refusals
@@ -197,7 +178,7 @@ broken_line before after end refusals by source sink files played = record {
   faults = faults_by (Halted FileFault) end refusals after.first_fault (count_of before.source_faults after.source_faults) (count_of before.sink_faults after.sink_faults) (count_of before.file_faults after.file_faults) by (source, sink, files);
   ends = ends_by before after (Halted FileFault) None end refusals
       (record { may = tt; source = source; sink_lines = after.sink_faults; sink = sink; sink_behind = refl; files_lines = after.file_faults; files = files; files_behind = refl }) by;
-  session = λ calm. absurd (calm files);
+  session = λ whole. absurd (whole (inl refl));
   broken = λ fell. refl;
   broken_off = λ fell. record {
     lines = played.lines;
@@ -212,7 +193,7 @@ broken_line before after end refusals by source sink files played = record {
 }
 
 -- the same, of an ending that is this one
-pub broken_at : (before after : Environment) (ending : Ending) (end : ScriptEnd) (refusals : Refusals) (s : State) → ending ≡ Halted FileFault → IsScriptEnd ending refusals after.first_fault end → SourceCounts ending before.source_faults after.source_faults
+pub broken_at : (before after : Environment) (ending : Ending) (end : ScriptEnd) (refusals : Refusals) (s : Session) → ending ≡ Halted FileFault → IsScriptEnd ending refusals after.first_fault end → SourceCounts ending before.source_faults after.source_faults
     → SinkCounts ending before.sink_faults after.sink_faults → FileCounts ending before.file_faults after.file_faults → PlaysTo before.outset ending before.source after.source before.written after.written s after.outset refusals
     → RunsScript before after end None
 broken_at before after ending end refusals s is by source sink files plays =
@@ -225,20 +206,21 @@ stop_order : (on : Option Order) → ◌≡◌ {A = Result Command LineRefusal} 
 stop_order None is = absurd (cc)
 stop_order (Some order) is = (order, refl)
 
-behind_fails : (o : Outset) (ending : Ending) (source left told_first told : Option (List ℕ)) (s : State) (now after : Outset) (refusals : Refusals) → (played : Played o ending source left told_first told s now refusals)
-    → FailsLine (Ok Stop) s now after → FailsBehind ending o source played.lines played.behind after.files
-behind_fails o ending source left told_first told s now after refusals played fails =
+behind_fails : (o : Outset) (ending : Ending) (source left told_first told : Option (List ℕ)) (s : Session) (now after : Outset) (refusals : Refusals) → IsLegal session_rows s.database.history → (played : Played o ending source left told_first told s now refusals)
+    → FailsLine (Ok Stop) s now after → FailsBehind ending o source played.lines played.behind after
+behind_fails o ending source left told_first told s now after refusals legal played fails =
     let course : Course = course_of played.readings played.clashes played.replies in
-    let on = stop_order (order_in s.current) fails.0 in
+    let on = stop_order (order_in s.recorder.on) fails.0 in
     record {
       cut = stage_of s course;
       is_cut = played.cut;
+      called = record { history = s.database.history; legal = legal; callers = played.at.calls.callers; own = refl; front = refl };
       order = on.0;
       on = on.1;
-      breaks = subst (λ (run : Option Order). BreaksRun o course.readings s.runs.items run after.files) on.1 (fails.1 o course played.at);
+      fails = subst (λ (run : Option Order). FailsTurn o course.readings course.clashes s.recorder.runs run after) on.1 (fails.1 o course played.at);
     }
 
-fails_by : (ending : Ending) (o : Outset) (source : Option (List ℕ)) (lines : List (List ℕ)) (behind : Stage) (now : Seen) → ending ≢ Halted FileFault → FailsBehind ending o source lines behind now → FailsBy ending o source lines behind now
+fails_by : (ending : Ending) (o : Outset) (source : Option (List ℕ)) (lines : List (List ℕ)) (behind : Stage) (now : Outset) → ending ≢ Halted FileFault → FailsBehind ending o source lines behind now → FailsBy ending o source lines behind now
 fails_by End o source lines behind now sound fails = fails
 fails_by TooLong o source lines behind now sound fails = fails
 fails_by SourceFault o source lines behind now sound fails = fails
@@ -257,23 +239,22 @@ cut_replies (Halted SinkFault) source lines old new cut = ap (λ (s : Stage). s.
 cut_replies (Halted FileFault) source lines old new cut = ap (λ (s : Stage). s.replies) cut
 
 -- at a fault of the run files behind the lines
-pub broken_stop : (before after : Environment) (ending : Ending) (closing : Option Halt) (ended : Ending) (end : ScriptEnd) (refusals shown : Refusals) (s : State) (now : Outset) (told : Option (List ℕ)) → ending ≢ Halted FileFault → closing ≡ Some FileFault
+pub broken_stop : (before after : Environment) (ending : Ending) (closing : Option Halt) (ended : Ending) (end : ScriptEnd) (refusals shown : Refusals) (s : Session) (now : Outset) (told : Option (List ℕ)) → ending ≢ Halted FileFault → closing ≡ Some FileFault
     → (c : Counted before after ending closing) → shown ≡ refusals → ended ≡ ended_by ending closing → IsScriptEnd ended shown after.first_fault end → Played before.outset ending before.source after.source before.written told s now refusals
-    → FailsLine (Ok Stop) s now after.outset → after.written ≡ told → RunsScript before after end None
-broken_stop before after ending closing ended end refusals shown s now told sound is c same is_ended is_end played fails unprinted =
+    → IsLegal session_rows s.database.history → FailsLine (Ok Stop) s now after.outset → after.written ≡ told → RunsScript before after end None
+broken_stop before after ending closing ended end refusals shown s now told sound is c same is_ended is_end played legal fails unprinted =
     let by : IsScriptEnd (ended_by ending closing) refusals after.first_fault end = subst (λ (r : Refusals). IsScriptEnd (ended_by ending closing) r after.first_fault end) same (subst (λ (e : Ending). IsScriptEnd e shown after.first_fault end) is_ended is_end) in
     let replies : played.replies ≡ played.behind.replies = cut_replies ending before.source played.lines played.behind (stage_of s (course_of played.readings played.clashes played.replies)) played.cut in
     record {
       faults = counted_faults before after ending closing end refusals sound c by;
       ends = ends_by before after ending closing end refusals c by;
-      session = λ calm. absurd (calm (subst (λ (n : ℕ). Rose n after.file_faults) (lines_still ending before.file_faults c.files_lines sound c.files)
-          (subst (λ (halt : Option Halt). FilesBehind halt c.files_lines after.file_faults) is c.files_behind)));
+      session = λ whole. absurd (whole (inr is));
       broken = λ fell. refl;
       broken_off = λ fell. record {
         lines = played.lines;
         behind = played.behind;
         plays = played.plays;
-        fails = fails_by ending before.outset before.source played.lines played.behind after.outset.files sound (behind_fails before.outset ending before.source after.source before.written told s now after.outset refusals played fails);
+        fails = fails_by ending before.outset before.source played.lines played.behind after.outset sound (behind_fails before.outset ending before.source after.source before.written told s now after.outset refusals legal played fails);
         read = played.are_lines;
         refused = subst (λ (rs : List Reply). Counts (refused_lines 1 rs) refusals) replies played.counts;
         wrote = subst (λ (rs : List Reply). Wrote ending before.written after.written rs) replies (subst (λ (text : Option (List ℕ)). Wrote ending before.written text played.replies) (sym unprinted) played.wrote);
@@ -282,10 +263,14 @@ broken_stop before after ending closing ended end refusals shown s now told soun
     }
 
 -- where none of their calls failed
-pub ran_whole : (before after : Environment) (ending : Ending) (closing : Option Halt) (ended : Ending) (end : ScriptEnd) (refusals shown : Refusals) (s : State) (session : Option SessionRecord) → ending ≢ Halted FileFault → closing ≢ Some FileFault
-    → (c : Counted before after ending closing) → after.file_faults ≡ before.file_faults → shown ≡ refusals → ended ≡ ended_by ending closing → IsScriptEnd ended shown after.first_fault end → ((course : Course) → IsRecorded (stage_of s course) session) → IsLegal session_rows s.database.history
+none_fail : (ending : Ending) (closing : Option Halt) → ending ≢ Halted FileFault → closing ≢ Some FileFault → FailsFiles ending closing → ⊥
+none_fail ending closing sound none (inl is) = sound is
+none_fail ending closing sound none (inr is) = none is
+
+pub ran_whole : (before after : Environment) (ending : Ending) (closing : Option Halt) (ended : Ending) (end : ScriptEnd) (refusals shown : Refusals) (s : Session) (session : Option SessionRecord) → ending ≢ Halted FileFault → closing ≢ Some FileFault
+    → (c : Counted before after ending closing) → shown ≡ refusals → ended ≡ ended_by ending closing → IsScriptEnd ended shown after.first_fault end → ((course : Course) → IsRecorded (stage_of s course) session) → IsLegal session_rows s.database.history
     → Finished before.outset ending closing before.source after.source before.written after.written s after.outset refusals → ((ends : EndsScript before after end) → IsSession before after end ends session → IfSome session (HoldsRecord before after)) → RunsScript before after end session
-ran_whole before after ending closing ended end refusals shown s session sound none c calm same is_ended is_end recorded legal finished holds =
+ran_whole before after ending closing ended end refusals shown s session sound none c same is_ended is_end recorded legal finished holds =
     let by : IsScriptEnd (ended_by ending closing) refusals after.first_fault end = subst (λ (r : Refusals). IsScriptEnd (ended_by ending closing) r after.first_fault end) same (subst (λ (e : Ending). IsScriptEnd e shown after.first_fault end) is_ended is_end) in
     let ends : EndsScript before after end = ends_by before after ending closing end refusals c by in
     let is : IsSession before after end ends session = record {
@@ -294,6 +279,7 @@ ran_whole before after ending closing ended end refusals shown s session sound n
       played = finished.played;
       recorded = recorded (course_of finished.readings finished.clashes (finished.replies ++ finished.behind));
       called = record { history = s.database.history; legal = legal; callers = finished.calls.callers; own = refl; front = refl };
+      idle = finished.idle;
       read = finished.are_lines;
       refused = finished.counts;
       replies = finished.replies;
@@ -310,9 +296,9 @@ ran_whole before after ending closing ended end refusals shown s session sound n
     record {
       faults = counted_faults before after ending closing end refusals sound c by;
       ends = ends;
-      session = λ still. is;
-      broken = λ fell. absurd (fell calm);
-      broken_off = λ fell. absurd (fell calm);
+      session = λ whole. is;
+      broken = λ fails. absurd (none_fail ending closing sound none fails);
+      broken_off = λ fails. absurd (none_fail ending closing sound none fails);
       record_holds = holds ends is;
     }
 
@@ -323,7 +309,7 @@ ran_none before =
     record {
       faults = refl;
       ends = ends_by before before (Halted NoMemory) None no_memory (record { count = 0; first = 0 }) c refl;
-      session = λ still. record {
+      session = λ whole. record {
         lines = [];
         final = opening before.outset.clashes;
         played = record {
@@ -338,6 +324,7 @@ ran_none before =
         };
         recorded = refl;
         called = record { history = []; legal = tt; callers = All-nil (λ e. e.0 ≤ 1); own = refl; front = refl };
+        idle = λ is. refl;
         read = λ text known. refl;
         refused = record { count = refl; first = refl };
         replies = [];
@@ -350,24 +337,24 @@ ran_none before =
         wrote = λ enough. absurd (enough refl);
         wrote_part = record { count = 0; appends = Appends-nil before.written };
       };
-      broken = λ fell. refl;
-      broken_off = λ fell. absurd (fell refl);
+      broken = λ fails. refl;
+      broken_off = λ fails. absurd (none_fail (Halted NoMemory) None (λ is. cc) (λ is. cc) fails);
       record_holds = tt;
     }
 
 -- What a record says of its objects, from what is said of each.
 pub record_holds : (before after : Environment) (session : Option SessionRecord) → IfSome session (λ s. IsLegal session_rows s.database) → IfSome session (λ s. IsSystem (history_in s.buffers) s.buffers) → IfSome session (λ s. All IsOneHistory s.buffers)
-    → IfSome session (λ s. AreSystemCalls (history_in s.buffers)) → (¬ Rose before.file_faults after.file_faults → IsTrue before.outset.files.tells → IfSome session (λ s. All (HoldSegments s.buffers after.outset.files.at) s.runs)) → IfSome session (λ s. All (AreSentByFronts s.buffers) s.runs)
+    → IfSome session (λ s. AreSystemCalls (history_in s.buffers)) → (IsTrue before.outset.files.tells → IfSome session (λ s. All (HoldSegments s.buffers after.outset.files.at) s.runs)) → IfSome session (λ s. All (IsHeldRun (history_in s.buffers)) s.runs)
     → IfSome session (λ s. IsFrontsPass s.database s.runs) → IfSome session (λ s. AreCallers s.database) → IfSome session (λ s. All (FitsHistory s.database) s.runs) → IfSome session (λ s. HoldsRuns s.database s.runs) → IfSome session (λ s. All (IsOfRuns (completed_starts s.runs)) (history_in s.buffers))
     → IfSome session (λ s. AreWithinRise s.runs before.outset.clashes after.outset.clashes) → IfSome session (HoldsRecord before after)
-record_holds before after None database buffers one_history system_calls run_files sends sets callers fits turns others taken = tt
-record_holds before after (Some s) database buffers one_history system_calls run_files sends sets callers fits turns others taken = record {
+record_holds before after None database buffers one_history system_calls run_files held sets callers fits turns others taken = tt
+record_holds before after (Some s) database buffers one_history system_calls run_files held sets callers fits turns others taken = record {
   database = database;
   buffers = buffers;
   one_history = one_history;
   system_calls = system_calls;
   run_files = run_files;
-  front_end_sends = sends;
+  held = held;
   front_end_sets = sets;
   callers = callers;
   run_turns = turns;
@@ -377,13 +364,13 @@ record_holds before after (Some s) database buffers one_history system_calls run
 }
 
 -- Each start of a finished session has its record.
-pub finished_numbered : (o : Outset) (ending : Ending) (closing : Option Halt) (source left told_first told_now : Option (List ℕ)) (s : State) (after : Outset) (refusals : Refusals)
-    → Finished o ending closing source left told_first told_now s after refusals → length s.runs.items ≡ s.starts
+pub finished_numbered : (o : Outset) (ending : Ending) (closing : Option Halt) (source left told_first told_now : Option (List ℕ)) (s : Session) (after : Outset) (refusals : Refusals)
+    → Finished o ending closing source left told_first told_now s after refusals → length s.recorder.runs ≡ s.recorder.starts
 finished_numbered o ending closing source left told_first told_now s after refusals finished =
     script_numbered o after ending source finished.lines (stage_of s (course_of finished.readings finished.clashes (finished.replies ++ finished.behind))) finished.played
 
 -- Where the runs of a finished session stand in its record.
-pub finished_runs : (o : Outset) (ending : Ending) (closing : Option Halt) (source left told_first told_now : Option (List ℕ)) (s : State) (after : Outset) (refusals : Refusals) (session : Option SessionRecord)
+pub finished_runs : (o : Outset) (ending : Ending) (closing : Option Halt) (source left told_first told_now : Option (List ℕ)) (s : Session) (after : Outset) (refusals : Refusals) (session : Option SessionRecord)
     → Finished o ending closing source left told_first told_now s after refusals → IfSome session (λ r. r.database ≡ s.database.history) → ((c : Course) → IsRecorded (stage_of s c) session) → IfSome session (λ r. HoldsRuns r.database r.runs)
 finished_runs o ending closing source left told_first told_now s after refusals session finished is recorded =
     recorded_runs (stage_of s (course_of 0 0 [])) session s.database.history is (recorded (course_of 0 0 [])) finished.calls.held

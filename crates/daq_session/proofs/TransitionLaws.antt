@@ -13,9 +13,9 @@ use Rattle.session_console.specs.declared.records.FrontTally.{FrontTally}
 use Rattle.daq_session.specs.FrontSets.{AreCallers}
 use Rattle.daq_session.specs.RunCalls.{running_set, stopped_set}
 use Rattle.daq_session.specs.RunTransitions.{HoldsTransition, HoldsRun, HoldsRuns, HoldsSoFar, CallsStand, CallsMore}
-use Rattle.daq_session.specs.Stages.{Outset, completed_record, refused_record}
-use Rattle.daq_session.specs.declared.state.State.{State}
-use Rattle.daq_session.specs.declared.state.OpenRun.{OpenRun}
+use Rattle.daq_session.specs.Stages.{Outset}
+use Rattle.daq_session.specs.declared.session.Session.{Session}
+use Rattle.run_recorder.specs.RunRecords.{RunOn, completed_record, refused_record}
 use Rattle.daq_session.specs.Standing.{Course, IsAt, order_in}
 use Rattle.daq_session.proofs.OwnCalls.{none_called}
 
@@ -158,8 +158,8 @@ more_after old between new one two = record {
 
 -- Of a state of which is known whether a run is on.
 
-pub idle_stand : (o : Outset) (c : Course) (s : State) (now : Outset) → IsAt o c s now → s.current ≡ None → CallsStand s.database.history s.runs.items None
-idle_stand o c s now at idle = subst (λ (on : Option OpenRun). CallsStand s.database.history s.runs.items (order_in on)) idle at.calls
+pub idle_stand : (o : Outset) (c : Course) (s : Session) (now : Outset) → IsAt o c s now → s.recorder.on ≡ None → CallsStand s.database.history s.recorder.runs None
+idle_stand o c s now at idle = subst (λ (on : Option RunOn). CallsStand s.database.history s.recorder.runs (order_in on)) idle at.calls
 
-pub running_stand : (o : Outset) (c : Course) (s : State) (now : Outset) (run : OpenRun) → IsAt o c s now → s.current ≡ Some run → CallsStand s.database.history s.runs.items (Some run.order)
-running_stand o c s now run at running = subst (λ (on : Option OpenRun). CallsStand s.database.history s.runs.items (order_in on)) running at.calls
+pub running_stand : (o : Outset) (c : Course) (s : Session) (now : Outset) (run : RunOn) → IsAt o c s now → s.recorder.on ≡ Some run → CallsStand s.database.history s.recorder.runs (Some run.order)
+running_stand o c s now run at running = subst (λ (on : Option RunOn). CallsStand s.database.history s.recorder.runs (order_in on)) running at.calls

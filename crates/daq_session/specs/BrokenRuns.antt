@@ -1,28 +1,15 @@
 -- What is left of the run files where a call on them failed, against what they were at first.
-use Rattle.std.specs.Prelude.{◌≡◌, ◌≢◌, ◌≤◌, ◌⊎◌, ℕ, Bool, IsTrue, List, [], length, take, Option, Some, None, All}
+use Rattle.std.specs.Prelude.{◌⊎◌, ℕ, IsTrue, List, [], Option, Some, None}
 use Rattle.daq_types.specs.declared.runs.Order.{Order}
-use Rattle.daq_model.specs.RunFile.{begun_file, run_file}
-use Rattle.daq_model.specs.Generator.{generated_events}
+use Rattle.daq_model.specs.RunFile.{begun_file}
 use Rattle.daq_io.specs.Seen.{Seen}
 use Rattle.odb_script.specs.declared.forms.Command.{Command}
 use Rattle.odb_script.specs.declared.forms.Command.TheVariants.{Start, Stop}
 use Rattle.session_console.specs.declared.records.RunRecord.{RunRecord}
-use Rattle.daq_session.specs.RunNames.{run_name}
-use Rattle.daq_session.specs.RunRecords.{IsFiled, Avoids, IsKept}
+use Rattle.run_recorder.specs.RunNames.{run_name}
+use Rattle.run_recorder.specs.RunRecords.{IsKept}
+use Rattle.run_recorder.specs.PartFiles.{HasFirstPart, IsKeptBut, stopped_file}
 use Rattle.daq_session.specs.Stages.{Outset, IsReading, IsFreeName}
-
--- The files but for that of this name: those of the recorded runs are whole, and every other name is as it was at first.
-pub record IsKeptBut (first now : Seen) (runs : List RunRecord) (name : List ℕ) : Type 0 where
-  pub tells : now.tells ≡ first.tells
-  pub filed : IsTrue first.tells → All (IsFiled now.at) runs
-  pub others : IsTrue first.tells → (other : List ℕ) → All (Avoids other) runs → name ≢ other → now.at other ≡ first.at other
-
--- The file of this name is there with a first part of these bytes, and with all of them where it was closed.
-pub record HasFirstPart (now : Seen) (name bytes : List ℕ) : Type 0 where
-  pub count : ℕ
-  pub closed : Bool
-  pub holds : now.at name ≡ Some (record { bytes = take count bytes; closed = closed })
-  pub whole : IsTrue closed → length bytes ≤ count
 
 -- Behind these runs the file of a run was made, whose name was free, and it has a first part of the begin record.
 pub record CutsRun (o : Outset) (readings : ℕ) (runs : List RunRecord) (now : Seen) : Type 0 where
@@ -33,13 +20,10 @@ pub record CutsRun (o : Outset) (readings : ℕ) (runs : List RunRecord) (now : 
   pub kept : IsKeptBut o.files now runs (run_name run)
   pub own : IsTrue o.files.tells → HasFirstPart now (run_name run) (begun_file run time [] [])
 
--- a start failed: its file was not made, and all is as it was; or it was made, and not begun
+-- A start failed: every file is as it was, as where none was made; or its file was made, and has a first part of the begin
+-- record. Of one that was made and removed again the files tell no more than of one that was not made.
 abbrev pub StartBreaks : (o : Outset) (readings : ℕ) (runs : List RunRecord) (now : Seen) → Type 0
 StartBreaks o readings runs now = IsKept o.files now runs None ⊎ CutsRun o readings runs now
-
--- the file of a run that was stopped at this time, whose front-end sent its quota
-abbrev pub stopped_file : Order → (time : ℕ) → List ℕ
-stopped_file order time = run_file order.run order.time [] (generated_events order 1 0 order.quota) time []
 
 -- A stop failed of the run with this order: its file has a first part of its bytes.
 pub record StopBreaks (o : Outset) (readings : ℕ) (runs : List RunRecord) (order : Order) (now : Seen) : Type 0 where

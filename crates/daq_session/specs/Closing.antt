@@ -1,5 +1,5 @@
 -- How a session is closed behind its last line, and how a script ended with that.
-use Rattle.std.specs.Prelude.{◌≡◌, ◌≢◌, ℕ, ◌+◌, Bool, true, false, List, ◌++◌, length, Option, Some, None, ⊤}
+use Rattle.std.specs.Prelude.{◌≡◌, ◌≢◌, ℕ, ◌+◌, Bool, true, false, List, ◌++◌, length, Option, Some, None, ⊤, ◌⊎◌}
 use Rattle.std.specs.Io.KnownBytes.{Appends, Keeps}
 use Rattle.daq_io.specs.Streams.{AppendsPart}
 use Rattle.daq_session.specs.declared.endings.Ending.{Ending}
@@ -8,7 +8,7 @@ use Rattle.daq_session.specs.declared.halts.Halt.{Halt}
 use Rattle.daq_session.specs.declared.halts.Halt.TheVariants.{NoMemory, SinkFault, FileFault}
 use Rattle.session_console.specs.declared.refusals.Refusals.{Refusals}
 use Rattle.session_console.specs.declared.replies.Reply.{Reply}
-use Rattle.daq_session.specs.declared.state.State.{State}
+use Rattle.daq_session.specs.declared.session.Session.{Session}
 use Rattle.session_console.specs.Console.{console_text, refused_lines}
 use Rattle.session_console.specs.Refused.{Counts}
 use Rattle.daq_session.specs.RunTransitions.{CallsStand}
@@ -51,6 +51,10 @@ abbrev pub ended_by : Ending → (closing : Option Halt) → Ending
 ended_by ending None = ending
 ended_by ending (Some halt) = earlier ending halt
 
+-- a call on the run files failed, in a line or in the stop behind the lines
+abbrev pub FailsFiles : Ending → (closing : Option Halt) → Type 0
+FailsFiles ending closing = (ending ≡ Halted FileFault) ⊎ (closing ≡ Some FileFault)
+
 -- the counts of faults of the sink and of the run files behind the lines
 abbrev pub SinkBehind : (closing : Option Halt) → (old new : ℕ) → Type 0
 SinkBehind None old new = new ≡ old
@@ -76,14 +80,16 @@ WroteBehind SourceFault closing told_lines told_now number replies = WroteMore c
 WroteBehind (Halted halt) closing told_lines told_now number replies = Keeps told_lines told_now
 
 -- What a session made of its script: the replies to the lines, and behind them that of the stop, where one was given.
-pub record Finished (o : Outset) (ending : Ending) (closing : Option Halt) (source left told_first told_now : Option (List ℕ)) (s : State) (after : Outset) (refusals : Refusals) : Type 0 where
+pub record Finished (o : Outset) (ending : Ending) (closing : Option Halt) (source left told_first told_now : Option (List ℕ)) (s : Session) (after : Outset) (refusals : Refusals) : Type 0 where
   pub lines : List (List ℕ)
   pub replies : List Reply
   pub behind : List Reply
   pub readings : ℕ
   pub clashes : ℕ
   pub played : IsPlayed o after (CutBy ending source lines) lines (stage_of s (course_of readings clashes (replies ++ behind)))
-  pub calls : CallsStand s.database.history s.runs.items None
+  -- where no run was on, no stop was given that could fail
+  pub idle : played.cut.on ≡ None → closing ≡ None
+  pub calls : CallsStand s.database.history s.recorder.runs None
   pub counts : Counts (refused_lines 1 (replies ++ behind)) refusals
   pub are_lines : (text : List ℕ) → source ≡ Some text → AreLines ending text left lines
   pub numbered : length replies ≡ length lines
@@ -92,7 +98,7 @@ pub record Finished (o : Outset) (ending : Ending) (closing : Option Halt) (sour
   pub wrote_behind : WroteBehind ending closing told_lines told_now (1 + length replies) behind
 
 -- Whatever was played before, the session is finished so, unless a call on the run files failed.
-abbrev pub Finishes : (ending : Ending) (closing : Option Halt) (old new : State) (before after : Outset) (told_old told_new : Option (List ℕ)) (refusals : Refusals) → Type 0
+abbrev pub Finishes : (ending : Ending) (closing : Option Halt) (old new : Session) (before after : Outset) (told_old told_new : Option (List ℕ)) (refusals : Refusals) → Type 0
 Finishes ending closing old new before after told_old told_new refusals =
     closing ≢ Some FileFault → (o : Outset) (source left told_first : Option (List ℕ)) → Played o ending source left told_first told_old old before refusals
     → Finished o ending closing source left told_first told_new new after refusals

@@ -35,6 +35,7 @@ abbrev pub numbers_by : StartOutcome → List FrontTally → List ℕ
 numbers_by Completed fronts = numbers_of fronts
 numbers_by (Refused client why) fronts = []
 
+-- of a recorded run
 abbrev pub set_numbers : RunRecord → List ℕ
 set_numbers r = numbers_by r.outcome r.fronts
 

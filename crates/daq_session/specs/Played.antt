@@ -2,7 +2,7 @@
 use Rattle.std.specs.Prelude.{◌≡◌, ℕ, List, map, Option, None, Ok, MatchOption}
 use Rattle.odb_script.specs.declared.forms.Command.TheVariants.{Stop}
 use Rattle.odb_script.specs.Forms.{command_of}
-use Rattle.daq_session.specs.RunRecords.{IsKept}
+use Rattle.run_recorder.specs.RunRecords.{IsKept}
 use Rattle.daq_session.specs.Standing.{IsClock}
 use Rattle.daq_session.specs.Stages.{Outset, Stage, opening, DoesByLine, Plays}
 

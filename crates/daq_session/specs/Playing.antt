@@ -1,13 +1,14 @@
 -- A script played by a session: line by line, and what was written.
 use Rattle.std.specs.Prelude.{◌≡◌, ℕ, ◌+◌, ◌<◌, ◌≤◌, true, false, List, [], ◌∷◌, ◌++◌, length, map, take, Option, Some, None, Result, Ok, Err, ◌⊎◌, ⊤}
 use Rattle.std.specs.Io.KnownBytes.{Appends, Keeps}
-use Rattle.daq_io.specs.Seen.{Seen}
 use Rattle.daq_io.specs.Streams.{AppendsPart}
 use Rattle.odb_script.specs.declared.forms.Command.{Command}
 use Rattle.odb_script.specs.declared.refusals.LineRefusal.{LineRefusal}
 use Rattle.odb_script.specs.Forms.{command_of}
 use Rattle.odb_script.specs.Lines.{lines_of, script_limit}
 use Rattle.odb_script.specs.ReadLines.{AreGivenLines}
+use Rattle.odb_tree.specs.Histories.{IsLegal}
+use Rattle.odb_runinfo.specs.RunKeys.{session_rows}
 use Rattle.odb_script.specs.Exits.{GoOn, StopAtExit, is_exit, until_exit}
 use Rattle.daq_session.specs.declared.desk.Going.{Going}
 use Rattle.daq_session.specs.declared.desk.Going.TheVariants.{On, Exit}
@@ -17,18 +18,19 @@ use Rattle.daq_session.specs.declared.endings.Ending.{Ending}
 use Rattle.daq_session.specs.declared.endings.Ending.TheVariants.{End, TooLong, SourceFault, Halted}
 use Rattle.session_console.specs.declared.replies.Reply.{Reply}
 use Rattle.session_console.specs.declared.refusals.Refusals.{Refusals}
-use Rattle.daq_session.specs.declared.state.State.{State}
+use Rattle.daq_session.specs.declared.session.Session.{Session}
 use Rattle.session_console.specs.Console.{text_of, console_text, is_refusal, refused_lines}
 use Rattle.session_console.specs.Refused.{noted, Counts}
-use Rattle.daq_session.specs.Stages.{Outset, Stage, opening, Plays, Interrupts}
-use Rattle.daq_session.specs.Standing.{Course, stage_of, IsAt, IsReady, AnswersLine, Breaks, FailsLine}
-use Rattle.daq_session.specs.BrokenRuns.{BreaksRun, turning}
+use Rattle.daq_session.specs.Stages.{HasHistory, Outset, Stage, opening, Plays, Interrupts}
+use Rattle.daq_session.specs.Standing.{Course, stage_of, IsAt, IsReady, AnswersLine, Breaks, FailsLine, FailsTurn}
+use Rattle.daq_session.specs.BrokenRuns.{turning}
 
+-- a course with these replies, and so many readings of the clock and clashes of names
 abbrev pub course_of : (readings clashes : ℕ) → List Reply → Course
 course_of readings clashes replies = record { readings = readings; clashes = clashes; replies = replies }
 
 -- The session after some lines of its script: what they did, where the outside is, and which were refused.
-pub record Moment (o : Outset) (lines : List (List ℕ)) (replies : List Reply) (s : State) (now : Outset) (refusals : Refusals) : Type 0 where
+pub record Moment (o : Outset) (lines : List (List ℕ)) (replies : List Reply) (s : Session) (now : Outset) (refusals : Refusals) : Type 0 where
   pub readings : ℕ
   pub clashes : ℕ
   pub plays : Plays o (opening o.clashes) (map command_of lines) (stage_of s (course_of readings clashes replies))
@@ -37,29 +39,30 @@ pub record Moment (o : Outset) (lines : List (List ℕ)) (replies : List Reply) 
   pub numbered : length replies ≡ length lines
 
 -- a state before the first line
-pub record IsNew (s : State) : Type 0 where
+pub record IsNew (s : Session) : Type 0 where
   pub quota : s.quota ≡ 0
-  pub starts : s.starts ≡ 0
+  pub starts : s.recorder.starts ≡ 0
   pub opened : s.opened ≡ false
-  pub runs : s.runs.items ≡ []
-  pub current : s.current ≡ None
+  pub runs : s.recorder.runs ≡ []
+  pub current : s.recorder.on ≡ None
   pub calls : s.database.history ≡ []
 
 -- A line was answered, and noted where it was refused.
-pub record Replied (line : List ℕ) (number : ℕ) (reply : Reply) (old new : State) (before after : Outset) (was now : Refusals) : Type 0 where
+pub record Replied (line : List ℕ) (number : ℕ) (reply : Reply) (old new : Session) (before after : Outset) (was now : Refusals) : Type 0 where
   pub answers : AnswersLine (command_of line) reply old new before after
-  pub ready : IsReady after.files new.current
+  pub ready : IsReady after.files new.recorder.on
   pub is_noted : now ≡ noted was number (is_refusal reply)
 
 -- The line was not answered, for want of memory.
-pub record Unanswered (line : List ℕ) (old new : State) (before after : Outset) (told_old told_new : Option (List ℕ)) (was now : Refusals) : Type 0 where
+pub record Unanswered (line : List ℕ) (old new : Session) (before after : Outset) (told_old told_new : Option (List ℕ)) (was now : Refusals) : Type 0 where
   pub breaks : Breaks (command_of line) old new before after
-  pub ready : IsReady after.files new.current
+  pub ready : IsReady after.files new.recorder.on
   pub same : now ≡ was
   pub kept : Keeps told_old told_new
 
--- A call on the run files failed in the line, and nothing was written.
-pub record FailedLine (line : List ℕ) (old : State) (before after : Outset) (told_old told_new : Option (List ℕ)) (was now : Refusals) : Type 0 where
+-- A call on the run files failed in the line, and nothing was written; the calls on the database before it are legal.
+pub record FailedLine (line : List ℕ) (old : Session) (before after : Outset) (told_old told_new : Option (List ℕ)) (was now : Refusals) : Type 0 where
+  pub legal : IsLegal session_rows old.database.history
   pub fails : FailsLine (command_of line) old before after
   pub same : now ≡ was
   pub kept : Keeps told_old told_new
@@ -71,7 +74,7 @@ GoesBehind Exit command = is_exit command ≡ true
 
 -- What the line of this number does to the session, the outside, the text told and the refusals: it is answered and its
 -- text is written; or it is answered and its text is not written whole; or it is not answered; or the run files fail.
-abbrev pub DoesLine : (line : List ℕ) (number : ℕ) (old new : State) (before after : Outset) (told_old told_new : Option (List ℕ)) (was now : Refusals) → Result Going Halt → Type 0
+abbrev pub DoesLine : (line : List ℕ) (number : ℕ) (old new : Session) (before after : Outset) (told_old told_new : Option (List ℕ)) (was now : Refusals) → Result Going Halt → Type 0
 DoesLine line number old new before after told_old told_new was now (Ok going) = (reply : Reply) × Replied line number reply old new before after was now × Appends told_old told_new (text_of number reply) × GoesBehind going (command_of line)
 DoesLine line number old new before after told_old told_new was now (Err SinkFault) = (reply : Reply) × Replied line number reply old new before after was now × AppendsPart told_old told_new (text_of number reply)
 DoesLine line number old new before after told_old told_new was now (Err NoMemory) =
@@ -158,7 +161,7 @@ Wrote (Halted NoMemory) told_first told_now replies = Appends told_first told_no
 Wrote (Halted FileFault) told_first told_now replies = Appends told_first told_now (console_text 1 replies)
 
 -- A script was played up to this ending, and this is left in the source.
-pub record Played (o : Outset) (ending : Ending) (source left told_first told_now : Option (List ℕ)) (s : State) (now : Outset) (refusals : Refusals) : Type 0 where
+pub record Played (o : Outset) (ending : Ending) (source left told_first told_now : Option (List ℕ)) (s : Session) (now : Outset) (refusals : Refusals) : Type 0 where
   pub lines : List (List ℕ)
   pub replies : List Reply
   pub behind : Stage
@@ -169,29 +172,31 @@ pub record Played (o : Outset) (ending : Ending) (source left told_first told_no
   pub cut : CutBy ending source lines behind (stage_of s (course_of readings clashes replies))
   pub at : IsAt o (course_of readings clashes replies) s now
   pub counts : Counts (refused_lines 1 replies) refusals
-  pub ready : IsReady now.files s.current
+  pub ready : IsReady now.files s.recorder.on
   pub are_lines : (text : List ℕ) → source ≡ Some text → AreLines ending text left lines
   pub wrote : Wrote ending told_first told_now replies
 
--- A call on the run files failed in the next line, a start or a stop, and left this of them.
-pub record FailsAt (o : Outset) (source : Option (List ℕ)) (lines : List (List ℕ)) (s : Stage) (now : Seen) : Type 0 where
+-- A call on the run files failed in the next line, a start or a stop, and left this of the outside. The calls on the
+-- database before that line are legal.
+pub record FailsAt (o : Outset) (source : Option (List ℕ)) (lines : List (List ℕ)) (s : Stage) (now : Outset) : Type 0 where
   pub line : List ℕ
   pub next : IsNext source lines line
   pub command : command_of line ≡ Ok (turning s.on)
-  pub breaks : BreaksRun o s.readings s.runs s.on now
+  pub called : HasHistory s
+  pub fails : FailsTurn o s.readings s.clashes s.runs s.on now
 
 -- A script was played up to such a line, and the text is that of the lines before.
 pub record PlayedUpTo (o : Outset) (source told_first told_now : Option (List ℕ)) (now : Outset) (refusals : Refusals) : Type 0 where
   pub lines : List (List ℕ)
   pub behind : Stage
   pub plays : Plays o (opening o.clashes) (map command_of lines) behind
-  pub fails : FailsAt o source lines behind now.files
+  pub fails : FailsAt o source lines behind now
   pub counts : Counts (refused_lines 1 behind.replies) refusals
   pub are_lines : (text : List ℕ) → source ≡ Some text → AreFirst text lines
   pub wrote : Appends told_first told_now (console_text 1 behind.replies)
 
 -- what became of a script, by how its lines ended
-abbrev pub PlaysTo : (o : Outset) (ending : Ending) (source left told_first told_now : Option (List ℕ)) (s : State) (now : Outset) (refusals : Refusals) → Type 0
+abbrev pub PlaysTo : (o : Outset) (ending : Ending) (source left told_first told_now : Option (List ℕ)) (s : Session) (now : Outset) (refusals : Refusals) → Type 0
 PlaysTo o (Halted FileFault) source left told_first told_now s now refusals = PlayedUpTo o source told_first told_now now refusals
 PlaysTo o (Halted NoMemory) source left told_first told_now s now refusals = Played o (Halted NoMemory) source left told_first told_now s now refusals
 PlaysTo o (Halted SinkFault) source left told_first told_now s now refusals = Played o (Halted SinkFault) source left told_first told_now s now refusals

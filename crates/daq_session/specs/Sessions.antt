@@ -4,9 +4,7 @@ use Rattle.std.specs.Io.KnownBytes.{Appends}
 use Rattle.daq_types.specs.Callers.{entries_by}
 use Rattle.daq_types.specs.declared.runs.Order.{Order}
 use Rattle.daq_io.specs.Counts.{Rose}
-use Rattle.daq_io.specs.Seen.{Seen}
 use Rattle.daq_io.specs.Streams.{AppendsPart}
-use Rattle.odb_tree.specs.declared.entry.DatabaseEntry.{DatabaseEntry}
 use Rattle.odb_tree.specs.Histories.{IsLegal}
 use Rattle.odb_runinfo.specs.RunKeys.{session_rows}
 use Rattle.odb_script.specs.Forms.{command_of}
@@ -21,18 +19,18 @@ use Rattle.daq_session.specs.declared.ends.ScriptEnd.{ScriptEnd}
 use Rattle.daq_session.specs.declared.ends.ScriptEnd.TheVariants.{Done, CommandRefused, TooLong, SourceFault, SinkFault, FileFault, NoMemory}
 use Rattle.daq_session.specs.declared.halts.Halt.{Halt}
 use Rattle.daq_session.specs.declared.halts.Halt.TheVariants.{NoMemory as no_memory, SinkFault as sink_fault, FileFault as file_fault}
-use Rattle.daq_session.specs.BrokenRuns.{StopBreaks}
-use Rattle.daq_session.specs.BufferRecords.{IsOneHistory, IsSystem, history_in}
-use Rattle.daq_session.specs.Closing.{MayFail, ended_by, SinkBehind, FilesBehind, WroteBehind}
+use Rattle.run_recorder.specs.BufferRecords.{IsOneHistory, IsSystem, history_in}
+use Rattle.daq_session.specs.Closing.{FailsFiles, MayFail, ended_by, SinkBehind, FilesBehind, WroteBehind}
 use Rattle.daq_session.specs.Endings.{SourceCounts, SinkCounts, FileCounts}
 use Rattle.daq_session.specs.FrontSets.{AreCallers, IsFrontsPass}
 use Rattle.daq_session.specs.Played.{IsPlayed}
 use Rattle.daq_session.specs.Playing.{AreLines, CutBy, FailsAt, Wrote}
-use Rattle.daq_session.specs.RunHistories.{AreSentByFronts, HoldSegments}
+use Rattle.run_recorder.specs.RunHistories.{HoldSegments, IsHeldRun}
 use Rattle.daq_session.specs.RunRecordFits.{FitsHistory}
 use Rattle.daq_session.specs.RunTransitions.{HoldsRuns}
-use Rattle.daq_session.specs.Stages.{Outset, Stage, Plays, opening}
-use Rattle.daq_session.specs.SystemCalls.{AreSystemCalls, IsOfRuns, completed_starts}
+use Rattle.daq_session.specs.Stages.{HasHistory, Outset, Stage, Plays, opening}
+use Rattle.daq_session.specs.Standing.{FailsTurn}
+use Rattle.run_recorder.specs.SystemCalls.{AreSystemCalls, IsOfRuns, completed_starts}
 use Rattle.daq_session.specs.TakenNames.{AreWithinRise}
 
 -- What the outside tells of itself: what is left of the script, the text written so far, the run files and the clock, and the
@@ -51,16 +49,17 @@ pub record Count : Type 0 where
   pub old : ℕ
   pub new : ℕ
 
+-- it rose
 abbrev pub Rises : Count → Type 0
 Rises count = Rose count.old count.new
 
+-- it is as it was
 abbrev pub Stands : Count → Type 0
 Stands count = count.new ≡ count.old
 
 -- what the cause says of the counts of faults of the source, the sink and the run files, and of the file of the first
--- fault: a fault is the cause exactly where that count rose and no earlier cause holds. The input is bad only where the
--- script is too long. Where there was no memory nothing
--- is printed behind that, and so the sink's count stands
+-- fault: a fault is the cause exactly where that count rose and no earlier cause holds. Where there was no memory nothing is
+-- printed behind that, and so the sink's count stands
 abbrev pub FaultsBy : ScriptEnd → (source sink files : Count) → (first : Option (List ℕ)) → Type 0
 FaultsBy Done source sink files first = Stands source × Stands sink × Stands files
 FaultsBy (CommandRefused count line) source sink files first = Stands source × Stands sink × Stands files
@@ -101,15 +100,6 @@ abbrev pub IsRecorded : Stage → Option SessionRecord → Type 0
 IsRecorded final None = final.opened ≡ false
 IsRecorded final (Some session) = (final.opened ≡ true) × (session.runs ≡ final.runs) × (entries_by 0 session.database ≡ final.own) × (entries_by 1 session.database ≡ final.front)
 
--- The calls on the database, recorded or not, are those of one history that is legal from a session's first rows: the
--- main thread's, caller 0, the front-end's, caller 1, and no other's. So each reply is that of the rows at its point.
-pub record HasHistory (final : Stage) : Type 0 where
-  pub history : List (ℕ × DatabaseEntry)
-  pub legal : IsLegal session_rows history
-  pub callers : AreCallers history
-  pub own : entries_by 0 history ≡ final.own
-  pub front : entries_by 1 history ≡ final.front
-
 -- What a session made of its script, where no call on the run files failed. The last reply is that of the stop at the
 -- end, where one was given.
 pub record IsSession (before after : Environment) (end : ScriptEnd) (ends : EndsScript before after end) (session : Option SessionRecord) : Type 0 where
@@ -118,6 +108,8 @@ pub record IsSession (before after : Environment) (end : ScriptEnd) (ends : Ends
   pub played : IsPlayed before.outset after.outset (CutBy ends.ending before.source lines) lines final
   pub recorded : IsRecorded final session
   pub called : HasHistory final
+  -- nothing failed behind the lines where no run was on
+  pub idle : played.cut.on ≡ None → ends.closing ≡ None
   pub read : (text : List ℕ) → before.source ≡ Some text → AreLines ends.ending text after.source lines
   pub refused : Counts (refused_lines 1 final.replies) ends.refusals
   -- the replies to the lines, one each, and behind them that of the stop; and what was told as the lines ended
@@ -132,16 +124,18 @@ pub record IsSession (before after : Environment) (end : ScriptEnd) (ends : Ends
   pub wrote : end ≢ NoMemory → ¬ Rose before.sink_faults after.sink_faults → Appends before.written after.written (console_text 1 final.replies)
   pub wrote_part : AppendsPart before.written after.written (console_text 1 final.replies)
 
--- A stop failed behind the lines, of the run that was still on; before it maybe a command was cut off.
-pub record FailsBehind (ending : Ending) (o : Outset) (source : Option (List ℕ)) (lines : List (List ℕ)) (behind : Stage) (now : Seen) : Type 0 where
+-- A stop failed behind the lines, of the run that was still on; before it maybe a command was cut off. The calls on the
+-- database up to there are legal.
+pub record FailsBehind (ending : Ending) (o : Outset) (source : Option (List ℕ)) (lines : List (List ℕ)) (behind : Stage) (now : Outset) : Type 0 where
   pub cut : Stage
   pub is_cut : CutBy ending source lines behind cut
+  pub called : HasHistory cut
   pub order : Order
   pub on : cut.on ≡ Some order
-  pub breaks : StopBreaks o cut.readings cut.runs order now
+  pub fails : FailsTurn o cut.readings cut.clashes cut.runs (Some order) now
 
 -- where a call on the run files failed: in the next line, or in the stop behind all lines
-abbrev pub FailsBy : Ending → (o : Outset) (source : Option (List ℕ)) (lines : List (List ℕ)) (behind : Stage) (now : Seen) → Type 0
+abbrev pub FailsBy : Ending → (o : Outset) (source : Option (List ℕ)) (lines : List (List ℕ)) (behind : Stage) (now : Outset) → Type 0
 FailsBy End o source lines behind now = FailsBehind End o source lines behind now
 FailsBy too_long o source lines behind now = FailsBehind too_long o source lines behind now
 FailsBy source_fault o source lines behind now = FailsBehind source_fault o source lines behind now
@@ -150,13 +144,13 @@ FailsBy (Halted sink_fault) o source lines behind now = FailsBehind (Halted sink
 FailsBy (Halted file_fault) o source lines behind now = FailsAt o source lines behind now
 
 -- What is left of a script where a call on the run files failed. These lines were played before; the text is that of their
--- replies, as at their ending, and nothing more; the files of the recorded runs are whole, the file of the run that failed
--- has a first part of its bytes, and every other name is as it was at first.
+-- replies, as at their ending, and nothing more; the calls on the database up to there are legal; the files of the recorded
+-- runs are whole, the file of the run that failed has a first part of its bytes, and every other name is as it was at first.
 pub record IsBrokenOff (before after : Environment) (ending : Ending) (refusals : Refusals) : Type 0 where
   pub lines : List (List ℕ)
   pub behind : Stage
   pub plays : Plays before.outset (opening before.outset.clashes) (map command_of lines) behind
-  pub fails : FailsBy ending before.outset before.source lines behind after.outset.files
+  pub fails : FailsBy ending before.outset before.source lines behind after.outset
   pub read : (text : List ℕ) → before.source ≡ Some text → AreLines ending text after.source lines
   pub refused : Counts (refused_lines 1 behind.replies) refusals
   pub wrote : Wrote ending before.written after.written behind.replies
@@ -175,10 +169,11 @@ pub record HoldsRecord (before after : Environment) (s : SessionRecord) : Type 0
   pub no_other_run : All (IsOfRuns (completed_starts s.runs)) (history_in s.buffers)
   -- the starts that were refused for a taken name are no more than what the count of clashes rose by
   pub refused_starts : AreWithinRise s.runs before.outset.clashes after.outset.clashes
-  -- each file of a run holds the events between the run's marks, of which the channel's client got just those that it asked
-  -- for; and these are the events that the front-end sent in that run
-  pub run_files : ¬ Rose before.file_faults after.file_faults → IsTrue before.outset.files.tells → All (HoldSegments s.buffers after.outset.files.at) s.runs
-  pub front_end_sends : All (AreSentByFronts s.buffers) s.runs
+  -- each completed run has its marks; between them stands what the front-end sent in it and nothing else, and the channel's
+  -- client got just those of these events that it asked for
+  pub held : All (IsHeldRun (history_in s.buffers)) s.runs
+  -- and each file of a run holds them
+  pub run_files : IsTrue before.outset.files.tells → All (HoldSegments s.buffers after.outset.files.at) s.runs
   -- the front-end's calls on the database: it sets the number of its events sent to 0 as each run begins, and to the number
   -- that it sent as the run ends, and nothing else; all other calls are the main thread's
   pub front_end_sets : IsFrontsPass s.database s.runs
@@ -195,11 +190,11 @@ pub record RunsScript (before after : Environment) (end : ScriptEnd) (recorded :
   -- a fault is the cause exactly where its count rose and no earlier cause holds
   pub faults : FaultsBy end (record { old = before.source_faults; new = after.source_faults }) (record { old = before.sink_faults; new = after.sink_faults }) (record { old = before.file_faults; new = after.file_faults }) after.first_fault
   pub ends : EndsScript before after end
-  -- the records, the run files, the text and the cause are what the script asks for
-  pub session : ¬ Rose before.file_faults after.file_faults → IsSession before after end ends recorded
-  -- there is no record where a call on the run files failed
-  pub broken : after.file_faults ≢ before.file_faults → recorded ≡ None
+  -- where no call on the run files failed, the records, the run files, the text and the cause are what the script asks for
+  pub session : ¬ FailsFiles ends.ending ends.closing → IsSession before after end ends recorded
+  -- where one failed, there is no record
+  pub broken : FailsFiles ends.ending ends.closing → recorded ≡ None
   -- and of text and files this is left
-  pub broken_off : after.file_faults ≢ before.file_faults → IsBrokenOff before after ends.ending ends.refusals
+  pub broken_off : FailsFiles ends.ending ends.closing → IsBrokenOff before after ends.ending ends.refusals
   -- and a record says this of its objects
   pub record_holds : IfSome recorded (HoldsRecord before after)

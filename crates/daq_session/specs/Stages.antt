@@ -2,12 +2,14 @@
 -- to the lines, the records of the runs, and where the session stands.
 use Rattle.std.specs.Prelude.{◌≡◌, ℕ, ◌+◌, Bool, true, false, ◌||◌, List, [], ◌∷◌, ◌++◌, Option, Some, None, Result, Ok, Err, All, IsTrue, ◌⊎◌}
 use Rattle.daq_types.specs.declared.runs.Order.{Order}
+use Rattle.daq_types.specs.Callers.{entries_by}
 use Rattle.daq_types.specs.declared.runs.RunState.TheVariants.{Stopped, Running}
-use Rattle.daq_types.specs.declared.runs.ChannelState.TheVariants.{Ended}
 use Rattle.daq_io.specs.Counts.{Rose}
 use Rattle.daq_io.specs.Seen.{Seen}
 use Rattle.odb_tree.specs.declared.entry.DatabaseEntry.{DatabaseEntry}
 use Rattle.odb_tree.specs.declared.refusals.OdbRefusal.{OdbRefusal}
+use Rattle.odb_tree.specs.Histories.{IsLegal}
+use Rattle.odb_runinfo.specs.RunKeys.{session_rows}
 use Rattle.odb_value.specs.Values.{HeldValue}
 use Rattle.odb_runinfo.specs.declared.sets.RunNumber.{RunNumber as NoNext}
 use Rattle.odb_runinfo.specs.RunSets.{have_of, next_run, start_sets, refused_sets, stopping_sets}
@@ -20,15 +22,14 @@ use Rattle.odb_commands.specs.CommandCalls.{IsSettled, Performs, IsCutShort}
 use Rattle.session_console.specs.declared.records.RunRecord.{RunRecord}
 use Rattle.session_console.specs.declared.records.FrontTally.{FrontTally}
 use Rattle.session_console.specs.declared.records.FileRecord.{FileRecord}
-use Rattle.daq_types.specs.declared.runs.StartOutcome.TheVariants.{Completed, Refused}
 use Rattle.daq_types.specs.declared.runs.Why.TheVariants.{Exists}
 use Rattle.session_console.specs.declared.replies.Reply.{Reply}
 use Rattle.session_console.specs.declared.replies.Reply.TheVariants.{Silent, BadCommand, WrongState, RunNumber, StartRefused, Started, Stopped as run_stopped, Database}
-use Rattle.daq_session.specs.Tallies.{IsTally}
-use Rattle.daq_session.specs.FrontSets.{IsSentSet}
+use Rattle.run_recorder.specs.Tallies.{IsTally}
+use Rattle.daq_session.specs.FrontSets.{AreCallers, IsSentSet}
 use Rattle.daq_session.specs.RunCalls.{AreSets, key_made, number_asked, running_set, stopped_set, opens_session}
-use Rattle.daq_session.specs.RunNames.{run_name}
-use Rattle.daq_session.specs.RunRecords.{Avoids}
+use Rattle.run_recorder.specs.RunNames.{run_name}
+use Rattle.run_recorder.specs.RunRecords.{Avoids, refused_record, file_record, completed_record}
 
 -- What the outside tells: the files, how often a name was taken or missing, and the readings of the clock that lie ahead.
 pub record Outset : Type 0 where
@@ -36,6 +37,10 @@ pub record Outset : Type 0 where
   pub clashes : ℕ
   pub clock_tells : Bool
   pub ahead : ℕ → ℕ
+
+-- the same, of what is told in this order
+abbrev pub outset_of : Seen → (clashes : ℕ) → (clock_tells : Bool) → (ahead : ℕ → ℕ) → Outset
+outset_of files clashes clock_tells ahead = record { files = files; clashes = clashes; clock_tells = clock_tells; ahead = ahead }
 
 -- Where a session stands after some lines of its script.
 pub record Stage : Type 0 where
@@ -60,6 +65,7 @@ pub record Stage : Type 0 where
   -- the replies so far, one for each line
   pub replies : List Reply
 
+-- a session before its first line, where the count of clashes is this
 abbrev pub opening : (clashes : ℕ) → Stage
 opening clashes = record { quota = 0; starts = 0; readings = 0; clashes = clashes; opened = false; on = None; runs = []; own = []; front = []; replies = [] }
 
@@ -86,18 +92,6 @@ IsFreeName o runs name = (o.files.at name ≡ None) × All (Avoids name) runs
 -- The start number is one above that of the last start.
 abbrev pub next_order : Stage → (run time : ℕ) → Order
 next_order old run time = record { run = run; start = old.starts + 1; time = time; from = Stopped; quota = old.quota }
-
--- the record of a start that the logger, client 1, refused, since the name of the file of channel 0 was taken
-abbrev pub refused_record : Order → RunRecord
-refused_record order = record { run = order.run; start = order.start; time0 = order.time; time1 = 0; outcome = Refused 1 (Exists 0); fronts = []; files = [] }
-
--- the file of channel 0
-abbrev pub file_record : (run : ℕ) → FileRecord
-file_record run = record { channel = 0; name = run_name run; state = Ended }
-
--- the record of a run that was stopped at this time
-abbrev pub completed_record : Order → (time : ℕ) → FrontTally → RunRecord
-completed_record order time front = record { run = order.run; start = order.start; time0 = order.time; time1 = time; outcome = Completed; fronts = front ∷ []; files = file_record order.run ∷ [] }
 
 -- The first start opens the session: the key is made in which the front-end says how many events it sent.
 abbrev pub OpensSession : (opened : Bool) → Stage → Stage → Type 0
@@ -212,3 +206,12 @@ pub record Interrupts (line : Result Command LineRefusal) (old new : Stage) : Ty
   pub made : List DatabaseEntry
   pub short : IsCutShort calls made
   pub leads : new ≡ record (called old made) { opened = opened_by line old.opened made }
+
+-- The calls on the database, recorded or not, are those of one history that is legal from a session's first rows: the
+-- main thread's, caller 0, the front-end's, caller 1, and no other's. So each reply is that of the rows at its point.
+pub record HasHistory (final : Stage) : Type 0 where
+  pub history : List (ℕ × DatabaseEntry)
+  pub legal : IsLegal session_rows history
+  pub callers : AreCallers history
+  pub own : entries_by 0 history ≡ final.own
+  pub front : entries_by 1 history ≡ final.front

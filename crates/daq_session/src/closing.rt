@@ -1,7 +1,10 @@
 ghost use Rattle.std.specs.Prelude.{◌≡◌, ◌<◌, IsTrue, Ok, Some, ◌↔◌};
 ghost use Rattle.odb_script.specs.declared.forms.Command.TheVariants.{Stop};
 ghost use Rattle.daq_session.specs.Closing.{Finishes, FilesBehind, MayFail, SinkBehind, earlier, ended_by, prints};
+ghost use Rattle.odb_tree.specs.Histories.{IsLegal};
+ghost use Rattle.odb_runinfo.specs.RunKeys.{session_rows};
 ghost use Rattle.daq_session.specs.Sessions.{IsScriptEnd};
+ghost use Rattle.daq_session.specs.Stages.{outset_of};
 ghost use Rattle.daq_session.specs.Standing.{FailsLine, IsReady};
 
 use crate::console::print_reply;
@@ -83,44 +86,26 @@ pub fn close_run<K: Sink, F: Files, C: Clock>(
     files: &mut F,
     clock: &mut C,
 ) -> Option<Halt>
-    requires ready { IsReady (F.seen files.old) desk.old.session.state.current }
-    ensures finishes { Finishes ending result desk.old.session.state desk.new.session.state
-        (record {
-          files = F.seen files.old;
-          clashes = F.clashes files.old;
-          clock_tells = C.tells clock.old;
-          ahead = C.ahead clock.old;
-        })
-        (record {
-          files = F.seen files.new;
-          clashes = F.clashes files.new;
-          clock_tells = C.tells clock.new;
-          ahead = C.ahead clock.new;
-        })
+    requires ready { IsReady (F.seen files.old) desk.old.session.recorder.on }
+    ensures finishes { Finishes ending result desk.old.session desk.new.session
+        (outset_of (F.seen files.old) (F.clashes files.old) (C.tells clock.old) (C.ahead clock.old))
+        (outset_of (F.seen files.new) (F.clashes files.new) (C.tells clock.new) (C.ahead clock.new))
         (K.written out.old) (K.written out.new) desk.old.refusals }
-    ensures broken { result ≡ Some Halt.FileFault → FailsLine (Ok Stop) desk.old.session.state
-        (record {
-          files = F.seen files.old;
-          clashes = F.clashes files.old;
-          clock_tells = C.tells clock.old;
-          ahead = C.ahead clock.old;
-        })
-        (record {
-          files = F.seen files.new;
-          clashes = F.clashes files.new;
-          clock_tells = C.tells clock.new;
-          ahead = C.ahead clock.new;
-        }) }
+    ensures broken { result ≡ Some Halt.FileFault → FailsLine (Ok Stop) desk.old.session
+        (outset_of (F.seen files.old) (F.clashes files.old) (C.tells clock.old) (C.ahead clock.old))
+        (outset_of (F.seen files.new) (F.clashes files.new) (C.tells clock.new) (C.ahead clock.new)) }
+    ensures legal { IsLegal session_rows desk.old.session.database.history }
     ensures unprinted { result ≡ Some Halt.FileFault → K.written out.new ≡ K.written out.old }
     ensures refusals { desk.new.refusals ≡ desk.old.refusals }
     ensures may { MayFail ending result }
     ensures sink { SinkBehind result (K.faults out.old) (K.faults out.new) }
     ensures files { FilesBehind result (F.faults files.old) (F.faults files.new) }
 {
-    if desk.session.state.current.is_none() {
+    desk.session.database.tells_legal();
+    if !desk.session.recorder.is_on() {
         return None;
     }
-    match desk.session.stop_run(alloc, files, clock) {
+    match desk.session.stop(alloc, files, clock) {
         Err(_) => Some(Halt::FileFault),
         Ok(reply) => {
             if !ending.prints() {

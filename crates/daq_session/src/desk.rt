@@ -1,8 +1,9 @@
 ghost use Rattle.std.specs.Prelude.{◌≡◌, ◌≤◌, ◌<◌, ◌+◌, ◌^◌, ℕ, [], None, IfOk};
 ghost use Rattle.daq_session.specs.Halts.{CountsHalt, CountsSink};
+ghost use Rattle.daq_session.specs.Stages.{outset_of};
 ghost use Rattle.daq_session.specs.Standing.{IsReady};
 ghost use Rattle.daq_session.specs.Playing.{DoesLine, GoesBehind, IsNew};
-ghost use Rattle.daq_session.specs.Tallies.{most_starts};
+ghost use Rattle.run_recorder.specs.Tallies.{most_starts};
 
 use crate::console::print_reply;
 use crate::halts::Halt;
@@ -47,7 +48,7 @@ fn going_behind(command: &Result<Command, LineRefusal>) -> Going
 impl Desk {
     /// A session before its first line.
     pub fn new(alloc: Global) -> Result<Desk, NoMemory>
-        ensures session { IfOk result (λ d. IsNew d.session.state) }
+        ensures session { IfOk result (λ d. IsNew d.session) }
         ensures refusals { IfOk result (λ d. d.refusals ≡ record { count = 0; first = 0 }) }
     {
         let session = Session::new(alloc)?;
@@ -68,32 +69,21 @@ impl Desk {
         files: &mut F,
         clock: &mut C,
     ) -> Result<Going, Halt>
-        requires few { self.old.session.state.starts + 1 ≤ most_starts }
+        requires few { self.old.session.recorder.starts + 1 ≤ most_starts }
         requires counted { self.old.refusals.count + 1 < 2 ^ 64 }
-        requires ready { IsReady (F.seen files.old) self.old.session.state.current }
-        ensures did { DoesLine line.now number self.old.session.state self.new.session.state
-            (record {
-              files = F.seen files.old;
-              clashes = F.clashes files.old;
-              clock_tells =
-                  C.tells clock.old;
-              ahead = C.ahead clock.old;
-            })
-            (record {
-              files = F.seen files.new;
-              clashes = F.clashes files.new;
-              clock_tells =
-                  C.tells clock.new;
-              ahead = C.ahead clock.new;
-            }) (K.written out.old)
+        requires ready { IsReady (F.seen files.old) self.old.session.recorder.on }
+        ensures did { DoesLine line.now number self.old.session self.new.session
+            (outset_of (F.seen files.old) (F.clashes files.old) (C.tells clock.old) (C.ahead clock.old))
+            (outset_of (F.seen files.new) (F.clashes files.new) (C.tells clock.new) (C.ahead clock.new)) (K.written out.old)
             (K.written out.new) self.old.refusals self.new.refusals result }
-        ensures starts { self.new.session.state.starts ≤ self.old.session.state.starts + 1 }
-        ensures empty { line.now ≡ [] → self.new.session.state.starts
-            ≡ self.old.session.state.starts }
+        ensures starts { self.new.session.recorder.starts ≤ self.old.session.recorder.starts + 1 }
+        ensures empty { line.now ≡ [] → self.new.session.recorder.starts
+            ≡ self.old.session.recorder.starts }
         ensures refusals { self.new.refusals.count ≤ self.old.refusals.count + 1 }
         ensures files { CountsHalt (F.faults files.old) (F.faults files.new) result }
         ensures sink { CountsSink (K.faults out.old) (K.faults out.new) result }
     {
+        self.session.database.tells_legal();
         let command = Command::read(line);
         let going = going_behind(&command);
         let reply = self.session.answer(alloc, command, files, clock)?;

@@ -4,27 +4,19 @@
 
 mod closing;
 mod console;
-mod data_path;
 mod desk;
 mod endings;
 mod ends;
 mod halts;
-mod rooms;
 mod run;
-mod run_files;
-mod run_names;
 mod script;
 mod session;
-mod state;
 mod transitions;
 
 pub use daq_types::{FrontEnded, StartOutcome, Why};
 pub use ends::ScriptEnd;
 pub use run::run_script;
-pub use run_names::name_of_run;
+pub use run_recorder::name_of_run;
 pub use session_console::{
     BufferRecord, Entries, FileRecord, FrontTally, Reply, RunRecord, SessionRecord,
 };
-
-#[cfg(test)]
-mod tests;

@@ -1,8 +1,9 @@
 ghost use Rattle.std.specs.Prelude.{◌≡◌, ◌↔◌, length, All, IfSome, IsTrue, Some};
-ghost use Rattle.daq_session.specs.BufferRecords.{IsOneHistory, IsSystem, history_in};
-ghost use Rattle.daq_session.specs.RunHistories.{IsHeldRun};
+ghost use Rattle.run_recorder.specs.BufferRecords.{IsOneHistory, IsSystem, history_in};
+ghost use Rattle.run_recorder.specs.RunHistories.{IsHeldRun};
 ghost use Rattle.daq_session.specs.Sessions.{IsRecorded, RunsScript};
-ghost use Rattle.daq_session.specs.SystemCalls.{AreSystemCalls, IsOfRuns, completed_starts};
+ghost use Rattle.run_recorder.specs.SystemCalls.{AreSystemCalls, IsOfRuns, completed_starts};
+ghost use Rattle.daq_session.specs.Stages.{outset_of};
 ghost use Rattle.daq_session.specs.Standing.{Course, stage_of};
 ghost use Rattle.odb_tree.specs.Histories.{IsLegal};
 ghost use Rattle.odb_runinfo.specs.RunKeys.{session_rows};
@@ -15,33 +16,33 @@ use crate::script::play;
 use crate::session::Session;
 use daq_io::{Clock, Files, Gate, Outside, Pick, Sink, Source};
 use odb_script::LineReader;
-use session_console::{Entries, SessionRecord};
+use session_console::SessionRecord;
 use std::alloc::Global;
 use std::sync::Wait;
 use std::thread::Threads;
 
 /// The record of a session that is over; none where no start opened it.
 fn record_of(session: Session) -> Option<SessionRecord>
-    ensures recorded { (c : Course) → IsRecorded (stage_of session.state c) result }
-    ensures legal { IsLegal session_rows session.state.database.history }
-    ensures history { IfSome result (λ s. s.database ≡ session.state.database.history) }
+    ensures recorded { (c : Course) → IsRecorded (stage_of session c) result }
+    ensures legal { IsLegal session_rows session.database.history }
+    ensures history { IfSome result (λ s. s.database ≡ session.database.history) }
     ensures database { IfSome result (λ s. IsLegal session_rows s.database) }
     ensures buffers { IfSome result (λ s. IsSystem (history_in s.buffers) s.buffers) }
     ensures one_history { IfSome result (λ s. All IsOneHistory s.buffers) }
     ensures system_calls { IfSome result (λ s. AreSystemCalls (history_in s.buffers)) }
-    ensures no_other_run { length session.state.runs.items ≡ session.state.starts
+    ensures no_other_run { length session.recorder.runs ≡ session.recorder.starts
         → IfSome result (λ s. All (IsOfRuns (completed_starts s.runs)) (history_in s.buffers)) }
     ensures held { IfSome result (λ s. All (IsHeldRun (history_in s.buffers)) s.runs) }
 {
-    let state = session.state;
-    let opened = state.opened;
-    let (_, database) = state.database.into_parts();
+    let opened = session.opened;
+    let (_, database) = session.database.into_parts();
+    let (runs, buffers) = session.recorder.into_records();
     if !opened {
         return None;
     }
     Some(SessionRecord {
-        runs: Entries::of(state.runs),
-        buffers: session.path.into_records(),
+        runs,
+        buffers,
         database,
     })
 }
@@ -64,12 +65,7 @@ fn run<S: Source, K: Sink, F: Files, E, C: Clock, P>(
           source_faults = S.faults outside.old.src;
           written = K.written outside.old.out;
           sink_faults = K.faults outside.old.out;
-          outset = record {
-            files = F.seen outside.old.run_files;
-            clashes = F.clashes outside.old.run_files;
-            clock_tells = C.tells outside.old.clock;
-            ahead = C.ahead outside.old.clock;
-          };
+          outset = outset_of (F.seen outside.old.run_files) (F.clashes outside.old.run_files) (C.tells outside.old.clock) (C.ahead outside.old.clock);
           file_faults = F.faults outside.old.run_files;
           first_fault = F.first outside.old.run_files;
         })
@@ -78,12 +74,7 @@ fn run<S: Source, K: Sink, F: Files, E, C: Clock, P>(
           source_faults = S.faults outside.new.src;
           written = K.written outside.new.out;
           sink_faults = K.faults outside.new.out;
-          outset = record {
-            files = F.seen outside.new.run_files;
-            clashes = F.clashes outside.new.run_files;
-            clock_tells = C.tells outside.new.clock;
-            ahead = C.ahead outside.new.clock;
-          };
+          outset = outset_of (F.seen outside.new.run_files) (F.clashes outside.new.run_files) (C.tells outside.new.clock) (C.ahead outside.new.clock);
           file_faults = F.faults outside.new.run_files;
           first_fault = F.first outside.new.run_files;
         })
@@ -141,12 +132,7 @@ pub fn run_script<
           source_faults = S.faults outside.src;
           written = K.written outside.out;
           sink_faults = K.faults outside.out;
-          outset = record {
-            files = F.seen outside.run_files;
-            clashes = F.clashes outside.run_files;
-            clock_tells = C.tells outside.clock;
-            ahead = C.ahead outside.clock;
-          };
+          outset = outset_of (F.seen outside.run_files) (F.clashes outside.run_files) (C.tells outside.clock) (C.ahead outside.clock);
           file_faults = F.faults outside.run_files;
           first_fault = F.first outside.run_files;
         })
@@ -155,12 +141,7 @@ pub fn run_script<
           source_faults = S.faults result.2.src;
           written = K.written result.2.out;
           sink_faults = K.faults result.2.out;
-          outset = record {
-            files = F.seen result.2.run_files;
-            clashes = F.clashes result.2.run_files;
-            clock_tells = C.tells result.2.clock;
-            ahead = C.ahead result.2.clock;
-          };
+          outset = outset_of (F.seen result.2.run_files) (F.clashes result.2.run_files) (C.tells result.2.clock) (C.ahead result.2.clock);
           file_faults = F.faults result.2.run_files;
           first_fault = F.first result.2.run_files;
         })

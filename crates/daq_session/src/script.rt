@@ -1,6 +1,7 @@
 ghost use Rattle.std.specs.Prelude.{◌≡◌, ◌≤◌, ◌<◌, ◌+◌, ◌^◌, ℕ, [], None, IfOk};
 ghost use Rattle.odb_script.specs.Lines.{nothing_read};
 ghost use Rattle.daq_session.specs.Endings.{SourceCounts, SinkCounts, FileCounts};
+ghost use Rattle.daq_session.specs.Stages.{outset_of};
 ghost use Rattle.daq_session.specs.Playing.{PlaysTo, IsNew};
 
 use crate::desk::{Desk, Going};
@@ -19,24 +20,12 @@ pub fn play<S: Source, K: Sink, F: Files, E, C: Clock, P>(
     reader: &mut LineReader,
     outside: &mut Outside<S, K, F, E, C, P>,
 ) -> Ending
-    requires new { IsNew desk.old.session.state }
+    requires new { IsNew desk.old.session }
     requires none { desk.old.refusals ≡ record { count = 0; first = 0 } }
     requires unread { reader.old ≡ nothing_read }
-    ensures did { PlaysTo (record {
-      files = F.seen outside.old.run_files;
-      clashes = F.clashes
-          outside.old.run_files;
-      clock_tells = C.tells outside.old.clock;
-      ahead = C.ahead
-          outside.old.clock;
-    }) result (S.left outside.old.src) (S.left outside.new.src)
-        (K.written outside.old.out) (K.written outside.new.out) desk.new.session.state
-        (record {
-          files = F.seen outside.new.run_files;
-          clashes = F.clashes outside.new.run_files;
-          clock_tells = C.tells outside.new.clock;
-          ahead = C.ahead outside.new.clock;
-        })
+    ensures did { PlaysTo (outset_of (F.seen outside.old.run_files) (F.clashes outside.old.run_files) (C.tells outside.old.clock) (C.ahead outside.old.clock)) result (S.left outside.old.src) (S.left outside.new.src)
+        (K.written outside.old.out) (K.written outside.new.out) desk.new.session
+        (outset_of (F.seen outside.new.run_files) (F.clashes outside.new.run_files) (C.tells outside.new.clock) (C.ahead outside.new.clock))
         desk.new.refusals }
     ensures source { SourceCounts result (S.faults outside.old.src) (S.faults outside.new.src) }
     ensures sink { SinkCounts result (K.faults outside.old.out) (K.faults outside.new.out) }

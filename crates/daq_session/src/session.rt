@@ -1,55 +1,48 @@
-ghost use Rattle.std.specs.Prelude.{◌≡◌, ◌≤◌, ◌<◌, ◌+◌, ◌*◌, ◌^◌, ◌++◌, ◌∷◌, ℕ, List, [], None, Ok, IfOk, IfErr, OnErr, OnOk, IsSome, false};
-ghost use Rattle.std.specs.Option.{ForNone, ForSome};
-ghost use Rattle.buffer_core.specs.declared.gate.RunGate.TheVariants.{Running, Shut};
-ghost use Rattle.daq_io.specs.Counts.{CountsFault};
-ghost use Rattle.odb_script.specs.declared.forms.Command.TheVariants.{Nothing, Stop};
-ghost use Rattle.session_console.specs.Console.{is_refusal};
-ghost use Rattle.daq_session.specs.Halts.{CountsHalt};
-ghost use Rattle.daq_session.specs.Standing.{AnswersLine, Course, FailsLine, Handles, IsReady, behind_reply, stage_of};
-ghost use Rattle.daq_session.specs.Stages.{DoesCommand, Interrupts};
-ghost use Rattle.daq_session.specs.RunTransitions.{CallsMore};
-ghost use Rattle.daq_session.specs.declared.halts.Halt.TheVariants.{NoMemory as no_memory};
-ghost use Rattle.odb_commands.specs.Answers.{answer_of};
+ghost use Rattle.std.specs.Prelude.{◌≡◌, ◌≤◌, [], IfOk, is_some};
+ghost use Rattle.std.specs.Option.{ForSome};
 ghost use Rattle.odb_runinfo.specs.RunKeys.{session_rows};
-ghost use Rattle.buffer_core.specs.Window.{accepted_of};
-ghost use Rattle.daq_session.specs.RunsTold.{IsStanding};
-ghost use Rattle.daq_session.specs.Tallies.{most_spent, most_starts};
+ghost use Rattle.session_console.specs.FrontNames.{front_name};
 
-use crate::data_path::DataPath;
 use crate::halts::Halt;
-use crate::state::State;
-use crate::transitions::{start, stop};
-use daq_io::{Clock, Failed, Files};
+use daq_io::{Clock, Files};
 use daq_types::NoMemory;
 use odb_arena::ArenaTree;
 use odb_commands::{COMMAND_CALLS, run_command};
 use odb_journal::LocalDatabase;
-use odb_runinfo::{STOP_CALLS, open};
+use odb_runinfo::{STOP_CALLS, StoppedPaths, StoppingPaths, open};
 use odb_script::{Command, LineRefusal};
+use run_recorder::RunRecorder;
 use session_console::Reply;
 use std::alloc::Global;
 
-/// A session: where it stands in its script, and the way of its events.
+/// The paths of what is set in the database as a run is stopped.
+#[derive(Drop)]
+pub struct StopPaths {
+    /// What is set before the front-end sends its events.
+    pub stopping: StoppingPaths,
+    /// What is set behind them.
+    pub stopped: StoppedPaths,
+    ghost front: { stopped.front ≡ front_name },
+}
+
+/// A session, where it stands between two lines of its script.
 #[derive(Drop)]
 pub struct Session {
-    /// Where the session stands.
-    pub state: State,
-    /// The way of its events.
-    pub path: DataPath,
-    // The buffer takes the events of the run that is on, and none where none is on.
-    ghost shut: { ForNone state.current (path.port.window.gate ≡ Shut) },
-    ghost open_gate: { ForSome state.current (λ r. path.port.window.gate ≡ Running r.order.start) },
-    ghost later: { path.port.window.last ≤ state.starts },
-    ghost few: { state.starts ≤ most_starts },
-    // Each run that was begun had room for all its events, and so has the one that is on.
-    ghost spent: { path.port.window.total ≤ most_spent state.starts },
-    ghost spends: { ForSome state.current (λ r. path.port.window.total + most_spent 1 ≤ most_spent r.order.start) },
-    ghost begun: { ForSome state.current (λ r. r.order.start ≤ state.starts) },
-    // There is room to note the calls of the run that is on, up to its end.
-    ghost entries: { ForSome state.current (λ r. 2 * r.order.quota + 1 ≤ path.port.entries) },
-    ghost bytes: { ForSome state.current (λ r. 80 * r.order.quota ≤ path.port.bytes) },
-    // The history of the buffer tells the recorded runs, and that the one that is on has no event yet.
-    ghost told: { ∥ IsStanding path.port.history (accepted_of path.port.window) state.starts state.runs.items state.current ∥₁ },
+    /// The quota of the runs that are started from here on.
+    pub quota: u32,
+    /// Whether a start opened the session.
+    pub opened: bool,
+    /// The starts so far with their records, and the run that is on.
+    pub recorder: RunRecorder,
+    /// What is set as the run that is on is stopped.
+    pub stop_paths: Option<StopPaths>,
+    /// The online database, with the journal of its calls.
+    pub database: LocalDatabase<ArenaTree>,
+    ghost both: { is_some stop_paths ≡ is_some recorder.on },
+    // The calls are noted since the session's first rows.
+    ghost opens: { database.start ≡ session_rows },
+    // There is room to note what the stop of the run that is on sets.
+    ghost noted: { ForSome recorder.on (λ _. 4 ≤ database.room) },
 }
 
 /// The online database of a session: the run's parameters, and no call noted.
@@ -63,51 +56,53 @@ fn open_database(alloc: Global) -> Result<LocalDatabase<ArenaTree>, NoMemory>
     Ok(LocalDatabase::new(alloc, tree))
 }
 
-/// Answers a command of the database.
-fn call(alloc: Global, state: &mut State, command: &Command<'_>) -> Result<Reply, Halt>
-    requires is_call { IsSome (answer_of state.old.database.rows command.now) }
-    ensures answered { IfOk result (λ reply. (c : Course)
-        → DoesCommand (stage_of state.old c) command.now (stage_of state.new (behind_reply c c.readings c.clashes reply))) }
-    ensures halted { IfErr result (λ halt. halt ≡ no_memory) }
-    ensures interrupted { OnErr result ((c : Course) → Interrupts (Ok command.now)
-        (stage_of state.old c) (stage_of state.new c)) }
-    ensures calls { CallsMore state.old.database.history state.new.database.history }
-    ensures current { state.new.current ≡ state.old.current }
-    ensures runs { state.new.runs.items ≡ state.old.runs.items }
-    ensures starts { state.new.starts ≡ state.old.starts }
-{
-    state.database.reserve(STOP_CALLS + COMMAND_CALLS)?;
-    match run_command(alloc, &mut state.database, command)? {
-        Some(reply) => Ok(Reply::Database { reply }),
-        None => unreachable!(),
-    }
-}
-
 impl Session {
+    ghost use Rattle.std.specs.Prelude.{◌+◌, Ok, None, IfErr, IsSome, OnErr, false};
+    ghost use Rattle.odb_script.specs.declared.forms.Command.TheVariants.{Nothing};
+    ghost use Rattle.odb_commands.specs.Answers.{answer_of};
+    ghost use Rattle.run_recorder.specs.Tallies.{most_starts};
+    ghost use Rattle.daq_session.specs.declared.halts.Halt.TheVariants.{NoMemory as no_memory};
+    ghost use Rattle.daq_session.specs.Halts.{CountsHalt};
+    ghost use Rattle.daq_session.specs.RunTransitions.{CallsMore};
+    ghost use Rattle.daq_session.specs.Stages.{outset_of};
+    ghost use Rattle.daq_session.specs.Standing.{AnswersCommand, CutsLine, Handles, IsReady};
+
     /// A session before its first line.
-    #[tactic(auto, using(crate::proofs::OpeningRuns::standing_new))]
     pub fn new(alloc: Global) -> Result<Session, NoMemory>
-        ensures stopped { IfOk result (λ s. s.state.current ≡ None) }
-        ensures runs { IfOk result (λ s. s.state.runs.items ≡ []) }
-        ensures quota { IfOk result (λ s. s.state.quota ≡ 0) }
-        ensures starts { IfOk result (λ s. s.state.starts ≡ 0) }
-        ensures opened { IfOk result (λ s. s.state.opened ≡ false) }
-        ensures rows { IfOk result (λ s. s.state.database.rows ≡ session_rows) }
-        ensures calls { IfOk result (λ s. s.state.database.history ≡ []) }
+        ensures stopped { IfOk result (λ s. s.recorder.on ≡ None) }
+        ensures runs { IfOk result (λ s. s.recorder.runs ≡ []) }
+        ensures quota { IfOk result (λ s. s.quota ≡ 0) }
+        ensures starts { IfOk result (λ s. s.recorder.starts ≡ 0) }
+        ensures opened { IfOk result (λ s. s.opened ≡ false) }
+        ensures rows { IfOk result (λ s. s.database.rows ≡ session_rows) }
+        ensures calls { IfOk result (λ s. s.database.history ≡ []) }
     {
-        let path = DataPath::new(alloc)?;
+        let recorder = RunRecorder::new(alloc)?;
         let database = open_database(alloc)?;
         Ok(Session {
-            state: State {
-                quota: 0,
-                starts: 0,
-                opened: false,
-                runs: Vec::new(alloc),
-                current: None,
-                database,
-            },
-            path,
+            quota: 0,
+            opened: false,
+            recorder,
+            stop_paths: None,
+            database,
         })
+    }
+
+    /// Answers a command of the database.
+    fn call(&mut self, alloc: Global, command: &Command<'_>) -> Result<Reply, Halt>
+        requires is_call { IsSome (answer_of self.old.database.rows command.now) }
+        ensures answered { IfOk result (λ reply. AnswersCommand command.now reply self.old
+            self.new) }
+        ensures halted { IfErr result (λ halt. halt ≡ no_memory) }
+        ensures interrupted { OnErr result (CutsLine (Ok command.now) self.old self.new) }
+        ensures calls { CallsMore self.old.database.history self.new.database.history }
+        ensures recorder { self.new.recorder ≡ self.old.recorder }
+    {
+        self.database.reserve(STOP_CALLS + COMMAND_CALLS)?;
+        match run_command(alloc, &mut self.database, command)? {
+            Some(reply) => Ok(Reply::Database { reply }),
+            None => unreachable!(),
+        }
     }
 
     /// Answers a line of the script: its command, or the refusal of a line that is none.
@@ -118,82 +113,27 @@ impl Session {
         files: &mut F,
         clock: &mut C,
     ) -> Result<Reply, Halt>
-        requires few { self.old.state.starts + 1 ≤ most_starts }
-        requires ready { IsReady (F.seen files.old) self.old.state.current }
-        ensures did { Handles line.entry self.old.state self.new.state
-            (record {
-              files = F.seen files.old;
-              clashes = F.clashes files.old;
-              clock_tells =
-                  C.tells clock.old;
-              ahead = C.ahead clock.old;
-            })
-            (record {
-              files = F.seen files.new;
-              clashes = F.clashes files.new;
-              clock_tells =
-                  C.tells clock.new;
-              ahead = C.ahead clock.new;
-            }) result }
-        ensures starts { self.new.state.starts ≤ self.old.state.starts + 1 }
-        ensures nothing { line.entry ≡ Ok Nothing → self.new.state.starts ≡ self.old.state.starts }
+        requires few { self.old.recorder.starts + 1 ≤ most_starts }
+        requires ready { IsReady (F.seen files.old) self.old.recorder.on }
+        ensures did { Handles line.entry self.old self.new
+            (outset_of (F.seen files.old) (F.clashes files.old) (C.tells clock.old) (C.ahead clock.old))
+            (outset_of (F.seen files.new) (F.clashes files.new) (C.tells clock.new) (C.ahead clock.new))
+            result }
+        ensures starts { self.new.recorder.starts ≤ self.old.recorder.starts + 1 }
+        ensures nothing { line.entry ≡ Ok Nothing
+            → self.new.recorder.starts ≡ self.old.recorder.starts }
         ensures faults { CountsHalt (F.faults files.old) (F.faults files.new) result }
     {
         match line {
             Err(LineRefusal::BadCommand { at }) => Ok(Reply::BadCommand { at }),
             Ok(Command::Nothing | Command::Exit) => Ok(Reply::Silent),
             Ok(Command::Events { count }) => {
-                self.state.quota = count;
+                self.quota = count;
                 Ok(Reply::Silent)
             }
-            Ok(Command::Start) => start(alloc, &mut self.state, &mut self.path, files, clock),
-            Ok(Command::Stop) => Ok(stop(alloc, &mut self.state, &mut self.path, files, clock)?),
-            Ok(command) => call(alloc, &mut self.state, &command),
+            Ok(Command::Start) => self.start(alloc, files, clock),
+            Ok(Command::Stop) => Ok(self.stop(alloc, files, clock)?),
+            Ok(command) => self.call(alloc, &command),
         }
-    }
-
-    /// Ends the run that is on.
-    pub fn stop_run<F: Files, C: Clock>(
-        &mut self,
-        alloc: Global,
-        files: &mut F,
-        clock: &mut C,
-    ) -> Result<Reply, Failed>
-        requires ready { IsReady (F.seen files.old) self.old.state.current }
-        ensures did { IfOk result (λ reply. AnswersLine (Ok Stop) reply self.old.state
-            self.new.state (record {
-              files = F.seen files.old;
-              clashes = F.clashes files.old;
-              clock_tells = C.tells clock.old;
-              ahead = C.ahead clock.old;
-            })
-            (record {
-              files = F.seen files.new;
-              clashes = F.clashes files.new;
-              clock_tells =
-                  C.tells clock.new;
-              ahead = C.ahead clock.new;
-            })) }
-        ensures broken { OnErr result (FailsLine (Ok Stop) self.old.state
-            (record {
-              files = F.seen files.old;
-              clashes = F.clashes files.old;
-              clock_tells =
-                  C.tells clock.old;
-              ahead = C.ahead clock.old;
-            })
-            (record {
-              files = F.seen files.new;
-              clashes = F.clashes files.new;
-              clock_tells =
-                  C.tells clock.new;
-              ahead = C.ahead clock.new;
-            })) }
-        ensures idle { OnOk result (self.new.state.current ≡ None) }
-        ensures accepted { IfOk result (λ reply. IsSome self.old.state.current → is_refusal reply
-            ≡ false) }
-        ensures faults { CountsFault (F.faults files.old) (F.faults files.new) result }
-    {
-        stop(alloc, &mut self.state, &mut self.path, files, clock)
     }
 }

@@ -124,6 +124,14 @@ impl<D: Database> LocalDatabase<D> {
         Ok(())
     }
 
+    /// Does nothing. Its contract is what holds at any time: the calls noted so far are those of one database.
+    pub fn tells_legal(&self)
+        ensures { IsLegal self.now.start self.now.history }
+    {
+        // A look at a field tells the invariant.
+        let _ = &self.entries;
+    }
+
     /// The database, and the journal of its calls.
     pub fn into_parts(self) -> (D, Journal<(u32, DatabaseEntry)>)
         ensures rows { D.rows result.0 ≡ self.rows }

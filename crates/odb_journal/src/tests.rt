@@ -33,6 +33,7 @@ fn each_call_is_noted(rt: HostRuntime) -> Result<(), Fail> {
     assert_eq!(rt; replaced, Ok(2));
     let gone = database.delete(Path::read(alloc, b"/A/b")?);
     assert_eq!(rt; gone, Ok(1));
+    database.tells_legal();
     let (_, journal) = database.into_parts();
     let entries = journal.as_slice();
     assert_eq!(rt; entries.len(), 9);

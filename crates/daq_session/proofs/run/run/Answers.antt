@@ -7,9 +7,9 @@ use Rattle.daq_session.specs.Playing.{PlaysTo, course_of}
 use Rattle.daq_session.specs.Sessions.{IsScriptEnd}
 use Rattle.daq_session.proofs.FitLaws.{session_fits}
 use Rattle.daq_session.proofs.FrontLaws.{session_fronts, recorded_callers}
-use Rattle.daq_session.proofs.RunLaws.{not_both, plays_played, finished_numbered, finished_runs, ran_none, broken_at, broken_stop, ran_whole, record_holds, risen_end, files_still}
+use Rattle.daq_session.proofs.RunLaws.{not_both, plays_played, finished_numbered, finished_runs, ran_none, broken_at, broken_stop, ran_whole, record_holds, risen_end}
 use Rattle.daq_session.proofs.NumberLaws.{session_within}
-use Rattle.daq_session.proofs.RunsKept.{session_filed, session_sent}
+use Rattle.daq_session.proofs.RunsFiled.{session_filed}
 use Rattle.daq_session.proofs.run.run.Given.{Over}
 use Rattle.daq_session.proofs.run.run.Goals as goal
 
@@ -36,7 +36,7 @@ returns-then-broke_files-clause-ran g c =
     broken_stop _ _ c.play-ending.result c.close_run-closing.result _ _ _ _ _ _ _ sound is
     (record { may = c.close_run-closing.ensures.may; source = c.play-ending.ensures.source; sink_lines = _; sink = c.play-ending.ensures.sink; sink_behind = c.close_run-closing.ensures.sink; files_lines = _; files = c.play-ending.ensures.files; files_behind = c.close_run-closing.ensures.files })
     c.close_run-closing.ensures.refusals c.with_closing-ended.ensures c.end_of-end.ensures (plays_played _ c.play-ending.result _ _ _ _ _ _ _ sound c.play-ending.ensures.did)
-    (c.close_run-closing.ensures.broken is) (c.close_run-closing.ensures.unprinted is)
+    c.close_run-closing.ensures.legal (c.close_run-closing.ensures.broken is) (c.close_run-closing.ensures.unprinted is)
 
 pub returns-clause-ran : goal.returns-clause-ran
 returns-clause-ran g c =
@@ -46,12 +46,22 @@ returns-clause-ran g c =
     let finished = c.close_run-closing.ensures.finishes other _ _ _ _ played in
     ran_whole _ _ c.play-ending.result c.close_run-closing.result _ _ _ _ _ c.record_of.result sound other
     (record { may = c.close_run-closing.ensures.may; source = c.play-ending.ensures.source; sink_lines = _; sink = c.play-ending.ensures.sink; sink_behind = c.close_run-closing.ensures.sink; files_lines = _; files = c.play-ending.ensures.files; files_behind = c.close_run-closing.ensures.files })
-    (files_still c.play-ending.result c.close_run-closing.result _ _ _ sound other c.play-ending.ensures.files c.close_run-closing.ensures.files) c.close_run-closing.ensures.refusals
+    c.close_run-closing.ensures.refusals
     c.with_closing-ended.ensures c.end_of-end.ensures c.record_of.ensures.recorded c.record_of.ensures.legal finished
     (λ ends is. record_holds _ _ c.record_of.result c.record_of.ensures.database c.record_of.ensures.buffers c.record_of.ensures.one_history c.record_of.ensures.system_calls
-    (λ calm tells. session_filed is.final c.record_of.result _ is.recorded (is.played.kept.filed tells) c.record_of.ensures.held) (session_sent c.record_of.result c.record_of.ensures.held)
+    (λ tells. session_filed is.final c.record_of.result _ is.recorded (is.played.kept.filed tells) c.record_of.ensures.held) c.record_of.ensures.held
     (session_fronts _ _ _ _ is.lines is.final _ is.played is.recorded) (recorded_callers c.record_of.result _ c.record_of.ensures.history finished.calls.callers)
     (session_fits _ _ _ _ is.lines is.final _ is.played is.recorded c.record_of.ensures.database)
     (finished_runs _ _ _ _ _ _ _ _ _ _ c.record_of.result finished c.record_of.ensures.history c.record_of.ensures.recorded)
     (c.record_of.ensures.no_other_run (finished_numbered _ c.play-ending.result c.close_run-closing.result _ _ _ _ _ _ _ finished))
     (session_within _ _ _ _ is.lines is.final _ is.played is.recorded))
+
+pub invariant_of-desk-then-is_file_fault : goal.invariant_of-desk-then-is_file_fault
+invariant_of-desk-then-is_file_fault g c =
+    let r = c.drop-then-is_file_fault.inside in
+    (r.told, (r.room, (r.shut, (r.open_gate, (r.later, (r.few, (r.spent, (r.spends, (r.begun, (r.entries, (r.bytes, tt)))))))))))
+
+pub invariant_of-desk-then-broke_files : goal.invariant_of-desk-then-broke_files
+invariant_of-desk-then-broke_files g c =
+    let r = c.drop-then-broke_files.inside in
+    (r.told, (r.room, (r.shut, (r.open_gate, (r.later, (r.few, (r.spent, (r.spends, (r.begun, (r.entries, (r.bytes, tt)))))))))))

@@ -1,0 +1,11 @@
+mod Sending
+mod BrokenFiles
+mod Passing
+mod BufferLaws
+mod RunsTelling
+mod RunsHeld
+mod CallsKept
+mod OfRuns
+mod OpeningRuns
+mod WholeFiles
+mod RunsKept

@@ -1,0 +1,15 @@
+pub mod RunNames
+pub mod RunRecords
+pub mod RecordBytes
+pub mod Tallies
+pub mod BegunFiles
+pub mod FileFaults
+pub mod PartFiles
+pub mod KeptLaws
+pub mod BufferEntries
+pub mod BufferRecords
+pub mod RunHistories
+pub mod SystemCalls
+pub mod RunsTold
+pub mod OpenRuns
+pub mod Recordings
