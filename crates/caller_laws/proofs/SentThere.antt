@@ -1,7 +1,7 @@
 -- Where the events stand that one caller sent in a run.
-use Rattle.std.specs.Prelude.{◌≡◌, ◌≢◌, ℕ, zero, suc, ◌+◌, ◌<◌, ◌≤◌, ◌==◌, ◌||◌, Bool, true, false, if◌then◌else◌, List, [], ◌∷◌, ◌++◌, length, take, drop, unwrap_or, slice_get, Option, Some, None, Ok, refl, ⊤}
+use Rattle.std.specs.Prelude.{◌≡◌, ◌≢◌, ℕ, zero, suc, ◌+◌, ◌<◌, ◌≤◌, ◌==◌, ◌||◌, Bool, false, if◌then◌else◌, List, [], ◌∷◌, ◌++◌, length, take, drop, unwrap_or, slice_get, Option, Some, None, Ok, refl, ⊤}
 use Rattle.std.specs.List.{AllByRecursion, filter, enumerate_from, list_any}
-use Rattle.std.proofs.Common.{ap, sym, ◌∙◌, subst, arith, inl, inr, append_assoc, ne_eqb, eq-eqb}
+use Rattle.std.proofs.Common.{ap, sym, ◌∙◌, subst, arith, append_assoc, ne_eqb}
 use Rattle.std.proofs.lemmas.Bool.{eqb-true, eqb-false}
 use Rattle.std.proofs.lemmas.List.{length-append}
 use Rattle.daq_types.specs.Callers.{entries_by}
@@ -11,7 +11,7 @@ use Rattle.buffer_core.specs.declared.entry.BufferEntry.TheVariants.{SendInRun}
 use Rattle.buffer_core.specs.SlotLaws.{split}
 use Rattle.buffer_core.specs.Window.{Sent, opening}
 use Rattle.buffer_core.specs.Histories.{IsLegal}
-use Rattle.buffer_core.specs.Points.{News, news_of, sent, sent_after, count_at, past_after, past_of}
+use Rattle.buffer_core.specs.Points.{sent, count_at, past_after, past_of}
 use Rattle.buffer_core.specs.Runs.{begun_at, ended_at, segment, events_between}
 use Rattle.buffer_core.specs.Readers.{places_of}
 use Rattle.buffer_core.specs.Continued.{sent_in, RepliesCount}
@@ -20,7 +20,7 @@ use Rattle.member_model.specs.SentCalls.{sent_by, own_sent}
 use Rattle.caller_laws.specs.BufferLaws.{BufferLaws}
 use Rattle.caller_laws.specs.OneCaller.{events_in}
 use Rattle.caller_laws.specs.SentRuns.{place_sent, places_sent, events_at_places}
-use Rattle.caller_laws.specs.CallerLaws.{IsSendOf, SendStands, SendsStandInOrder}
+use Rattle.caller_laws.specs.CallerLaws.{SendStands, SendsStandInOrder}
 use Rattle.caller_laws.proofs.Pasts.{throughout, throughout_front, own_cases, StandsIn, stands}
 use Rattle.caller_laws.proofs.OwnPlaces.{all_join, count_grows}
 

@@ -1,8 +1,8 @@
 -- What the run files have, by the engine's history and the buffers'.
 use mathlib.Core.List.{IsPrefix}
-use Rattle.std.specs.Prelude.{◌≡◌, ℕ, List, [], ◌∷◌, All, length, slice_get, unwrap_or, Option, Some, None, refl, ◌⊎◌}
+use Rattle.std.specs.Prelude.{◌≡◌, ℕ, List, [], All, unwrap_or, Option, Some, refl}
 use Rattle.std.proofs.Common.{ap, sym, ◌∙◌, subst, inl, inr}
-use Rattle.daq_types.specs.Callers.{caller_of_client, entries_by}
+use Rattle.daq_types.specs.Callers.{caller_of_client}
 use Rattle.daq_types.specs.declared.events.Event.{Event}
 use Rattle.daq_types.specs.declared.runs.ChannelState.{ChannelState}
 use Rattle.daq_types.specs.declared.runs.ChannelState.TheVariants.{Ended, Broken}
@@ -12,24 +12,21 @@ use Rattle.daq_model.specs.RunFile.{begun_file, run_file, IsFileEvent}
 use Rattle.daq_io.specs.Seen.{IsStored}
 use Rattle.buffer_core.specs.declared.entry.BufferEntry.{BufferEntry}
 use Rattle.buffer_core.specs.Histories.{History}
-use Rattle.buffer_core.specs.Ports.{GotEvent}
-use Rattle.buffer_core.specs.Runs.{segment}
-use Rattle.buffer_core.specs.Readers.{among, places_got, places_of, wanted}
 use Rattle.transitions.specs.declared.answers.Answer.{Answer}
 use Rattle.transitions.specs.declared.answers.Answer.TheVariants.{Yes, No}
 use Rattle.transitions.specs.declared.answers.Tally.{Tally}
 use Rattle.transitions.specs.declared.answers.Tally.TheVariants.{Channels}
 use Rattle.transitions.specs.EnginePoints.{tally_of}
-use Rattle.member_model.specs.Turns.{MemberTurn, HasTurnOf, AreEngineTurns}
+use Rattle.member_model.specs.Turns.{MemberTurn, HasTurnOf}
 use Rattle.member_model.specs.ReadRuns.{HasReadRun}
 use Rattle.member_model.specs.CutRuns.{MarksEnd, HasCutRun}
-use Rattle.member_model.specs.LoggerKept.{LoggerChannel, LoggerPort, IsStartOf, HasWritten, HasWrittenPart, TellsState}
-use Rattle.caller_laws.specs.OneCaller.{IsCallersPart, HaveOwnClients, events_in}
+use Rattle.member_model.specs.LoggerKept.{LoggerChannel, HasWritten, HasWrittenPart, TellsState}
+use Rattle.caller_laws.specs.OneCaller.{IsCallersPart, HaveOwnClients}
 use Rattle.caller_laws.specs.CallerLaws.{ReadPlaces, ReadEvents, CutEvents, CutFile, MembersFit}
 use Rattle.composition.specs.Sessions.{Session, turns_of, buffer_calls, MembersKeep}
-use Rattle.composition.specs.SessionRuns.{SessionRun, IsStoppedRun, run_order, ToldState, channel_events, HoldsRun, HoldsPart}
+use Rattle.composition.specs.SessionRuns.{SessionRun, IsStoppedRun, run_order, ToldState, channel_events}
 use Rattle.composition.specs.CompositionLaws.{FilesHoldRuns, FilesHoldParts}
-use Rattle.composition.proofs.SessionTurns.{EngineFacts, are_turns, IsStartTurn, start_turn, one_start, StopTally, number_of, stop_tally, HasStartTally, start_tally}
+use Rattle.composition.proofs.SessionTurns.{EngineFacts, are_turns, start_turn, one_start, StopTally, number_of, stop_tally, HasStartTally, start_tally}
 use Rattle.composition.proofs.SentTogether.{each_reads_or_sends}
 
 -- what the laws of one caller's calls say

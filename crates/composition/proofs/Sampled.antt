@@ -1,20 +1,17 @@
 -- A session meets what the laws of sessions ask.
-use Rattle.std.specs.Prelude.{◌≡◌, ◌≢◌, ℕ, zero, suc, ◌<◌, ◌≤◌, ◌==◌, ◌↔◌, Bool, true, false, if◌then◌else◌, List, [], ◌∷◌, ◌++◌, All, length, take, drop, slice_get, Option, Some, None, Ok, refl, ⊤, ◌⊎◌}
+use Rattle.std.specs.Prelude.{◌≡◌, ◌≢◌, ℕ, zero, suc, ◌≤◌, ◌==◌, Bool, true, false, if◌then◌else◌, List, [], ◌∷◌, ◌++◌, length, take, drop, slice_get, Some, None, Ok, refl, ◌⊎◌}
 use Rattle.std.specs.List.{AllByRecursion}
 use Rattle.std.proofs.Common.{ap, sym, ◌∙◌, subst, arith, inl, inr, ne_eqb}
 use Rattle.std.proofs.lemmas.Bool.{eqb-true, eqb-false}
 use Rattle.std.proofs.lemmas.List.Elements.{All-nil, All-cons}
 use Rattle.daq_types.specs.Callers.{entries_by}
-use Rattle.daq_types.specs.declared.events.Event.{Event}
 use Rattle.daq_types.specs.declared.runs.ChannelState.{ChannelState}
 use Rattle.daq_types.specs.declared.runs.ChannelState.TheVariants.{Ended, Broken}
 use Rattle.daq_types.specs.declared.runs.FrontEnded.{FrontEnded}
 use Rattle.daq_types.specs.declared.runs.FrontEnded.TheVariants.{Quota}
-use Rattle.daq_types.specs.declared.runs.Order.{Order}
 use Rattle.daq_types.specs.declared.runs.RunState.TheVariants.{Stopped, Running}
 use Rattle.daq_types.specs.declared.runs.Transition.{Transition}
 use Rattle.daq_types.specs.declared.runs.Transition.TheVariants.{Start, Stop}
-use Rattle.daq_types.specs.declared.runs.Why.TheVariants.{NotReady}
 use Rattle.daq_model.specs.Events.{matches, slot_of_length, record_limit}
 use Rattle.daq_model.specs.RunFile.{IsFileEvent}
 use Rattle.buffer_core.specs.SlotLaws.{split}
@@ -27,7 +24,7 @@ use Rattle.buffer_core.specs.Histories.{IsLegal}
 use Rattle.buffer_core.specs.Samples.{sample_event}
 use Rattle.transitions.specs.declared.sheet.Sheet.{Sheet}
 use Rattle.transitions.specs.declared.answers.Answer.{Answer as ClientAnswer}
-use Rattle.transitions.specs.declared.answers.Answer.TheVariants.{Yes, No}
+use Rattle.transitions.specs.declared.answers.Answer.TheVariants.{Yes}
 use Rattle.transitions.specs.declared.answers.Tally.TheVariants.{Plain, Front, Channels}
 use Rattle.transitions.specs.declared.entry.EngineEntry.{EngineEntry}
 use Rattle.transitions.specs.declared.entry.EngineEntry.TheVariants.{Register, Begin}
@@ -36,8 +33,8 @@ use Rattle.transitions.specs.Engines.{engine_opening}
 use Rattle.transitions.specs.EngineCalls.{order_for}
 use Rattle.transitions.specs.EngineHistories.{EngineHistory, IsLegalEngine, IsSheet}
 use Rattle.transitions.specs.EngineSamples.{at_all}
-use Rattle.member_model.specs.Turns.{MemberTurn, HasTurn, HasTurnOf, AreEngineTurns}
-use Rattle.member_model.specs.SentCalls.{own_sent, EachCall}
+use Rattle.member_model.specs.Turns.{MemberTurn, HasTurn, HasTurnOf}
+use Rattle.member_model.specs.SentCalls.{EachCall}
 use Rattle.member_model.specs.OwnCalls.{calls_after, AreOwnCalls, SendsNone}
 use Rattle.run_states.specs.Sequences.{sequence_for}
 use Rattle.member_model.specs.ReadRuns.{HasReadRun}
@@ -46,9 +43,9 @@ use Rattle.front_ends.specs.FrontKept.{IsMade, IsFrontTally, KeepsFront}
 use Rattle.caller_laws.specs.OneCaller.{WasSentAt}
 use Rattle.caller_laws.specs.CallerSamples.{reading_history, reading_calls, with_own_run, got_first}
 use Rattle.engine_laws.specs.BegunTurns.{IsRegisteredIn}
-use Rattle.composition.specs.Sessions.{Session, SessionFront, HasFront, IsFrontCaller, NamesOwnClient, turns_of, buffer_calls, IsRegistered, MembersKeep}
+use Rattle.composition.specs.Sessions.{SessionFront, HasFront, IsFrontCaller, turns_of, buffer_calls, IsRegistered, MembersKeep}
 use Rattle.composition.specs.SessionRuns.{IsStoppedRun, ToldState}
-use Rattle.composition.specs.SessionSamples.{first_sheet, last_sheet, first_tallies, last_tallies, sample_engine, sample_history, sample_got, sample_front, sample_channel, sample_files, sample_session, sample_run}
+use Rattle.composition.specs.SessionSamples.{first_sheet, last_sheet, sample_engine, sample_history, sample_got, sample_front, sample_channel, sample_files, sample_session, sample_run}
 
 -- The histories are legal.
 

@@ -1,37 +1,32 @@
 -- What front-ends sent in a run, by the engine's history and the buffers'.
-use Rattle.std.specs.Prelude.{◌≡◌, ◌≢◌, ℕ, zero, suc, ◌+◌, Bool, true, false, if◌then◌else◌, List, [], ◌∷◌, ◌++◌, length, slice_get, Option, Some, None, Ok, refl, ⊤, ◌⊎◌}
+use Rattle.std.specs.Prelude.{◌≡◌, ℕ, zero, suc, Bool, true, false, if◌then◌else◌, List, [], ◌∷◌, ◌++◌, length, slice_get, Some, Ok, refl}
 use Rattle.std.proofs.Common.{ap, sym, ◌∙◌, subst, arith, inl, inr, length-append}
 use Rattle.daq_types.specs.Callers.{caller_of_client, entries_by}
 use Rattle.daq_types.specs.declared.events.Event.{Event}
 use Rattle.daq_types.specs.declared.runs.FrontEnded.{FrontEnded}
 use Rattle.daq_types.specs.declared.runs.FrontEnded.TheVariants.{Quota, Paused as EndedPaused, Spent as EndedSpent}
 use Rattle.daq_types.specs.declared.runs.Order.{Order}
-use Rattle.daq_types.specs.declared.runs.StartOutcome.TheVariants.{Completed}
 use Rattle.daq_types.specs.declared.runs.Transition.TheVariants.{Start, Stop}
 use Rattle.daq_types.specs.declared.runs.Why.TheVariants.{NotReady}
 use Rattle.buffer_core.specs.declared.entry.BufferEntry.{BufferEntry}
 use Rattle.buffer_core.specs.declared.entry.BufferEntry.TheVariants.{SendInRun}
-use Rattle.buffer_core.specs.SlotLaws.{split}
-use Rattle.buffer_core.specs.Window.{Sent, opening}
 use Rattle.buffer_core.specs.Histories.{History}
-use Rattle.buffer_core.specs.Runs.{segment}
 use Rattle.transitions.specs.declared.answers.Answer.{Answer}
 use Rattle.transitions.specs.declared.answers.Answer.TheVariants.{Yes, No}
 use Rattle.transitions.specs.declared.answers.Tally.{Tally}
 use Rattle.transitions.specs.declared.answers.Tally.TheVariants.{Plain, Front}
-use Rattle.transitions.specs.declared.answers.ClientTally.{ClientTally}
 use Rattle.transitions.specs.EnginePoints.{tally_of}
-use Rattle.member_model.specs.Turns.{MemberTurn, HasTurn, HasTurnOf, AreEngineTurns}
-use Rattle.member_model.specs.SentCalls.{own_sent, IsSendInRun, EachCall, WasSpent}
+use Rattle.member_model.specs.Turns.{MemberTurn, HasTurnOf, AreEngineTurns}
+use Rattle.member_model.specs.SentCalls.{own_sent, EachCall, WasSpent}
 use Rattle.member_model.specs.OwnCalls.{SendsNone}
 use Rattle.front_ends.specs.FrontKept.{made_events, IsAcceptedStart, EndedSo, IsFrontTally, KeepsFront}
-use Rattle.caller_laws.specs.OneCaller.{HaveOwnClients, HaveRunSends}
+use Rattle.caller_laws.specs.OneCaller.{HaveRunSends}
 use Rattle.caller_laws.specs.CallerLaws.{IsSendOf, SendsStandInOrder, SentByCaller, SendsOrReads, MembersFit}
 use Rattle.engine_laws.specs.BegunTurns.{HasTally}
-use Rattle.composition.specs.Sessions.{Session, SessionFront, HasFront, IsFrontCaller, turns_of, buffer_calls, MembersKeep}
-use Rattle.composition.specs.SessionRuns.{SessionRun, IsStoppedRun, run_order, TellsFront, EndedIn, FrontSent, IsOfFront}
+use Rattle.composition.specs.Sessions.{Session, SessionFront, turns_of, buffer_calls, MembersKeep}
+use Rattle.composition.specs.SessionRuns.{SessionRun, IsStoppedRun, run_order, TellsFront, EndedIn, IsOfFront}
 use Rattle.composition.specs.CompositionLaws.{FrontsTell, FrontsSent, FrontsStand, OnlyFrontsSent}
-use Rattle.composition.proofs.SessionTurns.{EngineFacts, are_turns, IsStartTurn, start_turn, StopTally, number_of, stop_tally, HasStartTally, start_tally, last_tally}
+use Rattle.composition.proofs.SessionTurns.{EngineFacts, are_turns, start_turn, StopTally, number_of, stop_tally, HasStartTally, start_tally, last_tally}
 
 -- What a front-end told at the stop.
 

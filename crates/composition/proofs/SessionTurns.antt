@@ -1,18 +1,16 @@
 -- The turns of a session's member in a run.
-use Rattle.std.specs.Prelude.{◌≡◌, ◌≢◌, ℕ, ◌<◌, Bool, true, false, ◌==◌, List, [], ◌∷◌, ◌++◌, slice_get, Option, Some, None, Ok, Err, refl, ◌⊎◌}
+use Rattle.std.specs.Prelude.{◌≡◌, ℕ, ◌<◌, true, List, [], ◌∷◌, ◌++◌, slice_get, Some, Ok, Err, ◌⊎◌}
 use Rattle.std.specs.List.{AllByRecursion}
 use Rattle.std.proofs.Common.{ap, sym, ◌∙◌, subst, arith, inl, inr}
 use Rattle.std.proofs.lemmas.Bool.{eqb-true}
 use Rattle.daq_types.specs.Callers.{caller_of_client}
 use Rattle.daq_types.specs.declared.runs.Order.{Order}
 use Rattle.daq_types.specs.declared.runs.RunState.{RunState}
-use Rattle.daq_types.specs.declared.runs.RunState.TheVariants.{Stopped}
 use Rattle.daq_types.specs.declared.runs.StartOutcome.TheVariants.{Completed}
 use Rattle.daq_types.specs.declared.runs.Transition.{Transition}
 use Rattle.daq_types.specs.declared.runs.Transition.TheVariants.{Start, Stop, StartAbort}
 use Rattle.transitions.specs.declared.sheet.Sheet.{Sheet}
 use Rattle.transitions.specs.declared.answers.Tally.{Tally}
-use Rattle.transitions.specs.declared.answers.ClientTally.{ClientTally}
 use Rattle.transitions.specs.declared.replies.Polled.TheVariants.{Turn, Idle, Closed as PollClosed, NoClient}
 use Rattle.transitions.specs.declared.replies.Progress.TheVariants.{Done}
 use Rattle.transitions.specs.declared.entry.EngineEntry.{EngineEntry}
@@ -22,7 +20,7 @@ use Rattle.transitions.specs.EngineCalls.{order_for}
 use Rattle.transitions.specs.EngineHistories.{EngineHistory, IsLegalEngine}
 use Rattle.transitions.specs.GivenTurns.{is_of_client, SpeaksFor}
 use Rattle.member_model.specs.Turns.{MemberTurn, HasTurn, HasTurnOf, IsNewStart, IsNextTurn, AreEngineTurns}
-use Rattle.engine_laws.specs.BegunTurns.{IsOfBegin, WasBegun, HasTransition, HasTally, IsTallyOfTurn}
+use Rattle.engine_laws.specs.BegunTurns.{IsOfBegin, WasBegun, HasTally, IsTallyOfTurn}
 use Rattle.engine_laws.specs.EngineLaws.{GivesEngineTurns, TurnsWereBegun, StartsFromStopped, TalliesAreAnswers, CalledAreTold}
 use Rattle.composition.specs.Sessions.{Session, NamesOwnClient, turns_of, IsRegistered, MembersKeep}
 use Rattle.composition.specs.SessionRuns.{SessionRun, IsStoppedRun, run_order}

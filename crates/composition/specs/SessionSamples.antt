@@ -1,5 +1,5 @@
 -- A session that meets all that the laws ask: a front-end that sends one event, a logger of one channel, and a run.
-use Rattle.std.specs.Prelude.{ℕ, zero, suc, Bool, true, false, List, [], ◌∷◌, Some, None, Ok}
+use Rattle.std.specs.Prelude.{ℕ, zero, suc, true, false, List, [], ◌∷◌, Some, None, Ok}
 use Rattle.daq_types.specs.declared.runs.ChannelState.TheVariants.{Ended}
 use Rattle.daq_types.specs.declared.runs.FrontEnded.TheVariants.{Quota}
 use Rattle.daq_types.specs.declared.runs.RunState.TheVariants.{Stopped, Running}

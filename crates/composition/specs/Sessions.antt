@@ -18,7 +18,7 @@ use Rattle.transitions.specs.Engines.{engine_opening}
 use Rattle.transitions.specs.EngineHistories.{EngineHistory, IsLegalEngine}
 use Rattle.member_model.specs.Turns.{MemberTurn}
 use Rattle.member_model.specs.TurnCalls.{member_turns}
-use Rattle.member_model.specs.LoggerKept.{LoggerChannel, LoggerPort, KeepsLogger}
+use Rattle.member_model.specs.LoggerKept.{LoggerChannel, KeepsLogger}
 use Rattle.front_ends.specs.FrontKept.{KeepsFront}
 use Rattle.caller_laws.specs.OneCaller.{WasSentAt}
 use Rattle.engine_laws.specs.BegunTurns.{IsRegisteredIn, OneWantsDump}

@@ -1,6 +1,6 @@
 -- What a logger keeps of its calls on buffers, its turns and the run files, whatever the buffers reply.
 use mathlib.Core.List.{IsPrefix}
-use Rattle.std.specs.Prelude.{◌≡◌, ℕ, List, [], ◌++◌, All, slice_get, unwrap_or, Option, Some, ◌⊎◌}
+use Rattle.std.specs.Prelude.{◌≡◌, ℕ, List, [], All, slice_get, unwrap_or, Some, ◌⊎◌}
 use Rattle.daq_types.specs.declared.events.Event.{Event}
 use Rattle.daq_types.specs.declared.runs.Transition.TheVariants.{Start, Stop}
 use Rattle.daq_types.specs.declared.runs.ChannelState.{ChannelState}
