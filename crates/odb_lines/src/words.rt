@@ -1,9 +1,10 @@
 ghost use Rattle.std.specs.Prelude.{◌≡◌, ◌↔◌, ◌<◌, ◌∷◌, ◌++◌, ℕ, List, IsTrue, IfSome, IfNone};
 ghost use Rattle.std.specs.Char.{digit_value};
-ghost use Rattle.std.specs.Str.Parse.{IsNumeral};
-ghost use Rattle.odb_lines.specs.LineForms.{AreBlanks, HasNo, IsBracketed};
+ghost use Rattle.std.specs.Str.Parse.{IsNumeral, digits_value};
+ghost use Rattle.daq_text.specs.Numbers.{up_to};
+ghost use Rattle.odb_lines.specs.LineForms.{AreBlanks, HasNo, IsBracketed, behind_blank};
 
-use daq_text::behind_blanks;
+use daq_text::{behind_blanks, digits};
 
 /// Whether there are blanks alone.
 pub fn are_blanks(bytes: &[u8]) -> bool
@@ -35,7 +36,7 @@ fn is_numeral(text: &[u8]) -> bool
 }
 
 /// What stands before and behind the first byte of this value, where there is one.
-fn split_once(text: &[u8], at: u8) -> Option<(&[u8], &[u8])>
+pub fn split_once(text: &[u8], at: u8) -> Option<(&[u8], &[u8])>
     ensures some { IfSome result (λ parts. text.now ≡ parts.0.now ++ at ∷ parts.1.now) }
     ensures first { IfSome result (λ parts. HasNo at parts.0.now) }
     ensures none { IfNone result (HasNo at text.now) }
@@ -77,4 +78,25 @@ pub fn bracketed(line: &[u8]) -> Option<(&[u8], &[u8])>
         return None;
     }
     Some((digits, rest))
+}
+
+/// What stands behind one blank, where there is one.
+pub fn behind_blank(text: &[u8]) -> &[u8]
+    ensures { result.now ≡ behind_blank text.now }
+{
+    match text.split_first() {
+        Some((b' ' | b'\t', rest)) => rest,
+        _ => text,
+    }
+}
+
+/// The number that these decimal digits spell, where it is at most `most`.
+pub fn spelled(numeral: &[u8], most: u64) -> Option<u64>
+    requires { IsNumeral 10 numeral.now }
+    ensures { result ≡ up_to most (digits_value 10 numeral.now) }
+{
+    match digits(numeral, 10, most) {
+        Ok(number) => number,
+        Err(_) => None,
+    }
 }
