@@ -2,3 +2,8 @@ pub mod Found
 pub mod Parts
 pub mod Growing
 pub mod Sizes
+pub mod Items
+pub mod TypeNames
+pub mod Beginnings
+pub mod Written
+pub mod Loads

@@ -50,8 +50,8 @@ fn read_item(alloc: Global, tid: Tid, text: &[u8]) -> Result<Option<Item>, NoMem
     }
 }
 
-/// Whether the type is that of texts.
-fn is_string(tid: Tid) -> bool
+/// Whether the type is STRING.
+pub fn is_string(tid: Tid) -> bool
     ensures { result ≡ is_string tid }
 {
     matches!(tid, Tid::Text)

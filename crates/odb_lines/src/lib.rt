@@ -10,7 +10,7 @@ mod passed;
 mod words;
 
 pub use directories::read_dir_line;
-pub use items::{ReadItem, item_alone, item_line};
+pub use items::{ReadItem, is_string, item_alone, item_line};
 pub use keys::{array, key_line, single};
 pub use lines::split_line;
 pub use passed::is_passed;
