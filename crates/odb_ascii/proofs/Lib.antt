@@ -7,3 +7,4 @@ pub mod TypeNames
 pub mod Beginnings
 pub mod Written
 pub mod Loads
+pub mod Replies

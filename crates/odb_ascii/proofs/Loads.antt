@@ -90,12 +90,12 @@ runs_push (x ∷ xs) s now step h k = cases (act_fault s x.act) (λ e. runs_push
 
 -- the whole of it
 
-pub nothing_loaded : (s : Rows) (lines : List (List ℕ)) → IsLoadedTo s lines (record { rest = lines; line = 1; dir = []; loaded = record { keys = 0; skipped = 0 } }) s
-nothing_loaded s lines = record {
+pub nothing_loaded : (s : Rows) (all dir : List (List ℕ)) → dir ≡ [] → IsLoadedTo s all (record { rest = all; line = 1; dir = dir; loaded = record { keys = 0; skipped = 0 } }) s
+nothing_loaded s all dir e = record {
   front = [];
   whole = refl;
   so_far = record { steps = []; reads = tt; ran = refl; keys = refl; skipped = refl };
-  dir_is = refl;
+  dir_is = e;
   line_is = refl;
 }
 

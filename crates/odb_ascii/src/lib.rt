@@ -8,10 +8,12 @@ mod children;
 mod dump;
 mod faults;
 pub mod laws;
+mod loading;
 mod saving;
 mod skips;
 
 pub use acts::{Act, LoadRefusal, Loaded};
+pub use loading::load;
 pub use saving::save;
 
 #[cfg(test)]
