@@ -11,7 +11,7 @@ use Rattle.front_ends.specs.FrontKept.{made_events}
 use Rattle.caller_laws.specs.OneCaller.{events_in}
 use Rattle.caller_laws.specs.SentRuns.{places_sent, events_at_places}
 use Rattle.composition.specs.Sessions.{Session, SessionFront, HasFront, MembersKeep, buffer_calls}
-use Rattle.composition.specs.SessionRuns.{SessionRun, IsStoppedRun, run_order, TellsFront, FrontSent, IsOfFront, ToldState, HoldsRun, HoldsPart}
+use Rattle.composition.specs.SessionRuns.{SessionRun, IsStoppedRun, run_order, TellsFront, FrontSent, IsOfFront, ToldState, HoldsRunFile, HoldsFilePart}
 
 -- Each front-end has told in the Done of the stop what it sent in the run.
 abbrev pub FrontsTell : Type 0
@@ -42,7 +42,7 @@ OnlyFrontsSent = (s : Session) → MembersKeep s →
 abbrev pub FilesHoldRuns : Type 0
 FilesHoldRuns = (s : Session) → MembersKeep s → (r : SessionRun) → IsStoppedRun s r →
     (index : ℕ) → (channel : LoggerChannel) → slice_get s.channels index ≡ Some channel → ToldState s r channel Ended →
-    (dump : List ℕ) → r.first.dump ≡ Some dump → HoldsRun s r channel dump
+    (dump : List ℕ) → r.first.dump ≡ Some dump → HoldsRunFile s r channel dump
 
 -- The file of a channel that was told to be broken begins that run file, where the end of the run was accepted and the stop had
 -- a dump.
@@ -51,4 +51,4 @@ FilesHoldParts = (s : Session) → MembersKeep s → (r : SessionRun) → IsStop
     (index : ℕ) → (channel : LoggerChannel) → slice_get s.channels index ≡ Some channel → ToldState s r channel Broken →
     (ended : ℕ) → MarksEnd (buffer_calls s channel.buffer s.logger) r.start ended →
     (dump last_dump : List ℕ) → r.first.dump ≡ Some dump → r.last.dump ≡ Some last_dump →
-    HoldsPart s r channel dump last_dump
+    HoldsFilePart s r channel dump last_dump

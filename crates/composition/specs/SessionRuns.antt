@@ -92,7 +92,7 @@ channel_events s r channel = events_in (wanted channel.id channel.mask (segment 
 
 -- The channel's file of the run is closed, and is the run file of these events with the dumps of both sheets; and the channel's
 -- client got, of the places between the marks, just those of these events.
-pub record HoldsRun (s : Session) (r : SessionRun) (channel : LoggerChannel) (dump : List ℕ) : Type 0 where
+pub record HoldsRunFile (s : Session) (r : SessionRun) (channel : LoggerChannel) (dump : List ℕ) : Type 0 where
   pub last_dump : List ℕ
   pub has_dump : r.last.dump ≡ Some last_dump
   pub fine : All IsFileEvent (channel_events s r channel)
@@ -101,7 +101,7 @@ pub record HoldsRun (s : Session) (r : SessionRun) (channel : LoggerChannel) (du
       ≡ places_of (wanted channel.id channel.mask (segment (s.history channel.buffer) r.start))
 
 -- The channel's file of the run is closed, and what it has begins that run file.
-pub record HoldsPart (s : Session) (r : SessionRun) (channel : LoggerChannel) (dump last_dump : List ℕ) : Type 0 where
+pub record HoldsFilePart (s : Session) (r : SessionRun) (channel : LoggerChannel) (dump last_dump : List ℕ) : Type 0 where
   pub bytes : List ℕ
   pub stored : IsStored s.files (channel.name r.first.run) bytes
   pub part : IsPrefix bytes (run_file r.first.run r.first.time dump (channel_events s r channel) r.last.time last_dump)

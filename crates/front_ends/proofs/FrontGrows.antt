@@ -23,7 +23,7 @@ use Rattle.member_model.specs.SentCalls.{sent_by, own_sent}
 use Rattle.member_model.specs.SentLaws.{own_sent-push, WasSpent-push}
 use Rattle.front_ends.specs.declared.front_run.FrontRun.{FrontRun}
 use Rattle.front_ends.specs.Fronts.{ended_with, is_from_pause, paused_run}
-use Rattle.front_ends.specs.FrontKept.{made_events, IsMade, IsAcceptedStart, IsNextCall, AreNextSends, StopsTold, EndedSo, IsFrontTally, KeepsFront, IsWaiting, IsSpentSo, HasNoStop, TakesPart}
+use Rattle.front_ends.specs.FrontKept.{made_events, IsMade, IsAcceptedStart, IsNextCall, AreNextSends, StopsTold, EndedSo, IsFrontTally, KeepsFront, IsWaiting, IsSpentSo, NoStopAnswered, TakesPart}
 
 pub length-made_events : (makes : Order → ℕ → Event) (order : Order) (n : ℕ) → length (made_events makes order n) ≡ n
 length-made_events makes order zero = refl
@@ -124,7 +124,7 @@ waiting_more (Some order) start turns t waits none answered = absurd (subst (λ 
 abbrev pub LeavesRun : MemberTurn → (start : ℕ) → Type 0
 LeavesRun t start = t.transition ≡ Stop → IsAnswered t.answer → t.order.start ≢ start
 
-pub fresh_more : (turns : List MemberTurn) (t : MemberTurn) (start : ℕ) → HasNoStop turns start → LeavesRun t start → HasNoStop (t ∷ turns) start
+pub fresh_more : (turns : List MemberTurn) (t : MemberTurn) (start : ℕ) → NoStopAnswered turns start → LeavesRun t start → NoStopAnswered (t ∷ turns) start
 fresh_more turns t start fresh leaves = λ u stands is answer. elim stands as (λ w. u.order.start ≢ start) [
   | inl same ↦ subst (λ (v : MemberTurn). v.transition ≡ Stop → IsAnswered v.answer → v.order.start ≢ start) same leaves is answer
   | inr before ↦ fresh u before is answer

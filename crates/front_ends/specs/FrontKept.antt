@@ -102,8 +102,8 @@ IsSpentSo own start None = ⊤
 IsSpentSo own start (Some total) = WasSpent own start total
 
 -- no stop of this run was answered
-abbrev pub HasNoStop : List MemberTurn → (start : ℕ) → Type 0
-HasNoStop turns start = (t : MemberTurn) → HasTurn turns t → t.transition ≡ Stop → IsAnswered t.answer → t.order.start ≢ start
+abbrev pub NoStopAnswered : List MemberTurn → (start : ℕ) → Type 0
+NoStopAnswered turns start = (t : MemberTurn) → HasTurn turns t → t.transition ≡ Stop → IsAnswered t.answer → t.order.start ≢ start
 
 -- The run is on: it was ordered by a start turn, and its events so far are those that were sent.
 pub record TakesPart (makes : Order → ℕ → Event) (own : List BufferEntry) (turns : List MemberTurn) (r : FrontRun) : Type 0 where
@@ -115,7 +115,7 @@ pub record TakesPart (makes : Order → ℕ → Event) (own : List BufferEntry) 
   pub spent_so : IsSpentSo own r.order.start r.spent
   pub waiting : IsWaiting r.stop r.order.start turns
   pub sent_is : AreEngineTurns turns → own_sent own r.order.start ≡ made_events makes r.order r.sent
-  pub fresh : AreEngineTurns turns → HasNoStop turns r.order.start
+  pub fresh : AreEngineTurns turns → NoStopAnswered turns r.order.start
 
 abbrev pub RunStands : (Order → ℕ → Event) → List BufferEntry → List MemberTurn → Option FrontRun → Type 0
 RunStands makes own turns None = NoneOpen turns
