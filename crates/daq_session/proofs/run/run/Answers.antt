@@ -1,16 +1,11 @@
-use Rattle.std.proofs.Common.{◌≡◌, ◌≢◌, [], Some, true, false, sym, subst, ◌∙◌}
-use Rattle.daq_session.specs.declared.endings.Ending.{Ending}
+use Rattle.std.proofs.Common.{◌≡◌, ◌≢◌, Some, true, false, sym, ◌∙◌}
 use Rattle.daq_session.specs.declared.endings.Ending.TheVariants.{Halted}
 use Rattle.daq_session.specs.declared.halts.Halt.TheVariants.{FileFault}
-use Rattle.daq_session.specs.Endings.{SourceCounts, SinkCounts, FileCounts}
-use Rattle.daq_session.specs.Playing.{PlaysTo, course_of}
-use Rattle.daq_session.specs.Sessions.{IsScriptEnd}
 use Rattle.daq_session.proofs.FitLaws.{session_fits}
 use Rattle.daq_session.proofs.FrontLaws.{session_fronts, recorded_callers}
 use Rattle.daq_session.proofs.RunLaws.{not_both, plays_played, finished_numbered, finished_runs, ran_none, broken_at, broken_stop, ran_whole, record_holds, risen_end}
 use Rattle.daq_session.proofs.NumberLaws.{session_within}
 use Rattle.daq_session.proofs.RunsFiled.{session_filed}
-use Rattle.daq_session.proofs.run.run.Given.{Over}
 use Rattle.daq_session.proofs.run.run.Goals as goal
 
 pub returns-in_default-clause-ran : goal.returns-in_default-clause-ran
