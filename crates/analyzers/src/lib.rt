@@ -9,6 +9,3 @@ mod analyzer_run;
 pub use analyzer::Analyzer;
 pub use analyzer_pull::AnalyzerPull;
 pub use analyzer_run::{AnalyzerRun, AnalyzerStage, EventRequest};
-
-#[cfg(test)]
-mod tests;
