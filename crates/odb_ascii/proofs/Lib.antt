@@ -8,3 +8,4 @@ pub mod Beginnings
 pub mod Written
 pub mod Loads
 pub mod Replies
+pub mod OneReading

@@ -256,7 +256,7 @@ shorter_left left behind before count dir ls rest act b shorter less = omega (ar
 
 -- the numbers of lines at fault
 
-same_length : (type : Tid) (index : ℕ) (own : List (List ℕ)) (xs : List SizedItem) → AreItemLines type index own xs → length own ≡ length xs
+pub same_length : (type : Tid) (index : ℕ) (own : List (List ℕ)) (xs : List SizedItem) → AreItemLines type index own xs → length own ≡ length xs
 same_length type index [] [] h = refl
 same_length type index [] (x ∷ xs) h = absurd h
 same_length type index (l ∷ ls) [] h = absurd h

@@ -132,7 +132,7 @@ fn texts_that_are_loaded(rt: HostRuntime) {
         ("", 0, 0),
         ("; comment\n \t\n[/A]  \r\n", 0, 0),
         ("x=INT:5", 1, 0),
-        ("x = FLOAT : what\ny = LINK[2] :\n[7] a\n[] \n", 0, 2),
+        ("x = FLOAT : what\ny = LINK[2] :\n[7] a\n[0]\n", 0, 2),
         ("[]\na = CHAR : \nb = CHAR :  \nc = STRING : [0] \n", 3, 0),
         (
             "a = UINT8[1] :\n[0]0xFF\n[/B]\na = BOOL [2] : \n[0] y\n[1] 0\n",
