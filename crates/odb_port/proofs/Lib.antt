@@ -1,1 +1,2 @@
 mod PortCalls
+mod CallLaws

@@ -1,44 +1,112 @@
--- What a port to a database tells of its caller's own calls.
-use Rattle.std.specs.Prelude.{◌≡◌, ℕ, ◌+◌, ◌≤◌, ◌==◌, not, Bool, true, IsTrue, List, [], ◌∷◌, ◌++◌}
-use Rattle.std.specs.List.{filter}
+-- What a port to a database tells its caller.
+use Rattle.std.specs.Prelude.{◌≡◌, ◌≢◌, ◌⊎◌, ℕ, ◌+◌, ◌≤◌, Bool, true, IsTrue, List, [], ◌∷◌, ◌++◌, map, Result, Ok, Err}
 use Rattle.daq_types.specs.Callers.{entries_by}
 use Rattle.odb_tree.specs.declared.entry.DatabaseEntry.{DatabaseEntry}
+use Rattle.odb_tree.specs.declared.refusals.OdbRefusal.{OdbRefusal}
+use Rattle.odb_tree.specs.declared.refusals.OdbRefusal.TheVariants.{NoMemory as no_memory}
 use Rattle.odb_tree.specs.Rows.{Rows}
-use Rattle.odb_tree.specs.Calls.{IsReply}
 use Rattle.odb_tree.specs.Databases.{IsDatabase}
-use Rattle.odb_journal.specs.Noted.{Noted}
+use Rattle.odb_tree.specs.Histories.{IsLegal}
+use Rattle.odb_journal.specs.Noted.{Noted, unanswered}
 
--- One caller's access to a database: the caller's number; the caller's own calls with their replies, in order; the calls
--- of other callers as far as they are known, in order; whether the caller is alone, so that no other call comes between two
--- of its own; and room to note so many calls more.
+-- Which database a port leads to: the rows with which it opened to its ports, how many ports it may have, and numbers by
+-- which it is told from other databases; none where it has one port.
+pub record DatabaseIdentity : Type 0 where
+  pub opened : Rows
+  pub ports : ℕ
+  pub numbers : List ℕ
+
+-- One caller's access to a database: which database it is; the caller's number; the calls since the database opened, as far
+-- as this caller has seen them, each with its caller and its reply, in order; whether no other caller can call while one of
+-- its calls is made; and room to note so many calls more.
 pub record DatabaseAccess : Type 0 where
+  pub database : DatabaseIdentity
   pub caller : ℕ
-  pub own : List DatabaseEntry
-  pub others : List (ℕ × DatabaseEntry)
-  pub alone : Bool
+  pub seen : List (ℕ × DatabaseEntry)
+  pub undisturbed : Bool
   pub room : ℕ
 
--- some database gives this reply to the call
-pub record IsGivenReply (entry : DatabaseEntry) : Type 0 where
-  pub rows : Rows
-  pub database : IsDatabase rows
-  pub reply : IsReply rows entry
+-- the caller's own calls with their replies, in order
+abbrev pub own_calls : DatabaseAccess → List DatabaseEntry
+own_calls a = entries_by a.caller a.seen
 
--- One call more of the caller. What is known of others stays known, and where the caller is alone there is no more of it.
-pub record AddsCall (a b : DatabaseAccess) (entry : DatabaseEntry) : Type 0 where
+-- The same caller's access to the same database.
+pub record IsSamePort (a b : DatabaseAccess) : Type 0 where
+  pub database : b.database ≡ a.database
   pub caller : b.caller ≡ a.caller
-  pub alone : b.alone ≡ a.alone
-  pub own : b.own ≡ a.own ++ entry ∷ []
+  pub undisturbed : b.undisturbed ≡ a.undisturbed
+
+-- One call more of the caller. What it has seen now begins with what it had seen, goes on with calls of others alone, and
+-- ends with this call; and all that is a legal history of the database.
+pub record AddsCall (a b : DatabaseAccess) (entry : DatabaseEntry) : Type 0 where
+  pub same : IsSamePort a b
   pub between : List (ℕ × DatabaseEntry)
-  pub others : b.others ≡ a.others ++ between
-  pub none : IsTrue a.alone → between ≡ []
-  pub given : IsGivenReply entry
+  pub seen : b.seen ≡ (a.seen ++ between) ++ (a.caller, entry) ∷ []
+  pub foreign : entries_by a.caller between ≡ []
+  pub none : IsTrue a.undisturbed → between ≡ []
+  pub opened : IsDatabase b.database.opened
+  pub legal : IsLegal b.database.opened b.seen
   pub room : a.room ≤ b.room + 1
 
--- the entries of other callers than this one, each with its caller
-abbrev pub entries_beside : (by : ℕ) → List (ℕ × DatabaseEntry) → List (ℕ × DatabaseEntry)
-entries_beside by h = filter (λ e. not (e.0 == by)) h
+-- These calls more of the caller, one after the other; where there are none, nothing changed.
+abbrev pub AddsCalls : (a b : DatabaseAccess) → List DatabaseEntry → Type 0
+AddsCalls a b [] = b ≡ a
+AddsCalls a b (entry ∷ calls) = (between : DatabaseAccess) × AddsCall a between entry × AddsCalls between b calls
 
--- the access of one caller to a database of one thread: nobody calls but by the caller's leave
-abbrev pub access_of : (caller : ℕ) → Noted → DatabaseAccess
-access_of caller n = record { caller = caller; own = entries_by caller n.history; others = entries_beside caller n.history; alone = true; room = n.room }
+-- these calls, each with this caller
+abbrev pub calls_by : (caller : ℕ) → List DatabaseEntry → List (ℕ × DatabaseEntry)
+calls_by caller calls = map (λ (entry : DatabaseEntry). (caller, entry)) calls
+
+-- this call was made, or none was
+abbrev pub MayAdd : (a b : DatabaseAccess) → DatabaseEntry → Type 0
+MayAdd a b entry = (b ≡ a) ⊎ AddsCall a b entry
+
+-- memory was not wanting for a call
+abbrev pub IsSettled : {X : Type 0} → Result X OdbRefusal → Type 0
+IsSettled (Ok x) = Unit {0}
+IsSettled (Err refusal) = refusal ≢ no_memory
+
+-- Of these calls the first were made, and the last of them may be the one for which memory was wanting.
+abbrev pub IsCutShort : (calls made : List DatabaseEntry) → Type 0
+IsCutShort calls [] = Unit {0}
+IsCutShort [] (e ∷ made) = ⊥
+IsCutShort (c ∷ calls) (e ∷ made) = ((e ≡ c) × IsCutShort calls made) ⊎ ((e ≡ unanswered c) × (made ≡ []))
+
+-- Memory ended before the caller had made such calls: it made the first of some.
+pub record CutsCalls (a b : DatabaseAccess) (Are : List DatabaseEntry → Type 0) : Type 0 where
+  pub calls : List DatabaseEntry
+  pub are : Are calls
+  pub made : List DatabaseEntry
+  pub short : IsCutShort calls made
+  pub adds : AddsCalls a b made
+
+-- A database of one thread with the journal of its calls: the rows at first and now; the calls since, each with its caller;
+-- whose calls come next; and room to note so many calls more.
+pub record CalledDatabase : Type 0 where
+  pub start : Rows
+  pub rows : Rows
+  pub history : List (ℕ × DatabaseEntry)
+  pub caller : ℕ
+  pub room : ℕ
+
+-- a database with this journal, whose next calls are this caller's
+abbrev pub called_by : (caller : ℕ) → Noted → CalledDatabase
+called_by caller noted = record { start = noted.start; rows = noted.rows; history = noted.history; caller = caller; room = noted.room }
+
+-- the same calls, the same caller, and as much room or more
+pub record KeepsDatabase (a b : CalledDatabase) : Type 0 where
+  pub start : b.start ≡ a.start
+  pub rows : b.rows ≡ a.rows
+  pub history : b.history ≡ a.history
+  pub caller : b.caller ≡ a.caller
+  pub room : a.room ≤ b.room
+
+-- the access to it by that caller, which has seen the whole journal; nobody else calls while one of its calls is made
+abbrev pub local_access : CalledDatabase → DatabaseAccess
+local_access d = record {
+  database = record { opened = d.start; ports = 1; numbers = [] };
+  caller = d.caller;
+  seen = d.history;
+  undisturbed = true;
+  room = d.room;
+}

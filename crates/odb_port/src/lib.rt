@@ -2,6 +2,7 @@
 //! calls of a command or of a member.
 #![tactic(auto)]
 
+pub mod laws;
 mod local;
 mod port;
 

@@ -1,25 +1,75 @@
+ghost use Rattle.std.specs.Prelude.{◌≡◌, ◌≤◌, OnOk};
+ghost use Rattle.odb_tree.specs.Histories.{IsLegal};
+ghost use Rattle.odb_port.specs.DatabasePorts.{KeepsDatabase, called_by};
+
 use crate::port::DatabasePort;
 use daq_types::{Caller, NoMemory};
 use odb_journal::LocalDatabase;
 use odb_path::Path;
-use odb_tree::{Children, Database, NewKey, OdbRefusal, laws};
+use odb_tree::{Children, Database, NewKey, OdbRefusal};
 use odb_value::{Item, Value};
 use std::alloc::Global;
+use std::marker::Model;
 use std::sync::Wait;
 
-/// A database of one thread, with the journal of its calls, and whose calls come next.
+/// A port to a database of one thread, which it owns with the journal of its calls. The calls are those of one caller until
+/// another is set.
 #[derive(Drop)]
 pub struct LocalAccess<D: Database> {
-    /// The database.
-    pub database: LocalDatabase<D>,
-    /// Whose calls come next.
-    pub caller: Caller,
+    database: LocalDatabase<D>,
+    caller: Caller,
+}
+
+impl<D: Database> Model for LocalAccess<D> {
+    ghost use Rattle.odb_port.specs.DatabasePorts.{CalledDatabase, called_by};
+
+    ghost Value = { CalledDatabase };
+
+    ghost view = { λ port. called_by port.caller port.database };
+}
+
+impl<D: Database> LocalAccess<D> {
+    /// A port to this database, whose calls are this caller's. Takes no memory.
+    pub fn new(database: LocalDatabase<D>, caller: Caller) -> LocalAccess<D>
+        ensures { result ≡ called_by caller database }
+    {
+        LocalAccess { database, caller }
+    }
+
+    /// From here on the calls are this caller's.
+    pub fn set_caller(&mut self, caller: Caller)
+        ensures { self.new ≡ record self.old { caller = caller } }
+    {
+        self.caller = caller;
+    }
+
+    /// Room for so many calls more in the journal.
+    pub fn reserve(&mut self, calls: u32) -> Result<(), NoMemory>
+        ensures same { KeepsDatabase self.old self.new }
+        ensures room { OnOk result (calls ≤ self.new.room) }
+    {
+        self.database.reserve(calls)
+    }
+
+    /// Does nothing. Its contract is what holds at any time: the calls noted so far are those of one database.
+    pub fn tells_legal(&self)
+        ensures { IsLegal self.now.start self.now.history }
+    {
+        self.database.tells_legal();
+    }
+
+    /// The database, with the journal of its calls.
+    pub fn into_database(self) -> LocalDatabase<D>
+        ensures { called_by self.caller result ≡ self }
+    {
+        self.database
+    }
 }
 
 impl<D: Database> DatabasePort for LocalAccess<D> {
-    ghost use Rattle.odb_port.specs.DatabasePorts.{access_of};
+    ghost use Rattle.odb_port.specs.DatabasePorts.{local_access};
 
-    ghost access = { λ port. access_of port.caller port.database };
+    ghost access = { local_access };
 
     fn create<R: Wait>(
         &mut self,
@@ -28,8 +78,9 @@ impl<D: Database> DatabasePort for LocalAccess<D> {
         path: Path,
         kind: NewKey,
     ) -> Result<u32, OdbRefusal> {
-        laws::databases_stay();
-        self.database.create(alloc, path, kind)
+        let reply = self.database.create(alloc, path, kind);
+        self.database.tells_legal();
+        reply
     }
 
     fn set<R: Wait>(
@@ -40,9 +91,10 @@ impl<D: Database> DatabasePort for LocalAccess<D> {
         index: u32,
         item: Item,
     ) -> Result<u32, OdbRefusal> {
-        laws::databases_stay();
-        self.database
-            .set(alloc, self.caller.number(), path, index, item)
+        let caller = self.caller.number();
+        let reply = self.database.set(alloc, caller, path, index, item);
+        self.database.tells_legal();
+        reply
     }
 
     fn set_all<R: Wait>(
@@ -52,18 +104,23 @@ impl<D: Database> DatabasePort for LocalAccess<D> {
         path: Path,
         value: Value,
     ) -> Result<u32, OdbRefusal> {
-        laws::databases_stay();
-        self.database.set_all(alloc, path, value)
+        let reply = self.database.set_all(alloc, path, value);
+        self.database.tells_legal();
+        reply
     }
 
     fn get<R: Wait>(&mut self, _rt: &R, alloc: Global, path: Path) -> Result<Value, OdbRefusal> {
-        laws::databases_stay();
-        self.database.get(alloc, self.caller.number(), path)
+        let caller = self.caller.number();
+        let reply = self.database.get(alloc, caller, path);
+        self.database.tells_legal();
+        reply
     }
 
     fn find<R: Wait>(&mut self, _rt: &R, path: Path) -> Result<u32, OdbRefusal> {
-        laws::databases_stay();
-        self.database.find(self.caller.number(), path)
+        let caller = self.caller.number();
+        let reply = self.database.find(caller, path);
+        self.database.tells_legal();
+        reply
     }
 
     fn list<R: Wait>(
@@ -72,13 +129,16 @@ impl<D: Database> DatabasePort for LocalAccess<D> {
         alloc: Global,
         path: Path,
     ) -> Result<Children, OdbRefusal> {
-        laws::databases_stay();
-        self.database.list(alloc, self.caller.number(), path)
+        let caller = self.caller.number();
+        let reply = self.database.list(alloc, caller, path);
+        self.database.tells_legal();
+        reply
     }
 
     fn delete<R: Wait>(&mut self, _rt: &R, path: Path) -> Result<u32, OdbRefusal> {
-        laws::databases_stay();
-        self.database.delete(path)
+        let reply = self.database.delete(path);
+        self.database.tells_legal();
+        reply
     }
 
     fn resize<R: Wait>(
@@ -88,8 +148,9 @@ impl<D: Database> DatabasePort for LocalAccess<D> {
         path: Path,
         len: u32,
     ) -> Result<u32, OdbRefusal> {
-        laws::databases_stay();
-        self.database.resize(alloc, path, len)
+        let reply = self.database.resize(alloc, path, len);
+        self.database.tells_legal();
+        reply
     }
 
     fn path_of<R: Wait>(
@@ -98,7 +159,9 @@ impl<D: Database> DatabasePort for LocalAccess<D> {
         alloc: Global,
         row: u32,
     ) -> Result<Option<Path>, NoMemory> {
-        laws::databases_stay();
-        self.database.path_of(alloc, self.caller.number(), row)
+        let caller = self.caller.number();
+        let reply = self.database.path_of(alloc, caller, row);
+        self.database.tells_legal();
+        reply
     }
 }

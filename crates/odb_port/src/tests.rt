@@ -13,15 +13,13 @@ use std::test::Fail;
 
 /// A port of the main thread to a database without rows, with room for three calls.
 fn main_port(alloc: Global) -> Result<LocalAccess<PlainTree>, NoMemory>
-    ensures room { IfOk result (λ port. 3 ≤ port.database.room) }
+    ensures room { IfOk result (λ port. 3 ≤ port.room) }
     ensures main { IfOk result (λ port. port.caller ≡ main_caller) }
 {
-    let mut database = LocalDatabase::new(alloc, PlainTree::new(alloc));
-    database.reserve(3)?;
-    Ok(LocalAccess {
-        database,
-        caller: Caller::MAIN,
-    })
+    let database = LocalDatabase::new(alloc, PlainTree::new(alloc));
+    let mut port = LocalAccess::new(database, Caller::MAIN);
+    port.reserve(3)?;
+    Ok(port)
 }
 
 /// A key of two bytes.
@@ -72,10 +70,10 @@ fn rows_are_found(rt: HostRuntime) -> Result<(), Fail> {
 fn a_call_is_its_callers(rt: HostRuntime) -> Result<(), Fail> {
     let alloc = rt.alloc();
     let mut port = main_port(alloc)?;
-    port.caller = Caller::of_client(0);
+    port.set_caller(Caller::of_client(0));
     let set = port.set(&rt, alloc, Path::read(alloc, b"/A/b")?, 1, Item::UInt8(255));
     assert!(rt; set.is_err());
-    let (_, journal) = port.database.into_parts();
+    let (_, journal) = port.into_database().into_parts();
     match journal.as_slice() {
         [(caller, _)] => assert_eq!(rt; *caller, 1),
         _ => assert!(rt; false),

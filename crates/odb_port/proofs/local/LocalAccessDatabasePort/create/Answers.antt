@@ -1,6 +1,5 @@
-use Rattle.std.proofs.Common.{sym}
-use Rattle.odb_port.proofs.PortCalls.{adds_call}
+use Rattle.odb_port.proofs.PortCalls.{calls_main}
 use Rattle.odb_port.proofs.local.LocalAccessDatabasePort.create.Goals as goal
 
 pub returns : goal.returns
-returns g c = adds_call c.databases_stay.ensures.stays _ _ _ _ _ (sym c.requires.main) c.create.ensures.did
+returns g c = calls_main _ _ _ _ _ c.self.view_is c.requires.main c.create-reply.ensures.did c.tells_legal.ensures

@@ -1,5 +1,5 @@
-use Rattle.odb_port.proofs.PortCalls.{adds_call}
+use Rattle.odb_port.proofs.PortCalls.{calls_port}
 use Rattle.odb_port.proofs.local.LocalAccessDatabasePort.list.Goals as goal
 
 pub returns : goal.returns
-returns g c = adds_call c.databases_stay.ensures.stays _ _ _ _ _ c.number.ensures c.list.ensures.did
+returns g c = calls_port _ _ _ _ _ _ c.self.view_is c.number-caller.ensures c.list-reply.ensures.did c.tells_legal.ensures
