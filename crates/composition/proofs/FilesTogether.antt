@@ -61,9 +61,9 @@ record LoggerRun (s : Session) (r : SessionRun) (channel : LoggerChannel) (state
 
 logger_run : EngineFacts → (s : Session) → MembersKeep s → (r : SessionRun) → IsStoppedRun s r → (channel : LoggerChannel) (state : ChannelState) → ToldState s r channel state → LoggerRun s r channel state
 logger_run laws s keep r run channel state told =
-    let t : StopTally s r s.logger (Channels told.states) = stop_tally laws s keep r run s.logger told.index (Channels told.states) told.told in
+    let t : StopTally s r run s.logger (Channels told.states) = stop_tally laws s keep r run s.logger told.index (Channels told.states) told.told in
     let number : t.turn.order.start ≡ r.start = number_of Stop r.last r.start t.turn t.of_begin in
-    let begin : HasStartTally s r s.logger = start_tally laws s keep r run s.logger keep.logger_registered.0 in
+    let begin : HasStartTally s r run s.logger = start_tally laws s keep r run s.logger keep.logger_registered.0 in
     let t0 = begin.told in
     let starts : t0.turn.transition ≡ Start = t0.completed refl in
     let one : HasTurnOf (turns_of s s.logger) Start r.start t0.turn = record { stands = t0.stands; is = starts; of = number_of Start r.first r.start t0.turn t0.of_begin } in

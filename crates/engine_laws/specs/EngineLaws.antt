@@ -11,6 +11,7 @@ use Rattle.transitions.specs.declared.answers.ClientTally.{ClientTally}
 use Rattle.transitions.specs.declared.replies.Progress.TheVariants.{Done}
 use Rattle.transitions.specs.declared.entry.EngineEntry.TheVariants.{Check}
 use Rattle.transitions.specs.Engines.{engine_opening}
+use Rattle.transitions.specs.EnginePoints.{engine_past, state_at}
 use Rattle.transitions.specs.EngineHistories.{EngineHistory, IsLegalEngine}
 use Rattle.transitions.specs.GivenTurns.{SpeaksFor}
 use Rattle.member_model.specs.Turns.{MemberTurn, HasTurn, AreEngineTurns}
@@ -57,9 +58,9 @@ abbrev pub TalliesAreAnswers : Type 0
 TalliesAreAnswers = (by client : ℕ) → (history : EngineHistory) →
     IsLegalEngine engine_opening history → SpeaksFor by client history →
     (transition : Transition) → (sheet : Sheet) → (start : ℕ) → (outcome : StartOutcome) → (tallies : List ClientTally) →
-    HasTransition history transition sheet start outcome tallies →
+    (has : HasTransition history transition sheet start outcome tallies) →
     (index : ℕ) → (tally : Tally) → slice_get tallies index ≡ Some (record { client = client; tally = tally }) →
-    IsTallyOfTurn history client (member_turns client (entries_by by history)) transition sheet start outcome tally
+    IsTallyOfTurn history client (member_turns client (entries_by by history)) (state_at (engine_past has.earlier)) transition sheet start outcome tally
 
 -- Where a transition was not refused, each client that is called for it has a tally in its Done.
 abbrev pub CalledAreTold : Type 0
