@@ -572,4 +572,5 @@ dones_have_begins belong before after caller outcome tallies legal =
         whole = ap (λ (h : EngineHistory). h ++ done ∷ after) w.stands ∙ append_assoc w.earlier ((w.caller, Begin it.0 w.sheet (Ok w.start)) ∷ w.later) (done ∷ after);
         on = w.on;
       },
+      w.stands,
     )

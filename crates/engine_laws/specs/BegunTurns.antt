@@ -80,7 +80,8 @@ OneWantsDump client history = AllByRecursion (WantsAlone client) history
 
 -- One of these turns is of such a transition, and this tally is its answer: a start that was answered No has none, and a No to
 -- any other transition is told as Yes without a tally. Where no start was refused, the turn is none of a start-abort. The turn
--- of the one client that wants the dump has it, unless it is one of a start-abort.
+-- of the one client that wants the dump has it, unless it is one of a start-abort. As a run has one start and one stop, this is
+-- the turn of that start or stop; of two pauses of a run with like sheets it may be that of either.
 pub record IsTallyOfTurn (history : EngineHistory) (client : ℕ) (turns : List MemberTurn) (from : RunState) (transition : Transition) (sheet : Sheet) (start : ℕ) (outcome : StartOutcome) (tally : Tally) : Type 0 where
   pub turn : MemberTurn
   pub stands : HasTurn turns turn

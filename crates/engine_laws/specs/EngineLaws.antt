@@ -1,5 +1,5 @@
 -- What the history of an engine tells of the turns of one client: statements of the laws.
-use Rattle.std.specs.Prelude.{◌≡◌, ◌≢◌, ℕ, List, ◌∷◌, ◌++◌, slice_get, Some}
+use Rattle.std.specs.Prelude.{◌≡◌, ◌≢◌, ℕ, List, ◌∷◌, ◌++◌, slice_get, Some, Ok}
 use Rattle.daq_types.specs.Callers.{entries_by}
 use Rattle.daq_types.specs.declared.runs.RunState.TheVariants.{Stopped}
 use Rattle.daq_types.specs.declared.runs.Transition.{Transition}
@@ -9,7 +9,7 @@ use Rattle.transitions.specs.declared.sheet.Sheet.{Sheet}
 use Rattle.transitions.specs.declared.answers.Tally.{Tally}
 use Rattle.transitions.specs.declared.answers.ClientTally.{ClientTally}
 use Rattle.transitions.specs.declared.replies.Progress.TheVariants.{Done}
-use Rattle.transitions.specs.declared.entry.EngineEntry.TheVariants.{Check}
+use Rattle.transitions.specs.declared.entry.EngineEntry.TheVariants.{Begin, Check}
 use Rattle.transitions.specs.Engines.{engine_opening}
 use Rattle.transitions.specs.EnginePoints.{engine_past, state_at}
 use Rattle.transitions.specs.EngineHistories.{EngineHistory, IsLegalEngine}
@@ -46,12 +46,14 @@ StopsFromRun = (by client : ℕ) → (history : EngineHistory) →
     (turn : MemberTurn) → HasTurn (member_turns client (entries_by by history)) turn →
     turn.transition ≡ Stop → turn.order.from ≢ Stopped
 
--- Each Done belongs to the transition that was begun last before it.
+-- Each Done belongs to the transition that was begun last before it: it is this Done that ends it, and the calls before it
+-- are those up to that begin, the begin, and those between.
 abbrev pub DonesHaveBegins : Type 0
 DonesHaveBegins = (before after : EngineHistory) → (caller : ℕ) → (outcome : StartOutcome) → (tallies : List ClientTally) →
     IsLegalEngine engine_opening (before ++ (caller, Check (Done outcome) tallies) ∷ after) →
     (transition : Transition) × (sheet : Sheet) × (start : ℕ) ×
-    HasTransition (before ++ (caller, Check (Done outcome) tallies) ∷ after) transition sheet start outcome tallies
+    (has : HasTransition (before ++ (caller, Check (Done outcome) tallies) ∷ after) transition sheet start outcome tallies) ×
+    (before ≡ has.earlier ++ (has.opener, Begin transition sheet (Ok start)) ∷ has.between)
 
 -- Each tally of a client in a Done is what its caller answered to the client's turn of that transition.
 abbrev pub TalliesAreAnswers : Type 0
