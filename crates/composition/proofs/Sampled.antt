@@ -108,10 +108,13 @@ front_keeps = record {
   tallies = λ are t sent ended has is answer. tally_right t sent ended has is answer;
 }
   where
-    starts : (t : MemberTurn) → HasTurn front_turns t → t.transition ≡ Start → t.answer ≡ Some (Yes Plain)
-    starts t (inl same) is = absurd (let e : Stop ≡ Start = ap (λ (v : MemberTurn). v.transition) same ∙ is in cc (e))
-    starts t (inr (inl same)) is = sym (ap (λ (v : MemberTurn). v.answer) same)
-    starts t (inr (inr none)) is = absurd none
+    starts : (t : MemberTurn) (answer : ClientAnswer) → HasTurn front_turns t → t.transition ≡ Start → t.answer ≡ Some answer → answer ≡ Yes Plain
+    starts t answer (inl same) is told = absurd (let e : Stop ≡ Start = ap (λ (v : MemberTurn). v.transition) same ∙ is in cc (e))
+    starts t answer (inr (inl same)) is told =
+        let e : Some (Yes Plain) ≡ Some answer = ap (λ (v : MemberTurn). v.answer) same ∙ told in
+        let f : Yes Plain ≡ answer = cc (e) in
+        sym f
+    starts t answer (inr (inr none)) is told = absurd none
 
     stop_told : (t : MemberTurn) (answer : ClientAnswer) → HasTurn front_turns t → t.transition ≡ Stop → t.answer ≡ Some answer → (sent : ℕ) × (ended : FrontEnded) × (answer ≡ Yes (Front sent ended))
     stop_told t answer (inl same) is told = (1, Quota, (let e : Some (Yes (Front 1 Quota)) ≡ Some answer = ap (λ (v : MemberTurn). v.answer) same ∙ told in let f : Yes (Front 1 Quota) ≡ answer = cc (e) in sym f))

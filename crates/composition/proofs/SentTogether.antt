@@ -106,7 +106,7 @@ fronts_tell laws s keep r run f has =
     let t0 = first.told in
     let starts : t0.turn.transition ≡ Start = t0.completed refl in
     let number0 : t0.turn.order.start ≡ r.start = number_of Start r.first r.start t0.turn t0.of_begin in
-    let plain : Some t0.answer ≡ Some (Yes Plain) = taken_plain (f.takes t0.turn.order) first.tally t0.answer (sym t0.answered ∙ keeps.starts t0.turn t0.stands starts) (t0.accepted starts) in
+    let plain : Some t0.answer ≡ Some (Yes Plain) = taken_plain (f.takes t0.turn.order) first.tally t0.answer (ap (λ (x : Answer). Some x) (keeps.starts t0.turn t0.answer t0.stands starts t0.answered)) (t0.accepted starts) in
     let accepted : IsAcceptedStart turns r.start t0.turn = record { is_start = record { stands = t0.stands; is = starts; of = number0 }; accepted = t0.answered ∙ plain } in
     let last : HasTally f.client r.last_tallies = last_tally laws s keep r run f.client registered.1 in
     let t1 : StopTally s r run f.client last.1 = stop_tally laws s keep r run f.client last.0 last.1 last.2 in

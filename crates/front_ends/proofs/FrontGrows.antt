@@ -99,13 +99,17 @@ stops_more turns t are told tells start begin stop answer accepted stops is = el
   ]
 ]
 
+-- of an answered turn
+pub same_answer : {a b : Answer} → Some a ≡ Some b → a ≡ b
+same_answer e = cc (e)
+
 pub keeps_more : (takes : Order → Bool) (makes : Order → ℕ → Event) (own : List BufferEntry) (turns : List MemberTurn) (t : MemberTurn) → KeepsFront takes makes own turns → TellsRight own turns t → AnswersStart takes t → TellsTally turns t
     → KeepsFront takes makes own (t ∷ turns)
 keeps_more takes makes own turns t keeps right starts tells = record {
   only_sends = keeps.only_sends;
-  starts = λ u stands is. elim stands as (λ w. u.answer ≡ Some (if takes u.order then Yes Plain else No NotReady)) [
-    | inl same ↦ subst (AnswersStart takes) same starts is
-    | inr before ↦ keeps.starts u before is
+  starts = λ u answer stands is told. elim stands as (λ w. answer ≡ (if takes u.order then Yes Plain else No NotReady)) [
+    | inl same ↦ same_answer (sym told ∙ subst (AnswersStart takes) same starts is)
+    | inr before ↦ keeps.starts u answer before is told
   ];
   sends = λ are. sends_turns makes turns (t ∷ turns) (λ start u is. HasTurnOf-more t is) [] own (keeps.sends are.1);
   stops = λ are. stops_more turns t are (keeps.stops are.1) tells;

@@ -222,9 +222,9 @@ closed_kept takes makes r own earlier order same done stands =
     record {
       keeps = record {
         only_sends = stands.keeps.only_sends;
-        starts = λ u here is. elim here as (λ w. u.answer ≡ Some (if takes u.order then Yes Plain else No NotReady)) [
+        starts = λ u answer here is told. elim here as (λ w. answer ≡ (if takes u.order then Yes Plain else No NotReady)) [
           | inl same_turn ↦ absurd (let e : Stop ≡ Start = ap (λ (v : MemberTurn). v.transition) same_turn ∙ is in cc (e))
-          | inr old ↦ stands.keeps.starts u (inr old) is
+          | inr old ↦ stands.keeps.starts u answer (inr old) is told
         ];
         sends = λ are. sends_turns makes (before ∷ earlier) (t ∷ earlier) (λ start u of. across before t earlier start u other of) [] own (stands.keeps.sends are);
         stops = λ are start begin stop answer accepted stops is. elim stops.stands as (λ w. (sent : ℕ) × (ended : FrontEnded) × (answer ≡ Yes (Front sent ended))) [

@@ -32,10 +32,10 @@ pub record IsMadeFor (makes : Order → ℕ → Event) (own : List BufferEntry) 
 abbrev pub IsMade : (Order → ℕ → Event) → List BufferEntry → List MemberTurn → (start : ℕ) → Type 0
 IsMade makes own turns start = (own_sent own start ≡ []) ⊎ IsMadeFor makes own turns start
 
--- each start was answered, with a refusal exactly where the equipment does not take part in a run of its order
+-- each start that was answered was refused exactly where the equipment does not take part in a run of its order
 abbrev pub StartsAnswered : (takes : Order → Bool) → List MemberTurn → Type 0
-StartsAnswered takes turns = (t : MemberTurn) → HasTurn turns t → t.transition ≡ Start →
-    t.answer ≡ Some (if takes t.order then Yes Plain else No NotReady)
+StartsAnswered takes turns = (t : MemberTurn) → (answer : Answer) → HasTurn turns t → t.transition ≡ Start →
+    t.answer ≡ Some answer → answer ≡ (if takes t.order then Yes Plain else No NotReady)
 
 -- the turn is the start of the run with this number, and was accepted
 pub record IsAcceptedStart (turns : List MemberTurn) (start : ℕ) (turn : MemberTurn) : Type 0 where
