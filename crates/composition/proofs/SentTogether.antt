@@ -19,10 +19,10 @@ use Rattle.transitions.specs.declared.answers.Tally.TheVariants.{Plain, Front}
 use Rattle.transitions.specs.declared.replies.Progress.TheVariants.{Done}
 use Rattle.transitions.specs.declared.entry.EngineEntry.TheVariants.{Check}
 use Rattle.transitions.specs.EnginePoints.{tally_of}
-use Rattle.member_model.specs.Turns.{MemberTurn, HasTurnOf, AreEngineTurns}
+use Rattle.member_model.specs.Turns.{MemberTurn, IsAcceptedStart, HasTurnOf, AreEngineTurns}
 use Rattle.member_model.specs.SentCalls.{own_sent, EachCall, WasSpent}
 use Rattle.member_model.specs.OwnCalls.{SendsNone}
-use Rattle.front_ends.specs.FrontKept.{made_events, IsAcceptedStart, EndedSo, IsFrontTally, KeepsFront}
+use Rattle.front_ends.specs.FrontKept.{made_events, EndedSo, IsFrontTally, KeepsFront}
 use Rattle.caller_laws.specs.OneCaller.{HaveRunSends}
 use Rattle.caller_laws.specs.CallerLaws.{IsSendOf, SendsStandInOrder, SentByCaller, SendsOrReads, MembersFit}
 use Rattle.engine_laws.specs.BegunTurns.{HasTally}

@@ -24,15 +24,15 @@ use Rattle.transitions.specs.Marks.{HasNoMark}
 use Rattle.member_model.specs.Turns.{MemberTurn, HasTurn}
 
 -- The turn is one of a transition that was begun from this state with this sheet and this start number: it is of this
--- transition, or of start-abort where this is a start; its order is that of the sheet and the state, which allows the transition;
--- and its dump, if it has one, is that of the sheet.
+-- transition, or of start-abort where this is a start; its order is that of the sheet and the state, which allows the
+-- transition; and its dump, if it has one, is that of the sheet.
 pub record IsOfBegin (from : RunState) (transition : Transition) (sheet : Sheet) (start : ℕ) (turn : MemberTurn) : Type 0 where
   pub kind : (turn.transition ≡ transition) ⊎ ((transition ≡ Start) × (turn.transition ≡ StartAbort))
   pub order : turn.order ≡ order_for sheet start from
   pub allowed : is_allowed from transition ≡ true
   pub dump : (bytes : List ℕ) → turn.dump ≡ Some bytes → sheet.dump ≡ Some bytes
 
--- a transition with the turn's start number was begun in the history, from the state that the history tells there, and the turn is
+-- a transition with the turn's start number was begun in the history, from the state that this tells there, and the turn is
 -- one of it
 pub record WasBegun (history : EngineHistory) (turn : MemberTurn) : Type 0 where
   pub earlier : EngineHistory
@@ -78,10 +78,10 @@ WantsAlone client entry = ⊤
 abbrev pub OneWantsDump : (client : ℕ) → EngineHistory → Type 0
 OneWantsDump client history = AllByRecursion (WantsAlone client) history
 
--- One of these turns is of such a transition, and this tally is its answer: a start that was answered No has none, and a No to
--- any other transition is told as Yes without a tally. Where no start was refused, the turn is none of a start-abort. The turn
--- of the one client that wants the dump has it, unless it is one of a start-abort. As a run has one start and one stop, this is
--- the turn of that start or stop; of two pauses of a run with like sheets it may be that of either.
+-- One of these turns is of such a transition, and this tally is its answer: a start that was answered No has none, and a
+-- No to any other transition is told as Yes without a tally. Where no start was refused, the turn is none of a start-abort.
+-- The turn of the one client that wants the dump has it, unless it is one of a start-abort. As a run has one start and one
+-- stop, this is the turn of that start or stop; of two pauses of a run with like sheets it may be that of either.
 pub record IsTallyOfTurn (history : EngineHistory) (client : ℕ) (turns : List MemberTurn) (from : RunState) (transition : Transition) (sheet : Sheet) (start : ℕ) (outcome : StartOutcome) (tally : Tally) : Type 0 where
   pub turn : MemberTurn
   pub stands : HasTurn turns turn

@@ -46,8 +46,8 @@ StopsFromRun = (by client : ℕ) → (history : EngineHistory) →
     (turn : MemberTurn) → HasTurn (member_turns client (entries_by by history)) turn →
     turn.transition ≡ Stop → turn.order.from ≢ Stopped
 
--- Each Done belongs to the transition that was begun last before it: it is this Done that ends it, and the calls before it
--- are those up to that begin, the begin, and those between.
+-- Each Done belongs to the transition that was begun last before it: this very Done ends it, and the calls before that are
+-- those up to the begin, the begin, and those between.
 abbrev pub DonesHaveBegins : Type 0
 DonesHaveBegins = (before after : EngineHistory) → (caller : ℕ) → (outcome : StartOutcome) → (tallies : List ClientTally) →
     IsLegalEngine engine_opening (before ++ (caller, Check (Done outcome) tallies) ∷ after) →
@@ -62,7 +62,8 @@ TalliesAreAnswers = (by client : ℕ) → (history : EngineHistory) →
     (transition : Transition) → (sheet : Sheet) → (start : ℕ) → (outcome : StartOutcome) → (tallies : List ClientTally) →
     (has : HasTransition history transition sheet start outcome tallies) →
     (index : ℕ) → (tally : Tally) → slice_get tallies index ≡ Some (record { client = client; tally = tally }) →
-    IsTallyOfTurn history client (member_turns client (entries_by by history)) (state_at (engine_past has.earlier)) transition sheet start outcome tally
+    IsTallyOfTurn history client (member_turns client (entries_by by history)) (state_at (engine_past has.earlier))
+    transition sheet start outcome tally
 
 -- Where a transition was not refused, each client that is called for it has a tally in its Done.
 abbrev pub CalledAreTold : Type 0

@@ -17,13 +17,13 @@ use Rattle.buffer_core.specs.declared.entry.BufferEntry.TheVariants.{SendInRun}
 use Rattle.transitions.specs.declared.answers.Answer.{Answer}
 use Rattle.transitions.specs.declared.answers.Answer.TheVariants.{Yes, No}
 use Rattle.transitions.specs.declared.answers.Tally.TheVariants.{Plain, Front}
-use Rattle.member_model.specs.Turns.{MemberTurn, HasTurnOf, IsNewStart, IsNextTurn, IsAnswered, NoneOpen, AreEngineTurns}
+use Rattle.member_model.specs.Turns.{MemberTurn, IsAcceptedStart, HasTurnOf, IsNewStart, IsNextTurn, IsAnswered, NoneOpen, AreEngineTurns}
 use Rattle.member_model.specs.TurnLaws.{HasTurnOf-more, HasTurnOf-earlier}
 use Rattle.member_model.specs.SentCalls.{sent_by, own_sent}
 use Rattle.member_model.specs.SentLaws.{own_sent-push, WasSpent-push}
 use Rattle.front_ends.specs.declared.front_run.FrontRun.{FrontRun}
 use Rattle.front_ends.specs.Fronts.{ended_with, is_from_pause, paused_run}
-use Rattle.front_ends.specs.FrontKept.{made_events, IsMade, IsAcceptedStart, IsNextCall, AreNextSends, StopsTold, EndedSo, IsFrontTally, KeepsFront, IsWaiting, IsSpentSo, NoStopAnswered, TakesPart}
+use Rattle.front_ends.specs.FrontKept.{made_events, IsMade, IsNextCall, AreNextSends, StopsTold, EndedSo, IsFrontTally, KeepsFront, IsWaiting, IsSpentSo, NoStopAnswered, TakesPart}
 
 pub length-made_events : (makes : Order → ℕ → Event) (order : Order) (n : ℕ) → length (made_events makes order n) ≡ n
 length-made_events makes order zero = refl
