@@ -38,7 +38,7 @@ use Rattle.member_model.specs.SentCalls.{EachCall}
 use Rattle.member_model.specs.OwnCalls.{calls_after, AreOwnCalls, SendsNone}
 use Rattle.run_states.specs.Sequences.{sequence_for}
 use Rattle.member_model.specs.ReadRuns.{HasReadRun}
-use Rattle.member_model.specs.LoggerKept.{LoggerChannel, LoggerPort, HasWritten, TellsState, KeepsLogger}
+use Rattle.member_model.specs.LoggerKept.{LoggerChannel, LoggerPort, HasWritten, TellsState, IsStartAnswer, IsStateSo, KeepsLogger}
 use Rattle.front_ends.specs.FrontKept.{IsMade, IsFrontTally, KeepsFront}
 use Rattle.caller_laws.specs.OneCaller.{WasSentAt}
 use Rattle.caller_laws.specs.CallerSamples.{reading_history, reading_calls, with_own_run, got_first}
@@ -108,10 +108,13 @@ front_keeps = record {
   tallies = λ are t sent ended has is answer. tally_right t sent ended has is answer;
 }
   where
-    starts : (t : MemberTurn) → HasTurn front_turns t → t.transition ≡ Start → t.answer ≡ Some (Yes Plain)
-    starts t (inl same) is = absurd (let e : Stop ≡ Start = ap (λ (v : MemberTurn). v.transition) same ∙ is in cc (e))
-    starts t (inr (inl same)) is = sym (ap (λ (v : MemberTurn). v.answer) same)
-    starts t (inr (inr none)) is = absurd none
+    starts : (t : MemberTurn) (answer : ClientAnswer) → HasTurn front_turns t → t.transition ≡ Start → t.answer ≡ Some answer → answer ≡ Yes Plain
+    starts t answer (inl same) is told = absurd (let e : Stop ≡ Start = ap (λ (v : MemberTurn). v.transition) same ∙ is in cc (e))
+    starts t answer (inr (inl same)) is told =
+        let e : Some (Yes Plain) ≡ Some answer = ap (λ (v : MemberTurn). v.answer) same ∙ told in
+        let f : Yes Plain ≡ answer = cc (e) in
+        sym f
+    starts t answer (inr (inr none)) is told = absurd none
 
     stop_told : (t : MemberTurn) (answer : ClientAnswer) → HasTurn front_turns t → t.transition ≡ Stop → t.answer ≡ Some answer → (sent : ℕ) × (ended : FrontEnded) × (answer ≡ Yes (Front sent ended))
     stop_told t answer (inl same) is told = (1, Quota, (let e : Some (Yes (Front 1 Quota)) ≡ Some answer = ap (λ (v : MemberTurn). v.answer) same ∙ told in let f : Yes (Front 1 Quota) ≡ answer = cc (e) in sym f))
@@ -178,7 +181,7 @@ sample_fine = record { begins_none = λ e. omega (arith, e); ends_none = λ e. o
 run_written : HasWritten (logger_port 0) logger_turns sample_files sample_channel logger_stop
 run_written = record {
   start = logger_start;
-  is_start = record { stands = inr (inl refl); is = refl; of = refl };
+  is_start = record { is_start = record { stands = inr (inl refl); is = refl; of = refl }; accepted = refl };
   dump = 8 ∷ [];
   has_dump = refl;
   number = 0;
@@ -206,10 +209,21 @@ never_broken stop tells =
     let state : Some Ended ≡ Some Broken = ap (λ (xs : List ChannelState). slice_get xs 0) states ∙ tells.told in
     cc (state)
 
+ended_told : (state : ChannelState) × TellsState logger_turns logger_stop sample_channel state × IsStateSo (logger_port 0).own 1 logger_stop.dump state
+ended_told = (
+  Ended,
+  record { stands = inl refl; is = refl; states = Ended ∷ []; answered = refl; told = refl },
+  ((λ (e : Some (8 ∷ []) ≡ None). cc (e)), (1, record { before = with_own_run (Receive 0 0 (Got 0 1) ∷ []); after = Receive 0 0 (Empty Shut 1) ∷ []; is = refl })),
+)
+
 logger_is_kept : KeepsLogger (sample_channel ∷ []) logger_port logger_turns sample_files
 logger_is_kept = record {
   sends_none = sends_none;
   own_calls = own_calls;
+  starts = starts;
+  stops = λ are begin stop accepted stands is answered index channel at.
+      subst (λ (c : LoggerChannel). (state : ChannelState) × TellsState logger_turns stop c state × IsStateSo (logger_port c.buffer).own stop.order.start stop.dump state) (only_channel index channel at)
+      (subst (λ (t : MemberTurn). (state : ChannelState) × TellsState logger_turns t sample_channel state × IsStateSo (logger_port 0).own t.order.start t.dump state) (stop_is stop stands is) ended_told);
   ended = λ are stop index channel at tells.
       subst (λ (c : LoggerChannel). HasWritten (logger_port c.buffer) logger_turns sample_files c stop) (only_channel index channel at)
       (subst (HasWritten (logger_port 0) logger_turns sample_files sample_channel) (stop_is stop tells.stands tells.is) run_written);
@@ -219,6 +233,14 @@ logger_is_kept = record {
     sends_none : (buffer : ℕ) → EachCall SendsNone (logger_port buffer).own
     sends_none zero = (tt, (tt, (tt, (tt, (tt, (tt, tt))))))
     sends_none (suc n) = tt
+
+    starts : (t : MemberTurn) (answer : ClientAnswer) → HasTurn logger_turns t → t.transition ≡ Start → t.answer ≡ Some answer → IsStartAnswer answer
+    starts t answer (inl same) is told = absurd (let e : Stop ≡ Start = ap (λ (v : MemberTurn). v.transition) same ∙ is in cc (e))
+    starts t answer (inr (inl same)) is told =
+        let e : Some (Yes Plain) ≡ Some answer = ap (λ (v : MemberTurn). v.answer) same ∙ told in
+        let f : Yes Plain ≡ answer = cc (e) in
+        subst IsStartAnswer f refl
+    starts t answer (inr (inr none)) is told = absurd none
 
     own_calls : (buffer : ℕ) → AreOwnCalls (calls_after [] (logger_port buffer).own)
     own_calls zero = (refl, (tt, (refl, (tt, (refl, (tt, tt))))))

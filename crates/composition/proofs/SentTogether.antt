@@ -6,6 +6,7 @@ use Rattle.daq_types.specs.declared.events.Event.{Event}
 use Rattle.daq_types.specs.declared.runs.FrontEnded.{FrontEnded}
 use Rattle.daq_types.specs.declared.runs.FrontEnded.TheVariants.{Quota, Paused as EndedPaused, Spent as EndedSpent}
 use Rattle.daq_types.specs.declared.runs.Order.{Order}
+use Rattle.daq_types.specs.declared.runs.StartOutcome.TheVariants.{Completed}
 use Rattle.daq_types.specs.declared.runs.Transition.TheVariants.{Start, Stop}
 use Rattle.daq_types.specs.declared.runs.Why.TheVariants.{NotReady}
 use Rattle.buffer_core.specs.declared.entry.BufferEntry.{BufferEntry}
@@ -15,11 +16,13 @@ use Rattle.transitions.specs.declared.answers.Answer.{Answer}
 use Rattle.transitions.specs.declared.answers.Answer.TheVariants.{Yes, No}
 use Rattle.transitions.specs.declared.answers.Tally.{Tally}
 use Rattle.transitions.specs.declared.answers.Tally.TheVariants.{Plain, Front}
+use Rattle.transitions.specs.declared.replies.Progress.TheVariants.{Done}
+use Rattle.transitions.specs.declared.entry.EngineEntry.TheVariants.{Check}
 use Rattle.transitions.specs.EnginePoints.{tally_of}
-use Rattle.member_model.specs.Turns.{MemberTurn, HasTurnOf, AreEngineTurns}
+use Rattle.member_model.specs.Turns.{MemberTurn, IsAcceptedStart, HasTurnOf, AreEngineTurns}
 use Rattle.member_model.specs.SentCalls.{own_sent, EachCall, WasSpent}
 use Rattle.member_model.specs.OwnCalls.{SendsNone}
-use Rattle.front_ends.specs.FrontKept.{made_events, IsAcceptedStart, EndedSo, IsFrontTally, KeepsFront}
+use Rattle.front_ends.specs.FrontKept.{made_events, EndedSo, IsFrontTally, KeepsFront}
 use Rattle.caller_laws.specs.OneCaller.{HaveRunSends}
 use Rattle.caller_laws.specs.CallerLaws.{IsSendOf, SendsStandInOrder, SentByCaller, SendsOrReads, MembersFit}
 use Rattle.engine_laws.specs.BegunTurns.{HasTally}
@@ -38,13 +41,19 @@ length_made : (makes : Order → ℕ → Event) (order : Order) (n : ℕ) → le
 length_made makes order zero = refl
 length_made makes order (suc n) = omega (arith, length-append (made_events makes order n) (makes order (suc n) ∷ []), length_made makes order n)
 
-ended_in : (laws : EngineFacts) (s : Session) (keep : MembersKeep s) (r : SessionRun) (run : IsStoppedRun s r) (f : SessionFront) (sent : ℕ) (ended : FrontEnded) (t : StopTally s r f.client (Front sent ended))
+ended_in : (laws : EngineFacts) (s : Session) (keep : MembersKeep s) (r : SessionRun) (run : IsStoppedRun s r) (f : SessionFront) (sent : ℕ) (ended : FrontEnded) (t : StopTally s r run f.client (Front sent ended))
     → EndedSo (buffer_calls s f.buffer f.client) (turns_of s f.client) t.turn.order sent ended → EndedIn s r f sent ended
 ended_in laws s keep r run f sent Quota t so =
     let number : t.turn.order.start ≡ r.start = number_of Stop r.last r.start t.turn t.of_begin in
     let of : HasTurnOf (turns_of s f.client) Start r.start so.0 = subst (λ (n : ℕ). HasTurnOf (turns_of s f.client) Start n so.0) number so.1 in
     so.2 ∙ ap (λ (o : Order). o.quota) (start_turn laws s keep r run f.client so.0 of).order
-ended_in laws s keep r run f sent EndedPaused t so = record { turn = t.turn; stands = t.stands; of_stop = t.of_begin; from = so }
+ended_in laws s keep r run f sent EndedPaused t so = record {
+  earlier = run.stopped.earlier;
+  later = run.stopped.between ++ (run.stopped.closer, Check (Done Completed) r.last_tallies) ∷ run.stopped.later;
+  caller = run.stopped.opener;
+  stands = run.stopped.whole;
+  paused = sym (ap (λ (o : Order). o.from) t.of_begin.order) ∙ so;
+}
 ended_in laws s keep r run f sent (EndedSpent total) t so = subst (λ (n : ℕ). WasSpent (buffer_calls s f.buffer f.client) n total) (number_of Stop r.last r.start t.turn t.of_begin) so
 
 pub fronts_sent : EngineFacts → FrontsSent
@@ -53,7 +62,7 @@ fronts_sent laws s keep r run f has sent ended tells =
     let turns : List MemberTurn = turns_of s f.client in
     let keeps : KeepsFront f.takes f.makes own turns = keep.fronts_keep f has in
     let are : AreEngineTurns turns = are_turns laws s keep f.client in
-    let t : StopTally s r f.client (Front sent ended) = stop_tally laws s keep r run f.client tells.0 (Front sent ended) tells.1 in
+    let t : StopTally s r run f.client (Front sent ended) = stop_tally laws s keep r run f.client tells.0 (Front sent ended) tells.1 in
     let answered : t.turn.answer ≡ Some (Yes (Front sent ended)) = t.answered ∙ ap (λ (a : Answer). Some a) (yes_front t.answer sent ended t.tally_is) in
     let tally : IsFrontTally own turns t.turn.order sent ended = keeps.tallies are t.turn sent ended t.stands (t.completed refl) answered in
     let count : length (own_sent own r.start) ≡ sent = subst (λ (n : ℕ). length (own_sent own n) ≡ sent) (number_of Stop r.last r.start t.turn t.of_begin) tally.number in
@@ -93,14 +102,14 @@ fronts_tell laws s keep r run f has =
     let keeps : KeepsFront f.takes f.makes (buffer_calls s f.buffer f.client) turns = keep.fronts_keep f has in
     let are : AreEngineTurns turns = are_turns laws s keep f.client in
     let registered = keep.fronts_registered f has in
-    let first : HasStartTally s r f.client = start_tally laws s keep r run f.client registered.0 in
+    let first : HasStartTally s r run f.client = start_tally laws s keep r run f.client registered.0 in
     let t0 = first.told in
     let starts : t0.turn.transition ≡ Start = t0.completed refl in
     let number0 : t0.turn.order.start ≡ r.start = number_of Start r.first r.start t0.turn t0.of_begin in
-    let plain : Some t0.answer ≡ Some (Yes Plain) = taken_plain (f.takes t0.turn.order) first.tally t0.answer (sym t0.answered ∙ keeps.starts t0.turn t0.stands starts) (t0.accepted starts) in
+    let plain : Some t0.answer ≡ Some (Yes Plain) = taken_plain (f.takes t0.turn.order) first.tally t0.answer (ap (λ (x : Answer). Some x) (keeps.starts t0.turn t0.answer t0.stands starts t0.answered)) (t0.accepted starts) in
     let accepted : IsAcceptedStart turns r.start t0.turn = record { is_start = record { stands = t0.stands; is = starts; of = number0 }; accepted = t0.answered ∙ plain } in
     let last : HasTally f.client r.last_tallies = last_tally laws s keep r run f.client registered.1 in
-    let t1 : StopTally s r f.client last.1 = stop_tally laws s keep r run f.client last.0 last.1 last.2 in
+    let t1 : StopTally s r run f.client last.1 = stop_tally laws s keep r run f.client last.0 last.1 last.2 in
     let number1 : t1.turn.order.start ≡ r.start = number_of Stop r.last r.start t1.turn t1.of_begin in
     let told = keeps.stops are r.start t0.turn t1.turn t1.answer accepted (record { stands = t1.stands; is = t1.completed refl; of = number1 }) t1.answered in
     (told.0, told.1, retold r f.client last.0 last.1 told.0 told.1 last.2 (told_as last.1 t1.answer told.0 told.1 t1.tally_is told.2))

@@ -6,6 +6,7 @@ use Rattle.std.proofs.lemmas.Bool.{eqb-true}
 use Rattle.daq_types.specs.Callers.{caller_of_client}
 use Rattle.daq_types.specs.declared.runs.Order.{Order}
 use Rattle.daq_types.specs.declared.runs.RunState.{RunState}
+use Rattle.daq_types.specs.declared.runs.RunState.TheVariants.{Stopped}
 use Rattle.daq_types.specs.declared.runs.StartOutcome.TheVariants.{Completed}
 use Rattle.daq_types.specs.declared.runs.Transition.{Transition}
 use Rattle.daq_types.specs.declared.runs.Transition.TheVariants.{Start, Stop, StartAbort}
@@ -17,6 +18,7 @@ use Rattle.transitions.specs.declared.entry.EngineEntry.{EngineEntry}
 use Rattle.transitions.specs.declared.entry.EngineEntry.TheVariants.{Register, Begin, Poll, Answer, Check, Close}
 use Rattle.transitions.specs.Engines.{engine_opening}
 use Rattle.transitions.specs.EngineCalls.{order_for}
+use Rattle.transitions.specs.EnginePoints.{engine_past, state_at}
 use Rattle.transitions.specs.EngineHistories.{EngineHistory, IsLegalEngine}
 use Rattle.transitions.specs.GivenTurns.{is_of_client, SpeaksFor}
 use Rattle.member_model.specs.Turns.{MemberTurn, HasTurn, HasTurnOf, IsNewStart, IsNextTurn, AreEngineTurns}
@@ -103,13 +105,15 @@ start_turn laws s keep r run client u of =
     was.stands
     ∙ (ap (λ (t : Transition). was.earlier ++ (was.caller, Begin t was.sheet (Ok u.order.start)) ∷ was.later) transition
     ∙ ap (λ (n : ℕ). was.earlier ++ (was.caller, Begin Start was.sheet (Ok n)) ∷ was.later) of.of) in
+    let came : RunState = state_at (engine_past was.earlier) in
+    let stopped : came ≡ Stopped = sym (ap (λ (o : Order). o.from) was.of_begin.order) ∙ laws.from (caller_of_client client) client s.engine keep.engine_legal alone u of.stands of.is in
     let sheet : was.sheet ≡ r.first = one_begin laws.rise s.engine keep.engine_legal r.start was.earlier was.later was.caller was.sheet stands run.started.earlier
     (run.started.between ++ (run.started.closer, Check (Done Completed) r.first_tallies) ∷ run.started.later) run.started.opener r.first run.started.whole in
     record {
       order = was.of_begin.order
-          ∙ (ap (λ (x : Sheet). order_for x u.order.start u.order.from) sheet
-          ∙ (ap (λ (n : ℕ). order_for r.first n u.order.from) of.of
-          ∙ ap (λ (x : RunState). order_for r.first r.start x) (laws.from (caller_of_client client) client s.engine keep.engine_legal alone u of.stands of.is)));
+          ∙ (ap (λ (x : Sheet). order_for x u.order.start came) sheet
+          ∙ (ap (λ (n : ℕ). order_for r.first n came) of.of
+          ∙ ap (order_for r.first r.start) stopped));
       dump = λ bytes e. ap (λ (x : Sheet). x.dump) (sym sheet) ∙ was.of_begin.dump bytes e;
     }
 
@@ -131,25 +135,25 @@ one_start (t ∷ ts) n a b are ha hb = one_of t ts n a b are ha hb (λ ha' hb'. 
 
 -- The turns behind tallies.
 
-abbrev pub StartTally : Session → SessionRun → (client : ℕ) → Tally → Type 0
-StartTally s r client tally = IsTallyOfTurn s.engine client (turns_of s client) Start r.first r.start Completed tally
+abbrev pub StartTally : (s : Session) (r : SessionRun) → IsStoppedRun s r → (client : ℕ) → Tally → Type 0
+StartTally s r run client tally = IsTallyOfTurn s.engine client (turns_of s client) (state_at (engine_past run.started.earlier)) Start r.first r.start Completed tally
 
-abbrev pub StopTally : Session → SessionRun → (client : ℕ) → Tally → Type 0
-StopTally s r client tally = IsTallyOfTurn s.engine client (turns_of s client) Stop r.last r.start Completed tally
+abbrev pub StopTally : (s : Session) (r : SessionRun) → IsStoppedRun s r → (client : ℕ) → Tally → Type 0
+StopTally s r run client tally = IsTallyOfTurn s.engine client (turns_of s client) (state_at (engine_past run.stopped.earlier)) Stop r.last r.start Completed tally
 
-pub number_of : (t : Transition) (sheet : Sheet) (start : ℕ) (u : MemberTurn) → IsOfBegin t sheet start u → u.order.start ≡ start
-number_of t sheet start u is = ap (λ (o : Order). o.start) is.order
+pub number_of : {came : RunState} (t : Transition) (sheet : Sheet) (start : ℕ) (u : MemberTurn) → IsOfBegin came t sheet start u → u.order.start ≡ start
+number_of {came} t sheet start u is = ap (λ (o : Order). o.start) is.order
 
-pub stop_tally : EngineFacts → (s : Session) → MembersKeep s → (r : SessionRun) → IsStoppedRun s r → (client index : ℕ) (tally : Tally) → slice_get r.last_tallies index ≡ Some (record { client = client; tally = tally }) → StopTally s r client tally
+pub stop_tally : EngineFacts → (s : Session) → MembersKeep s → (r : SessionRun) → (run : IsStoppedRun s r) → (client index : ℕ) (tally : Tally) → slice_get r.last_tallies index ≡ Some (record { client = client; tally = tally }) → StopTally s r run client tally
 stop_tally laws s keep r run client index tally at =
     laws.tallies (caller_of_client client) client s.engine keep.engine_legal (speaks client s.engine keep.own_clients) Stop r.last r.start Completed r.last_tallies run.stopped index tally at
 
 -- the client's tally of the start, where it was registered
-pub record HasStartTally (s : Session) (r : SessionRun) (client : ℕ) : Type 0 where
+pub record HasStartTally (s : Session) (r : SessionRun) (run : IsStoppedRun s r) (client : ℕ) : Type 0 where
   pub tally : Tally
-  pub told : StartTally s r client tally
+  pub told : StartTally s r run client tally
 
-pub start_tally : EngineFacts → (s : Session) → MembersKeep s → (r : SessionRun) → IsStoppedRun s r → (client : ℕ) → IsRegistered s client Start → HasStartTally s r client
+pub start_tally : EngineFacts → (s : Session) → MembersKeep s → (r : SessionRun) → (run : IsStoppedRun s r) → (client : ℕ) → IsRegistered s client Start → HasStartTally s r run client
 start_tally laws s keep r run client registered =
     let rest : EngineHistory = run.started.between ++ (run.started.closer, Check (Done Completed) r.first_tallies) ∷ run.started.later in
     let has : HasTally client r.first_tallies =

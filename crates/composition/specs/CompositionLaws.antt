@@ -1,12 +1,13 @@
 -- What the members' contracts and the histories of all objects tell together: statements of the laws.
 use Rattle.std.specs.Prelude.{◌≡◌, ℕ, List, slice_get, Some}
+use Rattle.daq_types.specs.declared.runs.ChannelState.{ChannelState}
 use Rattle.daq_types.specs.declared.runs.ChannelState.TheVariants.{Ended, Broken}
 use Rattle.daq_types.specs.declared.runs.FrontEnded.{FrontEnded}
 use Rattle.buffer_core.specs.declared.entry.BufferEntry.{BufferEntry}
 use Rattle.buffer_core.specs.Window.{Sent}
 use Rattle.buffer_core.specs.Runs.{segment}
 use Rattle.member_model.specs.CutRuns.{MarksEnd}
-use Rattle.member_model.specs.LoggerKept.{LoggerChannel}
+use Rattle.member_model.specs.LoggerKept.{LoggerChannel, IsStateSo}
 use Rattle.front_ends.specs.FrontKept.{made_events}
 use Rattle.caller_laws.specs.OneCaller.{events_in}
 use Rattle.caller_laws.specs.SentRuns.{places_sent, events_at_places}
@@ -37,6 +38,13 @@ abbrev pub OnlyFrontsSent : Type 0
 OnlyFrontsSent = (s : Session) → MembersKeep s →
     (buffer start index place : ℕ) → (x : Sent) → slice_get (segment (s.history buffer) start) index ≡ Some (place, x) →
     IsOfFront s buffer start place x.event
+
+-- The logger has told in the Done of the stop what became of each channel, and that is so.
+abbrev pub ChannelsTold : Type 0
+ChannelsTold = (s : Session) → MembersKeep s → (r : SessionRun) → IsStoppedRun s r →
+    (index : ℕ) → (channel : LoggerChannel) → slice_get s.channels index ≡ Some channel →
+    (state : ChannelState) × ToldState s r channel state ×
+    IsStateSo (buffer_calls s channel.buffer s.logger) r.start r.last.dump state
 
 -- The file of each channel that the logger told to have ended is the run file of the events that the channel asks for.
 abbrev pub FilesHoldRuns : Type 0

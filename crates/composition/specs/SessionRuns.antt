@@ -1,6 +1,6 @@
 -- A run of a session, and what is so of it.
 use mathlib.Core.List.{IsPrefix}
-use Rattle.std.specs.Prelude.{◌≡◌, ℕ, List, All, slice_get, Some}
+use Rattle.std.specs.Prelude.{◌≡◌, ℕ, List, ◌∷◌, ◌++◌, All, slice_get, Some, Ok}
 use Rattle.daq_types.specs.declared.events.Event.{Event}
 use Rattle.daq_types.specs.declared.runs.ChannelState.{ChannelState}
 use Rattle.daq_types.specs.declared.runs.FrontEnded.{FrontEnded}
@@ -16,15 +16,17 @@ use Rattle.buffer_core.specs.Readers.{among, places_got, places_of, wanted}
 use Rattle.transitions.specs.declared.sheet.Sheet.{Sheet}
 use Rattle.transitions.specs.declared.answers.ClientTally.{ClientTally}
 use Rattle.transitions.specs.declared.answers.Tally.TheVariants.{Front, Channels}
+use Rattle.transitions.specs.declared.entry.EngineEntry.TheVariants.{Begin}
 use Rattle.transitions.specs.EngineCalls.{order_for}
-use Rattle.member_model.specs.Turns.{MemberTurn, HasTurn}
+use Rattle.transitions.specs.EnginePoints.{engine_past, state_at}
+use Rattle.transitions.specs.EngineHistories.{EngineHistory}
 use Rattle.member_model.specs.SentCalls.{own_sent, WasSpent}
 use Rattle.member_model.specs.LoggerKept.{LoggerChannel}
 use Rattle.front_ends.specs.FrontKept.{made_events}
 use Rattle.caller_laws.specs.OneCaller.{events_in}
 use Rattle.caller_laws.specs.CallerLaws.{IsSendOf}
-use Rattle.engine_laws.specs.BegunTurns.{IsOfBegin, HasTransition}
-use Rattle.composition.specs.Sessions.{Session, SessionFront, HasFront, turns_of, buffer_calls}
+use Rattle.engine_laws.specs.BegunTurns.{HasTransition}
+use Rattle.composition.specs.Sessions.{Session, SessionFront, HasFront, buffer_calls}
 
 -- A run: its start number, the sheets that its start and its stop were begun with, and the tallies in their Dones.
 pub record SessionRun : Type 0 where
@@ -51,18 +53,19 @@ run_order r = order_for r.first r.start Stopped
 abbrev pub TellsFront : SessionRun → (client sent : ℕ) → FrontEnded → Type 0
 TellsFront r client sent ended = (index : ℕ) × (slice_get r.last_tallies index ≡ Some (record { client = client; tally = Front sent ended }))
 
--- a turn of the stop of this run came from a pause
-pub record CameFromPause (s : Session) (r : SessionRun) (client : ℕ) : Type 0 where
-  pub turn : MemberTurn
-  pub stands : HasTurn (turns_of s client) turn
-  pub of_stop : IsOfBegin Stop r.last r.start turn
-  pub from : turn.order.from ≡ Paused
+-- where the stop of this run was begun, the engine's history tells that the run was paused
+pub record CameFromPause (s : Session) (r : SessionRun) : Type 0 where
+  pub earlier : EngineHistory
+  pub later : EngineHistory
+  pub caller : ℕ
+  pub stands : s.engine ≡ earlier ++ (caller, Begin Stop r.last (Ok r.start)) ∷ later
+  pub paused : state_at (engine_past earlier) ≡ Paused
 
 -- how a front-end's sending ended in the run: its quota was sent; the stop came from a pause; or a send of it in that run was
 -- refused as spent, with this total
 abbrev pub EndedIn : Session → SessionRun → SessionFront → (sent : ℕ) → FrontEnded → Type 0
 EndedIn s r f sent Quota = sent ≡ r.first.quota
-EndedIn s r f sent EndedPaused = CameFromPause s r f.client
+EndedIn s r f sent EndedPaused = CameFromPause s r
 EndedIn s r f sent (EndedSpent total) = WasSpent (buffer_calls s f.buffer f.client) r.start total
 
 -- What the front-end sent in the run are the first events of its equipment, as many as it told, each once and in order.

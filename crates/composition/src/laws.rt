@@ -1,6 +1,6 @@
 //! Laws of a session's members together: each function does nothing, and its contract is the law.
 
-ghost use Rattle.composition.specs.CompositionLaws.{FrontsTell, FrontsSent, FrontsStand, OnlyFrontsSent, FilesHoldRuns, FilesHoldParts};
+ghost use Rattle.composition.specs.CompositionLaws.{FrontsTell, FrontsSent, FrontsStand, OnlyFrontsSent, ChannelsTold, FilesHoldRuns, FilesHoldParts};
 ghost use Rattle.daq_types.specs.declared.runs.ChannelState.TheVariants.{Ended};
 ghost use Rattle.composition.specs.Sessions.{MembersKeep};
 ghost use Rattle.composition.specs.SessionRuns.{IsStoppedRun, ToldState};
@@ -28,9 +28,12 @@ pub fn fronts()
     engine::start_numbers_rise();
 }
 
+/// In a run that was not refused and was stopped the logger told in the Done of the stop what became of each channel: that it
+/// ended or broke off, that the end of its run was refused, or that the stop had no dump.
 /// The file of each channel that the logger told to have ended is the run file of all events between the marks of the run
 /// that the channel asks for, with the dumps of the two sheets; the file of one that was told to be broken begins so.
 pub fn files()
+    ensures told { ChannelsTold }
     ensures hold { FilesHoldRuns }
     ensures parts { FilesHoldParts }
 {

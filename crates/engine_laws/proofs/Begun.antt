@@ -24,13 +24,15 @@ use Rattle.transitions.specs.declared.entry.EngineEntry.{EngineEntry}
 use Rattle.transitions.specs.declared.entry.EngineEntry.TheVariants.{Register, Begin, Poll, Answer, Check, Close}
 use Rattle.transitions.specs.Engines.{Underway, EngineState, engine_opening}
 use Rattle.transitions.specs.EngineCalls.{turn_kind, turn_of, is_start, order_for, begun, gets_dump, polled_by, told, refused_by, answered_by, after_poll_by, after_answer_in, IsEngineReply, engine_after}
-use Rattle.transitions.specs.EngineHistories.{EngineHistory, IsLegalEngine}
+use Rattle.transitions.specs.EngineHistories.{EngineHistory, IsEngineCaller, IsLegalEngine, engine_replay}
+use Rattle.transitions.specs.EnginePoints.{engine_past, state_at}
 use Rattle.transitions.specs.GivenTurns.{SpeaksFor}
 use Rattle.member_model.specs.Turns.{MemberTurn, HasTurn}
 use Rattle.member_model.specs.TurnCalls.{turn_told, turn_answered, turns_with}
 use Rattle.engine_laws.specs.BegunTurns.{IsOfBegin, WasBegun}
 use Rattle.engine_laws.specs.EngineLaws.{TurnsWereBegun, StartsFromStopped, StopsFromRun}
 use Rattle.engine_laws.proofs.Replies.{begins, GivesTurn, gives_turn, Owes, owes}
+use Rattle.engine_laws.proofs.StateTold.{Follows, StateTold, state_told, legal_joined, replay_apart}
 use Rattle.engine_laws.proofs.TurnLists.{with_answer}
 use Rattle.engine_laws.proofs.Gave.{CalledLists, Gave, gave_step, other_step, own_or_other, opening_gave}
 
@@ -40,15 +42,15 @@ abbrev pub StartIfRefused : Transition → Option Refusal → Type 0
 StartIfRefused t None = ⊤
 StartIfRefused t (Some refusal) = t ≡ Start
 
-pub record FromBegin (transition : Transition) (sheet : Sheet) (start : ℕ) (u : Underway) : Type 0 where
+pub record FromBegin (came : RunState) (transition : Transition) (sheet : Sheet) (start : ℕ) (u : Underway) : Type 0 where
   pub transition_is : u.transition ≡ transition
-  pub order : u.order ≡ order_for sheet start u.order.from
-  pub allowed : is_allowed u.order.from transition ≡ true
+  pub order : u.order ≡ order_for sheet start came
+  pub allowed : is_allowed came transition ≡ true
   pub refused : StartIfRefused transition u.refusal
   pub dump : (bytes : List ℕ) → u.dump ≡ Some bytes → sheet.dump ≡ Some bytes
 
-pub from_begun : (s : EngineState) (t : Transition) (sheet : Sheet) (n : ℕ) → is_allowed s.state t ≡ true → FromBegin t sheet n (begun s t sheet n)
-from_begun s t sheet n allowed = record { transition_is = refl; order = refl; allowed = allowed; refused = tt; dump = λ bytes e. e }
+pub from_begun : (came : RunState) (s : EngineState) (t : Transition) (sheet : Sheet) (n : ℕ) → s.state ≡ came → is_allowed s.state t ≡ true → FromBegin came t sheet n (begun s t sheet n)
+from_begun came s t sheet n is allowed = record { transition_is = refl; order = ap (order_for sheet n) is; allowed = ap (λ (r : RunState). is_allowed r t) (sym is) ∙ allowed; refused = tt; dump = λ bytes e. e }
 
 left_dump : (b : Bool) (d : Option (List ℕ)) (bytes : List ℕ) → (if b then None else d) ≡ Some bytes → d ≡ Some bytes
 left_dump true d bytes e = absurd (cc (e))
@@ -58,12 +60,12 @@ given_dump : (b : Bool) (d : Option (List ℕ)) (bytes : List ℕ) → (if b the
 given_dump true d bytes e = e
 given_dump false d bytes e = absurd (cc (e))
 
-pub from_polled : (transition : Transition) (sheet : Sheet) (start : ℕ) (u : Underway) (c : Registered) → FromBegin transition sheet start u → FromBegin transition sheet start (polled_by c u)
-from_polled transition sheet start u c f =
+pub from_polled : (came : RunState) (transition : Transition) (sheet : Sheet) (start : ℕ) (u : Underway) (c : Registered) → FromBegin came transition sheet start u → FromBegin came transition sheet start (polled_by c u)
+from_polled came transition sheet start u c f =
     record { transition_is = f.transition_is; order = f.order; allowed = f.allowed; refused = f.refused; dump = λ bytes e. f.dump bytes (left_dump (gets_dump c u) u.dump bytes e) }
 
-pub from_told : (transition : Transition) (sheet : Sheet) (start : ℕ) (u : Underway) (client : ℕ) (tally : Tally) → FromBegin transition sheet start u → FromBegin transition sheet start (told client tally u)
-from_told transition sheet start u client tally f = record { transition_is = f.transition_is; order = f.order; allowed = f.allowed; refused = f.refused; dump = f.dump }
+pub from_told : (came : RunState) (transition : Transition) (sheet : Sheet) (start : ℕ) (u : Underway) (client : ℕ) (tally : Tally) → FromBegin came transition sheet start u → FromBegin came transition sheet start (told client tally u)
+from_told came transition sheet start u client tally f = record { transition_is = f.transition_is; order = f.order; allowed = f.allowed; refused = f.refused; dump = f.dump }
 
 start_kind : (t : Transition) (r : Option Refusal) → is_start (turn_kind t r) ≡ true → t ≡ Start
 start_kind t (Some refusal) e = absurd (cc (e))
@@ -73,16 +75,16 @@ start_kind Pause None e = absurd (cc (e))
 start_kind Resume None e = absurd (cc (e))
 start_kind StartAbort None e = absurd (cc (e))
 
-pub from_refused : (transition : Transition) (sheet : Sheet) (start : ℕ) (u : Underway) (clients : List Registered) (client : ℕ) (why : Why) → is_start (turn_of u) ≡ true → FromBegin transition sheet start u → FromBegin transition sheet start (refused_by clients client why u)
-from_refused transition sheet start u clients client why starts f =
+pub from_refused : (came : RunState) (transition : Transition) (sheet : Sheet) (start : ℕ) (u : Underway) (clients : List Registered) (client : ℕ) (why : Why) → is_start (turn_of u) ≡ true → FromBegin came transition sheet start u → FromBegin came transition sheet start (refused_by clients client why u)
+from_refused came transition sheet start u clients client why starts f =
     record { transition_is = f.transition_is; order = f.order; allowed = f.allowed; refused = sym f.transition_is ∙ start_kind u.transition u.refusal starts; dump = f.dump }
 
-pub from_answered : (transition : Transition) (sheet : Sheet) (start : ℕ) (u : Underway) (clients : List Registered) (client : ℕ) (answer : ClientAnswer) → FromBegin transition sheet start u → FromBegin transition sheet start (answered_by clients client answer u)
-from_answered transition sheet start u clients client (Yes tally) f = from_told transition sheet start u client tally f
-from_answered transition sheet start u clients client (No why) f =
-    split (is_start (turn_of u)) (λ b. is_start (turn_of u) ≡ b → FromBegin transition sheet start (if b then refused_by clients client why u else told client Plain u))
-    (λ h e. from_refused transition sheet start u clients client why e f)
-    (λ h e. from_told transition sheet start u client Plain f)
+pub from_answered : (came : RunState) (transition : Transition) (sheet : Sheet) (start : ℕ) (u : Underway) (clients : List Registered) (client : ℕ) (answer : ClientAnswer) → FromBegin came transition sheet start u → FromBegin came transition sheet start (answered_by clients client answer u)
+from_answered came transition sheet start u clients client (Yes tally) f = from_told came transition sheet start u client tally f
+from_answered came transition sheet start u clients client (No why) f =
+    split (is_start (turn_of u)) (λ b. is_start (turn_of u) ≡ b → FromBegin came transition sheet start (if b then refused_by clients client why u else told client Plain u))
+    (λ h e. from_refused came transition sheet start u clients client why e f)
+    (λ h e. from_told came transition sheet start u client Plain f)
     refl
 
 -- A turn of it.
@@ -94,16 +96,16 @@ kind_of t transition (Some refusal) same refused = inr (refused, refl)
 abbrev pub turn_from : Underway → Option (List ℕ) → MemberTurn
 turn_from u dump = record { transition = turn_of u; order = u.order; dump = dump; answer = None }
 
-pub turn_of_begin : (transition : Transition) (sheet : Sheet) (start : ℕ) (u : Underway) (b : Bool) (dump : Option (List ℕ)) → FromBegin transition sheet start u → dump ≡ (if b then u.dump else None) → IsOfBegin transition sheet start (turn_from u dump)
-turn_of_begin transition sheet start u b dump f is = record {
+pub turn_of_begin : (came : RunState) (transition : Transition) (sheet : Sheet) (start : ℕ) (u : Underway) (b : Bool) (dump : Option (List ℕ)) → FromBegin came transition sheet start u → dump ≡ (if b then u.dump else None) → IsOfBegin came transition sheet start (turn_from u dump)
+turn_of_begin came transition sheet start u b dump f is = record {
   kind = kind_of u.transition transition u.refusal f.transition_is f.refused;
   order = f.order;
   allowed = f.allowed;
   dump = λ bytes e. f.dump bytes (given_dump b u.dump bytes (sym is ∙ e));
 }
 
-pub of_begin_answered : (transition : Transition) (sheet : Sheet) (start : ℕ) (turn : MemberTurn) (answer : ClientAnswer) → IsOfBegin transition sheet start turn → IsOfBegin transition sheet start (with_answer turn answer)
-of_begin_answered transition sheet start turn answer is = record { kind = is.kind; order = is.order; allowed = is.allowed; dump = is.dump }
+pub of_begin_answered : (came : RunState) (transition : Transition) (sheet : Sheet) (start : ℕ) (turn : MemberTurn) (answer : ClientAnswer) → IsOfBegin came transition sheet start turn → IsOfBegin came transition sheet start (with_answer turn answer)
+of_begin_answered came transition sheet start turn answer is = record { kind = is.kind; order = is.order; allowed = is.allowed; dump = is.dump }
 
 -- Where a turn among those behind a call stood before.
 
@@ -152,7 +154,7 @@ pub record UnderwayBegun (history : EngineHistory) (u : Underway) : Type 0 where
   pub sheet : Sheet
   pub start : ℕ
   pub stands : history ≡ earlier ++ (caller, Begin transition sheet (Ok start)) ∷ later
-  pub from : FromBegin transition sheet start u
+  pub from : FromBegin (state_at (engine_past earlier)) transition sheet start u
 
 abbrev BegunIf : EngineHistory → Option Underway → Type 0
 BegunIf h None = ⊤
@@ -191,7 +193,7 @@ underway_longer h x (Some u) was = record {
   from = was.from;
 }
 
-underway_on : (h : EngineHistory) (u v : Underway) (w : UnderwayBegun h u) → FromBegin w.transition w.sheet w.start v → UnderwayBegun h v
+underway_on : (h : EngineHistory) (u v : Underway) (w : UnderwayBegun h u) → FromBegin (state_at (engine_past w.earlier)) w.transition w.sheet w.start v → UnderwayBegun h v
 underway_on h u v w f = record { earlier = w.earlier; later = w.later; caller = w.caller; transition = w.transition; sheet = w.sheet; start = w.start; stands = w.stands; from = f }
 
 begun_answered : (h : EngineHistory) (t : MemberTurn) (answer : ClientAnswer) → WasBegun h t → WasBegun h (with_answer t answer)
@@ -202,7 +204,7 @@ begun_answered h t answer was = record {
   transition = was.transition;
   sheet = was.sheet;
   stands = was.stands;
-  of_begin = of_begin_answered was.transition was.sheet t.order.start t answer was.of_begin;
+  of_begin = of_begin_answered (state_at (engine_past was.earlier)) was.transition was.sheet t.order.start t answer was.of_begin;
 }
 
 -- a turn of the transition in progress
@@ -216,7 +218,7 @@ turn_begun h u b dump w is =
       transition = w.transition;
       sheet = w.sheet;
       stands = w.stands ∙ ap (λ (n : ℕ). w.earlier ++ (w.caller, Begin w.transition w.sheet (Ok n)) ∷ w.later) number;
-      of_begin = subst (λ (n : ℕ). IsOfBegin w.transition w.sheet n (turn_from u dump)) number (turn_of_begin w.transition w.sheet w.start u b dump w.from is);
+      of_begin = subst (λ (n : ℕ). IsOfBegin (state_at (engine_past w.earlier)) w.transition w.sheet n (turn_from u dump)) number (turn_of_begin (state_at (engine_past w.earlier)) w.transition w.sheet w.start u b dump w.from is);
     }
 
 all_told : (h : EngineHistory) (ts : List MemberTurn) (x : MemberTurn) (mine : Bool) → AllBegun h ts → WasBegun h x → AllBegun h (if mine then turn_told ts x else ts)
@@ -237,64 +239,67 @@ record AreBegun (h : EngineHistory) (s : EngineState) (ts : List MemberTurn) : T
   underway : BegunIf h s.underway
   turns : AllBegun h ts
 
-begun_step : (h : EngineHistory) (s : EngineState) (client by : ℕ) (ts : List MemberTurn) (e : EngineEntry) → AreBegun h s ts → IsEngineReply s e → AreBegun (h ++ (by, e) ∷ []) (engine_after s e) (turns_with client ts e)
-begun_step h s client by ts (Begin t sheet (Ok n)) a reply =
+begun_step : (h : EngineHistory) (s : EngineState) (client by : ℕ) (ts : List MemberTurn) (e : EngineEntry) → StateTold h s → AreBegun h s ts → IsEngineCaller by e → IsEngineReply s e → AreBegun (h ++ (by, e) ∷ []) (engine_after s e) (turns_with client ts e)
+begun_step h s client by ts (Begin t sheet (Ok n)) tells a may reply =
     let x : ℕ × EngineEntry = (by, Begin t sheet (Ok n)) in
     record {
-      underway = record { earlier = h; later = []; caller = by; transition = t; sheet = sheet; start = n; stands = refl; from = from_begun s t sheet n (begins s t n reply).allowed };
+      underway = record { earlier = h; later = []; caller = by; transition = t; sheet = sheet; start = n; stands = refl; from = from_begun (state_at (engine_past h)) s t sheet n (tells by t sheet n may reply) (begins s t n reply).allowed };
       turns = all_longer h x ts a.turns;
     }
-begun_step h s client by ts (Poll other (Turn turn order dump blank)) a reply =
+begun_step h s client by ts (Poll other (Turn turn order dump blank)) tells a may reply =
     let x : ℕ × EngineEntry = (by, Poll other (Turn turn order dump blank)) in
     let p : GivesTurn s other turn order dump = gives_turn s other turn order dump blank reply in
     let told_so : MemberTurn = record { transition = turn; order = order; dump = dump; answer = None } in
     let same : turn_from p.u dump ≡ told_so = ap (λ (k : Transition). record { transition = k; order = p.u.order; dump = dump; answer = None }) (sym p.turn_is) ∙ ap (λ (o : Order). record { transition = turn; order = o; dump = dump; answer = None }) (sym p.order_is) in
     let w : UnderwayBegun (h ++ x ∷ []) p.u = subst (BegunIf (h ++ x ∷ [])) p.underway_is (underway_longer h x s.underway a.underway) in
     record {
-      underway = subst (BegunIf (h ++ x ∷ [])) (sym (polled_underway s other p.c p.u p.client_is p.underway_is)) (underway_on (h ++ x ∷ []) p.u (polled_by p.c p.u) w (from_polled w.transition w.sheet w.start p.u p.c w.from));
+      underway = subst (BegunIf (h ++ x ∷ [])) (sym (polled_underway s other p.c p.u p.client_is p.underway_is)) (underway_on (h ++ x ∷ []) p.u (polled_by p.c p.u) w (from_polled (state_at (engine_past w.earlier)) w.transition w.sheet w.start p.u p.c w.from));
       turns = all_told (h ++ x ∷ []) ts told_so (other == client) (all_longer h x ts a.turns) (subst (WasBegun (h ++ x ∷ [])) same (turn_begun (h ++ x ∷ []) p.u (gets_dump p.c p.u) dump w p.dump_is));
     }
-begun_step h s client by ts (Answer other answer (Ok done)) a reply =
+begun_step h s client by ts (Answer other answer (Ok done)) tells a may reply =
     let x : ℕ × EngineEntry = (by, Answer other answer (Ok done)) in
     let o : Owes s other = owes s other done reply in
     let w : UnderwayBegun (h ++ x ∷ []) o.u = subst (BegunIf (h ++ x ∷ [])) o.underway_is (underway_longer h x s.underway a.underway) in
     record {
       underway = subst (BegunIf (h ++ x ∷ [])) (sym (answered_underway s other answer o.u o.underway_is))
-          (underway_on (h ++ x ∷ []) o.u (answered_by s.clients other answer o.u) w (from_answered w.transition w.sheet w.start o.u s.clients other answer w.from));
+          (underway_on (h ++ x ∷ []) o.u (answered_by s.clients other answer o.u) w (from_answered (state_at (engine_past w.earlier)) w.transition w.sheet w.start o.u s.clients other answer w.from));
       turns = all_answered (h ++ x ∷ []) ts answer (other == client) (all_longer h x ts a.turns);
     }
-begun_step h s client by ts (Answer other answer (Err r)) a reply =
+begun_step h s client by ts (Answer other answer (Err r)) tells a may reply =
     let x : ℕ × EngineEntry = (by, Answer other answer (Err r)) in
     record { underway = underway_longer h x s.underway a.underway; turns = all_answered (h ++ x ∷ []) ts answer (other == client) (all_longer h x ts a.turns) }
-begun_step h s client by ts (Check (Done outcome) tallies) a reply = record { underway = tt; turns = all_longer h (by, Check (Done outcome) tallies) ts a.turns }
-begun_step h s client by ts (Register name sequences dump report (Ok n)) a reply =
+begun_step h s client by ts (Check (Done outcome) tallies) tells a may reply = record { underway = tt; turns = all_longer h (by, Check (Done outcome) tallies) ts a.turns }
+begun_step h s client by ts (Register name sequences dump report (Ok n)) tells a may reply =
     let x : ℕ × EngineEntry = (by, Register name sequences dump report (Ok n)) in record { underway = underway_longer h x s.underway a.underway; turns = all_longer h x ts a.turns }
-begun_step h s client by ts (Close (Ok done)) a reply = let x : ℕ × EngineEntry = (by, Close (Ok done)) in record { underway = underway_longer h x s.underway a.underway; turns = all_longer h x ts a.turns }
-begun_step h s client by ts (Register name sequences dump report (Err r)) a reply =
+begun_step h s client by ts (Close (Ok done)) tells a may reply = let x : ℕ × EngineEntry = (by, Close (Ok done)) in record { underway = underway_longer h x s.underway a.underway; turns = all_longer h x ts a.turns }
+begun_step h s client by ts (Register name sequences dump report (Err r)) tells a may reply =
     let x : ℕ × EngineEntry = (by, Register name sequences dump report (Err r)) in record { underway = underway_longer h x s.underway a.underway; turns = all_longer h x ts a.turns }
-begun_step h s client by ts (Begin t sheet (Err r)) a reply = let x : ℕ × EngineEntry = (by, Begin t sheet (Err r)) in record { underway = underway_longer h x s.underway a.underway; turns = all_longer h x ts a.turns }
-begun_step h s client by ts (Poll other (Idle state)) a reply = let x : ℕ × EngineEntry = (by, Poll other (Idle state)) in record { underway = underway_longer h x s.underway a.underway; turns = all_longer h x ts a.turns }
-begun_step h s client by ts (Poll other PollClosed) a reply = let x : ℕ × EngineEntry = (by, Poll other PollClosed) in record { underway = underway_longer h x s.underway a.underway; turns = all_longer h x ts a.turns }
-begun_step h s client by ts (Poll other NoClient) a reply = let x : ℕ × EngineEntry = (by, Poll other NoClient) in record { underway = underway_longer h x s.underway a.underway; turns = all_longer h x ts a.turns }
-begun_step h s client by ts (Check Going tallies) a reply = let x : ℕ × EngineEntry = (by, Check Going tallies) in record { underway = underway_longer h x s.underway a.underway; turns = all_longer h x ts a.turns }
-begun_step h s client by ts (Check NoneGoing tallies) a reply = let x : ℕ × EngineEntry = (by, Check NoneGoing tallies) in record { underway = underway_longer h x s.underway a.underway; turns = all_longer h x ts a.turns }
-begun_step h s client by ts (Close (Err r)) a reply = let x : ℕ × EngineEntry = (by, Close (Err r)) in record { underway = underway_longer h x s.underway a.underway; turns = all_longer h x ts a.turns }
+begun_step h s client by ts (Begin t sheet (Err r)) tells a may reply = let x : ℕ × EngineEntry = (by, Begin t sheet (Err r)) in record { underway = underway_longer h x s.underway a.underway; turns = all_longer h x ts a.turns }
+begun_step h s client by ts (Poll other (Idle state)) tells a may reply = let x : ℕ × EngineEntry = (by, Poll other (Idle state)) in record { underway = underway_longer h x s.underway a.underway; turns = all_longer h x ts a.turns }
+begun_step h s client by ts (Poll other PollClosed) tells a may reply = let x : ℕ × EngineEntry = (by, Poll other PollClosed) in record { underway = underway_longer h x s.underway a.underway; turns = all_longer h x ts a.turns }
+begun_step h s client by ts (Poll other NoClient) tells a may reply = let x : ℕ × EngineEntry = (by, Poll other NoClient) in record { underway = underway_longer h x s.underway a.underway; turns = all_longer h x ts a.turns }
+begun_step h s client by ts (Check Going tallies) tells a may reply = let x : ℕ × EngineEntry = (by, Check Going tallies) in record { underway = underway_longer h x s.underway a.underway; turns = all_longer h x ts a.turns }
+begun_step h s client by ts (Check NoneGoing tallies) tells a may reply = let x : ℕ × EngineEntry = (by, Check NoneGoing tallies) in record { underway = underway_longer h x s.underway a.underway; turns = all_longer h x ts a.turns }
+begun_step h s client by ts (Close (Err r)) tells a may reply = let x : ℕ × EngineEntry = (by, Close (Err r)) in record { underway = underway_longer h x s.underway a.underway; turns = all_longer h x ts a.turns }
 
-begun_all : (lists : CalledLists) (before : EngineHistory) (s : EngineState) (by client : ℕ) (h : EngineHistory) (ts : List MemberTurn) → IsLegalEngine s h → SpeaksFor by client h → Gave s client ts → AreBegun before s ts
-    → AllBegun (before ++ h) (fold (turns_with client) ts (entries_by by h))
-begun_all lists before s by client [] ts legal alone g a = subst (λ (l : EngineHistory). AllBegun l ts) (sym (append-nil before)) a.turns
-begun_all lists before s by client (x ∷ h) ts legal alone g a =
+begun_all : (follows : Follows) (lists : CalledLists) (before : EngineHistory) (s : EngineState) (by client : ℕ) (h : EngineHistory) (ts : List MemberTurn) → IsLegalEngine engine_opening before → engine_replay engine_opening before ≡ s
+    → IsLegalEngine s h → SpeaksFor by client h → Gave s client ts → AreBegun before s ts → AllBegun (before ++ h) (fold (turns_with client) ts (entries_by by h))
+begun_all follows lists before s by client [] ts past at legal alone g a = subst (λ (l : EngineHistory). AllBegun l ts) (sym (append-nil before)) a.turns
+begun_all follows lists before s by client (x ∷ h) ts past at legal alone g a =
+    let tells : StateTold before s = subst (StateTold before) at (state_told follows before past) in
+    let past_next : IsLegalEngine engine_opening (before ++ x ∷ []) = legal_joined engine_opening before (x ∷ []) past (subst (λ (e : EngineState). IsLegalEngine e (x ∷ [])) (sym at) (legal.0, legal.1, tt)) in
+    let at_next : engine_replay engine_opening (before ++ x ∷ []) ≡ engine_after s x.1 = replay_apart engine_opening before (x ∷ []) ∙ ap (λ (e : EngineState). engine_after e x.1) at in
     let next : Gave (engine_after s x.1) client (turns_with client ts x.1) = gave_step lists s client ts x.1 g legal.1 in
-    let begun_next : AreBegun (before ++ x ∷ []) (engine_after s x.1) (turns_with client ts x.1) = begun_step before s client x.0 ts x.1 a legal.1 in
+    let begun_next : AreBegun (before ++ x ∷ []) (engine_after s x.1) (turns_with client ts x.1) = begun_step before s client x.0 ts x.1 tells a legal.0 legal.1 in
     subst (λ (l : EngineHistory). AllBegun l (fold (turns_with client) ts (entries_by by (x ∷ h)))) (append_assoc before (x ∷ []) h)
     (own_or_other by client x h (λ es. AllBegun ((before ++ x ∷ []) ++ h) (fold (turns_with client) ts es)) alone.0
-    (begun_all lists (before ++ x ∷ []) (engine_after s x.1) by client h (turns_with client ts x.1) legal.2 alone.1 next begun_next)
+    (begun_all follows lists (before ++ x ∷ []) (engine_after s x.1) by client h (turns_with client ts x.1) past_next at_next legal.2 alone.1 next begun_next)
     (λ not. let same : turns_with client ts x.1 ≡ ts = other_step s client ts x.1 g legal.1 not in
-    begun_all lists (before ++ x ∷ []) (engine_after s x.1) by client h ts legal.2 alone.1
+    begun_all follows lists (before ++ x ∷ []) (engine_after s x.1) by client h ts past_next at_next legal.2 alone.1
     (subst (Gave (engine_after s x.1) client) same next) (subst (AreBegun (before ++ x ∷ []) (engine_after s x.1)) same begun_next)))
 
-pub turns_were_begun : CalledLists → TurnsWereBegun
-turns_were_begun lists by client h legal alone = begun_all lists [] engine_opening by client h [] legal alone (opening_gave client) (record { underway = tt; turns = λ t has. absurd has })
+pub turns_were_begun : Follows → CalledLists → TurnsWereBegun
+turns_were_begun follows lists by client h legal alone = begun_all follows lists [] engine_opening by client h [] tt refl legal alone (opening_gave client) (record { underway = tt; turns = λ t has. absurd has })
 
 -- The state before.
 
@@ -308,18 +313,18 @@ stop_from t Stopped stops allowed = absurd (let e : is_allowed Stopped Stop ≡ 
 stop_from t Paused stops allowed = λ (same : Paused ≡ Stopped). cc (same)
 stop_from t Running stops allowed = λ (same : Running ≡ Stopped). cc (same)
 
-pub starts_from_stopped : CalledLists → StartsFromStopped
-starts_from_stopped lists by client h legal alone turn has starts =
-    let was : WasBegun h turn = turns_were_begun lists by client h legal alone turn has in
+pub starts_from_stopped : Follows → CalledLists → StartsFromStopped
+starts_from_stopped follows lists by client h legal alone turn has starts =
+    let was : WasBegun h turn = turns_were_begun follows lists by client h legal alone turn has in
     elim was.of_begin.kind as (λ w. turn.order.from ≡ Stopped) [
-      | inl same ↦ start_from was.transition turn.order.from (sym same ∙ starts) was.of_begin.allowed
+      | inl same ↦ ap (λ (o : Order). o.from) was.of_begin.order ∙ start_from was.transition (state_at (engine_past was.earlier)) (sym same ∙ starts) was.of_begin.allowed
       | inr off ↦ absurd (let e : Start ≡ StartAbort = sym starts ∙ off.1 in cc (e))
     ]
 
-pub stops_from_run : CalledLists → StopsFromRun
-stops_from_run lists by client h legal alone turn has stops =
-    let was : WasBegun h turn = turns_were_begun lists by client h legal alone turn has in
+pub stops_from_run : Follows → CalledLists → StopsFromRun
+stops_from_run follows lists by client h legal alone turn has stops =
+    let was : WasBegun h turn = turns_were_begun follows lists by client h legal alone turn has in
     elim was.of_begin.kind as (λ w. turn.order.from ≢ Stopped) [
-      | inl same ↦ stop_from was.transition turn.order.from (sym same ∙ stops) was.of_begin.allowed
+      | inl same ↦ λ stopped. stop_from was.transition (state_at (engine_past was.earlier)) (sym same ∙ stops) was.of_begin.allowed (sym (ap (λ (o : Order). o.from) was.of_begin.order) ∙ stopped)
       | inr off ↦ absurd (let e : Stop ≡ StartAbort = sym stops ∙ off.1 in cc (e))
     ]

@@ -33,6 +33,7 @@ use Rattle.engine_laws.specs.EngineLaws.{CalledAreTold}
 use Rattle.engine_laws.proofs.Replies.{Begins, begins, GivesTurn, gives_turn, Owes, owes, Finishes, finishes}
 use Rattle.engine_laws.proofs.TurnLists.{IsIn}
 use Rattle.engine_laws.proofs.Gave.{CalledLists}
+use Rattle.engine_laws.proofs.StateTold.{replay_apart}
 use Rattle.engine_laws.proofs.Begun.{polled_underway, answered_underway}
 use Rattle.engine_laws.proofs.Tallied.{legal_apart, register_number, polled_clients, answered_clients, same_underway, unrefused}
 
@@ -67,10 +68,6 @@ client_step s (Close (Err r)) i c reply at = at
 client_stays : (s : EngineState) (h : EngineHistory) (i : ℕ) (c : Registered) → IsLegalEngine s h → slice_get s.clients i ≡ Some c → slice_get (engine_replay s h).clients i ≡ Some c
 client_stays s [] i c legal at = at
 client_stays s (x ∷ h) i c legal at = client_stays (engine_after s x.1) h i c legal.2 (client_step s x.1 i c legal.1 at)
-
-replay_apart : (s : EngineState) (xs ys : EngineHistory) → engine_replay s (xs ++ ys) ≡ engine_replay (engine_replay s xs) ys
-replay_apart s [] ys = refl
-replay_apart s (x ∷ xs) ys = replay_apart (engine_after s x.1) xs ys
 
 registered_there : (h : EngineHistory) (client : ℕ) (t : Transition) → IsLegalEngine engine_opening h → (r : IsRegisteredIn h client t)
     → slice_get (engine_replay engine_opening h).clients client ≡ Some (record { name = r.name; sequences = r.sequences; wants_dump = r.wants_dump; wants_report = r.wants_report })

@@ -31,7 +31,7 @@ use Rattle.transitions.specs.Limits.{most_clients}
 use Rattle.transitions.specs.Engines.{Underway, EngineState, engine_opening}
 use Rattle.transitions.specs.EngineCalls.{turn_kind, turn_of, is_start, is_next, begun, gets_dump, polled_by, told, refused_by, answered_by, after_poll_by, after_answer_in, register_reply, register_reply_in, tallies_in, IsEngineReply, engine_after, outcome_of}
 use Rattle.transitions.specs.EngineHistories.{EngineHistory, IsLegalEngine, engine_replay}
-use Rattle.transitions.specs.EnginePoints.{tally_of}
+use Rattle.transitions.specs.EnginePoints.{engine_past, state_at, tally_of}
 use Rattle.transitions.specs.GivenTurns.{SpeaksFor}
 use Rattle.transitions.specs.Marks.{is_mark, HasNoMark, IsEndOf}
 use Rattle.member_model.specs.Turns.{MemberTurn, HasTurn, IsAnswered, NoneOpen}
@@ -41,6 +41,7 @@ use Rattle.engine_laws.specs.EngineLaws.{DonesHaveBegins, TalliesAreAnswers}
 use Rattle.engine_laws.proofs.Replies.{Begins, begins, GivesTurn, gives_turn, Owes, owes, owes_none, Finishes, finishes}
 use Rattle.engine_laws.proofs.TurnLists.{IsIn, to_call, to_call_more, front_gone, front_in, with_answer, told_new}
 use Rattle.engine_laws.proofs.Gave.{OpenFor, RunsOn, StandsAt, CalledLists, Gave, GaveAt, gave_step, gave_all, gave_unaccepted, other_step, own_or_other, opening_gave}
+use Rattle.engine_laws.proofs.StateTold.{Follows, state_told}
 use Rattle.engine_laws.proofs.Begun.{StartIfRefused, FromBegin, from_begun, from_polled, from_told, from_refused, turn_from, turn_of_begin, of_begin_answered, polled_underway, answered_underway}
 
 -- Lists.
@@ -175,8 +176,8 @@ not_true true never = absurd (never refl)
 
 -- The turns since the begin.
 
-record SinceTurn (wants : Type 0) (transition : Transition) (sheet : Sheet) (start : ℕ) (t : MemberTurn) : Type 0 where
-  of_begin : IsOfBegin transition sheet start t
+record SinceTurn (wants : Type 0) (came : RunState) (transition : Transition) (sheet : Sheet) (start : ℕ) (t : MemberTurn) : Type 0 where
+  of_begin : IsOfBegin came transition sheet start t
   dump : wants → t.transition ≡ transition → t.dump ≡ sheet.dump
 
 record IsTold (since : List MemberTurn) (tally : Tally) : Type 0 where
@@ -194,11 +195,11 @@ TellsMine client since x = x.client ≡ client → IsTold since x.tally
 abbrev IsOfKind : Transition → MemberTurn → Type 0
 IsOfKind transition t = t.transition ≡ transition
 
-record Since (wants : Type 0) (transition : Transition) (sheet : Sheet) (start client : ℕ) (past ts : List MemberTurn) (u : Underway) : Type 0 where
-  from : FromBegin transition sheet start u
+record Since (wants : Type 0) (came : RunState) (transition : Transition) (sheet : Sheet) (start client : ℕ) (past ts : List MemberTurn) (u : Underway) : Type 0 where
+  from : FromBegin came transition sheet start u
   since : List MemberTurn
   ts_is : ts ≡ since ++ past
-  turns : AllByRecursion (SinceTurn wants transition sheet start) since
+  turns : AllByRecursion (SinceTurn wants came transition sheet start) since
   plain : u.refusal ≡ None → AllByRecursion (IsOfKind transition) since
   told : AllByRecursion (TellsMine client since) u.tallies
   fresh : wants → u.refusal ≡ None → IsIn client (to_call u.has_polled u.called) → u.dump ≡ sheet.dump
@@ -226,19 +227,19 @@ told_weaker client since more stays xs all =
     record { turn = it.turn; stands = stays it.turn it.answer it.answered it.stands; answer = it.answer; answered = it.answered; tally_is = it.tally_is; accepted = it.accepted })
     xs all
 
-since_fresh : (wants : Type 0) (transition : Transition) (sheet : Sheet) (start client : ℕ) (past ts : List MemberTurn) (u : Underway) (c : Registered) (dump : Option (List ℕ)) → Since wants transition sheet start client past ts u → (wants → c.wants_dump ≡ true)
+since_fresh : (wants : Type 0) (came : RunState) (transition : Transition) (sheet : Sheet) (start client : ℕ) (past ts : List MemberTurn) (u : Underway) (c : Registered) (dump : Option (List ℕ)) → Since wants came transition sheet start client past ts u → (wants → c.wants_dump ≡ true)
     → dump ≡ (if gets_dump c u then u.dump else None) → u.has_polled ≡ false → IsIn client u.called → NoneOpen ts → (IsIn client (drop 1 u.called) → ⊥)
-    → Since wants transition sheet start client past (turn_told ts (turn_from u dump)) (polled_by c u)
-since_fresh wants transition sheet start client past ts u c dump s wish dump_is unpolled come none gone =
+    → Since wants came transition sheet start client past (turn_told ts (turn_from u dump)) (polled_by c u)
+since_fresh wants came transition sheet start client past ts u c dump s wish dump_is unpolled come none gone =
     let t : MemberTurn = turn_from u dump in
     let there : IsIn client (to_call u.has_polled u.called) = subst (λ (b : Bool). IsIn client (to_call b u.called)) (sym unpolled) come in
     record {
-      from = from_polled transition sheet start u c s.from;
+      from = from_polled came transition sheet start u c s.from;
       since = t ∷ s.since;
       ts_is = told_new ts t none ∙ ap (λ (xs : List MemberTurn). t ∷ xs) s.ts_is;
       turns = (
         record {
-          of_begin = turn_of_begin transition sheet start u (gets_dump c u) dump s.from dump_is;
+          of_begin = turn_of_begin came transition sheet start u (gets_dump c u) dump s.from dump_is;
           dump = λ w kind. dump_is ∙ (all_given c.wants_dump u.has_polled u.dump (wish w) unpolled ∙ s.fresh w (kept_kind u.transition transition u.refusal s.from.refused kind) there);
         },
         s.turns,
@@ -248,10 +249,10 @@ since_fresh wants transition sheet start client past ts u c dump s wish dump_is 
       fresh = λ w refusal is. absurd (gone is);
     }
 
-since_again : (wants : Type 0) (transition : Transition) (sheet : Sheet) (start client : ℕ) (past ts later : List MemberTurn) (u : Underway) (c : Registered) → Since wants transition sheet start client past ts u → later ≡ ts
-    → (wants → IsIn client (drop 1 u.called) → c.wants_dump ≡ false) → Since wants transition sheet start client past later (polled_by c u)
-since_again wants transition sheet start client past ts later u c s same wish = record {
-  from = from_polled transition sheet start u c s.from;
+since_again : (wants : Type 0) (came : RunState) (transition : Transition) (sheet : Sheet) (start client : ℕ) (past ts later : List MemberTurn) (u : Underway) (c : Registered) → Since wants came transition sheet start client past ts u → later ≡ ts
+    → (wants → IsIn client (drop 1 u.called) → c.wants_dump ≡ false) → Since wants came transition sheet start client past later (polled_by c u)
+since_again wants came transition sheet start client past ts later u c s same wish = record {
+  from = from_polled came transition sheet start u c s.from;
   since = s.since;
   ts_is = same ∙ s.ts_is;
   turns = s.turns;
@@ -260,26 +261,26 @@ since_again wants transition sheet start client past ts later u c s same wish = 
   fresh = λ w refusal is. none_taken c.wants_dump u.has_polled u.dump (wish w is) ∙ s.fresh w refusal (to_call_more u.has_polled client u.called is);
 }
 
-since_polled : (wants : Type 0) (transition : Transition) (sheet : Sheet) (start client other : ℕ) (past ts : List MemberTurn) (state : RunState) (number : ℕ) (u : Underway) (c : Registered) (clients : List Registered) (dump : Option (List ℕ))
-    → GaveAt state number client ts (Some u) → Since wants transition sheet start client past ts u → (wants → OnlyWants client clients) → slice_get clients other ≡ Some c → is_next u.called other ≡ true → dump ≡ (if gets_dump c u then u.dump else None)
-    → Since wants transition sheet start client past (if other == client then turn_told ts (turn_from u dump) else ts) (polled_by c u)
-since_polled wants transition sheet start client other past ts state number u c clients dump g s only there front dump_is =
+since_polled : (wants : Type 0) (came : RunState) (transition : Transition) (sheet : Sheet) (start client other : ℕ) (past ts : List MemberTurn) (state : RunState) (number : ℕ) (u : Underway) (c : Registered) (clients : List Registered) (dump : Option (List ℕ))
+    → GaveAt state number client ts (Some u) → Since wants came transition sheet start client past ts u → (wants → OnlyWants client clients) → slice_get clients other ≡ Some c → is_next u.called other ≡ true → dump ≡ (if gets_dump c u then u.dump else None)
+    → Since wants came transition sheet start client past (if other == client then turn_told ts (turn_from u dump) else ts) (polled_by c u)
+since_polled wants came transition sheet start client other past ts state number u c clients dump g s only there front dump_is =
     let t : MemberTurn = turn_from u dump in
     let now : RunsOn state number client ts u = g.now in
-    split (other == client) (λ b. (other == client) ≡ b → Since wants transition sheet start client past (if b then turn_told ts t else ts) (polled_by c u))
+    split (other == client) (λ b. (other == client) ≡ b → Since wants came transition sheet start client past (if b then turn_told ts t else ts) (polled_by c u))
     (λ h e.
     let same : other ≡ client = eqb-true other client e in
     let mine : is_next u.called client ≡ true = subst (λ (n : ℕ). is_next u.called n ≡ true) same front in
     let gone : IsIn client (drop 1 u.called) → ⊥ = front_gone client u.called now.distinct mine in
-    split u.has_polled (λ b. u.has_polled ≡ b → Since wants transition sheet start client past (turn_told ts t) (polled_by c u))
+    split u.has_polled (λ b. u.has_polled ≡ b → Since wants came transition sheet start client past (turn_told ts t) (polled_by c u))
     (λ h' polled.
     let still : OpenFor true u ts = subst (λ (b : Bool). OpenFor b u ts) mine (subst (λ (b : Bool). OpenFor (b && is_next u.called client) u ts) polled now.open_turn) in
-    since_again wants transition sheet start client past ts (turn_told ts t) u c s (ap (λ (x : List MemberTurn). turn_told x t) still.2 ∙ sym still.2) (λ w is. absurd (gone is)))
+    since_again wants came transition sheet start client past ts (turn_told ts t) u c s (ap (λ (x : List MemberTurn). turn_told x t) still.2 ∙ sym still.2) (λ w is. absurd (gone is)))
     (λ h' unpolled.
-    since_fresh wants transition sheet start client past ts u c dump s (λ w. (only w other c there).1 same) dump_is unpolled (front_in client u.called mine)
+    since_fresh wants came transition sheet start client past ts u c dump s (λ w. (only w other c there).1 same) dump_is unpolled (front_in client u.called mine)
     (subst (λ (b : Bool). OpenFor (b && is_next u.called client) u ts) unpolled now.open_turn) gone)
     refl)
-    (λ h e. since_again wants transition sheet start client past ts ts u c s refl (λ w is. not_true c.wants_dump (λ wish. eqb-false other client e ((only w other c there).0 wish))))
+    (λ h e. since_again wants came transition sheet start client past ts ts u c s refl (λ w is. not_true c.wants_dump (λ wish. eqb-false other client e ((only w other c there).0 wish))))
     refl
 
 -- An answer.
@@ -296,10 +297,10 @@ latest_since (x ∷ xs) past rest t unanswered none is =
     record { rest = xs; is = ap (λ (y : MemberTurn). y ∷ xs) same }
 
 -- what the client's answer leaves of the turns since
-record AnsweredSince (wants : Type 0) (transition : Transition) (sheet : Sheet) (start client : ℕ) (past ts : List MemberTurn) (tallies : List ClientTally) (refusal : Option Refusal) (kind : Transition) (answer : ClientAnswer) : Type 0 where
+record AnsweredSince (wants : Type 0) (came : RunState) (transition : Transition) (sheet : Sheet) (start client : ℕ) (past ts : List MemberTurn) (tallies : List ClientTally) (refusal : Option Refusal) (kind : Transition) (answer : ClientAnswer) : Type 0 where
   since : List MemberTurn
   ts_is : ts ≡ since ++ past
-  turns : AllByRecursion (SinceTurn wants transition sheet start) since
+  turns : AllByRecursion (SinceTurn wants came transition sheet start) since
   plain : refusal ≡ None → AllByRecursion (IsOfKind transition) since
   told : AllByRecursion (TellsMine client since) tallies
   latest : MemberTurn
@@ -307,17 +308,17 @@ record AnsweredSince (wants : Type 0) (transition : Transition) (sheet : Sheet) 
   answered : latest.answer ≡ Some answer
   of_kind : latest.transition ≡ kind
 
-answered_since : (wants : Type 0) (transition : Transition) (sheet : Sheet) (start client : ℕ) (past ts : List MemberTurn) (u : Underway) (answer : ClientAnswer) → Since wants transition sheet start client past ts u → NoneOpen past → OpenFor true u ts
-    → AnsweredSince wants transition sheet start client past (turn_answered ts answer) u.tallies u.refusal (turn_of u) answer
-answered_since wants transition sheet start client past ts u answer s none still =
+answered_since : (wants : Type 0) (came : RunState) (transition : Transition) (sheet : Sheet) (start client : ℕ) (past ts : List MemberTurn) (u : Underway) (answer : ClientAnswer) → Since wants came transition sheet start client past ts u → NoneOpen past → OpenFor true u ts
+    → AnsweredSince wants came transition sheet start client past (turn_answered ts answer) u.tallies u.refusal (turn_of u) answer
+answered_since wants came transition sheet start client past ts u answer s none still =
     let t : MemberTurn = turn_from u still.0 in
     let latest : LatestSince s.since t = latest_since s.since past still.1 t refl none (sym s.ts_is ∙ still.2) in
-    let turns : AllByRecursion (SinceTurn wants transition sheet start) (t ∷ latest.rest) = subst (AllByRecursion (SinceTurn wants transition sheet start)) latest.is s.turns in
+    let turns : AllByRecursion (SinceTurn wants came transition sheet start) (t ∷ latest.rest) = subst (AllByRecursion (SinceTurn wants came transition sheet start)) latest.is s.turns in
     let told_so : AllByRecursion (TellsMine client (t ∷ latest.rest)) u.tallies = subst (λ (xs : List MemberTurn). AllByRecursion (TellsMine client xs) u.tallies) latest.is s.told in
     record {
       since = with_answer t answer ∷ latest.rest;
       ts_is = ap (λ (xs : List MemberTurn). turn_answered xs answer) (s.ts_is ∙ ap (λ (xs : List MemberTurn). xs ++ past) latest.is);
-      turns = (record { of_begin = of_begin_answered transition sheet start t answer turns.0.of_begin; dump = turns.0.dump }, turns.1);
+      turns = (record { of_begin = of_begin_answered came transition sheet start t answer turns.0.of_begin; dump = turns.0.dump }, turns.1);
       plain = λ un. let all : AllByRecursion (IsOfKind transition) (t ∷ latest.rest) = subst (AllByRecursion (IsOfKind transition)) latest.is (s.plain un) in (all.0, all.1);
       told = told_weaker client (t ∷ latest.rest) (with_answer t answer ∷ latest.rest) stays u.tallies told_so;
       latest = with_answer t answer;
@@ -332,16 +333,16 @@ answered_since wants transition sheet start client past ts u answer s none still
     stays v a is (inr before) = inr before
 
 -- the turns since, once this client or another answered
-abbrev Behind : (wants : Type 0) → Transition → Sheet → (start client other : ℕ) → (past ts : List MemberTurn) → Underway → ClientAnswer → Type 0
-Behind wants transition sheet start client other past ts u answer = (other ≡ client) × AnsweredSince wants transition sheet start client past ts u.tallies u.refusal (turn_of u) answer ⊎ (other ≢ client) × Since wants transition sheet start client past ts u
+abbrev Behind : (wants : Type 0) → RunState → Transition → Sheet → (start client other : ℕ) → (past ts : List MemberTurn) → Underway → ClientAnswer → Type 0
+Behind wants came transition sheet start client other past ts u answer = (other ≡ client) × AnsweredSince wants came transition sheet start client past ts u.tallies u.refusal (turn_of u) answer ⊎ (other ≢ client) × Since wants came transition sheet start client past ts u
 
 fresh_told : (wants : Type 0) (client : ℕ) (sheet : Sheet) (u : Underway) → u.has_polled ≡ true → (wants → u.refusal ≡ None → IsIn client (to_call u.has_polled u.called) → u.dump ≡ sheet.dump) → wants → u.refusal ≡ None → IsIn client (drop 1 u.called) → u.dump ≡ sheet.dump
 fresh_told wants client sheet u polled fresh w refusal is = fresh w refusal (subst (λ (b : Bool). IsIn client (to_call b u.called)) (sym polled) is)
 
-since_told : (wants : Type 0) (transition : Transition) (sheet : Sheet) (start client other : ℕ) (past ts later : List MemberTurn) (u : Underway) (answer : ClientAnswer) (tally : Tally) → Since wants transition sheet start client past ts u → u.has_polled ≡ true
-    → tally ≡ tally_of answer → (turn_of u ≡ Start → answer ≡ Yes tally) → Behind wants transition sheet start client other past later u answer → Since wants transition sheet start client past later (told other tally u)
-since_told wants transition sheet start client other past ts later u answer tally s polled is accepted (inl (same, a)) = record {
-  from = from_told transition sheet start u other tally s.from;
+since_told : (wants : Type 0) (came : RunState) (transition : Transition) (sheet : Sheet) (start client other : ℕ) (past ts later : List MemberTurn) (u : Underway) (answer : ClientAnswer) (tally : Tally) → Since wants came transition sheet start client past ts u → u.has_polled ≡ true
+    → tally ≡ tally_of answer → (turn_of u ≡ Start → answer ≡ Yes tally) → Behind wants came transition sheet start client other past later u answer → Since wants came transition sheet start client past later (told other tally u)
+since_told wants came transition sheet start client other past ts later u answer tally s polled is accepted (inl (same, a)) = record {
+  from = from_told came transition sheet start u other tally s.from;
   since = a.since;
   ts_is = a.ts_is;
   turns = a.turns;
@@ -350,8 +351,8 @@ since_told wants transition sheet start client other past ts later u answer tall
       (λ mine. record { turn = a.latest; stands = a.stands; answer = answer; answered = a.answered; tally_is = is; accepted = λ starts. accepted (sym a.of_kind ∙ starts) });
   fresh = fresh_told wants client sheet u polled s.fresh;
 }
-since_told wants transition sheet start client other past ts later u answer tally s polled is accepted (inr (differs, b)) = record {
-  from = from_told transition sheet start u other tally s.from;
+since_told wants came transition sheet start client other past ts later u answer tally s polled is accepted (inr (differs, b)) = record {
+  from = from_told came transition sheet start u other tally s.from;
   since = b.since;
   ts_is = b.ts_is;
   turns = b.turns;
@@ -360,102 +361,102 @@ since_told wants transition sheet start client other past ts later u answer tall
   fresh = fresh_told wants client sheet u polled s.fresh;
 }
 
-since_refused : (wants : Type 0) (transition : Transition) (sheet : Sheet) (start client other : ℕ) (past ts later : List MemberTurn) (u : Underway) (clients : List Registered) (answer : ClientAnswer) (why : Why) → Since wants transition sheet start client past ts u
-    → is_start (turn_of u) ≡ true → Behind wants transition sheet start client other past later u answer → Since wants transition sheet start client past later (refused_by clients other why u)
-since_refused wants transition sheet start client other past ts later u clients answer why s starts (inl (same, a)) =
-    record { from = from_refused transition sheet start u clients other why starts s.from; since = a.since; ts_is = a.ts_is; turns = a.turns; plain = λ un. absurd (cc (un)); told = a.told; fresh = λ w refusal is. absurd (cc (refusal)) }
-since_refused wants transition sheet start client other past ts later u clients answer why s starts (inr (differs, b)) =
-    record { from = from_refused transition sheet start u clients other why starts s.from; since = b.since; ts_is = b.ts_is; turns = b.turns; plain = λ un. absurd (cc (un)); told = b.told; fresh = λ w refusal is. absurd (cc (refusal)) }
+since_refused : (wants : Type 0) (came : RunState) (transition : Transition) (sheet : Sheet) (start client other : ℕ) (past ts later : List MemberTurn) (u : Underway) (clients : List Registered) (answer : ClientAnswer) (why : Why) → Since wants came transition sheet start client past ts u
+    → is_start (turn_of u) ≡ true → Behind wants came transition sheet start client other past later u answer → Since wants came transition sheet start client past later (refused_by clients other why u)
+since_refused wants came transition sheet start client other past ts later u clients answer why s starts (inl (same, a)) =
+    record { from = from_refused came transition sheet start u clients other why starts s.from; since = a.since; ts_is = a.ts_is; turns = a.turns; plain = λ un. absurd (cc (un)); told = a.told; fresh = λ w refusal is. absurd (cc (refusal)) }
+since_refused wants came transition sheet start client other past ts later u clients answer why s starts (inr (differs, b)) =
+    record { from = from_refused came transition sheet start u clients other why starts s.from; since = b.since; ts_is = b.ts_is; turns = b.turns; plain = λ un. absurd (cc (un)); told = b.told; fresh = λ w refusal is. absurd (cc (refusal)) }
 
 not_start : (k : Transition) (answer : ClientAnswer) (tally : Tally) → is_start k ≡ false → k ≡ Start → answer ≡ Yes tally
 not_start k answer tally not starts = absurd (let e : is_start Start ≡ false = ap is_start (sym starts) ∙ not in cc (e))
 
-since_by : (wants : Type 0) (transition : Transition) (sheet : Sheet) (start client other : ℕ) (past ts later : List MemberTurn) (u : Underway) (clients : List Registered) (answer : ClientAnswer) → Since wants transition sheet start client past ts u → u.has_polled ≡ true
-    → Behind wants transition sheet start client other past later u answer → Since wants transition sheet start client past later (answered_by clients other answer u)
-since_by wants transition sheet start client other past ts later u clients (Yes tally) s polled behind = since_told wants transition sheet start client other past ts later u (Yes tally) tally s polled refl (λ starts. refl) behind
-since_by wants transition sheet start client other past ts later u clients (No why) s polled behind =
-    split (is_start (turn_of u)) (λ b. is_start (turn_of u) ≡ b → Since wants transition sheet start client past later (if b then refused_by clients other why u else told other Plain u))
-    (λ h e. since_refused wants transition sheet start client other past ts later u clients (No why) why s e behind)
-    (λ h e. since_told wants transition sheet start client other past ts later u (No why) Plain s polled refl (not_start (turn_of u) (No why) Plain e) behind)
+since_by : (wants : Type 0) (came : RunState) (transition : Transition) (sheet : Sheet) (start client other : ℕ) (past ts later : List MemberTurn) (u : Underway) (clients : List Registered) (answer : ClientAnswer) → Since wants came transition sheet start client past ts u → u.has_polled ≡ true
+    → Behind wants came transition sheet start client other past later u answer → Since wants came transition sheet start client past later (answered_by clients other answer u)
+since_by wants came transition sheet start client other past ts later u clients (Yes tally) s polled behind = since_told wants came transition sheet start client other past ts later u (Yes tally) tally s polled refl (λ starts. refl) behind
+since_by wants came transition sheet start client other past ts later u clients (No why) s polled behind =
+    split (is_start (turn_of u)) (λ b. is_start (turn_of u) ≡ b → Since wants came transition sheet start client past later (if b then refused_by clients other why u else told other Plain u))
+    (λ h e. since_refused wants came transition sheet start client other past ts later u clients (No why) why s e behind)
+    (λ h e. since_told wants came transition sheet start client other past ts later u (No why) Plain s polled refl (not_start (turn_of u) (No why) Plain e) behind)
     refl
 
-since_answered : (wants : Type 0) (transition : Transition) (sheet : Sheet) (start client other : ℕ) (past ts : List MemberTurn) (state : RunState) (number : ℕ) (u : Underway) (clients : List Registered) (answer : ClientAnswer)
-    → GaveAt state number client ts (Some u) → Since wants transition sheet start client past ts u → NoneOpen past → u.has_polled ≡ true → is_next u.called other ≡ true
-    → Since wants transition sheet start client past (if other == client then turn_answered ts answer else ts) (answered_by clients other answer u)
-since_answered wants transition sheet start client other past ts state number u clients answer g s none polled front =
+since_answered : (wants : Type 0) (came : RunState) (transition : Transition) (sheet : Sheet) (start client other : ℕ) (past ts : List MemberTurn) (state : RunState) (number : ℕ) (u : Underway) (clients : List Registered) (answer : ClientAnswer)
+    → GaveAt state number client ts (Some u) → Since wants came transition sheet start client past ts u → NoneOpen past → u.has_polled ≡ true → is_next u.called other ≡ true
+    → Since wants came transition sheet start client past (if other == client then turn_answered ts answer else ts) (answered_by clients other answer u)
+since_answered wants came transition sheet start client other past ts state number u clients answer g s none polled front =
     let now : RunsOn state number client ts u = g.now in
-    split (other == client) (λ b. (other == client) ≡ b → Since wants transition sheet start client past (if b then turn_answered ts answer else ts) (answered_by clients other answer u))
+    split (other == client) (λ b. (other == client) ≡ b → Since wants came transition sheet start client past (if b then turn_answered ts answer else ts) (answered_by clients other answer u))
     (λ h e.
     let same : other ≡ client = eqb-true other client e in
     let mine : is_next u.called client ≡ true = subst (λ (n : ℕ). is_next u.called n ≡ true) same front in
     let still : OpenFor true u ts = subst (λ (b : Bool). OpenFor b u ts) mine (subst (λ (b : Bool). OpenFor (b && is_next u.called client) u ts) polled now.open_turn) in
-    since_by wants transition sheet start client other past ts (turn_answered ts answer) u clients answer s polled (inl (same, answered_since wants transition sheet start client past ts u answer s none still)))
-    (λ h e. since_by wants transition sheet start client other past ts ts u clients answer s polled (inr (eqb-false other client e, s)))
+    since_by wants came transition sheet start client other past ts (turn_answered ts answer) u clients answer s polled (inl (same, answered_since wants came transition sheet start client past ts u answer s none still)))
+    (λ h e. since_by wants came transition sheet start client other past ts ts u clients answer s polled (inr (eqb-false other client e, s)))
     refl
 
 -- One call.
 
-record Goes (wants : Type 0) (transition : Transition) (sheet : Sheet) (start client : ℕ) (past ts : List MemberTurn) (s : EngineState) : Type 0 where
+record Goes (wants : Type 0) (came : RunState) (transition : Transition) (sheet : Sheet) (start client : ℕ) (past ts : List MemberTurn) (s : EngineState) : Type 0 where
   u : Underway
   underway_is : s.underway ≡ Some u
   only : wants → OnlyWants client s.clients
-  since : Since wants transition sheet start client past ts u
+  since : Since wants came transition sheet start client past ts u
 
 pub same_underway : (s : EngineState) (u v : Underway) → s.underway ≡ Some u → s.underway ≡ Some v → u ≡ v
 same_underway s u v one other = let both : Some u ≡ Some v = sym one ∙ other in cc (both)
 
-goes_step : (wants : Type 0) (transition : Transition) (sheet : Sheet) (start client : ℕ) (past ts : List MemberTurn) (s : EngineState) (e : EngineEntry) → Gave s client ts → NoneOpen past → is_mark e ≡ false → IsEngineReply s e
-    → Goes wants transition sheet start client past ts s → Goes wants transition sheet start client past (turns_with client ts e) (engine_after s e)
-goes_step wants transition sheet start client past ts s (Register name sequences dump report (Ok n)) g none mark reply goes =
+goes_step : (wants : Type 0) (came : RunState) (transition : Transition) (sheet : Sheet) (start client : ℕ) (past ts : List MemberTurn) (s : EngineState) (e : EngineEntry) → Gave s client ts → NoneOpen past → is_mark e ≡ false → IsEngineReply s e
+    → Goes wants came transition sheet start client past ts s → Goes wants came transition sheet start client past (turns_with client ts e) (engine_after s e)
+goes_step wants came transition sheet start client past ts s (Register name sequences dump report (Ok n)) g none mark reply goes =
     absurd (let never : None ≡ Some goes.u = sym (register_number s n reply).0 ∙ goes.underway_is in cc (never))
-goes_step wants transition sheet start client past ts s (Begin t sheet' (Ok n)) g none mark reply goes = absurd (cc (mark))
-goes_step wants transition sheet start client past ts s (Check (Done outcome) tallies) g none mark reply goes = absurd (cc (mark))
-goes_step wants transition sheet start client past ts s (Poll other (Turn turn order dump blank)) g none mark reply goes =
+goes_step wants came transition sheet start client past ts s (Begin t sheet' (Ok n)) g none mark reply goes = absurd (cc (mark))
+goes_step wants came transition sheet start client past ts s (Check (Done outcome) tallies) g none mark reply goes = absurd (cc (mark))
+goes_step wants came transition sheet start client past ts s (Poll other (Turn turn order dump blank)) g none mark reply goes =
     let p : GivesTurn s other turn order dump = gives_turn s other turn order dump blank reply in
     let told_so : MemberTurn = record { transition = turn; order = order; dump = dump; answer = None } in
     let same : turn_from p.u dump ≡ told_so = ap (λ (k : Transition). record { transition = k; order = p.u.order; dump = dump; answer = None }) (sym p.turn_is) ∙ ap (λ (o : Order). record { transition = turn; order = o; dump = dump; answer = None }) (sym p.order_is) in
-    let since : Since wants transition sheet start client past ts p.u = subst (Since wants transition sheet start client past ts) (same_underway s goes.u p.u goes.underway_is p.underway_is) goes.since in
+    let since : Since wants came transition sheet start client past ts p.u = subst (Since wants came transition sheet start client past ts) (same_underway s goes.u p.u goes.underway_is p.underway_is) goes.since in
     let at : GaveAt s.state s.start client ts (Some p.u) = subst (GaveAt s.state s.start client ts) p.underway_is g in
     record {
       u = polled_by p.c p.u;
       underway_is = polled_underway s other p.c p.u p.client_is p.underway_is;
       only = λ w. subst (OnlyWants client) (sym (polled_clients s other turn order dump p)) (goes.only w);
-      since = subst (λ (x : MemberTurn). Since wants transition sheet start client past (if other == client then turn_told ts x else ts) (polled_by p.c p.u)) same
-          (since_polled wants transition sheet start client other past ts s.state s.start p.u p.c s.clients dump at since goes.only p.client_is p.front p.dump_is);
+      since = subst (λ (x : MemberTurn). Since wants came transition sheet start client past (if other == client then turn_told ts x else ts) (polled_by p.c p.u)) same
+          (since_polled wants came transition sheet start client other past ts s.state s.start p.u p.c s.clients dump at since goes.only p.client_is p.front p.dump_is);
     }
-goes_step wants transition sheet start client past ts s (Answer other answer (Ok done)) g none mark reply goes =
+goes_step wants came transition sheet start client past ts s (Answer other answer (Ok done)) g none mark reply goes =
     let o : Owes s other = owes s other done reply in
-    let since : Since wants transition sheet start client past ts o.u = subst (Since wants transition sheet start client past ts) (same_underway s goes.u o.u goes.underway_is o.underway_is) goes.since in
+    let since : Since wants came transition sheet start client past ts o.u = subst (Since wants came transition sheet start client past ts) (same_underway s goes.u o.u goes.underway_is o.underway_is) goes.since in
     let at : GaveAt s.state s.start client ts (Some o.u) = subst (GaveAt s.state s.start client ts) o.underway_is g in
     record {
       u = answered_by s.clients other answer o.u;
       underway_is = answered_underway s other answer o.u o.underway_is;
       only = λ w. subst (OnlyWants client) (sym (answered_clients s other answer s.underway)) (goes.only w);
-      since = since_answered wants transition sheet start client other past ts s.state s.start o.u s.clients answer at since none o.polled o.front;
+      since = since_answered wants came transition sheet start client other past ts s.state s.start o.u s.clients answer at since none o.polled o.front;
     }
-goes_step wants transition sheet start client past ts s (Answer other answer (Err r)) g none mark reply goes =
-    subst (λ (x : List MemberTurn). Goes wants transition sheet start client past x s) (sym (gave_unaccepted s client other ts answer g (owes_none s other r reply))) goes
-goes_step wants transition sheet start client past ts s (Close (Ok done)) g none mark reply goes = record { u = goes.u; underway_is = goes.underway_is; only = goes.only; since = goes.since }
-goes_step wants transition sheet start client past ts s (Register name sequences dump report (Err r)) g none mark reply goes = goes
-goes_step wants transition sheet start client past ts s (Begin t sheet' (Err r)) g none mark reply goes = goes
-goes_step wants transition sheet start client past ts s (Poll other (Idle state)) g none mark reply goes = goes
-goes_step wants transition sheet start client past ts s (Poll other PollClosed) g none mark reply goes = goes
-goes_step wants transition sheet start client past ts s (Poll other NoClient) g none mark reply goes = goes
-goes_step wants transition sheet start client past ts s (Check Going tallies) g none mark reply goes = goes
-goes_step wants transition sheet start client past ts s (Check NoneGoing tallies) g none mark reply goes = goes
-goes_step wants transition sheet start client past ts s (Close (Err r)) g none mark reply goes = goes
+goes_step wants came transition sheet start client past ts s (Answer other answer (Err r)) g none mark reply goes =
+    subst (λ (x : List MemberTurn). Goes wants came transition sheet start client past x s) (sym (gave_unaccepted s client other ts answer g (owes_none s other r reply))) goes
+goes_step wants came transition sheet start client past ts s (Close (Ok done)) g none mark reply goes = record { u = goes.u; underway_is = goes.underway_is; only = goes.only; since = goes.since }
+goes_step wants came transition sheet start client past ts s (Register name sequences dump report (Err r)) g none mark reply goes = goes
+goes_step wants came transition sheet start client past ts s (Begin t sheet' (Err r)) g none mark reply goes = goes
+goes_step wants came transition sheet start client past ts s (Poll other (Idle state)) g none mark reply goes = goes
+goes_step wants came transition sheet start client past ts s (Poll other PollClosed) g none mark reply goes = goes
+goes_step wants came transition sheet start client past ts s (Poll other NoClient) g none mark reply goes = goes
+goes_step wants came transition sheet start client past ts s (Check Going tallies) g none mark reply goes = goes
+goes_step wants came transition sheet start client past ts s (Check NoneGoing tallies) g none mark reply goes = goes
+goes_step wants came transition sheet start client past ts s (Close (Err r)) g none mark reply goes = goes
 
-goes_all : (lists : CalledLists) (wants : Type 0) (transition : Transition) (sheet : Sheet) (start by client : ℕ) (past ts : List MemberTurn) (s : EngineState) (h : EngineHistory) → IsLegalEngine s h → SpeaksFor by client h → HasNoMark h → NoneOpen past → Gave s client ts
-    → Goes wants transition sheet start client past ts s → Goes wants transition sheet start client past (fold (turns_with client) ts (entries_by by h)) (engine_replay s h)
-goes_all lists wants transition sheet start by client past ts s [] legal alone marks none g goes = goes
-goes_all lists wants transition sheet start by client past ts s (x ∷ h) legal alone marks none g goes =
+goes_all : (lists : CalledLists) (wants : Type 0) (came : RunState) (transition : Transition) (sheet : Sheet) (start by client : ℕ) (past ts : List MemberTurn) (s : EngineState) (h : EngineHistory) → IsLegalEngine s h → SpeaksFor by client h → HasNoMark h → NoneOpen past → Gave s client ts
+    → Goes wants came transition sheet start client past ts s → Goes wants came transition sheet start client past (fold (turns_with client) ts (entries_by by h)) (engine_replay s h)
+goes_all lists wants came transition sheet start by client past ts s [] legal alone marks none g goes = goes
+goes_all lists wants came transition sheet start by client past ts s (x ∷ h) legal alone marks none g goes =
     let next : Gave (engine_after s x.1) client (turns_with client ts x.1) = gave_step lists s client ts x.1 g legal.1 in
-    let goes_next : Goes wants transition sheet start client past (turns_with client ts x.1) (engine_after s x.1) = goes_step wants transition sheet start client past ts s x.1 g none marks.0 legal.1 goes in
-    own_or_other by client x h (λ es. Goes wants transition sheet start client past (fold (turns_with client) ts es) (engine_replay (engine_after s x.1) h)) alone.0
-    (goes_all lists wants transition sheet start by client past (turns_with client ts x.1) (engine_after s x.1) h legal.2 alone.1 marks.1 none next goes_next)
+    let goes_next : Goes wants came transition sheet start client past (turns_with client ts x.1) (engine_after s x.1) = goes_step wants came transition sheet start client past ts s x.1 g none marks.0 legal.1 goes in
+    own_or_other by client x h (λ es. Goes wants came transition sheet start client past (fold (turns_with client) ts es) (engine_replay (engine_after s x.1) h)) alone.0
+    (goes_all lists wants came transition sheet start by client past (turns_with client ts x.1) (engine_after s x.1) h legal.2 alone.1 marks.1 none next goes_next)
     (λ not. let same : turns_with client ts x.1 ≡ ts = other_step s client ts x.1 g legal.1 not in
-    goes_all lists wants transition sheet start by client past ts (engine_after s x.1) h legal.2 alone.1 marks.1 none (subst (Gave (engine_after s x.1) client) same next)
-    (subst (λ (y : List MemberTurn). Goes wants transition sheet start client past y (engine_after s x.1)) same goes_next))
+    goes_all lists wants came transition sheet start by client past ts (engine_after s x.1) h legal.2 alone.1 marks.1 none (subst (Gave (engine_after s x.1) client) same next)
+    (subst (λ (y : List MemberTurn). Goes wants came transition sheet start client past y (engine_after s x.1)) same goes_next))
 
 pub unrefused : (r : Option Refusal) → Completed ≡ outcome_of r → r ≡ None
 unrefused None e = refl
@@ -463,12 +464,13 @@ unrefused (Some refusal) e = absurd (cc (e))
 
 -- From the begin to the Done.
 
-goes_begun : (wants : Type 0) (client : ℕ) (ts : List MemberTurn) (s : EngineState) (t : Transition) (sheet : Sheet) (n : ℕ) → Begins s t n → (wants → OnlyWants client s.clients) → Goes wants t sheet n client ts ts (engine_after s (Begin t sheet (Ok n)))
-goes_begun wants client ts s t sheet n b only = record {
+goes_begun : (wants : Type 0) (came : RunState) (client : ℕ) (ts : List MemberTurn) (s : EngineState) (t : Transition) (sheet : Sheet) (n : ℕ) → s.state ≡ came → Begins s t n → (wants → OnlyWants client s.clients)
+    → Goes wants came t sheet n client ts ts (engine_after s (Begin t sheet (Ok n)))
+goes_begun wants came client ts s t sheet n is b only = record {
   u = begun s t sheet n;
   underway_is = refl;
   only = only;
-  since = record { from = from_begun s t sheet n b.allowed; since = []; ts_is = refl; turns = tt; plain = λ un. tt; told = tt; fresh = λ w refusal is. refl };
+  since = record { from = from_begun came s t sheet n is b.allowed; since = []; ts_is = refl; turns = tt; plain = λ un. tt; told = tt; fresh = λ w refusal is'. refl };
 }
 
 -- the turns of the caller's calls in two parts
@@ -486,14 +488,14 @@ at_turn P t (x ∷ xs) all (inl same) = subst P same all.0
 at_turn P t (x ∷ xs) all (inr before) = at_turn P t xs all.1 before
 
 -- what the Done tells, and that it is still so at the history's end
-tally_told : (wants : Type 0) (transition : Transition) (sheet : Sheet) (start by client : ℕ) (past ts : List MemberTurn) (s : EngineState) (closer : ℕ) (outcome : StartOutcome) (tallies : List ClientTally) (later : EngineHistory) (index : ℕ) (tally : Tally)
-    → Goes wants transition sheet start client past ts s → IsEngineReply s (Check (Done outcome) tallies) → slice_get tallies index ≡ Some (record { client = client; tally = tally })
-    → (history : EngineHistory) → (OneWantsDump client history → wants) → IsTallyOfTurn history client (fold (turns_with client) ts (entries_by by ((closer, Check (Done outcome) tallies) ∷ later))) transition sheet start outcome tally
-tally_told wants transition sheet start by client past ts s closer outcome tallies later index tally goes reply at history wish =
+tally_told : (wants : Type 0) (came : RunState) (transition : Transition) (sheet : Sheet) (start by client : ℕ) (past ts : List MemberTurn) (s : EngineState) (closer : ℕ) (outcome : StartOutcome) (tallies : List ClientTally) (later : EngineHistory) (index : ℕ) (tally : Tally)
+    → Goes wants came transition sheet start client past ts s → IsEngineReply s (Check (Done outcome) tallies) → slice_get tallies index ≡ Some (record { client = client; tally = tally })
+    → (history : EngineHistory) → (OneWantsDump client history → wants) → IsTallyOfTurn history client (fold (turns_with client) ts (entries_by by ((closer, Check (Done outcome) tallies) ∷ later))) came transition sheet start outcome tally
+tally_told wants came transition sheet start by client past ts s closer outcome tallies later index tally goes reply at history wish =
     let told_so : tallies ≡ goes.u.tallies = reply.1 ∙ (ap (λ (p : Progress). tallies_in p s.underway) (sym reply.0) ∙ ap (tallies_in (Done outcome)) goes.underway_is) in
     let mine : IsTold goes.since.since tally =
     all_at (TellsMine client goes.since.since) goes.u.tallies index (record { client = client; tally = tally }) goes.since.told (subst (λ (xs : List ClientTally). slice_get xs index ≡ Some (record { client = client; tally = tally })) told_so at) refl in
-    let turn : SinceTurn wants transition sheet start mine.turn = at_turn (SinceTurn wants transition sheet start) mine.turn goes.since.since goes.since.turns mine.stands in
+    let turn : SinceTurn wants came transition sheet start mine.turn = at_turn (SinceTurn wants came transition sheet start) mine.turn goes.since.since goes.since.turns mine.stands in
     let there : HasTurn ts mine.turn = subst (λ (xs : List MemberTurn). HasTurn xs mine.turn) (sym goes.since.ts_is) (has_front goes.since.since past mine.turn mine.stands) in
     record {
       turn = mine.turn;
@@ -517,9 +519,10 @@ rests_none client ts s free g = (subst (StandsAt s.state s.start client ts) free
 opening_wants : (client : ℕ) → OnlyWants client []
 opening_wants client = λ other c at. absurd (cc (at))
 
-pub tallies_are_answers : CalledLists → TalliesAreAnswers
-tallies_are_answers lists by client history legal alone transition sheet start outcome tallies has index tally at =
+pub tallies_are_answers : Follows → CalledLists → TalliesAreAnswers
+tallies_are_answers follows lists by client history legal alone transition sheet start outcome tallies has index tally at =
     let wants : Type 0 = OneWantsDump client has.earlier in
+    let came : RunState = state_at (engine_past has.earlier) in
     let begin : ℕ × EngineEntry = (has.opener, Begin transition sheet (Ok start)) in
     let done : ℕ × EngineEntry = (has.closer, Check (Done outcome) tallies) in
     let rest : EngineHistory = has.between ++ done ∷ has.later in
@@ -534,15 +537,15 @@ tallies_are_answers lists by client history legal alone transition sheet start o
     let b : Begins s1 transition start = begins s1 transition start first.1.1 in
     let g2 : Gave s2 client ts1 = gave_step lists s1 client ts1 begin.1 g1 first.1.1 in
     let none : NoneOpen ts1 = rests_none client ts1 s1 b.free g1 in
-    let goes2 : Goes wants transition sheet start client ts1 ts1 s2 = goes_begun wants client ts1 s1 transition sheet start b (λ w. wants_all client engine_opening has.earlier first.0 w (opening_wants client)) in
+    let goes2 : Goes wants came transition sheet start client ts1 ts1 s2 = goes_begun wants came client ts1 s1 transition sheet start (state_told follows has.earlier first.0 has.opener transition sheet start first.1.0 first.1.1) b (λ w. wants_all client engine_opening has.earlier first.0 w (opening_wants client)) in
     let ts3 : List MemberTurn = fold (turns_with client) ts1 (entries_by by has.between) in
-    let goes3 : Goes wants transition sheet start client ts1 ts3 (engine_replay s2 has.between) = goes_all lists wants transition sheet start by client ts1 ts1 s2 has.between second.0 speaks_later.0 has.on none g2 goes2 in
+    let goes3 : Goes wants came transition sheet start client ts1 ts3 (engine_replay s2 has.between) = goes_all lists wants came transition sheet start by client ts1 ts1 s2 has.between second.0 speaks_later.0 has.on none g2 goes2 in
     let turns : List MemberTurn = member_turns client (entries_by by history) in
     let turns_are : turns ≡ fold (turns_with client) ts3 (entries_by by (done ∷ has.later)) =
     ap (λ (h : EngineHistory). member_turns client (entries_by by h)) has.whole
     ∙ (turns_apart by client [] has.earlier (begin ∷ rest) ∙ (turns_begin by client ts1 has.opener transition sheet start rest ∙ turns_apart by client ts1 has.between (done ∷ has.later))) in
-    subst (λ (xs : List MemberTurn). IsTallyOfTurn history client xs transition sheet start outcome tally) (sym turns_are)
-    (tally_told wants transition sheet start by client ts1 ts3 (engine_replay s2 has.between) has.closer outcome tallies has.later index tally goes3 second.1.1 at history
+    subst (λ (xs : List MemberTurn). IsTallyOfTurn history client xs came transition sheet start outcome tally) (sym turns_are)
+    (tally_told wants came transition sheet start by client ts1 ts3 (engine_replay s2 has.between) has.closer outcome tallies has.later index tally goes3 second.1.1 at history
     (λ one. all_front (WantsAlone client) has.earlier (begin ∷ rest) (subst (OneWantsDump client) has.whole one)))
 
 -- Which begin.
@@ -569,4 +572,5 @@ dones_have_begins belong before after caller outcome tallies legal =
         whole = ap (λ (h : EngineHistory). h ++ done ∷ after) w.stands ∙ append_assoc w.earlier ((w.caller, Begin it.0 w.sheet (Ok w.start)) ∷ w.later) (done ∷ after);
         on = w.on;
       },
+      w.stands,
     )

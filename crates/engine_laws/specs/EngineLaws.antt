@@ -1,5 +1,5 @@
 -- What the history of an engine tells of the turns of one client: statements of the laws.
-use Rattle.std.specs.Prelude.{◌≡◌, ◌≢◌, ℕ, List, ◌∷◌, ◌++◌, slice_get, Some}
+use Rattle.std.specs.Prelude.{◌≡◌, ◌≢◌, ℕ, List, ◌∷◌, ◌++◌, slice_get, Some, Ok}
 use Rattle.daq_types.specs.Callers.{entries_by}
 use Rattle.daq_types.specs.declared.runs.RunState.TheVariants.{Stopped}
 use Rattle.daq_types.specs.declared.runs.Transition.{Transition}
@@ -9,8 +9,9 @@ use Rattle.transitions.specs.declared.sheet.Sheet.{Sheet}
 use Rattle.transitions.specs.declared.answers.Tally.{Tally}
 use Rattle.transitions.specs.declared.answers.ClientTally.{ClientTally}
 use Rattle.transitions.specs.declared.replies.Progress.TheVariants.{Done}
-use Rattle.transitions.specs.declared.entry.EngineEntry.TheVariants.{Check}
+use Rattle.transitions.specs.declared.entry.EngineEntry.TheVariants.{Begin, Check}
 use Rattle.transitions.specs.Engines.{engine_opening}
+use Rattle.transitions.specs.EnginePoints.{engine_past, state_at}
 use Rattle.transitions.specs.EngineHistories.{EngineHistory, IsLegalEngine}
 use Rattle.transitions.specs.GivenTurns.{SpeaksFor}
 use Rattle.member_model.specs.Turns.{MemberTurn, HasTurn, AreEngineTurns}
@@ -45,21 +46,24 @@ StopsFromRun = (by client : ℕ) → (history : EngineHistory) →
     (turn : MemberTurn) → HasTurn (member_turns client (entries_by by history)) turn →
     turn.transition ≡ Stop → turn.order.from ≢ Stopped
 
--- Each Done belongs to the transition that was begun last before it.
+-- Each Done belongs to the transition that was begun last before it: this very Done ends it, and the calls before that are
+-- those up to the begin, the begin, and those between.
 abbrev pub DonesHaveBegins : Type 0
 DonesHaveBegins = (before after : EngineHistory) → (caller : ℕ) → (outcome : StartOutcome) → (tallies : List ClientTally) →
     IsLegalEngine engine_opening (before ++ (caller, Check (Done outcome) tallies) ∷ after) →
     (transition : Transition) × (sheet : Sheet) × (start : ℕ) ×
-    HasTransition (before ++ (caller, Check (Done outcome) tallies) ∷ after) transition sheet start outcome tallies
+    (has : HasTransition (before ++ (caller, Check (Done outcome) tallies) ∷ after) transition sheet start outcome tallies) ×
+    (before ≡ has.earlier ++ (has.opener, Begin transition sheet (Ok start)) ∷ has.between)
 
 -- Each tally of a client in a Done is what its caller answered to the client's turn of that transition.
 abbrev pub TalliesAreAnswers : Type 0
 TalliesAreAnswers = (by client : ℕ) → (history : EngineHistory) →
     IsLegalEngine engine_opening history → SpeaksFor by client history →
     (transition : Transition) → (sheet : Sheet) → (start : ℕ) → (outcome : StartOutcome) → (tallies : List ClientTally) →
-    HasTransition history transition sheet start outcome tallies →
+    (has : HasTransition history transition sheet start outcome tallies) →
     (index : ℕ) → (tally : Tally) → slice_get tallies index ≡ Some (record { client = client; tally = tally }) →
-    IsTallyOfTurn history client (member_turns client (entries_by by history)) transition sheet start outcome tally
+    IsTallyOfTurn history client (member_turns client (entries_by by history)) (state_at (engine_past has.earlier))
+    transition sheet start outcome tally
 
 -- Where a transition was not refused, each client that is called for it has a tally in its Done.
 abbrev pub CalledAreTold : Type 0

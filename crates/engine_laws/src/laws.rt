@@ -12,14 +12,15 @@ pub fn gives_turns()
     laws::called_in_order();
 }
 
-/// Each of these turns is one of a transition that was begun in the history, with its order and at most its dump: a start from
-/// the stopped state, a stop from another.
+/// Each of these turns is one of a transition that was begun in the history, with its order, the state that the history tells
+/// there, and at most its dump: a start from the stopped state, a stop from another.
 pub fn turns_begun()
     ensures begun { TurnsWereBegun }
     ensures starts { StartsFromStopped }
     ensures stops { StopsFromRun }
 {
     laws::called_in_order();
+    laws::follows();
 }
 
 /// Each Done belongs to the begin before it, and each tally of a client in it is what its caller answered to the client's turn
@@ -29,6 +30,7 @@ pub fn tallies_answered()
     ensures tallies { TalliesAreAnswers }
 {
     laws::called_in_order();
+    laws::follows();
     laws::tallies_belong();
 }
 

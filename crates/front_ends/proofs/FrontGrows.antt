@@ -17,13 +17,13 @@ use Rattle.buffer_core.specs.declared.entry.BufferEntry.TheVariants.{SendInRun}
 use Rattle.transitions.specs.declared.answers.Answer.{Answer}
 use Rattle.transitions.specs.declared.answers.Answer.TheVariants.{Yes, No}
 use Rattle.transitions.specs.declared.answers.Tally.TheVariants.{Plain, Front}
-use Rattle.member_model.specs.Turns.{MemberTurn, HasTurnOf, IsNewStart, IsNextTurn, IsAnswered, NoneOpen, AreEngineTurns}
+use Rattle.member_model.specs.Turns.{MemberTurn, IsAcceptedStart, HasTurnOf, IsNewStart, IsNextTurn, IsAnswered, NoneOpen, AreEngineTurns}
 use Rattle.member_model.specs.TurnLaws.{HasTurnOf-more, HasTurnOf-earlier}
 use Rattle.member_model.specs.SentCalls.{sent_by, own_sent}
 use Rattle.member_model.specs.SentLaws.{own_sent-push, WasSpent-push}
 use Rattle.front_ends.specs.declared.front_run.FrontRun.{FrontRun}
 use Rattle.front_ends.specs.Fronts.{ended_with, is_from_pause, paused_run}
-use Rattle.front_ends.specs.FrontKept.{made_events, IsMade, IsAcceptedStart, IsNextCall, AreNextSends, StopsTold, EndedSo, IsFrontTally, KeepsFront, IsWaiting, IsSpentSo, NoStopAnswered, TakesPart}
+use Rattle.front_ends.specs.FrontKept.{made_events, IsMade, IsNextCall, AreNextSends, StopsTold, EndedSo, IsFrontTally, KeepsFront, IsWaiting, IsSpentSo, NoStopAnswered, TakesPart}
 
 pub length-made_events : (makes : Order → ℕ → Event) (order : Order) (n : ℕ) → length (made_events makes order n) ≡ n
 length-made_events makes order zero = refl
@@ -99,13 +99,17 @@ stops_more turns t are told tells start begin stop answer accepted stops is = el
   ]
 ]
 
+-- of an answered turn
+pub same_answer : {a b : Answer} → Some a ≡ Some b → a ≡ b
+same_answer e = cc (e)
+
 pub keeps_more : (takes : Order → Bool) (makes : Order → ℕ → Event) (own : List BufferEntry) (turns : List MemberTurn) (t : MemberTurn) → KeepsFront takes makes own turns → TellsRight own turns t → AnswersStart takes t → TellsTally turns t
     → KeepsFront takes makes own (t ∷ turns)
 keeps_more takes makes own turns t keeps right starts tells = record {
   only_sends = keeps.only_sends;
-  starts = λ u stands is. elim stands as (λ w. u.answer ≡ Some (if takes u.order then Yes Plain else No NotReady)) [
-    | inl same ↦ subst (AnswersStart takes) same starts is
-    | inr before ↦ keeps.starts u before is
+  starts = λ u answer stands is told. elim stands as (λ w. answer ≡ (if takes u.order then Yes Plain else No NotReady)) [
+    | inl same ↦ same_answer (sym told ∙ subst (AnswersStart takes) same starts is)
+    | inr before ↦ keeps.starts u answer before is told
   ];
   sends = λ are. sends_turns makes turns (t ∷ turns) (λ start u is. HasTurnOf-more t is) [] own (keeps.sends are.1);
   stops = λ are. stops_more turns t are (keeps.stops are.1) tells;

@@ -14,11 +14,11 @@ use Rattle.buffer_core.specs.declared.entry.BufferEntry.{BufferEntry}
 use Rattle.transitions.specs.declared.answers.Answer.{Answer}
 use Rattle.transitions.specs.declared.answers.Answer.TheVariants.{Yes, No}
 use Rattle.transitions.specs.declared.answers.Tally.TheVariants.{Plain, Front}
-use Rattle.member_model.specs.Turns.{MemberTurn, HasTurnOf, IsAnswered, NoneOpen, current_run, IsOfRun, AreEngineTurns, answered}
+use Rattle.member_model.specs.Turns.{MemberTurn, IsAcceptedStart, HasTurnOf, IsAnswered, NoneOpen, current_run, IsOfRun, AreEngineTurns, answered}
 use Rattle.member_model.specs.TurnLaws.{HasTurnOf-earlier}
 use Rattle.front_ends.specs.declared.front_run.FrontRun.{FrontRun}
 use Rattle.front_ends.specs.Fronts.{front_turn, front_answer, run_after, begun_run, paused_run, stopping_run, is_stop_of, is_over, is_done, is_from_pause, tally_of, ended_with, finish_answer, finish_with, run_finished}
-use Rattle.front_ends.specs.FrontKept.{IsAcceptedStart, IsMade, EndedSo, IsFrontTally, IsWaiting, TakesPart, IsInRun, IsInCurrent, FrontStands}
+use Rattle.front_ends.specs.FrontKept.{IsMade, EndedSo, IsFrontTally, IsWaiting, TakesPart, IsInRun, IsInCurrent, FrontStands}
 use Rattle.front_ends.proofs.FrontGrows.{AnswersStart, TellsTally, sends_turns, accepted_earlier, keeps_more, Tally-more, LeavesRun, fresh_more, on_more, on_paused, none_sent, tally_holds}
 
 -- a turn that is no start, and of which the client's caller reads no other run, leaves the front-end in the current one
@@ -222,9 +222,9 @@ closed_kept takes makes r own earlier order same done stands =
     record {
       keeps = record {
         only_sends = stands.keeps.only_sends;
-        starts = λ u here is. elim here as (λ w. u.answer ≡ Some (if takes u.order then Yes Plain else No NotReady)) [
+        starts = λ u answer here is told. elim here as (λ w. answer ≡ (if takes u.order then Yes Plain else No NotReady)) [
           | inl same_turn ↦ absurd (let e : Stop ≡ Start = ap (λ (v : MemberTurn). v.transition) same_turn ∙ is in cc (e))
-          | inr old ↦ stands.keeps.starts u (inr old) is
+          | inr old ↦ stands.keeps.starts u answer (inr old) is told
         ];
         sends = λ are. sends_turns makes (before ∷ earlier) (t ∷ earlier) (λ start u of. across before t earlier start u other of) [] own (stands.keeps.sends are);
         stops = λ are start begin stop answer accepted stops is. elim stops.stands as (λ w. (sent : ℕ) × (ended : FrontEnded) × (answer ≡ Yes (Front sent ended))) [

@@ -12,7 +12,7 @@ use Rattle.buffer_core.specs.declared.entry.BufferEntry.TheVariants.{SendInRun}
 use Rattle.transitions.specs.declared.answers.Answer.{Answer}
 use Rattle.transitions.specs.declared.answers.Answer.TheVariants.{Yes, No}
 use Rattle.transitions.specs.declared.answers.Tally.TheVariants.{Plain, Front}
-use Rattle.member_model.specs.Turns.{MemberTurn, HasTurn, HasTurnOf, IsAnswered, NoneOpen, current_run, AreEngineTurns}
+use Rattle.member_model.specs.Turns.{MemberTurn, HasTurn, HasTurnOf, IsAcceptedStart, IsAnswered, NoneOpen, current_run, AreEngineTurns}
 use Rattle.member_model.specs.SentCalls.{own_sent, IsSendInRun, EachCall, WasSpent}
 use Rattle.front_ends.specs.declared.front_run.FrontRun.{FrontRun}
 use Rattle.front_ends.specs.Fronts.{front_turn}
@@ -32,15 +32,10 @@ pub record IsMadeFor (makes : Order → ℕ → Event) (own : List BufferEntry) 
 abbrev pub IsMade : (Order → ℕ → Event) → List BufferEntry → List MemberTurn → (start : ℕ) → Type 0
 IsMade makes own turns start = (own_sent own start ≡ []) ⊎ IsMadeFor makes own turns start
 
--- each start was answered, with a refusal exactly where the equipment does not take part in a run of its order
+-- each start that was answered was refused exactly where the equipment does not take part in a run of its order
 abbrev pub StartsAnswered : (takes : Order → Bool) → List MemberTurn → Type 0
-StartsAnswered takes turns = (t : MemberTurn) → HasTurn turns t → t.transition ≡ Start →
-    t.answer ≡ Some (if takes t.order then Yes Plain else No NotReady)
-
--- the turn is the start of the run with this number, and was accepted
-pub record IsAcceptedStart (turns : List MemberTurn) (start : ℕ) (turn : MemberTurn) : Type 0 where
-  pub is_start : HasTurnOf turns Start start turn
-  pub accepted : turn.answer ≡ Some (Yes Plain)
+StartsAnswered takes turns = (t : MemberTurn) → (answer : Answer) → HasTurn turns t → t.transition ≡ Start →
+    t.answer ≡ Some answer → answer ≡ (if takes t.order then Yes Plain else No NotReady)
 
 -- Behind these calls an event may be sent in the run with this number: the start was accepted, fewer events were sent than it
 -- wants, and the event is the next one of the equipment. The size that is stated is that of its data.

@@ -1,6 +1,7 @@
 -- A run whose reading went no further than some point of the caller's calls.
-use Rattle.std.specs.Prelude.{◌≡◌, ℕ, List, ◌∷◌, ◌++◌, Ok, ◌⊎◌}
+use Rattle.std.specs.Prelude.{◌≡◌, ℕ, List, ◌∷◌, ◌++◌, Ok, Err, ◌⊎◌}
 use Rattle.daq_types.specs.declared.events.Event.{Event}
+use Rattle.buffer_core.specs.declared.replies.MarkRefusal.{MarkRefusal}
 use Rattle.buffer_core.specs.declared.entry.BufferEntry.{BufferEntry}
 use Rattle.buffer_core.specs.declared.entry.BufferEntry.TheVariants.{End}
 use Rattle.buffer_core.specs.Ports.{GotEvent}
@@ -22,6 +23,13 @@ pub record MarksEnd (calls : List BufferEntry) (start ended : ℕ) : Type 0 wher
   pub before : List BufferEntry
   pub after : List BufferEntry
   pub is : calls ≡ before ++ End start (Ok ended) ∷ after
+
+-- one of these calls was to end the run, and was refused
+pub record RefusesEnd (calls : List BufferEntry) (start : ℕ) : Type 0 where
+  pub before : List BufferEntry
+  pub after : List BufferEntry
+  pub why : MarkRefusal
+  pub is : calls ≡ before ++ End start (Err why) ∷ after
 
 -- The client read the run up to some point: these are the events of the run that it had got by then. The run was ended
 -- before that point or behind it. Any calls may follow.

@@ -4,6 +4,8 @@ use Rattle.daq_types.specs.declared.runs.Order.{Order}
 use Rattle.daq_types.specs.declared.runs.Transition.{Transition}
 use Rattle.daq_types.specs.declared.runs.Transition.TheVariants.{Start, Stop, Pause, Resume, StartAbort}
 use Rattle.transitions.specs.declared.answers.Answer.{Answer}
+use Rattle.transitions.specs.declared.answers.Answer.TheVariants.{Yes}
+use Rattle.transitions.specs.declared.answers.Tally.TheVariants.{Plain}
 
 -- a turn, with the dump that came with it, and its answer, if there is one yet
 pub record MemberTurn : Type 0 where
@@ -22,6 +24,11 @@ pub record HasTurnOf (turns : List MemberTurn) (transition : Transition) (start 
   pub stands : HasTurn turns t
   pub is : t.transition ≡ transition
   pub of : t.order.start ≡ start
+
+-- the turn is the start of the run with this number, and was accepted
+pub record IsAcceptedStart (turns : List MemberTurn) (start : ℕ) (turn : MemberTurn) : Type 0 where
+  pub is_start : HasTurnOf turns Start start turn
+  pub accepted : turn.answer ≡ Some (Yes Plain)
 
 abbrev pub IsAnswered : Option Answer → Type 0
 IsAnswered None = ⊥

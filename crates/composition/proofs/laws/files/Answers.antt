@@ -1,5 +1,5 @@
 use Rattle.composition.proofs.SessionTurns.{EngineFacts}
-use Rattle.composition.proofs.FilesTogether.{CallerFacts, files_hold_runs, files_hold_parts}
+use Rattle.composition.proofs.FilesTogether.{CallerFacts, channels_told, files_hold_runs, files_hold_parts}
 use Rattle.composition.proofs.laws.files.Goals as goal
 
 pub returns : goal.returns
@@ -19,4 +19,4 @@ returns c =
       file = c.cut_file.ensures;
       fits = c.fits_members.ensures.all;
     } in
-    record { hold = files_hold_runs laws callers; parts = files_hold_parts laws callers }
+    record { told = channels_told laws; hold = files_hold_runs laws callers; parts = files_hold_parts laws callers }
