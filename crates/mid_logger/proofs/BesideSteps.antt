@@ -1,10 +1,10 @@
 -- What one channel of a buffer does leaves what another keeps.
-use Rattle.std.specs.Prelude.{◌≡◌, ◌≢◌, ℕ, nat_lt, Bool, true, false, IsTrue, List, [], ◌∷◌, ◌++◌, take, Option, Some, None, Result, refl, ⊤}
-use Rattle.std.proofs.Common.{ap, sym, subst, ◌∙◌, inl, inr}
+use Rattle.std.specs.Prelude.{◌≡◌, ◌≢◌, ℕ, nat_lt, Bool, true, false, IsTrue, List, [], Option, Some, None, Result, refl, ⊤}
+use Rattle.std.proofs.Common.{ap, sym, subst, inl, inr}
 use Rattle.daq_types.specs.declared.events.Event.{Event}
 use Rattle.daq_types.specs.declared.runs.ChannelState.{ChannelState}
 use Rattle.daq_types.specs.declared.runs.ChannelState.TheVariants.{Broken as IsBroken}
-use Rattle.daq_io.specs.Seen.{Seen, Touches, KeepsNumber, KeepsOthers, Extends, Closes}
+use Rattle.daq_io.specs.Seen.{Seen, Touches, KeepsNumber, KeepsOthers, Closes}
 use Rattle.buffer_core.specs.declared.replies.Received.{Received}
 use Rattle.buffer_core.specs.declared.replies.Received.TheVariants.{Got, Empty, NoClient, SmallBuf}
 use Rattle.buffer_core.specs.declared.replies.RequestRefusal.{RequestRefusal}
@@ -19,11 +19,11 @@ use Rattle.mid_logger.specs.declared.stage.ChannelRun.{ChannelRun}
 use Rattle.mid_logger.specs.declared.stage.ChannelStage.{ChannelStage}
 use Rattle.mid_logger.specs.declared.stage.ChannelStage.TheVariants.{Idle, Asking, Writing, Draining, Drained, Broken}
 use Rattle.mid_logger.specs.Patterns.{file_name_by}
-use Rattle.mid_logger.specs.Channels.{FileHead, IsOwnClient, ReadingAt, ChannelStands, CancelsRequest, IsOpenFile, channel_run, written_run, run_on, reading_run, is_behind_end}
+use Rattle.mid_logger.specs.Channels.{FileHead, IsOwnClient, ChannelStands, CancelsRequest, IsOpenFile, channel_run, written_run, run_on, reading_run, is_behind_end}
 use Rattle.mid_logger.specs.Pulls.{PullOf, LeavesAll, DrainsClient, TakesBy, drains_at_none, FindsNone, TakesReply, PullsOnce, PullsIn, Pulls}
 use Rattle.mid_logger.specs.ChannelTurns.{asking_run, broken_run, drained_run}
 use Rattle.mid_logger.specs.ChannelEnds.{CancelsStanding, RemovesFile, ClosesRead, ClosesFile}
-use Rattle.mid_logger.specs.Beside.{LeavesClient, LeavesNumber, LeavesFile, LeavesRunFile, LeavesChannelFile, ChannelsApart}
+use Rattle.mid_logger.specs.Beside.{LeavesClient, LeavesNumber, LeavesRunFile, ChannelsApart}
 use Rattle.mid_logger.proofs.OwnSteps.{client_stays_own, given_by_reply, got_after_is, given_named}
 use Rattle.mid_logger.proofs.StageSteps.{calls_beside, call_beside, files_beside}
 

@@ -1,11 +1,11 @@
 -- What one channel of a buffer does where it opens a run leaves what another keeps.
-use Rattle.std.specs.Prelude.{◌≡◌, ◌≢◌, ◌+◌, ◌-◌, ◌^◌, ◌≤◌, min, ℕ, true, false, IsTrue, List, [], ◌∷◌, ◌++◌, Contains, Option, Some, None, Result, Ok, Err, refl, ⊤}
-use Rattle.std.proofs.Common.{ap, sym, subst, ◌∙◌, inl, inr}
+use Rattle.std.specs.Prelude.{◌≡◌, ◌≢◌, ℕ, true, false, IsTrue, List, [], ◌∷◌, ◌++◌, Option, Some, None, Result, Ok, Err, refl, ⊤}
+use Rattle.std.proofs.Common.{ap, sym, subst, ◌∙◌}
 use Rattle.daq_types.specs.declared.runs.Kind.TheVariants.{All}
 use Rattle.daq_types.specs.declared.runs.Order.{Order}
 use Rattle.daq_types.specs.declared.runs.Why.{Why}
 use Rattle.daq_types.specs.declared.runs.Why.TheVariants.{NotReady, Exists, Fault, BufferRefused}
-use Rattle.daq_io.specs.Seen.{Seen, Stored, Touches, KeepsNumber, KeepsNumbers, Creates, Same}
+use Rattle.daq_io.specs.Seen.{Seen, Stored, KeepsNumbers, Creates, Same}
 use Rattle.buffer_core.specs.declared.replies.NoSlot.{NoSlot}
 use Rattle.buffer_core.specs.declared.replies.RequestRefusal.{RequestRefusal}
 use Rattle.buffer_core.specs.declared.entry.BufferEntry.{BufferEntry}
@@ -18,11 +18,10 @@ use Rattle.mid_logger.specs.declared.stage.ChannelRun.{ChannelRun}
 use Rattle.mid_logger.specs.declared.stage.ChannelStage.{ChannelStage}
 use Rattle.mid_logger.specs.declared.stage.ChannelStage.TheVariants.{Idle, Asking, Writing, Draining, Drained, Broken}
 use Rattle.mid_logger.specs.Patterns.{NamePattern, file_name_by}
-use Rattle.mid_logger.specs.Channels.{FileHead, KeepsOwnCalls, IsOwnClient, ChannelStands, channel_run, written_run}
+use Rattle.mid_logger.specs.Channels.{FileHead, IsOwnClient, ChannelStands, channel_run, written_run}
 use Rattle.mid_logger.specs.RecordFiles.{IsGone, UndoesFile}
-use Rattle.mid_logger.specs.ChannelTurns.{logger_name, HasClient, MakesRequest, AsksEvents, ChannelAt, StartsAsking, OpensRun, RefusesRun, OpensBy}
+use Rattle.mid_logger.specs.ChannelTurns.{logger_name, HasClient, MakesRequest, AsksEvents, ChannelAt, StartsAsking, RefusesRun, OpensBy}
 use Rattle.mid_logger.specs.Beside.{LeavesClient, LeavesNumber, LeavesRunFile, ChannelsApart}
-use Rattle.mid_logger.proofs.OwnSteps.{client_stays_own}
 use Rattle.mid_logger.proofs.StageSteps.{call_beside, files_beside}
 use Rattle.mid_logger.proofs.OpenSteps.{NoneTaken, never_given, gave_now, still_none, none_in}
 use Rattle.mid_logger.proofs.BesideSteps.{OtherAt, changed_beside}

@@ -1,17 +1,16 @@
 -- What a channel keeps at calls on its port that leave its client, and at changes of other files.
-use Rattle.std.specs.Prelude.{◌≡◌, ◌≢◌, ℕ, nat_le, Bool, true, false, IsTrue, ◌||◌, List, [], ◌∷◌, ◌++◌, map, Option, Some, None, ◌⊎◌, Ok, refl}
+use Rattle.std.specs.Prelude.{◌≡◌, ◌≢◌, ℕ, nat_le, Bool, IsTrue, List, [], ◌∷◌, ◌++◌, map, Option, Some, None, ◌⊎◌, Ok, refl}
 use Rattle.std.proofs.Common.{ap, sym, subst, ◌∙◌, inl, inr, append_assoc}
 use Rattle.std.proofs.lemmas.Bool.Decides.{eqb_tells}
 use Rattle.std.proofs.lemmas.List.{append-nil}
 use Rattle.daq_types.specs.declared.events.Event.{Event}
-use Rattle.daq_io.specs.Seen.{Seen, InUse, KeepsNumber, IsWritten, IsStored}
-use Rattle.buffer_core.specs.declared.replies.Received.{Received}
-use Rattle.buffer_core.specs.declared.replies.Received.TheVariants.{Got, Empty, NoClient, SmallBuf}
+use Rattle.daq_io.specs.Seen.{Seen, InUse, IsWritten, IsStored}
+use Rattle.buffer_core.specs.declared.replies.Received.TheVariants.{Got}
 use Rattle.buffer_core.specs.declared.entry.BufferEntry.{BufferEntry}
-use Rattle.buffer_core.specs.declared.entry.BufferEntry.TheVariants.{Attach, Detach, Request, Cancel, Send, SendInRun, Receive, Begin, Pause, Resume, End, Level, Accepted}
+use Rattle.buffer_core.specs.declared.entry.BufferEntry.TheVariants.{Receive, End}
 use Rattle.buffer_core.specs.Ports.{GotEvent, name_of, name_given}
 use Rattle.member_model.specs.OwnCalls.{calls_after, IsOwnCall, SendsNone, LeavesAsking, is_within, events_at}
-use Rattle.member_model.specs.ReadRuns.{IsReading, IsDraining, HasReadRun}
+use Rattle.member_model.specs.ReadRuns.{IsReading, IsDraining}
 use Rattle.member_model.specs.CutRuns.{HasReadOn, MarksEnd, HasCutRun}
 use Rattle.member_model.specs.ReadLaws.{asking_push, reading_push, draining_push, run_push}
 use Rattle.mid_logger.specs.declared.channel_spec.ChannelSpec.{ChannelSpec}
@@ -20,7 +19,7 @@ use Rattle.mid_logger.specs.declared.stage.ChannelRun.{ChannelRun}
 use Rattle.mid_logger.specs.declared.stage.ChannelStage.{ChannelStage}
 use Rattle.mid_logger.specs.declared.stage.ChannelStage.TheVariants.{Idle, Asking, Writing, Draining, Drained, Broken}
 use Rattle.mid_logger.specs.Patterns.{file_name_by}
-use Rattle.mid_logger.specs.Channels.{FileHead, AsksNothing, FileHolds, AskingAt, ReadsUntil, ReadingAt, HasReadUntil, DrainedAt, HasReadPart, BrokenAt, StageAt, ChannelStands, run_on}
+use Rattle.mid_logger.specs.Channels.{FileHead, AsksNothing, FileHolds, ReadsUntil, ReadingAt, HasReadUntil, HasReadPart, StageAt, ChannelStands, run_on}
 use Rattle.mid_logger.specs.Beside.{LeavesClient, LeavesFile, LeavesChannelFile}
 use Rattle.mid_logger.proofs.OwnSteps.{own_push, own_client_push, nothing_push}
 use Rattle.mid_logger.proofs.ReadSteps.{leaves_receive}

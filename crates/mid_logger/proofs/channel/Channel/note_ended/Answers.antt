@@ -1,7 +1,3 @@
-use Rattle.std.proofs.Common.{◌≡◌, ap, subst}
-use Rattle.std.specs.Prelude.{ℕ, Option}
-use Rattle.mid_logger.specs.declared.stage.ChannelStage.{ChannelStage}
-use Rattle.mid_logger.specs.Channels.{ChannelStands, stage_ended, place_marked}
 use Rattle.mid_logger.proofs.MarkSteps.{ended_kept, ended_written}
 use Rattle.mid_logger.proofs.channel.Channel.note_ended.Goals as goal
 
