@@ -139,7 +139,7 @@ attach_kept spec None (Some n) a b head seen has none stands =
     } in
     rw (has.0.own, has.0.got_is) now
 attach_kept spec None None a b head seen has none stands =
-    rw (has.1.own, has.1.got_is) (call_beside spec None Idle head a.own a.got seen (Attach logger_name (Err has.0)) stands tt tt tt refl)
+    rw (has.1.own, has.1.got_is) (call_beside spec None Idle head a.own a.got seen (Attach logger_name (Err has.0)) stands tt tt tt tt refl)
 
 -- Its request is made.
 

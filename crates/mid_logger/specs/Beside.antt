@@ -8,10 +8,11 @@ use Rattle.buffer_core.specs.declared.entry.BufferEntry.{BufferEntry}
 use Rattle.buffer_core.specs.declared.entry.BufferEntry.TheVariants.{Receive}
 use Rattle.buffer_core.specs.Ports.{Access, GotEvent, name_of, name_given}
 use Rattle.member_model.specs.OwnCalls.{calls_after, IsOwnCall, SendsNone, LeavesAsking}
+use Rattle.member_model.specs.ReadRuns.{EndsNot}
 use Rattle.mid_logger.specs.declared.channel_spec.ChannelSpec.{ChannelSpec}
 use Rattle.mid_logger.specs.declared.stage.ChannelRun.{ChannelRun}
 use Rattle.mid_logger.specs.declared.stage.ChannelStage.{ChannelStage}
-use Rattle.mid_logger.specs.declared.stage.ChannelStage.TheVariants.{Idle}
+use Rattle.mid_logger.specs.declared.stage.ChannelStage.TheVariants.{Idle, Writing, Draining}
 use Rattle.mid_logger.specs.Patterns.{file_name_by}
 use Rattle.mid_logger.specs.Channels.{FileHead, ChannelStands, IsOpenFile, channel_run, written_run}
 use Rattle.mid_logger.specs.Pulls.{PullOf, Pulls}
@@ -23,6 +24,12 @@ abbrev pub LeavesClient : Option ℕ → BufferEntry → Type 0
 LeavesClient None entry = ⊤
 LeavesClient (Some client) (Receive c room reply) = c ≢ client
 LeavesClient (Some client) entry = LeavesAsking client entry
+
+-- the call does not end the run that the channel's client reads
+abbrev pub LeavesRunOn : ChannelStage → BufferEntry → Type 0
+LeavesRunOn (Writing opened begun) entry = EndsNot opened.start entry
+LeavesRunOn (Draining run) entry = EndsNot run.opened.start entry
+LeavesRunOn stage entry = ⊤
 
 -- the number under which the file of the run, if there is one, is written is in use as it was
 abbrev pub LeavesNumber : Option ChannelRun → (old new : Seen) → Type 0
@@ -43,13 +50,14 @@ LeavesRunFile spec (Some opened) written old new = LeavesFile old new (file_name
 abbrev pub LeavesChannelFile : ChannelSpec → ChannelStage → (old new : Seen) → Type 0
 LeavesChannelFile spec stage old new = LeavesRunFile spec (channel_run stage) (written_run stage) old new
 
--- A call of the logger on the channel's buffer that leaves the channel's client, and gives these events, leaves what the
--- channel keeps.
+-- A call of the logger on the channel's buffer that leaves the channel's client, does not end the run that it reads, and
+-- gives these events, leaves what the channel keeps.
 abbrev pub CallsBeside : Type 0
 CallsBeside = (spec : ChannelSpec) → (client : Option ℕ) → (stage : ChannelStage) → (head : FileHead) →
     (own : List BufferEntry) → (got : List GotEvent) → (seen : Seen) → (entry : BufferEntry) → (given : List GotEvent) →
     ChannelStands spec client stage head own got seen →
-    SendsNone entry → IsOwnCall entry (calls_after [] own) → LeavesClient client entry → name_given entry ≡ map name_of given →
+    SendsNone entry → IsOwnCall entry (calls_after [] own) → LeavesClient client entry → LeavesRunOn stage entry →
+    name_given entry ≡ map name_of given →
     ChannelStands spec client stage head (own ++ entry ∷ []) (got ++ given) seen
 
 -- So does a change of files that leaves the channel's own.

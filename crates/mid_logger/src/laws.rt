@@ -2,8 +2,8 @@
 
 ghost use Rattle.mid_logger.specs.Beside.{AbortsBeside, CallsBeside, ClosesBeside, FilesBeside, OpensBeside, PullsBeside};
 
-/// A call on the channel's buffer that names another client leaves what the channel keeps: calls of other channels, and
-/// pauses and resumes.
+/// A call on the channel's buffer that names another client, and does not end the run that the channel's client reads,
+/// leaves what the channel keeps: calls of other channels, and pauses and resumes.
 pub fn calls_beside()
     ensures { CallsBeside }
 {}
