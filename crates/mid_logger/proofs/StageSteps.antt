@@ -202,7 +202,7 @@ written_left {old} {new} {name} {bytes} opened p leaves = record {
   holds = λ told. let before : IsTrue old.tells = sym leaves.tells ∙ told in leaves.at before ∙ p.holds before;
 }
 
-stored_left : {old new : Seen} {name bytes : List ℕ} → IsStored old name bytes → LeavesFile old new name None → IsStored new name bytes
+pub stored_left : {old new : Seen} {name bytes : List ℕ} → IsStored old name bytes → LeavesFile old new name None → IsStored new name bytes
 stored_left {old} p leaves = record { holds = λ told. let before : IsTrue old.tells = sym leaves.tells ∙ told in leaves.at before ∙ p.holds before }
 
 holds_left : (spec : ChannelSpec) (head : FileHead) (old new : Seen) (opened : ChannelRun) (events : List Event) → FileHolds spec head old opened events → LeavesFile old new (file_name_by spec.pattern opened.run) (Some opened) → FileHolds spec head new opened events

@@ -10,6 +10,7 @@ use Rattle.buffer_core.specs.Ports.{Access, GotEvent, name_of, name_given}
 use Rattle.member_model.specs.OwnCalls.{calls_after, IsOwnCall, SendsNone, LeavesAsking}
 use Rattle.member_model.specs.ReadRuns.{EndsNot}
 use Rattle.mid_logger.specs.declared.channel_spec.ChannelSpec.{ChannelSpec}
+use Rattle.mid_logger.specs.declared.stage.BegunRun.{BegunRun}
 use Rattle.mid_logger.specs.declared.stage.ChannelRun.{ChannelRun}
 use Rattle.mid_logger.specs.declared.stage.ChannelStage.{ChannelStage}
 use Rattle.mid_logger.specs.declared.stage.ChannelStage.TheVariants.{Idle, Writing, Draining}
@@ -17,7 +18,7 @@ use Rattle.mid_logger.specs.Patterns.{file_name_by}
 use Rattle.mid_logger.specs.Channels.{FileHead, ChannelStands, IsOpenFile, channel_run, written_run}
 use Rattle.mid_logger.specs.Pulls.{PullOf, Pulls}
 use Rattle.mid_logger.specs.ChannelTurns.{ChannelAt, OpensBy, asking_run, broken_run, drained_run}
-use Rattle.mid_logger.specs.ChannelEnds.{CancelsStanding, RemovesFile, ClosesFile}
+use Rattle.mid_logger.specs.ChannelEnds.{CancelsStanding, RemovesFile, ClosesFile, HasLeft}
 
 -- the call neither receives for the client, nor makes or cancels a request of it, nor attaches or detaches it
 abbrev pub LeavesClient : Option ℕ → BufferEntry → Type 0
@@ -118,3 +119,18 @@ OpensBeside = (spec : ChannelSpec) → (order : Order) → (dump : List ℕ) →
     ChannelStands other other_client other_stage other_head a.port.own a.port.got a.files →
     ChannelStands other other_client other_stage other_head b.port.own b.port.got b.files
     × ChannelsApart b.files spec b.client b.stage other other_client other_stage
+
+-- the run of which a file was left: the one that was read, else the one that broke off
+abbrev pub left_run : (drained broken : Option BegunRun) → Option ChannelRun
+left_run (Some run) broken = Some run.opened
+left_run None (Some run) = Some run.opened
+left_run None None = None
+
+-- What stands of a run whose file was ended stands behind any calls and events more, and behind changes of files that leave
+-- its file.
+abbrev pub LeftBeside : Type 0
+LeftBeside = (drained broken : Option BegunRun) → (state : ChannelState) → (spec : ChannelSpec) → (head : FileHead) →
+    (time : ℕ) → (dump : Option (List ℕ)) → (own more : List BufferEntry) → (got given : List GotEvent) → (old new : Seen) →
+    HasLeft drained broken state spec head time dump own got old →
+    LeavesRunFile spec (left_run drained broken) None old new →
+    HasLeft drained broken state spec head time dump (own ++ more) (got ++ given) new
