@@ -163,6 +163,7 @@ run_read = record {
     asked = record { before = Attach [] (Ok 0) ∷ []; whole = refl; alone = λ n. refl };
     asks_on = tt;
     reads_on = (tt, tt);
+    no_end = (tt, tt);
     drains_on = (tt, tt);
     earlier = [];
     given_running = got_first sample_event ∷ [];

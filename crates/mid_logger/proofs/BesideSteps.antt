@@ -1,10 +1,10 @@
 -- What one channel of a buffer does leaves what another keeps.
-use Rattle.std.specs.Prelude.{◌≡◌, ◌≢◌, ℕ, nat_lt, Bool, true, false, IsTrue, List, [], ◌∷◌, ◌++◌, take, Option, Some, None, Result, refl, ⊤}
-use Rattle.std.proofs.Common.{ap, sym, subst, ◌∙◌, inl, inr}
+use Rattle.std.specs.Prelude.{◌≡◌, ◌≢◌, ℕ, nat_lt, Bool, true, false, IsTrue, List, [], Option, Some, None, Result, refl, ⊤}
+use Rattle.std.proofs.Common.{ap, sym, subst, inl, inr}
 use Rattle.daq_types.specs.declared.events.Event.{Event}
 use Rattle.daq_types.specs.declared.runs.ChannelState.{ChannelState}
 use Rattle.daq_types.specs.declared.runs.ChannelState.TheVariants.{Broken as IsBroken}
-use Rattle.daq_io.specs.Seen.{Seen, Touches, KeepsNumber, KeepsOthers, Extends, Closes}
+use Rattle.daq_io.specs.Seen.{Seen, Touches, KeepsNumber, KeepsOthers, Closes}
 use Rattle.buffer_core.specs.declared.replies.Received.{Received}
 use Rattle.buffer_core.specs.declared.replies.Received.TheVariants.{Got, Empty, NoClient, SmallBuf}
 use Rattle.buffer_core.specs.declared.replies.RequestRefusal.{RequestRefusal}
@@ -19,13 +19,13 @@ use Rattle.mid_logger.specs.declared.stage.ChannelRun.{ChannelRun}
 use Rattle.mid_logger.specs.declared.stage.ChannelStage.{ChannelStage}
 use Rattle.mid_logger.specs.declared.stage.ChannelStage.TheVariants.{Idle, Asking, Writing, Draining, Drained, Broken}
 use Rattle.mid_logger.specs.Patterns.{file_name_by}
-use Rattle.mid_logger.specs.Channels.{FileHead, IsOwnClient, ReadingAt, ChannelStands, CancelsRequest, IsOpenFile, channel_run, written_run, run_on, reading_run, is_behind_end}
+use Rattle.mid_logger.specs.Channels.{FileHead, IsOwnClient, ChannelStands, CancelsRequest, IsOpenFile, channel_run, written_run, run_on, reading_run, is_behind_end}
 use Rattle.mid_logger.specs.Pulls.{PullOf, LeavesAll, DrainsClient, TakesBy, drains_at_none, FindsNone, TakesReply, PullsOnce, PullsIn, Pulls}
 use Rattle.mid_logger.specs.ChannelTurns.{asking_run, broken_run, drained_run}
 use Rattle.mid_logger.specs.ChannelEnds.{CancelsStanding, RemovesFile, ClosesRead, ClosesFile}
-use Rattle.mid_logger.specs.Beside.{LeavesClient, LeavesNumber, LeavesFile, LeavesRunFile, LeavesChannelFile, ChannelsApart}
+use Rattle.mid_logger.specs.Beside.{LeavesClient, LeavesNumber, LeavesRunFile, ChannelsApart}
 use Rattle.mid_logger.proofs.OwnSteps.{client_stays_own, given_by_reply, got_after_is, given_named}
-use Rattle.mid_logger.proofs.StageSteps.{calls_beside, call_beside, files_beside}
+use Rattle.mid_logger.proofs.StageSteps.{leaves_run, calls_beside, call_beside, files_beside}
 
 -- the other channel stands at this point
 abbrev pub OtherAt : ChannelSpec → Option ℕ → ChannelStage → FileHead → Access → Seen → Type 0
@@ -73,13 +73,15 @@ cancel_beside : (other : ChannelSpec) (other_client : Option ℕ) (stage : Chann
     → CancelsRequest a b opened → OtherAt other other_client stage head a seen → OtherAt other other_client stage head b seen
 cancel_beside other other_client stage head a b seen opened apart gave cancels stands =
     rw (cancels.1.own, cancels.1.got_is)
-    (call_beside other other_client stage head a.own a.got seen (Cancel opened.client opened.request cancels.0) stands tt gave (leaves_cancel other_client opened.client opened.request cancels.0 apart) refl)
+    (call_beside other other_client stage head a.own a.got seen (Cancel opened.client opened.request cancels.0) stands tt gave (leaves_cancel other_client opened.client opened.request cancels.0 apart)
+    (leaves_run stage (Cancel opened.client opened.request cancels.0) tt) refl)
 
 receive_beside : (other : ChannelSpec) (other_client : Option ℕ) (stage : ChannelStage) (head : FileHead) (a b : Access) (seen : Seen) (c room : ℕ) (reply : Received) (e : Event) → ((d : ℕ) → other_client ≡ Some d → c ≢ d) → gave_number (calls_after [] a.own) c ≡ true
     → Receives a b c room reply e → OtherAt other other_client stage head a seen → OtherAt other other_client stage head b seen
 receive_beside other other_client stage head a b seen c room reply e apart gave receives stands =
     rw (receives.own, receives.got_is, got_after_is a.got c reply e)
-    (calls_beside other other_client stage head a.own a.got seen (Receive c room reply) (given_by_reply c reply e) stands tt gave (leaves_received other_client c room reply apart) (given_named c room reply e))
+    (calls_beside other other_client stage head a.own a.got seen (Receive c room reply) (given_by_reply c reply e) stands tt gave (leaves_received other_client c room reply apart)
+    (leaves_run stage (Receive c room reply) tt) (given_named c room reply e))
 
 file_beside : (spec other : ChannelSpec) (other_client : Option ℕ) (stage : ChannelStage) (head : FileHead) (a : Access) (old new : Seen) (opened : ChannelRun) → BesideRun old opened spec other other_client stage
     → Touches old new (old.name_of opened.file) → KeepsOthers old new opened.file → OtherAt other other_client stage head a old → OtherAt other other_client stage head a new

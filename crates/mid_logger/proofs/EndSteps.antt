@@ -1,10 +1,10 @@
 -- What a channel keeps, and what its file has, where a run is called off or its file is ended.
-use Rattle.std.specs.Prelude.{◌≡◌, ℕ, take, drop, List, [], ◌∷◌, ◌++◌, Option, Some, None, Result, refl, ⊤}
+use Rattle.std.specs.Prelude.{◌≡◌, ℕ, take, drop, List, [], ◌∷◌, ◌++◌, Option, Some, None}
 use Rattle.std.proofs.Common.{ap, sym, subst, ◌∙◌, inl, inr, append_assoc}
 use Rattle.std.proofs.lemmas.List.{take-append-drop}
 use mathlib.Core.List.{IsPrefix}
 use Rattle.daq_types.specs.declared.runs.ChannelState.{ChannelState}
-use Rattle.daq_types.specs.declared.runs.ChannelState.TheVariants.{Ended, NoEnd, NoMark, Broken as IsBroken, Idle as IsIdle, Writing as IsWriting}
+use Rattle.daq_types.specs.declared.runs.ChannelState.TheVariants.{Broken as IsBroken}
 use Rattle.daq_model.specs.RunFile.{begun_file}
 use Rattle.daq_io.specs.Seen.{Seen, Closes}
 use Rattle.daq_io.specs.SeenLaws.{IsWritten-Closes}

@@ -1,6 +1,6 @@
 -- A record of a run's file as it is appended: its header, and then its data.
 use Rattle.std.specs.Prelude.{◌≡◌, ℕ, length, List, [], ◌++◌, Result, Ok, Err, OnOk, OnErr}
-use Rattle.std.proofs.Common.{ap, sym, subst, ◌∙◌}
+use Rattle.std.proofs.Common.{sym, subst, ◌∙◌}
 use Rattle.std.proofs.lemmas.List.{append-nil}
 use Rattle.daq_model.specs.Events.{encoding}
 use Rattle.daq_io.specs.Seen.{Seen, Creates, Extends, ExtendsPart, Closes}

@@ -10,3 +10,4 @@ pub mod OpenSteps
 pub mod EndSteps
 pub mod BesideSteps
 pub mod OpenBeside
+pub mod LeftSteps

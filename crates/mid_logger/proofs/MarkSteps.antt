@@ -13,8 +13,8 @@ use Rattle.mid_logger.specs.declared.channel_spec.ChannelSpec.{ChannelSpec}
 use Rattle.mid_logger.specs.declared.stage.ChannelRun.{ChannelRun}
 use Rattle.mid_logger.specs.declared.stage.ChannelStage.{ChannelStage}
 use Rattle.mid_logger.specs.declared.stage.ChannelStage.TheVariants.{Idle, Asking, Writing, Draining, Drained, Broken}
-use Rattle.mid_logger.specs.Channels.{FileHead, ChannelStands, channel_run, written_run, stage_begun, stage_ended, place_marked, end_marked}
-use Rattle.mid_logger.specs.Beside.{LeavesClient}
+use Rattle.mid_logger.specs.Channels.{FileHead, ChannelStands, channel_run, written_run, stage_begun, stage_ended, place_marked, end_marked, EndsOnce}
+use Rattle.mid_logger.specs.Beside.{LeavesClient, LeavesRunOn}
 use Rattle.mid_logger.proofs.OwnSteps.{own_push, own_client_push}
 use Rattle.mid_logger.proofs.StageSteps.{call_beside}
 
@@ -35,9 +35,9 @@ leaves_end : (client : Option ℕ) (start : ℕ) (reply : Result ℕ MarkRefusal
 leaves_end None start reply = tt
 leaves_end (Some client) start reply = tt
 
-end_beside : (spec : ChannelSpec) (client : Option ℕ) (stage : ChannelStage) (start : ℕ) (reply : Result ℕ MarkRefusal) (head : FileHead) (own : List BufferEntry) (got : List GotEvent) (seen : Seen) → ChannelStands spec client stage head own got seen
+end_beside : (spec : ChannelSpec) (client : Option ℕ) (stage : ChannelStage) (start : ℕ) (reply : Result ℕ MarkRefusal) (head : FileHead) (own : List BufferEntry) (got : List GotEvent) (seen : Seen) → LeavesRunOn stage (End start reply) → ChannelStands spec client stage head own got seen
     → ChannelStands spec client stage head (own ++ End start reply ∷ []) got seen
-end_beside spec client stage start reply head own got seen stands = call_beside spec client stage head own got seen (End start reply) stands tt tt (leaves_end client start reply) refl
+end_beside spec client stage start reply head own got seen leaves stands = call_beside spec client stage head own got seen (End start reply) stands tt tt (leaves_end client start reply) leaves refl
 
 -- the run that is on is ended
 writing_ended : (spec : ChannelSpec) (client : Option ℕ) (opened : ChannelRun) (begun : ℕ) (reply : Result ℕ MarkRefusal) (head : FileHead) (own : List BufferEntry) (got : List GotEvent) (seen : Seen) → ChannelStands spec client (Writing opened begun) head own got seen
@@ -53,7 +53,7 @@ writing_ended spec client opened begun (Ok end) head own got seen stands = recor
   };
 }
 writing_ended spec client opened begun (Err why) head own got seen stands =
-    let more = end_beside spec client (Writing opened begun) opened.start (Err why) head own got seen stands in
+    let more = end_beside spec client (Writing opened begun) opened.start (Err why) head own got seen tt stands in
     record { port = more.port; own_client = more.own_client; at = more.at }
 
 -- the reading of the run was broken off before
@@ -76,7 +76,7 @@ broken_ended spec client opened begun None (Ok end) head own got seen stands = r
   port = own_push own (End opened.start (Ok end)) stands.port tt tt;
   own_client = own_client_push client own (End opened.start (Ok end)) stands.own_client;
   at =
-      let more = end_beside spec client (Broken (record { opened = opened; begun = begun; ended = None })) opened.start (Ok end) head own got seen stands in
+      let more = end_beside spec client (Broken (record { opened = opened; begun = begun; ended = None })) opened.start (Ok end) head own got seen tt stands in
       record {
         events = stands.at.events;
         bytes = stands.at.bytes;
@@ -90,22 +90,23 @@ broken_ended spec client opened begun None (Ok end) head own got seen stands = r
         front = stands.at.front;
       };
 }
-broken_ended spec client opened begun None (Err why) head own got seen stands = end_beside spec client (Broken (record { opened = opened; begun = begun; ended = None })) opened.start (Err why) head own got seen stands
-broken_ended spec client opened begun (Some end) reply head own got seen stands = end_beside spec client (Broken (record { opened = opened; begun = begun; ended = Some end })) opened.start reply head own got seen stands
+broken_ended spec client opened begun None (Err why) head own got seen stands = end_beside spec client (Broken (record { opened = opened; begun = begun; ended = None })) opened.start (Err why) head own got seen tt stands
+broken_ended spec client opened begun (Some end) reply head own got seen stands = end_beside spec client (Broken (record { opened = opened; begun = begun; ended = Some end })) opened.start reply head own got seen tt stands
 
 abbrev KeptEnded : ChannelSpec → Option ℕ → ChannelStage → FileHead → List BufferEntry → List GotEvent → Seen → Result ℕ MarkRefusal → (start : ℕ) → Type 0
 KeptEnded spec client stage head own got seen reply start = ChannelStands spec client (stage_ended stage (place_marked reply)) head (own ++ End start reply ∷ []) got seen
 
-pub ended_kept : (spec : ChannelSpec) (client : Option ℕ) (stage : ChannelStage) (opened : ChannelRun) (reply : Result ℕ MarkRefusal) (head : FileHead) (own : List BufferEntry) (got : List GotEvent) (seen : Seen) → channel_run stage ≡ Some opened
+pub ended_kept : (spec : ChannelSpec) (client : Option ℕ) (stage : ChannelStage) (opened : ChannelRun) (reply : Result ℕ MarkRefusal) (head : FileHead) (own : List BufferEntry) (got : List GotEvent) (seen : Seen) → channel_run stage ≡ Some opened → EndsOnce stage reply
     → ChannelStands spec client stage head own got seen → KeptEnded spec client stage head own got seen reply opened.start
-ended_kept spec client Idle opened reply head own got seen is stands = end_beside spec client Idle opened.start reply head own got seen stands
-ended_kept spec client (Asking o) opened reply head own got seen is stands = end_beside spec client (Asking o) opened.start reply head own got seen stands
-ended_kept spec client (Writing o begun) opened reply head own got seen is stands =
+ended_kept spec client Idle opened reply head own got seen is once stands = end_beside spec client Idle opened.start reply head own got seen tt stands
+ended_kept spec client (Asking o) opened reply head own got seen is once stands = end_beside spec client (Asking o) opened.start reply head own got seen tt stands
+ended_kept spec client (Writing o begun) opened reply head own got seen is once stands =
     let same : o ≡ opened = cc (is) in
     subst (λ (r : ChannelRun). KeptEnded spec client (Writing o begun) head own got seen reply r.start) same (writing_ended spec client o begun reply head own got seen stands)
-ended_kept spec client (Draining run) opened reply head own got seen is stands = end_beside spec client (Draining run) opened.start reply head own got seen stands
-ended_kept spec client (Drained run) opened reply head own got seen is stands = end_beside spec client (Drained run) opened.start reply head own got seen stands
-ended_kept spec client (Broken run) opened reply head own got seen is stands =
+ended_kept spec client (Draining run) opened (Ok end) head own got seen is once stands = absurd once
+ended_kept spec client (Draining run) opened (Err why) head own got seen is once stands = end_beside spec client (Draining run) opened.start (Err why) head own got seen tt stands
+ended_kept spec client (Drained run) opened reply head own got seen is once stands = end_beside spec client (Drained run) opened.start reply head own got seen tt stands
+ended_kept spec client (Broken run) opened reply head own got seen is once stands =
     let same : run.opened ≡ opened = cc (is) in
     subst (λ (r : ChannelRun). KeptEnded spec client (Broken run) head own got seen reply r.start) same (broken_ended spec client run.opened run.begun run.ended reply head own got seen stands)
 

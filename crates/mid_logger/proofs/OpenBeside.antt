@@ -1,11 +1,11 @@
 -- What one channel of a buffer does where it opens a run leaves what another keeps.
-use Rattle.std.specs.Prelude.{◌≡◌, ◌≢◌, ◌+◌, ◌-◌, ◌^◌, ◌≤◌, min, ℕ, true, false, IsTrue, List, [], ◌∷◌, ◌++◌, Contains, Option, Some, None, Result, Ok, Err, refl, ⊤}
-use Rattle.std.proofs.Common.{ap, sym, subst, ◌∙◌, inl, inr}
+use Rattle.std.specs.Prelude.{◌≡◌, ◌≢◌, ℕ, true, false, IsTrue, List, [], ◌∷◌, ◌++◌, Option, Some, None, Result, Ok, Err, refl, ⊤}
+use Rattle.std.proofs.Common.{ap, sym, subst, ◌∙◌}
 use Rattle.daq_types.specs.declared.runs.Kind.TheVariants.{All}
 use Rattle.daq_types.specs.declared.runs.Order.{Order}
 use Rattle.daq_types.specs.declared.runs.Why.{Why}
 use Rattle.daq_types.specs.declared.runs.Why.TheVariants.{NotReady, Exists, Fault, BufferRefused}
-use Rattle.daq_io.specs.Seen.{Seen, Stored, Touches, KeepsNumber, KeepsNumbers, Creates, Same}
+use Rattle.daq_io.specs.Seen.{Seen, Stored, KeepsNumbers, Creates, Same}
 use Rattle.buffer_core.specs.declared.replies.NoSlot.{NoSlot}
 use Rattle.buffer_core.specs.declared.replies.RequestRefusal.{RequestRefusal}
 use Rattle.buffer_core.specs.declared.entry.BufferEntry.{BufferEntry}
@@ -18,12 +18,11 @@ use Rattle.mid_logger.specs.declared.stage.ChannelRun.{ChannelRun}
 use Rattle.mid_logger.specs.declared.stage.ChannelStage.{ChannelStage}
 use Rattle.mid_logger.specs.declared.stage.ChannelStage.TheVariants.{Idle, Asking, Writing, Draining, Drained, Broken}
 use Rattle.mid_logger.specs.Patterns.{NamePattern, file_name_by}
-use Rattle.mid_logger.specs.Channels.{FileHead, KeepsOwnCalls, IsOwnClient, ChannelStands, channel_run, written_run}
+use Rattle.mid_logger.specs.Channels.{FileHead, IsOwnClient, ChannelStands, channel_run, written_run}
 use Rattle.mid_logger.specs.RecordFiles.{IsGone, UndoesFile}
-use Rattle.mid_logger.specs.ChannelTurns.{logger_name, HasClient, MakesRequest, AsksEvents, ChannelAt, StartsAsking, OpensRun, RefusesRun, OpensBy}
+use Rattle.mid_logger.specs.ChannelTurns.{logger_name, HasClient, MakesRequest, AsksEvents, ChannelAt, StartsAsking, RefusesRun, OpensBy}
 use Rattle.mid_logger.specs.Beside.{LeavesClient, LeavesNumber, LeavesRunFile, ChannelsApart}
-use Rattle.mid_logger.proofs.OwnSteps.{client_stays_own}
-use Rattle.mid_logger.proofs.StageSteps.{call_beside, files_beside}
+use Rattle.mid_logger.proofs.StageSteps.{leaves_run, call_beside, files_beside}
 use Rattle.mid_logger.proofs.OpenSteps.{NoneTaken, never_given, gave_now, still_none, none_in}
 use Rattle.mid_logger.proofs.BesideSteps.{OtherAt, changed_beside}
 
@@ -61,7 +60,7 @@ attach_beside spec other None (Some n) other_client other_stage other_head a b s
     let attach : BufferEntry = Attach logger_name (Ok n) in
     let fresh : gave_number (calls_after [] a.own) n ≡ false = never_given a b n stands.port has.1 none in
     let apart = new_differs a.own n other_client fresh stands.own_client in
-    let now : ChannelStands other other_client other_stage other_head (a.own ++ attach ∷ []) a.got seen = call_beside other other_client other_stage other_head a.own a.got seen attach stands tt tt (leaves_attach other_client n apart) refl in
+    let now : ChannelStands other other_client other_stage other_head (a.own ++ attach ∷ []) a.got seen = call_beside other other_client other_stage other_head a.own a.got seen attach stands tt tt (leaves_attach other_client n apart) (leaves_run other_stage attach tt) refl in
     let own_now : gave_number (calls_after [] (a.own ++ attach ∷ [])) n ≡ true = subst (λ (es : List BufferEntry). gave_number es n ≡ true) (sym (calls_after-push [] a.own attach)) (gave_now (calls_after [] a.own) logger_name n) in
     record {
       stands = rw (has.0.own, has.0.got_is) now;
@@ -69,7 +68,7 @@ attach_beside spec other None (Some n) other_client other_stage other_head a b s
       is_own = rw has.0.own own_now;
     }
 attach_beside spec other None None other_client other_stage other_head a b seen has none is_own differ stands = record {
-  stands = rw (has.1.own, has.1.got_is) (call_beside other other_client other_stage other_head a.own a.got seen (Attach logger_name (Err has.0)) stands tt tt (leaves_no_attach other_client has.0) refl);
+  stands = rw (has.1.own, has.1.got_is) (call_beside other other_client other_stage other_head a.own a.got seen (Attach logger_name (Err has.0)) stands tt tt (leaves_no_attach other_client has.0) (leaves_run other_stage (Attach logger_name (Err has.0)) tt) refl);
   differ = λ x d is other_is. absurd (cc (is));
   is_own = tt;
 }
@@ -83,10 +82,10 @@ leaves_request (Some d) c id mask reply apart = apart d refl
 request_beside : (spec other : ChannelSpec) (client request other_client : Option ℕ) (other_stage : ChannelStage) (other_head : FileHead) (a b : Access) (seen : Seen) → MakesRequest spec client request a b → IsOwnClient client a.own → Differ client other_client
     → OtherAt other other_client other_stage other_head a seen → OtherAt other other_client other_stage other_head b seen
 request_beside spec other (Some c) (Some r) other_client other_stage other_head a b seen makes is_own differ stands =
-    rw (makes.own, makes.got_is) (call_beside other other_client other_stage other_head a.own a.got seen (Request c spec.id spec.mask All (Ok r)) stands tt is_own (leaves_request other_client c spec.id spec.mask (Ok r) (λ d is. differ c d refl is)) refl)
+    rw (makes.own, makes.got_is) (call_beside other other_client other_stage other_head a.own a.got seen (Request c spec.id spec.mask All (Ok r)) stands tt is_own (leaves_request other_client c spec.id spec.mask (Ok r) (λ d is. differ c d refl is)) (leaves_run other_stage (Request c spec.id spec.mask All (Ok r)) tt) refl)
 request_beside spec other (Some c) None other_client other_stage other_head a b seen makes is_own differ stands =
     rw (makes.1.own, makes.1.got_is)
-    (call_beside other other_client other_stage other_head a.own a.got seen (Request c spec.id spec.mask All (Err makes.0)) stands tt is_own (leaves_request other_client c spec.id spec.mask (Err makes.0) (λ d is. differ c d refl is)) refl)
+    (call_beside other other_client other_stage other_head a.own a.got seen (Request c spec.id spec.mask All (Err makes.0)) stands tt is_own (leaves_request other_client c spec.id spec.mask (Err makes.0) (λ d is. differ c d refl is)) (leaves_run other_stage (Request c spec.id spec.mask All (Err makes.0)) tt) refl)
 request_beside spec other None (Some r) other_client other_stage other_head a b seen makes is_own differ stands = absurd makes
 request_beside spec other None None other_client other_stage other_head a b seen makes is_own differ stands = rw makes stands
 

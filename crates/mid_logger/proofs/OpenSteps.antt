@@ -1,5 +1,5 @@
 -- What a channel keeps when it asks for the events of a run, and when that is refused.
-use Rattle.std.specs.Prelude.{◌≡◌, ◌≢◌, ◌≤◌, ◌<◌, ◌==◌, ℕ, zero, suc, true, false, List, [], ◌∷◌, ◌++◌, length, slice_get, Contains, Option, Some, None, Result, Ok, Err, OnOk, OnErr, ◌⊎◌, refl, ⊤}
+use Rattle.std.specs.Prelude.{◌≡◌, ◌≤◌, ℕ, zero, suc, true, false, List, [], ◌∷◌, ◌++◌, length, slice_get, Contains, Option, Some, None, Result, Ok, Err, OnOk, OnErr, IfErr, IsErrOf, ◌⊎◌, ◌↔◌, refl, ⊤}
 use Rattle.std.proofs.Common.{ap, sym, subst, ◌∙◌, inl, inr, arith}
 use Rattle.std.proofs.lemmas.Bool.Decides.{eqb_tells}
 use Rattle.std.proofs.lemmas.List.Elements.{All-nil}
@@ -8,15 +8,15 @@ use Rattle.daq_types.specs.declared.runs.Order.{Order}
 use Rattle.daq_types.specs.declared.runs.Why.{Why}
 use Rattle.daq_types.specs.declared.runs.Why.TheVariants.{NotReady, Exists, Fault, BufferRefused}
 use Rattle.daq_model.specs.Events.{record_limit}
-use Rattle.daq_model.specs.RunFile.{begun_file, IsFileEvent}
-use Rattle.daq_io.specs.Seen.{Seen, Creates}
+use Rattle.daq_model.specs.RunFile.{IsFileEvent}
+use Rattle.daq_io.specs.declared.folder.NameRefused.{NameRefused}
+use Rattle.daq_io.specs.declared.folder.NameRefused.TheVariants.{Exists as NameTaken, Missing, Failed}
+use Rattle.daq_io.specs.Seen.{Seen}
 use Rattle.daq_io.specs.SeenLaws.{Creates-IsWritten}
-use Rattle.buffer_core.specs.declared.replies.NoSlot.{NoSlot}
 use Rattle.buffer_core.specs.declared.replies.Received.TheVariants.{Got, Empty, NoClient, SmallBuf}
-use Rattle.buffer_core.specs.declared.replies.RequestRefusal.{RequestRefusal}
 use Rattle.buffer_core.specs.declared.entry.BufferEntry.{BufferEntry}
 use Rattle.buffer_core.specs.declared.entry.BufferEntry.TheVariants.{Attach, Detach, Request, Cancel, Send, SendInRun, Receive, Begin, Pause, Resume, End, Level, Accepted}
-use Rattle.buffer_core.specs.Ports.{Access, GotEvent, Calls, IsGivenAt, IsNewNumber, knowing}
+use Rattle.buffer_core.specs.Ports.{Access, GotEvent, Calls, IsNewNumber, knowing}
 use Rattle.member_model.specs.OwnCalls.{calls_after, gave_number, IsOwnCall, AreOwnCalls, asks}
 use Rattle.member_model.specs.ReadLaws.{calls_after-push, asking_made}
 use Rattle.mid_logger.specs.declared.channel_spec.ChannelSpec.{ChannelSpec}
@@ -24,8 +24,8 @@ use Rattle.mid_logger.specs.declared.stage.ChannelRun.{ChannelRun}
 use Rattle.mid_logger.specs.declared.stage.ChannelStage.{ChannelStage}
 use Rattle.mid_logger.specs.declared.stage.ChannelStage.TheVariants.{Idle, Asking}
 use Rattle.mid_logger.specs.Patterns.{file_name_by}
-use Rattle.mid_logger.specs.Channels.{FileHead, KeepsOwnCalls, IsOwnClient, AsksNothing, FileHolds, ChannelStands, written_run, IsOpenFile}
-use Rattle.mid_logger.specs.ChannelTurns.{logger_name, HasClient, MakesRequest, AsksEvents, ChannelAt, StartsAsking, OpensRun, LeavesPort, RefusesRun, OpensBy}
+use Rattle.mid_logger.specs.Channels.{FileHead, KeepsOwnCalls, FileHolds, ChannelStands, written_run, IsOpenFile}
+use Rattle.mid_logger.specs.ChannelTurns.{logger_name, HasClient, MakesRequest, AsksEvents, ChannelAt, StartsAsking, RefusesRun, OpensBy, IsRefusalOf}
 use Rattle.mid_logger.proofs.OwnSteps.{own_push, own_client_push, gave_stays}
 use Rattle.mid_logger.proofs.StageSteps.{call_beside}
 
@@ -139,7 +139,7 @@ attach_kept spec None (Some n) a b head seen has none stands =
     } in
     rw (has.0.own, has.0.got_is) now
 attach_kept spec None None a b head seen has none stands =
-    rw (has.1.own, has.1.got_is) (call_beside spec None Idle head a.own a.got seen (Attach logger_name (Err has.0)) stands tt tt tt refl)
+    rw (has.1.own, has.1.got_is) (call_beside spec None Idle head a.own a.got seen (Attach logger_name (Err has.0)) stands tt tt tt tt refl)
 
 -- Its request is made.
 
@@ -224,3 +224,22 @@ not_opened_kept spec order dump (Err why) a b opens idle = λ head none stands.
 pub opened_file : (spec : ChannelSpec) (order : Order) (dump : List ℕ) (r : Result ⊤ Why) (a b : ChannelAt) → OpensBy r spec order dump a b → a.stage ≡ Idle → IsOpenFile b.files spec (written_run b.stage)
 opened_file spec order dump (Ok u) a b opens idle = rw opens.asks.stage (opens.makes.writes, opens.makes.named)
 opened_file spec order dump (Err why) a b opens idle = rw (opens.0, idle) tt
+
+-- Whether the name was taken.
+
+-- a run whose file was begun is not refused for its name
+pub begun_not_taken : (r : Result ⊤ Why) (file channel : ℕ) (Taken : Type 0) → IfErr r (λ why. why ≡ BufferRefused) → (IsErrOf (Ok file) NameTaken ↔ Taken) → IsErrOf r (Exists channel) ↔ Taken
+begun_not_taken (Ok u) file channel Taken why taken = (λ is. absurd (cc (is)), λ has. absurd (let never = taken.1 has in cc (never)))
+begun_not_taken (Err x) file channel Taken why taken = (
+  λ is. absurd (let refused : x ≡ Exists channel = cc (is) in let never : BufferRefused ≡ Exists channel = sym why ∙ refused in cc (never)),
+  λ has. absurd (let never = taken.1 has in cc (never)),
+)
+
+-- a run whose file could not be begun is refused for its name exactly where that was why
+pub refused_taken : (why : NameRefused) (channel : ℕ) (answer : Why) (Taken : Type 0) → IsRefusalOf why channel answer → (IsErrOf {T = ℕ} (Err why) NameTaken ↔ Taken) → IsErrOf {T = ⊤} (Err answer) (Exists channel) ↔ Taken
+refused_taken NameTaken channel answer Taken is taken = (λ same. taken.0 refl, λ has. ap (λ (w : Why). Err w) is)
+refused_taken Missing channel answer Taken is taken = absurd is
+refused_taken Failed channel answer Taken is taken = (
+  λ same. absurd (let refused : answer ≡ Exists channel = cc (same) in let never : Fault channel ≡ Exists channel = sym is ∙ refused in cc (never)),
+  λ has. absurd (let never = taken.1 has in cc (never)),
+)

@@ -37,7 +37,7 @@ leaves_receive client room (SmallBuf need) receiver = tt
 pub received : (ended : Option ℕ) (own : List BufferEntry) (got : List GotEvent) (client id mask request start begun : ℕ) (events : List Event) (room : ℕ) (reply : Received) (e : Event) → ReadsUntil ended own got client id mask request start begun events
     → ReadsUntil ended (own ++ Receive client room reply ∷ []) (got ++ given_by_reply client reply e) client id mask request start begun (events ++ events_at client (is_in_run begun ended) (given_by_reply client reply e))
 received None own got client id mask request start begun events room reply e reads =
-    reading_push own got client id mask request start begun events (Receive client room reply) (given_by_reply client reply e) reads (leaves_receive client room reply client) (given_named client room reply e)
+    reading_push own got client id mask request start begun events (Receive client room reply) (given_by_reply client reply e) reads (leaves_receive client room reply client) tt (given_named client room reply e)
 received (Some end) own got client id mask request start begun events room reply e reads =
     draining_push own got client id mask request start begun end events (Receive client room reply) (given_by_reply client reply e) reads (leaves_receive client room reply client) (given_named client room reply e)
 

@@ -1,17 +1,16 @@
 -- What a channel keeps at calls on its port that leave its client, and at changes of other files.
-use Rattle.std.specs.Prelude.{◌≡◌, ◌≢◌, ℕ, nat_le, Bool, true, false, IsTrue, ◌||◌, List, [], ◌∷◌, ◌++◌, map, Option, Some, None, ◌⊎◌, Ok, refl}
+use Rattle.std.specs.Prelude.{◌≡◌, ◌≢◌, ℕ, nat_le, Bool, IsTrue, List, [], ◌∷◌, ◌++◌, map, Option, Some, None, ◌⊎◌, Ok, refl, ⊤}
 use Rattle.std.proofs.Common.{ap, sym, subst, ◌∙◌, inl, inr, append_assoc}
 use Rattle.std.proofs.lemmas.Bool.Decides.{eqb_tells}
 use Rattle.std.proofs.lemmas.List.{append-nil}
 use Rattle.daq_types.specs.declared.events.Event.{Event}
-use Rattle.daq_io.specs.Seen.{Seen, InUse, KeepsNumber, IsWritten, IsStored}
-use Rattle.buffer_core.specs.declared.replies.Received.{Received}
-use Rattle.buffer_core.specs.declared.replies.Received.TheVariants.{Got, Empty, NoClient, SmallBuf}
+use Rattle.daq_io.specs.Seen.{Seen, InUse, IsWritten, IsStored}
+use Rattle.buffer_core.specs.declared.replies.Received.TheVariants.{Got}
 use Rattle.buffer_core.specs.declared.entry.BufferEntry.{BufferEntry}
-use Rattle.buffer_core.specs.declared.entry.BufferEntry.TheVariants.{Attach, Detach, Request, Cancel, Send, SendInRun, Receive, Begin, Pause, Resume, End, Level, Accepted}
+use Rattle.buffer_core.specs.declared.entry.BufferEntry.TheVariants.{Receive, End}
 use Rattle.buffer_core.specs.Ports.{GotEvent, name_of, name_given}
 use Rattle.member_model.specs.OwnCalls.{calls_after, IsOwnCall, SendsNone, LeavesAsking, is_within, events_at}
-use Rattle.member_model.specs.ReadRuns.{IsReading, IsDraining, HasReadRun}
+use Rattle.member_model.specs.ReadRuns.{EndsNot, IsReading, IsDraining}
 use Rattle.member_model.specs.CutRuns.{HasReadOn, MarksEnd, HasCutRun}
 use Rattle.member_model.specs.ReadLaws.{asking_push, reading_push, draining_push, run_push}
 use Rattle.mid_logger.specs.declared.channel_spec.ChannelSpec.{ChannelSpec}
@@ -20,8 +19,8 @@ use Rattle.mid_logger.specs.declared.stage.ChannelRun.{ChannelRun}
 use Rattle.mid_logger.specs.declared.stage.ChannelStage.{ChannelStage}
 use Rattle.mid_logger.specs.declared.stage.ChannelStage.TheVariants.{Idle, Asking, Writing, Draining, Drained, Broken}
 use Rattle.mid_logger.specs.Patterns.{file_name_by}
-use Rattle.mid_logger.specs.Channels.{FileHead, AsksNothing, FileHolds, AskingAt, ReadsUntil, ReadingAt, HasReadUntil, DrainedAt, HasReadPart, BrokenAt, StageAt, ChannelStands, run_on}
-use Rattle.mid_logger.specs.Beside.{LeavesClient, LeavesFile, LeavesChannelFile}
+use Rattle.mid_logger.specs.Channels.{FileHead, AsksNothing, FileHolds, ReadsUntil, ReadingAt, HasReadUntil, HasReadPart, StageAt, ChannelStands, run_on}
+use Rattle.mid_logger.specs.Beside.{LeavesClient, LeavesRunOn, LeavesFile, LeavesChannelFile}
 use Rattle.mid_logger.proofs.OwnSteps.{own_push, own_client_push, nothing_push}
 use Rattle.mid_logger.proofs.ReadSteps.{leaves_receive}
 
@@ -57,17 +56,31 @@ given_other client e gs leaves named test = none_named gs named client test
 pub goes_beside : (client : ℕ) (e : BufferEntry) (gs : List GotEvent) → LeavesClient (Some client) e → name_given e ≡ map name_of gs → GoesBeside client e gs
 goes_beside client e gs leaves named = record { leaves = leaves_asking client e leaves; named = named; none = given_other client e gs leaves named }
 
+-- a call that is no end
+abbrev pub IsNoEnd : BufferEntry → Type 0
+IsNoEnd (End start reply) = ⊥
+IsNoEnd e = ⊤
+
+ends_not : (start : ℕ) (e : BufferEntry) → IsNoEnd e → EndsNot start e
+ends_not start (End s reply) none = absurd none
+ends_not start e none = tt
+
+pub leaves_run : (stage : ChannelStage) (e : BufferEntry) → IsNoEnd e → LeavesRunOn stage e
+leaves_run (Writing opened begun) e none = ends_not opened.start e none
+leaves_run (Draining run) e none = ends_not run.opened.start e none
+leaves_run stage e none = tt
+
 -- Reading goes on.
 
 same_events : (events : List Event) {more : List Event} → more ≡ [] → events ++ more ≡ events
 same_events events none = ap (λ (l : List Event). events ++ l) none ∙ append-nil events
 
-pub reads_beside : (ended : Option ℕ) (own : List BufferEntry) (got : List GotEvent) (client id mask request start begun : ℕ) (events : List Event) (e : BufferEntry) (gs : List GotEvent) → GoesBeside client e gs
+pub reads_beside : (ended : Option ℕ) (own : List BufferEntry) (got : List GotEvent) (client id mask request start begun : ℕ) (events : List Event) (e : BufferEntry) (gs : List GotEvent) → GoesBeside client e gs → EndsNot start e
     → ReadsUntil ended own got client id mask request start begun events → ReadsUntil ended (own ++ e ∷ []) (got ++ gs) client id mask request start begun events
-reads_beside None own got client id mask request start begun events e gs beside reads =
+reads_beside None own got client id mask request start begun events e gs beside ends reads =
     subst (λ (es : List Event). IsReading (own ++ e ∷ []) (got ++ gs) client id mask request start begun es) (same_events events (beside.none (nat_le begun)))
-    (reading_push own got client id mask request start begun events e gs reads beside.leaves beside.named)
-reads_beside (Some end) own got client id mask request start begun events e gs beside reads =
+    (reading_push own got client id mask request start begun events e gs reads beside.leaves ends beside.named)
+reads_beside (Some end) own got client id mask request start begun events e gs beside ends reads =
     subst (λ (es : List Event). IsDraining (own ++ e ∷ []) (got ++ gs) client id mask request start begun end es) (same_events events (beside.none (is_within begun end)))
     (draining_push own got client id mask request start begun end events e gs reads beside.leaves beside.named)
 
@@ -124,33 +137,33 @@ asks_beside (Some client) own e nothing leaves = nothing_push own client e nothi
 beside_of : (client : Option ℕ) (c : ℕ) (e : BufferEntry) (gs : List GotEvent) → client ≡ Some c → LeavesClient client e → name_given e ≡ map name_of gs → GoesBeside c e gs
 beside_of client c e gs of leaves named = goes_beside c e gs (subst (λ (o : Option ℕ). LeavesClient o e) of leaves) named
 
-reading_beside : (spec : ChannelSpec) (client : Option ℕ) (run : BegunRun) (head : FileHead) (own : List BufferEntry) (got : List GotEvent) (seen : Seen) (e : BufferEntry) (gs : List GotEvent) → LeavesClient client e → name_given e ≡ map name_of gs
+reading_beside : (spec : ChannelSpec) (client : Option ℕ) (run : BegunRun) (head : FileHead) (own : List BufferEntry) (got : List GotEvent) (seen : Seen) (e : BufferEntry) (gs : List GotEvent) → LeavesClient client e → EndsNot run.opened.start e → name_given e ≡ map name_of gs
     → ReadingAt spec client run head own got seen → ReadingAt spec client run head (own ++ e ∷ []) (got ++ gs) seen
-reading_beside spec client run head own got seen e gs leaves named at = record {
+reading_beside spec client run head own got seen e gs leaves ends named at = record {
   events = at.events;
   of = at.of;
-  reads = reads_beside run.ended own got run.opened.client spec.id spec.mask run.opened.request run.opened.start run.begun at.events e gs (beside_of client run.opened.client e gs at.of leaves named) at.reads;
+  reads = reads_beside run.ended own got run.opened.client spec.id spec.mask run.opened.request run.opened.start run.begun at.events e gs (beside_of client run.opened.client e gs at.of leaves named) ends at.reads;
   holds = at.holds;
 }
 
-stage_beside : (spec : ChannelSpec) (client : Option ℕ) (stage : ChannelStage) (head : FileHead) (own : List BufferEntry) (got : List GotEvent) (seen : Seen) (e : BufferEntry) (gs : List GotEvent) → LeavesClient client e → name_given e ≡ map name_of gs
+stage_beside : (spec : ChannelSpec) (client : Option ℕ) (stage : ChannelStage) (head : FileHead) (own : List BufferEntry) (got : List GotEvent) (seen : Seen) (e : BufferEntry) (gs : List GotEvent) → LeavesClient client e → LeavesRunOn stage e → name_given e ≡ map name_of gs
     → StageAt spec client stage head own got seen → StageAt spec client stage head (own ++ e ∷ []) (got ++ gs) seen
-stage_beside spec client Idle head own got seen e gs leaves named at = asks_beside client own e at leaves
-stage_beside spec client (Asking opened) head own got seen e gs leaves named at = record {
+stage_beside spec client Idle head own got seen e gs leaves ends named at = asks_beside client own e at leaves
+stage_beside spec client (Asking opened) head own got seen e gs leaves ends named at = record {
   of = at.of;
   asking = asking_push own opened.client spec.id spec.mask opened.request e at.asking (beside_of client opened.client e gs at.of leaves named).leaves;
   holds = at.holds;
 }
-stage_beside spec client (Writing opened begun) head own got seen e gs leaves named at = reading_beside spec client (run_on opened begun) head own got seen e gs leaves named at
-stage_beside spec client (Draining run) head own got seen e gs leaves named at = reading_beside spec client run head own got seen e gs leaves named at
-stage_beside spec client (Drained run) head own got seen e gs leaves named at = record {
+stage_beside spec client (Writing opened begun) head own got seen e gs leaves ends named at = reading_beside spec client (run_on opened begun) head own got seen e gs leaves ends named at
+stage_beside spec client (Draining run) head own got seen e gs leaves ends named at = reading_beside spec client run head own got seen e gs leaves ends named at
+stage_beside spec client (Drained run) head own got seen e gs leaves ends named at = record {
   events = at.events;
   of = at.of;
   nothing = asks_beside client own e at.nothing leaves;
   reads = until_push run.ended own got run.opened.client spec.id spec.mask run.opened.request run.opened.start run.begun at.events e gs at.reads;
   holds = at.holds;
 }
-stage_beside spec client (Broken run) head own got seen e gs leaves named at = record {
+stage_beside spec client (Broken run) head own got seen e gs leaves ends named at = record {
   events = at.events;
   bytes = at.bytes;
   of = at.of;
@@ -164,18 +177,18 @@ stage_beside spec client (Broken run) head own got seen e gs leaves named at = r
 }
 
 pub calls_beside : (spec : ChannelSpec) (client : Option ℕ) (stage : ChannelStage) (head : FileHead) (own : List BufferEntry) (got : List GotEvent) (seen : Seen) (e : BufferEntry) (gs : List GotEvent) → ChannelStands spec client stage head own got seen
-    → SendsNone e → IsOwnCall e (calls_after [] own) → LeavesClient client e → name_given e ≡ map name_of gs → ChannelStands spec client stage head (own ++ e ∷ []) (got ++ gs) seen
-calls_beside spec client stage head own got seen e gs stands none is_own leaves named = record {
+    → SendsNone e → IsOwnCall e (calls_after [] own) → LeavesClient client e → LeavesRunOn stage e → name_given e ≡ map name_of gs → ChannelStands spec client stage head (own ++ e ∷ []) (got ++ gs) seen
+calls_beside spec client stage head own got seen e gs stands none is_own leaves ends named = record {
   port = own_push own e stands.port none is_own;
   own_client = own_client_push client own e stands.own_client;
-  at = stage_beside spec client stage head own got seen e gs leaves named stands.at;
+  at = stage_beside spec client stage head own got seen e gs leaves ends named stands.at;
 }
 
 -- The same, where the call gives no event.
 pub call_beside : (spec : ChannelSpec) (client : Option ℕ) (stage : ChannelStage) (head : FileHead) (own : List BufferEntry) (got : List GotEvent) (seen : Seen) (e : BufferEntry) → ChannelStands spec client stage head own got seen
-    → SendsNone e → IsOwnCall e (calls_after [] own) → LeavesClient client e → name_given e ≡ [] → ChannelStands spec client stage head (own ++ e ∷ []) got seen
-call_beside spec client stage head own got seen e stands none is_own leaves named =
-    subst (λ (l : List GotEvent). ChannelStands spec client stage head (own ++ e ∷ []) l seen) (append-nil got) (calls_beside spec client stage head own got seen e [] stands none is_own leaves named)
+    → SendsNone e → IsOwnCall e (calls_after [] own) → LeavesClient client e → LeavesRunOn stage e → name_given e ≡ [] → ChannelStands spec client stage head (own ++ e ∷ []) got seen
+call_beside spec client stage head own got seen e stands none is_own leaves ends named =
+    subst (λ (l : List GotEvent). ChannelStands spec client stage head (own ++ e ∷ []) l seen) (append-nil got) (calls_beside spec client stage head own got seen e [] stands none is_own leaves ends named)
 
 -- Files.
 
@@ -189,7 +202,7 @@ written_left {old} {new} {name} {bytes} opened p leaves = record {
   holds = λ told. let before : IsTrue old.tells = sym leaves.tells ∙ told in leaves.at before ∙ p.holds before;
 }
 
-stored_left : {old new : Seen} {name bytes : List ℕ} → IsStored old name bytes → LeavesFile old new name None → IsStored new name bytes
+pub stored_left : {old new : Seen} {name bytes : List ℕ} → IsStored old name bytes → LeavesFile old new name None → IsStored new name bytes
 stored_left {old} p leaves = record { holds = λ told. let before : IsTrue old.tells = sym leaves.tells ∙ told in leaves.at before ∙ p.holds before }
 
 holds_left : (spec : ChannelSpec) (head : FileHead) (old new : Seen) (opened : ChannelRun) (events : List Event) → FileHolds spec head old opened events → LeavesFile old new (file_name_by spec.pattern opened.run) (Some opened) → FileHolds spec head new opened events

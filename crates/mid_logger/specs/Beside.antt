@@ -8,21 +8,29 @@ use Rattle.buffer_core.specs.declared.entry.BufferEntry.{BufferEntry}
 use Rattle.buffer_core.specs.declared.entry.BufferEntry.TheVariants.{Receive}
 use Rattle.buffer_core.specs.Ports.{Access, GotEvent, name_of, name_given}
 use Rattle.member_model.specs.OwnCalls.{calls_after, IsOwnCall, SendsNone, LeavesAsking}
+use Rattle.member_model.specs.ReadRuns.{EndsNot}
 use Rattle.mid_logger.specs.declared.channel_spec.ChannelSpec.{ChannelSpec}
+use Rattle.mid_logger.specs.declared.stage.BegunRun.{BegunRun}
 use Rattle.mid_logger.specs.declared.stage.ChannelRun.{ChannelRun}
 use Rattle.mid_logger.specs.declared.stage.ChannelStage.{ChannelStage}
-use Rattle.mid_logger.specs.declared.stage.ChannelStage.TheVariants.{Idle}
+use Rattle.mid_logger.specs.declared.stage.ChannelStage.TheVariants.{Idle, Writing, Draining}
 use Rattle.mid_logger.specs.Patterns.{file_name_by}
 use Rattle.mid_logger.specs.Channels.{FileHead, ChannelStands, IsOpenFile, channel_run, written_run}
 use Rattle.mid_logger.specs.Pulls.{PullOf, Pulls}
 use Rattle.mid_logger.specs.ChannelTurns.{ChannelAt, OpensBy, asking_run, broken_run, drained_run}
-use Rattle.mid_logger.specs.ChannelEnds.{CancelsStanding, RemovesFile, ClosesFile}
+use Rattle.mid_logger.specs.ChannelEnds.{CancelsStanding, RemovesFile, ClosesFile, HasLeft}
 
 -- the call neither receives for the client, nor makes or cancels a request of it, nor attaches or detaches it
 abbrev pub LeavesClient : Option ℕ → BufferEntry → Type 0
 LeavesClient None entry = ⊤
 LeavesClient (Some client) (Receive c room reply) = c ≢ client
 LeavesClient (Some client) entry = LeavesAsking client entry
+
+-- the call does not end the run that the channel's client reads
+abbrev pub LeavesRunOn : ChannelStage → BufferEntry → Type 0
+LeavesRunOn (Writing opened begun) entry = EndsNot opened.start entry
+LeavesRunOn (Draining run) entry = EndsNot run.opened.start entry
+LeavesRunOn stage entry = ⊤
 
 -- the number under which the file of the run, if there is one, is written is in use as it was
 abbrev pub LeavesNumber : Option ChannelRun → (old new : Seen) → Type 0
@@ -43,13 +51,14 @@ LeavesRunFile spec (Some opened) written old new = LeavesFile old new (file_name
 abbrev pub LeavesChannelFile : ChannelSpec → ChannelStage → (old new : Seen) → Type 0
 LeavesChannelFile spec stage old new = LeavesRunFile spec (channel_run stage) (written_run stage) old new
 
--- A call of the logger on the channel's buffer that leaves the channel's client, and gives these events, leaves what the
--- channel keeps.
+-- A call of the logger on the channel's buffer that leaves the channel's client, does not end the run that it reads, and
+-- gives these events, leaves what the channel keeps.
 abbrev pub CallsBeside : Type 0
 CallsBeside = (spec : ChannelSpec) → (client : Option ℕ) → (stage : ChannelStage) → (head : FileHead) →
     (own : List BufferEntry) → (got : List GotEvent) → (seen : Seen) → (entry : BufferEntry) → (given : List GotEvent) →
     ChannelStands spec client stage head own got seen →
-    SendsNone entry → IsOwnCall entry (calls_after [] own) → LeavesClient client entry → name_given entry ≡ map name_of given →
+    SendsNone entry → IsOwnCall entry (calls_after [] own) → LeavesClient client entry → LeavesRunOn stage entry →
+    name_given entry ≡ map name_of given →
     ChannelStands spec client stage head (own ++ entry ∷ []) (got ++ given) seen
 
 -- So does a change of files that leaves the channel's own.
@@ -110,3 +119,18 @@ OpensBeside = (spec : ChannelSpec) → (order : Order) → (dump : List ℕ) →
     ChannelStands other other_client other_stage other_head a.port.own a.port.got a.files →
     ChannelStands other other_client other_stage other_head b.port.own b.port.got b.files
     × ChannelsApart b.files spec b.client b.stage other other_client other_stage
+
+-- the run of which a file was left: the one that was read, else the one that broke off
+abbrev pub left_run : (drained broken : Option BegunRun) → Option ChannelRun
+left_run (Some run) broken = Some run.opened
+left_run None (Some run) = Some run.opened
+left_run None None = None
+
+-- What stands of a run whose file was ended stands behind any calls and events more, and behind changes of files that leave
+-- its file.
+abbrev pub LeftBeside : Type 0
+LeftBeside = (drained broken : Option BegunRun) → (state : ChannelState) → (spec : ChannelSpec) → (head : FileHead) →
+    (time : ℕ) → (dump : Option (List ℕ)) → (own more : List BufferEntry) → (got given : List GotEvent) → (old new : Seen) →
+    HasLeft drained broken state spec head time dump own got old →
+    LeavesRunFile spec (left_run drained broken) None old new →
+    HasLeft drained broken state spec head time dump (own ++ more) (got ++ given) new

@@ -1,5 +1,5 @@
 -- What a channel does where a run is called off, or its file is ended.
-use Rattle.std.specs.Prelude.{◌≡◌, ◌≤◌, ℕ, length, take, All, List, [], ◌++◌, Option, Some, None, ◌⊎◌, ⊤}
+use Rattle.std.specs.Prelude.{◌≡◌, ◌≤◌, ℕ, length, All, List, [], ◌++◌, Option, Some, None, ◌⊎◌, ⊤}
 use mathlib.Core.List.{IsPrefix}
 use Rattle.daq_types.specs.declared.events.Event.{Event}
 use Rattle.daq_types.specs.declared.runs.ChannelState.{ChannelState}

@@ -1,5 +1,5 @@
 -- What a channel does where a run is started.
-use Rattle.std.specs.Prelude.{◌≡◌, ◌≤◌, ℕ, codes, Bool, true, Result, Ok, Err, List, [], Option, Some, None, ◌⊎◌, ⊤, length}
+use Rattle.std.specs.Prelude.{◌≡◌, ◌≤◌, ℕ, codes, Bool, true, Result, Ok, Err, List, [], Option, Some, None, ◌⊎◌, ⊤}
 use Rattle.daq_types.specs.declared.runs.Kind.TheVariants.{All}
 use Rattle.daq_types.specs.declared.runs.Order.{Order}
 use Rattle.daq_types.specs.declared.runs.Why.{Why}

@@ -158,6 +158,11 @@ stage_ended (Writing opened begun) ended = Draining (record { opened = opened; b
 stage_ended (Broken run) ended = Broken (record run { ended = end_marked run.ended ended })
 stage_ended stage ended = stage
 
+-- a run whose client is being drained is not ended again
+abbrev pub EndsOnce : ChannelStage → Result ℕ MarkRefusal → Type 0
+EndsOnce (Draining run) (Ok place) = ⊥
+EndsOnce stage reply = ⊤
+
 -- the run that the channel writes, or broke off
 abbrev pub channel_run : ChannelStage → Option ChannelRun
 channel_run Idle = None

@@ -1,5 +1,5 @@
 -- What a channel does with an event that it got, and when it pulls.
-use Rattle.std.specs.Prelude.{◌≡◌, ℕ, Bool, true, false, nat_lt, ◌⊎◌, List, [], Option, Some, None}
+use Rattle.std.specs.Prelude.{◌≡◌, ℕ, Bool, true, false, nat_lt, ◌⊎◌, List, Option, Some, None}
 use Rattle.daq_types.specs.declared.events.Event.{Event}
 use Rattle.daq_model.specs.Events.{encoding}
 use Rattle.daq_io.specs.Counts.{Rose, first_of}

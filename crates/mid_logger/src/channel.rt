@@ -8,7 +8,7 @@ ghost use Rattle.buffer_core.specs.declared.entry.BufferEntry.TheVariants.{Begin
 ghost use Rattle.buffer_core.specs.Ports.{GotEvent};
 ghost use Rattle.mid_logger.specs.declared.stage.ChannelRun.{ChannelRun};
 ghost use Rattle.mid_logger.specs.declared.stage.ChannelStage.TheVariants.{Asking, Drained, Broken};
-ghost use Rattle.mid_logger.specs.Channels.{FileHead, ChannelStands, IsOpenFile, ClosesPart, CancelsRequest, is_behind_end, reading_run, written_run, channel_file, stage_begun, stage_ended, end_marked, channel_run, place_marked};
+ghost use Rattle.mid_logger.specs.Channels.{FileHead, ChannelStands, IsOpenFile, ClosesPart, CancelsRequest, is_behind_end, reading_run, written_run, channel_file, stage_begun, stage_ended, end_marked, channel_run, place_marked, EndsOnce};
 ghost use Rattle.mid_logger.specs.Pulls.{TakesEvent, PullsOnce, Pulls, PullFaults, PullFirst, NamesMore, failed_by, drains_at_none};
 
 use crate::channel_spec::ChannelSpec;
@@ -365,6 +365,7 @@ impl Channel {
         ensures keeps { (opened : ChannelRun) → (reply : Result ℕ MarkRefusal) → (head : FileHead) →
             (own : List BufferEntry) → (got : List GotEvent) → (seen : Seen) →
             channel_run self.old.stage ≡ Some opened → ended ≡ place_marked reply →
+            EndsOnce self.old.stage reply →
             ChannelStands self.old.spec self.old.client self.old.stage head own got seen →
             ChannelStands self.new.spec self.new.client self.new.stage head
             (own ++ End opened.start reply ∷ []) got seen }

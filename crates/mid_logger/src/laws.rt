@@ -1,9 +1,9 @@
 //! What leaves a channel as it stands: each function does nothing, and its contract is the law.
 
-ghost use Rattle.mid_logger.specs.Beside.{AbortsBeside, CallsBeside, ClosesBeside, FilesBeside, OpensBeside, PullsBeside};
+ghost use Rattle.mid_logger.specs.Beside.{AbortsBeside, CallsBeside, ClosesBeside, FilesBeside, LeftBeside, OpensBeside, PullsBeside};
 
-/// A call on the channel's buffer that names another client leaves what the channel keeps: calls of other channels, and
-/// pauses and resumes.
+/// A call on the channel's buffer that names another client, and does not end the run that the channel's client reads,
+/// leaves what the channel keeps: calls of other channels, and pauses and resumes.
 pub fn calls_beside()
     ensures { CallsBeside }
 {}
@@ -31,4 +31,9 @@ pub fn closes_beside()
 /// So does the opening of a run, and its refusal; and the two channels are apart then.
 pub fn opens_beside()
     ensures { OpensBeside }
+{}
+
+/// What stands of a run whose file was ended stands behind any calls more, and behind changes of other files.
+pub fn left_beside()
+    ensures { LeftBeside }
 {}

@@ -1,7 +1,8 @@
 //! How a channel opens the file of a run and asks for its events, and how it calls a run off.
 
-ghost use Rattle.std.specs.Prelude.{◌≡◌, ◌≢◌, ◌≤◌, ◌+◌, ◌⊎◌, [], IsTrue, OnOk, OnErr, IfErr, IfSome, Some, None, codes, length};
+ghost use Rattle.std.specs.Prelude.{◌≡◌, ◌≢◌, ◌≤◌, ◌+◌, ◌⊎◌, ◌↔◌, [], IsTrue, IsSome, IsErrOf, OnOk, OnErr, IfErr, IfSome, Some, None, codes, length};
 ghost use Rattle.std.specs.Option.{option_map};
+ghost use Rattle.daq_types.specs.declared.runs.Why.TheVariants.{Exists};
 ghost use Rattle.daq_model.specs.Events.{record_limit};
 ghost use Rattle.daq_io.specs.Counts.{Rose};
 ghost use Rattle.mid_logger.specs.declared.stage.ChannelStage.TheVariants.{Idle};
@@ -204,6 +205,8 @@ impl Channel {
           files = F.seen files.new;
           faults = F.faults files.new;
         }) }
+        ensures exists { IsTrue (F.seen files.old).tells → (IsErrOf result (Exists self.old.spec.number)
+            ↔ IsSome ((F.seen files.old).at (file_name_by self.old.spec.pattern order.now.run))) }
         ensures failed { NotesFault self.old.failed self.new.failed (F.faults files.old)
             (F.faults files.new) }
         ensures faults { OpenFaults result (F.faults files.old) (F.faults files.new) }
@@ -255,6 +258,8 @@ impl Channel {
           files = F.seen files.new;
           faults = F.faults files.new;
         }) }
+        ensures exists { IsTrue (F.seen files.old).tells → (IsErrOf result (Exists self.old.spec.number)
+            ↔ IsSome ((F.seen files.old).at (file_name_by self.old.spec.pattern order.now.run))) }
         ensures failed { NotesFault self.old.failed self.new.failed (F.faults files.old)
             (F.faults files.new) }
         ensures faults { OpenFaults result (F.faults files.old) (F.faults files.new) }
