@@ -22,8 +22,9 @@ pub record CutsRun (o : Outset) (readings : ℕ) (runs : List RunRecord) (now : 
   pub count : ℕ
   pub own : IsTrue o.files.tells → now.at (run_name run) ≡ Some (stored_open (take count (begun_file run time [] [])))
 
--- A start failed: every file is as it was, as where none was made; or its file was made, and has a first part of the begin
--- record. Of one that was made and removed again the files tell no more than of one that was not made.
+-- A start failed: every file is as it was, and so is every number in use, as where no file was made; or its file was made,
+-- and has a first part of the begin record. Of one that was made, closed and removed again the files tell no more than of
+-- one that was not made.
 abbrev pub StartBreaks : (o : Outset) (readings : ℕ) (runs : List RunRecord) (now : Seen) → Type 0
 StartBreaks o readings runs now = IsKept o.files now runs None ⊎ CutsRun o readings runs now
 
