@@ -1,5 +1,6 @@
 #!/bin/sh
-# What it costs to take a lock's turn and to put the value back, beside std's Mutex in plain Rust, in one run.
+# What it costs to take a lock's turn and to put the value back, beside std's Mutex in plain Rust, in one run; and what a
+# send and a receive cost through a shared buffer, beside the same ring under std's Mutex of the kit.
 # Usage: bench/lock.sh [CALLS], calls of each pass; without it a million.
 set -e
 cd "$(dirname "$0")/.."

@@ -8,6 +8,7 @@ use Rattle.buffer_core.specs.declared.replies.Received.{Received}
 use Rattle.buffer_core.specs.declared.replies.Received.TheVariants.{Got, SmallBuf}
 use Rattle.buffer_core.specs.declared.entry.BufferEntry.{BufferEntry}
 use Rattle.buffer_core.specs.declared.entry.BufferEntry.TheVariants.{Attach, Detach, Send, SendInRun, Receive}
+use Rattle.buffer_core.specs.Window.{Window}
 
 -- how many bytes of data the call hands over
 abbrev pub data_of : BufferEntry → ℕ
@@ -36,11 +37,19 @@ abbrev pub names_given : List BufferEntry → List (ℕ × ℕ × ℕ)
 names_given [] = []
 names_given (e ∷ es) = name_given e ++ names_given es
 
--- One caller's access to a buffer: the caller's number; the buffer's size; the caller's own calls
--- with their replies, in order; the events that its clients got by them, in order; which of its own
--- calls, counted from 0, gave it clients that other callers detached, as far as is known; and room
--- for so many calls more, which hand over so many bytes of data.
+-- Which buffer a port leads to: the window with which it opened to its ports, how many ports it may
+-- have, and numbers by which it is told from other buffers; none where it has one port.
+pub record BufferIdentity : Type 0 where
+  pub opened : Window
+  pub ports : ℕ
+  pub numbers : List ℕ
+
+-- One caller's access to a buffer: which buffer it is; the caller's number; the buffer's size; the
+-- caller's own calls with their replies, in order; the events that its clients got by them, in
+-- order; which of its own calls, counted from 0, gave it clients that other callers detached, as far
+-- as is known; and room for so many calls more, which hand over so many bytes of data.
 pub record Access : Type 0 where
+  pub buffer : BufferIdentity
   pub caller : ℕ
   pub size : ℕ
   pub own : List BufferEntry
@@ -65,9 +74,10 @@ IsNewNumber a client = (call : ℕ) → IsGivenAt a.own call client → Contains
 abbrev pub knowing : Access → (later : Access) → Access
 knowing a later = record a { taken_back = later.taken_back }
 
--- One call more, after which the clients have got these events. What was known of other callers
--- stays known, and only of clients that the caller had there may more be known.
+-- One call more on the same buffer, after which the clients have got these events. What was known of
+-- other callers stays known, and only of clients that the caller had there may more be known.
 pub record Called (a b : Access) (entry : BufferEntry) (got : List GotEvent) : Type 0 where
+  pub buffer : b.buffer ≡ a.buffer
   pub caller : b.caller ≡ a.caller
   pub size : b.size ≡ a.size
   pub own : b.own ≡ a.own ++ entry ∷ []

@@ -3,7 +3,7 @@ use Rattle.std.specs.Prelude.{ℕ, List, [], ◌∷◌, length, Ok, Err}
 use Rattle.daq_types.specs.declared.events.Event.{Event}
 use Rattle.daq_types.specs.declared.runs.Kind.TheVariants.{All, NonBlocking}
 use Rattle.buffer_core.specs.declared.gate.RunGate.TheVariants.{Shut}
-use Rattle.buffer_core.specs.Window.{any}
+use Rattle.buffer_core.specs.Window.{any, opening}
 use Rattle.buffer_core.specs.Ports.{Access}
 use Rattle.buffer_core.specs.declared.replies.SendRefusal.TheVariants.{Full}
 use Rattle.buffer_core.specs.declared.replies.Received.TheVariants.{Got, Empty}
@@ -108,6 +108,7 @@ sent_in_pause = (1, Begin 1 (Ok 0)) ∷ (1, Pause 1 (Ok 0)) ∷ (1, SendInRun 1 
 -- detached
 abbrev pub access_after : List BufferEntry → (taken_back : List ℕ) → Access
 access_after own taken_back = record {
+  buffer = record { opened = opening 256; ports = 1; numbers = [] };
   caller = 1;
   size = 256;
   own = own;

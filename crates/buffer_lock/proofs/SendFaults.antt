@@ -1,5 +1,5 @@
 -- A refusal of a send is one that the event and the size decide, where these decide it.
-use Rattle.std.specs.Prelude.{◌≡◌, ℕ, ◌+◌, ◌^◌, ◌==◌, ◌&&◌, nat_le, nat_lt, Bool, true, false, if◌then◌else◌, length, Option, Some, None, Result, Ok, Err, IfErr, refl}
+use Rattle.std.specs.Prelude.{◌≡◌, ℕ, ◌+◌, ◌^◌, ◌==◌, ◌&&◌, nat_le, nat_lt, if◌then◌else◌, length, Option, Some, None, Result, Ok, Err, IfErr, refl}
 use Rattle.std.proofs.Common.{sym, subst}
 use Rattle.std.proofs.lemmas.Bool.{ltb-true}
 use Rattle.daq_types.specs.declared.events.Event.{Event}
@@ -8,7 +8,7 @@ use Rattle.buffer_core.specs.declared.replies.SendRefusal.{SendRefusal}
 use Rattle.buffer_core.specs.declared.replies.SendRefusal.TheVariants.{NotRunning, BadSize, ReservedId, TooLarge, Spent, Full}
 use Rattle.buffer_core.specs.SlotLaws.{split}
 use Rattle.buffer_core.specs.Window.{Window}
-use Rattle.buffer_core.specs.Calls.{full_reply, room_reply, spent_reply, size_reply, id_reply, send_reply, is_running, send_in_run_reply, owed_in, gone_of}
+use Rattle.buffer_core.specs.Calls.{full_reply, room_reply, spent_reply, size_reply, id_reply, send_reply, is_running, send_in_run_reply}
 use Rattle.buffer_core.specs.Ports.{IsSendFault, IsRunSendFault}
 
 module _ (w : Window) (stated : ℕ) (e : Event) where

@@ -1,16 +1,15 @@
 -- What the lock tells of a call, in the words of buffers.
 use Rattle.std.specs.Prelude.{◌≡◌, ℕ, List, [], ◌∷◌, ◌++◌, refl}
-use Rattle.std.proofs.Common.{ap, sym, subst, ◌∙◌}
+use Rattle.std.proofs.Common.{sym, subst}
 use Rattle.daq_types.specs.declared.events.Event.{Event}
 use Rattle.buffer_core.specs.declared.replies.Received.{Received}
 use Rattle.buffer_core.specs.declared.replies.Received.TheVariants.{Got, Empty, NoClient as NoReader, SmallBuf}
 use Rattle.buffer_core.specs.declared.entry.BufferEntry.{BufferEntry}
 use Rattle.buffer_core.specs.declared.entry.BufferEntry.TheVariants.{Receive}
 use Rattle.buffer_core.specs.Window.{Window, IsWindow}
-use Rattle.buffer_core.specs.Calls.{IsReply, window_after, event_after}
+use Rattle.buffer_core.specs.Calls.{window_after, event_after}
 use Rattle.buffer_core.specs.Histories.{IsLegal, replay}
 use Rattle.turn_lock.specs.History.{Leads}
-use Rattle.buffer_lock.specs.declared.locked.Locked.{Locked}
 use Rattle.buffer_lock.specs.BufferSteps.{StepsWindow}
 
 -- a history of the lock is one of the buffer
@@ -30,14 +29,6 @@ first_is w last (x ∷ xs) n e leads = leads.1.window
 
 pub opens_window : (w last : Window) (seen h : List (ℕ × BufferEntry)) (n : ℕ) (e : BufferEntry) → seen ≡ h ++ (n, e) ∷ [] → Leads StepsWindow w seen last → IsWindow w
 opens_window w last seen h n e is leads = first_is w last h n e (subst (λ (l : List (ℕ × BufferEntry)). Leads StepsWindow w l last) is leads)
-
--- the same of the whole history, once the lock has ended
-module _ {B : Type 0} (window : B → Window) (x y : Locked B) (h : List (ℕ × BufferEntry)) (last : Window) (same : x ≡ y) (leads : Leads StepsWindow (window x.buffer) h last) where
-  pub closed_legal : IsLegal (window y.buffer) h
-  closed_legal = leads_legal (window y.buffer) last h (subst (λ (l : Locked B). Leads StepsWindow (window l.buffer) h last) same leads)
-
-  pub closed_replay : last ≡ replay (window y.buffer) h
-  closed_replay = leads_replay (window y.buffer) last h (subst (λ (l : Locked B). Leads StepsWindow (window l.buffer) h last) same leads)
 
 -- a receive leaves the kept events as they were, so the event that it gives is read off the window after it
 pub event_still : (held : Event) (w : Window) (client room : ℕ) (reply : Received) → event_after held w reply ≡ event_after held (window_after w (Receive client room reply)) reply

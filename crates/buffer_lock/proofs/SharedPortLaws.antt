@@ -1,6 +1,6 @@
 -- Each call by a port to a shared buffer is one of the port's caller.
-use Rattle.std.specs.Prelude.{◌≡◌, ℕ, ◌+◌, ◌-◌, ◌^◌, ◌≤◌, List, [], ◌∷◌, ◌++◌, Contains, min, Result, Ok, Err, IfOk, IfErr, refl}
-use Rattle.std.proofs.Common.{ap, sym, subst, ◌∙◌, arith, ⊎_elim, inl, inr, append-nil}
+use Rattle.std.specs.Prelude.{◌≡◌, ℕ, ◌-◌, ◌^◌, ◌≤◌, List, [], ◌∷◌, ◌++◌, min, Result, Ok, Err, IfOk, IfErr, refl}
+use Rattle.std.proofs.Common.{ap, sym, subst, ◌∙◌, arith, ⊎_elim, inr, append-nil}
 use Rattle.daq_types.specs.declared.events.Event.{Event}
 use Rattle.daq_model.specs.Events.{event_limit}
 use Rattle.daq_types.specs.Callers.{entries_by, entries_by-append}
@@ -13,12 +13,12 @@ use Rattle.buffer_core.specs.Window.{Window, IsWindow}
 use Rattle.buffer_core.specs.Calls.{IsReply, window_after, event_after}
 use Rattle.buffer_core.specs.Histories.{IsLegal, replay}
 use Rattle.buffer_core.specs.HistoryLaws.{replay-push}
-use Rattle.buffer_core.specs.Ports.{Access, GotEvent, Called, Calls, Receives, IsNewNumber, knowing, IsGivenAt, got_after, slots_got, GivesSound, IsSmallBuf, IsSendFault, IsRunSendFault}
-use Rattle.local_port.specs.Ported.{Ported, IsPorted, AppendsCall, access_of, given_by, given_in, taken_back_in}
+use Rattle.buffer_core.specs.Ports.{Access, BufferIdentity, GotEvent, Called, Calls, Receives, IsNewNumber, knowing, IsGivenAt, got_after, slots_got, GivesSound, IsSmallBuf, IsSendFault, IsRunSendFault}
+use Rattle.local_port.specs.Ported.{AppendsCall, access_of, given_by, given_in}
 use Rattle.local_port.proofs.NumberLaws.{new_number}
-use Rattle.local_port.proofs.PortLaws.{called, calls, receives, gives_sound, gives_whole, gets_few, size_stays}
+use Rattle.local_port.proofs.PortLaws.{calls, receives, gives_sound, gives_whole, gets_few, size_stays}
 use Rattle.turn_lock.specs.History.{Appends}
-use Rattle.buffer_lock.specs.SharedPorts.{endless, ported_by}
+use Rattle.buffer_lock.specs.SharedPorts.{ported_by, access_to}
 use Rattle.buffer_lock.proofs.ForeignLaws.{given_stays, taken_back_stays, newly_taken}
 use Rattle.buffer_lock.proofs.SharedLaws.{event_still}
 use Rattle.buffer_lock.proofs.SendFaults.{send_fault, run_send_fault}
@@ -57,6 +57,7 @@ called_since n first seen others b e got foreign call =
     let own : entries_by n (seen ++ others) ≡ entries_by n seen =
     entries_by-append n seen others ∙ (ap (λ (l : List BufferEntry). entries_by n seen ++ l) foreign ∙ append-nil (entries_by n seen)) in
     record {
+      buffer = call.buffer;
       caller = call.caller;
       size = call.size ∙ (size_replay first (seen ++ others) ∙ sym (size_replay first seen));
       own = call.own ∙ ap (λ (l : List BufferEntry). l ++ e ∷ []) own;
@@ -68,6 +69,20 @@ called_since n first seen others b e got foreign call =
       entries = call.entries;
       bytes = call.bytes;
     }
+
+-- the same call, told of this buffer
+told_of : (buffer : BufferIdentity) (a b : Access) (e : BufferEntry) (got : List GotEvent) → Called a b e got → Called (record a { buffer = buffer }) (record b { buffer = buffer }) e got
+told_of buffer a b e got call = record {
+  buffer = refl;
+  caller = call.caller;
+  size = call.size;
+  own = call.own;
+  got_is = call.got_is;
+  still_known = call.still_known;
+  newly_known = call.newly_known;
+  entries = call.entries;
+  bytes = call.bytes;
+}
 
 module _ (n : ℕ) (first : Window) (seen after : List (ℕ × BufferEntry)) where
   -- the refusals of a send, and of one in a run
@@ -89,15 +104,16 @@ module _ (n : ℕ) (first : Window) (seen after : List (ℕ × BufferEntry)) whe
 
 module _ (n n' : ℕ) (first : Window) (seen after : List (ℕ × BufferEntry)) where
   -- a call that gives no event
-  pub shared_calls : (e : BufferEntry) → ((w : Window) → given_by w e ≡ []) → IsWindow first → n' ≡ n → Appends n e seen after → IsLegal first after
-      → Calls (access_of (ported_by n first seen)) (access_of (ported_by n' first after)) e
-  shared_calls e none opens same a legal =
+  pub shared_calls : (buffer : BufferIdentity) (e : BufferEntry) → ((w : Window) → given_by w e ≡ []) → IsWindow first → n' ≡ n → Appends n e seen after → IsLegal first after
+      → Calls (access_to buffer (ported_by n first seen)) (access_to buffer (ported_by n' first after)) e
+  shared_calls buffer e none opens same a legal =
       let step = at_step n first seen after e opens a legal in
       let earlier : List (ℕ × BufferEntry) = seen ++ a.others in
       let call = called_since n first seen a.others (access_of (ported_by n first after)) e (given_in n first earlier) a.foreign
       (calls (ported_by n first earlier) (ported_by n first after) e (none (replay first earlier)) step) in
-      subst (λ (m : ℕ). Called (access_of (ported_by n first seen)) (access_of (ported_by m first after)) e (given_in n first seen)) (sym same)
-      (subst (λ (gs : List GotEvent). Called (access_of (ported_by n first seen)) (access_of (ported_by n first after)) e gs) (given_stays n first seen a.others a.foreign) call)
+      subst (λ (m : ℕ). Called (access_to buffer (ported_by n first seen)) (access_to buffer (ported_by m first after)) e (given_in n first seen)) (sym same)
+      (told_of buffer (access_of (ported_by n first seen)) (access_of (ported_by n first after)) e (given_in n first seen)
+      (subst (λ (gs : List GotEvent). Called (access_of (ported_by n first seen)) (access_of (ported_by n first after)) e gs) (given_stays n first seen a.others a.foreign) call))
 
   number_since : (name : List ℕ) (reply : Result ℕ NoSlot) (earlier : List (ℕ × BufferEntry)) → entries_by n earlier ≡ entries_by n seen
       → IfOk reply (IsNewNumber (knowing (access_of (ported_by n first earlier)) (access_of (ported_by n first after))))
@@ -128,12 +144,13 @@ module _ (n n' : ℕ) (first : Window) (seen after : List (ℕ × BufferEntry)) 
     event_then = event ∙ (ap (λ (w : Window). event_after held w reply) (ap (replay first) a.list ∙ replay-push first (seen ++ a.others) n (Receive client room reply))
         ∙ sym (event_still held (replay first (seen ++ a.others)) client room reply))
 
-    pub shared_receives : Receives (access_of (ported_by n first seen)) (access_of (ported_by n' first after)) client room reply held'
-    shared_receives =
+    pub shared_receives : (buffer : BufferIdentity) → Receives (access_to buffer (ported_by n first seen)) (access_to buffer (ported_by n' first after)) client room reply held'
+    shared_receives buffer =
         let call = called_since n first seen a.others (access_of (ported_by n first after)) (Receive client room reply) (got_after (given_in n first (seen ++ a.others)) client reply held') a.foreign
         (receives (ported_by n first (seen ++ a.others)) (ported_by n first after) client room reply held held' step event_then) in
-        subst (λ (m : ℕ). Called (access_of (ported_by n first seen)) (access_of (ported_by m first after)) (Receive client room reply) (got_after (given_in n first seen) client reply held')) (sym same)
-        (subst (λ (gs : List GotEvent). Called (access_of (ported_by n first seen)) (access_of (ported_by n first after)) (Receive client room reply) (got_after gs client reply held')) (given_stays n first seen a.others a.foreign) call)
+        subst (λ (m : ℕ). Called (access_to buffer (ported_by n first seen)) (access_to buffer (ported_by m first after)) (Receive client room reply) (got_after (given_in n first seen) client reply held')) (sym same)
+        (told_of buffer (access_of (ported_by n first seen)) (access_of (ported_by n first after)) (Receive client room reply) (got_after (given_in n first seen) client reply held')
+        (subst (λ (gs : List GotEvent). Called (access_of (ported_by n first seen)) (access_of (ported_by n first after)) (Receive client room reply) (got_after gs client reply held')) (given_stays n first seen a.others a.foreign) call))
 
     pub shared_sound : GivesSound reply held'
     shared_sound = gives_sound (ported_by n first (seen ++ a.others)) (ported_by n first after) client room reply held held' step event_then

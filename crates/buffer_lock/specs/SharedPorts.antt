@@ -3,14 +3,14 @@ use Rattle.std.specs.Prelude.{ℕ, ◌^◌, List}
 use Rattle.buffer_core.specs.declared.entry.BufferEntry.{BufferEntry}
 use Rattle.buffer_core.specs.Window.{Window}
 use Rattle.buffer_core.specs.Histories.{replay}
-use Rattle.buffer_core.specs.Ports.{Access}
+use Rattle.buffer_core.specs.Ports.{Access, BufferIdentity}
 use Rattle.local_port.specs.Ported.{Ported, access_of}
 use Rattle.turn_lock.specs.declared.lock.Pass.{Pass}
-use Rattle.turn_lock.specs.Passes.{number_of, seen_by}
+use Rattle.turn_lock.specs.Passes.{number_of, seen_by, passes_of, lock_numbers}
 use Rattle.buffer_lock.specs.declared.locked.Locked.{Locked}
 use Rattle.buffer_lock.specs.declared.shared.SharedBuffer.{SharedBuffer}
 use Rattle.buffer_lock.specs.declared.port.SharedPort.{SharedPort}
-use Rattle.buffer_lock.specs.SharedBuffers.{first_buffer}
+use Rattle.buffer_lock.specs.SharedBuffers.{lock_of, first_buffer}
 
 -- A port that takes no room for its calls: there is always as much as could be asked for.
 abbrev pub endless : ℕ
@@ -19,6 +19,14 @@ endless = 2 ^ 64
 -- a port of this caller to a buffer whose window was that one at first, where the caller has seen this history
 abbrev pub ported_by : (caller : ℕ) → Window → List (ℕ × BufferEntry) → Ported
 ported_by caller first seen = record { start = first; window = replay first seen; history = seen; caller = caller; entries = endless; bytes = endless }
+
+-- what such a port tells, where it leads to this buffer
+abbrev pub access_to : BufferIdentity → Ported → Access
+access_to buffer p = record (access_of p) { buffer = buffer }
+
+-- which buffer a shared one is: the window that it had as it came to be shared, its passes, and the numbers of its lock
+abbrev pub identity_by : {B : Type 0} → (B → Window) → SharedBuffer B → BufferIdentity
+identity_by window shared = record { opened = window (first_buffer shared); ports = passes_of (lock_of shared); numbers = lock_numbers (lock_of shared) }
 
 module _ {B : Type 0} {g : _} where
   -- the pass by which the port calls
@@ -39,4 +47,5 @@ module _ {B : Type 0} {g : _} where
   -- The caller is the pass's number, its own calls are the pass's own entries, and the events got are those that these
   -- gave, in the history that the pass has seen.
   abbrev pub access_by : (B → Window) → SharedPort B g → Access
-  access_by window port = access_of (ported_by (caller_of port) (window (first_buffer (buffer_of port))) (history_by port))
+  access_by window port = access_to (identity_by window (buffer_of port))
+      (ported_by (caller_of port) (window (first_buffer (buffer_of port))) (history_by port))

@@ -11,3 +11,6 @@ pub use locked::{Locked, WindowSeen};
 pub use port::SharedPort;
 pub use shared::{BufferClosed, BufferNote, BufferPass, BufferPasses, SharedBuffer};
 pub use tries::TrySend;
+
+#[cfg(test)]
+mod tests;

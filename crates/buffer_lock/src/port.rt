@@ -13,6 +13,7 @@ use daq_types::{Kind, Name};
 use event_header::{EventBuf, Header};
 use std::sync::Wait;
 use turn_lock::Machine;
+use turn_lock::laws::same_lock;
 
 /// One caller's access to a shared buffer, by a pass. The caller's number is the pass's, and its own calls are the
 /// pass's entries. A call takes no room, so there always is room for one.
@@ -28,7 +29,7 @@ where
 }
 
 impl<'a, B: EventBuffer> SharedPort<'a, B> {
-    ghost use Rattle.buffer_lock.specs.SharedPorts.{pass_of, buffer_of};
+    ghost use Rattle.buffer_lock.specs.SharedPorts.{pass_of, buffer_of, access_by, identity_by};
 
     /// A port to this buffer, by a pass of it that holds nothing. Takes no memory.
     pub fn new(buffer: &'a SharedBuffer<B>, pass: BufferPass<B>) -> SharedPort<'a, B>
@@ -43,13 +44,16 @@ impl<'a, B: EventBuffer> SharedPort<'a, B> {
         }
     }
 
-    /// Gives the pass back.
+    /// Gives the pass back. It is one of each buffer that is the one which the port tells.
     pub fn into_pass(self) -> BufferPass<B>
         ensures pass { result ≡ pass_of self.entry }
         ensures own { IsOf (lock_of (buffer_of self.entry)) result }
+        ensures told { (shared : _) → (access_by B.window self.entry).buffer
+            ≡ identity_by B.window shared → IsOf (lock_of shared) result }
         ensures idle { held_by result ≡ None }
     {
         let SharedPort { shared: _, pass } = self;
+        same_lock(&pass);
         pass
     }
 }

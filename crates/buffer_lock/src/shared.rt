@@ -3,18 +3,22 @@ ghost use Rattle.std.specs.Prelude.{◌≡◌, ◌<◌, ◌≤◌, ℕ, [], Opti
 ghost use Rattle.event_header.specs.Headers.{event_of};
 ghost use Rattle.daq_types.specs.Callers.{entries_by};
 ghost use Rattle.buffer_core.specs.declared.entry.BufferEntry.TheVariants.{Attach, Detach, Request, Cancel, Send, SendInRun, Receive, Begin, Pause, Resume, End, Level, Accepted};
-ghost use Rattle.buffer_core.specs.Window.{IsWindow};
+ghost use Rattle.buffer_core.specs.Window.{IsWindow, opening};
+ghost use Rattle.buffer_core.specs.Delivered.{Delivers};
+ghost use Rattle.buffer_core.specs.Runs.{KeepsRuns};
 ghost use Rattle.buffer_core.specs.Calls.{IsReply, window_after, event_after};
 ghost use Rattle.buffer_core.specs.Histories.{IsLegal, replay};
 ghost use Rattle.turn_lock.specs.Passes.{first_value, passes_of, number_of, seen_by, held_by, IsOf, IsNoteOf, IsUnchanged, found_by, noted, own_entries};
+ghost use Rattle.turn_lock.specs.Views.{longer};
 ghost use mathlib.Core.List.{IsPrefix};
 ghost use Rattle.turn_lock.specs.History.{IsPartOf, entries_below};
-ghost use Rattle.turn_lock.specs.Closing.{AreComplete, IsLeastMissing, history_of};
+ghost use Rattle.turn_lock.specs.Closing.{AreComplete, IsLeastMissing, opened_with, history_of};
 ghost use Rattle.turn_lock.specs.Roster.{items_of, numbers_of, numbers_below, ArePassesOf, AreIdle, AreFresh};
 ghost use Rattle.turn_lock.specs.Entered.{Enters, FindsTaken};
 
 use crate::locked::{Locked, SendCall, SendInRunCall};
 use crate::tries::TrySend;
+use buffer_core::laws::{delivers, ordered};
 use buffer_core::{
     BufferEntry, EventBuffer, MarkRefusal, NoClient, NoSlot, Received, RequestRefusal, SendRefusal,
 };
@@ -55,7 +59,7 @@ impl<B: EventBuffer + Drop> SharedBuffer<B> {
     ) -> Result<(SharedBuffer<B>, BufferPasses<B>), NoMemory>
         requires some { 0 < passes }
         requires few { passes ≤ 256 }
-        ensures window { IfOk result (λ made. B.window (first_buffer made.0) ≡ B.window buffer) }
+        ensures buffer { IfOk result (λ made. first_buffer made.0 ≡ buffer) }
         ensures count { IfOk result (λ made. passes_of (lock_of made.0) ≡ passes) }
         ensures own { IfOk result (λ made. ArePassesOf (lock_of made.0) made.1) }
         ensures numbers { IfOk result (λ made. numbers_of made.1 ≡ numbers_below passes) }
@@ -119,6 +123,7 @@ impl<B: EventBuffer> SharedBuffer<B> {
             (B.window held.value.buffer) }
         ensures entered { Enters (lock_of self.now) (C.entry call.now) pass.old pass.new }
         ensures opens { IsWindow (B.window (first_buffer self.now)) }
+        ensures found { found_by pass.new ≡ found_by pass.old }
         ensures legal { IsLegal (B.window (first_buffer self.now)) (seen_by pass.new) }
         ensures window { B.window held.value.buffer
             ≡ replay (B.window (first_buffer self.now)) (seen_by pass.new) }
@@ -258,6 +263,7 @@ impl<B: EventBuffer> SharedBuffer<B> {
         requires window { IsWindow (B.window held.value.buffer) }
         ensures entered { Enters (lock_of self.now) (Send header.now.data_size
             (event_of header.now body.now) result) pass.old pass.new }
+        ensures found { found_by pass.new ≡ found_by pass.old }
         ensures opens { IsWindow (B.window (first_buffer self.now)) }
         ensures legal { IsLegal (B.window (first_buffer self.now)) (seen_by pass.new) }
     {
@@ -286,6 +292,8 @@ impl<B: EventBuffer> SharedBuffer<B> {
         requires idle { held_by pass.old ≡ None }
         ensures entered { IfMade result (λ reply. Enters (lock_of self.now)
             (Send header.now.data_size (event_of header.now body.now) reply) pass.old pass.new) }
+        ensures once { IfMade result (λ reply. found_by pass.new ≡ found_by pass.old) }
+        ensures opens { IfMade result (λ reply. IsWindow (B.window (first_buffer self.now))) }
         ensures legal { IfMade result (λ reply. IsLegal (B.window (first_buffer self.now))
             (seen_by pass.new)) }
         ensures taken { IfTaken result (λ holder. FindsTaken (lock_of self.now) holder
@@ -333,6 +341,7 @@ impl<B: EventBuffer> SharedBuffer<B> {
         requires window { IsWindow (B.window held.value.buffer) }
         ensures entered { Enters (lock_of self.now) (SendInRun start header.now.data_size
             (event_of header.now body.now) result) pass.old pass.new }
+        ensures found { found_by pass.new ≡ found_by pass.old }
         ensures opens { IsWindow (B.window (first_buffer self.now)) }
         ensures legal { IsLegal (B.window (first_buffer self.now)) (seen_by pass.new) }
     {
@@ -364,6 +373,8 @@ impl<B: EventBuffer> SharedBuffer<B> {
         ensures entered { IfMade result (λ reply. Enters (lock_of self.now)
             (SendInRun start header.now.data_size (event_of header.now body.now) reply)
             pass.old pass.new) }
+        ensures once { IfMade result (λ reply. found_by pass.new ≡ found_by pass.old) }
+        ensures opens { IfMade result (λ reply. IsWindow (B.window (first_buffer self.now))) }
         ensures legal { IfMade result (λ reply. IsLegal (B.window (first_buffer self.now))
             (seen_by pass.new)) }
         ensures taken { IfTaken result (λ holder. FindsTaken (lock_of self.now) holder
@@ -412,6 +423,7 @@ impl<B: EventBuffer> SharedBuffer<B> {
         requires window { IsWindow (B.window held.value.buffer) }
         ensures entered { Enters (lock_of self.now) (Receive client into.old.room result)
             pass.old pass.new }
+        ensures found { found_by pass.new ≡ found_by pass.old }
         ensures opens { IsWindow (B.window (first_buffer self.now)) }
         ensures legal { IsLegal (B.window (first_buffer self.now)) (seen_by pass.new) }
         ensures event { into.new.event ≡ event_after into.old.event
@@ -444,6 +456,8 @@ impl<B: EventBuffer> SharedBuffer<B> {
         requires idle { held_by pass.old ≡ None }
         ensures entered { IfOk result (λ reply. Enters (lock_of self.now)
             (Receive client into.old.room reply) pass.old pass.new) }
+        ensures once { OnOk result (found_by pass.new ≡ found_by pass.old) }
+        ensures opens { OnOk result (IsWindow (B.window (first_buffer self.now))) }
         ensures legal { IfOk result (λ reply. IsLegal (B.window (first_buffer self.now))
             (seen_by pass.new)) }
         ensures event { IfOk result (λ reply. into.new.event ≡ event_after into.old.event
@@ -578,9 +592,11 @@ impl<B: EventBuffer> SharedBuffer<B> {
         requires note { IsNoteOf (lock_of self.now) note }
         ensures own { IsOf (lock_of self.now) pass.new }
         ensures number { number_of pass.new ≡ number_of pass.old }
+        ensures found { found_by pass.new ≡ found_by pass.old }
         ensures held { held_by pass.new ≡ held_by pass.old }
         ensures seen { IsPrefix (seen_by pass.old) (seen_by pass.new) }
         ensures noted { IsPrefix (noted note) (seen_by pass.new) }
+        ensures longer { seen_by pass.new ≡ longer (seen_by pass.old) (noted note) }
         ensures mine { own_entries pass.new ≡ own_entries pass.old }
     {
         self.turns.meet(pass, note);
@@ -594,11 +610,22 @@ impl<B: EventBuffer> SharedBuffer<B> {
         requires own { ArePassesOf (lock_of self) passes }
         requires idle { AreIdle passes }
 
-        // Each reply in the history is the one that the buffer gave at that point, and the buffer is what it was left as.
-        ensures legal { IfOk result (λ closed. IsLegal (B.window (first_buffer self))
+        // Each reply in the history is the one that the buffer gave at that point, from the one that was shared on, and the
+        // buffer is what it was left as.
+        ensures opened { IfOk result (λ closed. (opened_with closed).buffer
+            ≡ first_buffer self) }
+        ensures legal { IfOk result (λ closed. IsLegal (B.window (opened_with closed).buffer)
             (history_of closed)) }
         ensures replayed { IfOk result (λ closed. B.window closed.value.buffer
-            ≡ replay (B.window (first_buffer self)) (history_of closed)) }
+            ≡ replay (B.window (opened_with closed).buffer) (history_of closed)) }
+
+        // Where it was shared as it opened, what holds of each history of a buffer holds of this one.
+        ensures delivers { IfOk result (λ closed. (size : ℕ) →
+            B.window (opened_with closed).buffer ≡ opening size
+            → Delivers size (history_of closed)) }
+        ensures runs { IfOk result (λ closed. (size : ℕ) →
+            B.window (opened_with closed).buffer ≡ opening size
+            → KeepsRuns (history_of closed)) }
 
         // What each pass has seen is a beginning of it, and the entries with a pass's number are its own.
         ensures parts { IfOk result (λ closed. All (λ pass. IsPartOf (history_of closed)
@@ -614,6 +641,8 @@ impl<B: EventBuffer> SharedBuffer<B> {
             (passes_of (lock_of self)) refusal.0.number) }
         ensures same { IfErr result (λ refusal. (refusal.1 ≡ self) × (refusal.2 ≡ passes)) }
     {
+        delivers();
+        ordered();
         let SharedBuffer { turns } = self;
         match turns.close(passes) {
             Ok(closed) => Ok(closed),

@@ -11,7 +11,7 @@ use Rattle.member_model.specs.OwnCalls.{AreOwnCalls}
 use Rattle.member_model.specs.ReadRuns.{IsReading, IsDraining}
 use Rattle.member_model.specs.ReadLaws.{calls_after-push, run_push}
 use Rattle.buffer_core.specs.declared.entry.BufferEntry.TheVariants.{End}
-use Rattle.caller_laws.specs.CutRuns.{MarksEnd}
+use Rattle.member_model.specs.CutRuns.{MarksEnd}
 use Rattle.caller_laws.specs.CallerLaws.{PartGoesOn, ReadGoesOn, CutGoesOn, OwnGoOn}
 use Rattle.caller_laws.specs.BufferLaws.{BufferLaws}
 use Rattle.caller_laws.proofs.OwnPlaces.{all_weaker}

@@ -8,6 +8,7 @@ pub mod RunsRead
 pub mod FirstParts
 pub mod RunsCut
 pub mod Sending
+pub mod SentThere
 pub mod RunsSeen
 pub mod GoingOn
 pub mod PortParts

@@ -18,7 +18,7 @@ use Rattle.member_model.specs.OwnCalls.{calls_after, KeepsAsking, is_within}
 use Rattle.member_model.specs.ReadRuns.{AskedOnce, IsReading, IsDraining}
 use Rattle.caller_laws.specs.BufferLaws.{BufferLaws}
 use Rattle.caller_laws.specs.OneCaller.{WasSentAt, events_in}
-use Rattle.caller_laws.specs.CutRuns.{MarksEnd}
+use Rattle.member_model.specs.CutRuns.{MarksEnd}
 use Rattle.caller_laws.specs.CallerLaws.{CutEvents, CutFile}
 use Rattle.caller_laws.proofs.Pasts.{own_after, StandsIn, stands, SplitsAt, splits}
 use Rattle.caller_laws.proofs.Owners.{owned_lives}

@@ -74,6 +74,7 @@ read_with e =
         asked = record { before = Attach [] (Ok 0) ∷ []; whole = refl; alone = λ n. refl };
         asks_on = tt;
         reads_on = (tt, tt);
+        no_end = (tt, tt);
         drains_on = (tt, tt);
         earlier = [];
         given_running = got_first e ∷ [];
@@ -117,6 +118,7 @@ drained_read =
         asked = record { before = Attach [] (Ok 0) ∷ []; whole = refl; alone = λ n. refl };
         asks_on = tt;
         reads_on = tt;
+        no_end = tt;
         drains_on = (tt, tt);
         earlier = [];
         given_running = [];

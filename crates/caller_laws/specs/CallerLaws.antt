@@ -16,7 +16,8 @@ use Rattle.member_model.specs.SentCalls.{own_sent, IsSendInRun, EachCall}
 use Rattle.member_model.specs.OwnCalls.{calls_after, IsOwnCall, AreOwnCalls, SendsNone, AreGivenBy}
 use Rattle.member_model.specs.ReadRuns.{HasReadRun}
 use Rattle.caller_laws.specs.OneCaller.{IsCallersPart, HaveOwnClients, SendsInRuns, HaveRunSends, events_in}
-use Rattle.caller_laws.specs.CutRuns.{HasCutRun}
+use Rattle.member_model.specs.CutRuns.{HasCutRun}
+use Rattle.caller_laws.specs.SentRuns.{places_sent, events_at_places}
 use Rattle.caller_laws.specs.SeenRuns.{events_with_start, SeesRun}
 
 -- A client that has read a run got, of the places between the run's marks, just those of the events that it asked for.
@@ -78,6 +79,18 @@ SentByCaller = (size : ℕ) → (history : History) →
 abbrev pub SendIsAmong : Type 0
 SendIsAmong = (own : List BufferEntry) → (start place : ℕ) → (event : Event) →
     IsSendOf own start place event → Contains (own_sent own start) event
+
+-- Each event that a caller sent in a run stands between the marks of that run, at the place that was replied.
+abbrev pub SendStands : Type 0
+SendStands = (size : ℕ) → (history : History) → IsLegal (opening size) history →
+    (caller start place : ℕ) → (event : Event) → IsSendOf (entries_by caller history) start place event →
+    (index : ℕ) × (slice_get (segment history start) index ≡ Some (place, record { event = event; start = start }))
+
+-- The events between the marks that stand at the places of a caller's sends in the run are what it sent in it, in its order.
+abbrev pub SendsStandInOrder : Type 0
+SendsStandInOrder = (size : ℕ) → (history : History) → IsLegal (opening size) history →
+    (caller start : ℕ) → (let own : List BufferEntry = entries_by caller history in
+    own_sent own start ≡ events_in (events_at_places (places_sent own start) (segment history start)))
 
 -- What is one caller's part of a history is its part of a longer one in which it made no call more.
 abbrev pub PartGoesOn : Type 0

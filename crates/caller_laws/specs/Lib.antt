@@ -1,7 +1,7 @@
 pub mod BufferLaws
 pub mod OneCaller
-pub mod CutRuns
 pub mod SeenRuns
+pub mod SentRuns
 pub mod CallerLaws
 pub mod CallerSamples
 pub mod SeenSamples

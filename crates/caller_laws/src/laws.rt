@@ -7,7 +7,7 @@ ghost use Rattle.buffer_core.specs.Histories.{IsLegal};
 ghost use Rattle.caller_laws.specs.OneCaller.{HaveRunSends, IsCallersPart};
 ghost use Rattle.caller_laws.specs.CallerSamples.{ReadPremise, LegalHistory, OwnClients, CallersEntries, SentEvents, RunIsRead, MeetsPremise, IsReadRight, FailsWithout, IsUnsent, read_whole, found_nothing, got_by_other, call_left_out, other_event_told, not_drained, sent_in_none, sent_in_other, asked_level};
 ghost use Rattle.caller_laws.specs.SeenSamples.{SeenPremise, SeenLegal, SeenClients, SeenSends, SeenEntries, SeenPlaces, SeenGiven, SeenThrough, MeetsSeen, IsSeenRight, FailsToSee, got_of_none, event_not_told};
-ghost use Rattle.caller_laws.specs.CallerLaws.{ReadPlaces, ReadEvents, CutEvents, CutFile, SeenEvents, SentByCaller, SendIsAmong, PartGoesOn, ReadGoesOn, CutGoesOn, OwnGoOn, PortTells, SenderHasOwn, SenderSendsInRuns, SilentSendsInRuns, MembersFit};
+ghost use Rattle.caller_laws.specs.CallerLaws.{ReadPlaces, ReadEvents, CutEvents, CutFile, SeenEvents, SentByCaller, SendIsAmong, SendStands, SendsStandInOrder, PartGoesOn, ReadGoesOn, CutGoesOn, OwnGoOn, PortTells, SenderHasOwn, SenderSendsInRuns, SilentSendsInRuns, MembersFit};
 
 use buffer_core::laws;
 
@@ -63,10 +63,13 @@ pub fn sees_events()
 }
 
 /// Where no caller sends but in runs, each event between the marks of a run is one that a caller sent in that run, and
-/// stands among the events that this caller sent in it.
+/// stands among the events that this caller sent in it. And each event that a caller sent in a run stands between its marks,
+/// at the place that was replied; so the events at these places are what it sent, in its order.
 pub fn sent_by()
     ensures sent { SentByCaller }
     ensures among { SendIsAmong }
+    ensures stands { SendStands }
+    ensures order { SendsStandInOrder }
 {
     of_buffers();
 }

@@ -6,6 +6,7 @@ use Rattle.std.proofs.lemmas.List.{map-append, take_all}
 use Rattle.std.proofs.lemmas.List.Elements.{All-nil}
 use Rattle.std.proofs.Math.Seq.{take-append-add, take-append_seam}
 use Rattle.std.specs.Io.KnownBytes.{Appends, Keeps}
+use Rattle.daq_io.specs.SeenLaws.{KeepsNumber-refl}
 use Rattle.daq_io.specs.Streams.{AppendsPart, Appends-nil, Appends-trans, Appends-kept}
 use Rattle.daq_types.specs.Callers.{entries_by}
 use Rattle.odb_tree.specs.declared.entry.DatabaseEntry.{DatabaseEntry}
@@ -47,7 +48,7 @@ moment_new o s refusals new none = record {
   clashes = o.clashes;
   plays = stage_is new.quota new.starts refl refl new.opened (ap order_in new.current) new.runs (ap (λ (h : List (ℕ × DatabaseEntry)). entries_by 0 h) new.calls) (ap (λ (h : List (ℕ × DatabaseEntry)). entries_by 1 h) new.calls) refl;
   at = record {
-    kept = rw (new.runs, new.current) (record { tells = refl; filed = λ told. All-nil (IsFiled o.files.at); begun = λ told. tt; others = λ told name avoids ne. refl });
+    kept = rw (new.runs, new.current) (record { tells = refl; filed = λ told. All-nil (IsFiled o.files.at); begun = λ told. tt; others = λ told name avoids ne. refl; numbers = λ number. KeepsNumber-refl o.files number });
     clock = record { tells = refl; ahead = λ told n. ap o.ahead (sym (zero-add n)) };
     clashes = refl;
     calls = rw (new.calls, new.runs, new.current) stand_none;

@@ -7,6 +7,7 @@ use Rattle.daq_types.specs.declared.runs.Order.{Order}
 use Rattle.odb_script.specs.declared.forms.Command.{Command}
 use Rattle.odb_script.specs.declared.forms.Command.TheVariants.{Stop}
 use Rattle.odb_script.specs.declared.refusals.LineRefusal.{LineRefusal}
+use Rattle.daq_io.specs.SeenLaws.{KeepsNumber-refl}
 use Rattle.daq_io.specs.Streams.{Appends-nil}
 use Rattle.std.specs.Io.KnownBytes.{Keeps}
 use Rattle.daq_session.specs.declared.ends.ScriptEnd.{ScriptEnd}
@@ -318,7 +319,7 @@ ran_none before =
           cut = opening before.outset.clashes;
           is_cut = inl refl;
           closes = refl;
-          kept = record { tells = refl; filed = λ known. All-nil (IsFiled before.outset.files.at); begun = λ known. tt; others = λ known name avoids ne. refl };
+          kept = record { tells = refl; filed = λ known. All-nil (IsFiled before.outset.files.at); begun = λ known. tt; others = λ known name avoids ne. refl; numbers = λ number. KeepsNumber-refl before.outset.files number };
           clock = record { tells = refl; ahead = λ told n. ap before.outset.ahead (sym (zero-add n)) };
           clashes = refl;
         };

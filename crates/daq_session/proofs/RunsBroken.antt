@@ -1,7 +1,6 @@
 -- The files against the records where a call on a run's file failed.
-use Rattle.std.proofs.Common.{◌≡◌, ◌≢◌, ℕ, ◌+◌, List, [], ◌++◌, Option, Some, None, true, false, length, take, refl, ap, sym, subst, ◌∙◌, arith, length-append, inl, inr}
+use Rattle.std.proofs.Common.{◌≡◌, ℕ, List, [], ◌++◌, Option, Some, None, take, ap, sym, subst, ◌∙◌, inl, inr}
 use Rattle.std.specs.Prelude.{IsTrue, Result, Ok, Err, OnErr}
-use Rattle.std.proofs.Math.Seq.{take-append-add}
 use Rattle.daq_model.specs.Events.{encoding, all_encoded}
 use Rattle.daq_model.specs.Generator.{generated_events}
 use Rattle.daq_model.specs.RunFile.{begun_file, end_record}
@@ -12,13 +11,13 @@ use Rattle.odb_script.specs.declared.refusals.LineRefusal.{LineRefusal}
 use Rattle.daq_session.specs.declared.session.Session.{Session}
 use Rattle.run_recorder.specs.RunRecords.{RunOn}
 use Rattle.daq_session.specs.BrokenRuns.{BreaksRun, CutsRun, StopBreaks, turning}
-use Rattle.run_recorder.specs.PartFiles.{stopped_file}
+use Rattle.run_recorder.specs.PartFiles.{stopped_bytes}
 use Rattle.run_recorder.specs.FileFaults.{BeginBreaks, BreaksFile, CutsFile}
 use Rattle.run_recorder.specs.RunNames.{run_name}
 use Rattle.run_recorder.specs.RunRecords.{IsKept}
 use Rattle.daq_session.specs.Stages.{IsReading, Outset}
 use Rattle.daq_session.specs.Standing.{Course, FailsTurn, IsAt, order_in}
-use Rattle.run_recorder.specs.KeptLaws.{absent_is_not_closed, all_filed, kept_free, kept_same, open_is_not_closed, whole_file}
+use Rattle.run_recorder.specs.KeptLaws.{absent_is_not_closed, all_filed, kept_free, kept_same, open_is_not_closed}
 use Rattle.daq_session.proofs.Leading.{Reads, next_reading, one_reading}
 
 -- the file of a run was made, and cut short
@@ -34,12 +33,8 @@ cuts_run o c s before now run time kept reading cut = record {
     filed = λ told. all_filed before.files now (run_name run) cut.touches (absent_is_not_closed before.files.at (run_name run) (cut.fresh (kept.tells ∙ told))) s.recorder.runs (kept.filed told);
     others = λ told other avoids ne. cut.touches.others other (λ e. ne (sym e)) ∙ kept.others told other avoids tt;
   };
-  own = λ told. record {
-    count = cut.count;
-    closed = false;
-    holds = cut.holds (kept.tells ∙ told);
-    whole = λ is. let never : false ≡ true = is in cc;
-  };
+  count = cut.count;
+  own = λ told. cut.holds (kept.tells ∙ told);
 }
 
 -- a start failed
@@ -69,9 +64,8 @@ stop_breaks o c s before after time run at running reads clashes broken =
     let now : Seen = after.files in
     let kept : IsKept o.files before.files s.recorder.runs (Some run) = subst (λ (on : Option RunOn). IsKept o.files before.files s.recorder.runs on) running at.kept in
     let begun : List ℕ = begun_file run.order.run run.order.time [] [] in
-    let more : List ℕ = all_encoded (generated_events run.order 1 0 run.order.quota) ++ encoding (end_record run.order.run time []) in
+    let more : List ℕ = stopped_bytes run.order time in
     let name : List ℕ = run_name run.order.run in
-    let all : begun ++ more ≡ stopped_file run.order time = whole_file run.order run.order run.order.quota time refl refl in
     let stored : List ℕ → Option Stored = λ bytes. Some (record { bytes = bytes; closed = broken.closed }) in
     let named : IsTrue o.files.tells → before.files.name_of run.file ≡ name = λ told. (kept.begun told).named in
     let touched : IsTrue o.files.tells → Touches before.files now name = λ told. subst (λ (n : List ℕ). Touches before.files now n) (named told) broken.touches in
@@ -88,10 +82,10 @@ stop_breaks o c s before after time run at running reads clashes broken =
         others = λ told other avoids ne. (touched told).others other (λ e. ne (sym e)) ∙ kept.others told other avoids ne;
       };
       own = λ told. record {
-        count = length begun + broken.count;
+        count = broken.count;
         closed = broken.closed;
-        holds = left told ∙ ap stored (sym (take-append-add begun more broken.count) ∙ ap (λ (bytes : List ℕ). take (length begun + broken.count) bytes) all);
-        whole = λ is. omega (arith, broken.whole is, length-append begun more, ap (λ (bytes : List ℕ). length bytes) all);
+        holds = left told;
+        whole = broken.whole;
       };
     } in
     record {

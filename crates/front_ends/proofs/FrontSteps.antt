@@ -15,8 +15,8 @@ use Rattle.member_model.specs.SentCalls.{sent_by, own_sent, IsSendInRun}
 use Rattle.member_model.specs.SentLaws.{own_sent-push, EachCall-push, WasSpent-here}
 use Rattle.front_ends.specs.declared.front_run.FrontRun.{FrontRun}
 use Rattle.front_ends.specs.Fronts.{is_done, run_sent}
-use Rattle.front_ends.specs.FrontKept.{made_events, IsMade, KeepsFront, TakesPart, FrontStands}
-use Rattle.front_ends.proofs.FrontGrows.{IsMade-same, Tally-pushed, spent_pushed, sent_same}
+use Rattle.front_ends.specs.FrontKept.{made_events, IsMade, IsNextCall, KeepsFront, TakesPart, FrontStands}
+use Rattle.front_ends.proofs.FrontGrows.{length-made_events, sends_push, IsMade-same, Tally-pushed, spent_pushed, sent_same}
 
 -- the send of the next event, with this reply
 abbrev sent_next : (Order → ℕ → Event) → FrontRun → Result ℕ SendRefusal → BufferEntry
@@ -33,13 +33,30 @@ work_left r e = elim (leb_tells r.order.quota r.sent) as (λ w. r.sent < r.order
   | inr is ↦ is.1
 ]
 
+-- the send is the next one of the run
+next_send : (makes : Order → ℕ → Event) (own : List BufferEntry) (turns : List MemberTurn) (r : FrontRun) (reply : Result ℕ SendRefusal) → TakesPart makes own turns r → r.sent < r.order.quota → AreEngineTurns turns
+    → IsNextCall makes own turns (sent_next makes r reply)
+next_send makes own turns r reply on more are =
+    let number : length (own_sent own r.order.start) ≡ r.sent = ap (λ (es : List Event). length es) (on.sent_is are) ∙ length-made_events makes r.order r.sent in
+    let quota : on.begin_turn.order.quota ≡ r.order.quota = ap (λ (o : Order). o.quota) on.order_is in
+    record {
+      turn = on.begin_turn;
+      of_run = record { is_start = on.is_start; accepted = on.accepted };
+      more = omega (arith, number, quota, more);
+      next = ap (λ (o : Order). makes o (suc r.sent)) (sym on.order_is) ∙ ap (λ (n : ℕ). makes on.begin_turn.order (suc n)) (sym number);
+      size = refl;
+    }
+
 -- A send that was refused.
 
-keeps_refused : (makes : Order → ℕ → Event) (own : List BufferEntry) (turns : List MemberTurn) (r : FrontRun) (why : SendRefusal) → KeepsFront makes own turns → KeepsFront makes (own ++ sent_next makes r (Err why) ∷ []) turns
-keeps_refused makes own turns r why keeps =
+keeps_refused : (takes : Order → Bool) (makes : Order → ℕ → Event) (own : List BufferEntry) (turns : List MemberTurn) (r : FrontRun) (why : SendRefusal) → (AreEngineTurns turns → IsNextCall makes own turns (sent_next makes r (Err why))) → KeepsFront takes makes own turns → KeepsFront takes makes (own ++ sent_next makes r (Err why) ∷ []) turns
+keeps_refused takes makes own turns r why next keeps =
     let entry : BufferEntry = sent_next makes r (Err why) in
     record {
       only_sends = EachCall-push IsSendInRun own entry keeps.only_sends tt;
+      starts = keeps.starts;
+      sends = λ are. sends_push makes turns [] own entry (keeps.sends are) (next are);
+      stops = keeps.stops;
       made = λ are start. IsMade-same makes own (own ++ entry ∷ []) turns start (sent_same own entry start refl) (keeps.made are start);
       tallies = λ are t sent ended here is answer. Tally-pushed own entry turns t.order sent ended (sent_same own entry t.order.start refl) (keeps.tallies are t sent ended here is answer);
     }
@@ -50,6 +67,7 @@ on_refused makes own turns r why on =
     record {
       begin_turn = on.begin_turn;
       is_start = on.is_start;
+      accepted = on.accepted;
       order_is = on.order_is;
       within = on.within;
       spent_so = spent_pushed own entry r.order.start r.spent on.spent_so;
@@ -64,6 +82,7 @@ on_spent makes own turns r total on =
     record {
       begin_turn = on.begin_turn;
       is_start = on.is_start;
+      accepted = on.accepted;
       order_is = on.order_is;
       within = on.within;
       spent_so = WasSpent-here own entry r.order.start total (refl, refl);
@@ -105,13 +124,16 @@ made_accepted makes own turns r place start on are made =
       | inr differs ↦ IsMade-same makes own later turns start (accepted_elsewhere makes own r place start differs.1) made
     ]
 
-accepted_kept : (makes : Order → ℕ → Event) (own : List BufferEntry) (turns : List MemberTurn) (r : FrontRun) (place : ℕ) → r.sent < r.order.quota → FrontStands makes (Some r) own turns → FrontStands makes (Some (run_sent (Ok place) r)) (own ++ sent_next makes r (Ok place) ∷ []) turns
-accepted_kept makes own turns r place more stands =
+accepted_kept : (takes : Order → Bool) (makes : Order → ℕ → Event) (own : List BufferEntry) (turns : List MemberTurn) (r : FrontRun) (place : ℕ) → r.sent < r.order.quota → FrontStands takes makes (Some r) own turns → FrontStands takes makes (Some (run_sent (Ok place) r)) (own ++ sent_next makes r (Ok place) ∷ []) turns
+accepted_kept takes makes own turns r place more stands =
     let entry : BufferEntry = sent_next makes r (Ok place) in
     let on : TakesPart makes own turns r = stands.run_stands in
     record {
       keeps = record {
         only_sends = EachCall-push IsSendInRun own entry stands.keeps.only_sends tt;
+        starts = stands.keeps.starts;
+        sends = λ are. sends_push makes turns [] own entry (stands.keeps.sends are) (next_send makes own turns r (Ok place) on more are);
+        stops = stands.keeps.stops;
         made = λ are start. made_accepted makes own turns r place start on are (stands.keeps.made are start);
         tallies = λ are t sent ended here is answer.
             Tally-pushed own entry turns t.order sent ended
@@ -121,6 +143,7 @@ accepted_kept makes own turns r place more stands =
       run_stands = record {
         begin_turn = on.begin_turn;
         is_start = on.is_start;
+        accepted = on.accepted;
         order_is = on.order_is;
         within = omega (arith, more);
         spent_so = spent_pushed own entry r.order.start r.spent on.spent_so;
@@ -128,15 +151,22 @@ accepted_kept makes own turns r place more stands =
         sent_is = λ are. accepted_here makes own r place r.order.start refl ∙ ap (λ (es : List Event). es ++ makes r.order (suc r.sent) ∷ []) (on.sent_is are);
         fresh = on.fresh;
       };
+      current = stands.current;
     }
 
+refused_kept : (takes : Order → Bool) (makes : Order → ℕ → Event) (own : List BufferEntry) (turns : List MemberTurn) (r : FrontRun) (why : SendRefusal) → r.sent < r.order.quota → FrontStands takes makes (Some r) own turns
+    → FrontStands takes makes (Some r) (own ++ sent_next makes r (Err why) ∷ []) turns
+refused_kept takes makes own turns r why more stands =
+    record { keeps = keeps_refused takes makes own turns r why (next_send makes own turns r (Err why) stands.run_stands more) stands.keeps; run_stands = on_refused makes own turns r why stands.run_stands; current = stands.current }
+
 -- what holds before a step holds behind it, whatever its send was replied
-pub step_kept : (makes : Order → ℕ → Event) (own : List BufferEntry) (turns : List MemberTurn) (r : FrontRun) (reply : Result ℕ SendRefusal) → r.sent < r.order.quota → FrontStands makes (Some r) own turns
-    → FrontStands makes (Some (run_sent reply r)) (own ++ sent_next makes r reply ∷ []) turns
-step_kept makes own turns r (Ok place) more stands = accepted_kept makes own turns r place more stands
-step_kept makes own turns r (Err (Spent total)) more stands = record { keeps = keeps_refused makes own turns r (Spent total) stands.keeps; run_stands = on_spent makes own turns r total stands.run_stands }
-step_kept makes own turns r (Err (NotRunning gate)) more stands = record { keeps = keeps_refused makes own turns r (NotRunning gate) stands.keeps; run_stands = on_refused makes own turns r (NotRunning gate) stands.run_stands }
-step_kept makes own turns r (Err (BadSize stated given)) more stands = record { keeps = keeps_refused makes own turns r (BadSize stated given) stands.keeps; run_stands = on_refused makes own turns r (BadSize stated given) stands.run_stands }
-step_kept makes own turns r (Err (ReservedId id)) more stands = record { keeps = keeps_refused makes own turns r (ReservedId id) stands.keeps; run_stands = on_refused makes own turns r (ReservedId id) stands.run_stands }
-step_kept makes own turns r (Err (TooLarge slot size)) more stands = record { keeps = keeps_refused makes own turns r (TooLarge slot size) stands.keeps; run_stands = on_refused makes own turns r (TooLarge slot size) stands.run_stands }
-step_kept makes own turns r (Err (Full client place)) more stands = record { keeps = keeps_refused makes own turns r (Full client place) stands.keeps; run_stands = on_refused makes own turns r (Full client place) stands.run_stands }
+pub step_kept : (takes : Order → Bool) (makes : Order → ℕ → Event) (own : List BufferEntry) (turns : List MemberTurn) (r : FrontRun) (reply : Result ℕ SendRefusal) → r.sent < r.order.quota → FrontStands takes makes (Some r) own turns
+    → FrontStands takes makes (Some (run_sent reply r)) (own ++ sent_next makes r reply ∷ []) turns
+step_kept takes makes own turns r (Ok place) more stands = accepted_kept takes makes own turns r place more stands
+step_kept takes makes own turns r (Err (Spent total)) more stands =
+    record { keeps = keeps_refused takes makes own turns r (Spent total) (next_send makes own turns r (Err (Spent total)) stands.run_stands more) stands.keeps; run_stands = on_spent makes own turns r total stands.run_stands; current = stands.current }
+step_kept takes makes own turns r (Err (NotRunning gate)) more stands = refused_kept takes makes own turns r (NotRunning gate) more stands
+step_kept takes makes own turns r (Err (BadSize stated given)) more stands = refused_kept takes makes own turns r (BadSize stated given) more stands
+step_kept takes makes own turns r (Err (ReservedId id)) more stands = refused_kept takes makes own turns r (ReservedId id) more stands
+step_kept takes makes own turns r (Err (TooLarge slot size)) more stands = refused_kept takes makes own turns r (TooLarge slot size) more stands
+step_kept takes makes own turns r (Err (Full client place)) more stands = refused_kept takes makes own turns r (Full client place) more stands

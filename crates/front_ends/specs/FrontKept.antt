@@ -1,15 +1,18 @@
 -- What a front-end keeps of its calls on a buffer and of its turns, whatever the buffer replies.
-use Rattle.std.specs.Prelude.{◌≡◌, ◌≢◌, ℕ, zero, suc, ◌≤◌, List, [], ◌∷◌, ◌++◌, length, Option, Some, None, ⊤, ◌⊎◌}
+use Rattle.std.specs.Prelude.{◌≡◌, ◌≢◌, ℕ, zero, suc, ◌≤◌, ◌<◌, Bool, if◌then◌else◌, List, [], ◌∷◌, ◌++◌, length, Option, Some, None, ⊤, ◌⊎◌}
 use Rattle.daq_types.specs.declared.events.Event.{Event}
 use Rattle.daq_types.specs.declared.runs.Order.{Order}
 use Rattle.daq_types.specs.declared.runs.RunState.TheVariants.{Paused}
 use Rattle.daq_types.specs.declared.runs.Transition.TheVariants.{Start, Stop}
 use Rattle.daq_types.specs.declared.runs.FrontEnded.{FrontEnded}
 use Rattle.daq_types.specs.declared.runs.FrontEnded.TheVariants.{Quota, Paused as EndedPaused, Spent as EndedSpent}
+use Rattle.daq_types.specs.declared.runs.Why.TheVariants.{NotReady}
 use Rattle.buffer_core.specs.declared.entry.BufferEntry.{BufferEntry}
-use Rattle.transitions.specs.declared.answers.Answer.TheVariants.{Yes}
-use Rattle.transitions.specs.declared.answers.Tally.TheVariants.{Front}
-use Rattle.member_model.specs.Turns.{MemberTurn, HasTurn, HasTurnOf, IsAnswered, NoneOpen, AreEngineTurns}
+use Rattle.buffer_core.specs.declared.entry.BufferEntry.TheVariants.{SendInRun}
+use Rattle.transitions.specs.declared.answers.Answer.{Answer}
+use Rattle.transitions.specs.declared.answers.Answer.TheVariants.{Yes, No}
+use Rattle.transitions.specs.declared.answers.Tally.TheVariants.{Plain, Front}
+use Rattle.member_model.specs.Turns.{MemberTurn, HasTurn, HasTurnOf, IsAcceptedStart, IsAnswered, NoneOpen, current_run, AreEngineTurns}
 use Rattle.member_model.specs.SentCalls.{own_sent, IsSendInRun, EachCall, WasSpent}
 use Rattle.front_ends.specs.declared.front_run.FrontRun.{FrontRun}
 use Rattle.front_ends.specs.Fronts.{front_turn}
@@ -29,6 +32,35 @@ pub record IsMadeFor (makes : Order → ℕ → Event) (own : List BufferEntry) 
 abbrev pub IsMade : (Order → ℕ → Event) → List BufferEntry → List MemberTurn → (start : ℕ) → Type 0
 IsMade makes own turns start = (own_sent own start ≡ []) ⊎ IsMadeFor makes own turns start
 
+-- each start that was answered was refused exactly where the equipment does not take part in a run of its order
+abbrev pub StartsAnswered : (takes : Order → Bool) → List MemberTurn → Type 0
+StartsAnswered takes turns = (t : MemberTurn) → (answer : Answer) → HasTurn turns t → t.transition ≡ Start →
+    t.answer ≡ Some answer → answer ≡ (if takes t.order then Yes Plain else No NotReady)
+
+-- Behind these calls an event may be sent in the run with this number: the start was accepted, fewer events were sent than it
+-- wants, and the event is the next one of the equipment. The size that is stated is that of its data.
+pub record IsNextSend (makes : Order → ℕ → Event) (before : List BufferEntry) (turns : List MemberTurn) (start stated : ℕ) (event : Event) : Type 0 where
+  pub turn : MemberTurn
+  pub of_run : IsAcceptedStart turns start turn
+  pub more : length (own_sent before start) < turn.order.quota
+  pub next : event ≡ makes turn.order (suc (length (own_sent before start)))
+  pub size : stated ≡ length event.body
+
+abbrev pub IsNextCall : (Order → ℕ → Event) → (before : List BufferEntry) → List MemberTurn → BufferEntry → Type 0
+IsNextCall makes before turns (SendInRun start stated event reply) = IsNextSend makes before turns start stated event
+IsNextCall makes before turns entry = ⊥
+
+-- each of these calls, which follow those before, is such a send, whatever it was replied
+abbrev pub AreNextSends : (Order → ℕ → Event) → (before : List BufferEntry) → List MemberTurn → (calls : List BufferEntry) → Type 0
+AreNextSends makes before turns [] = ⊤
+AreNextSends makes before turns (e ∷ es) = IsNextCall makes before turns e × AreNextSends makes (before ++ e ∷ []) turns es
+
+-- each answered stop of a run whose start was accepted was answered with a tally
+abbrev pub StopsTold : List MemberTurn → Type 0
+StopsTold turns = (start : ℕ) → (begin stop : MemberTurn) → (answer : Answer) → IsAcceptedStart turns start begin →
+    HasTurnOf turns Stop start stop → stop.answer ≡ Some answer →
+    (sent : ℕ) × (ended : FrontEnded) × (answer ≡ Yes (Front sent ended))
+
 -- how the front-end ended is so: the number sent is the quota of a start with that number; the stop came from a pause; a
 -- send was refused as spent
 abbrev pub EndedSo : List BufferEntry → List MemberTurn → (stop : Order) → (sent : ℕ) → FrontEnded → Type 0
@@ -47,9 +79,12 @@ TalliesHold own turns = (t : MemberTurn) → (sent : ℕ) → (ended : FrontEnde
     t.answer ≡ Some (Yes (Front sent ended)) → IsFrontTally own turns t.order sent ended
 
 -- What holds at every moment. The sentences that need it have the premise that the turns are such as an engine gives.
-pub record KeepsFront (makes : Order → ℕ → Event) (own : List BufferEntry) (turns : List MemberTurn) : Type 0 where
+pub record KeepsFront (takes : Order → Bool) (makes : Order → ℕ → Event) (own : List BufferEntry) (turns : List MemberTurn) : Type 0 where
   pub only_sends : EachCall IsSendInRun own
+  pub starts : StartsAnswered takes turns
+  pub sends : AreEngineTurns turns → AreNextSends makes [] turns own
   pub made : AreEngineTurns turns → (start : ℕ) → IsMade makes own turns start
+  pub stops : AreEngineTurns turns → StopsTold turns
   pub tallies : AreEngineTurns turns → TalliesHold own turns
 
 -- the latest turn is a stop that is not answered, if one waits
@@ -62,25 +97,36 @@ IsSpentSo own start None = ⊤
 IsSpentSo own start (Some total) = WasSpent own start total
 
 -- no stop of this run was answered
-abbrev pub HasNoStop : List MemberTurn → (start : ℕ) → Type 0
-HasNoStop turns start = (t : MemberTurn) → HasTurn turns t → t.transition ≡ Stop → IsAnswered t.answer → t.order.start ≢ start
+abbrev pub NoStopAnswered : List MemberTurn → (start : ℕ) → Type 0
+NoStopAnswered turns start = (t : MemberTurn) → HasTurn turns t → t.transition ≡ Stop → IsAnswered t.answer → t.order.start ≢ start
 
 -- The run is on: it was ordered by a start turn, and its events so far are those that were sent.
 pub record TakesPart (makes : Order → ℕ → Event) (own : List BufferEntry) (turns : List MemberTurn) (r : FrontRun) : Type 0 where
   pub begin_turn : MemberTurn
   pub is_start : HasTurnOf turns Start r.order.start begin_turn
+  pub accepted : begin_turn.answer ≡ Some (Yes Plain)
   pub order_is : begin_turn.order ≡ r.order
   pub within : r.sent ≤ r.order.quota
   pub spent_so : IsSpentSo own r.order.start r.spent
   pub waiting : IsWaiting r.stop r.order.start turns
   pub sent_is : AreEngineTurns turns → own_sent own r.order.start ≡ made_events makes r.order r.sent
-  pub fresh : AreEngineTurns turns → HasNoStop turns r.order.start
+  pub fresh : AreEngineTurns turns → NoStopAnswered turns r.order.start
 
 abbrev pub RunStands : (Order → ℕ → Event) → List BufferEntry → List MemberTurn → Option FrontRun → Type 0
 RunStands makes own turns None = NoneOpen turns
 RunStands makes own turns (Some r) = TakesPart makes own turns r
 
+-- the front-end is in the run with this number
+abbrev pub IsInRun : Option FrontRun → (start : ℕ) → Type 0
+IsInRun None start = ⊥
+IsInRun (Some r) start = r.order.start ≡ start
+
+-- while the run is on whose start it accepted last, it is in that run
+abbrev pub IsInCurrent : Option FrontRun → List MemberTurn → Type 0
+IsInCurrent run turns = (start : ℕ) → (begin : MemberTurn) → current_run turns ≡ Some start → IsAcceptedStart turns start begin → IsInRun run start
+
 -- a front-end in this run, or in none, with its own calls and its turns
-pub record FrontStands (makes : Order → ℕ → Event) (run : Option FrontRun) (own : List BufferEntry) (turns : List MemberTurn) : Type 0 where
-  pub keeps : KeepsFront makes own turns
+pub record FrontStands (takes : Order → Bool) (makes : Order → ℕ → Event) (run : Option FrontRun) (own : List BufferEntry) (turns : List MemberTurn) : Type 0 where
+  pub keeps : KeepsFront takes makes own turns
   pub run_stands : RunStands makes own turns run
+  pub current : AreEngineTurns turns → IsInCurrent run turns

@@ -210,7 +210,7 @@ impl<E: Equipment> FrontEnd<E> {
     pub fn new(alloc: Global, equipment: E) -> Result<FrontEnd<E>, NoMemory>
         requires { E.fit equipment }
         ensures made { IfOk result (λ front. front ≡ record { equipment = equipment; run = None }) }
-        ensures stands { IfOk result (λ front. FrontStands (E.makes equipment) front.run [] []) }
+        ensures stands { IfOk result (λ front. FrontStands (E.takes equipment) (E.makes equipment) front.run [] []) }
     {
         let event = EventBuf::new(alloc, EVENT_BYTES)?;
         Ok(FrontEnd {
@@ -232,9 +232,10 @@ impl<E: Equipment> FrontEnd<E> {
         } }
         ensures keeps { (own : List BufferEntry) → (turns : List MemberTurn) →
             NoneOpen turns →
-            FrontStands (E.makes self.old.equipment) self.old.run own turns →
-            FrontStands (E.makes self.new.equipment) self.new.run own
-            (front_turn transition order.now result ∷ turns) }
+            FrontStands (E.takes self.old.equipment) (E.makes self.old.equipment)
+            self.old.run own turns →
+            FrontStands (E.takes self.new.equipment) (E.makes self.new.equipment)
+            self.new.run own (front_turn transition order.now result ∷ turns) }
     {
         let takes = self.equipment.check(order);
         let answer = answer_of_turn(takes, self.run, transition, order);
@@ -257,8 +258,10 @@ impl<E: Equipment> FrontEnd<E> {
         ensures makes { E.makes self.new.equipment ≡ E.makes self.old.equipment }
         ensures takes { E.takes self.new.equipment ≡ E.takes self.old.equipment }
         ensures keeps { (turns : List MemberTurn) →
-            FrontStands (E.makes self.old.equipment) self.old.run (P.access port.old).own turns →
-            FrontStands (E.makes self.new.equipment) self.new.run (P.access port.new).own turns }
+            FrontStands (E.takes self.old.equipment) (E.makes self.old.equipment)
+            self.old.run (P.access port.old).own turns →
+            FrontStands (E.takes self.new.equipment) (E.makes self.new.equipment)
+            self.new.run (P.access port.new).own turns }
     {
         let Some(run) = self.run else {
             return FrontStep::NoWork;
@@ -302,8 +305,10 @@ impl<E: Equipment> FrontEnd<E> {
         ensures answer { result ≡ finish_answer self.old.run }
         ensures after { self.new ≡ record self.old { run = run_finished self.old.run result } }
         ensures keeps { (own : List BufferEntry) → (turns : List MemberTurn) →
-            FrontStands (E.makes self.old.equipment) self.old.run own turns →
-            FrontStands (E.makes self.new.equipment) self.new.run own (answered turns result) }
+            FrontStands (E.takes self.old.equipment) (E.makes self.old.equipment)
+            self.old.run own turns →
+            FrontStands (E.takes self.new.equipment) (E.makes self.new.equipment)
+            self.new.run own (answered turns result) }
     {
         let run = self.run?;
         let stop = run.stop?;

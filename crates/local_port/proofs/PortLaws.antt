@@ -14,7 +14,7 @@ use Rattle.buffer_core.specs.Window.{Window, Sent, IsWindow, IsKeepable}
 use Rattle.buffer_core.specs.Calls.{IsReply, window_after, event_after}
 use Rattle.buffer_core.specs.Histories.{IsLegal, replay}
 use Rattle.buffer_core.specs.HistoryLaws.{replay-push, legal_push, window_replays, room_enough}
-use Rattle.buffer_core.specs.Ports.{GotEvent, Called, Calls, Receives, got_after, slots_got, GivesSound, IsSmallBuf}
+use Rattle.buffer_core.specs.Ports.{BufferIdentity, GotEvent, Called, Calls, Receives, got_after, slots_got, GivesSound, IsSmallBuf}
 use Rattle.local_port.specs.Ported.{Ported, IsPorted, AppendsCall, access_of, given_by, given_in, taken_back_in}
 use Rattle.local_port.proofs.GotLaws.{IsGot, got_is, given_is, slots_few}
 use Rattle.local_port.proofs.NumberLaws.{taken_back_same}
@@ -92,7 +92,9 @@ called p q e does =
     let given : given_in p.caller p.start (p.history ++ (p.caller, e) ∷ []) ≡ given_in p.caller p.start p.history ++ given_by p.window e =
     given_in-push p.caller p.start p.history e ∙ ap (λ (w : Window). given_in p.caller p.start p.history ++ given_by w e) (sym does.from.replayed) in
     let same : taken_back_in q.caller 0 q.history ≡ taken_back_in p.caller 0 p.history = taken_back_same p q e does in
+    let alone : Window → BufferIdentity = λ w. record { opened = w; ports = 1; numbers = [] } in
     record {
+      buffer = ap alone does.start;
       caller = does.caller;
       size = ap (λ (w : Window). w.size) does.window ∙ size_stays p.window e;
       own = ap (λ (n : ℕ). entries_by n q.history) does.caller ∙ (ap (entries_by p.caller) does.history ∙ entries_by-own p.caller p.history e);

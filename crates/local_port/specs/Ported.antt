@@ -70,6 +70,7 @@ taken_back_in by call (e ∷ es) =
 -- what the port tells its caller
 abbrev pub access_of : Ported → Access
 access_of p = record {
+  buffer = record { opened = p.start; ports = 1; numbers = [] };
   caller = p.caller;
   size = p.window.size;
   own = entries_by p.caller p.history;

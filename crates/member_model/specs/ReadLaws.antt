@@ -9,7 +9,8 @@ use Rattle.buffer_core.specs.declared.entry.BufferEntry.{BufferEntry}
 use Rattle.buffer_core.specs.declared.entry.BufferEntry.TheVariants.{Request, Receive, Begin, End}
 use Rattle.buffer_core.specs.Ports.{GotEvent, name_of, name_given, names_given}
 use Rattle.member_model.specs.OwnCalls.{calls_after, asks, LeavesAsking, KeepsAsking, HasDrained, AreGivenBy, is_within, event_at, events_at}
-use Rattle.member_model.specs.ReadRuns.{AskedOnce, IsAsking, IsReading, IsDraining, HasReadRun}
+use Rattle.member_model.specs.SentLaws.{EachCall-push}
+use Rattle.member_model.specs.ReadRuns.{EndsNot, AskedOnce, IsAsking, IsReading, IsDraining, HasReadRun}
 
 -- Lists
 
@@ -73,6 +74,7 @@ reading_begun own got client id mask number start begun asking = record {
   asked = AskedOnce-push own client id mask number asking.calls (Begin start (Ok begun)) asking.asked;
   asks_on = asking.asks_on;
   reads_on = tt;
+  no_end = tt;
   earlier = got;
   given = [];
   got_is = sym (append-nil got);
@@ -82,8 +84,8 @@ reading_begun own got client id mask number start begun asking = record {
 
 -- a call while the run is on, which gives these events
 pub reading_push : (own : List BufferEntry) (got : List GotEvent) (client id mask number start begun : ℕ) (events : List Event) (e : BufferEntry) (gs : List GotEvent) → IsReading own got client id mask number start begun events
-    → LeavesAsking client e → name_given e ≡ map name_of gs → IsReading (own ++ e ∷ []) (got ++ gs) client id mask number start begun (events ++ events_at client (nat_le begun) gs)
-reading_push own got client id mask number start begun events e gs reads leaves named = record {
+    → LeavesAsking client e → EndsNot start e → name_given e ≡ map name_of gs → IsReading (own ++ e ∷ []) (got ++ gs) client id mask number start begun (events ++ events_at client (nat_le begun) gs)
+reading_push own got client id mask number start begun events e gs reads leaves ends named = record {
   asking = reads.asking;
   running = reads.running ++ e ∷ [];
   asked = AskedOnce-calls (own ++ e ∷ []) client id mask number ((reads.asking ++ Begin start (Ok begun) ∷ reads.running) ++ e ∷ []) (reads.asking ++ Begin start (Ok begun) ∷ (reads.running ++ e ∷ []))
@@ -91,6 +93,7 @@ reading_push own got client id mask number start begun events e gs reads leaves 
       (AskedOnce-push own client id mask number (reads.asking ++ Begin start (Ok begun) ∷ reads.running) e reads.asked);
   asks_on = reads.asks_on;
   reads_on = KeepsAsking-push client reads.running e reads.reads_on leaves;
+  no_end = EachCall-push (EndsNot start) reads.running e reads.no_end ends;
   earlier = reads.earlier;
   given = reads.given ++ gs;
   got_is = ap (λ (l : List GotEvent). l ++ gs) reads.got_is ∙ append_assoc reads.earlier reads.given gs;
@@ -111,6 +114,7 @@ draining_begun own got client id mask number start begun ended events reads = re
       (AskedOnce-push own client id mask number (reads.asking ++ Begin start (Ok begun) ∷ reads.running) (End start (Ok ended)) reads.asked);
   asks_on = reads.asks_on;
   reads_on = reads.reads_on;
+  no_end = reads.no_end;
   drains_on = tt;
   earlier = reads.earlier;
   given_running = reads.given;
@@ -137,6 +141,7 @@ draining_push own got client id mask number start begun ended events e gs drains
           (AskedOnce-push own client id mask number (front ++ Begin start (Ok begun) ∷ behind) e drains.asked);
       asks_on = drains.asks_on;
       reads_on = drains.reads_on;
+      no_end = drains.no_end;
       drains_on = KeepsAsking-push client drains.draining e drains.drains_on leaves;
       earlier = drains.earlier;
       given_running = drains.given_running;

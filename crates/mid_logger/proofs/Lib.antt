@@ -1,6 +1,13 @@
 pub mod OwnSteps
 pub mod ReadSteps
 pub mod PullSteps
+pub mod StageSteps
 pub mod PatternLaws
 pub mod FileParts
 pub mod MarkSteps
+pub mod FileSteps
+pub mod OpenSteps
+pub mod EndSteps
+pub mod BesideSteps
+pub mod OpenBeside
+pub mod LeftSteps

@@ -14,7 +14,7 @@ use Rattle.buffer_core.specs.Ports.{GotEvent, name_of, name_given, got_after}
 use Rattle.member_model.specs.SentLaws.{EachCall-push}
 use Rattle.member_model.specs.OwnCalls.{calls_after, gave_number, IsOwnCall, AreOwnCalls, SendsNone, asks, LeavesAsking, KeepsAsking}
 use Rattle.member_model.specs.ReadLaws.{calls_after-push}
-use Rattle.mid_logger.specs.Channels.{KeepsOwnCalls, IsOwnClient}
+use Rattle.mid_logger.specs.Channels.{KeepsOwnCalls, IsOwnClient, AsksNothing}
 
 -- a call of the logger that sends nothing and names an own client
 pub own_push : (own : List BufferEntry) (e : BufferEntry) → KeepsOwnCalls own → SendsNone e → IsOwnCall e (calls_after [] own) → KeepsOwnCalls (own ++ e ∷ [])
@@ -24,7 +24,7 @@ own_push own e keeps none is_own = record {
 }
 
 -- an own client stays one
-gave_stays : (e : BufferEntry) (past : List BufferEntry) (client : ℕ) → gave_number past client ≡ true → gave_number (e ∷ past) client ≡ true
+pub gave_stays : (e : BufferEntry) (past : List BufferEntry) (client : ℕ) → gave_number past client ≡ true → gave_number (e ∷ past) client ≡ true
 gave_stays (Attach name (Ok n)) past client gave = elim (eqb_tells n client) as (λ w. gave_number (Attach name (Ok n) ∷ past) client ≡ true) [
   | inl is ↦ rw is.0 refl
   | inr other ↦ rw other.0 gave
@@ -76,6 +76,11 @@ asks_left e past client n leaves = refl
 pub asks_kept : (calls past : List BufferEntry) (client n : ℕ) → KeepsAsking client calls → asks (calls_after past calls) client n ≡ asks past client n
 asks_kept [] past client n keeps = refl
 asks_kept (e ∷ es) past client n keeps = asks_kept es (e ∷ past) client n keeps.1 ∙ asks_left e past client n keeps.0
+
+-- a client that asks for nothing asks for nothing behind a call that leaves its requests
+pub nothing_push : (own : List BufferEntry) (client : ℕ) (e : BufferEntry) → AsksNothing (Some client) own → LeavesAsking client e → AsksNothing (Some client) (own ++ e ∷ [])
+nothing_push own client e nothing leaves = λ n.
+    subst (λ (es : List BufferEntry). asks es client n ≡ false) (sym (calls_after-push [] own e)) (asks_left e (calls_after [] own) client n leaves ∙ nothing n)
 
 -- once its one request is cancelled, the client asks for nothing
 pub none_left : (past calls : List BufferEntry) (client id mask number n : ℕ) (reply : Result ⊤ RequestRefusal) → asks past client n ≡ false → KeepsAsking client calls

@@ -1,13 +1,15 @@
 -- What a channel's client reads, with a receive more, and what the file holds then.
-use Rattle.std.specs.Prelude.{◌≡◌, ℕ, nat_lt, Bool, true, false, if◌then◌else◌, List, [], ◌∷◌, ◌++◌, Option, Some, None, Result, Ok, refl, ⊤}
+use Rattle.std.specs.Prelude.{◌≡◌, ℕ, nat_lt, take, drop, Bool, true, false, if◌then◌else◌, List, [], ◌∷◌, ◌++◌, Option, Some, None, Result, Ok, refl, ⊤}
 use Rattle.std.proofs.Common.{ap, sym, subst, ◌∙◌, inl, inr, arith, append_assoc}
 use Rattle.std.proofs.lemmas.Bool.Decides.{eqb_tells}
 use Rattle.std.proofs.lemmas.Grind.{common_steps}
-use Rattle.std.proofs.lemmas.List.{append-nil}
+use Rattle.std.proofs.lemmas.List.{append-nil, take-append-drop}
+use Rattle.std.proofs.lemmas.List.Elements.{All-push}
+use mathlib.Core.List.{IsPrefix}
 use Rattle.daq_types.specs.declared.events.Event.{Event}
 use Rattle.daq_types.specs.declared.runs.Kind.TheVariants.{All}
-use Rattle.daq_model.specs.Events.{encoding, all_encoded, all_encoded-append}
-use Rattle.daq_model.specs.RunFile.{begin_record, begun_file}
+use Rattle.daq_model.specs.Events.{encoding, all_encoded, all_encoded-append, is_reserved}
+use Rattle.daq_model.specs.RunFile.{begin_record, begun_file, IsFileEvent}
 use Rattle.daq_io.specs.Seen.{Seen, Extends, IsWritten}
 use Rattle.daq_io.specs.SeenLaws.{IsWritten-Extends}
 use Rattle.buffer_core.specs.declared.replies.Received.{Received}
@@ -15,29 +17,29 @@ use Rattle.buffer_core.specs.declared.replies.Received.TheVariants.{Got, Empty, 
 use Rattle.buffer_core.specs.declared.replies.RequestRefusal.{RequestRefusal}
 use Rattle.buffer_core.specs.declared.entry.BufferEntry.{BufferEntry}
 use Rattle.buffer_core.specs.declared.entry.BufferEntry.TheVariants.{Request, Cancel, Receive, Begin, End}
-use Rattle.buffer_core.specs.Ports.{GotEvent}
+use Rattle.buffer_core.specs.Ports.{GotEvent, IsGiven}
 use Rattle.member_model.specs.OwnCalls.{calls_after, asks, LeavesAsking, KeepsAsking, HasDrained, events_at}
 use Rattle.member_model.specs.ReadRuns.{IsAsking, HasReadRun}
 use Rattle.member_model.specs.ReadLaws.{reading_push, draining_push, run_read, run_push, calls_after-push}
 use Rattle.mid_logger.specs.declared.channel_spec.ChannelSpec.{ChannelSpec}
-use Rattle.mid_logger.specs.declared.stage.OpenRun.{OpenRun}
-use Rattle.mid_logger.specs.Channels.{FileHead, AsksNothing, HoldsEvents, ReadsUntil, HasReadUntil, is_in_run, is_behind_end}
+use Rattle.mid_logger.specs.declared.stage.ChannelRun.{ChannelRun}
+use Rattle.mid_logger.specs.Channels.{FileHead, AsksNothing, FileHolds, ReadsUntil, HasReadUntil, HasReadPart, is_in_run, is_behind_end}
 use Rattle.mid_logger.specs.Patterns.{file_name_by}
 use Rattle.mid_logger.proofs.OwnSteps.{none_left, calls_after-append, given_by_reply, given_named}
 
-leaves_receive : (client room : ℕ) (reply : Received) → LeavesAsking client (Receive client room reply)
-leaves_receive client room (Got place start) = tt
-leaves_receive client room (Empty gate last) = tt
-leaves_receive client room NoClient = tt
-leaves_receive client room (SmallBuf need) = tt
+pub leaves_receive : (client room : ℕ) (reply : Received) (receiver : ℕ) → LeavesAsking client (Receive receiver room reply)
+leaves_receive client room (Got place start) receiver = tt
+leaves_receive client room (Empty gate last) receiver = tt
+leaves_receive client room NoClient receiver = tt
+leaves_receive client room (SmallBuf need) receiver = tt
 
 -- a receive of the client
 pub received : (ended : Option ℕ) (own : List BufferEntry) (got : List GotEvent) (client id mask request start begun : ℕ) (events : List Event) (room : ℕ) (reply : Received) (e : Event) → ReadsUntil ended own got client id mask request start begun events
     → ReadsUntil ended (own ++ Receive client room reply ∷ []) (got ++ given_by_reply client reply e) client id mask request start begun (events ++ events_at client (is_in_run begun ended) (given_by_reply client reply e))
 received None own got client id mask request start begun events room reply e reads =
-    reading_push own got client id mask request start begun events (Receive client room reply) (given_by_reply client reply e) reads (leaves_receive client room reply) (given_named client room reply e)
+    reading_push own got client id mask request start begun events (Receive client room reply) (given_by_reply client reply e) reads (leaves_receive client room reply client) tt (given_named client room reply e)
 received (Some end) own got client id mask request start begun events room reply e reads =
-    draining_push own got client id mask request start begun end events (Receive client room reply) (given_by_reply client reply e) reads (leaves_receive client room reply) (given_named client room reply e)
+    draining_push own got client id mask request start begun end events (Receive client room reply) (given_by_reply client reply e) reads (leaves_receive client room reply client) (given_named client room reply e)
 
 -- Which places are of the run.
 
@@ -98,18 +100,54 @@ asks_no_more own client id mask request reply asking = λ n.
 
 pub drained : (ended : Option ℕ) (own : List BufferEntry) (got : List GotEvent) (client id mask request start begun : ℕ) (events : List Event) (room : ℕ) (reply : Received) (e : BufferEntry) → ((end : ℕ) → ended ≡ Some end → HasDrained end reply)
     → ReadsUntil ended (own ++ Receive client room reply ∷ []) got client id mask request start begun events → HasReadUntil ended ((own ++ Receive client room reply ∷ []) ++ e ∷ []) got client id mask request start begun events
-drained None own got client id mask request start begun events room reply e over reads = tt
+drained None own got client id mask request start begun events room reply e over reads = record {
+  calls = own ++ Receive client room reply ∷ [];
+  later = e ∷ [];
+  got_by = got;
+  got_later = [];
+  own_is = refl;
+  got_is = sym (append-nil got);
+  reads = reads;
+}
 drained (Some end) own got client id mask request start begun events room reply e over reads =
     subst (λ (l : List GotEvent). HasReadRun ((own ++ Receive client room reply ∷ []) ++ e ∷ []) l client id mask request start begun end events) (append-nil got)
     (run_push (own ++ Receive client room reply ∷ []) got client id mask request start begun end events (e ∷ []) [] (run_read own got client id mask request start begun end events room reply reads (over end refl)))
 
+-- the reading is broken off
+pub part_read : (ended : Option ℕ) (own : List BufferEntry) (got : List GotEvent) (client id mask request start begun : ℕ) (events : List Event) (e : BufferEntry)
+    → ReadsUntil ended own got client id mask request start begun events → HasReadPart ended (own ++ e ∷ []) got client id mask request start begun events
+part_read None own got client id mask request start begun events e reads = record { calls = own; later = e ∷ []; got_by = got; got_later = []; own_is = refl; got_is = sym (append-nil got); reads = reads }
+part_read (Some end) own got client id mask request start begun events e reads =
+    record { calls = own; later = e ∷ []; got_by = got; got_later = []; own_is = refl; got_is = sym (append-nil got); stage = inr reads }
+
 -- The file.
 
-begun_file_push : (run time : ℕ) (dump : List ℕ) (events : List Event) (e : Event) → begun_file run time dump events ++ encoding e ≡ begun_file run time dump (events ++ e ∷ [])
+-- an event that a buffer gives may stand in a run file
+pub file_event : (e : Event) → IsGiven e → IsFileEvent e
+file_event e given = record {
+  begins_none = λ is. let never : true ≡ false = subst (λ (id : ℕ). is_reserved id ≡ false) is given.free in cc (never);
+  ends_none = λ is. let never : true ≡ false = subst (λ (id : ℕ). is_reserved id ≡ false) is given.free in cc (never);
+  small = given.small;
+}
+
+pub begun_file_push : (run time : ℕ) (dump : List ℕ) (events : List Event) (e : Event) → begun_file run time dump events ++ encoding e ≡ begun_file run time dump (events ++ e ∷ [])
 begun_file_push run time dump events e =
     append_assoc (encoding (begin_record run time dump)) (all_encoded events) (encoding e)
     ∙ ap (λ (l : List ℕ). encoding (begin_record run time dump) ++ l) (sym (all_encoded-append events (e ∷ []) ∙ ap (λ (l : List ℕ). all_encoded events ++ l) (append-nil (encoding e))))
 
-pub holds_more : (spec : ChannelSpec) (head : FileHead) (seen later : Seen) (opened : OpenRun) (events : List Event) (e : Event) → HoldsEvents spec head seen opened events → Extends seen later opened.file (encoding e) → HoldsEvents spec head later opened (events ++ e ∷ [])
-holds_more spec head seen later opened events e holds extends =
-    (holds.0, subst (λ (bytes : List ℕ). IsWritten later opened.file (file_name_by spec.pattern opened.run) bytes) (begun_file_push head.run head.time head.dump events e) (IsWritten-Extends holds.1 extends))
+-- what a file has that broke within an event
+pub begun_file_part : (run time : ℕ) (dump : List ℕ) (events : List Event) (e : Event) (count : ℕ) → IsPrefix (begun_file run time dump events ++ take count (encoding e)) (begun_file run time dump (events ++ e ∷ []))
+begun_file_part run time dump events e count = (
+  drop count (encoding e),
+  append_assoc (begun_file run time dump events) (take count (encoding e)) (drop count (encoding e))
+      ∙ (ap (λ (l : List ℕ). begun_file run time dump events ++ l) (take-append-drop count (encoding e)) ∙ begun_file_push run time dump events e),
+)
+
+pub holds_more : (spec : ChannelSpec) (head : FileHead) (seen later : Seen) (opened : ChannelRun) (events : List Event) (e : Event) → IsGiven e → FileHolds spec head seen opened events → Extends seen later opened.file (encoding e)
+    → FileHolds spec head later opened (events ++ e ∷ [])
+holds_more spec head seen later opened events e given holds extends = record {
+  run = holds.run;
+  small = holds.small;
+  fine = All-push IsFileEvent events e holds.fine (file_event e given);
+  file = subst (λ (bytes : List ℕ). IsWritten later opened.file (file_name_by spec.pattern opened.run) bytes) (begun_file_push head.run head.time head.dump events e) (IsWritten-Extends holds.file extends);
+}

@@ -1,20 +1,24 @@
 -- A channel of the logger: its calls on the buffer that it reads, what it got there, and its file.
-use Rattle.std.specs.Prelude.{◌≡◌, ℕ, nat_le, Bool, false, true, IsTrue, take, Result, List, [], Option, Some, None, ⊤}
+use Rattle.std.specs.Prelude.{◌≡◌, ◌≤◌, ℕ, nat_le, Bool, false, true, IsTrue, length, take, All, Result, Ok, Err, List, [], Option, Some, None, ⊤}
+use mathlib.Core.List.{IsPrefix}
 use Rattle.daq_types.specs.declared.events.Event.{Event}
-use Rattle.daq_model.specs.RunFile.{begun_file}
-use Rattle.daq_io.specs.Seen.{Seen, Closes, IsWritten}
+use Rattle.daq_model.specs.Events.{record_limit}
+use Rattle.daq_model.specs.RunFile.{begun_file, IsFileEvent}
+use Rattle.daq_io.specs.Seen.{Seen, Closes, IsWritten, IsStored}
 use Rattle.buffer_core.specs.declared.entry.BufferEntry.{BufferEntry}
 use Rattle.buffer_core.specs.declared.entry.BufferEntry.TheVariants.{Cancel}
 use Rattle.buffer_core.specs.declared.replies.RequestRefusal.{RequestRefusal}
+use Rattle.buffer_core.specs.declared.replies.MarkRefusal.{MarkRefusal}
 use Rattle.buffer_core.specs.Ports.{Access, GotEvent, Calls}
 use Rattle.member_model.specs.SentCalls.{EachCall}
 use Rattle.member_model.specs.OwnCalls.{calls_after, gave_number, AreOwnCalls, SendsNone, asks, is_within}
 use Rattle.member_model.specs.ReadRuns.{IsAsking, IsReading, IsDraining, HasReadRun}
+use Rattle.member_model.specs.CutRuns.{HasReadOn, HasCutRun}
 use Rattle.mid_logger.specs.declared.channel_spec.ChannelSpec.{ChannelSpec}
-use Rattle.mid_logger.specs.declared.stage.OpenRun.{OpenRun}
+use Rattle.mid_logger.specs.declared.stage.ChannelRun.{ChannelRun}
 use Rattle.mid_logger.specs.declared.stage.BegunRun.{BegunRun}
-use Rattle.mid_logger.specs.declared.stage.Stage.{Stage}
-use Rattle.mid_logger.specs.declared.stage.Stage.TheVariants.{Idle, Asking, Writing, Draining, Drained, Broken}
+use Rattle.mid_logger.specs.declared.stage.ChannelStage.{ChannelStage}
+use Rattle.mid_logger.specs.declared.stage.ChannelStage.TheVariants.{Idle, Asking, Writing, Draining, Drained, Broken}
 use Rattle.mid_logger.specs.Patterns.{file_name_by}
 
 -- the run number, the time and the dump of the record that begins a run's file
@@ -38,15 +42,18 @@ abbrev pub AsksNothing : Option ℕ → List BufferEntry → Type 0
 AsksNothing None own = ⊤
 AsksNothing (Some client) own = (n : ℕ) → asks (calls_after [] own) client n ≡ false
 
--- the file of the open run is being written, and has the begin record and these events
-abbrev pub HoldsEvents : ChannelSpec → FileHead → Seen → OpenRun → List Event → Type 0
-HoldsEvents spec head seen opened events =
-    (head.run ≡ opened.run) × IsWritten seen opened.file (file_name_by spec.pattern opened.run) (begun_file head.run head.time head.dump events)
+-- The file of the open run is being written, and has the begin record and these events, which may stand in a run file.
+pub record FileHolds (spec : ChannelSpec) (head : FileHead) (seen : Seen) (opened : ChannelRun) (events : List Event) : Type 0 where
+  pub run : head.run ≡ opened.run
+  pub small : length head.dump ≤ record_limit
+  pub fine : All IsFileEvent events
+  pub file : IsWritten seen opened.file (file_name_by spec.pattern opened.run) (begun_file head.run head.time head.dump events)
 
-pub record AskingAt (spec : ChannelSpec) (client : Option ℕ) (opened : OpenRun) (head : FileHead) (own : List BufferEntry) (seen : Seen) : Type 0 where
+-- the run is not begun yet
+pub record AskingAt (spec : ChannelSpec) (client : Option ℕ) (opened : ChannelRun) (head : FileHead) (own : List BufferEntry) (seen : Seen) : Type 0 where
   pub of : client ≡ Some opened.client
   pub asking : IsAsking own opened.client spec.id spec.mask opened.request
-  pub holds : HoldsEvents spec head seen opened []
+  pub holds : FileHolds spec head seen opened []
 
 -- the place is one of the run: from its begin on, and below its end, where that is marked
 abbrev pub is_in_run : (begun : ℕ) → (ended : Option ℕ) → (place : ℕ) → Bool
@@ -58,71 +65,120 @@ abbrev pub ReadsUntil : (ended : Option ℕ) → List BufferEntry → List GotEv
 ReadsUntil None own got client id mask request start begun events = IsReading own got client id mask request start begun events
 ReadsUntil (Some end) own got client id mask request start begun events = IsDraining own got client id mask request start begun end events
 
+-- the client reads the run, and the file holds the events that it got
 pub record ReadingAt (spec : ChannelSpec) (client : Option ℕ) (run : BegunRun) (head : FileHead) (own : List BufferEntry) (got : List GotEvent) (seen : Seen) : Type 0 where
   pub events : List Event
   pub of : client ≡ Some run.opened.client
   pub reads : ReadsUntil run.ended own got run.opened.client spec.id spec.mask run.opened.request run.opened.start run.begun events
-  pub holds : HoldsEvents spec head seen run.opened events
+  pub holds : FileHolds spec head seen run.opened events
 
--- the client has read the run, where its end was marked
+-- The client has read the run to its end, where that was marked; where it could not be, up to some point.
 abbrev pub HasReadUntil : (ended : Option ℕ) → List BufferEntry → List GotEvent → (client id mask request start begun : ℕ) → List Event → Type 0
-HasReadUntil None own got client id mask request start begun events = ⊤
+HasReadUntil None own got client id mask request start begun events = HasReadOn own got client id mask request start begun events
 HasReadUntil (Some end) own got client id mask request start begun events = HasReadRun own got client id mask request start begun end events
 
+-- the client has read the run, its request is cancelled, and the file holds the events that it got
 pub record DrainedAt (spec : ChannelSpec) (client : Option ℕ) (run : BegunRun) (head : FileHead) (own : List BufferEntry) (got : List GotEvent) (seen : Seen) : Type 0 where
   pub events : List Event
+  pub of : client ≡ Some run.opened.client
   pub nothing : AsksNothing client own
   pub reads : HasReadUntil run.ended own got run.opened.client spec.id spec.mask run.opened.request run.opened.start run.begun events
-  pub holds : HoldsEvents spec head seen run.opened events
+  pub holds : FileHolds spec head seen run.opened events
+
+-- the client has read a first part of the run, of which the end is marked or not
+abbrev pub HasReadPart : (ended : Option ℕ) → List BufferEntry → List GotEvent → (client id mask request start begun : ℕ) → List Event → Type 0
+HasReadPart None own got client id mask request start begun events = HasReadOn own got client id mask request start begun events
+HasReadPart (Some end) own got client id mask request start begun events = HasCutRun own got client id mask request start begun end events
+
+-- The client has read a part of the run, its request is cancelled, and the closed file begins as one does that has the begin
+-- record and the events that it got.
+pub record BrokenAt (spec : ChannelSpec) (client : Option ℕ) (run : BegunRun) (head : FileHead) (own : List BufferEntry) (got : List GotEvent) (seen : Seen) : Type 0 where
+  pub events : List Event
+  pub bytes : List ℕ
+  pub of : client ≡ Some run.opened.client
+  pub nothing : AsksNothing client own
+  pub reads : HasReadPart run.ended own got run.opened.client spec.id spec.mask run.opened.request run.opened.start run.begun events
+  pub number : head.run ≡ run.opened.run
+  pub small : length head.dump ≤ record_limit
+  pub fine : All IsFileEvent events
+  pub stored : IsStored seen (file_name_by spec.pattern run.opened.run) bytes
+  pub front : IsPrefix bytes (begun_file head.run head.time head.dump events)
 
 -- a run that is on
-abbrev pub run_on : OpenRun → (begun : ℕ) → BegunRun
+abbrev pub run_on : ChannelRun → (begun : ℕ) → BegunRun
 run_on opened begun = record { opened = opened; begun = begun; ended = None }
 
 -- a channel in this stage
-abbrev pub StageAt : ChannelSpec → Option ℕ → Stage → FileHead → List BufferEntry → List GotEvent → Seen → Type 0
+abbrev pub StageAt : ChannelSpec → Option ℕ → ChannelStage → FileHead → List BufferEntry → List GotEvent → Seen → Type 0
 StageAt spec client Idle head own got seen = AsksNothing client own
 StageAt spec client (Asking opened) head own got seen = AskingAt spec client opened head own seen
 StageAt spec client (Writing opened begun) head own got seen = ReadingAt spec client (run_on opened begun) head own got seen
 StageAt spec client (Draining run) head own got seen = ReadingAt spec client run head own got seen
 StageAt spec client (Drained run) head own got seen = DrainedAt spec client run head own got seen
-StageAt spec client (Broken start) head own got seen = AsksNothing client own
+StageAt spec client (Broken run) head own got seen = BrokenAt spec client run head own got seen
 
 -- a channel, with the calls of the logger on its buffer, what the logger got there, and the files
-pub record ChannelStands (spec : ChannelSpec) (client : Option ℕ) (stage : Stage) (head : FileHead) (own : List BufferEntry) (got : List GotEvent) (seen : Seen) : Type 0 where
+pub record ChannelStands (spec : ChannelSpec) (client : Option ℕ) (stage : ChannelStage) (head : FileHead) (own : List BufferEntry) (got : List GotEvent) (seen : Seen) : Type 0 where
   pub port : KeepsOwnCalls own
   pub own_client : IsOwnClient client own
   pub at : StageAt spec client stage head own got seen
 
--- the number of the file of the open run
-abbrev pub open_file : Stage → Option ℕ
-open_file Idle = None
-open_file (Asking opened) = Some opened.file
-open_file (Writing opened begun) = Some opened.file
-open_file (Draining run) = Some run.opened.file
-open_file (Drained run) = Some run.opened.file
-open_file (Broken start) = None
+-- the run whose file is being written
+abbrev pub written_run : ChannelStage → Option ChannelRun
+written_run Idle = None
+written_run (Asking opened) = Some opened
+written_run (Writing opened begun) = Some opened
+written_run (Draining run) = Some run.opened
+written_run (Drained run) = Some run.opened
+written_run (Broken run) = None
 
-abbrev pub IsUsed : Seen → Option ℕ → Type 0
-IsUsed seen None = ⊤
-IsUsed seen (Some file) = IsTrue (seen.writes file)
+-- the file of the run, if there is one, is in use for writing, under its name
+abbrev pub IsOpenFile : Seen → ChannelSpec → Option ChannelRun → Type 0
+IsOpenFile seen spec None = ⊤
+IsOpenFile seen spec (Some opened) = IsTrue (seen.writes opened.file) × (seen.name_of opened.file ≡ file_name_by spec.pattern opened.run)
 
--- the file of the open run, if there is one, is in use for writing
-abbrev pub HasOpenFile : Seen → Stage → Type 0
-HasOpenFile seen stage = IsUsed seen (open_file stage)
+-- the name of the file of this run, if there is one
+abbrev pub channel_file : ChannelSpec → Option ChannelRun → List ℕ
+channel_file spec None = []
+channel_file spec (Some opened) = file_name_by spec.pattern opened.run
 
 -- the stage once the run was begun at this place
-abbrev pub stage_begun : Stage → (begun : ℕ) → Stage
+abbrev pub stage_begun : ChannelStage → (begun : ℕ) → ChannelStage
 stage_begun (Asking opened) begun = Writing opened begun
 stage_begun stage begun = stage
 
+-- the place at which a run was ended, with this mark more
+abbrev pub end_marked : (before mark : Option ℕ) → Option ℕ
+end_marked None mark = mark
+end_marked (Some end) mark = Some end
+
 -- the stage once the run was ended at this place, or could not be
-abbrev pub stage_ended : Stage → (ended : Option ℕ) → Stage
+abbrev pub stage_ended : ChannelStage → (ended : Option ℕ) → ChannelStage
 stage_ended (Writing opened begun) ended = Draining (record { opened = opened; begun = begun; ended = ended })
+stage_ended (Broken run) ended = Broken (record run { ended = end_marked run.ended ended })
 stage_ended stage ended = stage
 
+-- a run whose client is being drained is not ended again
+abbrev pub EndsOnce : ChannelStage → Result ℕ MarkRefusal → Type 0
+EndsOnce (Draining run) (Ok place) = ⊥
+EndsOnce stage reply = ⊤
+
+-- the run that the channel writes, or broke off
+abbrev pub channel_run : ChannelStage → Option ChannelRun
+channel_run Idle = None
+channel_run (Asking opened) = Some opened
+channel_run (Writing opened begun) = Some opened
+channel_run (Draining run) = Some run.opened
+channel_run (Drained run) = Some run.opened
+channel_run (Broken run) = Some run.opened
+
+-- the place of a mark, where it was accepted
+abbrev pub place_marked : Result ℕ MarkRefusal → Option ℕ
+place_marked (Ok place) = Some place
+place_marked (Err why) = None
+
 -- the run of a channel that reads its buffer
-abbrev pub reading_run : Stage → Option BegunRun
+abbrev pub reading_run : ChannelStage → Option BegunRun
 reading_run (Writing opened begun) = Some (run_on opened begun)
 reading_run (Draining run) = Some run
 reading_run stage = None
@@ -133,7 +189,7 @@ is_behind_end None place = false
 is_behind_end (Some end) place = nat_le end place
 
 -- the request of the open run was cancelled, with any reply
-abbrev pub CancelsRequest : Access → Access → OpenRun → Type 0
+abbrev pub CancelsRequest : Access → Access → ChannelRun → Type 0
 CancelsRequest a b opened = (reply : Result ⊤ RequestRefusal) × Calls a b (Cancel opened.client opened.request reply)
 
 -- The file of this number grew by the first of these bytes, of whatever number, and was closed.

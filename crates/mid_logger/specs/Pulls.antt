@@ -1,22 +1,23 @@
 -- What a channel does with an event that it got, and when it pulls.
-use Rattle.std.specs.Prelude.{◌≡◌, ℕ, Bool, true, false, nat_lt, ◌⊎◌, Option, Some, None}
+use Rattle.std.specs.Prelude.{◌≡◌, ℕ, Bool, true, false, nat_lt, ◌⊎◌, List, Option, Some, None}
 use Rattle.daq_types.specs.declared.events.Event.{Event}
 use Rattle.daq_model.specs.Events.{encoding}
+use Rattle.daq_io.specs.Counts.{Rose, first_of}
 use Rattle.daq_io.specs.Seen.{Seen, Extends}
 use Rattle.buffer_core.specs.declared.replies.Received.{Received}
-use Rattle.buffer_core.specs.declared.replies.Received.TheVariants.{Got, Empty}
-use Rattle.buffer_core.specs.Ports.{Access, Receives}
+use Rattle.buffer_core.specs.declared.replies.Received.TheVariants.{Got, Empty, NoClient, SmallBuf}
+use Rattle.buffer_core.specs.Ports.{Access, Receives, GivesSound}
 use Rattle.mid_logger.specs.declared.pulled.Pulled.{Pulled}
 use Rattle.mid_logger.specs.declared.pulled.Pulled.TheVariants.{Wrote, Dropped, Nothing, Broke}
 use Rattle.mid_logger.specs.declared.stage.BegunRun.{BegunRun}
-use Rattle.mid_logger.specs.declared.stage.Stage.{Stage}
-use Rattle.mid_logger.specs.declared.stage.Stage.TheVariants.{Draining, Drained, Broken}
+use Rattle.mid_logger.specs.declared.stage.ChannelStage.{ChannelStage}
+use Rattle.mid_logger.specs.declared.stage.ChannelStage.TheVariants.{Draining, Drained, Broken}
 use Rattle.mid_logger.specs.Channels.{is_behind_end, reading_run, CancelsRequest, ClosesPart}
 
 -- a channel's stage, what the logger knows of its port, and the files, before a call and after it, and the answer
 pub record PullOf : Type 0 where
-  pub stage : Stage
-  pub later_stage : Stage
+  pub stage : ChannelStage
+  pub later_stage : ChannelStage
   pub port : Access
   pub later_port : Access
   pub files : Seen
@@ -37,7 +38,7 @@ pub record DrainsClient (p : PullOf) (run : BegunRun) (answer : Pulled) : Type 0
   pub port : CancelsRequest p.port p.later_port run.opened
   pub files : p.later_files ≡ p.files
 
--- the event is written, by one append
+-- the event is written
 pub record WritesEvent (p : PullOf) (run : BegunRun) (place : ℕ) (event : Event) : Type 0 where
   pub answer_is : p.answer ≡ Wrote place
   pub stage : p.later_stage ≡ p.stage
@@ -45,16 +46,16 @@ pub record WritesEvent (p : PullOf) (run : BegunRun) (place : ℕ) (event : Even
   pub files : Extends p.files p.later_files run.opened.file (encoding event)
 
 -- the append failed: the request is cancelled, and the file closed with a part of the event at its end
-pub record BreaksOff (p : PullOf) (run : BegunRun) (event : Event) : Type 0 where
+pub record BreaksChannel (p : PullOf) (run : BegunRun) (event : Event) : Type 0 where
   pub answer_is : p.answer ≡ Broke
-  pub stage : p.later_stage ≡ Broken run.opened.start
+  pub stage : p.later_stage ≡ Broken run
   pub port : CancelsRequest p.port p.later_port run.opened
   pub files : ClosesPart p.files p.later_files run.opened.file (encoding event)
 
 abbrev pub TakesBy : (behind early : Bool) → PullOf → BegunRun → (place : ℕ) → Event → Type 0
 TakesBy true early p run place event = DrainsClient p run (Dropped place)
 TakesBy false true p run place event = LeavesAll p (Dropped place)
-TakesBy false false p run place event = WritesEvent p run place event ⊎ BreaksOff p run event
+TakesBy false false p run place event = WritesEvent p run place event ⊎ BreaksChannel p run event
 
 -- What is done with an event that was got: the first one at or behind the end of the run drains the client; one from before
 -- its begin is dropped; any other is written.
@@ -62,7 +63,7 @@ abbrev pub TakesEvent : PullOf → BegunRun → (place : ℕ) → Event → Type
 TakesEvent p run place event = TakesBy (is_behind_end run.ended place) (nat_lt place run.begun) p run place event
 
 -- a stage in which a client that finds no event is drained
-abbrev pub drains_at_none : Stage → Bool
+abbrev pub drains_at_none : ChannelStage → Bool
 drains_at_none (Draining run) = true
 drains_at_none stage = false
 
@@ -70,11 +71,12 @@ abbrev pub FindsNone : (drains : Bool) → PullOf → BegunRun → Type 0
 FindsNone true p run = DrainsClient p run Nothing
 FindsNone false p run = LeavesAll p Nothing
 
--- what is done at the reply of a receive
+-- What is done at the reply of a receive. There is room for each event.
 abbrev pub TakesReply : PullOf → BegunRun → Received → Event → Type 0
 TakesReply p run (Got place start) event = TakesEvent p run place event
 TakesReply p run (Empty gate last) event = FindsNone (drains_at_none p.stage) p run
-TakesReply p run reply event = LeavesAll p Nothing
+TakesReply p run NoClient event = LeavesAll p Nothing
+TakesReply p run (SmallBuf need) event = ⊥
 
 -- One receive, and what is done at its reply.
 pub record PullsOnce (p : PullOf) (run : BegunRun) (room : ℕ) : Type 0 where
@@ -82,6 +84,7 @@ pub record PullsOnce (p : PullOf) (run : BegunRun) (room : ℕ) : Type 0 where
   pub event : Event
   pub middle : Access
   pub received : Receives p.port middle run.opened.client room reply event
+  pub sound : GivesSound reply event
   pub taken : TakesReply (record p { port = middle }) run reply event
 
 -- where the channel reads no run, nothing is done
@@ -89,5 +92,27 @@ abbrev pub PullsIn : Option BegunRun → PullOf → (room : ℕ) → Type 0
 PullsIn None p room = LeavesAll p Nothing
 PullsIn (Some run) p room = PullsOnce p run room
 
+-- what a pull does
 abbrev pub Pulls : PullOf → (room : ℕ) → Type 0
 Pulls p room = PullsIn (reading_run p.stage) p room
+
+-- The counts of the files, by the answer.
+
+-- the count of faults rose at Broke, and at no other answer
+abbrev pub PullFaults : Pulled → (old new : ℕ) → Type 0
+PullFaults Broke old new = Rose old new
+PullFaults answer old new = new ≡ old
+
+-- whether a call on the files ever failed, with this answer more
+abbrev pub failed_by : Pulled → Bool → Bool
+failed_by Broke before = true
+failed_by answer before = before
+
+-- at Broke, where there was no fault before, the first fault is that of the file of this name
+abbrev pub PullFirst : Pulled → (name : List ℕ) → (old new : Option (List ℕ)) → Type 0
+PullFirst Broke name old new = new ≡ first_of old name
+PullFirst answer name old new = new ≡ old
+
+-- the name of the first fault, behind a call on the file of this name that may have failed
+abbrev pub NamesMore : (name : List ℕ) → (old new : Option (List ℕ)) → Type 0
+NamesMore name old new = (new ≡ old) ⊎ (new ≡ first_of old name)

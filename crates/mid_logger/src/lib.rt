@@ -1,17 +1,21 @@
-//! The logger: its channels write the events of runs into run files.
+//! A logger's channels: each writes the events of runs into run files.
 #![tactic(auto)]
 
 mod channel;
 mod channel_spec;
+mod ending;
+pub mod laws;
+mod opening;
 mod pattern;
 mod pulled;
+mod record_files;
 mod stage;
 
 pub use channel::Channel;
 pub use channel_spec::ChannelSpec;
 pub use pattern::{BadPattern, Pattern};
 pub use pulled::Pulled;
-pub use stage::{BegunRun, OpenRun, Stage};
+pub use stage::{BegunRun, ChannelRun, ChannelStage};
 
 #[cfg(test)]
 mod tests;

@@ -1,6 +1,6 @@
 /// A run that a channel writes.
 #[derive(Clone, Copy, Debug, PartialEq, Eq)]
-pub struct OpenRun {
+pub struct ChannelRun {
     /// The run number.
     pub run: u32,
     /// The start number.
@@ -16,7 +16,7 @@ pub struct OpenRun {
 /// A run that was begun, as its client reads it.
 #[derive(Clone, Copy, Debug, PartialEq, Eq)]
 pub struct BegunRun {
-    pub opened: OpenRun,
+    pub opened: ChannelRun,
     /// The place at which it was begun.
     pub begun: u64,
     /// The place at which it was ended, once that is marked.
@@ -25,17 +25,17 @@ pub struct BegunRun {
 
 /// How far a channel is.
 #[derive(Clone, Copy, Debug, PartialEq, Eq)]
-pub enum Stage {
+pub enum ChannelStage {
     /// It writes no run.
     Idle,
     /// The file has its begin record, and the request was made; the run is not begun yet.
-    Asking { opened: OpenRun },
+    Asking { opened: ChannelRun },
     /// The run is on. It was begun at this place.
-    Writing { opened: OpenRun, begun: u64 },
+    Writing { opened: ChannelRun, begun: u64 },
     /// The run was stopped, and the client is not drained.
     Draining { run: BegunRun },
     /// The client was drained, and its request cancelled. The file has no end record yet.
     Drained { run: BegunRun },
-    /// A call on the file of the run with this start number failed. The file was closed, and the request cancelled.
-    Broken { start: u32 },
+    /// A call on the file failed. The file was closed, and the request cancelled. The run goes on, and may yet be ended.
+    Broken { run: BegunRun },
 }

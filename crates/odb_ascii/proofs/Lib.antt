@@ -2,3 +2,10 @@ pub mod Found
 pub mod Parts
 pub mod Growing
 pub mod Sizes
+pub mod Items
+pub mod TypeNames
+pub mod Beginnings
+pub mod Written
+pub mod Loads
+pub mod Replies
+pub mod OneReading

@@ -1,2 +1,7 @@
 pub mod Dumps
 pub mod Standing
+pub mod TextSteps
+pub mod Grammar
+pub mod TextFaults
+pub mod Blocks
+pub mod Loads

@@ -7,7 +7,8 @@ use Rattle.daq_types.specs.declared.runs.Order.{Order}
 use Rattle.daq_model.specs.Events.{encoding, all_encoded}
 use Rattle.daq_model.specs.RunFile.{begin_record, end_record, begun_file}
 use Rattle.daq_model.specs.Generator.{generated_events}
-use Rattle.daq_io.specs.Seen.{Seen, Stored, stored_open, stored_closed, Same, Creates, Closes, Touches}
+use Rattle.daq_io.specs.Seen.{Seen, Stored, stored_open, stored_closed, IsFree, KeepsNumbers, Same, Creates, Closes, Touches}
+use Rattle.daq_io.specs.SeenLaws.{KeepsNumber-free, KeepsNumbers-from, KeepsNumbers-trans, KeepsOthers-trans}
 use Rattle.session_console.specs.declared.records.RunRecord.{RunRecord}
 use Rattle.session_console.specs.declared.records.FrontTally.{FrontTally}
 use Rattle.session_console.specs.declared.records.FileRecord.{FileRecord}
@@ -49,6 +50,13 @@ pub kept_taken : (first now : Seen) (runs : List RunRecord) (name : List ℕ) �
 kept_taken first now runs name kept told there free =
     let clash : false ≡ true = subst (λ (file : Option Stored). IsSome file) (kept.others told name free.1 tt ∙ free.0) there in cc
 
+-- a number that is free now was free before, where what is told of every number stayed
+free_before : {first old : Seen} (number : ℕ) → KeepsNumbers first old → IsFree old number → IsFree first number
+free_before number kept free = record {
+  writes = sym (kept number).writes ∙ free.writes;
+  reads = sym (kept number).reads ∙ free.reads;
+}
+
 -- a run began
 pub kept_begun : (first old new : Seen) (runs : List RunRecord) (run : RunOn) → IsKept first old runs None → Creates old new (run_name run.order.run) run.file (begun_file run.order.run run.order.time [] []) → IsKept first new runs (Some run)
 kept_begun first old new runs run kept made = record {
@@ -56,6 +64,7 @@ kept_begun first old new runs run kept made = record {
   filed = λ told. all_filed old new (run_name run.order.run) made.touches (absent_is_not_closed old.at (run_name run.order.run) (made.fresh (kept.tells ∙ told))) runs (kept.filed told);
   begun = λ told. record { named = made.named; holds = made.holds (kept.tells ∙ told) };
   others = λ told name avoids ne. made.touches.others name (λ e. ne (sym e)) ∙ kept.others told name avoids tt;
+  numbers = (free_before run.file kept.numbers made.was_free, KeepsOthers-trans (λ other ne. kept.numbers other) made.others);
 }
 
 -- no file changed, and no run is on
@@ -65,6 +74,7 @@ kept_same first old new runs kept same = record {
   filed = λ told. All-weaker (IsFiled old.at) (IsFiled new.at) (λ r filed k d h. same.files.at _ ∙ filed k d h) runs (kept.filed told);
   begun = λ told. tt;
   others = λ told name avoids ne. same.files.at name ∙ kept.others told name avoids tt;
+  numbers = KeepsNumbers-trans kept.numbers same.numbers;
 }
 
 -- a record without files more
@@ -74,6 +84,7 @@ kept_refused first now runs order kept = record {
   filed = λ told. All-push (IsFiled now.at) runs (refused_record order) (kept.filed told) (All-nil (λ (f : FileRecord). now.at f.name ≡ Some (stored_closed (file_of (refused_record order)))));
   begun = λ told. tt;
   others = λ told name avoids ne. kept.others told name (All-pop (Avoids name) (runs ++ refused_record order ∷ []) runs (Some (refused_record order)) refl avoids).0 tt;
+  numbers = kept.numbers;
 }
 
 -- the bytes of a run file, from those that it began with
@@ -105,4 +116,5 @@ kept_ended first old new runs run front time kept closed =
           let both = All-pop (Avoids name) (runs ++ rec ∷ []) runs (Some rec) refl avoids in
           let ne : run_name run.order.run ≢ name = λ e. All-head (λ (f : FileRecord). f.name ≢ name) (file_record run.order.run) [] both.1 e in
           (touched told).others name (λ e. ne (sym e)) ∙ kept.others told name both.0 ne;
+      numbers = KeepsNumbers-from run.file (KeepsOthers-trans kept.numbers.1 closed.others) (KeepsNumber-free kept.numbers.0 closed.free);
     }

@@ -1,7 +1,8 @@
 -- The run files where a call on one of them failed: one has a first part of its bytes, the others are as they were.
-use Rattle.std.specs.Prelude.{◌≡◌, ◌≢◌, ◌≤◌, ℕ, Bool, IsTrue, List, [], length, take, Some, All}
+use Rattle.std.specs.Prelude.{◌≡◌, ◌≢◌, ◌≤◌, ℕ, Bool, IsTrue, List, [], ◌++◌, length, take, Some, All}
 use Rattle.daq_types.specs.declared.runs.Order.{Order}
-use Rattle.daq_model.specs.RunFile.{run_file}
+use Rattle.daq_model.specs.Events.{encoding, all_encoded}
+use Rattle.daq_model.specs.RunFile.{end_record}
 use Rattle.daq_model.specs.Generator.{generated_events}
 use Rattle.daq_io.specs.Seen.{Seen}
 use Rattle.session_console.specs.declared.records.RunRecord.{RunRecord}
@@ -13,13 +14,15 @@ pub record IsKeptBut (first now : Seen) (runs : List RunRecord) (name : List ℕ
   pub filed : IsTrue first.tells → All (IsFiled now.at) runs
   pub others : IsTrue first.tells → (other : List ℕ) → All (Avoids other) runs → name ≢ other → now.at other ≡ first.at other
 
--- The file of this name is there with a first part of these bytes, and with all of them where it was closed.
-pub record HasFirstPart (now : Seen) (name bytes : List ℕ) : Type 0 where
+-- The file of this name is there: it has all these bytes, and behind them a first part of more; and all of more where it
+-- was closed.
+pub record HasPartBehind (now : Seen) (name bytes more : List ℕ) : Type 0 where
   pub count : ℕ
   pub closed : Bool
-  pub holds : now.at name ≡ Some (record { bytes = take count bytes; closed = closed })
-  pub whole : IsTrue closed → length bytes ≤ count
+  pub holds : now.at name ≡ Some (record { bytes = bytes ++ take count more; closed = closed })
+  pub whole : IsTrue closed → length more ≤ count
 
--- the file of a run that was stopped at this time, whose front-end sent its quota
-abbrev pub stopped_file : Order → (time : ℕ) → List ℕ
-stopped_file order time = run_file order.run order.time [] (generated_events order 1 0 order.quota) time []
+-- what stands behind the begin record of a run that was stopped at this time, whose front-end sent its quota: its events,
+-- and the end record
+abbrev pub stopped_bytes : Order → (time : ℕ) → List ℕ
+stopped_bytes order time = all_encoded (generated_events order 1 0 order.quota) ++ encoding (end_record order.run time [])

@@ -7,7 +7,7 @@ use Rattle.daq_types.specs.declared.runs.StartOutcome.TheVariants.{Completed, Re
 use Rattle.daq_types.specs.declared.runs.Why.TheVariants.{Exists}
 use Rattle.daq_model.specs.RunFile.{begun_file, run_file}
 use Rattle.daq_model.specs.Generator.{generated_events}
-use Rattle.daq_io.specs.Seen.{Seen, Stored, stored_open, stored_closed}
+use Rattle.daq_io.specs.Seen.{Seen, Stored, IsFree, KeepsNumbers, KeepsOthers, stored_open, stored_closed}
 use Rattle.session_console.specs.declared.records.RunRecord.{RunRecord}
 use Rattle.session_console.specs.declared.records.FrontTally.{FrontTally}
 use Rattle.session_console.specs.declared.records.FileRecord.{FileRecord}
@@ -45,12 +45,14 @@ pub record IsBegun (now : Seen) (r : RunOn) : Type 0 where
   pub holds : now.at (run_name r.order.run) ≡ Some (stored_open (begun_file r.order.run r.order.time [] []))
 
 -- The files against the records, since a first moment: the files of the recorded runs are whole, that of the run that
--- is on is begun, and every other name is as it was at first.
+-- is on is begun, and every other name is as it was at first. So is every number in use but that of the run that is on,
+-- which was free.
 pub record IsKept (first now : Seen) (runs : List RunRecord) (on : Option RunOn) : Type 0 where
   pub tells : now.tells ≡ first.tells
   pub filed : IsTrue first.tells → All (IsFiled now.at) runs
   pub begun : IsTrue first.tells → MatchOption on ⊤ (IsBegun now)
   pub others : IsTrue first.tells → (name : List ℕ) → All (Avoids name) runs → MatchOption on ⊤ (λ r. run_name r.order.run ≢ name) → now.at name ≡ first.at name
+  pub numbers : MatchOption on (KeepsNumbers first now) (λ r. IsFree first r.file × KeepsOthers first now r.file)
 
 -- the record of a start that the logger, client 1, refused, since the name of the file of channel 0 was taken
 abbrev pub refused_record : Order → RunRecord

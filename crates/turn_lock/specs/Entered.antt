@@ -3,12 +3,13 @@ use Rattle.std.specs.Prelude.{◌≡◌, ◌≢◌, ℕ, ◌<◌, ◌++◌, ◌�
 use mathlib.Core.List.{IsPrefix}
 use Rattle.turn_lock.specs.declared.lock.Turns.{Turns}
 use Rattle.turn_lock.specs.declared.lock.Pass.{Pass}
-use Rattle.turn_lock.specs.History.{Appends}
-use Rattle.turn_lock.specs.Passes.{number_of, seen_by, own_entries, found_by, held_by, passes_of, IsOf}
+use Rattle.turn_lock.specs.History.{Appends, Leads}
+use Rattle.turn_lock.specs.Passes.{number_of, seen_by, own_entries, found_by, held_by, first_value, passes_of, IsOf}
 
 module _ {M D E : Type 0} {g : _} where
-  -- The call took the turn, put this entry into the history, and freed the turn. What the pass has seen begins with what it
-  -- had seen and ends with the entry, before which come other passes' entries alone; its own entries are this one more.
+  -- The call made this entry, and the pass holds nothing behind it. What the pass has seen begins with what it had seen and
+  -- ends with the entry, before which come other passes' entries alone; its own entries are this one more; and all that it has
+  -- seen leads from the first value on.
   pub record Enters (lock : Turns M D E) (entry : E) (before after : Pass M D E g) : Type 0 where
     pub own : IsOf lock after
     pub number : number_of after ≡ number_of before
@@ -16,6 +17,7 @@ module _ {M D E : Type 0} {g : _} where
     pub appends : Appends (number_of before) entry (seen_by before) (seen_by after)
     pub mine : own_entries after ≡ own_entries before ++ entry ∷ []
     pub found : IsPrefix (found_by before) (found_by after)
+    pub legal : (last : D) × Leads g.step (g.state (first_value lock)) (seen_by after) last
 
   -- The call found that the turn was another pass's, and did nothing else: no entry is new, and that pass's number stands
   -- behind those found before.

@@ -1,10 +1,15 @@
 -- What contracts see of a lock, of its passes and of notes.
-use Rattle.std.specs.Prelude.{◌≡◌, ℕ, List, Option, Some, None}
+use Rattle.std.specs.Prelude.{◌≡◌, ℕ, List, ◌∷◌, Option, Some, None}
 use mathlib.Core.List.{IsPrefix}
 use Rattle.turn_lock.specs.declared.lock.Turns.{Turns}
 use Rattle.turn_lock.specs.declared.lock.Pass.{Pass}
 use Rattle.turn_lock.specs.declared.lock.Note.{Note}
 use Rattle.daq_types.specs.Callers.{entries_by}
+use Rattle.atomic_table.specs.Seated.{TableId}
+
+-- the numbers that say which table of atomic words it is
+abbrev pub table_numbers : TableId → List ℕ
+table_numbers t = t.words ∷ t.slots ∷ t.views_name ∷ t.atom ∷ t.block ∷ t.offset ∷ t.slot_names
 
 module _ {M D E : Type 0} where
   -- the value that the lock was made with
@@ -14,6 +19,16 @@ module _ {M D E : Type 0} where
   -- how many passes the lock was made with: their numbers are those below it
   abbrev pub passes_of : Turns M D E → ℕ
   passes_of lock = lock.count
+
+  -- the numbers by which a lock is told from others
+  abbrev pub lock_numbers : Turns M D E → List ℕ
+  lock_numbers lock = table_numbers lock.table.shared.table_id
+
+  -- the two are one lock: they have the same numbers, as many passes, and the same first data
+  pub record IsSameLock (state_of : M → D) (one other : Turns M D E) : Type 0 where
+    pub numbers : lock_numbers other ≡ lock_numbers one
+    pub passes : passes_of other ≡ passes_of one
+    pub first : state_of (first_value other) ≡ state_of (first_value one)
 
 module _ {M D E : Type 0} {g : _} where
   abbrev pub number_of : Pass M D E g → ℕ

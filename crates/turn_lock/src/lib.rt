@@ -14,6 +14,7 @@
 #![tactic(auto)]
 
 mod closing;
+pub mod laws;
 mod lock;
 mod object;
 mod opening;

@@ -91,6 +91,7 @@ impl<M: Machine> Turns<M> {
     ghost use Rattle.turn_lock.specs.History.{Leads, EndsInStep, Appends};
     ghost use Rattle.turn_lock.specs.Views.{longer, pair_of};
     ghost use Rattle.turn_lock.specs.Passes.{first_value, passes_of, number_of, seen_by, own_entries, found_by, held_by, noted, IsOf, IsNoteOf, IsUnchanged};
+    ghost use Rattle.turn_lock.specs.Entered.{Enters, FindsTaken};
 
     /// Takes the turn if it is free, in one try.
     pub fn try_take(&self, pass: &mut Pass<M>) -> Result<Held<M>, Taken>
@@ -103,12 +104,8 @@ impl<M: Machine> Turns<M> {
         ensures held { IfOk result (λ held. held_by pass.new ≡ Some (M.state held.value)) }
         ensures found { OnOk result (found_by pass.new ≡ found_by pass.old) }
 
-        // The number that this try found, which is put behind those found before, is that of another of the lock's passes.
-        ensures taken { IfErr result (λ taken. found_by pass.new
-            ≡ found_by pass.old ++ taken.holder ∷ []) }
-        ensures another { IfErr result (λ taken. (taken.holder < passes_of self.now)
-            × (taken.holder ≢ number_of pass.old)) }
-        ensures idle { OnErr result (held_by pass.new ≡ None) }
+        ensures taken { IfErr result (λ taken. FindsTaken self.now taken.holder
+            pass.old pass.new) }
     {
         let number = u64::from(pass.number);
         let found = self
@@ -199,8 +196,8 @@ impl<M: Machine> Turns<M> {
             .fetch_add::<Counts<M, W>>(&mut pass.seat, COUNT, 1);
     }
 
-    /// Puts the value back and frees the turn. The entry that `call` stands for is appended to the history.
-    pub fn put<C: Call<M>>(&self, pass: &mut Pass<M>, held: Held<M>, call: &C)
+    /// Counts the entry that `call` stands for, lays the value back and frees the turn.
+    fn lay_back<C: Call<M>>(&self, pass: &mut Pass<M>, held: Held<M>, call: &C)
         requires own { IsOf self.now pass.old }
         requires step { (before : _) × (held_by pass.old ≡ Some before)
             × M.step before (number_of pass.old) (C.entry call.now) (M.state held.value) }
@@ -209,13 +206,9 @@ impl<M: Machine> Turns<M> {
         ensures number { number_of pass.new ≡ number_of pass.old }
         ensures idle { held_by pass.new ≡ None }
         ensures found { found_by pass.new ≡ found_by pass.old }
-
-        // What was seen ends with the new entry; before it come other passes' entries alone.
         ensures appends { Appends (number_of pass.old) (C.entry call.now) (seen_by pass.old)
             (seen_by pass.new) }
         ensures mine { own_entries pass.new ≡ own_entries pass.old ++ C.entry call.now ∷ [] }
-
-        // All that came before it leads to what was held, and the entry leads from there to what is laid back.
         ensures led { (before : _) × (held_by pass.old ≡ Some before)
             × EndsInStep M.step (M.state (first_value self.now)) before (number_of pass.old)
             (C.entry call.now) (M.state held.value) (seen_by pass.new) }
@@ -230,6 +223,25 @@ impl<M: Machine> Turns<M> {
             .exchange(&mut pass.seat, VALUE, Some(value));
         let None = empty else { unreachable!() };
         self.table.shared.swap::<Frees>(&mut pass.seat, TURN, FREE);
+    }
+
+    /// Puts the value back and frees the turn. The entry that `call` stands for is appended to the history.
+    pub fn put<C: Call<M>>(&self, pass: &mut Pass<M>, held: Held<M>, call: &C)
+        requires own { IsOf self.now pass.old }
+        requires step { (before : _) × (held_by pass.old ≡ Some before)
+            × M.step before (number_of pass.old) (C.entry call.now) (M.state held.value) }
+
+        ensures entered { Enters self.now (C.entry call.now) pass.old pass.new }
+        ensures found { found_by pass.new ≡ found_by pass.old }
+
+        // All that came before it leads to what was held, and the entry leads from there to what is laid back.
+        ensures led { (before : _) × (held_by pass.old ≡ Some before)
+            × EndsInStep M.step (M.state (first_value self.now)) before (number_of pass.old)
+            (C.entry call.now) (M.state held.value) (seen_by pass.new) }
+        ensures legal { Leads M.step (M.state (first_value self.now)) (seen_by pass.new)
+            (M.state held.value) }
+    {
+        self.lay_back(pass, held, call);
     }
 
     /// Copies what the pass has seen, so that another pass can meet it.

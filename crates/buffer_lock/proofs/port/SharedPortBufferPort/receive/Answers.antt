@@ -2,7 +2,7 @@ use Rattle.buffer_lock.proofs.SharedPortLaws.{shared_few, shared_receives, share
 use Rattle.buffer_lock.proofs.port.SharedPortBufferPort.receive.Goals as goal
 
 pub returns-clause-called : goal.returns-clause-called
-returns-clause-called g c = shared_receives _ _ _ _ _ _ _ _ _ _ c.receive.ensures.opens c.receive.ensures.entered.number c.receive.ensures.entered.appends c.receive.ensures.legal c.receive.ensures.event
+returns-clause-called g c = shared_receives _ _ _ _ _ _ _ _ _ _ c.receive.ensures.opens c.receive.ensures.entered.number c.receive.ensures.entered.appends c.receive.ensures.legal c.receive.ensures.event _
 
 pub returns-clause-sound : goal.returns-clause-sound
 returns-clause-sound g c = shared_sound _ _ _ _ _ _ _ _ _ _ c.receive.ensures.opens c.receive.ensures.entered.number c.receive.ensures.entered.appends c.receive.ensures.legal c.receive.ensures.event

@@ -10,5 +10,5 @@ use Rattle.front_ends.proofs.front_end.FrontEnd.finish.Goals as goal
 pub returns-clause-keeps : goal.returns-clause-keeps
 returns-clause-keeps g c = λ own turns stands.
     let told : finish_answer c.self.inside.run ≡ Some c.told_of.result = search rules in
-    subst (λ (a : Option Answer). FrontStands (g.E.Equipment.makes c.self.inside.equipment) (run_finished c.self.inside.run a) own (answered turns a)) told
-    (finish_kept (g.E.Equipment.makes c.self.inside.equipment) c.self.inside.run own turns (rw (← c.self.view_is) at stands))
+    subst (λ (a : Option Answer). FrontStands (g.E.Equipment.takes c.self.inside.equipment) (g.E.Equipment.makes c.self.inside.equipment) (run_finished c.self.inside.run a) own (answered turns a)) told
+    (finish_kept (g.E.Equipment.takes c.self.inside.equipment) (g.E.Equipment.makes c.self.inside.equipment) c.self.inside.run own turns (rw (← c.self.view_is) at stands))

@@ -6,7 +6,9 @@ pub returns-clause-keeps : goal.returns-clause-keeps
 returns-clause-keeps g c = λ turns stands.
     let later = rw (← c.self-2.view_is) at c.send_next-reply.ensures.makes in
     let makes = rw (← c.self.view_is) at later in
+    let later_takes = rw (← c.self-2.view_is) at c.send_next-reply.ensures.takes in
+    let takes = rw (← c.self.view_is) at later_takes in
     let own = rw (← c.self.view_is) at c.send_next-reply.ensures.sent.own in
-    let kept = step_kept (g.E.Equipment.makes c.self.inside.equipment) (g.P.BufferPort.access c.args.port.now).own turns c.in-Some.run' c.send_next-reply.result
+    let kept = step_kept (g.E.Equipment.takes c.self.inside.equipment) (g.E.Equipment.makes c.self.inside.equipment) (g.P.BufferPort.access c.args.port.now).own turns c.in-Some.run' c.send_next-reply.result
     (work_left c.in-Some.run' (sym c.has_done.ensures ∙ c.if-has_done.false)) (rw (← c.self.view_is, c.in-Some.is) at stands) in
-    rw (makes, c.run_behind_send.ensures, own) kept
+    rw (makes, takes, c.run_behind_send.ensures, own) kept

@@ -1,10 +1,13 @@
-use Rattle.std.proofs.Common.{rules, refl}
-use Rattle.turn_lock.proofs.Keeps.{frees_kept}
+use Rattle.std.proofs.Common.{◌∙◌, sym, [], append-nil}
 use Rattle.turn_lock.proofs.lock.Turns.put.Goals as goal
 
-pub swap-requires : goal.swap-requires
-swap-requires g c = let counted = c.count.new.pass in let laid = c.exchange-empty.ensures.3 in (
-  search rules,
-  search rules,
-  frees_kept _ _ _ _ _ _ _ _ c.args.held.value c.args.self.now.one_slot (rw laid c.count.ensures.held) refl (rw (laid, counted.carries, c.count.ensures.held) refl),
-)
+pub returns-clause-entered : goal.returns-clause-entered
+returns-clause-entered g c = let laid = c.lay_back.ensures in record {
+  own = laid.own;
+  number = laid.number;
+  idle = laid.idle;
+  appends = laid.appends;
+  mine = laid.mine;
+  found = ([], append-nil _ ∙ sym laid.found);
+  legal = (_, laid.legal);
+}

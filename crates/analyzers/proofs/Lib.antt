@@ -1,0 +1,6 @@
+pub mod OwnCallSteps
+pub mod CountBytes
+pub mod CountSteps
+pub mod ReportSteps
+pub mod TurnSteps
+pub mod PullSteps

@@ -1,0 +1,97 @@
+-- The reports among more calls and more turns.
+use Rattle.std.specs.Prelude.{◌≡◌, ◌≢◌, ℕ, List, ◌∷◌, ◌++◌, Option, Some, None}
+use Rattle.std.proofs.Common.{ap, subst, ◌∙◌, inl, inr}
+use Rattle.daq_types.specs.declared.events.Event.{Event}
+use Rattle.daq_types.specs.declared.runs.Transition.TheVariants.{Start, Stop}
+use Rattle.buffer_core.specs.declared.entry.BufferEntry.{BufferEntry}
+use Rattle.buffer_core.specs.Ports.{GotEvent}
+use Rattle.event_report.specs.Reports.{Totals}
+use Rattle.transitions.specs.declared.answers.Answer.TheVariants.{Yes}
+use Rattle.transitions.specs.declared.answers.Tally.TheVariants.{Report}
+use Rattle.member_model.specs.Turns.{MemberTurn, HasTurnOf, IsAnswered, NoneOpen}
+use Rattle.member_model.specs.TurnLaws.{HasTurnOf-more}
+use Rattle.analyzers.specs.declared.analyzer_run.EventRequest.{EventRequest}
+use Rattle.analyzers.specs.declared.analyzer_run.AnalyzerRun.{AnalyzerRun}
+use Rattle.analyzers.specs.declared.analyzer_run.AnalyzerStage.{AnalyzerStage}
+use Rattle.analyzers.specs.declared.analyzer_run.AnalyzerStage.TheVariants.{Counting, Draining, Drained}
+use Rattle.analyzers.specs.CountedRuns.{CountRequest}
+use Rattle.analyzers.specs.AnalyzerKept.{IsReportOfRun, ReportsHold, IsStopOpen, StageCounts, RunCounts, AnalyzerStands, count_request}
+use Rattle.analyzers.proofs.CountSteps.{wholly_push}
+
+-- one report
+
+report_calls : (wanted : EventRequest) (own : List BufferEntry) (got : List GotEvent) (turns : List MemberTurn) (start : ℕ) (report : Totals) (more : List BufferEntry) (gs : List GotEvent) → IsReportOfRun wanted own got turns start report
+    → IsReportOfRun wanted (own ++ more) (got ++ gs) turns start report
+report_calls wanted own got turns start report more gs is = record {
+  begin_turn = is.begin_turn;
+  is_start = is.is_start;
+  accepted = is.accepted;
+  client = is.client;
+  number = is.number;
+  events = is.events;
+  counted = wholly_push own got (count_request wanted is.client is.number start) is.events more gs is.counted;
+  report_is = is.report_is;
+}
+
+pub report_turns : (wanted : EventRequest) (own : List BufferEntry) (got : List GotEvent) (turns later : List MemberTurn) (start : ℕ) (report : Totals) → ((t : MemberTurn) → HasTurnOf turns Start start t → HasTurnOf later Start start t)
+    → IsReportOfRun wanted own got turns start report → IsReportOfRun wanted own got later start report
+report_turns wanted own got turns later start report more is = record {
+  begin_turn = is.begin_turn;
+  is_start = more is.begin_turn is.is_start;
+  accepted = is.accepted;
+  client = is.client;
+  number = is.number;
+  events = is.events;
+  counted = is.counted;
+  report_is = is.report_is;
+}
+
+-- all reports
+
+pub reports_calls : (wanted : EventRequest) (own : List BufferEntry) (got : List GotEvent) (turns : List MemberTurn) (more : List BufferEntry) (gs : List GotEvent) → ReportsHold wanted own got turns → ReportsHold wanted (own ++ more) (got ++ gs) turns
+reports_calls wanted own got turns more gs hold = λ t report here is.
+    let old = hold t report here is in (old.0, report_calls wanted own got turns t.order.start report more gs old.1)
+
+-- a turn more that is not answered with a report
+pub reports_more : (wanted : EventRequest) (own : List BufferEntry) (got : List GotEvent) (turns : List MemberTurn) (t : MemberTurn) → ((report : Totals) → t.answer ≢ Some (Yes (Report report))) → ReportsHold wanted own got turns → ReportsHold wanted own got (t ∷ turns)
+reports_more wanted own got turns t other hold = λ u report here is. elim here as (λ w. (u.transition ≡ Stop) × IsReportOfRun wanted own got (t ∷ turns) u.order.start report) [
+  | inl same ↦ absurd (other report (ap (λ (v : MemberTurn). v.answer) same ∙ is))
+  | inr before ↦
+      let old = hold u report before is in
+      (old.0, report_turns wanted own got turns (t ∷ turns) u.order.start report (λ v has. HasTurnOf-more t has) old.1)
+]
+
+-- Turns that leave the run.
+
+-- no stop is open where the latest turn was answered
+pub none_stops : (start : ℕ) (turns : List MemberTurn) → NoneOpen turns → IsStopOpen start turns → ⊥
+none_stops start turns none stop = subst (λ (ts : List MemberTurn). NoneOpen ts) stop.latest none
+
+stage_more : (stage : AnalyzerStage) (own : List BufferEntry) (got : List GotEvent) (turns : List MemberTurn) (t : MemberTurn) (q : CountRequest) (events : List Event) → NoneOpen turns → IsAnswered t.answer → StageCounts stage own got turns q events
+    → StageCounts stage own got (t ∷ turns) q events
+stage_more Counting own got turns t q events none answer counts = (answer, counts.1)
+stage_more (Draining accepted) own got turns t q events none answer counts = absurd (none_stops q.start turns none counts.0)
+stage_more Drained own got turns t q events none answer counts = absurd (none_stops q.start turns none counts.0)
+
+run_more : (wanted : EventRequest) (client : Option ℕ) (run : Option AnalyzerRun) (own : List BufferEntry) (got : List GotEvent) (turns : List MemberTurn) (t : MemberTurn) → NoneOpen turns → IsAnswered t.answer → RunCounts wanted client run own got turns
+    → RunCounts wanted client run own got (t ∷ turns)
+run_more wanted client None own got turns t none answer counts = (answer, counts.1)
+run_more wanted client (Some r) own got turns t none answer counts = record {
+  client_is = counts.client_is;
+  begin_turn = counts.begin_turn;
+  is_start = HasTurnOf-more t counts.is_start;
+  accepted = counts.accepted;
+  events = counts.events;
+  report_is = counts.report_is;
+  stage_is = stage_more r.stage own got turns t (count_request wanted r.client r.request r.start) counts.events none answer counts.stage_is;
+}
+
+-- a turn that is answered at once, without a report, and leaves the run
+pub plain_more : (wanted : EventRequest) (client : Option ℕ) (run : Option AnalyzerRun) (own : List BufferEntry) (got : List GotEvent) (turns : List MemberTurn) (t : MemberTurn) → NoneOpen turns → IsAnswered t.answer
+    → ((report : Totals) → t.answer ≢ Some (Yes (Report report))) → AnalyzerStands wanted client run own got turns → AnalyzerStands wanted client run own got (t ∷ turns)
+plain_more wanted client run own got turns t none answer other stands = record {
+  calls = stands.calls;
+  own_client = stands.own_client;
+  reports = reports_more wanted own got turns t other stands.reports;
+  counts = run_more wanted client run own got turns t none answer stands.counts;
+}

@@ -1,0 +1,100 @@
+-- What an analyzer keeps of its calls on a buffer and of its turns, whatever the buffer replies.
+use Rattle.std.specs.Prelude.{◌≡◌, ℕ, true, false, List, [], ◌∷◌, ◌++◌, Option, Some, None, ⊤}
+use Rattle.daq_types.specs.declared.events.Event.{Event}
+use Rattle.daq_types.specs.declared.runs.Order.{Order}
+use Rattle.daq_types.specs.declared.runs.Transition.TheVariants.{Start, Stop}
+use Rattle.buffer_core.specs.declared.entry.BufferEntry.{BufferEntry}
+use Rattle.buffer_core.specs.declared.entry.BufferEntry.TheVariants.{Attach, Request, Cancel, Receive, Accepted}
+use Rattle.buffer_core.specs.Ports.{GotEvent}
+use Rattle.event_report.specs.Reports.{Totals, report_of}
+use Rattle.transitions.specs.declared.answers.Answer.TheVariants.{Yes}
+use Rattle.transitions.specs.declared.answers.Tally.TheVariants.{Plain, Report}
+use Rattle.member_model.specs.Turns.{MemberTurn, HasTurn, HasTurnOf, NoneOpen}
+use Rattle.member_model.specs.SentCalls.{EachCall}
+use Rattle.member_model.specs.OwnCalls.{calls_after, gave_number, AreOwnCalls, asks}
+use Rattle.analyzers.specs.declared.analyzer_run.EventRequest.{EventRequest}
+use Rattle.analyzers.specs.declared.analyzer_run.AnalyzerRun.{AnalyzerRun}
+use Rattle.analyzers.specs.declared.analyzer_run.AnalyzerStage.{AnalyzerStage}
+use Rattle.analyzers.specs.declared.analyzer_run.AnalyzerStage.TheVariants.{Counting, Draining, Drained}
+use Rattle.analyzers.specs.AnalyzerTurns.{analyzer_turn}
+use Rattle.analyzers.specs.CountedRuns.{CountRequest, IsCounted, IsWhollyCounted}
+
+-- a call that sends nothing, makes no mark and detaches no client
+abbrev pub IsReaderCall : BufferEntry → Type 0
+IsReaderCall (Attach name reply) = ⊤
+IsReaderCall (Request client id mask kind reply) = ⊤
+IsReaderCall (Cancel client number reply) = ⊤
+IsReaderCall (Receive client room reply) = ⊤
+IsReaderCall (Accepted reply) = ⊤
+IsReaderCall entry = ⊥
+
+-- the calls are such, and name only clients that an attach of the caller's own gave
+pub record KeepsReaderCalls (own : List BufferEntry) : Type 0 where
+  pub only_reads : EachCall IsReaderCall own
+  pub own_calls : AreOwnCalls (calls_after [] own)
+
+-- the client is one that an attach gave; where there is none, no attach gave one
+abbrev pub HasOwnClient : Option ℕ → List BufferEntry → Type 0
+HasOwnClient None own = (n : ℕ) → gave_number (calls_after [] own) n ≡ false
+HasOwnClient (Some client) own = gave_number (calls_after [] own) client ≡ true
+
+-- the client, if there is one, asks for nothing
+abbrev pub AsksForNone : Option ℕ → List BufferEntry → Type 0
+AsksForNone None own = ⊤
+AsksForNone (Some client) own = (n : ℕ) → asks (calls_after [] own) client n ≡ false
+
+-- the request of a client for a run
+abbrev pub count_request : EventRequest → (client number start : ℕ) → CountRequest
+count_request wanted client number start = record { wanted = wanted; client = client; number = number; start = start }
+
+-- A report of a run: its start was accepted, a client was drained behind its stop, by the one request of that client,
+-- and the report is that of the events with its start number that the client got, in order, from the request on.
+pub record IsReportOfRun (wanted : EventRequest) (own : List BufferEntry) (got : List GotEvent) (turns : List MemberTurn) (start : ℕ) (report : Totals) : Type 0 where
+  pub begin_turn : MemberTurn
+  pub is_start : HasTurnOf turns Start start begin_turn
+  pub accepted : begin_turn.answer ≡ Some (Yes Plain)
+  pub client : ℕ
+  pub number : ℕ
+  pub events : List Event
+  pub counted : IsWhollyCounted own got (count_request wanted client number start) events
+  pub report_is : report ≡ report_of events
+
+-- each turn that was answered with a report is a stop, and the report is that of its run
+abbrev pub ReportsHold : EventRequest → List BufferEntry → List GotEvent → List MemberTurn → Type 0
+ReportsHold wanted own got turns = (t : MemberTurn) → (report : Totals) → HasTurn turns t → t.answer ≡ Some (Yes (Report report)) →
+    (t.transition ≡ Stop) × IsReportOfRun wanted own got turns t.order.start report
+
+-- the latest turn is a stop of this run that is not answered
+pub record IsStopOpen (start : ℕ) (turns : List MemberTurn) : Type 0 where
+  pub order : Order
+  pub earlier : List MemberTurn
+  pub of : order.start ≡ start
+  pub latest : turns ≡ analyzer_turn Stop order None ∷ earlier
+
+-- these are the events that were counted in this stage
+abbrev pub StageCounts : AnalyzerStage → List BufferEntry → List GotEvent → List MemberTurn → CountRequest → List Event → Type 0
+StageCounts Counting own got turns q events = NoneOpen turns × ((calls : List BufferEntry) × IsCounted own got q calls events)
+StageCounts (Draining accepted) own got turns q events =
+    IsStopOpen q.start turns × ((reading : List BufferEntry) × (draining : List BufferEntry) × IsCounted own got q (reading ++ Accepted accepted ∷ draining) events)
+StageCounts Drained own got turns q events = IsStopOpen q.start turns × AsksForNone (Some q.client) own × IsWhollyCounted own got q events
+
+-- The run is counted: its start was accepted, and the report is that of the events that were counted.
+pub record CountsRun (wanted : EventRequest) (client : Option ℕ) (r : AnalyzerRun) (own : List BufferEntry) (got : List GotEvent) (turns : List MemberTurn) : Type 0 where
+  pub client_is : client ≡ Some r.client
+  pub begin_turn : MemberTurn
+  pub is_start : HasTurnOf turns Start r.start begin_turn
+  pub accepted : begin_turn.answer ≡ Some (Yes Plain)
+  pub events : List Event
+  pub report_is : r.report ≡ report_of events
+  pub stage_is : StageCounts r.stage own got turns (count_request wanted r.client r.request r.start) events
+
+abbrev pub RunCounts : EventRequest → (client : Option ℕ) → Option AnalyzerRun → List BufferEntry → List GotEvent → List MemberTurn → Type 0
+RunCounts wanted client None own got turns = NoneOpen turns × AsksForNone client own
+RunCounts wanted client (Some r) own got turns = CountsRun wanted client r own got turns
+
+-- an analyzer that wants these events, with its client, in this run or in none, with its own calls, what it got, and its turns
+pub record AnalyzerStands (wanted : EventRequest) (client : Option ℕ) (run : Option AnalyzerRun) (own : List BufferEntry) (got : List GotEvent) (turns : List MemberTurn) : Type 0 where
+  pub calls : KeepsReaderCalls own
+  pub own_client : HasOwnClient client own
+  pub reports : ReportsHold wanted own got turns
+  pub counts : RunCounts wanted client run own got turns

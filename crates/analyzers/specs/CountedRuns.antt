@@ -1,0 +1,60 @@
+-- A client whose events of one run are counted, by its one request, until it is drained behind the run's stop. What was got
+-- is read off the calls and the events that they gave; nothing is asked of the buffer.
+use Rattle.std.specs.Prelude.{◌≡◌, ℕ, ◌==◌, ◌&&◌, false, if◌then◌else◌, List, [], ◌∷◌, ◌++◌, Ok}
+use Rattle.daq_types.specs.declared.events.Event.{Event}
+use Rattle.buffer_core.specs.declared.replies.Received.{Received}
+use Rattle.buffer_core.specs.declared.entry.BufferEntry.{BufferEntry}
+use Rattle.buffer_core.specs.declared.entry.BufferEntry.TheVariants.{Request, Receive, Accepted}
+use Rattle.buffer_core.specs.Ports.{GotEvent}
+use Rattle.member_model.specs.OwnCalls.{calls_after, asks, KeepsAsking, HasDrained, AreGivenBy}
+use Rattle.analyzers.specs.declared.analyzer_run.EventRequest.{EventRequest}
+
+-- the request by which a run is counted: what is wanted, the client, the request's number, and the run's start number
+pub record CountRequest : Type 0 where
+  pub wanted : EventRequest
+  pub client : ℕ
+  pub number : ℕ
+  pub start : ℕ
+
+-- the event, where it is the client's and was sent with this start number
+abbrev pub event_of_start : (client start : ℕ) → GotEvent → List Event
+event_of_start client start g = if (g.client == client) && (start == g.start) then g.event ∷ [] else []
+
+-- the events with this start number that the client got, in order
+abbrev pub events_of_start : (client start : ℕ) → List GotEvent → List Event
+events_of_start client start [] = []
+events_of_start client start (g ∷ gs) = event_of_start client start g ++ events_of_start client start gs
+
+-- the client's request was made when it had no other, and these are the calls since
+pub record AskedBy (own : List BufferEntry) (q : CountRequest) (calls : List BufferEntry) : Type 0 where
+  pub before : List BufferEntry
+  pub whole : own ≡ before ++ Request q.client q.wanted.id q.wanted.mask q.wanted.kind (Ok q.number) ∷ calls
+  pub alone : (n : ℕ) → asks (calls_after [] before) q.client n ≡ false
+
+-- The request was made, and none of the client was made or cancelled since; these are the events of the run that the client
+-- got by the calls since.
+pub record IsCounted (own : List BufferEntry) (got : List GotEvent) (q : CountRequest) (calls : List BufferEntry) (events : List Event) : Type 0 where
+  pub asked : AskedBy own q calls
+  pub asks_on : KeepsAsking q.client calls
+  pub earlier : List GotEvent
+  pub given : List GotEvent
+  pub got_is : got ≡ earlier ++ given
+  pub gives : AreGivenBy calls given
+  pub events_are : events ≡ events_of_start q.client q.start given
+
+-- Then the buffer told how many events it had taken, and a receive was replied that the client has read all of them: these
+-- are the events of the run that it got from its request on until then. Any calls may follow.
+pub record IsWhollyCounted (own : List BufferEntry) (got : List GotEvent) (q : CountRequest) (events : List Event) : Type 0 where
+  pub accepted : ℕ
+  pub reading : List BufferEntry
+  pub draining : List BufferEntry
+  pub room : ℕ
+  pub reply : Received
+  pub own_by : List BufferEntry
+  pub later : List BufferEntry
+  pub own_is : own ≡ own_by ++ later
+  pub got_by : List GotEvent
+  pub got_later : List GotEvent
+  pub got_is : got ≡ got_by ++ got_later
+  pub counted : IsCounted own_by got_by q (reading ++ Accepted accepted ∷ (draining ++ Receive q.client room reply ∷ [])) events
+  pub drains : HasDrained accepted reply

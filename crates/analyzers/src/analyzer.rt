@@ -1,0 +1,496 @@
+ghost use Rattle.std.specs.Prelude.{◌≡◌, ◌==◌, ◌≤◌, ◌+◌, ◌-◌, ◌^◌, [], ◌∷◌, List, Some, None, IfOk, IfSome, codes, length, min};
+ghost use Rattle.buffer_core.specs.declared.entry.BufferEntry.{BufferEntry};
+ghost use Rattle.buffer_core.specs.Ports.{GotEvent};
+ghost use Rattle.daq_model.specs.Events.{event_limit};
+ghost use Rattle.event_report.specs.Reports.{report_of};
+ghost use Rattle.transitions.specs.declared.answers.Answer.TheVariants.{Yes};
+ghost use Rattle.transitions.specs.declared.answers.Tally.TheVariants.{Plain};
+ghost use Rattle.member_model.specs.Turns.{MemberTurn, NoneOpen, answered};
+ghost use Rattle.analyzers.specs.declared.analyzer_run.AnalyzerStage.TheVariants.{Drained};
+ghost use Rattle.analyzers.specs.Analyzers.{AnalyzerState, CancelsRun, IsWithinGot, run_at};
+ghost use Rattle.analyzers.specs.AnalyzerTurns.{CancelsIn, DropsRun, GetsClient, StartsBy, StopsBy, StopsRun, TurnsBy, RequestsRun, analyzer_turn, report_answer, run_reported};
+ghost use Rattle.analyzers.specs.AnalyzerPulls.{CountsOwn, CountsReply, EndsReading, PullsBy, ReceivesFor, drains_by, got_bytes, pull_answer, was_drained};
+ghost use Rattle.analyzers.specs.AnalyzerKept.{AnalyzerStands};
+
+use crate::analyzer_pull::AnalyzerPull;
+use crate::analyzer_run::{AnalyzerRun, AnalyzerStage, EventRequest};
+use buffer_core::{BufferPort, Received};
+use daq_types::{Kind, Name, NoMemory, Order, Transition, Why};
+use event_header::EventBuf;
+use event_report::Report;
+use std::alloc::Global;
+use std::marker::Model;
+use std::sync::Wait;
+use transitions::{Answer, Tally};
+
+/// An analyzer: it takes part in runs by its turns, receives the events that it asks for, and counts those of the run. Only
+/// `new` takes memory.
+#[derive(Drop)]
+pub struct Analyzer {
+    wanted: EventRequest,
+    event: EventBuf,
+    client: Option<u32>,
+    run: Option<AnalyzerRun>,
+}
+
+impl Model for Analyzer {
+    ghost use Rattle.analyzers.specs.Analyzers.{AnalyzerState};
+
+    ghost Value = { AnalyzerState };
+
+    ghost view = { λ a. record { wanted = a.wanted; room = a.event.room; client = a.client; run = a.run } };
+}
+
+/// What a turn is answered that needs no more.
+fn plain() -> Answer
+    ensures { result ≡ Yes Plain }
+{
+    Answer::Yes(Tally::Plain)
+}
+
+/// The name under which analyzers attach their clients.
+fn client_name() -> Name
+    ensures { result ≡ codes "Analyzer" }
+{
+    match Name::new(b"Analyzer") {
+        Ok(name) => name,
+        Err(_) => unreachable!(),
+    }
+}
+
+/// Cancels the request of a run, if that stands.
+fn cancel_live<R: Wait, P: BufferPort>(rt: &R, port: &mut P, run: &AnalyzerRun)
+    requires entries { 1 ≤ (P.access port.old).entries }
+    ensures cancels { CancelsIn run.now.stage run.now (P.access port.old) (P.access port.new) }
+    ensures size { (P.access port.new).size ≡ (P.access port.old).size }
+{
+    match run.stage {
+        AnalyzerStage::Drained => {}
+        AnalyzerStage::Counting | AnalyzerStage::Draining { .. } => {
+            let _ = port.cancel(rt, run.client, run.request);
+        }
+    }
+}
+
+/// The run, once it was stopped: what the buffer took so far is to be read.
+fn stopped<R: Wait, P: BufferPort>(rt: &R, port: &mut P, run: AnalyzerRun) -> AnalyzerRun
+    requires entries { 1 ≤ (P.access port.old).entries }
+    ensures stops { StopsRun run.stage run result (P.access port.old) (P.access port.new) }
+    ensures size { (P.access port.new).size ≡ (P.access port.old).size }
+{
+    match run.stage {
+        AnalyzerStage::Counting => AnalyzerRun {
+            stage: AnalyzerStage::Draining {
+                accepted: port.accepted(rt),
+            },
+            ..run
+        },
+        AnalyzerStage::Draining { .. } | AnalyzerStage::Drained => run,
+    }
+}
+
+/// Whether the client of a run in this stage was drained.
+fn is_drained(stage: AnalyzerStage) -> bool
+    ensures { result ≡ was_drained stage }
+{
+    matches!(stage, AnalyzerStage::Drained)
+}
+
+/// Whether this reply drains the client in this stage.
+fn drains(stage: AnalyzerStage, reply: Received) -> bool
+    ensures { result ≡ drains_by stage reply }
+{
+    let AnalyzerStage::Draining { accepted } = stage else {
+        return false;
+    };
+    match reply {
+        Received::Got { place, .. } => accepted <= place,
+        Received::Empty { .. } => true,
+        Received::NoClient | Received::SmallBuf { .. } => false,
+    }
+}
+
+/// The answer to a pull, by the start number of the run and the reply of the receive.
+fn answer_by(start: u32, reply: Received) -> AnalyzerPull
+    ensures { result ≡ pull_answer start reply }
+{
+    match reply {
+        Received::Got { place, start: sent } if start == sent => AnalyzerPull::Folded { place },
+        Received::Got { place, .. } => AnalyzerPull::Dropped { place },
+        _ => AnalyzerPull::Nothing,
+    }
+}
+
+/// The run with this event counted, where it has the run's start number.
+fn counted(run: AnalyzerRun, start: u32, event: &EventBuf) -> AnalyzerRun
+    requires room { run.report.bytes + (16 + length event.now.event.body) ≤ 2 ^ 62 }
+    ensures counts { CountsOwn (run.start == start) run result event.now.event }
+    ensures bytes { result.report.bytes ≤ run.report.bytes + (16 + length event.now.event.body) }
+    ensures client { result.client ≡ run.client }
+{
+    if run.start != start {
+        return run;
+    }
+    let mut report = run.report;
+    report.fold(&event.header(), event.body());
+    AnalyzerRun { report, ..run }
+}
+
+/// The run behind a receive with this reply.
+fn counted_by(run: AnalyzerRun, reply: Received, event: &EventBuf) -> AnalyzerRun
+    requires room { run.report.bytes + got_bytes reply event.now.event ≤ 2 ^ 62 }
+    ensures counts { CountsReply reply run result event.now.event }
+    ensures bytes { result.report.bytes ≤ run.report.bytes + got_bytes reply event.now.event }
+    ensures client { result.client ≡ run.client }
+{
+    match reply {
+        Received::Got { start, .. } => counted(run, start, event),
+        _ => run,
+    }
+}
+
+/// The run behind a receive. A client that was drained has its request cancelled.
+fn end_reading<R: Wait, P: BufferPort>(
+    rt: &R,
+    port: &mut P,
+    run: AnalyzerRun,
+    drained: bool,
+) -> AnalyzerRun
+    requires entries { 1 ≤ (P.access port.old).entries }
+    ensures ends { EndsReading drained run (Some result) (P.access port.old) (P.access port.new) }
+    ensures got { (P.access port.new).got ≡ (P.access port.old).got }
+    ensures size { (P.access port.new).size ≡ (P.access port.old).size }
+    ensures client { result.client ≡ run.client }
+    ensures report { result.report ≡ run.report }
+{
+    if !drained {
+        return run;
+    }
+    let _ = port.cancel(rt, run.client, run.request);
+    AnalyzerRun {
+        stage: AnalyzerStage::Drained,
+        ..run
+    }
+}
+
+impl Analyzer {
+    /// An analyzer that asks for the events of this id and mask, 65,535 for any, in this way, in no run. Each may have so
+    /// many bytes of data as `room`.
+    pub fn new(
+        alloc: Global,
+        id: u16,
+        mask: u16,
+        kind: Kind,
+        room: u32,
+    ) -> Result<Analyzer, NoMemory>
+        ensures made { IfOk result (λ analyzer. analyzer ≡ record {
+          wanted = record { id = id; mask = mask; kind = kind };
+          room = room;
+          client = None;
+          run = None;
+        }) }
+        ensures stands { IfOk result (λ analyzer. AnalyzerStands analyzer.wanted analyzer.client
+            analyzer.run [] [] []) }
+    {
+        let event = EventBuf::new(alloc, room)?;
+        Ok(Analyzer {
+            wanted: EventRequest { id, mask, kind },
+            event,
+            client: None,
+            run: None,
+        })
+    }
+
+    /// Drops the run, if there is one, and cancels its request, if that stands.
+    fn drop_run<R: Wait, P: BufferPort>(&mut self, rt: &R, port: &mut P)
+        requires entries { 1 ≤ (P.access port.old).entries }
+        ensures after { self.new ≡ record self.old { run = None } }
+        ensures drops { DropsRun self.old.run (P.access port.old) (P.access port.new) }
+        ensures size { (P.access port.new).size ≡ (P.access port.old).size }
+    {
+        if let Some(run) = self.run.take() {
+            cancel_live(rt, port, &run);
+        }
+    }
+
+    /// The analyzer's client, which is attached where there is none yet.
+    fn attached<R: Wait, P: BufferPort>(&mut self, rt: &R, port: &mut P) -> Option<u32>
+        requires entries { 1 ≤ (P.access port.old).entries }
+        ensures after { self.new ≡ record self.old { client = result } }
+        ensures gets { GetsClient self.old.client result (P.access port.old) (P.access port.new) }
+        ensures size { (P.access port.new).size ≡ (P.access port.old).size }
+        ensures entries { (P.access port.old).entries ≤ (P.access port.new).entries + 1 }
+    {
+        if self.client.is_none() {
+            self.client = port.attach(rt, client_name()).ok();
+        }
+        self.client
+    }
+
+    /// Makes the client's request for a run of this start number, and begins it with this blank report.
+    fn request_run<R: Wait, P: BufferPort>(
+        &mut self,
+        rt: &R,
+        port: &mut P,
+        start: u32,
+        report: Report,
+    ) -> Answer
+        requires entries { 1 ≤ (P.access port.old).entries }
+        requires none { self.old.run ≡ None }
+        ensures wanted { self.new.wanted ≡ self.old.wanted }
+        ensures room { self.new.room ≡ self.old.room }
+        ensures client { self.new.client ≡ self.old.client }
+        ensures requests { RequestsRun self.old.wanted start report self.old.client self.new.run
+            result (P.access port.old) (P.access port.new) }
+        ensures size { (P.access port.new).size ≡ (P.access port.old).size }
+    {
+        let Some(client) = self.client else {
+            return Answer::No(Why::BufferRefused);
+        };
+        let EventRequest { id, mask, kind } = self.wanted;
+        match port.request(rt, client, id, mask, kind) {
+            Ok(request) => {
+                self.run = Some(AnalyzerRun {
+                    start,
+                    client,
+                    request,
+                    stage: AnalyzerStage::Counting,
+                    report,
+                });
+                plain()
+            }
+            Err(_) => Answer::No(Why::BufferRefused),
+        }
+    }
+
+    /// Takes a start turn.
+    fn take_start<R: Wait, P: BufferPort>(
+        &mut self,
+        rt: &R,
+        port: &mut P,
+        order: &Order,
+        blank: Option<Report>,
+    ) -> Answer
+        requires entries { 3 ≤ (P.access port.old).entries }
+        ensures wanted { self.new.wanted ≡ self.old.wanted }
+        ensures room { self.new.room ≡ self.old.room }
+        ensures starts { StartsBy blank self.old.wanted order.now.start (record {
+          client = self.old.client;
+          run = self.old.run;
+          port = P.access port.old;
+        }) (record {
+          client = self.new.client;
+          run = self.new.run;
+          port = P.access port.new;
+        }) result }
+        ensures size { (P.access port.new).size ≡ (P.access port.old).size }
+    {
+        let Some(report) = blank else {
+            return Answer::No(Why::NotReady);
+        };
+        self.drop_run(rt, port);
+        self.attached(rt, port);
+        self.request_run(rt, port, order.start, report)
+    }
+
+    /// Takes a stop turn.
+    fn take_stop<R: Wait, P: BufferPort>(
+        &mut self,
+        rt: &R,
+        port: &mut P,
+        order: &Order,
+    ) -> Option<Answer>
+        requires entries { 1 ≤ (P.access port.old).entries }
+        ensures wanted { self.new.wanted ≡ self.old.wanted }
+        ensures room { self.new.room ≡ self.old.room }
+        ensures stops { StopsBy self.old.run order.now.start (record {
+          client = self.old.client;
+          run = self.old.run;
+          port = P.access port.old;
+        }) (record {
+          client = self.new.client;
+          run = self.new.run;
+          port = P.access port.new;
+        }) result }
+        ensures size { (P.access port.new).size ≡ (P.access port.old).size }
+    {
+        let Some(run) = self.run.take() else {
+            return Some(plain());
+        };
+        if run.start != order.start {
+            self.run = Some(run);
+            return Some(plain());
+        }
+        self.run = Some(stopped(rt, port, run));
+        None
+    }
+
+    /// Takes a turn.
+    fn take_turn<R: Wait, P: BufferPort>(
+        &mut self,
+        rt: &R,
+        port: &mut P,
+        transition: Transition,
+        order: &Order,
+        blank: Option<Report>,
+    ) -> Option<Answer>
+        requires entries { 3 ≤ (P.access port.old).entries }
+        ensures wanted { self.new.wanted ≡ self.old.wanted }
+        ensures room { self.new.room ≡ self.old.room }
+        ensures turns { TurnsBy transition self.old.wanted order.now blank (record {
+          client = self.old.client;
+          run = self.old.run;
+          port = P.access port.old;
+        }) (record {
+          client = self.new.client;
+          run = self.new.run;
+          port = P.access port.new;
+        }) result }
+        ensures size { (P.access port.new).size ≡ (P.access port.old).size }
+    {
+        match transition {
+            Transition::Start => Some(self.take_start(rt, port, order, blank)),
+            Transition::Stop => self.take_stop(rt, port, order),
+            Transition::Pause | Transition::Resume => Some(plain()),
+            Transition::StartAbort => {
+                self.drop_run(rt, port);
+                Some(plain())
+            }
+        }
+    }
+
+    /// Takes a turn. A start without a blank report is refused as not ready, and one for which the buffer refuses the client
+    /// or the request as refused by the buffer; any other start begins a run with the blank report. A stop of the run that
+    /// is counted is answered None; `finish` gives the answer later. Between two turns the answer to the first was given.
+    pub fn on_turn<R: Wait, P: BufferPort>(
+        &mut self,
+        rt: &R,
+        port: &mut P,
+        transition: Transition,
+        order: &Order,
+        blank: Option<Report>,
+    ) -> Option<Answer>
+        requires entries { 3 ≤ (P.access port.old).entries }
+        requires blank { IfSome blank (λ report. report ≡ report_of []) }
+        ensures wanted { self.new.wanted ≡ self.old.wanted }
+        ensures room { self.new.room ≡ self.old.room }
+        ensures turns { TurnsBy transition self.old.wanted order.now blank (record {
+          client = self.old.client;
+          run = self.old.run;
+          port = P.access port.old;
+        }) (record {
+          client = self.new.client;
+          run = self.new.run;
+          port = P.access port.new;
+        }) result }
+        ensures size { (P.access port.new).size ≡ (P.access port.old).size }
+        ensures counted { IsWithinGot self.old.run (P.access port.old).got →
+            IsWithinGot self.new.run (P.access port.new).got }
+        ensures keeps { (earlier : List MemberTurn) → NoneOpen earlier →
+            AnalyzerStands self.old.wanted self.old.client self.old.run
+            (P.access port.old).own (P.access port.old).got earlier →
+            AnalyzerStands self.new.wanted self.new.client self.new.run
+            (P.access port.new).own (P.access port.new).got
+            (analyzer_turn transition order.now result ∷ earlier) }
+    {
+        self.take_turn(rt, port, transition, order, blank)
+    }
+
+    /// Receives once for this run, and counts what it gets, where that is of the run.
+    fn receive_for<R: Wait, P: BufferPort>(
+        &mut self,
+        rt: &R,
+        port: &mut P,
+        run: AnalyzerRun,
+    ) -> (AnalyzerRun, Received)
+        requires entries { 1 ≤ (P.access port.old).entries }
+        requires room { min event_limit ((P.access port.old).size - 24) ≤ self.old.room }
+        requires counted { IsWithinGot (Some run) (P.access port.old).got }
+        ensures after { self.new ≡ self.old }
+        ensures receives { ReceivesFor run result.0 self.old.room (P.access port.old) (P.access port.new)
+            result.1 }
+        ensures counted { IsWithinGot (Some result.0) (P.access port.new).got }
+        ensures size { (P.access port.new).size ≡ (P.access port.old).size }
+        ensures entries { (P.access port.old).entries ≤ (P.access port.new).entries + 1 }
+    {
+        let reply = port.receive(rt, run.client, &mut self.event);
+        (counted_by(run, reply, &self.event), reply)
+    }
+
+    /// Receives once, where a run is read, and counts what it gets.
+    fn pull_once<R: Wait, P: BufferPort>(&mut self, rt: &R, port: &mut P) -> AnalyzerPull
+        requires entries { 2 ≤ (P.access port.old).entries }
+        requires room { min event_limit ((P.access port.old).size - 24) ≤ self.old.room }
+        requires counted { IsWithinGot self.old.run (P.access port.old).got }
+        ensures wanted { self.new.wanted ≡ self.old.wanted }
+        ensures room { self.new.room ≡ self.old.room }
+        ensures pulls { PullsBy self.old.run self.old.room (record {
+          client = self.old.client;
+          run = self.old.run;
+          port = P.access port.old;
+        }) (record {
+          client = self.new.client;
+          run = self.new.run;
+          port = P.access port.new;
+        }) result }
+        ensures size { (P.access port.new).size ≡ (P.access port.old).size }
+        ensures counted { IsWithinGot self.new.run (P.access port.new).got }
+    {
+        let Some(run) = self.run.take() else {
+            return AnalyzerPull::Nothing;
+        };
+        if is_drained(run.stage) {
+            self.run = Some(run);
+            return AnalyzerPull::Nothing;
+        }
+        let (start, stage) = (run.start, run.stage);
+        let (run, reply) = self.receive_for(rt, port, run);
+        self.run = Some(end_reading(rt, port, run, drains(stage, reply)));
+        answer_by(start, reply)
+    }
+
+    /// Receives once, where a run is read, and counts what it gets, where that is of the run.
+    pub fn pull<R: Wait, P: BufferPort>(&mut self, rt: &R, port: &mut P) -> AnalyzerPull
+        requires entries { 2 ≤ (P.access port.old).entries }
+        requires room { min event_limit ((P.access port.old).size - 24) ≤ self.old.room }
+        requires counted { IsWithinGot self.old.run (P.access port.old).got }
+        ensures wanted { self.new.wanted ≡ self.old.wanted }
+        ensures room { self.new.room ≡ self.old.room }
+        ensures pulls { PullsBy self.old.run self.old.room (record {
+          client = self.old.client;
+          run = self.old.run;
+          port = P.access port.old;
+        }) (record {
+          client = self.new.client;
+          run = self.new.run;
+          port = P.access port.new;
+        }) result }
+        ensures size { (P.access port.new).size ≡ (P.access port.old).size }
+        ensures counted { IsWithinGot self.new.run (P.access port.new).got }
+        ensures keeps { (turns : List MemberTurn) →
+            AnalyzerStands self.old.wanted self.old.client self.old.run
+            (P.access port.old).own (P.access port.old).got turns →
+            AnalyzerStands self.new.wanted self.new.client self.new.run
+            (P.access port.new).own (P.access port.new).got turns }
+    {
+        self.pull_once(rt, port)
+    }
+
+    /// The report, as the answer to the stop that waits, once the client was drained. None exactly where no stop waits, or
+    /// the client is not drained.
+    pub fn finish(&mut self) -> Option<Answer>
+        ensures answer { result ≡ report_answer self.old.run }
+        ensures after { self.new ≡ record self.old { run = run_reported self.old.run result } }
+        ensures keeps { (own : List BufferEntry) → (got : List GotEvent) → (turns : List MemberTurn) →
+            AnalyzerStands self.old.wanted self.old.client self.old.run own got turns →
+            AnalyzerStands self.new.wanted self.new.client self.new.run own got
+            (answered turns result) }
+    {
+        let run = self.run.take()?;
+        if !is_drained(run.stage) {
+            self.run = Some(run);
+            return None;
+        }
+        Some(Answer::Yes(Tally::Report(run.report)))
+    }
+}

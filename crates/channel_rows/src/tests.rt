@@ -1,0 +1,199 @@
+ghost use Rattle.std.specs.Prelude.{◌≡◌, ◌≤◌, ◌-◌, IfOk, OnOk, min, length};
+ghost use Rattle.daq_model.specs.Events.{event_limit, record_limit};
+ghost use Rattle.mid_logger.specs.declared.stage.ChannelStage.TheVariants.{Idle};
+ghost use Rattle.mid_logger.specs.Channels.{IsOpenFile, written_run};
+
+use buffer_core::BufferPort;
+use daq_io::Files;
+use daq_mem::{FileFail, FileOp, MemFiles};
+use daq_types::{Bytes, ChannelState, FileName, NoMemory, Order, RunState, Why};
+use event_header::{EventBuf, Header};
+use local_port::LocalPort;
+use mid_logger::{Channel, ChannelSpec, ChannelStage, Pattern, Pulled};
+use plain_buffer::PlainBuffer;
+use std::alloc::Global;
+use std::sync::Wait;
+use std::test::Fail;
+
+/// The port of the rows.
+type Port = LocalPort<PlainBuffer>;
+
+/// The dump at the start of a run: the database with a front-end that has sent nothing.
+const DUMP: &[u8] =
+    b"[/Runinfo]\nState = INT32 : 1\nRun number = INT32 : 1\nStart time binary = UINT32 : 1000\nStop time binary = UINT32 : 0\n\n[/Equipment]\n\n[/Equipment/FE]\nEvents sent = UINT64 : 0\n\n";
+
+/// The order that starts run 1.
+fn order() -> Order {
+    Order {
+        run: 1,
+        start: 1,
+        time: 1000,
+        from: RunState::Stopped,
+        quota: 1,
+    }
+}
+
+/// A port to a new buffer, with room for so many calls.
+fn new_port(alloc: Global) -> Result<Port, NoMemory>
+    ensures { IfOk result (λ port. port.window.size ≡ 1024) }
+{
+    Ok(LocalPort::new(alloc, PlainBuffer::new(alloc, 1024)?))
+}
+
+/// Channel 3, which asks for all events.
+fn new_channel(alloc: Global, pattern: Pattern) -> Result<Channel, NoMemory>
+    ensures { IfOk result (λ channel. (channel.stage ≡ Idle) × (channel.event.room ≡ 1000)) }
+{
+    Ok(Channel {
+        spec: ChannelSpec {
+            number: 3,
+            pattern,
+            buffer: 0,
+            id: 65535,
+            mask: 65535,
+        },
+        client: None,
+        stage: ChannelStage::Idle,
+        failed: false,
+        event: EventBuf::new(alloc, 1000)?,
+    })
+}
+
+/// Opens run 1, with room to note the calls.
+fn open<R: Wait, F: Files>(
+    rt: &R,
+    files: &mut F,
+    port: &mut Port,
+    channel: &mut Channel,
+    dump: &[u8],
+) -> Result<Result<(), Why>, NoMemory>
+    requires idle { channel.old.stage ≡ Idle }
+    requires small { length dump.now ≤ record_limit }
+    ensures size { port.new.window.size ≡ port.old.window.size }
+    ensures room { channel.new.event ≡ channel.old.event }
+    ensures file { OnOk result (IsOpenFile (F.seen files.new) channel.new.spec
+        (written_run channel.new.stage)) }
+{
+    port.reserve(2, 0)?;
+    Ok(channel.open(rt, files, port, &order(), dump))
+}
+
+/// Begins the run in the buffer, and sends one event in it.
+fn begin_and_send<R: Wait>(
+    rt: &R,
+    port: &mut Port,
+    channel: &mut Channel,
+    header: &Header,
+    body: &[u8],
+) -> Result<(), NoMemory>
+    requires body { length body.now ≤ 80 }
+    ensures size { port.new.window.size ≡ port.old.window.size }
+    ensures room { channel.new.event ≡ channel.old.event }
+    ensures spec { channel.new.spec ≡ channel.old.spec }
+    ensures file { written_run channel.new.stage ≡ written_run channel.old.stage }
+{
+    port.reserve(2, 80)?;
+    if let Ok(place) = BufferPort::begin(port, rt, 1) {
+        channel.note_begun(place);
+    }
+    let _ = BufferPort::send_in_run(port, rt, 1, header, body);
+    Ok(())
+}
+
+/// Ends the run in the buffer.
+fn end<R: Wait>(rt: &R, port: &mut Port, channel: &mut Channel) -> Result<(), NoMemory>
+    ensures size { port.new.window.size ≡ port.old.window.size }
+    ensures room { channel.new.event ≡ channel.old.event }
+    ensures spec { channel.new.spec ≡ channel.old.spec }
+    ensures file { written_run channel.new.stage ≡ written_run channel.old.stage }
+{
+    port.reserve(1, 0)?;
+    channel.note_ended(BufferPort::end(port, rt, 1).ok());
+    Ok(())
+}
+
+/// Pulls once.
+fn pull<R: Wait, F: Files>(
+    rt: &R,
+    files: &mut F,
+    port: &mut Port,
+    channel: &mut Channel,
+) -> Result<Pulled, NoMemory>
+    requires file { IsOpenFile (F.seen files.old) channel.old.spec (written_run channel.old.stage) }
+    requires room { min event_limit (port.old.window.size - 24) ≤ channel.old.event.room }
+    ensures room { channel.new.event.room ≡ channel.old.event.room }
+    ensures file { IsOpenFile (F.seen files.new) channel.new.spec (written_run channel.new.stage) }
+{
+    port.reserve(2, 0)?;
+    Ok(channel.pull(rt, files, port))
+}
+
+/// The name of the file of run 1.
+fn run_name() -> Result<FileName, Fail> {
+    match FileName::new("run00001.mid") {
+        Ok(name) => Ok(name),
+        Err(bad) => Err(Fail::from(bad)),
+    }
+}
+
+/// An event of id 1 with two bytes of data.
+fn event() -> Header {
+    Header {
+        event_id: 1,
+        trigger_mask: 2,
+        serial_number: 3,
+        time_stamp: 4,
+        data_size: 2,
+    }
+}
+
+/// Opens the run, sends one event in it, pulls once, and ends the run; answers what the pull did.
+fn run_of_one_event<R: Wait, F: Files>(
+    rt: &R,
+    files: &mut F,
+    port: &mut Port,
+    channel: &mut Channel,
+) -> Result<Pulled, NoMemory>
+    requires idle { channel.old.stage ≡ Idle }
+    requires room { min event_limit (port.old.window.size - 24) ≤ channel.old.event.room }
+    ensures file { OnOk result (IsOpenFile (F.seen files.new) channel.new.spec
+        (written_run channel.new.stage)) }
+{
+    let _ = open(rt, files, port, channel, DUMP)?;
+    begin_and_send(rt, port, channel, &event(), b"ab")?;
+    let pulled = pull(rt, files, port, channel)?;
+    end(rt, port, channel)?;
+    Ok(pulled)
+}
+
+/// How long the file of run 1 is, where it is closed; 0 where there is none.
+fn closed_length(files: &MemFiles) -> Result<usize, Fail> {
+    let name = run_name()?;
+    if !files.is_closed(&name) {
+        return Ok(0);
+    }
+    match files.find(&name) {
+        Some(bytes) => Ok(bytes.len()),
+        None => Ok(0),
+    }
+}
+
+#[test]
+fn a_failed_append_breaks_the_channel(rt: HostRuntime) -> Result<(), Fail> {
+    let alloc = rt.alloc();
+    let third = vec![in alloc;
+        FileFail {
+            op: FileOp::Append,
+            call: 2
+        },
+    ]?;
+    let mut files = MemFiles::new(alloc, 4, 4096, third)?;
+    let mut port = new_port(alloc)?;
+    let mut channel = new_channel(alloc, Pattern::new("run%05d.mid")?)?;
+    let pulled = run_of_one_event(&rt, &mut files, &mut port, &mut channel)?;
+    assert!(rt; pulled == Pulled::Broke);
+    let state = channel.close(&mut files, 1010, &None);
+    assert!(rt; state == ChannelState::Broken);
+    assert!(rt; closed_length(&files)? == 189);
+    Ok(())
+}

@@ -1,0 +1,192 @@
+-- What the run files have, by the engine's history and the buffers'.
+use mathlib.Core.List.{IsPrefix}
+use Rattle.std.specs.Prelude.{◌≡◌, ℕ, List, [], All, unwrap_or, Option, Some, refl}
+use Rattle.std.proofs.Common.{ap, sym, ◌∙◌, subst, inl, inr}
+use Rattle.daq_types.specs.Callers.{caller_of_client}
+use Rattle.daq_types.specs.declared.events.Event.{Event}
+use Rattle.daq_types.specs.declared.runs.ChannelState.{ChannelState}
+use Rattle.daq_types.specs.declared.runs.ChannelState.TheVariants.{Ended, Broken}
+use Rattle.daq_types.specs.declared.runs.Order.{Order}
+use Rattle.daq_types.specs.declared.runs.Transition.TheVariants.{Start, Stop}
+use Rattle.daq_model.specs.RunFile.{begun_file, run_file, IsFileEvent}
+use Rattle.daq_io.specs.Seen.{IsStored}
+use Rattle.buffer_core.specs.declared.entry.BufferEntry.{BufferEntry}
+use Rattle.buffer_core.specs.Histories.{History}
+use Rattle.transitions.specs.declared.answers.Answer.{Answer}
+use Rattle.transitions.specs.declared.answers.Answer.TheVariants.{Yes, No}
+use Rattle.transitions.specs.declared.answers.Tally.{Tally}
+use Rattle.transitions.specs.declared.answers.Tally.TheVariants.{Plain, Channels}
+use Rattle.transitions.specs.EnginePoints.{tally_of}
+use Rattle.member_model.specs.Turns.{MemberTurn, HasTurnOf, IsAcceptedStart, IsAnswered}
+use Rattle.member_model.specs.ReadRuns.{HasReadRun}
+use Rattle.member_model.specs.CutRuns.{MarksEnd, HasCutRun}
+use Rattle.member_model.specs.LoggerKept.{LoggerChannel, HasWritten, HasWrittenPart, TellsState, IsStartAnswer, IsStateSo}
+use Rattle.caller_laws.specs.OneCaller.{IsCallersPart, HaveOwnClients}
+use Rattle.caller_laws.specs.CallerLaws.{ReadPlaces, ReadEvents, CutEvents, CutFile, MembersFit}
+use Rattle.engine_laws.specs.BegunTurns.{HasTally}
+use Rattle.composition.specs.Sessions.{Session, turns_of, buffer_calls, MembersKeep}
+use Rattle.composition.specs.SessionRuns.{SessionRun, IsStoppedRun, run_order, ToldState, channel_events}
+use Rattle.composition.specs.CompositionLaws.{ChannelsTold, FilesHoldRuns, FilesHoldParts}
+use Rattle.composition.proofs.SessionTurns.{EngineFacts, are_turns, start_turn, one_start, StopTally, number_of, stop_tally, HasStartTally, start_tally, last_tally}
+use Rattle.composition.proofs.SentTogether.{each_reads_or_sends}
+
+-- what the laws of one caller's calls say
+pub record CallerFacts : Type 0 where
+  pub places : ReadPlaces
+  pub events : ReadEvents
+  pub cut : CutEvents
+  pub file : CutFile
+  pub fits : MembersFit
+
+yes_channels : (answer : Answer) (states : List ChannelState) → Channels states ≡ tally_of answer → answer ≡ Yes (Channels states)
+yes_channels (Yes tally) states e = ap (λ (t : Tally). Yes t) (sym e)
+yes_channels (No why) states e = absurd (cc (e))
+
+-- The logger's calls and what it got are its part of a buffer's history.
+
+logger_part : (s : Session) → MembersKeep s → (buffer : ℕ) → IsCallersPart (s.history buffer) (caller_of_client s.logger) (buffer_calls s buffer s.logger) (s.got buffer)
+logger_part s keep buffer = record { own_is = refl; sent_so = keep.logger_got buffer }
+
+own_clients : CallerFacts → (s : Session) → MembersKeep s → (buffer : ℕ) → HaveOwnClients (s.history buffer)
+own_clients callers s keep buffer = (callers.fits (s.history buffer) (each_reads_or_sends s keep buffer)).0
+
+-- The logger's turns of the run.
+
+record LoggerRun (s : Session) (r : SessionRun) (channel : LoggerChannel) (state : ChannelState) : Type 0 where
+  stop : MemberTurn
+  number : stop.order.start ≡ r.start
+  time : stop.order.time ≡ r.last.time
+  dump : stop.dump ≡ r.last.dump
+  tells : TellsState (turns_of s s.logger) stop channel state
+  first : (u : MemberTurn) → HasTurnOf (turns_of s s.logger) Start stop.order.start u → (u.order ≡ run_order r) × (u.dump ≡ r.first.dump)
+
+logger_run : EngineFacts → (s : Session) → MembersKeep s → (r : SessionRun) → IsStoppedRun s r → (channel : LoggerChannel) (state : ChannelState) → ToldState s r channel state → LoggerRun s r channel state
+logger_run laws s keep r run channel state told =
+    let t : StopTally s r run s.logger (Channels told.states) = stop_tally laws s keep r run s.logger told.index (Channels told.states) told.told in
+    let number : t.turn.order.start ≡ r.start = number_of Stop r.last r.start t.turn t.of_begin in
+    let begin : HasStartTally s r run s.logger = start_tally laws s keep r run s.logger keep.logger_registered.0 in
+    let t0 = begin.told in
+    let starts : t0.turn.transition ≡ Start = t0.completed refl in
+    let one : HasTurnOf (turns_of s s.logger) Start r.start t0.turn = record { stands = t0.stands; is = starts; of = number_of Start r.first r.start t0.turn t0.of_begin } in
+    record {
+      stop = t.turn;
+      number = number;
+      time = ap (λ (o : Order). o.time) t.of_begin.order;
+      dump = t.dump keep.one_dump (t.completed refl);
+      tells = record {
+        stands = t.stands;
+        is = t.completed refl;
+        states = told.states;
+        answered = t.answered ∙ ap (λ (a : Answer). Some a) (yes_channels t.answer told.states t.tally_is);
+        told = told.state_is;
+      };
+      first = λ u of.
+          let here : HasTurnOf (turns_of s s.logger) Start r.start u = subst (λ (n : ℕ). HasTurnOf (turns_of s s.logger) Start n u) number of in
+          let same : t0.turn ≡ u = one_start (turns_of s s.logger) r.start t0.turn u (are_turns laws s keep s.logger) one here in
+          ((start_turn laws s keep r run s.logger u here).order, ap (λ (v : MemberTurn). v.dump) (sym same) ∙ t0.dump keep.one_dump starts);
+    }
+
+dump_is : (d : Option (List ℕ)) (dump : List ℕ) → d ≡ Some dump → unwrap_or d [] ≡ dump
+dump_is d dump e = ap (λ (o : Option (List ℕ)). unwrap_or o []) e
+
+-- A channel that ended.
+
+pub files_hold_runs : EngineFacts → CallerFacts → FilesHoldRuns
+files_hold_runs laws callers s keep r run index channel at told dump has =
+    let l : LoggerRun s r channel Ended = logger_run laws s keep r run channel Ended told in
+    let b : ℕ = channel.buffer in
+    let h : History = s.history b in
+    let own : List BufferEntry = buffer_calls s b s.logger in
+    let w : HasWritten (record { own = own; got = s.got b }) (turns_of s s.logger) s.files channel l.stop = keep.logger_keeps.ended (are_turns laws s keep s.logger) l.stop index channel at l.tells in
+    let first = l.first w.start w.is_start.is_start in
+    let reads : HasReadRun own (s.got b) channel.client channel.id channel.mask w.number r.start w.begun w.ended w.events =
+    subst (λ (n : ℕ). HasReadRun own (s.got b) channel.client channel.id channel.mask w.number n w.begun w.ended w.events) l.number w.reads in
+    let events : w.events ≡ channel_events s r channel =
+    callers.events (s.size b) h (caller_of_client s.logger) own (s.got b) (keep.buffers_legal b) (own_clients callers s keep b) (logger_part s keep b) channel.client channel.id channel.mask w.number r.start w.begun w.ended w.events reads in
+    let first_dump : unwrap_or w.start.dump [] ≡ dump = dump_is w.start.dump dump (first.1 ∙ has) in
+    record {
+      last_dump = w.dump;
+      has_dump = sym l.dump ∙ w.has_dump;
+      fine = subst (All IsFileEvent) events w.fine;
+      stored = subst (λ (time : ℕ). IsStored s.files (channel.name r.first.run) (run_file r.first.run r.first.time dump (channel_events s r channel) time w.dump)) l.time
+          (subst (λ (es : List Event). IsStored s.files (channel.name r.first.run) (run_file r.first.run r.first.time dump es l.stop.order.time w.dump)) events
+          (subst (λ (d : List ℕ). IsStored s.files (channel.name r.first.run) (run_file r.first.run r.first.time d w.events l.stop.order.time w.dump)) first_dump
+          (subst (λ (o : Order). IsStored s.files (channel.name o.run) (run_file o.run o.time (unwrap_or w.start.dump []) w.events l.stop.order.time w.dump)) first.0 w.stored)));
+      got = callers.places (s.size b) h (caller_of_client s.logger) own (s.got b) (keep.buffers_legal b) (own_clients callers s keep b) (logger_part s keep b) channel.client channel.id channel.mask w.number r.start w.begun w.ended w.events reads;
+    }
+
+-- A channel that broke off.
+
+pub files_hold_parts : EngineFacts → CallerFacts → FilesHoldParts
+files_hold_parts laws callers s keep r run index channel at told ended marks dump last_dump has has_last =
+    let l : LoggerRun s r channel Broken = logger_run laws s keep r run channel Broken told in
+    let b : ℕ = channel.buffer in
+    let h : History = s.history b in
+    let own : List BufferEntry = buffer_calls s b s.logger in
+    let marks_stop : MarksEnd own l.stop.order.start ended = subst (λ (n : ℕ). MarksEnd own n ended) (sym l.number) marks in
+    let w : HasWrittenPart (record { own = own; got = s.got b }) (turns_of s s.logger) s.files channel l.stop ended last_dump =
+    keep.logger_keeps.broken (are_turns laws s keep s.logger) l.stop index channel at l.tells ended marks_stop last_dump (l.dump ∙ has_last) in
+    let first = l.first w.start w.is_start.is_start in
+    let first_dump : unwrap_or w.start.dump [] ≡ dump = dump_is w.start.dump dump (first.1 ∙ has) in
+    record {
+      bytes = w.bytes;
+      stored = subst (λ (o : Order). IsStored s.files (channel.name o.run) w.bytes) first.0 w.stored;
+      part = elim w.part as (λ x. IsPrefix w.bytes (run_file r.first.run r.first.time dump (channel_events s r channel) r.last.time last_dump)) [
+        | inl cut ↦
+            let read : HasCutRun own (s.got b) channel.client channel.id channel.mask w.number r.start w.begun ended w.events =
+            subst (λ (n : ℕ). HasCutRun own (s.got b) channel.client channel.id channel.mask w.number n w.begun ended w.events) l.number cut.0 in
+            let events : IsPrefix w.events (channel_events s r channel) =
+            callers.cut (s.size b) h (caller_of_client s.logger) own (s.got b) (keep.buffers_legal b) (own_clients callers s keep b) (logger_part s keep b) channel.client channel.id channel.mask w.number r.start w.begun ended w.events read in
+            callers.file r.first.run r.first.time r.last.time dump last_dump w.bytes w.events (channel_events s r channel) events
+            (subst (λ (d : List ℕ). IsPrefix w.bytes (begun_file r.first.run r.first.time d w.events)) first_dump
+            (subst (λ (o : Order). IsPrefix w.bytes (begun_file o.run o.time (unwrap_or w.start.dump []) w.events)) first.0 cut.1))
+        | inr whole ↦
+            let read : HasReadRun own (s.got b) channel.client channel.id channel.mask w.number r.start w.begun ended w.events =
+            subst (λ (n : ℕ). HasReadRun own (s.got b) channel.client channel.id channel.mask w.number n w.begun ended w.events) l.number whole.0 in
+            let events : w.events ≡ channel_events s r channel =
+            callers.events (s.size b) h (caller_of_client s.logger) own (s.got b) (keep.buffers_legal b) (own_clients callers s keep b) (logger_part s keep b) channel.client channel.id channel.mask w.number r.start w.begun ended w.events read in
+            subst (λ (time : ℕ). IsPrefix w.bytes (run_file r.first.run r.first.time dump (channel_events s r channel) time last_dump)) l.time
+            (subst (λ (es : List Event). IsPrefix w.bytes (run_file r.first.run r.first.time dump es l.stop.order.time last_dump)) events
+            (subst (λ (d : List ℕ). IsPrefix w.bytes (run_file r.first.run r.first.time d w.events l.stop.order.time last_dump)) first_dump
+            (subst (λ (o : Order). IsPrefix w.bytes (run_file o.run o.time (unwrap_or w.start.dump []) w.events l.stop.order.time last_dump)) first.0 whole.1)))
+      ];
+    }
+
+-- What the logger told.
+
+plain_start : (answer : Answer) (tally : Tally) → answer ≡ Yes tally → IsStartAnswer answer → answer ≡ Yes Plain
+plain_start answer tally is plain = is ∙ ap (λ (t : Tally). Yes t) (subst IsStartAnswer is plain)
+
+told_channels : (tally : Tally) (turn_answer : Option Answer) (answer : Answer) (states : List ChannelState) → tally ≡ tally_of answer → turn_answer ≡ Some answer → turn_answer ≡ Some (Yes (Channels states)) → tally ≡ Channels states
+told_channels tally turn_answer answer states is answered told =
+    let both : Some answer ≡ Some (Yes (Channels states)) = sym answered ∙ told in
+    let same : answer ≡ Yes (Channels states) = cc (both) in
+    is ∙ ap tally_of same
+
+pub channels_told : EngineFacts → ChannelsTold
+channels_told laws s keep r run index channel at =
+    let turns : List MemberTurn = turns_of s s.logger in
+    let own : List BufferEntry = buffer_calls s channel.buffer s.logger in
+    let begin : HasStartTally s r run s.logger = start_tally laws s keep r run s.logger keep.logger_registered.0 in
+    let t0 = begin.told in
+    let starts : t0.turn.transition ≡ Start = t0.completed refl in
+    let plain : t0.answer ≡ Yes Plain = plain_start t0.answer begin.tally (t0.accepted starts) (keep.logger_keeps.starts t0.turn t0.answer t0.stands starts t0.answered) in
+    let accepted : IsAcceptedStart turns r.start t0.turn = record {
+      is_start = record { stands = t0.stands; is = starts; of = number_of Start r.first r.start t0.turn t0.of_begin };
+      accepted = t0.answered ∙ ap (λ (a : Answer). Some a) plain;
+    } in
+    let last : HasTally s.logger r.last_tallies = last_tally laws s keep r run s.logger keep.logger_registered.1 in
+    let t1 : StopTally s r run s.logger last.1 = stop_tally laws s keep r run s.logger last.0 last.1 last.2 in
+    let number : t1.turn.order.start ≡ r.start = number_of Stop r.last r.start t1.turn t1.of_begin in
+    let told = keep.logger_keeps.stops (are_turns laws s keep s.logger) t0.turn t1.turn (subst (λ (n : ℕ). IsAcceptedStart turns n t0.turn) (sym number) accepted)
+    t1.stands (t1.completed refl) (subst IsAnswered (sym t1.answered) tt) index channel at in
+    let tally : last.1 ≡ Channels told.1.states = told_channels last.1 t1.turn.answer t1.answer told.1.states t1.tally_is t1.answered told.1.answered in (
+      told.0,
+      record {
+        index = last.0;
+        states = told.1.states;
+        told = last.2 ∙ ap (λ (x : Tally). Some (record { client = s.logger; tally = x })) tally;
+        state_is = told.1.told;
+      },
+      subst (λ (d : Option (List ℕ)). IsStateSo own r.start d told.0) (t1.dump keep.one_dump (t1.completed refl)) (subst (λ (n : ℕ). IsStateSo own n t1.turn.dump told.0) number told.2),
+    )

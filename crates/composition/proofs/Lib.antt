@@ -1,0 +1,4 @@
+pub mod SessionTurns
+pub mod SentTogether
+pub mod FilesTogether
+pub mod Sampled

@@ -1,0 +1,22 @@
+use Rattle.composition.proofs.SessionTurns.{EngineFacts}
+use Rattle.composition.proofs.FilesTogether.{CallerFacts, channels_told, files_hold_runs, files_hold_parts}
+use Rattle.composition.proofs.laws.files.Goals as goal
+
+pub returns : goal.returns
+returns c =
+    let laws : EngineFacts = record {
+      gives = c.gives_turns.ensures;
+      begun = c.turns_begun.ensures.begun;
+      from = c.turns_begun.ensures.starts;
+      tallies = c.tallies_answered.ensures.tallies;
+      told = c.called_told.ensures;
+      rise = c.start_numbers_rise.ensures;
+    } in
+    let callers : CallerFacts = record {
+      places = c.reads_places.ensures;
+      events = c.reads_events.ensures;
+      cut = c.cut_short.ensures;
+      file = c.cut_file.ensures;
+      fits = c.fits_members.ensures.all;
+    } in
+    record { told = channels_told laws; hold = files_hold_runs laws callers; parts = files_hold_parts laws callers }

@@ -1,0 +1,4 @@
+pub mod Sessions
+pub mod SessionRuns
+pub mod CompositionLaws
+pub mod SessionSamples

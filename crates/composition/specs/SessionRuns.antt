@@ -1,0 +1,110 @@
+-- A run of a session, and what is so of it.
+use mathlib.Core.List.{IsPrefix}
+use Rattle.std.specs.Prelude.{◌≡◌, ℕ, List, ◌∷◌, ◌++◌, All, slice_get, Some, Ok}
+use Rattle.daq_types.specs.declared.events.Event.{Event}
+use Rattle.daq_types.specs.declared.runs.ChannelState.{ChannelState}
+use Rattle.daq_types.specs.declared.runs.FrontEnded.{FrontEnded}
+use Rattle.daq_types.specs.declared.runs.FrontEnded.TheVariants.{Quota, Paused as EndedPaused, Spent as EndedSpent}
+use Rattle.daq_types.specs.declared.runs.Order.{Order}
+use Rattle.daq_types.specs.declared.runs.RunState.TheVariants.{Stopped, Paused}
+use Rattle.daq_types.specs.declared.runs.StartOutcome.TheVariants.{Completed}
+use Rattle.daq_types.specs.declared.runs.Transition.TheVariants.{Start, Stop}
+use Rattle.daq_model.specs.RunFile.{run_file, IsFileEvent}
+use Rattle.daq_io.specs.Seen.{IsStored}
+use Rattle.buffer_core.specs.Runs.{segment}
+use Rattle.buffer_core.specs.Readers.{among, places_got, places_of, wanted}
+use Rattle.transitions.specs.declared.sheet.Sheet.{Sheet}
+use Rattle.transitions.specs.declared.answers.ClientTally.{ClientTally}
+use Rattle.transitions.specs.declared.answers.Tally.TheVariants.{Front, Channels}
+use Rattle.transitions.specs.declared.entry.EngineEntry.TheVariants.{Begin}
+use Rattle.transitions.specs.EngineCalls.{order_for}
+use Rattle.transitions.specs.EnginePoints.{engine_past, state_at}
+use Rattle.transitions.specs.EngineHistories.{EngineHistory}
+use Rattle.member_model.specs.SentCalls.{own_sent, WasSpent}
+use Rattle.member_model.specs.LoggerKept.{LoggerChannel}
+use Rattle.front_ends.specs.FrontKept.{made_events}
+use Rattle.caller_laws.specs.OneCaller.{events_in}
+use Rattle.caller_laws.specs.CallerLaws.{IsSendOf}
+use Rattle.engine_laws.specs.BegunTurns.{HasTransition}
+use Rattle.composition.specs.Sessions.{Session, SessionFront, HasFront, buffer_calls}
+
+-- A run: its start number, the sheets that its start and its stop were begun with, and the tallies in their Dones.
+pub record SessionRun : Type 0 where
+  pub start : ℕ
+  pub first : Sheet
+  pub last : Sheet
+  pub first_tallies : List ClientTally
+  pub last_tallies : List ClientTally
+
+-- A run of the session that was not refused, and was stopped: both transitions stand in the engine's history, and the stop is of
+-- the same run number.
+pub record IsStoppedRun (s : Session) (r : SessionRun) : Type 0 where
+  pub started : HasTransition s.engine Start r.first r.start Completed r.first_tallies
+  pub stopped : HasTransition s.engine Stop r.last r.start Completed r.last_tallies
+  pub same_run : r.last.run ≡ r.first.run
+
+-- what the members are ordered at the start of the run
+abbrev pub run_order : SessionRun → Order
+run_order r = order_for r.first r.start Stopped
+
+-- Front-ends.
+
+-- in the Done of the stop the client told that it sent so many events, and how that ended
+abbrev pub TellsFront : SessionRun → (client sent : ℕ) → FrontEnded → Type 0
+TellsFront r client sent ended = (index : ℕ) × (slice_get r.last_tallies index ≡ Some (record { client = client; tally = Front sent ended }))
+
+-- where the stop of this run was begun, the engine's history tells that the run was paused
+pub record CameFromPause (s : Session) (r : SessionRun) : Type 0 where
+  pub earlier : EngineHistory
+  pub later : EngineHistory
+  pub caller : ℕ
+  pub stands : s.engine ≡ earlier ++ (caller, Begin Stop r.last (Ok r.start)) ∷ later
+  pub paused : state_at (engine_past earlier) ≡ Paused
+
+-- how a front-end's sending ended in the run: its quota was sent; the stop came from a pause; or a send of it in that run was
+-- refused as spent, with this total
+abbrev pub EndedIn : Session → SessionRun → SessionFront → (sent : ℕ) → FrontEnded → Type 0
+EndedIn s r f sent Quota = sent ≡ r.first.quota
+EndedIn s r f sent EndedPaused = CameFromPause s r
+EndedIn s r f sent (EndedSpent total) = WasSpent (buffer_calls s f.buffer f.client) r.start total
+
+-- What the front-end sent in the run are the first events of its equipment, as many as it told, each once and in order.
+pub record FrontSent (s : Session) (r : SessionRun) (f : SessionFront) (sent : ℕ) (ended : FrontEnded) : Type 0 where
+  pub events : own_sent (buffer_calls s f.buffer f.client) r.start ≡ made_events f.makes (run_order r) sent
+  pub ended_so : EndedIn s r f sent ended
+
+-- a front-end of the buffer sent the event in the run with this start number, at this place
+pub record IsOfFront (s : Session) (buffer start place : ℕ) (event : Event) : Type 0 where
+  pub front : SessionFront
+  pub stands : HasFront s front
+  pub buffer_is : front.buffer ≡ buffer
+  pub send : IsSendOf (buffer_calls s buffer front.client) start place event
+
+-- Channels.
+
+-- in the Done of the stop the logger told this of the channel
+pub record ToldState (s : Session) (r : SessionRun) (channel : LoggerChannel) (state : ChannelState) : Type 0 where
+  pub index : ℕ
+  pub states : List ChannelState
+  pub told : slice_get r.last_tallies index ≡ Some (record { client = s.logger; tally = Channels states })
+  pub state_is : slice_get states channel.number ≡ Some state
+
+-- the events of the run that the channel asks for: those between the marks in its buffer, in order
+abbrev pub channel_events : Session → SessionRun → LoggerChannel → List Event
+channel_events s r channel = events_in (wanted channel.id channel.mask (segment (s.history channel.buffer) r.start))
+
+-- The channel's file of the run is closed, and is the run file of these events with the dumps of both sheets; and the channel's
+-- client got, of the places between the marks, just those of these events.
+pub record HoldsRunFile (s : Session) (r : SessionRun) (channel : LoggerChannel) (dump : List ℕ) : Type 0 where
+  pub last_dump : List ℕ
+  pub has_dump : r.last.dump ≡ Some last_dump
+  pub fine : All IsFileEvent (channel_events s r channel)
+  pub stored : IsStored s.files (channel.name r.first.run) (run_file r.first.run r.first.time dump (channel_events s r channel) r.last.time last_dump)
+  pub got : among (segment (s.history channel.buffer) r.start) (places_got (s.history channel.buffer) channel.client)
+      ≡ places_of (wanted channel.id channel.mask (segment (s.history channel.buffer) r.start))
+
+-- The channel's file of the run is closed, and what it has begins that run file.
+pub record HoldsFilePart (s : Session) (r : SessionRun) (channel : LoggerChannel) (dump last_dump : List ℕ) : Type 0 where
+  pub bytes : List ℕ
+  pub stored : IsStored s.files (channel.name r.first.run) bytes
+  pub part : IsPrefix bytes (run_file r.first.run r.first.time dump (channel_events s r channel) r.last.time last_dump)

@@ -1,0 +1,93 @@
+-- A session that meets all that the laws ask: a front-end that sends one event, a logger of one channel, and a run.
+use Rattle.std.specs.Prelude.{ℕ, zero, suc, true, false, List, [], ◌∷◌, Some, None, Ok}
+use Rattle.daq_types.specs.declared.runs.ChannelState.TheVariants.{Ended}
+use Rattle.daq_types.specs.declared.runs.FrontEnded.TheVariants.{Quota}
+use Rattle.daq_types.specs.declared.runs.RunState.TheVariants.{Stopped, Running}
+use Rattle.daq_types.specs.declared.runs.StartOutcome.TheVariants.{Completed}
+use Rattle.daq_types.specs.declared.runs.Transition.TheVariants.{Start, Stop}
+use Rattle.daq_model.specs.RunFile.{run_file}
+use Rattle.daq_io.specs.Seen.{Seen, stored_closed}
+use Rattle.buffer_core.specs.Window.{any}
+use Rattle.buffer_core.specs.Histories.{History}
+use Rattle.buffer_core.specs.Ports.{GotEvent}
+use Rattle.buffer_core.specs.Samples.{sample_event}
+use Rattle.transitions.specs.declared.sheet.Sheet.{Sheet}
+use Rattle.transitions.specs.declared.answers.Answer.TheVariants.{Yes}
+use Rattle.transitions.specs.declared.answers.Tally.TheVariants.{Plain, Front, Channels}
+use Rattle.transitions.specs.declared.answers.ClientTally.{ClientTally}
+use Rattle.transitions.specs.declared.replies.Polled.TheVariants.{Turn}
+use Rattle.transitions.specs.declared.replies.Progress.TheVariants.{Done}
+use Rattle.transitions.specs.declared.entry.EngineEntry.TheVariants.{Register, Begin, Poll, Answer, Check}
+use Rattle.transitions.specs.EngineCalls.{order_for}
+use Rattle.transitions.specs.EngineHistories.{EngineHistory}
+use Rattle.transitions.specs.EngineSamples.{at_all}
+use Rattle.member_model.specs.LoggerKept.{LoggerChannel}
+use Rattle.caller_laws.specs.CallerSamples.{reading_history, got_first}
+use Rattle.composition.specs.Sessions.{Session, SessionFront}
+use Rattle.composition.specs.SessionRuns.{SessionRun}
+
+-- what the start and the stop are begun with
+abbrev pub first_sheet : Sheet
+first_sheet = record { run = 1; time = 1000; quota = 1; dump = Some (7 ∷ []); blanks = [] }
+
+abbrev pub last_sheet : Sheet
+last_sheet = record { run = 1; time = 2000; quota = 1; dump = Some (8 ∷ []); blanks = [] }
+
+-- what the logger, whose client number is 0, and the front-end, whose is 1, told in the Dones
+abbrev pub first_tallies : List ClientTally
+first_tallies = record { client = 0; tally = Plain } ∷ record { client = 1; tally = Plain } ∷ []
+
+abbrev pub last_tallies : List ClientTally
+last_tallies = record { client = 0; tally = Channels (Ended ∷ []) } ∷ record { client = 1; tally = Front 1 Quota } ∷ []
+
+-- the engine's calls: registrations, the start, and the stop
+abbrev pub sample_engine : EngineHistory
+sample_engine =
+    (0, Register [] (at_all 1) true false (Ok 0)) ∷ (0, Register [] (at_all 2) false false (Ok 1)) ∷ (0, Begin Start first_sheet (Ok 1))
+    ∷ (1, Poll 0 (Turn Start (order_for first_sheet 1 Stopped) (Some (7 ∷ [])) None)) ∷ (1, Answer 0 (Yes Plain) (Ok tt))
+    ∷ (2, Poll 1 (Turn Start (order_for first_sheet 1 Stopped) None None)) ∷ (2, Answer 1 (Yes Plain) (Ok tt))
+    ∷ (0, Check (Done Completed) first_tallies) ∷ (0, Begin Stop last_sheet (Ok 1))
+    ∷ (1, Poll 0 (Turn Stop (order_for last_sheet 1 Running) (Some (8 ∷ [])) None)) ∷ (1, Answer 0 (Yes (Channels (Ended ∷ []))) (Ok tt))
+    ∷ (2, Poll 1 (Turn Stop (order_for last_sheet 1 Running) None None)) ∷ (2, Answer 1 (Yes (Front 1 Quota)) (Ok tt))
+    ∷ (0, Check (Done Completed) last_tallies) ∷ []
+
+-- the one buffer, number 0, in which the front-end's event is sent and the logger gets it
+abbrev pub sample_history : (buffer : ℕ) → History
+sample_history zero = reading_history
+sample_history (suc n) = []
+
+abbrev pub sample_got : (buffer : ℕ) → List GotEvent
+sample_got zero = got_first sample_event ∷ []
+sample_got (suc n) = []
+
+abbrev pub sample_front : SessionFront
+sample_front = record { client = 1; buffer = 0; takes = λ order. true; makes = λ order number. sample_event }
+
+abbrev pub sample_channel : LoggerChannel
+sample_channel = record { number = 0; name = λ run. []; buffer = 0; client = 0; id = any; mask = any }
+
+-- the file of every name is that of the run
+abbrev pub sample_files : Seen
+sample_files = record {
+  tells = true;
+  at = λ name. Some (stored_closed (run_file 1 1000 (7 ∷ []) (sample_event ∷ []) 2000 (8 ∷ [])));
+  writes = λ number. false;
+  reads = λ number. false;
+  name_of = λ number. [];
+  left = λ number. [];
+}
+
+abbrev pub sample_session : Session
+sample_session = record {
+  size = λ buffer. 48;
+  history = sample_history;
+  engine = sample_engine;
+  fronts = sample_front ∷ [];
+  logger = 0;
+  channels = sample_channel ∷ [];
+  got = sample_got;
+  files = sample_files;
+}
+
+abbrev pub sample_run : SessionRun
+sample_run = record { start = 1; first = first_sheet; last = last_sheet; first_tallies = first_tallies; last_tallies = last_tallies }

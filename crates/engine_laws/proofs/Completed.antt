@@ -1,0 +1,178 @@
+-- Each client that is called has its tally in the Done of a transition that was not refused.
+use Rattle.std.specs.Prelude.{◌≡◌, ◌≢◌, ℕ, zero, suc, ◌==◌, ◌&&◌, Bool, true, false, if◌then◌else◌, List, [], ◌∷◌, ◌++◌, drop, length, slice_get, Option, Some, None, Ok, Err, refl, ⊤, ◌⊎◌}
+use Rattle.std.proofs.Common.{ap, sym, ◌∙◌, subst, inl, inr}
+use Rattle.std.proofs.lemmas.Bool.{eqb-true}
+use Rattle.daq_types.specs.declared.runs.Order.{Order}
+use Rattle.daq_types.specs.declared.runs.StartOutcome.{StartOutcome}
+use Rattle.daq_types.specs.declared.runs.StartOutcome.TheVariants.{Completed, Refused}
+use Rattle.daq_types.specs.declared.runs.Transition.{Transition}
+use Rattle.daq_types.specs.declared.runs.Transition.TheVariants.{Start}
+use Rattle.buffer_core.specs.SlotLaws.{split}
+use Rattle.transitions.specs.declared.client.Registered.{Registered}
+use Rattle.transitions.specs.declared.called.Called.{Called}
+use Rattle.transitions.specs.declared.sheet.Sheet.{Sheet}
+use Rattle.transitions.specs.declared.answers.Answer.{Answer as ClientAnswer}
+use Rattle.transitions.specs.declared.answers.Answer.TheVariants.{Yes, No}
+use Rattle.transitions.specs.declared.answers.Tally.{Tally}
+use Rattle.transitions.specs.declared.answers.Tally.TheVariants.{Plain}
+use Rattle.transitions.specs.declared.answers.ClientTally.{ClientTally}
+use Rattle.transitions.specs.declared.engine.Refusal.{Refusal}
+use Rattle.transitions.specs.declared.replies.Polled.TheVariants.{Turn, Idle, Closed as PollClosed, NoClient}
+use Rattle.transitions.specs.declared.replies.Progress.{Progress}
+use Rattle.transitions.specs.declared.replies.Progress.TheVariants.{Going, Done, None as NoneGoing}
+use Rattle.transitions.specs.declared.entry.EngineEntry.{EngineEntry}
+use Rattle.transitions.specs.declared.entry.EngineEntry.TheVariants.{Register, Begin, Poll, Answer, Check, Close}
+use Rattle.transitions.specs.Called.{called_list}
+use Rattle.transitions.specs.CalledOrder.{IsCalledIn, IsRegisteredFor, IsCalledList}
+use Rattle.transitions.specs.Engines.{Underway, EngineState, engine_opening}
+use Rattle.transitions.specs.EngineCalls.{turn_of, is_start, is_next, outcome_of, begun, polled_by, told, refused_by, answered_by, after_poll_by, after_answer_in, tallies_in, IsEngineReply, engine_after}
+use Rattle.transitions.specs.EngineHistories.{EngineHistory, IsLegalEngine, engine_replay}
+use Rattle.transitions.specs.Marks.{is_mark, HasNoMark}
+use Rattle.engine_laws.specs.BegunTurns.{HasTransition, IsRegisteredIn, HasTally}
+use Rattle.engine_laws.specs.EngineLaws.{CalledAreTold}
+use Rattle.engine_laws.proofs.Replies.{Begins, begins, GivesTurn, gives_turn, Owes, owes, Finishes, finishes}
+use Rattle.engine_laws.proofs.TurnLists.{IsIn}
+use Rattle.engine_laws.proofs.Gave.{CalledLists}
+use Rattle.engine_laws.proofs.StateTold.{replay_apart}
+use Rattle.engine_laws.proofs.Begun.{polled_underway, answered_underway}
+use Rattle.engine_laws.proofs.Tallied.{legal_apart, register_number, polled_clients, answered_clients, same_underway, unrefused}
+
+-- A registered client stays.
+
+get_front : {X : Type 0} (xs ys : List X) (i : ℕ) (x : X) → slice_get xs i ≡ Some x → slice_get (xs ++ ys) i ≡ Some x
+get_front [] ys i x e = absurd (cc (e))
+get_front (y ∷ xs) ys zero x e = e
+get_front (y ∷ xs) ys (suc i) x e = get_front xs ys i x e
+
+get_last : {X : Type 0} (xs : List X) (x : X) → slice_get (xs ++ x ∷ []) (length xs) ≡ Some x
+get_last [] x = refl
+get_last (y ∷ xs) x = get_last xs x
+
+client_step : (s : EngineState) (e : EngineEntry) (i : ℕ) (c : Registered) → IsEngineReply s e → slice_get s.clients i ≡ Some c → slice_get (engine_after s e).clients i ≡ Some c
+client_step s (Register name sequences dump report (Ok n)) i c reply at = get_front s.clients (record { name = name; sequences = sequences; wants_dump = dump; wants_report = report } ∷ []) i c at
+client_step s (Register name sequences dump report (Err r)) i c reply at = at
+client_step s (Begin t sheet (Ok n)) i c reply at = at
+client_step s (Begin t sheet (Err r)) i c reply at = at
+client_step s (Poll other (Turn turn order dump blank)) i c reply at = ap (λ (cs : List Registered). slice_get cs i) (polled_clients s other turn order dump (gives_turn s other turn order dump blank reply)) ∙ at
+client_step s (Poll other (Idle state)) i c reply at = at
+client_step s (Poll other PollClosed) i c reply at = at
+client_step s (Poll other NoClient) i c reply at = at
+client_step s (Answer other answer (Ok done)) i c reply at = ap (λ (cs : List Registered). slice_get cs i) (answered_clients s other answer s.underway) ∙ at
+client_step s (Answer other answer (Err r)) i c reply at = at
+client_step s (Check (Done outcome) tallies) i c reply at = at
+client_step s (Check Going tallies) i c reply at = at
+client_step s (Check NoneGoing tallies) i c reply at = at
+client_step s (Close (Ok done)) i c reply at = at
+client_step s (Close (Err r)) i c reply at = at
+
+client_stays : (s : EngineState) (h : EngineHistory) (i : ℕ) (c : Registered) → IsLegalEngine s h → slice_get s.clients i ≡ Some c → slice_get (engine_replay s h).clients i ≡ Some c
+client_stays s [] i c legal at = at
+client_stays s (x ∷ h) i c legal at = client_stays (engine_after s x.1) h i c legal.2 (client_step s x.1 i c legal.1 at)
+
+registered_there : (h : EngineHistory) (client : ℕ) (t : Transition) → IsLegalEngine engine_opening h → (r : IsRegisteredIn h client t)
+    → slice_get (engine_replay engine_opening h).clients client ≡ Some (record { name = r.name; sequences = r.sequences; wants_dump = r.wants_dump; wants_report = r.wants_report })
+registered_there h client t legal r =
+    let c : Registered = record { name = r.name; sequences = r.sequences; wants_dump = r.wants_dump; wants_report = r.wants_report } in
+    let entry : EngineEntry = Register r.name r.sequences r.wants_dump r.wants_report (Ok client) in
+    let parts = legal_apart engine_opening r.before ((r.caller, entry) ∷ r.after) (subst (IsLegalEngine engine_opening) r.stands legal) in
+    let s : EngineState = engine_replay engine_opening r.before in
+    let number : client ≡ length s.clients = (register_number s client parts.1.1).1 in
+    let here : slice_get (engine_after s entry).clients client ≡ Some c = subst (λ (n : ℕ). slice_get (s.clients ++ c ∷ []) n ≡ Some c) (sym number) (get_last s.clients c) in
+    ap (λ (l : EngineHistory). slice_get (engine_replay engine_opening l).clients client) r.stands
+    ∙ (ap (λ (e : EngineState). slice_get e.clients client) (replay_apart engine_opening r.before ((r.caller, entry) ∷ r.after)) ∙ client_stays (engine_after s entry) r.after client c parts.1.2 here)
+
+in_called : (x : Called) (xs : List Called) → IsCalledIn x xs → IsIn x.client xs
+in_called x [] is = absurd is
+in_called x (y ∷ ys) (inl same) = inl (sym (ap (λ (z : Called). z.client) same))
+in_called x (y ∷ ys) (inr later) = inr (in_called x ys later)
+
+-- The client is still in the called list, or has told.
+
+record Comes (client : ℕ) (u : Underway) : Type 0 where
+  comes : u.refusal ≡ None → IsIn client u.called ⊎ HasTally client u.tallies
+
+record ComesIn (client : ℕ) (s : EngineState) : Type 0 where
+  u : Underway
+  underway_is : s.underway ≡ Some u
+  coming : Comes client u
+
+tally_more : (client : ℕ) (xs ys : List ClientTally) → HasTally client xs → HasTally client (xs ++ ys)
+tally_more client xs ys has = (has.0, has.1, get_front xs ys has.0 (record { client = client; tally = has.1 }) has.2)
+
+told_front : (client other : ℕ) (called : List Called) (tallies : List ClientTally) (tally : Tally) → is_next called other ≡ true → IsIn client called → IsIn client (drop 1 called) ⊎ HasTally client (tallies ++ record { client = other; tally = tally } ∷ [])
+told_front client other [] tallies tally front is = absurd is
+told_front client other (x ∷ xs) tallies tally front (inr later) = inl later
+told_front client other (x ∷ xs) tallies tally front (inl here) =
+    let same : other ≡ client = sym (eqb-true x.client other front) ∙ here in
+    inr (length tallies, tally, subst (λ (n : ℕ). slice_get (tallies ++ record { client = other; tally = tally } ∷ []) (length tallies) ≡ Some (record { client = n; tally = tally })) same (get_last tallies (record { client = other; tally = tally })))
+
+comes_told : (client other : ℕ) (u : Underway) (tally : Tally) → is_next u.called other ≡ true → Comes client u → Comes client (told other tally u)
+comes_told client other u tally front c = record {
+  comes = λ none. elim (c.comes none) as (λ w. IsIn client (drop 1 u.called) ⊎ HasTally client (u.tallies ++ record { client = other; tally = tally } ∷ [])) [
+    | inl is ↦ told_front client other u.called u.tallies tally front is
+    | inr has ↦ inr (tally_more client u.tallies (record { client = other; tally = tally } ∷ []) has)
+  ];
+}
+
+comes_answered : (client other : ℕ) (u : Underway) (clients : List Registered) (answer : ClientAnswer) → is_next u.called other ≡ true → Comes client u → Comes client (answered_by clients other answer u)
+comes_answered client other u clients (Yes tally) front c = comes_told client other u tally front c
+comes_answered client other u clients (No why) front c =
+    split (is_start (turn_of u)) (λ b. Comes client (if b then refused_by clients other why u else told other Plain u))
+    (λ h. record { comes = λ none. absurd (cc (none)) })
+    (λ h. comes_told client other u Plain front c)
+
+comes_step : (client : ℕ) (s : EngineState) (e : EngineEntry) → is_mark e ≡ false → IsEngineReply s e → ComesIn client s → ComesIn client (engine_after s e)
+comes_step client s (Register name sequences dump report (Ok n)) mark reply c = record { u = c.u; underway_is = c.underway_is; coming = c.coming }
+comes_step client s (Begin t sheet (Ok n)) mark reply c = absurd (cc (mark))
+comes_step client s (Check (Done outcome) tallies) mark reply c = absurd (cc (mark))
+comes_step client s (Poll other (Turn turn order dump blank)) mark reply c =
+    let p : GivesTurn s other turn order dump = gives_turn s other turn order dump blank reply in
+    let same : c.u ≡ p.u = same_underway s c.u p.u c.underway_is p.underway_is in
+    let coming : Comes client p.u = subst (Comes client) same c.coming in
+    record { u = polled_by p.c p.u; underway_is = polled_underway s other p.c p.u p.client_is p.underway_is; coming = record { comes = coming.comes } }
+comes_step client s (Answer other answer (Ok done)) mark reply c =
+    let o : Owes s other = owes s other done reply in
+    let coming : Comes client o.u = subst (Comes client) (same_underway s c.u o.u c.underway_is o.underway_is) c.coming in
+    record { u = answered_by s.clients other answer o.u; underway_is = answered_underway s other answer o.u o.underway_is; coming = comes_answered client other o.u s.clients answer o.front coming }
+comes_step client s (Close (Ok done)) mark reply c = record { u = c.u; underway_is = c.underway_is; coming = c.coming }
+comes_step client s (Answer other answer (Err r)) mark reply c = c
+comes_step client s (Register name sequences dump report (Err r)) mark reply c = c
+comes_step client s (Begin t sheet (Err r)) mark reply c = c
+comes_step client s (Poll other (Idle state)) mark reply c = c
+comes_step client s (Poll other PollClosed) mark reply c = c
+comes_step client s (Poll other NoClient) mark reply c = c
+comes_step client s (Check Going tallies) mark reply c = c
+comes_step client s (Check NoneGoing tallies) mark reply c = c
+comes_step client s (Close (Err r)) mark reply c = c
+
+comes_all : (client : ℕ) (s : EngineState) (h : EngineHistory) → IsLegalEngine s h → HasNoMark h → ComesIn client s → ComesIn client (engine_replay s h)
+comes_all client s [] legal marks c = c
+comes_all client s (x ∷ h) legal marks c = comes_all client (engine_after s x.1) h legal.2 marks.1 (comes_step client s x.1 marks.0 legal.1 c)
+
+done_told : (client : ℕ) (s : EngineState) (tallies : List ClientTally) → ComesIn client s → IsEngineReply s (Check (Done Completed) tallies) → HasTally client tallies
+done_told client s tallies c reply =
+    let f : Finishes s Completed = finishes s Completed reply.0 in
+    let coming : Comes client f.u = subst (Comes client) (same_underway s c.u f.u c.underway_is f.underway_is) c.coming in
+    let told_so : tallies ≡ f.u.tallies = reply.1 ∙ (ap (λ (p : Progress). tallies_in p s.underway) (sym reply.0) ∙ ap (tallies_in (Done Completed)) f.underway_is) in
+    elim (coming.comes (unrefused f.u.refusal f.outcome_is)) as (λ w. HasTally client tallies) [
+      | inl is ↦ absurd (subst (IsIn client) f.done is)
+      | inr has ↦ subst (HasTally client) (sym told_so) has
+    ]
+
+pub called_are_told : CalledLists → CalledAreTold
+called_are_told lists client history legal transition sheet start tallies has registered =
+    let begin : ℕ × EngineEntry = (has.opener, Begin transition sheet (Ok start)) in
+    let done : ℕ × EngineEntry = (has.closer, Check (Done Completed) tallies) in
+    let s1 : EngineState = engine_replay engine_opening has.earlier in
+    let first = legal_apart engine_opening has.earlier (begin ∷ (has.between ++ done ∷ has.later)) (subst (IsLegalEngine engine_opening) has.whole legal) in
+    let s2 : EngineState = engine_after s1 begin.1 in
+    let second = legal_apart s2 has.between (done ∷ has.later) first.1.2 in
+    let x : Called = record { client = client; sequence = registered.sequence } in
+    let is : IsRegisteredFor transition s1.clients x = record {
+      client = record { name = registered.name; sequences = registered.sequences; wants_dump = registered.wants_dump; wants_report = registered.wants_report };
+      stands = registered_there has.earlier client transition first.0 registered;
+      sequence = registered.called;
+    } in
+    let there : IsIn client (called_list transition s1.clients) = in_called x (called_list transition s1.clients) (((lists transition s1.clients).members x).1 is) in
+    let opens : ComesIn client s2 = record { u = begun s1 transition sheet start; underway_is = refl; coming = record { comes = λ none. inl there } } in
+    done_told client (engine_replay s2 has.between) tallies (comes_all client s2 has.between second.0 has.on opens) second.1.1

@@ -1,0 +1,7 @@
+pub mod Replies
+pub mod TurnLists
+pub mod Gave
+pub mod StateTold
+pub mod Begun
+pub mod Tallied
+pub mod Completed

@@ -1,0 +1,576 @@
+-- The tallies in a Done are the answers to turns of its transition.
+use Rattle.std.specs.Prelude.{◌≡◌, ◌≢◌, ℕ, zero, suc, ◌==◌, ◌&&◌, not, Bool, true, false, is_some, nat_lt, if◌then◌else◌, List, [], ◌∷◌, ◌++◌, ◌↔◌, fold, drop, length, slice_get, Option, Some, None, Ok, Err, refl, ◌⊎◌}
+use Rattle.std.specs.List.{AllByRecursion}
+use Rattle.std.proofs.Common.{ap, sym, ◌∙◌, subst, arith, inl, inr, append_assoc}
+use Rattle.std.proofs.lemmas.Grind.{fold-append}
+use Rattle.std.proofs.lemmas.Bool.{eqb-true, eqb-false}
+use Rattle.daq_types.specs.Callers.{entries_by, entries_by-append}
+use Rattle.daq_types.specs.declared.runs.Order.{Order}
+use Rattle.daq_types.specs.declared.runs.StartOutcome.{StartOutcome}
+use Rattle.daq_types.specs.declared.runs.StartOutcome.TheVariants.{Completed}
+use Rattle.daq_types.specs.declared.runs.RunState.{RunState}
+use Rattle.daq_types.specs.declared.runs.Transition.{Transition}
+use Rattle.daq_types.specs.declared.runs.Transition.TheVariants.{Start, StartAbort}
+use Rattle.daq_types.specs.declared.runs.Why.{Why}
+use Rattle.buffer_core.specs.SlotLaws.{split}
+use Rattle.transitions.specs.declared.client.Registered.{Registered}
+use Rattle.transitions.specs.declared.sheet.Sheet.{Sheet}
+use Rattle.transitions.specs.declared.answers.Answer.{Answer as ClientAnswer}
+use Rattle.transitions.specs.declared.answers.Answer.TheVariants.{Yes, No}
+use Rattle.transitions.specs.declared.answers.Tally.{Tally}
+use Rattle.transitions.specs.declared.answers.Tally.TheVariants.{Plain}
+use Rattle.transitions.specs.declared.answers.ClientTally.{ClientTally}
+use Rattle.transitions.specs.declared.engine.Refusal.{Refusal}
+use Rattle.transitions.specs.declared.replies.RegisterRefusal.TheVariants.{Closed as RegisterClosed, NoSlot}
+use Rattle.transitions.specs.declared.replies.Polled.TheVariants.{Turn, Idle, Closed as PollClosed, NoClient}
+use Rattle.transitions.specs.declared.replies.Progress.{Progress}
+use Rattle.transitions.specs.declared.replies.Progress.TheVariants.{Going, Done, None as NoneGoing}
+use Rattle.transitions.specs.declared.entry.EngineEntry.{EngineEntry}
+use Rattle.transitions.specs.declared.entry.EngineEntry.TheVariants.{Register, Begin, Poll, Answer, Check, Close}
+use Rattle.transitions.specs.Limits.{most_clients}
+use Rattle.transitions.specs.Engines.{Underway, EngineState, engine_opening}
+use Rattle.transitions.specs.EngineCalls.{turn_kind, turn_of, is_start, is_next, begun, gets_dump, polled_by, told, refused_by, answered_by, after_poll_by, after_answer_in, register_reply, register_reply_in, tallies_in, IsEngineReply, engine_after, outcome_of}
+use Rattle.transitions.specs.EngineHistories.{EngineHistory, IsLegalEngine, engine_replay}
+use Rattle.transitions.specs.EnginePoints.{engine_past, state_at, tally_of}
+use Rattle.transitions.specs.GivenTurns.{SpeaksFor}
+use Rattle.transitions.specs.Marks.{is_mark, HasNoMark, IsEndOf}
+use Rattle.member_model.specs.Turns.{MemberTurn, HasTurn, IsAnswered, NoneOpen}
+use Rattle.member_model.specs.TurnCalls.{turn_told, turn_answered, turns_with, member_turns}
+use Rattle.engine_laws.specs.BegunTurns.{IsOfBegin, WantsAlone, OneWantsDump, IsTallyOfTurn}
+use Rattle.engine_laws.specs.EngineLaws.{DonesHaveBegins, TalliesAreAnswers}
+use Rattle.engine_laws.proofs.Replies.{Begins, begins, GivesTurn, gives_turn, Owes, owes, owes_none, Finishes, finishes}
+use Rattle.engine_laws.proofs.TurnLists.{IsIn, to_call, to_call_more, front_gone, front_in, with_answer, told_new}
+use Rattle.engine_laws.proofs.Gave.{OpenFor, RunsOn, StandsAt, CalledLists, Gave, GaveAt, gave_step, gave_all, gave_unaccepted, other_step, own_or_other, opening_gave}
+use Rattle.engine_laws.proofs.StateTold.{Follows, state_told}
+use Rattle.engine_laws.proofs.Begun.{StartIfRefused, FromBegin, from_begun, from_polled, from_told, from_refused, turn_from, turn_of_begin, of_begin_answered, polled_underway, answered_underway}
+
+-- Lists.
+
+pub legal_apart : (s : EngineState) (xs ys : EngineHistory) → IsLegalEngine s (xs ++ ys) → IsLegalEngine s xs × IsLegalEngine (engine_replay s xs) ys
+legal_apart s [] ys legal = (tt, legal)
+legal_apart s (x ∷ xs) ys legal =
+    let rest = legal_apart (engine_after s x.1) xs ys legal.2 in
+    ((legal.0, legal.1, rest.0), rest.1)
+
+pub speaks_apart : (by client : ℕ) (xs ys : EngineHistory) → SpeaksFor by client (xs ++ ys) → SpeaksFor by client xs × SpeaksFor by client ys
+speaks_apart by client [] ys alone = (tt, alone)
+speaks_apart by client (x ∷ xs) ys alone =
+    let rest = speaks_apart by client xs ys alone.1 in
+    ((alone.0, rest.0), rest.1)
+
+all_front : {X : Type 0} (P : X → Type 0) (xs ys : List X) → AllByRecursion P (xs ++ ys) → AllByRecursion P xs
+all_front P [] ys all = tt
+all_front P (x ∷ xs) ys all = (all.0, all_front P xs ys all.1)
+
+all_weaker : {X : Type 0} (P Q : X → Type 0) → ((x : X) → P x → Q x) → (xs : List X) → AllByRecursion P xs → AllByRecursion Q xs
+all_weaker P Q weaker [] all = tt
+all_weaker P Q weaker (x ∷ xs) all = (weaker x all.0, all_weaker P Q weaker xs all.1)
+
+all_push : {X : Type 0} (P : X → Type 0) (xs : List X) (y : X) → AllByRecursion P xs → P y → AllByRecursion P (xs ++ y ∷ [])
+all_push P [] y all here = (here, tt)
+all_push P (x ∷ xs) y all here = (all.0, all_push P xs y all.1 here)
+
+all_at : {X : Type 0} (P : X → Type 0) (xs : List X) (i : ℕ) (x : X) → AllByRecursion P xs → slice_get xs i ≡ Some x → P x
+all_at P [] i x all e = absurd (cc (e))
+all_at P (y ∷ ys) zero x all e = let same : y ≡ x = cc (e) in subst P same all.0
+all_at P (y ∷ ys) (suc i) x all e = all_at P ys i x all.1 e
+
+has_front : (xs ys : List MemberTurn) (t : MemberTurn) → HasTurn xs t → HasTurn (xs ++ ys) t
+has_front [] ys t has = absurd has
+has_front (x ∷ xs) ys t (inl same) = inl same
+has_front (x ∷ xs) ys t (inr before) = inr (has_front xs ys t before)
+
+-- An answered turn stays.
+
+told_stays : (ts : List MemberTurn) (x t : MemberTurn) → HasTurn ts t → HasTurn (turn_told ts x) t
+told_stays [] x t has = absurd has
+told_stays (u ∷ us) x t has = split (is_some u.answer) (λ b. HasTurn (if b then x ∷ (u ∷ us) else u ∷ us) t) (λ h. inr has) (λ h. has)
+
+answered_stays : (ts : List MemberTurn) (a answer : ClientAnswer) (t : MemberTurn) → t.answer ≡ Some answer → HasTurn ts t → HasTurn (turn_answered ts a) t
+answered_stays [] a answer t is has = absurd has
+answered_stays (u ∷ us) a answer t is has =
+    split (is_some u.answer) (λ b. is_some u.answer ≡ b → HasTurn (if b then u ∷ us else with_answer u a ∷ us) t)
+    (λ h e. has)
+    (λ h e. elim has as (λ w. HasTurn (with_answer u a ∷ us) t) [
+      | inl same ↦ absurd (let never : is_some u.answer ≡ true = ap (λ (v : MemberTurn). is_some v.answer) same ∙ ap is_some is in cc (never, e))
+      | inr before ↦ inr before
+    ])
+    refl
+
+step_stays : (client : ℕ) (ts : List MemberTurn) (e : EngineEntry) (answer : ClientAnswer) (t : MemberTurn) → t.answer ≡ Some answer → HasTurn ts t → HasTurn (turns_with client ts e) t
+step_stays client ts (Poll other (Turn turn order dump blank)) answer t is has =
+    let x : MemberTurn = record { transition = turn; order = order; dump = dump; answer = None } in
+    split (other == client) (λ b. HasTurn (if b then turn_told ts x else ts) t) (λ h. told_stays ts x t has) (λ h. has)
+step_stays client ts (Answer other a reply) answer t is has = split (other == client) (λ b. HasTurn (if b then turn_answered ts a else ts) t) (λ h. answered_stays ts a answer t is has) (λ h. has)
+step_stays client ts entry answer t is has = has
+
+all_stay : (client : ℕ) (ts : List MemberTurn) (es : List EngineEntry) (answer : ClientAnswer) (t : MemberTurn) → t.answer ≡ Some answer → HasTurn ts t → HasTurn (fold (turns_with client) ts es) t
+all_stay client ts [] answer t is has = has
+all_stay client ts (e ∷ es) answer t is has = all_stay client (turns_with client ts e) es answer t is (step_stays client ts e answer t is has)
+
+-- Who wants the dump.
+
+abbrev OnlyWants : (client : ℕ) → List Registered → Type 0
+OnlyWants client clients = (other : ℕ) (c : Registered) → slice_get clients other ≡ Some c → (c.wants_dump ≡ true) ↔ (other ≡ client)
+
+count_in : (count n : ℕ) → Ok n ≡ register_reply_in None count → n ≡ count
+count_in count n e = split (nat_lt count most_clients) (λ b. Ok n ≡ (if b then Ok count else Err NoSlot) → n ≡ count) (λ h e'. cc) (λ h e'. absurd cc) e
+
+register_number_in : (o : Option Underway) (count n : ℕ) → Ok n ≡ register_reply_in o count → (o ≡ None) × (n ≡ count)
+register_number_in None count n e = (refl, count_in count n e)
+register_number_in (Some u) count n e = absurd (cc (e))
+
+pub register_number : (s : EngineState) (n : ℕ) → Ok n ≡ register_reply s → (s.underway ≡ None) × (n ≡ length s.clients)
+register_number s n e =
+    split s.closed (λ b. Ok n ≡ (if b then Err RegisterClosed else register_reply_in s.underway (length s.clients)) → (s.underway ≡ None) × (n ≡ length s.clients))
+    (λ h e'. absurd cc) (λ h e'. register_number_in s.underway (length s.clients) n e') e
+
+pub either_end : (cs : List Registered) (c d : Registered) (i : ℕ) → slice_get (cs ++ c ∷ []) i ≡ Some d → (slice_get cs i ≡ Some d) ⊎ ((i ≡ length cs) × (c ≡ d))
+either_end [] c d zero e = inr (refl, cc (e))
+either_end [] c d (suc i) e = absurd (cc (e))
+either_end (y ∷ ys) c d zero e = inl e
+either_end (y ∷ ys) c d (suc i) e = elim (either_end ys c d i e) as (λ w. (slice_get (y ∷ ys) (suc i) ≡ Some d) ⊎ ((suc i ≡ suc (length ys)) × (c ≡ d))) [
+  | inl old ↦ inl old
+  | inr new ↦ inr (omega (arith, new.0), new.1)
+]
+
+pub polled_clients : (s : EngineState) (client : ℕ) (turn : Transition) (order : Order) (dump : Option (List ℕ)) (p : GivesTurn s client turn order dump) → (after_poll_by s (slice_get s.clients client)).clients ≡ s.clients
+polled_clients s client turn order dump p = ap (λ (o : Option Registered). (after_poll_by s o).clients) p.client_is
+
+pub answered_clients : (s : EngineState) (client : ℕ) (answer : ClientAnswer) (o : Option Underway) → (after_answer_in s client answer o).clients ≡ s.clients
+answered_clients s client answer None = refl
+answered_clients s client answer (Some u) = refl
+
+wants_step : (client : ℕ) (s : EngineState) (x : ℕ × EngineEntry) → OnlyWants client s.clients → WantsAlone client x → IsEngineReply s x.1 → OnlyWants client (engine_after s x.1).clients
+wants_step client s (by, Register name sequences dump report (Ok n)) only alone reply = λ other c at.
+    let new : Registered = record { name = name; sequences = sequences; wants_dump = dump; wants_report = report } in
+    elim (either_end s.clients new c other at) as (λ w. (c.wants_dump ≡ true) ↔ (other ≡ client)) [
+      | inl old ↦ only other c old
+      | inr here ↦
+          let number : n ≡ other = (register_number s n reply).1 ∙ sym here.0 in
+          let dump_is : dump ≡ c.wants_dump = ap (λ (r : Registered). r.wants_dump) here.1 in
+          subst (λ (m : ℕ). (c.wants_dump ≡ true) ↔ (m ≡ client)) number (subst (λ (b : Bool). (b ≡ true) ↔ (n ≡ client)) dump_is alone)
+    ]
+wants_step client s (by, Register name sequences dump report (Err r)) only alone reply = only
+wants_step client s (by, Begin t sheet (Ok n)) only alone reply = only
+wants_step client s (by, Begin t sheet (Err r)) only alone reply = only
+wants_step client s (by, Poll other (Turn turn order dump blank)) only alone reply = subst (OnlyWants client) (sym (polled_clients s other turn order dump (gives_turn s other turn order dump blank reply))) only
+wants_step client s (by, Poll other (Idle state)) only alone reply = only
+wants_step client s (by, Poll other PollClosed) only alone reply = only
+wants_step client s (by, Poll other NoClient) only alone reply = only
+wants_step client s (by, Answer other answer (Ok done)) only alone reply = subst (OnlyWants client) (sym (answered_clients s other answer s.underway)) only
+wants_step client s (by, Answer other answer (Err r)) only alone reply = only
+wants_step client s (by, Check (Done outcome) tallies) only alone reply = only
+wants_step client s (by, Check Going tallies) only alone reply = only
+wants_step client s (by, Check NoneGoing tallies) only alone reply = only
+wants_step client s (by, Close (Ok done)) only alone reply = only
+wants_step client s (by, Close (Err r)) only alone reply = only
+
+wants_all : (client : ℕ) (s : EngineState) (h : EngineHistory) → IsLegalEngine s h → OneWantsDump client h → OnlyWants client s.clients → OnlyWants client (engine_replay s h).clients
+wants_all client s [] legal alone only = only
+wants_all client s (x ∷ h) legal alone only = wants_all client (engine_after s x.1) h legal.2 alone.1 (wants_step client s x only alone.0 legal.1)
+
+not_true : (b : Bool) → (b ≡ true → ⊥) → b ≡ false
+not_true false never = refl
+not_true true never = absurd (never refl)
+
+-- The turns since the begin.
+
+record SinceTurn (wants : Type 0) (came : RunState) (transition : Transition) (sheet : Sheet) (start : ℕ) (t : MemberTurn) : Type 0 where
+  of_begin : IsOfBegin came transition sheet start t
+  dump : wants → t.transition ≡ transition → t.dump ≡ sheet.dump
+
+record IsTold (since : List MemberTurn) (tally : Tally) : Type 0 where
+  turn : MemberTurn
+  stands : HasTurn since turn
+  answer : ClientAnswer
+  answered : turn.answer ≡ Some answer
+  tally_is : tally ≡ tally_of answer
+  accepted : turn.transition ≡ Start → answer ≡ Yes tally
+
+abbrev TellsMine : (client : ℕ) → List MemberTurn → ClientTally → Type 0
+TellsMine client since x = x.client ≡ client → IsTold since x.tally
+
+-- the turn is of the transition itself
+abbrev IsOfKind : Transition → MemberTurn → Type 0
+IsOfKind transition t = t.transition ≡ transition
+
+record Since (wants : Type 0) (came : RunState) (transition : Transition) (sheet : Sheet) (start client : ℕ) (past ts : List MemberTurn) (u : Underway) : Type 0 where
+  from : FromBegin came transition sheet start u
+  since : List MemberTurn
+  ts_is : ts ≡ since ++ past
+  turns : AllByRecursion (SinceTurn wants came transition sheet start) since
+  plain : u.refusal ≡ None → AllByRecursion (IsOfKind transition) since
+  told : AllByRecursion (TellsMine client since) u.tallies
+  fresh : wants → u.refusal ≡ None → IsIn client (to_call u.has_polled u.called) → u.dump ≡ sheet.dump
+
+-- A poll.
+
+none_taken : (wish polled : Bool) (d : Option (List ℕ)) → wish ≡ false → (if wish && not polled then None else d) ≡ d
+none_taken true polled d e = absurd (cc (e))
+none_taken false polled d e = refl
+
+all_given : (wish polled : Bool) (d : Option (List ℕ)) → wish ≡ true → polled ≡ false → (if wish && not polled then d else None) ≡ d
+all_given true false d e e' = refl
+all_given true true d e e' = absurd (cc (e'))
+all_given false polled d e e' = absurd (cc (e))
+
+-- a turn of a transition is none of its start-abort
+kept_kind : (t transition : Transition) (r : Option Refusal) → StartIfRefused transition r → turn_kind t r ≡ transition → r ≡ None
+kept_kind t transition None refused kind = refl
+kept_kind t transition (Some refusal) refused kind = absurd (let e : StartAbort ≡ Start = kind ∙ refused in cc (e))
+
+told_weaker : (client : ℕ) (since more : List MemberTurn) → ((t : MemberTurn) (answer : ClientAnswer) → t.answer ≡ Some answer → HasTurn since t → HasTurn more t) → (xs : List ClientTally) → AllByRecursion (TellsMine client since) xs → AllByRecursion (TellsMine client more) xs
+told_weaker client since more stays xs all =
+    all_weaker (TellsMine client since) (TellsMine client more)
+    (λ x tells mine. let it : IsTold since x.tally = tells mine in
+    record { turn = it.turn; stands = stays it.turn it.answer it.answered it.stands; answer = it.answer; answered = it.answered; tally_is = it.tally_is; accepted = it.accepted })
+    xs all
+
+since_fresh : (wants : Type 0) (came : RunState) (transition : Transition) (sheet : Sheet) (start client : ℕ) (past ts : List MemberTurn) (u : Underway) (c : Registered) (dump : Option (List ℕ)) → Since wants came transition sheet start client past ts u → (wants → c.wants_dump ≡ true)
+    → dump ≡ (if gets_dump c u then u.dump else None) → u.has_polled ≡ false → IsIn client u.called → NoneOpen ts → (IsIn client (drop 1 u.called) → ⊥)
+    → Since wants came transition sheet start client past (turn_told ts (turn_from u dump)) (polled_by c u)
+since_fresh wants came transition sheet start client past ts u c dump s wish dump_is unpolled come none gone =
+    let t : MemberTurn = turn_from u dump in
+    let there : IsIn client (to_call u.has_polled u.called) = subst (λ (b : Bool). IsIn client (to_call b u.called)) (sym unpolled) come in
+    record {
+      from = from_polled came transition sheet start u c s.from;
+      since = t ∷ s.since;
+      ts_is = told_new ts t none ∙ ap (λ (xs : List MemberTurn). t ∷ xs) s.ts_is;
+      turns = (
+        record {
+          of_begin = turn_of_begin came transition sheet start u (gets_dump c u) dump s.from dump_is;
+          dump = λ w kind. dump_is ∙ (all_given c.wants_dump u.has_polled u.dump (wish w) unpolled ∙ s.fresh w (kept_kind u.transition transition u.refusal s.from.refused kind) there);
+        },
+        s.turns,
+      );
+      plain = λ none. (ap (λ (r : Option Refusal). turn_kind u.transition r) none ∙ s.from.transition_is, s.plain none);
+      told = told_weaker client s.since (t ∷ s.since) (λ v answer is has. inr has) u.tallies s.told;
+      fresh = λ w refusal is. absurd (gone is);
+    }
+
+since_again : (wants : Type 0) (came : RunState) (transition : Transition) (sheet : Sheet) (start client : ℕ) (past ts later : List MemberTurn) (u : Underway) (c : Registered) → Since wants came transition sheet start client past ts u → later ≡ ts
+    → (wants → IsIn client (drop 1 u.called) → c.wants_dump ≡ false) → Since wants came transition sheet start client past later (polled_by c u)
+since_again wants came transition sheet start client past ts later u c s same wish = record {
+  from = from_polled came transition sheet start u c s.from;
+  since = s.since;
+  ts_is = same ∙ s.ts_is;
+  turns = s.turns;
+  plain = s.plain;
+  told = s.told;
+  fresh = λ w refusal is. none_taken c.wants_dump u.has_polled u.dump (wish w is) ∙ s.fresh w refusal (to_call_more u.has_polled client u.called is);
+}
+
+since_polled : (wants : Type 0) (came : RunState) (transition : Transition) (sheet : Sheet) (start client other : ℕ) (past ts : List MemberTurn) (state : RunState) (number : ℕ) (u : Underway) (c : Registered) (clients : List Registered) (dump : Option (List ℕ))
+    → GaveAt state number client ts (Some u) → Since wants came transition sheet start client past ts u → (wants → OnlyWants client clients) → slice_get clients other ≡ Some c → is_next u.called other ≡ true → dump ≡ (if gets_dump c u then u.dump else None)
+    → Since wants came transition sheet start client past (if other == client then turn_told ts (turn_from u dump) else ts) (polled_by c u)
+since_polled wants came transition sheet start client other past ts state number u c clients dump g s only there front dump_is =
+    let t : MemberTurn = turn_from u dump in
+    let now : RunsOn state number client ts u = g.now in
+    split (other == client) (λ b. (other == client) ≡ b → Since wants came transition sheet start client past (if b then turn_told ts t else ts) (polled_by c u))
+    (λ h e.
+    let same : other ≡ client = eqb-true other client e in
+    let mine : is_next u.called client ≡ true = subst (λ (n : ℕ). is_next u.called n ≡ true) same front in
+    let gone : IsIn client (drop 1 u.called) → ⊥ = front_gone client u.called now.distinct mine in
+    split u.has_polled (λ b. u.has_polled ≡ b → Since wants came transition sheet start client past (turn_told ts t) (polled_by c u))
+    (λ h' polled.
+    let still : OpenFor true u ts = subst (λ (b : Bool). OpenFor b u ts) mine (subst (λ (b : Bool). OpenFor (b && is_next u.called client) u ts) polled now.open_turn) in
+    since_again wants came transition sheet start client past ts (turn_told ts t) u c s (ap (λ (x : List MemberTurn). turn_told x t) still.2 ∙ sym still.2) (λ w is. absurd (gone is)))
+    (λ h' unpolled.
+    since_fresh wants came transition sheet start client past ts u c dump s (λ w. (only w other c there).1 same) dump_is unpolled (front_in client u.called mine)
+    (subst (λ (b : Bool). OpenFor (b && is_next u.called client) u ts) unpolled now.open_turn) gone)
+    refl)
+    (λ h e. since_again wants came transition sheet start client past ts ts u c s refl (λ w is. not_true c.wants_dump (λ wish. eqb-false other client e ((only w other c there).0 wish))))
+    refl
+
+-- An answer.
+
+-- the latest turn, which is not answered, came since the begin
+record LatestSince (since : List MemberTurn) (t : MemberTurn) : Type 0 where
+  rest : List MemberTurn
+  is : since ≡ t ∷ rest
+
+latest_since : (since past rest : List MemberTurn) (t : MemberTurn) → t.answer ≡ None → NoneOpen past → since ++ past ≡ t ∷ rest → LatestSince since t
+latest_since [] past rest t unanswered none is = absurd (subst IsAnswered unanswered (subst NoneOpen is none))
+latest_since (x ∷ xs) past rest t unanswered none is =
+    let same : x ≡ t = cc (is) in
+    record { rest = xs; is = ap (λ (y : MemberTurn). y ∷ xs) same }
+
+-- what the client's answer leaves of the turns since
+record AnsweredSince (wants : Type 0) (came : RunState) (transition : Transition) (sheet : Sheet) (start client : ℕ) (past ts : List MemberTurn) (tallies : List ClientTally) (refusal : Option Refusal) (kind : Transition) (answer : ClientAnswer) : Type 0 where
+  since : List MemberTurn
+  ts_is : ts ≡ since ++ past
+  turns : AllByRecursion (SinceTurn wants came transition sheet start) since
+  plain : refusal ≡ None → AllByRecursion (IsOfKind transition) since
+  told : AllByRecursion (TellsMine client since) tallies
+  latest : MemberTurn
+  stands : HasTurn since latest
+  answered : latest.answer ≡ Some answer
+  of_kind : latest.transition ≡ kind
+
+answered_since : (wants : Type 0) (came : RunState) (transition : Transition) (sheet : Sheet) (start client : ℕ) (past ts : List MemberTurn) (u : Underway) (answer : ClientAnswer) → Since wants came transition sheet start client past ts u → NoneOpen past → OpenFor true u ts
+    → AnsweredSince wants came transition sheet start client past (turn_answered ts answer) u.tallies u.refusal (turn_of u) answer
+answered_since wants came transition sheet start client past ts u answer s none still =
+    let t : MemberTurn = turn_from u still.0 in
+    let latest : LatestSince s.since t = latest_since s.since past still.1 t refl none (sym s.ts_is ∙ still.2) in
+    let turns : AllByRecursion (SinceTurn wants came transition sheet start) (t ∷ latest.rest) = subst (AllByRecursion (SinceTurn wants came transition sheet start)) latest.is s.turns in
+    let told_so : AllByRecursion (TellsMine client (t ∷ latest.rest)) u.tallies = subst (λ (xs : List MemberTurn). AllByRecursion (TellsMine client xs) u.tallies) latest.is s.told in
+    record {
+      since = with_answer t answer ∷ latest.rest;
+      ts_is = ap (λ (xs : List MemberTurn). turn_answered xs answer) (s.ts_is ∙ ap (λ (xs : List MemberTurn). xs ++ past) latest.is);
+      turns = (record { of_begin = of_begin_answered came transition sheet start t answer turns.0.of_begin; dump = turns.0.dump }, turns.1);
+      plain = λ un. let all : AllByRecursion (IsOfKind transition) (t ∷ latest.rest) = subst (AllByRecursion (IsOfKind transition)) latest.is (s.plain un) in (all.0, all.1);
+      told = told_weaker client (t ∷ latest.rest) (with_answer t answer ∷ latest.rest) stays u.tallies told_so;
+      latest = with_answer t answer;
+      stands = inl refl;
+      answered = refl;
+      of_kind = refl;
+    }
+  where
+    stays : (v : MemberTurn) (a : ClientAnswer) → v.answer ≡ Some a → HasTurn (turn_from u still.0 ∷ (latest_since s.since past still.1 (turn_from u still.0) refl none (sym s.ts_is ∙ still.2)).rest) v
+        → HasTurn (with_answer (turn_from u still.0) answer ∷ (latest_since s.since past still.1 (turn_from u still.0) refl none (sym s.ts_is ∙ still.2)).rest) v
+    stays v a is (inl same) = absurd (let e : None ≡ Some a = ap (λ (x : MemberTurn). x.answer) same ∙ is in cc (e))
+    stays v a is (inr before) = inr before
+
+-- the turns since, once this client or another answered
+abbrev Behind : (wants : Type 0) → RunState → Transition → Sheet → (start client other : ℕ) → (past ts : List MemberTurn) → Underway → ClientAnswer → Type 0
+Behind wants came transition sheet start client other past ts u answer = (other ≡ client) × AnsweredSince wants came transition sheet start client past ts u.tallies u.refusal (turn_of u) answer ⊎ (other ≢ client) × Since wants came transition sheet start client past ts u
+
+fresh_told : (wants : Type 0) (client : ℕ) (sheet : Sheet) (u : Underway) → u.has_polled ≡ true → (wants → u.refusal ≡ None → IsIn client (to_call u.has_polled u.called) → u.dump ≡ sheet.dump) → wants → u.refusal ≡ None → IsIn client (drop 1 u.called) → u.dump ≡ sheet.dump
+fresh_told wants client sheet u polled fresh w refusal is = fresh w refusal (subst (λ (b : Bool). IsIn client (to_call b u.called)) (sym polled) is)
+
+since_told : (wants : Type 0) (came : RunState) (transition : Transition) (sheet : Sheet) (start client other : ℕ) (past ts later : List MemberTurn) (u : Underway) (answer : ClientAnswer) (tally : Tally) → Since wants came transition sheet start client past ts u → u.has_polled ≡ true
+    → tally ≡ tally_of answer → (turn_of u ≡ Start → answer ≡ Yes tally) → Behind wants came transition sheet start client other past later u answer → Since wants came transition sheet start client past later (told other tally u)
+since_told wants came transition sheet start client other past ts later u answer tally s polled is accepted (inl (same, a)) = record {
+  from = from_told came transition sheet start u other tally s.from;
+  since = a.since;
+  ts_is = a.ts_is;
+  turns = a.turns;
+  plain = a.plain;
+  told = all_push (TellsMine client a.since) u.tallies (record { client = other; tally = tally }) a.told
+      (λ mine. record { turn = a.latest; stands = a.stands; answer = answer; answered = a.answered; tally_is = is; accepted = λ starts. accepted (sym a.of_kind ∙ starts) });
+  fresh = fresh_told wants client sheet u polled s.fresh;
+}
+since_told wants came transition sheet start client other past ts later u answer tally s polled is accepted (inr (differs, b)) = record {
+  from = from_told came transition sheet start u other tally s.from;
+  since = b.since;
+  ts_is = b.ts_is;
+  turns = b.turns;
+  plain = b.plain;
+  told = all_push (TellsMine client b.since) u.tallies (record { client = other; tally = tally }) b.told (λ mine. absurd (differs mine));
+  fresh = fresh_told wants client sheet u polled s.fresh;
+}
+
+since_refused : (wants : Type 0) (came : RunState) (transition : Transition) (sheet : Sheet) (start client other : ℕ) (past ts later : List MemberTurn) (u : Underway) (clients : List Registered) (answer : ClientAnswer) (why : Why) → Since wants came transition sheet start client past ts u
+    → is_start (turn_of u) ≡ true → Behind wants came transition sheet start client other past later u answer → Since wants came transition sheet start client past later (refused_by clients other why u)
+since_refused wants came transition sheet start client other past ts later u clients answer why s starts (inl (same, a)) =
+    record { from = from_refused came transition sheet start u clients other why starts s.from; since = a.since; ts_is = a.ts_is; turns = a.turns; plain = λ un. absurd (cc (un)); told = a.told; fresh = λ w refusal is. absurd (cc (refusal)) }
+since_refused wants came transition sheet start client other past ts later u clients answer why s starts (inr (differs, b)) =
+    record { from = from_refused came transition sheet start u clients other why starts s.from; since = b.since; ts_is = b.ts_is; turns = b.turns; plain = λ un. absurd (cc (un)); told = b.told; fresh = λ w refusal is. absurd (cc (refusal)) }
+
+not_start : (k : Transition) (answer : ClientAnswer) (tally : Tally) → is_start k ≡ false → k ≡ Start → answer ≡ Yes tally
+not_start k answer tally not starts = absurd (let e : is_start Start ≡ false = ap is_start (sym starts) ∙ not in cc (e))
+
+since_by : (wants : Type 0) (came : RunState) (transition : Transition) (sheet : Sheet) (start client other : ℕ) (past ts later : List MemberTurn) (u : Underway) (clients : List Registered) (answer : ClientAnswer) → Since wants came transition sheet start client past ts u → u.has_polled ≡ true
+    → Behind wants came transition sheet start client other past later u answer → Since wants came transition sheet start client past later (answered_by clients other answer u)
+since_by wants came transition sheet start client other past ts later u clients (Yes tally) s polled behind = since_told wants came transition sheet start client other past ts later u (Yes tally) tally s polled refl (λ starts. refl) behind
+since_by wants came transition sheet start client other past ts later u clients (No why) s polled behind =
+    split (is_start (turn_of u)) (λ b. is_start (turn_of u) ≡ b → Since wants came transition sheet start client past later (if b then refused_by clients other why u else told other Plain u))
+    (λ h e. since_refused wants came transition sheet start client other past ts later u clients (No why) why s e behind)
+    (λ h e. since_told wants came transition sheet start client other past ts later u (No why) Plain s polled refl (not_start (turn_of u) (No why) Plain e) behind)
+    refl
+
+since_answered : (wants : Type 0) (came : RunState) (transition : Transition) (sheet : Sheet) (start client other : ℕ) (past ts : List MemberTurn) (state : RunState) (number : ℕ) (u : Underway) (clients : List Registered) (answer : ClientAnswer)
+    → GaveAt state number client ts (Some u) → Since wants came transition sheet start client past ts u → NoneOpen past → u.has_polled ≡ true → is_next u.called other ≡ true
+    → Since wants came transition sheet start client past (if other == client then turn_answered ts answer else ts) (answered_by clients other answer u)
+since_answered wants came transition sheet start client other past ts state number u clients answer g s none polled front =
+    let now : RunsOn state number client ts u = g.now in
+    split (other == client) (λ b. (other == client) ≡ b → Since wants came transition sheet start client past (if b then turn_answered ts answer else ts) (answered_by clients other answer u))
+    (λ h e.
+    let same : other ≡ client = eqb-true other client e in
+    let mine : is_next u.called client ≡ true = subst (λ (n : ℕ). is_next u.called n ≡ true) same front in
+    let still : OpenFor true u ts = subst (λ (b : Bool). OpenFor b u ts) mine (subst (λ (b : Bool). OpenFor (b && is_next u.called client) u ts) polled now.open_turn) in
+    since_by wants came transition sheet start client other past ts (turn_answered ts answer) u clients answer s polled (inl (same, answered_since wants came transition sheet start client past ts u answer s none still)))
+    (λ h e. since_by wants came transition sheet start client other past ts ts u clients answer s polled (inr (eqb-false other client e, s)))
+    refl
+
+-- One call.
+
+record Goes (wants : Type 0) (came : RunState) (transition : Transition) (sheet : Sheet) (start client : ℕ) (past ts : List MemberTurn) (s : EngineState) : Type 0 where
+  u : Underway
+  underway_is : s.underway ≡ Some u
+  only : wants → OnlyWants client s.clients
+  since : Since wants came transition sheet start client past ts u
+
+pub same_underway : (s : EngineState) (u v : Underway) → s.underway ≡ Some u → s.underway ≡ Some v → u ≡ v
+same_underway s u v one other = let both : Some u ≡ Some v = sym one ∙ other in cc (both)
+
+goes_step : (wants : Type 0) (came : RunState) (transition : Transition) (sheet : Sheet) (start client : ℕ) (past ts : List MemberTurn) (s : EngineState) (e : EngineEntry) → Gave s client ts → NoneOpen past → is_mark e ≡ false → IsEngineReply s e
+    → Goes wants came transition sheet start client past ts s → Goes wants came transition sheet start client past (turns_with client ts e) (engine_after s e)
+goes_step wants came transition sheet start client past ts s (Register name sequences dump report (Ok n)) g none mark reply goes =
+    absurd (let never : None ≡ Some goes.u = sym (register_number s n reply).0 ∙ goes.underway_is in cc (never))
+goes_step wants came transition sheet start client past ts s (Begin t sheet' (Ok n)) g none mark reply goes = absurd (cc (mark))
+goes_step wants came transition sheet start client past ts s (Check (Done outcome) tallies) g none mark reply goes = absurd (cc (mark))
+goes_step wants came transition sheet start client past ts s (Poll other (Turn turn order dump blank)) g none mark reply goes =
+    let p : GivesTurn s other turn order dump = gives_turn s other turn order dump blank reply in
+    let told_so : MemberTurn = record { transition = turn; order = order; dump = dump; answer = None } in
+    let same : turn_from p.u dump ≡ told_so = ap (λ (k : Transition). record { transition = k; order = p.u.order; dump = dump; answer = None }) (sym p.turn_is) ∙ ap (λ (o : Order). record { transition = turn; order = o; dump = dump; answer = None }) (sym p.order_is) in
+    let since : Since wants came transition sheet start client past ts p.u = subst (Since wants came transition sheet start client past ts) (same_underway s goes.u p.u goes.underway_is p.underway_is) goes.since in
+    let at : GaveAt s.state s.start client ts (Some p.u) = subst (GaveAt s.state s.start client ts) p.underway_is g in
+    record {
+      u = polled_by p.c p.u;
+      underway_is = polled_underway s other p.c p.u p.client_is p.underway_is;
+      only = λ w. subst (OnlyWants client) (sym (polled_clients s other turn order dump p)) (goes.only w);
+      since = subst (λ (x : MemberTurn). Since wants came transition sheet start client past (if other == client then turn_told ts x else ts) (polled_by p.c p.u)) same
+          (since_polled wants came transition sheet start client other past ts s.state s.start p.u p.c s.clients dump at since goes.only p.client_is p.front p.dump_is);
+    }
+goes_step wants came transition sheet start client past ts s (Answer other answer (Ok done)) g none mark reply goes =
+    let o : Owes s other = owes s other done reply in
+    let since : Since wants came transition sheet start client past ts o.u = subst (Since wants came transition sheet start client past ts) (same_underway s goes.u o.u goes.underway_is o.underway_is) goes.since in
+    let at : GaveAt s.state s.start client ts (Some o.u) = subst (GaveAt s.state s.start client ts) o.underway_is g in
+    record {
+      u = answered_by s.clients other answer o.u;
+      underway_is = answered_underway s other answer o.u o.underway_is;
+      only = λ w. subst (OnlyWants client) (sym (answered_clients s other answer s.underway)) (goes.only w);
+      since = since_answered wants came transition sheet start client other past ts s.state s.start o.u s.clients answer at since none o.polled o.front;
+    }
+goes_step wants came transition sheet start client past ts s (Answer other answer (Err r)) g none mark reply goes =
+    subst (λ (x : List MemberTurn). Goes wants came transition sheet start client past x s) (sym (gave_unaccepted s client other ts answer g (owes_none s other r reply))) goes
+goes_step wants came transition sheet start client past ts s (Close (Ok done)) g none mark reply goes = record { u = goes.u; underway_is = goes.underway_is; only = goes.only; since = goes.since }
+goes_step wants came transition sheet start client past ts s (Register name sequences dump report (Err r)) g none mark reply goes = goes
+goes_step wants came transition sheet start client past ts s (Begin t sheet' (Err r)) g none mark reply goes = goes
+goes_step wants came transition sheet start client past ts s (Poll other (Idle state)) g none mark reply goes = goes
+goes_step wants came transition sheet start client past ts s (Poll other PollClosed) g none mark reply goes = goes
+goes_step wants came transition sheet start client past ts s (Poll other NoClient) g none mark reply goes = goes
+goes_step wants came transition sheet start client past ts s (Check Going tallies) g none mark reply goes = goes
+goes_step wants came transition sheet start client past ts s (Check NoneGoing tallies) g none mark reply goes = goes
+goes_step wants came transition sheet start client past ts s (Close (Err r)) g none mark reply goes = goes
+
+goes_all : (lists : CalledLists) (wants : Type 0) (came : RunState) (transition : Transition) (sheet : Sheet) (start by client : ℕ) (past ts : List MemberTurn) (s : EngineState) (h : EngineHistory) → IsLegalEngine s h → SpeaksFor by client h → HasNoMark h → NoneOpen past → Gave s client ts
+    → Goes wants came transition sheet start client past ts s → Goes wants came transition sheet start client past (fold (turns_with client) ts (entries_by by h)) (engine_replay s h)
+goes_all lists wants came transition sheet start by client past ts s [] legal alone marks none g goes = goes
+goes_all lists wants came transition sheet start by client past ts s (x ∷ h) legal alone marks none g goes =
+    let next : Gave (engine_after s x.1) client (turns_with client ts x.1) = gave_step lists s client ts x.1 g legal.1 in
+    let goes_next : Goes wants came transition sheet start client past (turns_with client ts x.1) (engine_after s x.1) = goes_step wants came transition sheet start client past ts s x.1 g none marks.0 legal.1 goes in
+    own_or_other by client x h (λ es. Goes wants came transition sheet start client past (fold (turns_with client) ts es) (engine_replay (engine_after s x.1) h)) alone.0
+    (goes_all lists wants came transition sheet start by client past (turns_with client ts x.1) (engine_after s x.1) h legal.2 alone.1 marks.1 none next goes_next)
+    (λ not. let same : turns_with client ts x.1 ≡ ts = other_step s client ts x.1 g legal.1 not in
+    goes_all lists wants came transition sheet start by client past ts (engine_after s x.1) h legal.2 alone.1 marks.1 none (subst (Gave (engine_after s x.1) client) same next)
+    (subst (λ (y : List MemberTurn). Goes wants came transition sheet start client past y (engine_after s x.1)) same goes_next))
+
+pub unrefused : (r : Option Refusal) → Completed ≡ outcome_of r → r ≡ None
+unrefused None e = refl
+unrefused (Some refusal) e = absurd (cc (e))
+
+-- From the begin to the Done.
+
+goes_begun : (wants : Type 0) (came : RunState) (client : ℕ) (ts : List MemberTurn) (s : EngineState) (t : Transition) (sheet : Sheet) (n : ℕ) → s.state ≡ came → Begins s t n → (wants → OnlyWants client s.clients)
+    → Goes wants came t sheet n client ts ts (engine_after s (Begin t sheet (Ok n)))
+goes_begun wants came client ts s t sheet n is b only = record {
+  u = begun s t sheet n;
+  underway_is = refl;
+  only = only;
+  since = record { from = from_begun came s t sheet n is b.allowed; since = []; ts_is = refl; turns = tt; plain = λ un. tt; told = tt; fresh = λ w refusal is'. refl };
+}
+
+-- the turns of the caller's calls in two parts
+turns_apart : (by client : ℕ) (ts : List MemberTurn) (xs ys : EngineHistory) → fold (turns_with client) ts (entries_by by (xs ++ ys)) ≡ fold (turns_with client) (fold (turns_with client) ts (entries_by by xs)) (entries_by by ys)
+turns_apart by client ts xs ys = ap (fold (turns_with client) ts) (entries_by-append by xs ys) ∙ fold-append (turns_with client) ts (entries_by by xs) (entries_by by ys)
+
+-- a begin is no call of a client
+turns_begin : (by client : ℕ) (ts : List MemberTurn) (opener : ℕ) (t : Transition) (sheet : Sheet) (n : ℕ) (ys : EngineHistory) → fold (turns_with client) ts (entries_by by ((opener, Begin t sheet (Ok n)) ∷ ys)) ≡ fold (turns_with client) ts (entries_by by ys)
+turns_begin by client ts opener t sheet n ys =
+    own_or_other by client (opener, Begin t sheet (Ok n)) ys (λ es. fold (turns_with client) ts es ≡ fold (turns_with client) ts (entries_by by ys)) (λ (is : false ≡ true). absurd (cc (is))) refl (λ not. refl)
+
+at_turn : (P : MemberTurn → Type 0) (t : MemberTurn) (xs : List MemberTurn) → AllByRecursion P xs → HasTurn xs t → P t
+at_turn P t [] all has = absurd has
+at_turn P t (x ∷ xs) all (inl same) = subst P same all.0
+at_turn P t (x ∷ xs) all (inr before) = at_turn P t xs all.1 before
+
+-- what the Done tells, and that it is still so at the history's end
+tally_told : (wants : Type 0) (came : RunState) (transition : Transition) (sheet : Sheet) (start by client : ℕ) (past ts : List MemberTurn) (s : EngineState) (closer : ℕ) (outcome : StartOutcome) (tallies : List ClientTally) (later : EngineHistory) (index : ℕ) (tally : Tally)
+    → Goes wants came transition sheet start client past ts s → IsEngineReply s (Check (Done outcome) tallies) → slice_get tallies index ≡ Some (record { client = client; tally = tally })
+    → (history : EngineHistory) → (OneWantsDump client history → wants) → IsTallyOfTurn history client (fold (turns_with client) ts (entries_by by ((closer, Check (Done outcome) tallies) ∷ later))) came transition sheet start outcome tally
+tally_told wants came transition sheet start by client past ts s closer outcome tallies later index tally goes reply at history wish =
+    let told_so : tallies ≡ goes.u.tallies = reply.1 ∙ (ap (λ (p : Progress). tallies_in p s.underway) (sym reply.0) ∙ ap (tallies_in (Done outcome)) goes.underway_is) in
+    let mine : IsTold goes.since.since tally =
+    all_at (TellsMine client goes.since.since) goes.u.tallies index (record { client = client; tally = tally }) goes.since.told (subst (λ (xs : List ClientTally). slice_get xs index ≡ Some (record { client = client; tally = tally })) told_so at) refl in
+    let turn : SinceTurn wants came transition sheet start mine.turn = at_turn (SinceTurn wants came transition sheet start) mine.turn goes.since.since goes.since.turns mine.stands in
+    let there : HasTurn ts mine.turn = subst (λ (xs : List MemberTurn). HasTurn xs mine.turn) (sym goes.since.ts_is) (has_front goes.since.since past mine.turn mine.stands) in
+    record {
+      turn = mine.turn;
+      stands = all_stay client ts (entries_by by ((closer, Check (Done outcome) tallies) ∷ later)) mine.answer mine.turn mine.answered there;
+      of_begin = turn.of_begin;
+      answer = mine.answer;
+      answered = mine.answered;
+      tally_is = mine.tally_is;
+      accepted = mine.accepted;
+      completed = λ done.
+          let f : Finishes s outcome = finishes s outcome reply.0 in
+          let un : f.u.refusal ≡ None = unrefused f.u.refusal (sym done ∙ f.outcome_is) in
+          let mine_un : goes.u.refusal ≡ None = ap (λ (u : Underway). u.refusal) (same_underway s goes.u f.u goes.underway_is f.underway_is) ∙ un in
+          at_turn (IsOfKind transition) mine.turn goes.since.since (goes.since.plain mine_un) mine.stands;
+      dump = λ one kind. turn.dump (wish one) kind;
+    }
+
+rests_none : (client : ℕ) (ts : List MemberTurn) (s : EngineState) → s.underway ≡ None → Gave s client ts → NoneOpen ts
+rests_none client ts s free g = (subst (StandsAt s.state s.start client ts) free g.now).none
+
+opening_wants : (client : ℕ) → OnlyWants client []
+opening_wants client = λ other c at. absurd (cc (at))
+
+pub tallies_are_answers : Follows → CalledLists → TalliesAreAnswers
+tallies_are_answers follows lists by client history legal alone transition sheet start outcome tallies has index tally at =
+    let wants : Type 0 = OneWantsDump client has.earlier in
+    let came : RunState = state_at (engine_past has.earlier) in
+    let begin : ℕ × EngineEntry = (has.opener, Begin transition sheet (Ok start)) in
+    let done : ℕ × EngineEntry = (has.closer, Check (Done outcome) tallies) in
+    let rest : EngineHistory = has.between ++ done ∷ has.later in
+    let s1 : EngineState = engine_replay engine_opening has.earlier in
+    let first = legal_apart engine_opening has.earlier (begin ∷ rest) (subst (IsLegalEngine engine_opening) has.whole legal) in
+    let s2 : EngineState = engine_after s1 begin.1 in
+    let second = legal_apart s2 has.between (done ∷ has.later) first.1.2 in
+    let speaks = speaks_apart by client has.earlier (begin ∷ rest) (subst (SpeaksFor by client) has.whole alone) in
+    let speaks_later = speaks_apart by client has.between (done ∷ has.later) speaks.1.1 in
+    let ts1 : List MemberTurn = fold (turns_with client) [] (entries_by by has.earlier) in
+    let g1 : Gave s1 client ts1 = gave_all lists engine_opening by client has.earlier [] first.0 speaks.0 (opening_gave client) in
+    let b : Begins s1 transition start = begins s1 transition start first.1.1 in
+    let g2 : Gave s2 client ts1 = gave_step lists s1 client ts1 begin.1 g1 first.1.1 in
+    let none : NoneOpen ts1 = rests_none client ts1 s1 b.free g1 in
+    let goes2 : Goes wants came transition sheet start client ts1 ts1 s2 = goes_begun wants came client ts1 s1 transition sheet start (state_told follows has.earlier first.0 has.opener transition sheet start first.1.0 first.1.1) b (λ w. wants_all client engine_opening has.earlier first.0 w (opening_wants client)) in
+    let ts3 : List MemberTurn = fold (turns_with client) ts1 (entries_by by has.between) in
+    let goes3 : Goes wants came transition sheet start client ts1 ts3 (engine_replay s2 has.between) = goes_all lists wants came transition sheet start by client ts1 ts1 s2 has.between second.0 speaks_later.0 has.on none g2 goes2 in
+    let turns : List MemberTurn = member_turns client (entries_by by history) in
+    let turns_are : turns ≡ fold (turns_with client) ts3 (entries_by by (done ∷ has.later)) =
+    ap (λ (h : EngineHistory). member_turns client (entries_by by h)) has.whole
+    ∙ (turns_apart by client [] has.earlier (begin ∷ rest) ∙ (turns_begin by client ts1 has.opener transition sheet start rest ∙ turns_apart by client ts1 has.between (done ∷ has.later))) in
+    subst (λ (xs : List MemberTurn). IsTallyOfTurn history client xs came transition sheet start outcome tally) (sym turns_are)
+    (tally_told wants came transition sheet start by client ts1 ts3 (engine_replay s2 has.between) has.closer outcome tallies has.later index tally goes3 second.1.1 at history
+    (λ one. all_front (WantsAlone client) has.earlier (begin ∷ rest) (subst (OneWantsDump client) has.whole one)))
+
+-- Which begin.
+
+-- the law of the begin of a Done
+abbrev pub TalliesBelong : Type 0
+TalliesBelong = (before after : EngineHistory) → (caller : ℕ) → (outcome : StartOutcome) → (tallies : List ClientTally) →
+    IsLegalEngine engine_opening (before ++ (caller, Check (Done outcome) tallies) ∷ after) → (transition : Transition) × IsEndOf before transition tallies
+
+pub dones_have_begins : TalliesBelong → DonesHaveBegins
+dones_have_begins belong before after caller outcome tallies legal =
+    let it : (transition : Transition) × IsEndOf before transition tallies = belong before after caller outcome tallies legal in
+    let w = it.1.underway in
+    let done : ℕ × EngineEntry = (caller, Check (Done outcome) tallies) in (
+      it.0,
+      w.sheet,
+      w.start,
+      record {
+        earlier = w.earlier;
+        between = w.later;
+        later = after;
+        opener = w.caller;
+        closer = caller;
+        whole = ap (λ (h : EngineHistory). h ++ done ∷ after) w.stands ∙ append_assoc w.earlier ((w.caller, Begin it.0 w.sheet (Ok w.start)) ∷ w.later) (done ∷ after);
+        on = w.on;
+      },
+      w.stands,
+    )

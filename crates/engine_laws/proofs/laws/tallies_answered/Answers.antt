@@ -1,0 +1,5 @@
+use Rattle.engine_laws.proofs.Tallied.{dones_have_begins, tallies_are_answers}
+use Rattle.engine_laws.proofs.laws.tallies_answered.Goals as goal
+
+pub returns : goal.returns
+returns c = record { begins = dones_have_begins c.tallies_belong.ensures; tallies = tallies_are_answers c.follows.ensures c.called_in_order.ensures }

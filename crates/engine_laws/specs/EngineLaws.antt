@@ -1,0 +1,73 @@
+-- What the history of an engine tells of the turns of one client: statements of the laws.
+use Rattle.std.specs.Prelude.{◌≡◌, ◌≢◌, ℕ, List, ◌∷◌, ◌++◌, slice_get, Some, Ok}
+use Rattle.daq_types.specs.Callers.{entries_by}
+use Rattle.daq_types.specs.declared.runs.RunState.TheVariants.{Stopped}
+use Rattle.daq_types.specs.declared.runs.Transition.{Transition}
+use Rattle.daq_types.specs.declared.runs.Transition.TheVariants.{Start, Stop}
+use Rattle.daq_types.specs.declared.runs.StartOutcome.{StartOutcome}
+use Rattle.transitions.specs.declared.sheet.Sheet.{Sheet}
+use Rattle.transitions.specs.declared.answers.Tally.{Tally}
+use Rattle.transitions.specs.declared.answers.ClientTally.{ClientTally}
+use Rattle.transitions.specs.declared.replies.Progress.TheVariants.{Done}
+use Rattle.transitions.specs.declared.entry.EngineEntry.TheVariants.{Begin, Check}
+use Rattle.transitions.specs.Engines.{engine_opening}
+use Rattle.transitions.specs.EnginePoints.{engine_past, state_at}
+use Rattle.transitions.specs.EngineHistories.{EngineHistory, IsLegalEngine}
+use Rattle.transitions.specs.GivenTurns.{SpeaksFor}
+use Rattle.member_model.specs.Turns.{MemberTurn, HasTurn, AreEngineTurns}
+use Rattle.member_model.specs.TurnCalls.{member_turns}
+use Rattle.daq_types.specs.declared.runs.StartOutcome.TheVariants.{Completed}
+use Rattle.engine_laws.specs.BegunTurns.{WasBegun, HasTransition, IsRegisteredIn, HasTally, IsTallyOfTurn}
+
+-- The turns that the caller of a client reads off its own calls are turns as an engine gives them, where this caller alone
+-- polls and answers for the client.
+abbrev pub GivesEngineTurns : Type 0
+GivesEngineTurns = (by client : ℕ) → (history : EngineHistory) →
+    IsLegalEngine engine_opening history → SpeaksFor by client history →
+    AreEngineTurns (member_turns client (entries_by by history))
+
+-- Each of these turns is one of a transition that was begun in the history.
+abbrev pub TurnsWereBegun : Type 0
+TurnsWereBegun = (by client : ℕ) → (history : EngineHistory) →
+    IsLegalEngine engine_opening history → SpeaksFor by client history →
+    (turn : MemberTurn) → HasTurn (member_turns client (entries_by by history)) turn →
+    WasBegun history turn
+
+-- A start is ordered where no run is on, and a stop where one is.
+abbrev pub StartsFromStopped : Type 0
+StartsFromStopped = (by client : ℕ) → (history : EngineHistory) →
+    IsLegalEngine engine_opening history → SpeaksFor by client history →
+    (turn : MemberTurn) → HasTurn (member_turns client (entries_by by history)) turn →
+    turn.transition ≡ Start → turn.order.from ≡ Stopped
+
+abbrev pub StopsFromRun : Type 0
+StopsFromRun = (by client : ℕ) → (history : EngineHistory) →
+    IsLegalEngine engine_opening history → SpeaksFor by client history →
+    (turn : MemberTurn) → HasTurn (member_turns client (entries_by by history)) turn →
+    turn.transition ≡ Stop → turn.order.from ≢ Stopped
+
+-- Each Done belongs to the transition that was begun last before it: this very Done ends it, and the calls before that are
+-- those up to the begin, the begin, and those between.
+abbrev pub DonesHaveBegins : Type 0
+DonesHaveBegins = (before after : EngineHistory) → (caller : ℕ) → (outcome : StartOutcome) → (tallies : List ClientTally) →
+    IsLegalEngine engine_opening (before ++ (caller, Check (Done outcome) tallies) ∷ after) →
+    (transition : Transition) × (sheet : Sheet) × (start : ℕ) ×
+    (has : HasTransition (before ++ (caller, Check (Done outcome) tallies) ∷ after) transition sheet start outcome tallies) ×
+    (before ≡ has.earlier ++ (has.opener, Begin transition sheet (Ok start)) ∷ has.between)
+
+-- Each tally of a client in a Done is what its caller answered to the client's turn of that transition.
+abbrev pub TalliesAreAnswers : Type 0
+TalliesAreAnswers = (by client : ℕ) → (history : EngineHistory) →
+    IsLegalEngine engine_opening history → SpeaksFor by client history →
+    (transition : Transition) → (sheet : Sheet) → (start : ℕ) → (outcome : StartOutcome) → (tallies : List ClientTally) →
+    (has : HasTransition history transition sheet start outcome tallies) →
+    (index : ℕ) → (tally : Tally) → slice_get tallies index ≡ Some (record { client = client; tally = tally }) →
+    IsTallyOfTurn history client (member_turns client (entries_by by history)) (state_at (engine_past has.earlier))
+    transition sheet start outcome tally
+
+-- Where a transition was not refused, each client that is called for it has a tally in its Done.
+abbrev pub CalledAreTold : Type 0
+CalledAreTold = (client : ℕ) → (history : EngineHistory) → IsLegalEngine engine_opening history →
+    (transition : Transition) → (sheet : Sheet) → (start : ℕ) → (tallies : List ClientTally) →
+    (has : HasTransition history transition sheet start Completed tallies) → IsRegisteredIn has.earlier client transition →
+    HasTally client tallies

@@ -1,0 +1,2 @@
+pub mod BegunTurns
+pub mod EngineLaws

@@ -1,0 +1,42 @@
+//! Laws of the turns of one client of an engine: each function does nothing, and its contract is the law.
+
+ghost use Rattle.engine_laws.specs.EngineLaws.{GivesEngineTurns, TurnsWereBegun, StartsFromStopped, StopsFromRun, DonesHaveBegins, TalliesAreAnswers, CalledAreTold};
+
+use transitions::laws;
+
+/// The turns that a client's caller reads off its own calls are turns as an engine gives them: each start has a new number,
+/// and any other turn that of the run that is on, unless the client was not called for the start of its run.
+pub fn gives_turns()
+    ensures { GivesEngineTurns }
+{
+    laws::called_in_order();
+}
+
+/// Each of these turns is one of a transition that was begun in the history, with its order, the state that the history tells
+/// there, and at most its dump: a start from the stopped state, a stop from another.
+pub fn turns_begun()
+    ensures begun { TurnsWereBegun }
+    ensures starts { StartsFromStopped }
+    ensures stops { StopsFromRun }
+{
+    laws::called_in_order();
+    laws::follows();
+}
+
+/// Each Done belongs to the begin before it, and each tally of a client in it is what its caller answered to the client's turn
+/// of that transition; the turn of the one client that wants the dump has it.
+pub fn tallies_answered()
+    ensures begins { DonesHaveBegins }
+    ensures tallies { TalliesAreAnswers }
+{
+    laws::called_in_order();
+    laws::follows();
+    laws::tallies_belong();
+}
+
+/// Where a transition was not refused, each client that is called for it has its tally in the Done.
+pub fn called_told()
+    ensures { CalledAreTold }
+{
+    laws::called_in_order();
+}

@@ -1,0 +1,226 @@
+// Sends and receives through one ring of bytes that threads share: under the counting lock, and under std's Mutex.
+ghost use Rattle.std.specs.Prelude.{◌≤◌, IfOk};
+ghost use Rattle.ring_bytes.specs.Rings.{most_bytes};
+ghost use Rattle.turn_lock.specs.Roster.{ArePassesOf, AreFresh};
+ghost use Rattle.buffer_lock.specs.SharedBuffers.{lock_of};
+
+use anyhow::Context;
+use buffer_core::{BufferPort, EventBuffer};
+use buffer_lock::{BufferPasses, SharedBuffer, SharedPort};
+use daq_types::{Kind, Name, NoMemory};
+use event_header::{EventBuf, Header};
+use ring_buffer::RingBuffer;
+use ring_bytes::Ring;
+use std::alloc::{AllocError, Global};
+use std::sync::{Mutex, Wait};
+use std::thread::{Threads, join};
+use std::time::{Clock, Duration, Instant};
+
+/// The size of the ring, in bytes.
+const SIZE: u32 = 1 << 20;
+
+const ANY: u16 = 0xFFFF;
+
+const DATA: [u8; 8] = [7; 8];
+
+const HEADER: Header = Header {
+    event_id: 1,
+    trigger_mask: 1,
+    serial_number: 1,
+    time_stamp: 0,
+    data_size: 8,
+};
+
+/// One thread's access to the ring.
+trait Exchange {
+    /// Sends an event of 8 bytes, and receives the next one for this client.
+    fn exchange<R: Wait>(&mut self, rt: &R, client: u32, into: &mut EventBuf);
+}
+
+impl<'a> Exchange for SharedPort<'a, RingBuffer> {
+    fn exchange<R: Wait>(&mut self, rt: &R, client: u32, into: &mut EventBuf) {
+        let _ = self.send(rt, &HEADER, &DATA);
+        let _ = self.receive(rt, client, into);
+    }
+}
+
+/// A ring under std's Mutex.
+#[derive(Drop, Clone, Copy)]
+struct Guarded<'a> {
+    buffer: &'a Mutex<RingBuffer>,
+}
+
+impl<'a> Exchange for Guarded<'a> {
+    fn exchange<R: Wait>(&mut self, rt: &R, client: u32, into: &mut EventBuf) {
+        let _ = self.buffer.lock(rt).send(&HEADER, &DATA);
+        let _ = self.buffer.lock(rt).receive(client, into);
+    }
+}
+
+/// A thread's access, its client, and the room that it receives into.
+#[derive(Drop)]
+struct Worker<X: Exchange> {
+    access: X,
+    client: u32,
+    into: EventBuf,
+}
+
+impl<X: Exchange + Drop> Worker<X> {
+    fn new(alloc: Global, access: X, client: u32) -> Result<Worker<X>, NoMemory> {
+        let into = EventBuf::new(alloc, 8)?;
+        Ok(Worker {
+            access,
+            client,
+            into,
+        })
+    }
+
+    fn work<R: Wait>(mut self, rt: &R, times: u32) {
+        for _ in 0..times {
+            self.access.exchange(rt, self.client, &mut self.into);
+        }
+    }
+}
+
+/// How many threads exchange events at once.
+#[derive(Clone, Copy, Debug)]
+pub enum Crowd {
+    Alone,
+    Two,
+    Four,
+}
+
+fn work_in_two<R: Threads + Wait + Sync, X: Exchange + Drop + Send>(
+    rt: &R,
+    workers: (Worker<X>, Worker<X>),
+    times: u32,
+) {
+    let (first, second) = workers;
+    join(
+        rt,
+        move || first.work(rt, times),
+        move || second.work(rt, times),
+    );
+}
+
+fn work_in_crowd<R: Threads + Wait + Sync, X: Exchange + Drop + Send>(
+    rt: &R,
+    crowd: Crowd,
+    left: (Worker<X>, Worker<X>),
+    right: (Worker<X>, Worker<X>),
+    times: u32,
+) {
+    match crowd {
+        Crowd::Alone => left.0.work(rt, times),
+        Crowd::Two => work_in_two(rt, left, times),
+        Crowd::Four => {
+            join(
+                rt,
+                move || work_in_two(rt, left, times),
+                move || work_in_two(rt, right, times),
+            );
+        }
+    }
+}
+
+fn found<T>(made: Result<T, NoMemory>) -> Result<T, AllocError> {
+    match made {
+        Ok(value) => Ok(value),
+        Err(NoMemory) => Err(AllocError),
+    }
+}
+
+fn client_name() -> Name {
+    match Name::new(b"BENCH") {
+        Ok(name) => name,
+        Err(_) => unreachable!(),
+    }
+}
+
+/// A ring of this size with four clients, of which each asks for all events, and which wait for none of them.
+fn ring(alloc: Global, size: u32) -> Result<RingBuffer, NoMemory>
+    requires least { 256 ≤ size }
+    requires most { size ≤ most_bytes }
+{
+    let mut buffer = RingBuffer::over(Ring::new(alloc, size)?);
+    for client in 0..4 {
+        let _ = buffer.attach(client_name());
+        let _ = buffer.request(client, ANY, ANY, Kind::NonBlocking);
+    }
+    Ok(buffer)
+}
+
+fn next_port<'a>(
+    shared: &'a SharedBuffer<RingBuffer>,
+    passes: &mut BufferPasses<RingBuffer>,
+) -> Option<SharedPort<'a, RingBuffer>>
+    requires own { ArePassesOf (lock_of shared.now) passes.old }
+    requires fresh { AreFresh passes.old }
+    ensures own { ArePassesOf (lock_of shared.now) passes.new }
+    ensures fresh { AreFresh passes.new }
+{
+    let pass = passes.pop()?;
+    Some(SharedPort::new(shared, pass))
+}
+
+/// The ring shared among four passes.
+fn share(
+    alloc: Global,
+    buffer: RingBuffer,
+) -> Result<(SharedBuffer<RingBuffer>, BufferPasses<RingBuffer>), AllocError>
+    ensures own { IfOk result (λ made. ArePassesOf (lock_of made.0) made.1) }
+    ensures fresh { IfOk result (λ made. AreFresh made.1) }
+{
+    match SharedBuffer::new(alloc, buffer, 4) {
+        Ok(made) => Ok(made),
+        Err(NoMemory) => Err(AllocError),
+    }
+}
+
+/// How long it takes until each thread has made so many exchanges under the counting lock.
+pub fn time_shared<R: Threads + Wait + Sync + Clock>(
+    rt: &R,
+    alloc: Global,
+    crowd: Crowd,
+    times: u32,
+) -> anyhow::Result<Duration> {
+    let buffer = found(ring(alloc, SIZE))?;
+    let (shared, mut passes) = share(alloc, buffer)?;
+    let first = next_port(&shared, &mut passes).context("a pass")?;
+    let second = next_port(&shared, &mut passes).context("a pass")?;
+    let third = next_port(&shared, &mut passes).context("a pass")?;
+    let fourth = next_port(&shared, &mut passes).context("a pass")?;
+    let left = (
+        found(Worker::new(alloc, first, 0))?,
+        found(Worker::new(alloc, second, 1))?,
+    );
+    let right = (
+        found(Worker::new(alloc, third, 2))?,
+        found(Worker::new(alloc, fourth, 3))?,
+    );
+    let start = Instant::now(rt)?;
+    work_in_crowd(rt, crowd, left, right, times);
+    Ok(start.elapsed(rt)?)
+}
+
+/// The same under std's Mutex.
+pub fn time_guarded<R: Threads + Wait + Sync + Clock>(
+    rt: &R,
+    alloc: Global,
+    crowd: Crowd,
+    times: u32,
+) -> anyhow::Result<Duration> {
+    let buffer = Mutex::new(found(ring(alloc, SIZE))?);
+    let access = Guarded { buffer: &buffer };
+    let left = (
+        found(Worker::new(alloc, access, 0))?,
+        found(Worker::new(alloc, access, 1))?,
+    );
+    let right = (
+        found(Worker::new(alloc, access, 2))?,
+        found(Worker::new(alloc, access, 3))?,
+    );
+    let start = Instant::now(rt)?;
+    work_in_crowd(rt, crowd, left, right, times);
+    Ok(start.elapsed(rt)?)
+}

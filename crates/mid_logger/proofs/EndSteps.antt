@@ -1,0 +1,108 @@
+-- What a channel keeps, and what its file has, where a run is called off or its file is ended.
+use Rattle.std.specs.Prelude.{◌≡◌, ℕ, take, drop, List, [], ◌∷◌, ◌++◌, Option, Some, None}
+use Rattle.std.proofs.Common.{ap, sym, subst, ◌∙◌, inl, inr, append_assoc}
+use Rattle.std.proofs.lemmas.List.{take-append-drop}
+use mathlib.Core.List.{IsPrefix}
+use Rattle.daq_types.specs.declared.runs.ChannelState.{ChannelState}
+use Rattle.daq_types.specs.declared.runs.ChannelState.TheVariants.{Broken as IsBroken}
+use Rattle.daq_model.specs.RunFile.{begun_file}
+use Rattle.daq_io.specs.Seen.{Seen, Closes}
+use Rattle.daq_io.specs.SeenLaws.{IsWritten-Closes}
+use Rattle.buffer_core.specs.declared.entry.BufferEntry.{BufferEntry}
+use Rattle.buffer_core.specs.declared.entry.BufferEntry.TheVariants.{Cancel}
+use Rattle.buffer_core.specs.Ports.{Access, GotEvent}
+use Rattle.member_model.specs.ReadRuns.{IsAsking}
+use Rattle.mid_logger.specs.declared.channel_spec.ChannelSpec.{ChannelSpec}
+use Rattle.mid_logger.specs.declared.stage.BegunRun.{BegunRun}
+use Rattle.mid_logger.specs.declared.stage.ChannelRun.{ChannelRun}
+use Rattle.mid_logger.specs.declared.stage.ChannelStage.{ChannelStage}
+use Rattle.mid_logger.specs.declared.stage.ChannelStage.TheVariants.{Idle, Asking, Writing, Draining, Drained, Broken}
+use Rattle.mid_logger.specs.Channels.{FileHead, IsOwnClient, AsksNothing, DrainedAt, BrokenAt, ChannelStands, CancelsRequest, ClosesPart}
+use Rattle.mid_logger.specs.ChannelTurns.{asking_run, drained_run, broken_run}
+use Rattle.mid_logger.specs.ChannelEnds.{CancelsStanding, ClosesRead, ClosesFile, HasClosed, HasBroken, HasLeftRead, HasLeft, last_bytes, stage_settled}
+use Rattle.mid_logger.proofs.OwnSteps.{own_push, own_client_push}
+use Rattle.mid_logger.proofs.ReadSteps.{asks_still, asks_no_more}
+
+-- Calling off.
+
+cancelled : (spec : ChannelSpec) (client : Option ℕ) (stage : ChannelStage) (opened : ChannelRun) (head : FileHead) (a b : Access) (seen later : Seen) → client ≡ Some opened.client → IsAsking a.own opened.client spec.id spec.mask opened.request → CancelsRequest a b opened
+    → ChannelStands spec client stage head a.own a.got seen → ChannelStands spec client Idle head b.own b.got later
+cancelled spec client stage opened head a b seen later of asking cancels stands =
+    let cancel : BufferEntry = Cancel opened.client opened.request cancels.0 in
+    let now : ChannelStands spec client Idle head (a.own ++ cancel ∷ []) a.got later = record {
+      port = own_push a.own cancel stands.port tt (subst (λ (c : Option ℕ). IsOwnClient c a.own) of stands.own_client);
+      own_client = own_client_push client a.own cancel stands.own_client;
+      at = subst (λ (c : Option ℕ). AsksNothing c (a.own ++ cancel ∷ [])) (sym of) (asks_no_more a.own opened.client spec.id spec.mask opened.request cancels.0 asking);
+    } in
+    rw (cancels.1.own, cancels.1.got_is) now
+
+idle_with : (spec : ChannelSpec) (client : Option ℕ) (stage : ChannelStage) (head : FileHead) (a b : Access) (seen later : Seen) → b ≡ a → AsksNothing client a.own → ChannelStands spec client stage head a.own a.got seen → ChannelStands spec client Idle head b.own b.got later
+idle_with spec client stage head a b seen later same nothing stands =
+    let now : ChannelStands spec client Idle head a.own a.got later = record { port = stands.port; own_client = stands.own_client; at = nothing } in
+    rw same now
+
+pub called_off : (spec : ChannelSpec) (client : Option ℕ) (stage : ChannelStage) (head : FileHead) (a b : Access) (seen later : Seen) → CancelsStanding (asking_run stage) a b → ChannelStands spec client stage head a.own a.got seen
+    → ChannelStands spec client Idle head b.own b.got later
+called_off spec client Idle head a b seen later cancels stands = idle_with spec client Idle head a b seen later cancels stands.at stands
+called_off spec client (Asking opened) head a b seen later cancels stands = cancelled spec client (Asking opened) opened head a b seen later stands.at.of stands.at.asking cancels stands
+called_off spec client (Writing opened begun) head a b seen later cancels stands =
+    cancelled spec client (Writing opened begun) opened head a b seen later stands.at.of (asks_still None a.own a.got opened.client spec.id spec.mask opened.request opened.start begun stands.at.events stands.at.reads) cancels stands
+called_off spec client (Draining run) head a b seen later cancels stands =
+    cancelled spec client (Draining run) run.opened head a b seen later stands.at.of (asks_still run.ended a.own a.got run.opened.client spec.id spec.mask run.opened.request run.opened.start run.begun stands.at.events stands.at.reads) cancels stands
+called_off spec client (Drained run) head a b seen later cancels stands = idle_with spec client (Drained run) head a b seen later cancels stands.at.nothing stands
+called_off spec client (Broken run) head a b seen later cancels stands = idle_with spec client (Broken run) head a b seen later cancels stands.at.nothing stands
+
+-- Ending a file.
+
+same_files : (spec : ChannelSpec) (client : Option ℕ) (stage : ChannelStage) (head : FileHead) (own : List BufferEntry) (got : List GotEvent) (old new : Seen) → new ≡ old → ChannelStands spec client stage head own got old → ChannelStands spec client stage head own got new
+same_files spec client stage head own got old new same stands = rw same stands
+
+pub settled : (spec : ChannelSpec) (client : Option ℕ) (stage : ChannelStage) (state : ChannelState) (time : ℕ) (dump : Option (List ℕ)) (head : FileHead) (own : List BufferEntry) (got : List GotEvent) (old new : Seen) (faults later : ℕ)
+    → ClosesFile (drained_run stage) stage state time dump old new faults later → ChannelStands spec client stage head own got old → ChannelStands spec client (stage_settled stage) head own got new
+settled spec client Idle state time dump head own got old new faults later closes stands = record { port = stands.port; own_client = stands.own_client; at = stands.at }
+settled spec client (Asking opened) state time dump head own got old new faults later closes stands = same_files spec client (Asking opened) head own got old new closes.1 stands
+settled spec client (Writing opened begun) state time dump head own got old new faults later closes stands = same_files spec client (Writing opened begun) head own got old new closes.1 stands
+settled spec client (Draining run) state time dump head own got old new faults later closes stands = same_files spec client (Draining run) head own got old new closes.1 stands
+settled spec client (Drained run) state time dump head own got old new faults later closes stands = record { port = stands.port; own_client = stands.own_client; at = stands.at.nothing }
+settled spec client (Broken run) state time dump head own got old new faults later closes stands = record { port = stands.port; own_client = stands.own_client; at = stands.at.nothing }
+
+whole_left : (spec : ChannelSpec) (client : Option ℕ) (run : BegunRun) (head : FileHead) (time : ℕ) (dump : Option (List ℕ)) (own : List BufferEntry) (got : List GotEvent) (old new : Seen) → DrainedAt spec client run head own got old
+    → Closes old new run.opened.file (last_bytes run.opened.run run.ended time dump) → HasClosed spec head run time dump own got new
+whole_left spec client run head time dump own got old new at closes = record {
+  events = at.events;
+  number = at.holds.run;
+  small = at.holds.small;
+  fine = at.holds.fine;
+  reads = at.reads;
+  file = IsWritten-Closes at.holds.file closes;
+}
+
+first_part : (front whole : List ℕ) (count : ℕ) → IsPrefix (front ++ take count whole) (front ++ whole)
+first_part front whole count = (drop count whole, append_assoc front (take count whole) (drop count whole) ∙ ap (λ (l : List ℕ). front ++ l) (take-append-drop count whole))
+
+part_left : (spec : ChannelSpec) (client : Option ℕ) (run : BegunRun) (head : FileHead) (time : ℕ) (dump : Option (List ℕ)) (own : List BufferEntry) (got : List GotEvent) (old new : Seen) → DrainedAt spec client run head own got old
+    → ClosesPart old new run.opened.file (last_bytes run.opened.run run.ended time dump) → HasBroken spec head run time dump own got new
+part_left spec client run head time dump own got old new at part = record {
+  events = at.events;
+  bytes = begun_file head.run head.time head.dump at.events ++ take part.count (last_bytes run.opened.run run.ended time dump);
+  number = at.holds.run;
+  small = at.holds.small;
+  fine = at.holds.fine;
+  stored = IsWritten-Closes at.holds.file part.closes;
+  reads = inr (at.reads, first_part (begun_file head.run head.time head.dump at.events) (last_bytes run.opened.run run.ended time dump) part.count);
+}
+
+read_left : (spec : ChannelSpec) (client : Option ℕ) (run : BegunRun) (state : ChannelState) (head : FileHead) (time : ℕ) (dump : Option (List ℕ)) (own : List BufferEntry) (got : List GotEvent) (old new : Seen) (faults later : ℕ) → DrainedAt spec client run head own got old
+    → ClosesRead state run time dump old new faults later → HasLeftRead state spec head run time dump own got new
+read_left spec client run IsBroken head time dump own got old new faults later at closes = part_left spec client run head time dump own got old new at closes.0
+read_left spec client run state head time dump own got old new faults later at closes = whole_left spec client run head time dump own got old new at closes.1
+
+broken_left : (spec : ChannelSpec) (client : Option ℕ) (run : BegunRun) (head : FileHead) (time : ℕ) (dump : Option (List ℕ)) (own : List BufferEntry) (got : List GotEvent) (seen : Seen) → BrokenAt spec client run head own got seen → HasBroken spec head run time dump own got seen
+broken_left spec client run head time dump own got seen at =
+    record { events = at.events; bytes = at.bytes; number = at.number; small = at.small; fine = at.fine; stored = at.stored; reads = inl (at.reads, at.front) }
+
+pub left_by : (spec : ChannelSpec) (client : Option ℕ) (stage : ChannelStage) (state : ChannelState) (time : ℕ) (dump : Option (List ℕ)) (head : FileHead) (own : List BufferEntry) (got : List GotEvent) (old new : Seen) (faults later : ℕ)
+    → ClosesFile (drained_run stage) stage state time dump old new faults later → ChannelStands spec client stage head own got old → HasLeft (drained_run stage) (broken_run stage) state spec head time dump own got new
+left_by spec client (Drained run) state time dump head own got old new faults later closes stands = read_left spec client run state head time dump own got old new faults later stands.at closes
+left_by spec client (Broken run) state time dump head own got old new faults later closes stands = rw closes.1 (broken_left spec client run head time dump own got old stands.at)
+left_by spec client stage state time dump head own got old new faults later closes stands = tt

@@ -1,0 +1,204 @@
+-- What one channel of a buffer does where it opens a run leaves what another keeps.
+use Rattle.std.specs.Prelude.{◌≡◌, ◌≢◌, ℕ, true, false, IsTrue, List, [], ◌∷◌, ◌++◌, Option, Some, None, Result, Ok, Err, refl, ⊤}
+use Rattle.std.proofs.Common.{ap, sym, subst, ◌∙◌}
+use Rattle.daq_types.specs.declared.runs.Kind.TheVariants.{All}
+use Rattle.daq_types.specs.declared.runs.Order.{Order}
+use Rattle.daq_types.specs.declared.runs.Why.{Why}
+use Rattle.daq_types.specs.declared.runs.Why.TheVariants.{NotReady, Exists, Fault, BufferRefused}
+use Rattle.daq_io.specs.Seen.{Seen, Stored, KeepsNumbers, Creates, Same}
+use Rattle.buffer_core.specs.declared.replies.NoSlot.{NoSlot}
+use Rattle.buffer_core.specs.declared.replies.RequestRefusal.{RequestRefusal}
+use Rattle.buffer_core.specs.declared.entry.BufferEntry.{BufferEntry}
+use Rattle.buffer_core.specs.declared.entry.BufferEntry.TheVariants.{Attach, Request}
+use Rattle.buffer_core.specs.Ports.{Access, GotEvent}
+use Rattle.member_model.specs.OwnCalls.{calls_after, gave_number}
+use Rattle.member_model.specs.ReadLaws.{calls_after-push}
+use Rattle.mid_logger.specs.declared.channel_spec.ChannelSpec.{ChannelSpec}
+use Rattle.mid_logger.specs.declared.stage.ChannelRun.{ChannelRun}
+use Rattle.mid_logger.specs.declared.stage.ChannelStage.{ChannelStage}
+use Rattle.mid_logger.specs.declared.stage.ChannelStage.TheVariants.{Idle, Asking, Writing, Draining, Drained, Broken}
+use Rattle.mid_logger.specs.Patterns.{NamePattern, file_name_by}
+use Rattle.mid_logger.specs.Channels.{FileHead, IsOwnClient, ChannelStands, channel_run, written_run}
+use Rattle.mid_logger.specs.RecordFiles.{IsGone, UndoesFile}
+use Rattle.mid_logger.specs.ChannelTurns.{logger_name, HasClient, MakesRequest, AsksEvents, ChannelAt, StartsAsking, RefusesRun, OpensBy}
+use Rattle.mid_logger.specs.Beside.{LeavesClient, LeavesNumber, LeavesRunFile, ChannelsApart}
+use Rattle.mid_logger.proofs.StageSteps.{leaves_run, call_beside, files_beside}
+use Rattle.mid_logger.proofs.OpenSteps.{NoneTaken, never_given, gave_now, still_none, none_in}
+use Rattle.mid_logger.proofs.BesideSteps.{OtherAt, changed_beside}
+
+-- the clients of two channels differ
+abbrev Differ : (client other : Option ℕ) → Type 0
+Differ client other = (c d : ℕ) → client ≡ Some c → other ≡ Some d → c ≢ d
+
+-- A client is attached.
+
+leaves_attach : (other_client : Option ℕ) (n : ℕ) → ((d : ℕ) → other_client ≡ Some d → n ≢ d) → LeavesClient other_client (Attach logger_name (Ok n))
+leaves_attach None n apart = tt
+leaves_attach (Some d) n apart = apart d refl
+
+leaves_no_attach : (other_client : Option ℕ) (why : NoSlot) → LeavesClient other_client (Attach logger_name (Err why))
+leaves_no_attach None why = tt
+leaves_no_attach (Some d) why = tt
+
+new_differs : (own : List BufferEntry) (n : ℕ) (other_client : Option ℕ) → gave_number (calls_after [] own) n ≡ false → IsOwnClient other_client own → (d : ℕ) → other_client ≡ Some d → n ≢ d
+new_differs own n other_client fresh is_own d is same =
+    let gave : gave_number (calls_after [] own) d ≡ true = subst (λ (c : Option ℕ). IsOwnClient c own) is is_own in
+    let never : true ≡ false = sym gave ∙ (ap (λ (k : ℕ). gave_number (calls_after [] own) k) (sym same) ∙ fresh) in
+    cc (never)
+
+-- what the attach leaves: the other channel stands, the clients differ, and the client is an own one
+record Attached (spec : ChannelSpec) (later : Option ℕ) (b : Access) (other : ChannelSpec) (other_client : Option ℕ) (other_stage : ChannelStage) (other_head : FileHead) (seen : Seen) : Type 0 where
+  stands : OtherAt other other_client other_stage other_head b seen
+  differ : Differ later other_client
+  is_own : IsOwnClient later b.own
+
+attach_beside : (spec other : ChannelSpec) (client later other_client : Option ℕ) (other_stage : ChannelStage) (other_head : FileHead) (a b : Access) (seen : Seen) → HasClient client later a b → NoneTaken b → IsOwnClient client a.own → Differ client other_client
+    → OtherAt other other_client other_stage other_head a seen → Attached spec later b other other_client other_stage other_head seen
+attach_beside spec other (Some c) later other_client other_stage other_head a b seen has none is_own differ stands =
+    record { stands = rw has.1 stands; differ = λ x d is other_is. differ x d (sym has.0 ∙ is) other_is; is_own = rw (has.0, has.1) is_own }
+attach_beside spec other None (Some n) other_client other_stage other_head a b seen has none is_own differ stands =
+    let attach : BufferEntry = Attach logger_name (Ok n) in
+    let fresh : gave_number (calls_after [] a.own) n ≡ false = never_given a b n stands.port has.1 none in
+    let apart = new_differs a.own n other_client fresh stands.own_client in
+    let now : ChannelStands other other_client other_stage other_head (a.own ++ attach ∷ []) a.got seen = call_beside other other_client other_stage other_head a.own a.got seen attach stands tt tt (leaves_attach other_client n apart) (leaves_run other_stage attach tt) refl in
+    let own_now : gave_number (calls_after [] (a.own ++ attach ∷ [])) n ≡ true = subst (λ (es : List BufferEntry). gave_number es n ≡ true) (sym (calls_after-push [] a.own attach)) (gave_now (calls_after [] a.own) logger_name n) in
+    record {
+      stands = rw (has.0.own, has.0.got_is) now;
+      differ = λ x d is other_is. let same : n ≡ x = cc (is) in subst (λ (k : ℕ). k ≢ d) same (apart d other_is);
+      is_own = rw has.0.own own_now;
+    }
+attach_beside spec other None None other_client other_stage other_head a b seen has none is_own differ stands = record {
+  stands = rw (has.1.own, has.1.got_is) (call_beside other other_client other_stage other_head a.own a.got seen (Attach logger_name (Err has.0)) stands tt tt (leaves_no_attach other_client has.0) (leaves_run other_stage (Attach logger_name (Err has.0)) tt) refl);
+  differ = λ x d is other_is. absurd (cc (is));
+  is_own = tt;
+}
+
+-- Its request is made.
+
+leaves_request : (other_client : Option ℕ) (c id mask : ℕ) (reply : Result ℕ RequestRefusal) → ((d : ℕ) → other_client ≡ Some d → c ≢ d) → LeavesClient other_client (Request c id mask All reply)
+leaves_request None c id mask reply apart = tt
+leaves_request (Some d) c id mask reply apart = apart d refl
+
+request_beside : (spec other : ChannelSpec) (client request other_client : Option ℕ) (other_stage : ChannelStage) (other_head : FileHead) (a b : Access) (seen : Seen) → MakesRequest spec client request a b → IsOwnClient client a.own → Differ client other_client
+    → OtherAt other other_client other_stage other_head a seen → OtherAt other other_client other_stage other_head b seen
+request_beside spec other (Some c) (Some r) other_client other_stage other_head a b seen makes is_own differ stands =
+    rw (makes.own, makes.got_is) (call_beside other other_client other_stage other_head a.own a.got seen (Request c spec.id spec.mask All (Ok r)) stands tt is_own (leaves_request other_client c spec.id spec.mask (Ok r) (λ d is. differ c d refl is)) (leaves_run other_stage (Request c spec.id spec.mask All (Ok r)) tt) refl)
+request_beside spec other (Some c) None other_client other_stage other_head a b seen makes is_own differ stands =
+    rw (makes.1.own, makes.1.got_is)
+    (call_beside other other_client other_stage other_head a.own a.got seen (Request c spec.id spec.mask All (Err makes.0)) stands tt is_own (leaves_request other_client c spec.id spec.mask (Err makes.0) (λ d is. differ c d refl is)) (leaves_run other_stage (Request c spec.id spec.mask All (Err makes.0)) tt) refl)
+request_beside spec other None (Some r) other_client other_stage other_head a b seen makes is_own differ stands = absurd makes
+request_beside spec other None None other_client other_stage other_head a b seen makes is_own differ stands = rw makes stands
+
+asks_beside : (spec other : ChannelSpec) (client later request other_client : Option ℕ) (other_stage : ChannelStage) (other_head : FileHead) (a b : Access) (seen : Seen) → AsksEvents spec client later request a b → NoneTaken b → IsOwnClient client a.own → Differ client other_client
+    → OtherAt other other_client other_stage other_head a seen → OtherAt other other_client other_stage other_head b seen × Differ later other_client
+asks_beside spec other client later request other_client other_stage other_head a b seen asks none is_own differ stands =
+    let has = attach_beside spec other client later other_client other_stage other_head a asks.middle seen asks.attached (still_none spec later request asks.middle b asks.asked none) is_own differ stands in
+    (request_beside spec other later request other_client other_stage other_head asks.middle b seen asks.asked has.is_own has.differ has.stands, has.differ)
+
+-- The file of the other channel.
+
+other_name : (pattern : NamePattern) (seen : Seen) (r s : ChannelRun) (x : Stored) → Some r ≡ Some s → seen.at (file_name_by pattern r.run) ≡ Some x → seen.at (file_name_by pattern s.run) ≡ None → ⊥
+other_name pattern seen r s x is there gone =
+    let same : r ≡ s = cc (is) in
+    let here : seen.at (file_name_by pattern s.run) ≡ Some x = subst (λ (k : ChannelRun). seen.at (file_name_by pattern k.run) ≡ Some x) same there in
+    let never : Some x ≡ None = sym here ∙ gone in
+    cc (never)
+
+-- where names are told, there is a file of the run
+file_there : (other : ChannelSpec) (client : Option ℕ) (stage : ChannelStage) (head : FileHead) (own : List BufferEntry) (got : List GotEvent) (seen : Seen) → ChannelStands other client stage head own got seen
+    → (s : ChannelRun) → channel_run stage ≡ Some s → IsTrue seen.tells → seen.at (file_name_by other.pattern s.run) ≡ None → ⊥
+file_there other client Idle head own got seen stands s is told gone = absurd (cc (is))
+file_there other client (Asking opened) head own got seen stands s is told gone = other_name other.pattern seen opened s _ is (stands.at.holds.file.holds told) gone
+file_there other client (Writing opened begun) head own got seen stands s is told gone = other_name other.pattern seen opened s _ is (stands.at.holds.file.holds told) gone
+file_there other client (Draining run) head own got seen stands s is told gone = other_name other.pattern seen run.opened s _ is (stands.at.holds.file.holds told) gone
+file_there other client (Drained run) head own got seen stands s is told gone = other_name other.pattern seen run.opened s _ is (stands.at.holds.file.holds told) gone
+file_there other client (Broken run) head own got seen stands s is told gone = other_name other.pattern seen run.opened s _ is (stands.at.stored.holds told) gone
+
+file_used : (other : ChannelSpec) (client : Option ℕ) (stage : ChannelStage) (head : FileHead) (own : List BufferEntry) (got : List GotEvent) (seen : Seen) → ChannelStands other client stage head own got seen → (s : ChannelRun) → written_run stage ≡ Some s → IsTrue (seen.writes s.file)
+file_used other client Idle head own got seen stands s is = absurd (cc (is))
+file_used other client (Asking opened) head own got seen stands s is = let same : opened ≡ s = cc (is) in subst (λ (r : ChannelRun). IsTrue (seen.writes r.file)) same stands.at.holds.file.writes
+file_used other client (Writing opened begun) head own got seen stands s is = let same : opened ≡ s = cc (is) in subst (λ (r : ChannelRun). IsTrue (seen.writes r.file)) same stands.at.holds.file.writes
+file_used other client (Draining run) head own got seen stands s is = let same : run.opened ≡ s = cc (is) in subst (λ (r : ChannelRun). IsTrue (seen.writes r.file)) same stands.at.holds.file.writes
+file_used other client (Drained run) head own got seen stands s is = let same : run.opened ≡ s = cc (is) in subst (λ (r : ChannelRun). IsTrue (seen.writes r.file)) same stands.at.holds.file.writes
+file_used other client (Broken run) head own got seen stands s is = absurd (cc (is))
+
+-- a name that is free is not that of the other channel's file
+names_apart : (other : ChannelSpec) (client : Option ℕ) (stage : ChannelStage) (head : FileHead) (own : List BufferEntry) (got : List GotEvent) (seen : Seen) (name : List ℕ) → IsGone seen name → ChannelStands other client stage head own got seen
+    → (s : ChannelRun) → channel_run stage ≡ Some s → IsTrue seen.tells → name ≢ file_name_by other.pattern s.run
+names_apart other client stage head own got seen name gone stands s is told same =
+    file_there other client stage head own got seen stands s is told (subst (λ (n : List ℕ). seen.at n ≡ None) same (gone told))
+
+numbers_apart : {seen new : Seen} {name bytes : List ℕ} {n : ℕ} (other : ChannelSpec) (client : Option ℕ) (stage : ChannelStage) (head : FileHead) (own : List BufferEntry) (got : List GotEvent) → Creates seen new name n bytes → ChannelStands other client stage head own got seen
+    → (s : ChannelRun) → written_run stage ≡ Some s → n ≢ s.file
+numbers_apart {seen} {new} {name} {bytes} {n} other client stage head own got creates stands s is same =
+    let used : seen.writes s.file ≡ true = file_used other client stage head own got seen stands s is in
+    let never : true ≡ false = sym used ∙ (ap (λ (k : ℕ). seen.writes k) (sym same) ∙ creates.was_free.writes) in
+    cc (never)
+
+-- A run is opened, or not.
+
+undone_beside : {Rises : ℕ → ℕ → Type 0} (other : ChannelSpec) (client : Option ℕ) (stage : ChannelStage) (head : FileHead) (own : List BufferEntry) (got : List GotEvent) (old new : Seen) (name : List ℕ) (faults later : ℕ) → UndoesFile Rises old new name faults later
+    → ChannelStands other client stage head own got old → ChannelStands other client stage head own got new
+undone_beside other client stage head own got old new name faults later undoes stands =
+    changed_beside other client stage head own got old new name undoes.touches (names_apart other client stage head own got old name undoes.fresh stands) (λ s is. undoes.numbers s.file) stands
+
+same_number : (old new : Seen) (written : Option ChannelRun) → KeepsNumbers old new → LeavesNumber written old new
+same_number old new None keeps = tt
+same_number old new (Some s) keeps = keeps s.file
+
+same_left : (spec : ChannelSpec) (run written : Option ChannelRun) (old new : Seen) → Same old new → LeavesRunFile spec run written old new
+same_left spec None written old new same = tt
+same_left spec (Some s) written old new same = record { tells = same.files.tells; at = λ told. same.files.at (file_name_by spec.pattern s.run); number = same_number old new written same.numbers }
+
+idle_apart : (seen : Seen) (spec : ChannelSpec) (client : Option ℕ) (stage : ChannelStage) (other : ChannelSpec) (other_client : Option ℕ) (other_stage : ChannelStage) → stage ≡ Idle → Differ client other_client → ChannelsApart seen spec client stage other other_client other_stage
+idle_apart seen spec client stage other other_client other_stage idle differ = record {
+  clients = differ;
+  names = λ r s is other_is told. absurd (let never : None ≡ Some r = sym (ap (λ (x : ChannelStage). channel_run x) idle) ∙ is in cc (never));
+  numbers = λ r s is other_is. absurd (let never : None ≡ Some r = sym (ap (λ (x : ChannelStage). written_run x) idle) ∙ is in cc (never));
+}
+
+refusal_beside : (spec other : ChannelSpec) (name : List ℕ) (why : Why) (a b : ChannelAt) (other_client : Option ℕ) (other_stage : ChannelStage) (other_head : FileHead) → RefusesRun why spec name a b → NoneTaken b.port → IsOwnClient a.client a.port.own → Differ a.client other_client
+    → OtherAt other other_client other_stage other_head a.port a.files → OtherAt other other_client other_stage other_head b.port b.files × Differ b.client other_client
+refusal_beside spec other name NotReady a b other_client other_stage other_head refuses none is_own differ stands = absurd refuses
+refusal_beside spec other name (Exists channel) a b other_client other_stage other_head refuses none is_own differ stands = (
+  rw refuses.1.port (files_beside other other_client other_stage other_head a.port.own a.port.got a.files b.files stands (same_left other (channel_run other_stage) (written_run other_stage) a.files b.files refuses.2)),
+  λ c d is other_is. differ c d (sym refuses.1.client ∙ is) other_is,
+)
+refusal_beside spec other name (Fault channel) a b other_client other_stage other_head refuses none is_own differ stands = (
+  rw refuses.1.port (undone_beside other other_client other_stage other_head a.port.own a.port.got a.files b.files name a.faults b.faults refuses.2 stands),
+  λ c d is other_is. differ c d (sym refuses.1.client ∙ is) other_is,
+)
+refusal_beside spec other name BufferRefused a b other_client other_stage other_head refuses none is_own differ stands =
+    let asks = asks_beside spec other a.client b.client None other_client other_stage other_head a.port b.port a.files refuses.0 none is_own differ stands in
+    (undone_beside other other_client other_stage other_head b.port.own b.port.got a.files b.files name a.faults b.faults refuses.1 asks.0, asks.1)
+
+-- the run that is opened is apart from the other channel's
+opened_apart : (spec other : ChannelSpec) (order : Order) (a b : ChannelAt) (file : ℕ) (bytes : List ℕ) (other_client : Option ℕ) (other_stage : ChannelStage) (other_head : FileHead) → Creates a.files b.files (file_name_by spec.pattern order.run) file bytes
+    → (starts : StartsAsking spec order file a b) → Differ b.client other_client → OtherAt other other_client other_stage other_head a.port a.files → ChannelsApart b.files spec b.client b.stage other other_client other_stage
+opened_apart spec other order a b file bytes other_client other_stage other_head creates starts differ stands =
+    let opened : ChannelRun = record { run = order.run; start = order.start; file = file; client = starts.client; request = starts.request } in
+    let now : ChannelsApart b.files spec b.client (Asking opened) other other_client other_stage = record {
+      clients = differ;
+      names = λ r s is other_is told.
+          let same : opened ≡ r = cc (is) in
+          subst (λ (k : ChannelRun). file_name_by spec.pattern k.run ≢ file_name_by other.pattern s.run) same
+          (names_apart other other_client other_stage other_head a.port.own a.port.got a.files (file_name_by spec.pattern order.run) creates.fresh stands s other_is (sym creates.touches.tells ∙ told));
+      numbers = λ r s is other_is.
+          let same : opened ≡ r = cc (is) in
+          subst (λ (k : ChannelRun). k.file ≢ s.file) same (numbers_apart other other_client other_stage other_head a.port.own a.port.got creates stands s other_is);
+    } in
+    rw starts.stage now
+
+pub opens_beside : (spec : ChannelSpec) (order : Order) (dump : List ℕ) (answer : Result ⊤ Why) (a b : ChannelAt) (head : FileHead) (other : ChannelSpec) (other_client : Option ℕ) (other_stage : ChannelStage) (other_head : FileHead) → OpensBy answer spec order dump a b
+    → b.port.taken_back ≡ [] → a.stage ≡ Idle → ChannelStands spec a.client a.stage head a.port.own a.port.got a.files → ChannelsApart a.files spec a.client a.stage other other_client other_stage → OtherAt other other_client other_stage other_head a.port a.files
+    → OtherAt other other_client other_stage other_head b.port b.files × ChannelsApart b.files spec b.client b.stage other other_client other_stage
+opens_beside spec order dump (Ok done) a b head other other_client other_stage other_head opens none idle at apart stands =
+    let asks = asks_beside spec other a.client b.client (Some opens.asks.request) other_client other_stage other_head a.port b.port a.files opens.asks.asks (none_in b.port.taken_back none) at.own_client apart.clients stands in (
+      changed_beside other other_client other_stage other_head b.port.own b.port.got a.files b.files (file_name_by spec.pattern order.run) opens.makes.touches
+          (names_apart other other_client other_stage other_head a.port.own a.port.got a.files (file_name_by spec.pattern order.run) opens.makes.fresh stands)
+          (λ s is. opens.makes.others s.file (λ same. numbers_apart other other_client other_stage other_head a.port.own a.port.got opens.makes stands s is (sym same))) asks.0,
+      opened_apart spec other order a b opens.file _ other_client other_stage other_head opens.makes opens.asks asks.1 stands,
+    )
+opens_beside spec order dump (Err why) a b head other other_client other_stage other_head opens none idle at apart stands =
+    let refused = refusal_beside spec other (file_name_by spec.pattern order.run) why a b other_client other_stage other_head opens.1 (none_in b.port.taken_back none) at.own_client apart.clients stands in
+    (refused.0, idle_apart b.files spec b.client b.stage other other_client other_stage (opens.0 ∙ idle) refused.1)

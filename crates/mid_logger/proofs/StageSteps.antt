@@ -1,0 +1,238 @@
+-- What a channel keeps at calls on its port that leave its client, and at changes of other files.
+use Rattle.std.specs.Prelude.{◌≡◌, ◌≢◌, ℕ, nat_le, Bool, IsTrue, List, [], ◌∷◌, ◌++◌, map, Option, Some, None, ◌⊎◌, Ok, refl, ⊤}
+use Rattle.std.proofs.Common.{ap, sym, subst, ◌∙◌, inl, inr, append_assoc}
+use Rattle.std.proofs.lemmas.Bool.Decides.{eqb_tells}
+use Rattle.std.proofs.lemmas.List.{append-nil}
+use Rattle.daq_types.specs.declared.events.Event.{Event}
+use Rattle.daq_io.specs.Seen.{Seen, InUse, IsWritten, IsStored}
+use Rattle.buffer_core.specs.declared.replies.Received.TheVariants.{Got}
+use Rattle.buffer_core.specs.declared.entry.BufferEntry.{BufferEntry}
+use Rattle.buffer_core.specs.declared.entry.BufferEntry.TheVariants.{Receive, End}
+use Rattle.buffer_core.specs.Ports.{GotEvent, name_of, name_given}
+use Rattle.member_model.specs.OwnCalls.{calls_after, IsOwnCall, SendsNone, LeavesAsking, is_within, events_at}
+use Rattle.member_model.specs.ReadRuns.{EndsNot, IsReading, IsDraining}
+use Rattle.member_model.specs.CutRuns.{HasReadOn, MarksEnd, HasCutRun}
+use Rattle.member_model.specs.ReadLaws.{asking_push, reading_push, draining_push, run_push}
+use Rattle.mid_logger.specs.declared.channel_spec.ChannelSpec.{ChannelSpec}
+use Rattle.mid_logger.specs.declared.stage.BegunRun.{BegunRun}
+use Rattle.mid_logger.specs.declared.stage.ChannelRun.{ChannelRun}
+use Rattle.mid_logger.specs.declared.stage.ChannelStage.{ChannelStage}
+use Rattle.mid_logger.specs.declared.stage.ChannelStage.TheVariants.{Idle, Asking, Writing, Draining, Drained, Broken}
+use Rattle.mid_logger.specs.Patterns.{file_name_by}
+use Rattle.mid_logger.specs.Channels.{FileHead, AsksNothing, FileHolds, ReadsUntil, ReadingAt, HasReadUntil, HasReadPart, StageAt, ChannelStands, run_on}
+use Rattle.mid_logger.specs.Beside.{LeavesClient, LeavesRunOn, LeavesFile, LeavesChannelFile}
+use Rattle.mid_logger.proofs.OwnSteps.{own_push, own_client_push, nothing_push}
+use Rattle.mid_logger.proofs.ReadSteps.{leaves_receive}
+
+-- a call that leaves the client, and gives it none of these events
+pub record GoesBeside (client : ℕ) (e : BufferEntry) (gs : List GotEvent) : Type 0 where
+  pub leaves : LeavesAsking client e
+  pub named : name_given e ≡ map name_of gs
+  pub none : (test : ℕ → Bool) → events_at client test gs ≡ []
+
+leaves_asking : (client : ℕ) (e : BufferEntry) → LeavesClient (Some client) e → LeavesAsking client e
+leaves_asking client (Receive c room reply) leaves = leaves_receive client room reply c
+leaves_asking client e leaves = leaves
+
+none_named : (gs : List GotEvent) → [] ≡ map name_of gs → (client : ℕ) (test : ℕ → Bool) → events_at client test gs ≡ []
+none_named [] is client test = refl
+none_named (g ∷ gs) is client test = absurd (cc (is))
+
+one_named : (c place start : ℕ) (gs : List GotEvent) → (c, place, start) ∷ [] ≡ map name_of gs → (client : ℕ) → c ≢ client → (test : ℕ → Bool) → events_at client test gs ≡ []
+one_named c place start [] is client other test = absurd (cc (is))
+one_named c place start (g ∷ []) is client other test =
+    let same : (c, place, start) ≡ name_of g = cc (is) in
+    let named : c ≡ g.client = ap (λ (n : ℕ × ℕ × ℕ). n.0) same in
+    elim (eqb_tells g.client client) as (λ w. events_at client test (g ∷ []) ≡ []) [
+      | inl here ↦ absurd (other (named ∙ here.1))
+      | inr apart ↦ rw apart.0 refl
+    ]
+one_named c place start (g ∷ (h ∷ gs)) is client other test = absurd (cc (is))
+
+given_other : (client : ℕ) (e : BufferEntry) (gs : List GotEvent) → LeavesClient (Some client) e → name_given e ≡ map name_of gs → (test : ℕ → Bool) → events_at client test gs ≡ []
+given_other client (Receive c room (Got place start)) gs leaves named test = one_named c place start gs named client leaves test
+given_other client e gs leaves named test = none_named gs named client test
+
+pub goes_beside : (client : ℕ) (e : BufferEntry) (gs : List GotEvent) → LeavesClient (Some client) e → name_given e ≡ map name_of gs → GoesBeside client e gs
+goes_beside client e gs leaves named = record { leaves = leaves_asking client e leaves; named = named; none = given_other client e gs leaves named }
+
+-- a call that is no end
+abbrev pub IsNoEnd : BufferEntry → Type 0
+IsNoEnd (End start reply) = ⊥
+IsNoEnd e = ⊤
+
+ends_not : (start : ℕ) (e : BufferEntry) → IsNoEnd e → EndsNot start e
+ends_not start (End s reply) none = absurd none
+ends_not start e none = tt
+
+pub leaves_run : (stage : ChannelStage) (e : BufferEntry) → IsNoEnd e → LeavesRunOn stage e
+leaves_run (Writing opened begun) e none = ends_not opened.start e none
+leaves_run (Draining run) e none = ends_not run.opened.start e none
+leaves_run stage e none = tt
+
+-- Reading goes on.
+
+same_events : (events : List Event) {more : List Event} → more ≡ [] → events ++ more ≡ events
+same_events events none = ap (λ (l : List Event). events ++ l) none ∙ append-nil events
+
+pub reads_beside : (ended : Option ℕ) (own : List BufferEntry) (got : List GotEvent) (client id mask request start begun : ℕ) (events : List Event) (e : BufferEntry) (gs : List GotEvent) → GoesBeside client e gs → EndsNot start e
+    → ReadsUntil ended own got client id mask request start begun events → ReadsUntil ended (own ++ e ∷ []) (got ++ gs) client id mask request start begun events
+reads_beside None own got client id mask request start begun events e gs beside ends reads =
+    subst (λ (es : List Event). IsReading (own ++ e ∷ []) (got ++ gs) client id mask request start begun es) (same_events events (beside.none (nat_le begun)))
+    (reading_push own got client id mask request start begun events e gs reads beside.leaves ends beside.named)
+reads_beside (Some end) own got client id mask request start begun events e gs beside ends reads =
+    subst (λ (es : List Event). IsDraining (own ++ e ∷ []) (got ++ gs) client id mask request start begun end es) (same_events events (beside.none (is_within begun end)))
+    (draining_push own got client id mask request start begun end events e gs reads beside.leaves beside.named)
+
+pub on_push : (own : List BufferEntry) (got : List GotEvent) (client id mask request start begun : ℕ) (events : List Event) (more : List BufferEntry) (gs : List GotEvent) → HasReadOn own got client id mask request start begun events
+    → HasReadOn (own ++ more) (got ++ gs) client id mask request start begun events
+on_push own got client id mask request start begun events more gs has = record {
+  calls = has.calls;
+  later = has.later ++ more;
+  got_by = has.got_by;
+  got_later = has.got_later ++ gs;
+  own_is = ap (λ (l : List BufferEntry). l ++ more) has.own_is ∙ append_assoc has.calls has.later more;
+  got_is = ap (λ (l : List GotEvent). l ++ gs) has.got_is ∙ append_assoc has.got_by has.got_later gs;
+  reads = has.reads;
+}
+
+marks_more : (calls more : List BufferEntry) (start ended : ℕ) → MarksEnd calls start ended → MarksEnd (calls ++ more) start ended
+marks_more calls more start ended marks = record {
+  before = marks.before;
+  after = marks.after ++ more;
+  is = ap (λ (l : List BufferEntry). l ++ more) marks.is ∙ append_assoc marks.before (End start (Ok ended) ∷ marks.after) more;
+}
+
+pub cut_push : (own : List BufferEntry) (got : List GotEvent) (client id mask request start begun ended : ℕ) (events : List Event) (more : List BufferEntry) (gs : List GotEvent) → HasCutRun own got client id mask request start begun ended events
+    → HasCutRun (own ++ more) (got ++ gs) client id mask request start begun ended events
+cut_push own got client id mask request start begun ended events more gs has = record {
+  calls = has.calls;
+  later = has.later ++ more;
+  got_by = has.got_by;
+  got_later = has.got_later ++ gs;
+  own_is = ap (λ (l : List BufferEntry). l ++ more) has.own_is ∙ append_assoc has.calls has.later more;
+  got_is = ap (λ (l : List GotEvent). l ++ gs) has.got_is ∙ append_assoc has.got_by has.got_later gs;
+  stage = elim has.stage as (λ w. (IsReading has.calls has.got_by client id mask request start begun events × MarksEnd (has.later ++ more) start ended) ⊎ IsDraining has.calls has.got_by client id mask request start begun ended events) [
+    | inl on ↦ inl (on.0, marks_more has.later more start ended on.1)
+    | inr over ↦ inr over
+  ];
+}
+
+until_push : (ended : Option ℕ) (own : List BufferEntry) (got : List GotEvent) (client id mask request start begun : ℕ) (events : List Event) (e : BufferEntry) (gs : List GotEvent)
+    → HasReadUntil ended own got client id mask request start begun events → HasReadUntil ended (own ++ e ∷ []) (got ++ gs) client id mask request start begun events
+until_push None own got client id mask request start begun events e gs has = on_push own got client id mask request start begun events (e ∷ []) gs has
+until_push (Some end) own got client id mask request start begun events e gs has = run_push own got client id mask request start begun end events (e ∷ []) gs has
+
+part_push : (ended : Option ℕ) (own : List BufferEntry) (got : List GotEvent) (client id mask request start begun : ℕ) (events : List Event) (e : BufferEntry) (gs : List GotEvent)
+    → HasReadPart ended own got client id mask request start begun events → HasReadPart ended (own ++ e ∷ []) (got ++ gs) client id mask request start begun events
+part_push None own got client id mask request start begun events e gs has = on_push own got client id mask request start begun events (e ∷ []) gs has
+part_push (Some end) own got client id mask request start begun events e gs has = cut_push own got client id mask request start begun end events (e ∷ []) gs has
+
+asks_beside : (client : Option ℕ) (own : List BufferEntry) (e : BufferEntry) → AsksNothing client own → LeavesClient client e → AsksNothing client (own ++ e ∷ [])
+asks_beside None own e nothing leaves = tt
+asks_beside (Some client) own e nothing leaves = nothing_push own client e nothing (leaves_asking client e leaves)
+
+-- What a channel keeps.
+
+beside_of : (client : Option ℕ) (c : ℕ) (e : BufferEntry) (gs : List GotEvent) → client ≡ Some c → LeavesClient client e → name_given e ≡ map name_of gs → GoesBeside c e gs
+beside_of client c e gs of leaves named = goes_beside c e gs (subst (λ (o : Option ℕ). LeavesClient o e) of leaves) named
+
+reading_beside : (spec : ChannelSpec) (client : Option ℕ) (run : BegunRun) (head : FileHead) (own : List BufferEntry) (got : List GotEvent) (seen : Seen) (e : BufferEntry) (gs : List GotEvent) → LeavesClient client e → EndsNot run.opened.start e → name_given e ≡ map name_of gs
+    → ReadingAt spec client run head own got seen → ReadingAt spec client run head (own ++ e ∷ []) (got ++ gs) seen
+reading_beside spec client run head own got seen e gs leaves ends named at = record {
+  events = at.events;
+  of = at.of;
+  reads = reads_beside run.ended own got run.opened.client spec.id spec.mask run.opened.request run.opened.start run.begun at.events e gs (beside_of client run.opened.client e gs at.of leaves named) ends at.reads;
+  holds = at.holds;
+}
+
+stage_beside : (spec : ChannelSpec) (client : Option ℕ) (stage : ChannelStage) (head : FileHead) (own : List BufferEntry) (got : List GotEvent) (seen : Seen) (e : BufferEntry) (gs : List GotEvent) → LeavesClient client e → LeavesRunOn stage e → name_given e ≡ map name_of gs
+    → StageAt spec client stage head own got seen → StageAt spec client stage head (own ++ e ∷ []) (got ++ gs) seen
+stage_beside spec client Idle head own got seen e gs leaves ends named at = asks_beside client own e at leaves
+stage_beside spec client (Asking opened) head own got seen e gs leaves ends named at = record {
+  of = at.of;
+  asking = asking_push own opened.client spec.id spec.mask opened.request e at.asking (beside_of client opened.client e gs at.of leaves named).leaves;
+  holds = at.holds;
+}
+stage_beside spec client (Writing opened begun) head own got seen e gs leaves ends named at = reading_beside spec client (run_on opened begun) head own got seen e gs leaves ends named at
+stage_beside spec client (Draining run) head own got seen e gs leaves ends named at = reading_beside spec client run head own got seen e gs leaves ends named at
+stage_beside spec client (Drained run) head own got seen e gs leaves ends named at = record {
+  events = at.events;
+  of = at.of;
+  nothing = asks_beside client own e at.nothing leaves;
+  reads = until_push run.ended own got run.opened.client spec.id spec.mask run.opened.request run.opened.start run.begun at.events e gs at.reads;
+  holds = at.holds;
+}
+stage_beside spec client (Broken run) head own got seen e gs leaves ends named at = record {
+  events = at.events;
+  bytes = at.bytes;
+  of = at.of;
+  nothing = asks_beside client own e at.nothing leaves;
+  reads = part_push run.ended own got run.opened.client spec.id spec.mask run.opened.request run.opened.start run.begun at.events e gs at.reads;
+  number = at.number;
+  small = at.small;
+  fine = at.fine;
+  stored = at.stored;
+  front = at.front;
+}
+
+pub calls_beside : (spec : ChannelSpec) (client : Option ℕ) (stage : ChannelStage) (head : FileHead) (own : List BufferEntry) (got : List GotEvent) (seen : Seen) (e : BufferEntry) (gs : List GotEvent) → ChannelStands spec client stage head own got seen
+    → SendsNone e → IsOwnCall e (calls_after [] own) → LeavesClient client e → LeavesRunOn stage e → name_given e ≡ map name_of gs → ChannelStands spec client stage head (own ++ e ∷ []) (got ++ gs) seen
+calls_beside spec client stage head own got seen e gs stands none is_own leaves ends named = record {
+  port = own_push own e stands.port none is_own;
+  own_client = own_client_push client own e stands.own_client;
+  at = stage_beside spec client stage head own got seen e gs leaves ends named stands.at;
+}
+
+-- The same, where the call gives no event.
+pub call_beside : (spec : ChannelSpec) (client : Option ℕ) (stage : ChannelStage) (head : FileHead) (own : List BufferEntry) (got : List GotEvent) (seen : Seen) (e : BufferEntry) → ChannelStands spec client stage head own got seen
+    → SendsNone e → IsOwnCall e (calls_after [] own) → LeavesClient client e → LeavesRunOn stage e → name_given e ≡ [] → ChannelStands spec client stage head (own ++ e ∷ []) got seen
+call_beside spec client stage head own got seen e stands none is_own leaves ends named =
+    subst (λ (l : List GotEvent). ChannelStands spec client stage head (own ++ e ∷ []) l seen) (append-nil got) (calls_beside spec client stage head own got seen e [] stands none is_own leaves ends named)
+
+-- Files.
+
+in_use : (s : Seen) (n : ℕ) → IsTrue (s.writes n) → InUse s n
+in_use s n h = rw h refl
+
+written_left : {old new : Seen} {name bytes : List ℕ} (opened : ChannelRun) → IsWritten old opened.file name bytes → LeavesFile old new name (Some opened) → IsWritten new opened.file name bytes
+written_left {old} {new} {name} {bytes} opened p leaves = record {
+  writes = leaves.number.writes ∙ p.writes;
+  named = leaves.number.name (in_use old opened.file p.writes) ∙ p.named;
+  holds = λ told. let before : IsTrue old.tells = sym leaves.tells ∙ told in leaves.at before ∙ p.holds before;
+}
+
+pub stored_left : {old new : Seen} {name bytes : List ℕ} → IsStored old name bytes → LeavesFile old new name None → IsStored new name bytes
+stored_left {old} p leaves = record { holds = λ told. let before : IsTrue old.tells = sym leaves.tells ∙ told in leaves.at before ∙ p.holds before }
+
+holds_left : (spec : ChannelSpec) (head : FileHead) (old new : Seen) (opened : ChannelRun) (events : List Event) → FileHolds spec head old opened events → LeavesFile old new (file_name_by spec.pattern opened.run) (Some opened) → FileHolds spec head new opened events
+holds_left spec head old new opened events holds leaves = record { run = holds.run; small = holds.small; fine = holds.fine; file = written_left opened holds.file leaves }
+
+reading_left : (spec : ChannelSpec) (client : Option ℕ) (run : BegunRun) (head : FileHead) (own : List BufferEntry) (got : List GotEvent) (old new : Seen) → ReadingAt spec client run head own got old
+    → LeavesFile old new (file_name_by spec.pattern run.opened.run) (Some run.opened) → ReadingAt spec client run head own got new
+reading_left spec client run head own got old new at leaves = record { events = at.events; of = at.of; reads = at.reads; holds = holds_left spec head old new run.opened at.events at.holds leaves }
+
+stage_left : (spec : ChannelSpec) (client : Option ℕ) (stage : ChannelStage) (head : FileHead) (own : List BufferEntry) (got : List GotEvent) (old new : Seen) → StageAt spec client stage head own got old → LeavesChannelFile spec stage old new
+    → StageAt spec client stage head own got new
+stage_left spec client Idle head own got old new at leaves = at
+stage_left spec client (Asking opened) head own got old new at leaves = record { of = at.of; asking = at.asking; holds = holds_left spec head old new opened [] at.holds leaves }
+stage_left spec client (Writing opened begun) head own got old new at leaves = reading_left spec client (run_on opened begun) head own got old new at leaves
+stage_left spec client (Draining run) head own got old new at leaves = reading_left spec client run head own got old new at leaves
+stage_left spec client (Drained run) head own got old new at leaves =
+    record { events = at.events; of = at.of; nothing = at.nothing; reads = at.reads; holds = holds_left spec head old new run.opened at.events at.holds leaves }
+stage_left spec client (Broken run) head own got old new at leaves = record {
+  events = at.events;
+  bytes = at.bytes;
+  of = at.of;
+  nothing = at.nothing;
+  reads = at.reads;
+  number = at.number;
+  small = at.small;
+  fine = at.fine;
+  stored = stored_left at.stored leaves;
+  front = at.front;
+}
+
+pub files_beside : (spec : ChannelSpec) (client : Option ℕ) (stage : ChannelStage) (head : FileHead) (own : List BufferEntry) (got : List GotEvent) (old new : Seen) → ChannelStands spec client stage head own got old
+    → LeavesChannelFile spec stage old new → ChannelStands spec client stage head own got new
+files_beside spec client stage head own got old new stands leaves = record { port = stands.port; own_client = stands.own_client; at = stage_left spec client stage head own got old new stands.at leaves }

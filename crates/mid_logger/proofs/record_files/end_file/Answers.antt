@@ -1,0 +1,23 @@
+use Rattle.std.proofs.Common.{ℕ, List, ap, subst}
+use Rattle.daq_model.specs.Events.{encoding}
+use Rattle.daq_io.specs.SeenLaws.{Extends-writes}
+use Rattle.event_header.specs.declared.head.Header.{Header}
+use Rattle.event_header.specs.Headers.{event_of}
+use Rattle.mid_logger.specs.Channels.{ClosesPart}
+use Rattle.mid_logger.proofs.FileParts.{part_closed}
+use Rattle.mid_logger.proofs.FileSteps.{closed_whole, closed_part}
+use Rattle.mid_logger.proofs.record_files.end_file.Goals as goal
+
+pub returns-in-Ok-clause-whole : goal.returns-in-Ok-clause-whole
+returns-in-Ok-clause-whole g c =
+    closed_whole _ _ c.close.result (ap (λ (h : Header). encoding (event_of h c.args.dump.now)) c.end_record-header.ensures) c.in-Ok.ensures.whole (c.close.ensures.written (Extends-writes c.in-Ok.ensures.whole))
+
+pub returns-in-Ok-clause-part : goal.returns-in-Ok-clause-part
+returns-in-Ok-clause-part g c =
+    closed_part _ _ c.close.result (ap (λ (h : Header). encoding (event_of h c.args.dump.now)) c.end_record-header.ensures) c.in-Ok.ensures.whole (c.close.ensures.written (Extends-writes c.in-Ok.ensures.whole))
+
+pub returns-in-Err-clause-part : goal.returns-in-Err-clause-part
+returns-in-Err-clause-part g c =
+    subst (λ (bytes : List ℕ). ClosesPart (g.F.Files.seen c.args.files.now) (g.F.Files.seen c.close-in-Err.new.self) c.args.file bytes)
+    (ap (λ (h : Header). encoding (event_of h c.args.dump.now)) c.end_record-header.ensures)
+    (part_closed _ c.in-Err.ensures.part (c.close-in-Err.ensures.written (Extends-writes c.in-Err.ensures.part.extends)))

@@ -1,0 +1,39 @@
+//! What leaves a channel as it stands: each function does nothing, and its contract is the law.
+
+ghost use Rattle.mid_logger.specs.Beside.{AbortsBeside, CallsBeside, ClosesBeside, FilesBeside, LeftBeside, OpensBeside, PullsBeside};
+
+/// A call on the channel's buffer that names another client, and does not end the run that the channel's client reads,
+/// leaves what the channel keeps: calls of other channels, and pauses and resumes.
+pub fn calls_beside()
+    ensures { CallsBeside }
+{}
+
+/// A change of other files leaves what the channel keeps.
+pub fn files_beside()
+    ensures { FilesBeside }
+{}
+
+/// What one channel pulls leaves what another channel on the buffer keeps, where each has a client and a file of its own.
+pub fn pulls_beside()
+    ensures { PullsBeside }
+{}
+
+/// So does the calling off of its run.
+pub fn aborts_beside()
+    ensures { AbortsBeside }
+{}
+
+/// So does the ending of its file.
+pub fn closes_beside()
+    ensures { ClosesBeside }
+{}
+
+/// So does the opening of a run, and its refusal; and the two channels are apart then.
+pub fn opens_beside()
+    ensures { OpensBeside }
+{}
+
+/// What stands of a run whose file was ended stands behind any calls more, and behind changes of other files.
+pub fn left_beside()
+    ensures { LeftBeside }
+{}

@@ -1,0 +1,276 @@
+//! How a channel opens the file of a run and asks for its events, and how it calls a run off.
+
+ghost use Rattle.std.specs.Prelude.{◌≡◌, ◌≢◌, ◌≤◌, ◌+◌, ◌⊎◌, ◌↔◌, [], IsTrue, IsSome, IsErrOf, OnOk, OnErr, IfErr, IfSome, Some, None, codes, length};
+ghost use Rattle.std.specs.Option.{option_map};
+ghost use Rattle.daq_types.specs.declared.runs.Why.TheVariants.{Exists};
+ghost use Rattle.daq_model.specs.Events.{record_limit};
+ghost use Rattle.daq_io.specs.Counts.{Rose};
+ghost use Rattle.mid_logger.specs.declared.stage.ChannelStage.TheVariants.{Idle};
+ghost use Rattle.mid_logger.specs.Patterns.{file_name_by};
+ghost use Rattle.mid_logger.specs.Channels.{FileHead, ChannelStands, IsOpenFile, written_run};
+ghost use Rattle.mid_logger.specs.Pulls.{NamesMore};
+ghost use Rattle.mid_logger.specs.RecordFiles.{DropsFile, IsGone};
+ghost use Rattle.mid_logger.specs.ChannelTurns.{AsksEvents, StartsAsking, HasClient, OpensBy, OpenFaults, OpenClashes, OpenFirst, NotesFault, IsRefusalOf, failed_at};
+
+use crate::channel::Channel;
+use crate::record_files::{begin_file, drop_file};
+use crate::stage::{ChannelRun, ChannelStage};
+use buffer_core::BufferPort;
+use daq_io::{Failed, Files, NameRefused};
+use daq_types::{FileName, Kind, Name, Order, Why};
+use std::sync::Wait;
+
+/// A client with its one request.
+#[derive(Clone, Copy, Debug, PartialEq, Eq)]
+struct Reader {
+    client: u32,
+    request: u32,
+}
+
+/// The name under which the logger attaches its clients.
+fn client_name() -> Name
+    ensures { result ≡ codes "Logger" }
+{
+    match Name::new(b"Logger") {
+        Ok(name) => name,
+        Err(_) => unreachable!(),
+    }
+}
+
+impl Channel {
+    /// The channel's client, which is attached where there is none yet.
+    fn attached<R: Wait, P: BufferPort>(&mut self, rt: &R, port: &mut P) -> Option<u32>
+        requires entries { 1 ≤ (P.access port.old).entries }
+        ensures channel { self.new ≡ record self.old { client = self.new.client } }
+        ensures client { result ≡ self.new.client }
+        ensures has { HasClient self.old.client self.new.client (P.access port.old)
+            (P.access port.new) }
+        ensures entries { (P.access port.old).entries ≤ (P.access port.new).entries + 1 }
+    {
+        match self.client {
+            Some(client) => Some(client),
+            None => match port.attach(rt, client_name()) {
+                Ok(client) => {
+                    self.client = Some(client);
+                    Some(client)
+                }
+                Err(_) => None,
+            },
+        }
+    }
+
+    /// Asks for all events of the channel's id and mask.
+    fn ask<R: Wait, P: BufferPort>(&mut self, rt: &R, port: &mut P) -> Option<Reader>
+        requires entries { 2 ≤ (P.access port.old).entries }
+        ensures channel { self.new ≡ record self.old { client = self.new.client } }
+        ensures client { IfSome result (λ reader. self.new.client ≡ Some reader.client) }
+        ensures asks { AsksEvents self.old.spec self.old.client self.new.client
+            (option_map (λ reader. reader.request) result) (P.access port.old) (P.access port.new) }
+    {
+        let Some(client) = self.attached(rt, port) else {
+            return None;
+        };
+        match port.request(rt, client, self.spec.id, self.spec.mask, Kind::All) {
+            Ok(request) => Some(Reader { client, request }),
+            Err(_) => None,
+        }
+    }
+
+    /// Why no run is opened whose file could not be begun. A failure is kept in mind.
+    fn refusal(&mut self, why: NameRefused) -> Why
+        requires { why ≢ NameRefused.Missing }
+        ensures channel { self.new ≡ record self.old { failed = self.new.failed } }
+        ensures why { IsRefusalOf why self.old.spec.number result }
+        ensures failed { self.new.failed ≡ failed_at why self.old.failed }
+    {
+        let channel = self.spec.number;
+        match why {
+            NameRefused::Exists => Why::Exists { channel },
+            NameRefused::Failed => {
+                self.failed = true;
+                Why::Fault { channel }
+            }
+            NameRefused::Missing => unreachable!(),
+        }
+    }
+
+    /// Closes and removes the file of this number and name. A failure is kept in mind.
+    pub(crate) fn drop_run<F: Files>(&mut self, files: &mut F, file: u32, name: &FileName)
+        requires writes { IsTrue ((F.seen files.old).writes file) }
+        requires named { (F.seen files.old).name_of file ≡ name.now }
+        ensures channel { self.new ≡ record self.old { failed = self.new.failed } }
+        ensures drops { DropsFile (F.seen files.old) (F.seen files.new) file name.now }
+        ensures gone { IsGone (F.seen files.new) name.now
+            ⊎ Rose (F.faults files.old) (F.faults files.new) }
+        ensures failed { NotesFault self.old.failed self.new.failed (F.faults files.old)
+            (F.faults files.new) }
+        ensures faults { F.faults files.old ≤ F.faults files.new }
+        ensures clashes { F.clashes files.new ≡ F.clashes files.old }
+        ensures first { NamesMore name.now (F.first files.old) (F.first files.new) }
+    {
+        match drop_file(files, file, name) {
+            Ok(()) => {}
+            Err(Failed) => self.failed = true,
+        }
+    }
+
+    /// Asks for the events of a run whose file was begun. Where that is refused, the file is closed and removed.
+    fn start_asking<R: Wait, F: Files, P: BufferPort>(
+        &mut self,
+        rt: &R,
+        files: &mut F,
+        port: &mut P,
+        order: &Order,
+        file: u32,
+        name: &FileName,
+    ) -> Result<(), Why>
+        requires writes { IsTrue ((F.seen files.old).writes file) }
+        requires named { (F.seen files.old).name_of file ≡ name.now }
+        requires entries { 2 ≤ (P.access port.old).entries }
+        ensures spec { self.new.spec ≡ self.old.spec }
+        ensures event { self.new.event ≡ self.old.event }
+        ensures asks { OnOk result (StartsAsking self.old.spec order.now file (record {
+          client = self.old.client;
+          stage = self.old.stage;
+          port = P.access port.old;
+          files = F.seen files.old;
+          faults = F.faults files.old;
+        }) (record {
+          client = self.new.client;
+          stage = self.new.stage;
+          port = P.access port.new;
+          files = F.seen files.new;
+          faults = F.faults files.new;
+        })) }
+        ensures quiet { OnOk result (F.seen files.new ≡ F.seen files.old) }
+        ensures why { IfErr result (λ why. why ≡ Why.BufferRefused) }
+        ensures stage { OnErr result (self.new.stage ≡ self.old.stage) }
+        ensures refused { OnErr result (AsksEvents self.old.spec self.old.client self.new.client None
+            (P.access port.old) (P.access port.new)) }
+        ensures drops { OnErr result
+            (DropsFile (F.seen files.old) (F.seen files.new) file name.now) }
+        ensures gone { OnErr result (IsGone (F.seen files.new) name.now
+            ⊎ Rose (F.faults files.old) (F.faults files.new)) }
+        ensures faults { OpenFaults result (F.faults files.old) (F.faults files.new) }
+        ensures failed { NotesFault self.old.failed self.new.failed (F.faults files.old)
+            (F.faults files.new) }
+        ensures clashes { F.clashes files.new ≡ F.clashes files.old }
+        ensures first { OpenFirst result name.now (F.first files.old) (F.first files.new) }
+    {
+        match self.ask(rt, port) {
+            Some(Reader { client, request }) => {
+                self.stage = ChannelStage::Asking {
+                    opened: ChannelRun {
+                        run: order.run,
+                        start: order.start,
+                        file,
+                        client,
+                        request,
+                    },
+                };
+                Ok(())
+            }
+            None => {
+                self.drop_run(files, file, name);
+                Err(Why::BufferRefused)
+            }
+        }
+    }
+
+    /// Opens a run: makes its file, writes the begin record with the dump, and asks for the events of the channel. Where
+    /// that is refused, the file is closed and removed, and the channel stays as it was.
+    pub fn open<R: Wait, F: Files, P: BufferPort>(
+        &mut self,
+        rt: &R,
+        files: &mut F,
+        port: &mut P,
+        order: &Order,
+        dump: &[u8],
+    ) -> Result<(), Why>
+        requires idle { self.old.stage ≡ Idle }
+        requires entries { 2 ≤ (P.access port.old).entries }
+        requires small { length dump.now ≤ record_limit }
+        ensures spec { self.new.spec ≡ self.old.spec }
+        ensures event { self.new.event ≡ self.old.event }
+        ensures opens { OpensBy result self.old.spec order.now dump.now (record {
+          client = self.old.client;
+          stage = self.old.stage;
+          port = P.access port.old;
+          files = F.seen files.old;
+          faults = F.faults files.old;
+        }) (record {
+          client = self.new.client;
+          stage = self.new.stage;
+          port = P.access port.new;
+          files = F.seen files.new;
+          faults = F.faults files.new;
+        }) }
+        ensures exists { IsTrue (F.seen files.old).tells → (IsErrOf result (Exists self.old.spec.number)
+            ↔ IsSome ((F.seen files.old).at (file_name_by self.old.spec.pattern order.now.run))) }
+        ensures failed { NotesFault self.old.failed self.new.failed (F.faults files.old)
+            (F.faults files.new) }
+        ensures faults { OpenFaults result (F.faults files.old) (F.faults files.new) }
+        ensures clashes { OpenClashes result (F.clashes files.old) (F.clashes files.new) }
+        ensures first { OpenFirst result (file_name_by self.old.spec.pattern order.now.run)
+            (F.first files.old) (F.first files.new) }
+        ensures file { IsOpenFile (F.seen files.new) self.new.spec (written_run self.new.stage) }
+        ensures asking { OnOk result ((before : FileHead) → (P.access port.new).taken_back ≡ [] →
+            ChannelStands self.old.spec self.old.client self.old.stage before
+            (P.access port.old).own (P.access port.old).got (F.seen files.old) →
+            ChannelStands self.new.spec self.new.client self.new.stage (record {
+              run = order.now.run;
+              time = order.now.time;
+              dump = dump.now;
+            }) (P.access port.new).own (P.access port.new).got (F.seen files.new)) }
+        ensures idle { OnErr result ((head : FileHead) → (P.access port.new).taken_back ≡ [] →
+            ChannelStands self.old.spec self.old.client self.old.stage head
+            (P.access port.old).own (P.access port.old).got (F.seen files.old) →
+            ChannelStands self.new.spec self.new.client self.new.stage head
+            (P.access port.new).own (P.access port.new).got (F.seen files.new)) }
+    {
+        self.open_run(rt, files, port, order, dump)
+    }
+
+    /// Opens a run: begins its file and asks for the events of the channel.
+    fn open_run<R: Wait, F: Files, P: BufferPort>(
+        &mut self,
+        rt: &R,
+        files: &mut F,
+        port: &mut P,
+        order: &Order,
+        dump: &[u8],
+    ) -> Result<(), Why>
+        requires idle { self.old.stage ≡ Idle }
+        requires entries { 2 ≤ (P.access port.old).entries }
+        requires small { length dump.now ≤ record_limit }
+        ensures spec { self.new.spec ≡ self.old.spec }
+        ensures event { self.new.event ≡ self.old.event }
+        ensures opens { OpensBy result self.old.spec order.now dump.now (record {
+          client = self.old.client;
+          stage = self.old.stage;
+          port = P.access port.old;
+          files = F.seen files.old;
+          faults = F.faults files.old;
+        }) (record {
+          client = self.new.client;
+          stage = self.new.stage;
+          port = P.access port.new;
+          files = F.seen files.new;
+          faults = F.faults files.new;
+        }) }
+        ensures exists { IsTrue (F.seen files.old).tells → (IsErrOf result (Exists self.old.spec.number)
+            ↔ IsSome ((F.seen files.old).at (file_name_by self.old.spec.pattern order.now.run))) }
+        ensures failed { NotesFault self.old.failed self.new.failed (F.faults files.old)
+            (F.faults files.new) }
+        ensures faults { OpenFaults result (F.faults files.old) (F.faults files.new) }
+        ensures clashes { OpenClashes result (F.clashes files.old) (F.clashes files.new) }
+        ensures first { OpenFirst result (file_name_by self.old.spec.pattern order.now.run)
+            (F.first files.old) (F.first files.new) }
+    {
+        let name = self.spec.pattern.name(order.run);
+        match begin_file(files, &name, order.run, order.time, dump) {
+            Ok(file) => self.start_asking(rt, files, port, order, file, &name),
+            Err(why) => Err(self.refusal(why)),
+        }
+    }
+}

@@ -1,0 +1,84 @@
+//! Each call once, by the main thread and by another.
+ghost use Rattle.std.specs.Prelude.{◌≡◌, [], ◌∷◌};
+ghost use Rattle.turn_lock.specs.Passes.{number_of, IsOf};
+ghost use Rattle.turn_lock.specs.Roster.{items_of, numbers_of, ArePassesOf, AreFresh, IsFresh};
+ghost use Rattle.odb_lock.specs.SharedOdbs.{odb_lock_of};
+
+use crate::{OdbPass, OdbPasses, SharedOdb};
+use daq_types::Tid;
+use odb_path::Path;
+use odb_tree::{Database, NewKey, PlainTree};
+use odb_value::Item;
+use std::test::Fail;
+
+impl SharedOdb<PlainTree> {
+    /// Takes both passes of a database with two out of the list, the main thread's first.
+    fn two_passes(
+        &self,
+        passes: &mut OdbPasses<PlainTree>,
+    ) -> (OdbPass<PlainTree>, OdbPass<PlainTree>)
+        requires own { ArePassesOf (odb_lock_of self.now) passes.old }
+        requires fresh { AreFresh passes.old }
+        requires numbers { numbers_of passes.old ≡ 0 ∷ 1 ∷ [] }
+        ensures left { ArePassesOf (odb_lock_of self.now) passes.new × (items_of passes.new ≡ []) }
+        ensures own { IsOf (odb_lock_of self.now) result.0 × IsOf (odb_lock_of self.now) result.1 }
+        ensures fresh { IsFresh result.0 × IsFresh result.1 }
+        ensures numbers { (number_of result.0 ≡ 0) × (number_of result.1 ≡ 1) }
+    {
+        let Some(other) = passes.pop() else {
+            unreachable!()
+        };
+        let Some(main) = passes.pop() else {
+            unreachable!()
+        };
+        (main, other)
+    }
+}
+
+#[test]
+fn the_main_thread_makes_rows(rt: HostRuntime) -> Result<(), Fail> {
+    let alloc = rt.alloc();
+    let (shared, mut passes) = SharedOdb::new(alloc, PlainTree::new(alloc), 2)?;
+    let (mut main, other) = shared.two_passes(&mut passes);
+    let path = Path::read(alloc, b"/A/b")?;
+    let kind = NewKey::Keys {
+        tid: Tid::UInt8,
+        len: 2,
+    };
+    assert_eq!(rt; shared.create(&rt, &mut main, alloc, &path, kind), Ok(2));
+    let value = shared.get(&rt, &mut main, alloc, &path)?;
+    assert_eq!(rt; shared.resize(&rt, &mut main, alloc, &path, 3), Ok(2));
+    assert_eq!(rt; shared.set_all(&rt, &mut main, alloc, &path, &value), Ok(2));
+    assert_eq!(rt; shared.delete(&rt, &mut main, &path), Ok(1));
+    passes.push(main);
+    passes.push(other);
+    let Ok(closed) = shared.close(passes) else {
+        panic!(rt; "both passes are there")
+    };
+    assert!(rt;
+        closed.value.database.find(&path).is_err(),
+        "the key is gone"
+    );
+    Ok(())
+}
+
+#[test]
+fn another_caller_reads_and_sets(rt: HostRuntime) -> Result<(), Fail> {
+    let alloc = rt.alloc();
+    let (shared, mut passes) = SharedOdb::new(alloc, PlainTree::new(alloc), 2)?;
+    let (mut main, mut other) = shared.two_passes(&mut passes);
+    let path = Path::read(alloc, b"/A/b")?;
+    let kind = NewKey::Keys {
+        tid: Tid::UInt8,
+        len: 2,
+    };
+    assert_eq!(rt; shared.create(&rt, &mut main, alloc, &path, kind), Ok(2));
+    let set = shared.set(&rt, &mut other, alloc, &path, 1, &Item::UInt8(255));
+    assert_eq!(rt; set, Ok(2));
+    assert_eq!(rt; shared.find(&rt, &mut other, &path), Ok(2));
+    let children = shared.list(&rt, &mut other, alloc, &Path::root(alloc))?;
+    assert_eq!(rt; children.as_slice().len(), 1);
+    let named = shared.path_of(&rt, &mut other, alloc, 2)?;
+    assert!(rt; named.is_some(), "the row has a path");
+    Ok(())
+}

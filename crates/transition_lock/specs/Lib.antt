@@ -1,0 +1,3 @@
+pub mod EngineSteps
+pub mod EngineEntries
+pub mod SharedEngines

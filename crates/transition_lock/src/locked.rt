@@ -1,0 +1,42 @@
+// An engine as the counting lock sees it.
+use crate::calls::CallMade;
+use std::marker::Model;
+use transitions::{Engine, EngineEntry};
+use turn_lock::{Call, Machine};
+
+/// An engine under the lock. Its data are the engine's state, and its entries the calls with their replies.
+#[derive(Drop)]
+pub struct LockedEngine {
+    pub engine: Engine,
+}
+
+/// The state of an engine, for contracts alone: no value of this type is made.
+pub struct EngineSeen {
+    nothing: (),
+}
+
+impl Model for EngineSeen {
+    ghost use Rattle.transitions.specs.Engines.{EngineState, engine_opening};
+
+    ghost Value = { EngineState };
+
+    ghost view = { λ _. engine_opening };
+}
+
+impl Machine for LockedEngine {
+    type State = EngineSeen;
+
+    type Entry = EngineEntry;
+
+    ghost use Rattle.transition_lock.specs.EngineSteps.{StepsEngine};
+
+    ghost state = { λ locked. locked.engine };
+
+    ghost step = { StepsEngine };
+}
+
+impl<'a> Call<LockedEngine> for CallMade<'a> {
+    ghost use Rattle.transition_lock.specs.EngineEntries.{engine_entry_of};
+
+    ghost entry = { engine_entry_of };
+}

@@ -1,0 +1,270 @@
+// An engine that threads share.
+ghost use Rattle.std.specs.Prelude.{◌≡◌, ◌<◌, ◌≤◌, ℕ, [], Option, Some, None, length, All, IfOk, IfErr};
+ghost use Rattle.daq_types.specs.Callers.{entries_by, main_caller};
+ghost use Rattle.transitions.specs.declared.entry.EngineEntry.TheVariants.{Register, Begin, Poll, Answer as AnswerCall, Check, Close};
+ghost use Rattle.transitions.specs.EngineCalls.{without_return};
+ghost use Rattle.transitions.specs.EngineHistories.{IsSheet, IsFairTurn, IsLegalEngine, engine_replay};
+ghost use Rattle.turn_lock.specs.Passes.{passes_of, number_of, seen_by, held_by, IsOf};
+ghost use Rattle.turn_lock.specs.History.{IsPartOf, entries_below};
+ghost use Rattle.turn_lock.specs.Closing.{AreComplete, IsLeastMissing, opened_with, history_of};
+ghost use Rattle.turn_lock.specs.Roster.{items_of, numbers_of, numbers_below, ArePassesOf, AreIdle, AreFresh};
+ghost use Rattle.turn_lock.specs.Entered.{Enters};
+
+use crate::calls::CallMade;
+use crate::locked::LockedEngine;
+use daq_types::{Name, NoMemory, Transition};
+use run_states::Sequences;
+use std::alloc::Global;
+use std::snapshot::Snapshot;
+use std::sync::Wait;
+use transitions::{
+    Answer, BeginRefusal, Engine, InProgress, NotYourTurn, Polled, Progress, RegisterRefusal,
+    Sheet, Tallies,
+};
+use turn_lock::{Closed, Held, MissingPass, Pass, Passes, Turns};
+
+/// One caller's place at a shared engine, with its number. Number 0 is the main thread's.
+pub type EnginePass = Pass<LockedEngine>;
+
+/// Passes of one shared engine.
+pub type EnginePasses = Passes<LockedEngine>;
+
+/// A shared engine that has ended: the engine, and for contracts the whole history of its calls.
+pub type EngineClosed = Closed<LockedEngine>;
+
+/// An engine that threads share, each with a pass. A call takes the turn, waits for it where it must, makes the call of
+/// `Engine` of that name, and appends the call with its reply to the one history. The main thread alone registers clients,
+/// begins transitions, checks them and closes the engine.
+#[derive(Drop)]
+pub struct SharedEngine {
+    turns: Turns<LockedEngine>,
+}
+
+/// A reply without what a refusal hands back.
+fn bare<T: Copy, E: Copy, Y>(reply: &Result<T, (E, Y)>) -> Result<T, E>
+    ensures { result ≡ without_return reply.now }
+{
+    match reply {
+        Ok(value) => Ok(*value),
+        Err((refusal, _)) => Err(*refusal),
+    }
+}
+
+impl SharedEngine {
+    ghost use Rattle.transition_lock.specs.SharedEngines.{engine_lock_of, first_engine};
+    ghost use Rattle.transition_lock.specs.EngineSteps.{StepsEngine};
+    ghost use Rattle.transition_lock.specs.EngineEntries.{engine_entry_of};
+
+    /// Shares the engine among this many passes, 1 to 256, which are numbered from 0 on. The lock's memory is taken here, and
+    /// by no other call. Where there is none the engine is dropped.
+    pub fn new(
+        alloc: Global,
+        engine: Engine,
+        passes: u32,
+    ) -> Result<(SharedEngine, EnginePasses), NoMemory>
+        requires some { 0 < passes }
+        requires few { passes ≤ 256 }
+        ensures first { IfOk result (λ made. first_engine made.0 ≡ engine) }
+        ensures count { IfOk result (λ made. passes_of (engine_lock_of made.0) ≡ passes) }
+        ensures own { IfOk result (λ made. ArePassesOf (engine_lock_of made.0) made.1) }
+        ensures numbers { IfOk result (λ made. numbers_of made.1 ≡ numbers_below passes) }
+        ensures fresh { IfOk result (λ made. AreFresh made.1) }
+    {
+        let (turns, passes) = Turns::new(alloc, LockedEngine { engine }, passes)?;
+        Ok((SharedEngine { turns }, passes))
+    }
+
+    /// Puts the engine back after a call on it, and frees the turn.
+    fn enter(&self, pass: &mut EnginePass, held: Held<LockedEngine>, call: &CallMade<'_>)
+        requires own { IsOf (engine_lock_of self.now) pass.old }
+        requires step { (before : _) × (held_by pass.old ≡ Some before)
+            × StepsEngine before (number_of pass.old) (engine_entry_of call.now) held.value.engine }
+        ensures entered { Enters (engine_lock_of self.now) (engine_entry_of call.now)
+            pass.old pass.new }
+        ensures legal { IsLegalEngine (first_engine self.now) (seen_by pass.new) }
+    {
+        self.turns.put(pass, held, call);
+    }
+
+    /// As `Engine::register`, by the main thread.
+    pub fn register<R: Wait>(
+        &self,
+        rt: &R,
+        pass: &mut EnginePass,
+        name: Name,
+        sequences: Sequences,
+        wants_dump: bool,
+        wants_report: bool,
+    ) -> Result<u32, RegisterRefusal>
+        requires main { number_of pass.old ≡ main_caller }
+        requires own { IsOf (engine_lock_of self.now) pass.old }
+        requires idle { held_by pass.old ≡ None }
+        ensures entered { Enters (engine_lock_of self.now) (Register name sequences wants_dump wants_report result) pass.old pass.new }
+        ensures legal { IsLegalEngine (first_engine self.now) (seen_by pass.new) }
+    {
+        let mut held = self.turns.take(rt, pass);
+        let reply = held
+            .value
+            .engine
+            .register(name, sequences, wants_dump, wants_report);
+        self.enter(
+            pass,
+            held,
+            &CallMade::Register {
+                name,
+                sequences,
+                wants_dump,
+                wants_report,
+                reply,
+            },
+        );
+        reply
+    }
+
+    /// As `Engine::begin`, by the main thread.
+    pub fn begin<R: Wait>(
+        &self,
+        rt: &R,
+        pass: &mut EnginePass,
+        transition: Transition,
+        sheet: Sheet,
+    ) -> Result<u32, (BeginRefusal, Sheet)>
+        requires main { number_of pass.old ≡ main_caller }
+        requires own { IsOf (engine_lock_of self.now) pass.old }
+        requires idle { held_by pass.old ≡ None }
+        requires sheet { IsSheet sheet }
+        ensures entered { Enters (engine_lock_of self.now) (Begin transition sheet (without_return result)) pass.old pass.new }
+        ensures legal { IsLegalEngine (first_engine self.now) (seen_by pass.new) }
+        ensures back { IfErr result (λ refused. refused.1 ≡ sheet) }
+    {
+        let given = Snapshot::of(&sheet);
+        let mut held = self.turns.take(rt, pass);
+        let reply = held.value.engine.begin(transition, sheet);
+        self.enter(
+            pass,
+            held,
+            &CallMade::Begin {
+                transition,
+                sheet: given,
+                reply: bare(&reply),
+            },
+        );
+        reply
+    }
+
+    /// As `Engine::poll`.
+    pub fn poll<R: Wait>(&self, rt: &R, pass: &mut EnginePass, client: u32) -> Polled
+        requires own { IsOf (engine_lock_of self.now) pass.old }
+        requires idle { held_by pass.old ≡ None }
+        ensures entered { Enters (engine_lock_of self.now) (Poll client result) pass.old pass.new }
+        ensures legal { IsLegalEngine (first_engine self.now) (seen_by pass.new) }
+        ensures fair { IsFairTurn result }
+    {
+        let mut held = self.turns.take(rt, pass);
+        let reply = held.value.engine.poll(client);
+        self.enter(
+            pass,
+            held,
+            &CallMade::Poll {
+                client,
+                reply: &reply,
+            },
+        );
+        reply
+    }
+
+    /// As `Engine::answer`.
+    pub fn answer<R: Wait>(
+        &self,
+        rt: &R,
+        pass: &mut EnginePass,
+        client: u32,
+        answer: Answer,
+    ) -> Result<(), (NotYourTurn, Answer)>
+        requires own { IsOf (engine_lock_of self.now) pass.old }
+        requires idle { held_by pass.old ≡ None }
+        ensures entered { Enters (engine_lock_of self.now) (AnswerCall client answer (without_return result)) pass.old pass.new }
+        ensures legal { IsLegalEngine (first_engine self.now) (seen_by pass.new) }
+        ensures back { IfErr result (λ refused. refused.1 ≡ answer) }
+    {
+        let given = Snapshot::of(&answer);
+        let mut held = self.turns.take(rt, pass);
+        let reply = held.value.engine.answer(client, answer);
+        self.enter(
+            pass,
+            held,
+            &CallMade::Answer {
+                client,
+                answer: given,
+                reply: bare(&reply),
+            },
+        );
+        reply
+    }
+
+    /// As `Engine::check`, by the main thread.
+    pub fn check<R: Wait>(&self, rt: &R, pass: &mut EnginePass, tallies: &mut Tallies) -> Progress
+        requires main { number_of pass.old ≡ main_caller }
+        requires own { IsOf (engine_lock_of self.now) pass.old }
+        requires idle { held_by pass.old ≡ None }
+        requires empty { tallies.old ≡ [] }
+        ensures entered { Enters (engine_lock_of self.now) (Check result tallies.new) pass.old pass.new }
+        ensures legal { IsLegalEngine (first_engine self.now) (seen_by pass.new) }
+    {
+        let mut held = self.turns.take(rt, pass);
+        let reply = held.value.engine.check(tallies);
+        self.enter(pass, held, &CallMade::Check { reply, tallies });
+        reply
+    }
+
+    /// As `Engine::close`, by the main thread.
+    pub fn close<R: Wait>(&self, rt: &R, pass: &mut EnginePass) -> Result<(), InProgress>
+        requires main { number_of pass.old ≡ main_caller }
+        requires own { IsOf (engine_lock_of self.now) pass.old }
+        requires idle { held_by pass.old ≡ None }
+        ensures entered { Enters (engine_lock_of self.now) (Close result) pass.old pass.new }
+        ensures legal { IsLegalEngine (first_engine self.now) (seen_by pass.new) }
+    {
+        let mut held = self.turns.take(rt, pass);
+        let reply = held.value.engine.close();
+        self.enter(pass, held, &CallMade::Close { reply });
+        reply
+    }
+
+    /// Ends the sharing, for which all passes are given back. Where one is missing, all comes back.
+    pub fn close_lock(
+        self,
+        passes: EnginePasses,
+    ) -> Result<EngineClosed, (MissingPass, SharedEngine, EnginePasses)>
+        requires own { ArePassesOf (engine_lock_of self) passes }
+        requires idle { AreIdle passes }
+
+        // Each reply in the history is the one that the engine gave at that point, from the one that was shared on, and the
+        // engine is what it was left as.
+        ensures opened { IfOk result (λ closed. (opened_with closed).engine ≡ first_engine self) }
+        ensures legal { IfOk result (λ closed. IsLegalEngine (opened_with closed).engine
+            (history_of closed)) }
+        ensures replayed { IfOk result (λ closed. closed.value.engine
+            ≡ engine_replay (opened_with closed).engine (history_of closed)) }
+
+        // What each pass has seen is a beginning of it, and the entries with a pass's number are its own.
+        ensures parts { IfOk result (λ closed. All (λ pass. IsPartOf (history_of closed)
+            (number_of pass) (seen_by pass)) (items_of passes)) }
+        ensures known { IfOk result (λ closed. (n : ℕ) → passes_of (engine_lock_of self) ≤ n
+            → entries_by n (history_of closed) ≡ []) }
+        ensures length { IfOk result (λ closed. length (history_of closed)
+            ≡ entries_below (passes_of (engine_lock_of self)) (history_of closed)) }
+
+        ensures complete { IfOk result (λ closed. AreComplete (numbers_of passes)
+            (passes_of (engine_lock_of self))) }
+        ensures missing { IfErr result (λ refusal. IsLeastMissing (numbers_of passes)
+            (passes_of (engine_lock_of self)) refusal.0.number) }
+        ensures same { IfErr result (λ refusal. (refusal.1 ≡ self) × (refusal.2 ≡ passes)) }
+    {
+        let SharedEngine { turns } = self;
+        match turns.close(passes) {
+            Ok(closed) => Ok(closed),
+            Err((missing, turns, passes)) => Err((missing, SharedEngine { turns }, passes)),
+        }
+    }
+}
