@@ -19,9 +19,10 @@ use transitions::{Answer, Tally};
 /// The port of the rows.
 type Port = LocalPort<PlainBuffer>;
 
-/// The data of the first event of the front-ends that generate events of id 1 and of id 2: a bank of one word each.
+/// The data of the first event that a front-end generates with id 1: a bank of one word.
 const FIRST: &[u8] = b"\x10\0\0\0\x01\0\0\0GEN0\x06\0\x04\0\xac\x6f\x57\x6c\0\0\0\0";
 
+/// The data of the first event that one generates with id 2.
 const SECOND: &[u8] = b"\x10\0\0\0\x01\0\0\0GEN0\x06\0\x04\0\xd9\xee\xec\xb8\0\0\0\0";
 
 /// The order of run 1, with start number 1.
@@ -208,7 +209,7 @@ fn pulls_both<R: Wait>(rt: &R, analyzer: &mut Analyzer, port: &mut Port) -> Resu
     Ok(first && second && last)
 }
 
-/// A run of two events, which are read behind the stop.
+/// Whether a run of two events, which are read behind its stop, goes so.
 fn counts_both<R: Wait>(
     rt: &R,
     alloc: Global,
@@ -243,7 +244,7 @@ fn runs_empty<R: Wait>(
     Ok(waits(rt, analyzer, port)? && refused && accepted)
 }
 
-/// A run of no event, behind whose stop the event of another start is read.
+/// Whether a run without events goes so, behind whose stop an event of another start is read and dropped.
 fn counts_none<R: Wait>(
     rt: &R,
     alloc: Global,
