@@ -1,0 +1,292 @@
+ghost use Rattle.std.specs.Prelude.{◌≡◌, ◌≤◌, [], None, IfOk, IfSome, length};
+ghost use Rattle.event_report.specs.Reports.{report_of};
+ghost use Rattle.local_port.specs.Ported.{access_of};
+ghost use Rattle.analyzers.specs.Analyzers.{IsWithinGot};
+
+use analyzers::{Analyzer, AnalyzerPull};
+use buffer_core::BufferPort;
+use daq_text::TextBuffer;
+use daq_types::{Kind, NoMemory, Order, RunState, Transition, Why};
+use event_header::Header;
+use event_report::Report;
+use local_port::LocalPort;
+use plain_buffer::PlainBuffer;
+use std::alloc::Global;
+use std::sync::Wait;
+use std::test::Fail;
+use transitions::{Answer, Tally};
+
+/// The port of the rows.
+type Port = LocalPort<PlainBuffer>;
+
+/// The data of the first event that a front-end generates with id 1: a bank of one word.
+const FIRST: &[u8] = b"\x10\0\0\0\x01\0\0\0GEN0\x06\0\x04\0\xac\x6f\x57\x6c\0\0\0\0";
+
+/// The data of the first event that one generates with id 2.
+const SECOND: &[u8] = b"\x10\0\0\0\x01\0\0\0GEN0\x06\0\x04\0\xd9\xee\xec\xb8\0\0\0\0";
+
+/// The order of run 1, with start number 1.
+fn order() -> Order {
+    Order {
+        run: 1,
+        start: 1,
+        time: 1000,
+        from: RunState::Stopped,
+        quota: 1,
+    }
+}
+
+/// A port to a new buffer.
+fn new_port(alloc: Global) -> Result<Port, NoMemory>
+    ensures { IfOk result (λ port. port.window.size ≡ 1024) }
+{
+    Ok(LocalPort::new(alloc, PlainBuffer::new(alloc, 1024)?))
+}
+
+/// An analyzer of all events, with room for any that such a buffer holds.
+fn new_analyzer(alloc: Global) -> Result<Analyzer, NoMemory>
+    ensures room { IfOk result (λ analyzer. analyzer.room ≡ 1000) }
+    ensures none { IfOk result (λ analyzer. analyzer.run ≡ None) }
+{
+    Analyzer::new(alloc, 65_535, 65_535, Kind::All, 1000)
+}
+
+/// Sends an event of this id in the run of this start number, which is begun unless it is on.
+fn send_begun<R: Wait, P: BufferPort>(rt: &R, port: &mut P, start: u32, id: u16, body: &[u8])
+    requires entries { 2 ≤ (P.access port.old).entries }
+    requires bytes { 24 ≤ (P.access port.old).bytes }
+    requires body { length body.now ≤ 24 }
+    ensures size { (P.access port.new).size ≡ (P.access port.old).size }
+    ensures got { (P.access port.new).got ≡ (P.access port.old).got }
+{
+    let header = Header {
+        event_id: id,
+        trigger_mask: 0,
+        serial_number: 1,
+        time_stamp: 1000,
+        data_size: 24,
+    };
+    let _ = port.begin(rt, start);
+    let _ = port.send_in_run(rt, start, &header, body);
+}
+
+/// The same, with room to note the calls.
+fn send<R: Wait>(rt: &R, port: &mut Port, start: u32, id: u16, body: &[u8]) -> Result<(), NoMemory>
+    requires body { length body.now ≤ 24 }
+    ensures size { port.new.window.size ≡ port.old.window.size }
+    ensures got { (access_of port.new).got ≡ (access_of port.old).got }
+{
+    port.reserve(2, 24)?;
+    send_begun(rt, port, start, id, body);
+    Ok(())
+}
+
+/// A turn of the run, with room to note its calls.
+fn turn<R: Wait>(
+    rt: &R,
+    analyzer: &mut Analyzer,
+    port: &mut Port,
+    transition: Transition,
+    blank: Option<Report>,
+) -> Result<Option<Answer>, NoMemory>
+    requires blank { IfSome blank (λ report. report ≡ report_of []) }
+    requires counted { IsWithinGot analyzer.old.run (access_of port.old).got }
+    ensures room { analyzer.new.room ≡ analyzer.old.room }
+    ensures size { port.new.window.size ≡ port.old.window.size }
+    ensures counted { IsWithinGot analyzer.new.run (access_of port.new).got }
+{
+    port.reserve(3, 0)?;
+    Ok(analyzer.on_turn(rt, port, transition, &order(), blank))
+}
+
+/// Whether a turn was answered without more.
+fn is_plain(answer: Option<Answer>) -> bool {
+    matches!(answer, Some(Answer::Yes(Tally::Plain)))
+}
+
+/// Whether a start was refused for want of a blank report.
+fn is_not_ready(answer: Option<Answer>) -> bool {
+    matches!(answer, Some(Answer::No(Why::NotReady)))
+}
+
+/// Whether the start is accepted.
+fn starts<R: Wait>(
+    rt: &R,
+    alloc: Global,
+    analyzer: &mut Analyzer,
+    port: &mut Port,
+) -> Result<bool, NoMemory>
+    requires counted { IsWithinGot analyzer.old.run (access_of port.old).got }
+    ensures room { analyzer.new.room ≡ analyzer.old.room }
+    ensures size { port.new.window.size ≡ port.old.window.size }
+    ensures counted { IsWithinGot analyzer.new.run (access_of port.new).got }
+{
+    let blank = Report::new(alloc)?;
+    let answer = turn(rt, analyzer, port, Transition::Start, Some(blank))?;
+    Ok(is_plain(answer))
+}
+
+/// Whether a start without a blank report is refused.
+fn refuses<R: Wait>(rt: &R, analyzer: &mut Analyzer, port: &mut Port) -> Result<bool, NoMemory>
+    requires counted { IsWithinGot analyzer.old.run (access_of port.old).got }
+    ensures room { analyzer.new.room ≡ analyzer.old.room }
+    ensures size { port.new.window.size ≡ port.old.window.size }
+    ensures counted { IsWithinGot analyzer.new.run (access_of port.new).got }
+{
+    let answer = turn(rt, analyzer, port, Transition::Start, None)?;
+    Ok(is_not_ready(answer))
+}
+
+/// Whether the stop has to wait for its answer.
+fn waits<R: Wait>(rt: &R, analyzer: &mut Analyzer, port: &mut Port) -> Result<bool, NoMemory>
+    requires counted { IsWithinGot analyzer.old.run (access_of port.old).got }
+    ensures room { analyzer.new.room ≡ analyzer.old.room }
+    ensures size { port.new.window.size ≡ port.old.window.size }
+    ensures counted { IsWithinGot analyzer.new.run (access_of port.new).got }
+{
+    let answer = turn(rt, analyzer, port, Transition::Stop, None)?;
+    Ok(answer.is_none())
+}
+
+/// Whether a pull, with room to note its calls, is answered so.
+fn pulls<R: Wait>(
+    rt: &R,
+    analyzer: &mut Analyzer,
+    port: &mut Port,
+    wanted: AnalyzerPull,
+) -> Result<bool, NoMemory>
+    requires room { analyzer.old.room ≡ 1000 }
+    requires size { port.old.window.size ≡ 1024 }
+    requires counted { IsWithinGot analyzer.old.run (access_of port.old).got }
+    ensures room { analyzer.new.room ≡ analyzer.old.room }
+    ensures size { port.new.window.size ≡ port.old.window.size }
+    ensures counted { IsWithinGot analyzer.new.run (access_of port.new).got }
+{
+    port.reserve(2, 0)?;
+    Ok(analyzer.pull(rt, port) == wanted)
+}
+
+/// The text of the report that the stop is answered; none while it waits.
+fn reported(alloc: Global, analyzer: &mut Analyzer) -> Result<TextBuffer, NoMemory> {
+    let mut text = TextBuffer::new(alloc);
+    if let Some(Answer::Yes(Tally::Report(report))) = analyzer.finish() {
+        report.print(b"", &mut text)?;
+    }
+    Ok(text)
+}
+
+/// Starts the run, sends an event of each front-end in it, and stops it; whether the start is accepted and the stop has
+/// to wait.
+fn runs<R: Wait>(
+    rt: &R,
+    alloc: Global,
+    analyzer: &mut Analyzer,
+    port: &mut Port,
+) -> Result<bool, NoMemory>
+    requires counted { IsWithinGot analyzer.old.run (access_of port.old).got }
+    ensures room { analyzer.new.room ≡ analyzer.old.room }
+    ensures size { port.new.window.size ≡ port.old.window.size }
+    ensures counted { IsWithinGot analyzer.new.run (access_of port.new).got }
+{
+    let accepted = starts(rt, alloc, analyzer, port)?;
+    send(rt, port, 1, 1, FIRST)?;
+    send(rt, port, 1, 2, SECOND)?;
+    Ok(waits(rt, analyzer, port)? && accepted)
+}
+
+/// Whether the two events are got, and nothing behind them.
+fn pulls_both<R: Wait>(rt: &R, analyzer: &mut Analyzer, port: &mut Port) -> Result<bool, NoMemory>
+    requires room { analyzer.old.room ≡ 1000 }
+    requires size { port.old.window.size ≡ 1024 }
+    requires counted { IsWithinGot analyzer.old.run (access_of port.old).got }
+    ensures room { analyzer.new.room ≡ analyzer.old.room }
+    ensures size { port.new.window.size ≡ port.old.window.size }
+    ensures counted { IsWithinGot analyzer.new.run (access_of port.new).got }
+{
+    let first = pulls(rt, analyzer, port, AnalyzerPull::Folded { place: 0 })?;
+    let second = pulls(rt, analyzer, port, AnalyzerPull::Folded { place: 1 })?;
+    let last = pulls(rt, analyzer, port, AnalyzerPull::Nothing)?;
+    Ok(first && second && last)
+}
+
+/// Whether a run of two events, which are read behind its stop, goes so.
+fn counts_both<R: Wait>(
+    rt: &R,
+    alloc: Global,
+    analyzer: &mut Analyzer,
+    port: &mut Port,
+) -> Result<bool, NoMemory>
+    requires room { analyzer.old.room ≡ 1000 }
+    requires size { port.old.window.size ≡ 1024 }
+    requires counted { IsWithinGot analyzer.old.run (access_of port.old).got }
+    ensures room { analyzer.new.room ≡ analyzer.old.room }
+    ensures size { port.new.window.size ≡ port.old.window.size }
+    ensures counted { IsWithinGot analyzer.new.run (access_of port.new).got }
+{
+    let run = runs(rt, alloc, analyzer, port)?;
+    Ok(pulls_both(rt, analyzer, port)? && run)
+}
+
+/// Starts the run, which is refused at first for want of a blank report, and stops it; whether the stop has to wait.
+fn runs_empty<R: Wait>(
+    rt: &R,
+    alloc: Global,
+    analyzer: &mut Analyzer,
+    port: &mut Port,
+) -> Result<bool, NoMemory>
+    requires counted { IsWithinGot analyzer.old.run (access_of port.old).got }
+    ensures room { analyzer.new.room ≡ analyzer.old.room }
+    ensures size { port.new.window.size ≡ port.old.window.size }
+    ensures counted { IsWithinGot analyzer.new.run (access_of port.new).got }
+{
+    let refused = refuses(rt, analyzer, port)?;
+    let accepted = starts(rt, alloc, analyzer, port)?;
+    Ok(waits(rt, analyzer, port)? && refused && accepted)
+}
+
+/// Whether a run without events goes so, behind whose stop an event of another start is read and dropped.
+fn counts_none<R: Wait>(
+    rt: &R,
+    alloc: Global,
+    analyzer: &mut Analyzer,
+    port: &mut Port,
+) -> Result<bool, NoMemory>
+    requires room { analyzer.old.room ≡ 1000 }
+    requires size { port.old.window.size ≡ 1024 }
+    requires counted { IsWithinGot analyzer.old.run (access_of port.old).got }
+    ensures room { analyzer.new.room ≡ analyzer.old.room }
+    ensures size { port.new.window.size ≡ port.old.window.size }
+    ensures counted { IsWithinGot analyzer.new.run (access_of port.new).got }
+{
+    let empty = runs_empty(rt, alloc, analyzer, port)?;
+    send(rt, port, 2, 1, FIRST)?;
+    Ok(pulls(rt, analyzer, port, AnalyzerPull::Dropped { place: 0 })? && empty)
+}
+
+#[test]
+fn an_analyzer_counts_a_run(rt: HostRuntime) -> Result<(), Fail> {
+    let alloc = rt.alloc();
+    let mut port = new_port(alloc)?;
+    let mut analyzer = new_analyzer(alloc)?;
+    assert!(rt; counts_both(&rt, alloc, &mut analyzer, &mut port)?);
+    let text = reported(alloc, &mut analyzer)?;
+    let expected = b"events 2\nid 1 count 1\nid 2 count 1\n\
+bank GEN0 UINT32 count 2 sum 4920204933 least 1817669548 greatest 3102535385\n\
+rest ids 0 banks 0 bad 0\n";
+    assert_eq!(rt; text.as_slice(), expected.as_slice());
+    Ok(())
+}
+
+#[test]
+fn an_event_of_another_start_is_dropped(rt: HostRuntime) -> Result<(), Fail> {
+    let alloc = rt.alloc();
+    let mut port = new_port(alloc)?;
+    let mut analyzer = new_analyzer(alloc)?;
+    assert!(rt; counts_none(&rt, alloc, &mut analyzer, &mut port)?);
+    let text = reported(alloc, &mut analyzer)?;
+    assert_eq!(rt;
+        text.as_slice(),
+        b"events 0\nrest ids 0 banks 0 bad 0\n".as_slice()
+    );
+    Ok(())
+}
