@@ -12,7 +12,8 @@ use Rattle.buffer_core.specs.Ports.{Access}
 use Rattle.daq_types.specs.declared.runs.Order.{Order}
 use Rattle.daq_types.specs.declared.runs.Transition.{Transition}
 use Rattle.daq_types.specs.declared.runs.Transition.TheVariants.{Start, Stop, Pause, Resume, StartAbort}
-use Rattle.event_report.specs.Reports.{Totals, report_of, report_bytes}
+use Rattle.event_report.specs.Reports.{Totals, report_of}
+use Rattle.event_report.proofs.Reports.{report_bytes}
 use Rattle.transitions.specs.declared.answers.Answer.{Answer}
 use Rattle.analyzers.specs.declared.analyzer_run.EventRequest.{EventRequest}
 use Rattle.analyzers.specs.declared.analyzer_run.AnalyzerRun.{AnalyzerRun}

@@ -12,7 +12,7 @@ use Rattle.buffer_core.specs.declared.entry.BufferEntry.TheVariants.{Request, Ca
 use Rattle.buffer_core.specs.Ports.{GotEvent, name_of, name_given}
 use Rattle.event_report.specs.Reports.{report_of}
 use Rattle.member_model.specs.OwnCalls.{calls_after, asks, LeavesAsking, HasDrained}
-use Rattle.member_model.specs.ReadLaws.{AreGivenBy-push, KeepsAsking-push, calls_after-push}
+use Rattle.member_model.proofs.ReadLaws.{AreGivenBy-push, KeepsAsking-push, calls_after-push}
 use Rattle.analyzers.specs.declared.analyzer_run.EventRequest.{EventRequest}
 use Rattle.analyzers.specs.declared.analyzer_run.AnalyzerRun.{AnalyzerRun}
 use Rattle.analyzers.specs.AnalyzerPulls.{CountsOwn, CountsReply}

@@ -11,9 +11,9 @@ use Rattle.buffer_core.specs.declared.replies.RequestRefusal.{RequestRefusal}
 use Rattle.buffer_core.specs.declared.entry.BufferEntry.{BufferEntry}
 use Rattle.buffer_core.specs.declared.entry.BufferEntry.TheVariants.{Attach, Detach, Request, Cancel, Send, SendInRun, Receive, Begin, Pause, Resume, End, Level, Accepted}
 use Rattle.buffer_core.specs.Ports.{GotEvent, name_of, name_given, got_after}
-use Rattle.member_model.specs.SentLaws.{EachCall-push}
+use Rattle.member_model.proofs.SentLaws.{EachCall-push}
 use Rattle.member_model.specs.OwnCalls.{calls_after, gave_number, IsOwnCall, AreOwnCalls, asks, LeavesAsking, KeepsAsking}
-use Rattle.member_model.specs.ReadLaws.{calls_after-push}
+use Rattle.member_model.proofs.ReadLaws.{calls_after-push}
 use Rattle.analyzers.specs.AnalyzerKept.{IsReaderCall, KeepsReaderCalls}
 
 pub reader_push : (own : List BufferEntry) (e : BufferEntry) → KeepsReaderCalls own → IsReaderCall e → IsOwnCall e (calls_after [] own) → KeepsReaderCalls (own ++ e ∷ [])

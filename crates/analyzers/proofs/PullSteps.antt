@@ -15,7 +15,7 @@ use Rattle.event_report.specs.Reports.{Totals, report_of}
 use Rattle.transitions.specs.declared.answers.Answer.TheVariants.{Yes}
 use Rattle.transitions.specs.declared.answers.Tally.TheVariants.{Plain, Report}
 use Rattle.member_model.specs.Turns.{MemberTurn, HasTurnOf, answered}
-use Rattle.member_model.specs.TurnLaws.{HasTurnOf-earlier}
+use Rattle.member_model.proofs.TurnLaws.{HasTurnOf-earlier}
 use Rattle.member_model.specs.OwnCalls.{LeavesAsking, HasDrained}
 use Rattle.analyzers.specs.declared.analyzer_pull.AnalyzerPull.{AnalyzerPull}
 use Rattle.analyzers.specs.declared.analyzer_run.EventRequest.{EventRequest}

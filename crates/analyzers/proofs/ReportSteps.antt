@@ -9,7 +9,7 @@ use Rattle.event_report.specs.Reports.{Totals}
 use Rattle.transitions.specs.declared.answers.Answer.TheVariants.{Yes}
 use Rattle.transitions.specs.declared.answers.Tally.TheVariants.{Report}
 use Rattle.member_model.specs.Turns.{MemberTurn, HasTurnOf, IsAnswered, NoneOpen}
-use Rattle.member_model.specs.TurnLaws.{HasTurnOf-more}
+use Rattle.member_model.proofs.TurnLaws.{HasTurnOf-more}
 use Rattle.analyzers.specs.declared.analyzer_run.EventRequest.{EventRequest}
 use Rattle.analyzers.specs.declared.analyzer_run.AnalyzerRun.{AnalyzerRun}
 use Rattle.analyzers.specs.declared.analyzer_run.AnalyzerStage.{AnalyzerStage}

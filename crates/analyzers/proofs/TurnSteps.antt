@@ -17,9 +17,9 @@ use Rattle.transitions.specs.declared.answers.Answer.{Answer}
 use Rattle.transitions.specs.declared.answers.Answer.TheVariants.{Yes, No}
 use Rattle.transitions.specs.declared.answers.Tally.TheVariants.{Plain, Report}
 use Rattle.member_model.specs.Turns.{MemberTurn, NoneOpen}
-use Rattle.member_model.specs.TurnLaws.{HasTurnOf-more}
+use Rattle.member_model.proofs.TurnLaws.{HasTurnOf-more}
 use Rattle.member_model.specs.OwnCalls.{asks, LeavesAsking}
-use Rattle.member_model.specs.ReadLaws.{calls_after-push}
+use Rattle.member_model.proofs.ReadLaws.{calls_after-push}
 use Rattle.analyzers.specs.declared.analyzer_run.EventRequest.{EventRequest}
 use Rattle.analyzers.specs.declared.analyzer_run.AnalyzerRun.{AnalyzerRun}
 use Rattle.analyzers.specs.declared.analyzer_run.AnalyzerStage.{AnalyzerStage}

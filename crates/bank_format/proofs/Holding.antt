@@ -6,7 +6,7 @@ use Rattle.bank_format.specs.declared.formats.Format.{Format}
 use Rattle.bank_format.specs.BankAreas.{BankValue, IsBank, plain_banks}
 use Rattle.bank_format.specs.Places.{banks_in}
 use Rattle.bank_format.specs.Held.{IsHeld}
-use Rattle.bank_format.specs.PlainLaws.{plain_back}
+use Rattle.bank_format.proofs.PlainLaws.{plain_back}
 use Rattle.bank_format.specs.Writing.{Written}
 
 pub all-snoc : (f : Format) (bs : List BankValue) (b : BankValue) → AllByRecursion (IsBank f) bs → IsBank f b → AllByRecursion (IsBank f) (bs ++ b ∷ [])

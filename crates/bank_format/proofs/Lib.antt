@@ -1,3 +1,10 @@
 pub mod Named
 pub mod Appending
 pub mod Holding
+pub mod AreaLaws
+pub mod BankLaws
+pub mod FaultLaws
+pub mod FrontLaws
+pub mod GeneratedLaws
+pub mod PlainLaws
+pub mod Spelled

@@ -5,7 +5,7 @@ use Rattle.std.specs.Cmp.Lexicographic.{pointwise}
 use Rattle.bank_format.specs.declared.formats.Format.{Format}
 use Rattle.bank_format.specs.BankAreas.{BankValue}
 use Rattle.bank_format.specs.Places.{banks_in, front_bank, behind_bank, first_named}
-use Rattle.bank_format.specs.AreaLaws.{GoesOn, banks_in-nil}
+use Rattle.bank_format.proofs.AreaLaws.{GoesOn, banks_in-nil}
 
 named_first : (name : List ℕ) (b : BankValue) (bs : List BankValue) → pointwise nat_eq b.name name ≡ true → first_named name (b ∷ bs) ≡ Some b
 named_first name b bs h = rw h refl

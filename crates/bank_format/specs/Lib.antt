@@ -5,10 +5,5 @@ pub mod Faults
 pub mod Writing
 pub mod Whole
 pub mod Spelled
-pub mod BankLaws
-pub mod AreaLaws
-pub mod FrontLaws
-pub mod FaultLaws
-pub mod PlainLaws
 pub mod GeneratedLaws
 pub mod Held

@@ -16,3 +16,7 @@ pub mod SampledSends
 pub mod Searching
 pub mod NewNumbers
 pub mod OwnClients
+pub mod HistoryLaws
+pub mod ReadingLaws
+pub mod WindowLaws
+pub mod WindowKept

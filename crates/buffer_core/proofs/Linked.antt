@@ -20,9 +20,9 @@ use Rattle.buffer_core.specs.Window.{Sent, Window, opening, slot_of_sent, accept
 use Rattle.buffer_core.specs.Calls.{IsReply, window_after, joined, with_request, going_on, pushed, found_in, receive_reply_to, gone_of, after_send, with_clients, with_gate, no_slot}
 use Rattle.buffer_core.specs.Histories.{replay, IsLegal}
 use Rattle.buffer_core.specs.SlotLaws.{split, slot_change_all}
-use Rattle.buffer_core.specs.WindowLaws.{to_drop_within}
-use Rattle.buffer_core.specs.WindowKept.{window_opens, window_stays}
-use Rattle.buffer_core.specs.ReadingLaws.{no_client_at}
+use Rattle.buffer_core.proofs.WindowLaws.{to_drop_within}
+use Rattle.buffer_core.proofs.WindowKept.{window_opens, window_stays}
+use Rattle.buffer_core.proofs.ReadingLaws.{no_client_at}
 use Rattle.buffer_core.specs.Points.{Life, news_of, sent, sent_after, life_got, life_drained, life_after, life_at, request_after, request_at, past_after}
 use Rattle.buffer_core.proofs.Places.{get_drop, get_take}
 use Rattle.buffer_core.proofs.Numbered.{at_put, at_clear, at_change, free_within, none_found}

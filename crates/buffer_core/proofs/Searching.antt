@@ -11,7 +11,7 @@ use Rattle.buffer_core.specs.declared.client.Client.{Client}
 use Rattle.buffer_core.specs.Slots.{slot_at, first_slot, some_slot}
 use Rattle.buffer_core.specs.Window.{Sent, slot_of_sent, StandsAt, covers, wants, is_all, holds_back, owes}
 use Rattle.buffer_core.specs.Calls.{found_in, owed_in, to_drop}
-use Rattle.buffer_core.specs.WindowLaws.{to_drop_fits}
+use Rattle.buffer_core.proofs.WindowLaws.{to_drop_fits}
 use Rattle.buffer_core.specs.Searches.{IsAskedFor, IsOwedTo, IsFirstAsked, IsOwed, IsLeastOwed, IsLeastDrop}
 use Rattle.buffer_core.specs.Searches.{FoundIsFirst, FirstIsFound, NotFoundIsNone, NoneIsNotFound, OwedIsLeast, LeastIsOwed, NotOwedIsNone, NoneIsNotOwed, DropIsLeast, LeastIsDrop}
 use Rattle.buffer_core.proofs.Places.{goes}

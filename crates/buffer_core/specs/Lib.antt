@@ -3,10 +3,7 @@ pub mod Window
 pub mod Calls
 pub mod Histories
 pub mod SlotLaws
-pub mod WindowLaws
 pub mod ReadingLaws
-pub mod WindowKept
-pub mod HistoryLaws
 pub mod Points
 pub mod Delivered
 pub mod Runs

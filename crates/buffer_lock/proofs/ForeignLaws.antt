@@ -13,7 +13,7 @@ use Rattle.buffer_core.specs.Calls.{window_after}
 use Rattle.buffer_core.specs.Histories.{replay}
 use Rattle.buffer_core.specs.Ports.{GotEvent, IsGivenAt}
 use Rattle.turn_lock.specs.History.{IsPartOf}
-use Rattle.turn_lock.specs.Laws.{rest_none}
+use Rattle.turn_lock.proofs.LockLaws.{rest_none}
 use Rattle.local_port.specs.Ported.{given_by, given_in, detaches, is_taken_back, taken_back_of, taken_back_in}
 
 -- What the caller got.

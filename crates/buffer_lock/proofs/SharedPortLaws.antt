@@ -3,7 +3,8 @@ use Rattle.std.specs.Prelude.{◌≡◌, ℕ, ◌-◌, ◌^◌, ◌≤◌, List,
 use Rattle.std.proofs.Common.{ap, sym, subst, ◌∙◌, arith, ⊎_elim, inr, append-nil}
 use Rattle.daq_types.specs.declared.events.Event.{Event}
 use Rattle.daq_model.specs.Events.{event_limit}
-use Rattle.daq_types.specs.Callers.{entries_by, entries_by-append}
+use Rattle.daq_types.specs.Callers.{entries_by}
+use Rattle.daq_types.proofs.CallersLaws.{entries_by-append}
 use Rattle.buffer_core.specs.declared.replies.NoSlot.{NoSlot}
 use Rattle.buffer_core.specs.declared.replies.SendRefusal.{SendRefusal}
 use Rattle.buffer_core.specs.declared.replies.Received.{Received}
@@ -12,7 +13,7 @@ use Rattle.buffer_core.specs.declared.entry.BufferEntry.TheVariants.{Attach, Sen
 use Rattle.buffer_core.specs.Window.{Window, IsWindow}
 use Rattle.buffer_core.specs.Calls.{IsReply, window_after, event_after}
 use Rattle.buffer_core.specs.Histories.{IsLegal, replay}
-use Rattle.buffer_core.specs.HistoryLaws.{replay-push}
+use Rattle.buffer_core.proofs.HistoryLaws.{replay-push}
 use Rattle.buffer_core.specs.Ports.{Access, BufferIdentity, GotEvent, Called, Calls, Receives, IsNewNumber, knowing, IsGivenAt, got_after, slots_got, GivesSound, IsSmallBuf, IsSendFault, IsRunSendFault}
 use Rattle.local_port.specs.Ported.{AppendsCall, access_of, given_by, given_in}
 use Rattle.local_port.proofs.NumberLaws.{new_number}

@@ -9,7 +9,7 @@ use Rattle.buffer_core.specs.Ports.{GotEvent}
 use Rattle.caller_laws.specs.OneCaller.{WasSentAt}
 use Rattle.member_model.specs.OwnCalls.{AreOwnCalls}
 use Rattle.member_model.specs.ReadRuns.{IsReading, IsDraining}
-use Rattle.member_model.specs.ReadLaws.{calls_after-push, run_push}
+use Rattle.member_model.proofs.ReadLaws.{calls_after-push, run_push}
 use Rattle.buffer_core.specs.declared.entry.BufferEntry.TheVariants.{End}
 use Rattle.member_model.specs.CutRuns.{MarksEnd}
 use Rattle.caller_laws.specs.CallerLaws.{PartGoesOn, ReadGoesOn, CutGoesOn, OwnGoOn}

@@ -3,7 +3,8 @@ use Rattle.std.specs.Prelude.{◌≡◌, ◌≢◌, ℕ, ◌==◌, Bool, if◌th
 use Rattle.std.specs.List.{filter}
 use Rattle.std.proofs.Common.{ap, sym, ◌∙◌, subst, append_assoc, append-nil}
 use Rattle.std.proofs.lemmas.Bool.{eqb-true, eqb-false}
-use Rattle.daq_types.specs.Callers.{entries_by, entries_by-append}
+use Rattle.daq_types.specs.Callers.{entries_by}
+use Rattle.daq_types.proofs.CallersLaws.{entries_by-append}
 use Rattle.buffer_core.specs.declared.entry.BufferEntry.{BufferEntry}
 use Rattle.buffer_core.specs.declared.entry.BufferEntry.TheVariants.{Attach, Cancel}
 use Rattle.buffer_core.specs.Window.{Window, opening}

@@ -10,7 +10,7 @@ use Rattle.buffer_core.specs.SlotLaws.{split}
 use Rattle.buffer_core.specs.Window.{Window, Sent, opening}
 use Rattle.buffer_core.specs.Calls.{window_after}
 use Rattle.buffer_core.specs.Histories.{IsLegal, replay}
-use Rattle.buffer_core.specs.HistoryLaws.{replay-push}
+use Rattle.buffer_core.proofs.HistoryLaws.{replay-push}
 use Rattle.buffer_core.specs.Points.{sent, past_of}
 use Rattle.buffer_core.specs.Continued.{sent_in, GivesSent}
 use Rattle.local_port.specs.Ported.{given_by, given_in, no_event}

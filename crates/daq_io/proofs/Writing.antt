@@ -3,7 +3,8 @@ use Rattle.std.proofs.Common.{◌≡◌, ℕ, List, [], ◌++◌, length, take, 
 use Rattle.std.proofs.lemmas.List.{append-nil, nil_from_length}
 use Rattle.std.proofs.Math.Seq.{take-append_seam}
 use Rattle.std.specs.Io.KnownBytes.{Appends, Keeps}
-use Rattle.daq_io.specs.Streams.{AppendsPart, Appends-nil, Appends-trans, Appends-kept}
+use Rattle.daq_io.specs.Streams.{AppendsPart}
+use Rattle.daq_io.proofs.StreamsLaws.{Appends-nil, Appends-trans, Appends-kept}
 
 -- All of these bytes were written but the rest.
 pub record AppendsAllBut (old new : Option (List ℕ)) (rest bytes : List ℕ) : Type 0 where

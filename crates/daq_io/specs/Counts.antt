@@ -1,20 +1,11 @@
 -- Counts of faults and of clashes, by the answer of a call.
 use Rattle.std.specs.Prelude.{◌≡◌, ℕ, ◌+◌, ◌-◌, ◌^◌, ◌≤◌, min, List, Option, Some, None, Result, OnOk, OnErr, IfErr}
-use Rattle.std.proofs.Common.{arith}
 use Rattle.daq_io.specs.declared.folder.NameRefused.{NameRefused}
 use Rattle.daq_io.specs.declared.folder.NameRefused.TheVariants.{Exists, Missing, Failed}
 
 -- The count rose. A count that stands at its type's end is also said to have risen.
 abbrev pub Rose : ℕ → ℕ → Type 0
 Rose old new = min (old + 1) (2 ^ 64 - 1) ≤ new
-
--- a rise behind a count that did not fall is one from before it
-pub Rose-after : (a b c : ℕ) → a ≤ b → Rose b c → Rose a c
-Rose-after a b c h r = omega arith
-
--- and a count that does not fall keeps a rise
-pub Rose-before : (a b c : ℕ) → Rose a b → b ≤ c → Rose a c
-Rose-before a b c r h = omega arith
 
 -- What a call whose only error is a fault does to the count of faults: it rose exactly where the call failed.
 pub record CountsFault {T E : Type 0} (old new : ℕ) (result : Result T E) : Type 0 where

@@ -2,10 +2,8 @@
 pub mod Counts
 pub mod FileLeft
 pub mod Origins
-pub mod ReadingLaws
 pub mod Rooms
 pub mod Seen
-pub mod SeenLaws
 pub mod Streams
 pub mod Tallies
 pub mod Uses

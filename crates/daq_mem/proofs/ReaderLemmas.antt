@@ -3,7 +3,7 @@ use Rattle.std.proofs.Common.{◌≡◌, ℕ, ◌+◌, ◌<◌, suc, zero, List,
 use Rattle.std.proofs.lemmas.Option.{slice_get_read}
 use Rattle.daq_mem.specs.MemSeen.{left_of_reader, left_at}
 use Rattle.daq_mem.specs.declared.readers.Reader.{Reader}
-use Rattle.daq_io.specs.ReadingLaws.{read_front}
+use Rattle.daq_io.proofs.ReadingLaws.{read_front}
 
 pub slice_get-set_same : {X : Type 0} (xs : List X) (i : ℕ) (x : X) → i < length xs → slice_get (set xs i x) i ≡ Some x
 slice_get-set_same [] i x h = absurd (omega arith)

@@ -1,16 +1,11 @@
 -- Events, their bytes, their room in a buffer, and which requests want them.
-use Rattle.std.specs.Prelude.{◌≡◌, ℕ, ◌+◌, ◌*◌, ◌/◌, ◌==◌, Bool, ◌||◌, ◌&&◌, nat_lt, bit_and, IsTrue, List, [], ◌∷◌, ◌++◌, length, refl}
+use Rattle.std.specs.Prelude.{ℕ, ◌+◌, ◌*◌, ◌/◌, ◌==◌, Bool, ◌||◌, ◌&&◌, nat_lt, bit_and, IsTrue, List, [], ◌∷◌, ◌++◌, length}
 use Rattle.std.specs.Int.{to_le_bytes, w16, w32}
-use Rattle.std.proofs.Common.{ap, sym, ◌∙◌, length-append, append_assoc}
 use Rattle.daq_types.specs.declared.events.Event.{Event}
 
 -- the 16 bytes of an event's header: each field with its low byte first, and the length of the data last
 unfoldable pub header_bytes : (id mask serial time size : ℕ) → List ℕ
 header_bytes id mask serial time size = to_le_bytes w16 id ++ (to_le_bytes w16 mask ++ (to_le_bytes w32 serial ++ (to_le_bytes w32 time ++ to_le_bytes w32 size)))
-
-pub length-header_bytes : (id mask serial time size : ℕ) → length (header_bytes id mask serial time size) ≡ 16
-unfolding header_bytes
-length-header_bytes id mask serial time size = refl
 
 -- the header with the length of the data
 abbrev pub header_of : Event → List ℕ
@@ -20,17 +15,10 @@ header_of e = header_bytes e.id e.mask e.serial e.time (length e.body)
 abbrev pub encoding : Event → List ℕ
 encoding e = header_of e ++ e.body
 
-pub length-encoding : (e : Event) → length (encoding e) ≡ 16 + length e.body
-length-encoding e = length-append (header_of e) e.body ∙ ap (λ n. n + length e.body) (length-header_bytes e.id e.mask e.serial e.time (length e.body))
-
 -- events one after the other
 abbrev pub all_encoded : List Event → List ℕ
 all_encoded [] = []
 all_encoded (e ∷ es) = encoding e ++ all_encoded es
-
-pub all_encoded-append : (es fs : List Event) → all_encoded (es ++ fs) ≡ all_encoded es ++ all_encoded fs
-all_encoded-append [] fs = refl
-all_encoded-append (e ∷ es) fs = ap (λ bytes. encoding e ++ bytes) (all_encoded-append es fs) ∙ sym (append_assoc (encoding e) (all_encoded es) (all_encoded fs))
 
 -- the room that an event takes of a buffer: 24 bytes, and its data up to a multiple of 8
 unfoldable pub slot_of_length : ℕ → ℕ

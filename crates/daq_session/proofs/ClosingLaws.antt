@@ -8,7 +8,8 @@ use Rattle.std.proofs.lemmas.Bool.{cases_lt}
 use Rattle.std.specs.Io.KnownBytes.{Appends, Keeps}
 use Rattle.daq_types.specs.declared.runs.Order.{Order}
 use Rattle.daq_io.specs.Counts.{Rose}
-use Rattle.daq_io.specs.Streams.{AppendsPart, Appends-nil, Appends-trans, Appends-kept}
+use Rattle.daq_io.specs.Streams.{AppendsPart}
+use Rattle.daq_io.proofs.StreamsLaws.{Appends-nil, Appends-trans, Appends-kept}
 use Rattle.odb_commands.specs.declared.replies.CommandReply.{CommandReply}
 use Rattle.odb_commands.specs.declared.replies.CommandReply.TheVariants.{Done, Key, One, Listed, Refused}
 use Rattle.odb_commands.specs.Texts.{reply_text, is_refusal as is_refused}
@@ -22,7 +23,8 @@ use Rattle.session_console.specs.declared.replies.Reply.{Reply}
 use Rattle.session_console.specs.declared.replies.Reply.TheVariants.{Silent, BadCommand, WrongState, RunNumber, StartRefused, Started, Stopped as run_stopped, Database}
 use Rattle.daq_session.specs.declared.session.Session.{Session}
 use Rattle.run_recorder.specs.RunRecords.{RunOn}
-use Rattle.session_console.specs.Console.{console_text, text_of, is_refusal, refused_lines, refused_lines-more}
+use Rattle.session_console.specs.Console.{console_text, text_of, is_refusal, refused_lines}
+use Rattle.session_console.proofs.ConsoleLaws.{refused_lines-more}
 use Rattle.session_console.specs.Refused.{Counts}
 use Rattle.daq_session.specs.RunTransitions.{CallsStand}
 use Rattle.run_recorder.specs.RunRecords.{IsKept}

@@ -7,7 +7,8 @@ use Rattle.std.proofs.Math.Seq.{take-append_seam, take-append-add}
 use Rattle.std.proofs.Math.Logic.{⊎_elim}
 use Rattle.std.specs.Str.Lines.{strip_carriage_return}
 use Rattle.odb_script.specs.Lines.{ended_lines, behind_lines, whole_lines, last_line, lines_of, script_limit}
-use Rattle.odb_script.specs.ReadLines.{AreGivenLines, ended_lines-append}
+use Rattle.odb_script.specs.ReadLines.{AreGivenLines}
+use Rattle.odb_script.proofs.ReadLines.{ended_lines-append}
 
 -- the lines that end in a text are the first that end in a longer one
 whole_lines-begin : (given rest : List ℕ) → (more : List (List ℕ)) × (whole_lines (given ++ rest) ≡ whole_lines given ++ more)

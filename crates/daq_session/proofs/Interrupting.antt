@@ -4,7 +4,8 @@ use Rattle.std.specs.Prelude.{Bool, true, false, ◌||◌, ◌⊎◌, Result, Ok
 use Rattle.std.specs.Result.{IsErr, IsErrAnd}
 use Rattle.std.proofs.lemmas.List.{append-nil}
 use Rattle.std.proofs.lemmas.Bool.{false≢true}
-use Rattle.daq_types.specs.Callers.{entries_by, entries_by-append}
+use Rattle.daq_types.specs.Callers.{entries_by}
+use Rattle.daq_types.proofs.CallersLaws.{entries_by-append}
 use Rattle.daq_types.specs.declared.runs.Order.{Order}
 use Rattle.odb_value.specs.Values.{HeldValue}
 use Rattle.odb_tree.specs.declared.entry.DatabaseEntry.{DatabaseEntry}

@@ -28,7 +28,7 @@ use Rattle.run_recorder.specs.Tallies.{IsTally}
 use Rattle.run_recorder.specs.RunRecords.{refused_record, completed_record, file_record}
 use Rattle.daq_session.specs.Stages.{Outset, Stage, IsReading, IsFreeName, DoesStop, next_order}
 use Rattle.daq_session.specs.Standing.{Course, behind_reply, order_in, stage_of, IsClock, IsAt, LeadsOutside, LineDoes, RunStarts}
-use Rattle.run_recorder.specs.KeptLaws.{kept_begun, kept_same, kept_refused, kept_ended, kept_free, kept_taken}
+use Rattle.run_recorder.proofs.KeptLaws.{kept_begun, kept_same, kept_refused, kept_ended, kept_free, kept_taken}
 
 -- two stages whose parts are the same
 pub stage_is : {q q' s s' r r' k k' : ℕ} {p p' : Bool} {on on' : Option Order} {runs runs' : List RunRecord} {own own' front front' : List DatabaseEntry} {replies replies' : List Reply}

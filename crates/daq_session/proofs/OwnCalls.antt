@@ -3,7 +3,8 @@ use Rattle.std.proofs.Common.{◌≡◌, ℕ, ◌≤◌, inl, inr, List, [], ◌
 use Rattle.std.specs.Prelude.{IsTrue, ◌⊎◌}
 use Rattle.std.proofs.lemmas.List.{append-nil}
 use Rattle.std.proofs.lemmas.List.Elements.{All-nil, All-cons, All-append}
-use Rattle.daq_types.specs.Callers.{entries_by, entries_by-append}
+use Rattle.daq_types.specs.Callers.{entries_by}
+use Rattle.daq_types.proofs.CallersLaws.{entries_by-append}
 use Rattle.odb_tree.specs.declared.entry.DatabaseEntry.{DatabaseEntry}
 use Rattle.odb_port.specs.DatabasePorts.{DatabaseAccess, AddsCall, AddsCalls, CalledDatabase, calls_by, local_access}
 use Rattle.odb_runinfo.specs.RunSets.{Assignment, AreSets, SetsNumbers, start_sets, refused_sets, sent_set}

@@ -18,7 +18,8 @@ use Rattle.odb_script.specs.declared.refusals.LineRefusal.TheVariants.{BadComman
 use Rattle.odb_script.specs.Forms.{command_of}
 use Rattle.odb_port.specs.DatabasePorts.{IsSettled, IsCutShort}
 use Rattle.odb_commands.specs.CommandCalls.{Performs}
-use Rattle.odb_commands.specs.CommandCallLaws.{Spares, performs_spares}
+use Rattle.odb_commands.specs.CommandCallLaws.{Spares}
+use Rattle.odb_commands.proofs.CommandCallLaws.{performs_spares}
 use Rattle.daq_session.specs.declared.endings.Ending.{Ending}
 use Rattle.daq_session.specs.declared.endings.Ending.TheVariants.{End, TooLong, SourceFault, Halted}
 use Rattle.daq_session.specs.declared.halts.Halt.TheVariants.{NoMemory, SinkFault, FileFault}

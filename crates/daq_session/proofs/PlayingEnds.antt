@@ -3,10 +3,12 @@ use Rattle.std.proofs.Common.{◌≡◌, ℕ, ◌+◌, List, [], ◌∷◌, ◌+
 use Rattle.std.specs.Prelude.{Result, Ok, Err}
 use Rattle.std.proofs.Math.Logic.{⊎_elim}
 use Rattle.std.specs.Io.KnownBytes.{Appends}
-use Rattle.daq_io.specs.Streams.{AppendsPart, Appends-kept}
+use Rattle.daq_io.specs.Streams.{AppendsPart}
+use Rattle.daq_io.proofs.StreamsLaws.{Appends-kept}
 use Rattle.odb_script.specs.Lines.{Reading, kept, ReadsLine, ReadsLast, ReadsNone, ReadsTooMuch, ReadsPart}
-use Rattle.odb_script.specs.ReadLines.{HasReadLines, lines_at_fault, text_within_end, text_within_last}
-use Rattle.odb_script.specs.Exits.{GoOn, stop_at_exit, lines_first, lines_first_line, lines_first_last, lines_at_exit, lines_until_end, lines_until_last, lines_until_limit}
+use Rattle.odb_script.proofs.ReadLines.{HasReadLines, lines_at_fault, text_within_end, text_within_last}
+use Rattle.odb_script.specs.Exits.{GoOn}
+use Rattle.odb_script.proofs.Exits.{stop_at_exit, lines_first, lines_first_line, lines_first_last, lines_at_exit, lines_until_end, lines_until_last, lines_until_limit}
 use Rattle.daq_session.specs.declared.desk.Going.{Going}
 use Rattle.daq_session.specs.declared.desk.Going.TheVariants.{Exit}
 use Rattle.daq_session.specs.declared.halts.Halt.{Halt}
@@ -20,7 +22,7 @@ use Rattle.session_console.specs.Console.{text_of, console_text}
 use Rattle.daq_session.specs.Stages.{Outset, Stage, Interrupts}
 use Rattle.odb_script.specs.declared.forms.Command.{Command}
 use Rattle.odb_script.specs.declared.refusals.LineRefusal.{LineRefusal}
-use Rattle.odb_script.specs.KeptForms.{command_of-kept}
+use Rattle.odb_script.proofs.KeptForms.{command_of-kept}
 use Rattle.daq_session.specs.Standing.{Course, stage_of, IsReady}
 use Rattle.daq_session.specs.Playing.{course_of, Moment, Replied, Unanswered, FailedLine, DoesLine, AreFirst, AreLines, CutBy, Wrote, Played, PlayedUpTo, PlaysTo}
 use Rattle.daq_session.proofs.PlayingLaws.{SoFar, moment_more, stops, wrote_more}

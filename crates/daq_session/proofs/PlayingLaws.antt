@@ -6,29 +6,32 @@ use Rattle.std.proofs.lemmas.List.{map-append, take_all}
 use Rattle.std.proofs.lemmas.List.Elements.{All-nil}
 use Rattle.std.proofs.Math.Seq.{take-append-add, take-append_seam}
 use Rattle.std.specs.Io.KnownBytes.{Appends, Keeps}
-use Rattle.daq_io.specs.SeenLaws.{KeepsNumber-refl}
-use Rattle.daq_io.specs.Streams.{AppendsPart, Appends-nil, Appends-trans, Appends-kept}
+use Rattle.daq_io.proofs.SeenLaws.{KeepsNumber-refl}
+use Rattle.daq_io.specs.Streams.{AppendsPart}
+use Rattle.daq_io.proofs.StreamsLaws.{Appends-nil, Appends-trans, Appends-kept}
 use Rattle.daq_types.specs.Callers.{entries_by}
 use Rattle.odb_tree.specs.declared.entry.DatabaseEntry.{DatabaseEntry}
 use Rattle.odb_script.specs.declared.forms.Command.{Command}
 use Rattle.odb_script.specs.declared.refusals.LineRefusal.{LineRefusal}
 use Rattle.odb_script.specs.Forms.{command_of}
 use Rattle.odb_script.specs.Lines.{kept}
-use Rattle.odb_script.specs.KeptForms.{command_of-kept}
-use Rattle.odb_script.specs.Exits.{GoOn, GoOn-none, GoOn-more, ends_script, ends_script-kept}
+use Rattle.odb_script.proofs.KeptForms.{command_of-kept}
+use Rattle.odb_script.specs.Exits.{GoOn, ends_script}
+use Rattle.odb_script.proofs.Exits.{GoOn-none, GoOn-more, ends_script-kept}
 use Rattle.daq_session.specs.declared.halts.Halt.{Halt}
 use Rattle.daq_session.specs.declared.halts.Halt.TheVariants.{NoMemory, SinkFault, FileFault}
 use Rattle.session_console.specs.declared.replies.Reply.{Reply}
 use Rattle.session_console.specs.declared.refusals.Refusals.{Refusals}
 use Rattle.daq_session.specs.declared.session.Session.{Session}
-use Rattle.session_console.specs.Console.{text_of, console_text, console_text-more}
-use Rattle.session_console.specs.Refused.{counts_noted}
+use Rattle.session_console.specs.Console.{text_of, console_text}
+use Rattle.session_console.proofs.ConsoleLaws.{console_text-more}
+use Rattle.session_console.proofs.Refused.{counts_noted}
 use Rattle.run_recorder.specs.RunRecords.{IsFiled}
 use Rattle.daq_session.specs.Stages.{Outset, Stage, opening, DoesByLine, Plays}
 use Rattle.daq_session.specs.RunTransitions.{CallsStand}
 use Rattle.daq_session.specs.Standing.{Course, behind_reply, order_in, stage_of, Handles, IsReady}
 use Rattle.odb_script.specs.Lines.{Reading, nothing_read, ReadsLine}
-use Rattle.odb_script.specs.ReadLines.{HasReadLines, has_read_none, has_read_line}
+use Rattle.odb_script.proofs.ReadLines.{HasReadLines, has_read_none, has_read_line}
 use Rattle.daq_session.specs.declared.desk.Going.TheVariants.{On, Exit}
 use Rattle.odb_tree.specs.Histories.{IsLegal}
 use Rattle.odb_runinfo.specs.RunKeys.{session_rows}

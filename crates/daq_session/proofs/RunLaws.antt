@@ -7,8 +7,8 @@ use Rattle.daq_types.specs.declared.runs.Order.{Order}
 use Rattle.odb_script.specs.declared.forms.Command.{Command}
 use Rattle.odb_script.specs.declared.forms.Command.TheVariants.{Stop}
 use Rattle.odb_script.specs.declared.refusals.LineRefusal.{LineRefusal}
-use Rattle.daq_io.specs.SeenLaws.{KeepsNumber-refl}
-use Rattle.daq_io.specs.Streams.{Appends-nil}
+use Rattle.daq_io.proofs.SeenLaws.{KeepsNumber-refl}
+use Rattle.daq_io.proofs.StreamsLaws.{Appends-nil}
 use Rattle.std.specs.Io.KnownBytes.{Keeps}
 use Rattle.daq_session.specs.declared.ends.ScriptEnd.{ScriptEnd}
 use Rattle.daq_session.specs.declared.ends.ScriptEnd.TheVariants.{Done, CommandRefused, NoMemory as no_memory}

@@ -17,7 +17,7 @@ use Rattle.run_recorder.specs.RunNames.{run_name}
 use Rattle.run_recorder.specs.RunRecords.{IsKept}
 use Rattle.daq_session.specs.Stages.{IsReading, Outset}
 use Rattle.daq_session.specs.Standing.{Course, FailsTurn, IsAt, order_in}
-use Rattle.run_recorder.specs.KeptLaws.{absent_is_not_closed, all_filed, kept_free, kept_same, open_is_not_closed}
+use Rattle.run_recorder.proofs.KeptLaws.{absent_is_not_closed, all_filed, kept_free, kept_same, open_is_not_closed}
 use Rattle.daq_session.proofs.Leading.{Reads, next_reading, one_reading}
 
 -- the file of a run was made, and cut short

@@ -1,1 +1,2 @@
 mod ZerosBehind
+pub mod CallersLaws

@@ -2,7 +2,8 @@
 use Rattle.std.proofs.Common.{◌≡◌, ℕ, ◌+◌, List, [], ◌++◌, length, drop, refl, sym, ap, ◌∙◌, length-append}
 use Rattle.daq_types.specs.declared.events.Event.{Event}
 use Rattle.event_header.specs.Held.{HeldEvent}
-use Rattle.event_header.specs.Headers.{event_of, header_encoding, length-header_encoding, drop-header_encoding}
+use Rattle.event_header.specs.Headers.{event_of, header_encoding}
+use Rattle.event_header.proofs.Headers.{length-header_encoding, drop-header_encoding}
 use Rattle.event_header.specs.declared.head.Header.{Header}
 
 abbrev pub held : Event → ℕ → HeldEvent

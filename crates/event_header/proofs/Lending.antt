@@ -4,7 +4,8 @@ use Rattle.std.proofs.lemmas.List.{drop_at, take_at}
 use Rattle.daq_types.specs.declared.events.Event.{Event}
 use Rattle.event_header.specs.Held.{HeldEvent}
 use Rattle.event_header.specs.Pieces.{Gathers, GathersBody}
-use Rattle.event_header.specs.Headers.{event_of, header_encoding, length-header_encoding}
+use Rattle.event_header.specs.Headers.{event_of, header_encoding}
+use Rattle.event_header.proofs.Headers.{length-header_encoding}
 use Rattle.event_header.specs.declared.head.Header.{Header}
 
 -- a header in front of whatever bytes

@@ -2,3 +2,4 @@ pub mod ReadBack
 pub mod Filling
 mod Gathering
 mod Lending
+pub mod Headers

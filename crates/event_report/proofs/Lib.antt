@@ -5,3 +5,6 @@ pub mod Listed
 pub mod Grown
 pub mod Folded
 pub mod Ordered
+pub mod BankAreaLaws
+pub mod Reports
+pub mod WorkedRows

@@ -7,5 +7,3 @@ pub mod Texts
 pub mod Steps
 pub mod Held
 pub mod Found
-pub mod BankAreaLaws
-pub mod WorkedRows

@@ -1,5 +1,5 @@
 -- The report over a list of events.
-use Rattle.std.specs.Prelude.{◌≡◌, ℕ, List, length, map, count_by, is_none, refl}
+use Rattle.std.specs.Prelude.{ℕ, List, length, map, count_by, is_none}
 use Rattle.daq_types.specs.declared.events.Event.{Event}
 use Rattle.daq_model.specs.Events.{all_encoded}
 use Rattle.event_report.specs.EventBanks.{banks_of, integer_banks}
@@ -25,8 +25,3 @@ report_of events =
       banks = bank_tally (integer_banks events);
       bad = count_by (λ e. is_none (banks_of e.body)) events;
     }
-
--- what one may still add depends on how long the events were
-pub report_bytes : (events : List Event) → (report_of events).bytes ≡ length (all_encoded events)
-unfolding report_of
-report_bytes events = refl

@@ -18,9 +18,9 @@ use Rattle.transitions.specs.declared.answers.Answer.{Answer}
 use Rattle.transitions.specs.declared.answers.Answer.TheVariants.{Yes, No}
 use Rattle.transitions.specs.declared.answers.Tally.TheVariants.{Plain, Front}
 use Rattle.member_model.specs.Turns.{MemberTurn, IsAcceptedStart, HasTurnOf, IsNewStart, IsNextTurn, IsAnswered, NoneOpen, AreEngineTurns}
-use Rattle.member_model.specs.TurnLaws.{HasTurnOf-more, HasTurnOf-earlier}
+use Rattle.member_model.proofs.TurnLaws.{HasTurnOf-more, HasTurnOf-earlier}
 use Rattle.member_model.specs.SentCalls.{sent_by, own_sent}
-use Rattle.member_model.specs.SentLaws.{own_sent-push, WasSpent-push}
+use Rattle.member_model.proofs.SentLaws.{own_sent-push, WasSpent-push}
 use Rattle.front_ends.specs.declared.front_run.FrontRun.{FrontRun}
 use Rattle.front_ends.specs.Fronts.{ended_with, is_from_pause, paused_run}
 use Rattle.front_ends.specs.FrontKept.{made_events, IsMade, IsNextCall, AreNextSends, StopsTold, EndedSo, IsFrontTally, KeepsFront, IsWaiting, IsSpentSo, NoStopAnswered, TakesPart}

@@ -12,7 +12,7 @@ use Rattle.buffer_core.specs.declared.entry.BufferEntry.{BufferEntry}
 use Rattle.buffer_core.specs.declared.entry.BufferEntry.TheVariants.{SendInRun}
 use Rattle.member_model.specs.Turns.{MemberTurn, HasTurnOf, IsAnswered, AreEngineTurns}
 use Rattle.member_model.specs.SentCalls.{sent_by, own_sent, IsSendInRun}
-use Rattle.member_model.specs.SentLaws.{own_sent-push, EachCall-push, WasSpent-here}
+use Rattle.member_model.proofs.SentLaws.{own_sent-push, EachCall-push, WasSpent-here}
 use Rattle.front_ends.specs.declared.front_run.FrontRun.{FrontRun}
 use Rattle.front_ends.specs.Fronts.{is_done, run_sent}
 use Rattle.front_ends.specs.FrontKept.{made_events, IsMade, IsNextCall, KeepsFront, TakesPart, FrontStands}

@@ -15,7 +15,7 @@ use Rattle.transitions.specs.declared.answers.Answer.{Answer}
 use Rattle.transitions.specs.declared.answers.Answer.TheVariants.{Yes, No}
 use Rattle.transitions.specs.declared.answers.Tally.TheVariants.{Plain, Front}
 use Rattle.member_model.specs.Turns.{MemberTurn, IsAcceptedStart, HasTurnOf, IsAnswered, NoneOpen, current_run, IsOfRun, AreEngineTurns, answered}
-use Rattle.member_model.specs.TurnLaws.{HasTurnOf-earlier}
+use Rattle.member_model.proofs.TurnLaws.{HasTurnOf-earlier}
 use Rattle.front_ends.specs.declared.front_run.FrontRun.{FrontRun}
 use Rattle.front_ends.specs.Fronts.{front_turn, front_answer, run_after, begun_run, paused_run, stopping_run, is_stop_of, is_over, is_done, is_from_pause, tally_of, ended_with, finish_answer, finish_with, run_finished}
 use Rattle.front_ends.specs.FrontKept.{IsMade, EndedSo, IsFrontTally, IsWaiting, TakesPart, IsInRun, IsInCurrent, FrontStands}

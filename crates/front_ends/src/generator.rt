@@ -6,7 +6,7 @@ use frontend_kit::Generator;
 impl Equipment for Generator {
     ghost use Rattle.std.specs.Prelude.{nat_le};
     ghost use Rattle.daq_model.specs.Generator.{generated_event};
-    ghost use Rattle.daq_model.specs.GeneratorLaws.{generated_body_is_small};
+    ghost use Rattle.daq_model.proofs.GeneratorLaws.{generated_body_is_small};
     ghost use Rattle.front_ends.specs.FrontIds.{IsFrontId, front_id_is_free};
 
     // Its id is one that a front-end may have.

@@ -4,7 +4,8 @@ use Rattle.std.specs.Option.{option_map}
 use Rattle.std.proofs.Common.{ap, sym, subst, ◌∙◌, inl, eq-eqb, append-nil, append_assoc}
 use Rattle.daq_types.specs.declared.events.Event.{Event}
 use Rattle.daq_model.specs.Events.{is_reserved, event_limit}
-use Rattle.daq_types.specs.Callers.{entries_by, entries_by-own}
+use Rattle.daq_types.specs.Callers.{entries_by}
+use Rattle.daq_types.proofs.CallersLaws.{entries_by-own}
 use Rattle.buffer_core.specs.declared.replies.Received.{Received}
 use Rattle.buffer_core.specs.declared.replies.Received.TheVariants.{Got, Empty, NoClient as NoReader, SmallBuf}
 use Rattle.buffer_core.specs.declared.entry.BufferEntry.TheVariants.{Attach, Detach, Request, Cancel, Send, SendInRun, Receive, Begin, Pause, Resume, End, Level, Accepted}
@@ -13,7 +14,7 @@ use Rattle.buffer_core.specs.declared.entry.BufferEntry.{BufferEntry}
 use Rattle.buffer_core.specs.Window.{Window, Sent, IsWindow, IsKeepable}
 use Rattle.buffer_core.specs.Calls.{IsReply, window_after, event_after}
 use Rattle.buffer_core.specs.Histories.{IsLegal, replay}
-use Rattle.buffer_core.specs.HistoryLaws.{replay-push, legal_push, window_replays, room_enough}
+use Rattle.buffer_core.proofs.HistoryLaws.{replay-push, legal_push, window_replays, room_enough}
 use Rattle.buffer_core.specs.Ports.{BufferIdentity, GotEvent, Called, Calls, Receives, got_after, slots_got, GivesSound, IsSmallBuf}
 use Rattle.local_port.specs.Ported.{Ported, IsPorted, AppendsCall, access_of, given_by, given_in, taken_back_in}
 use Rattle.local_port.proofs.GotLaws.{IsGot, got_is, given_is, slots_few}

@@ -7,10 +7,12 @@ use Rattle.std.proofs.lemmas.List.Elements.{All-append, All-nil, All-cons}
 use Rattle.std.specs.Io.KnownBytes.{Consumes, IsAtEnd}
 use Rattle.std.proofs.KnownBytes.{Consumes-trans}
 use Rattle.daq_types.specs.declared.events.Event.{Event}
-use Rattle.daq_model.specs.Events.{encoding, all_encoded, all_encoded-append, begin_id, end_id}
+use Rattle.daq_model.specs.Events.{encoding, all_encoded, begin_id, end_id}
+use Rattle.daq_model.proofs.Events.{all_encoded-append}
 use Rattle.daq_model.specs.RunFile.{begin_record, end_record, record_mask, IsFileEvent}
 use Rattle.event_header.specs.Held.{HeldEvent}
-use Rattle.event_header.specs.Headers.{header_encoding, length-header_encoding, event_of, fields_of, header_back}
+use Rattle.event_header.specs.Headers.{header_encoding, event_of, fields_of}
+use Rattle.event_header.proofs.Headers.{length-header_encoding, header_back}
 use Rattle.event_header.specs.declared.head.Header.{Header}
 use Rattle.mid_format.specs.Faults.{fault_at, OfBytes}
 use Rattle.mid_format.specs.Parts.{IsInRange, ReadsHead, ReadsBody, IsCut, IsBehindEnd}

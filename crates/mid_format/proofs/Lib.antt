@@ -2,3 +2,6 @@ mod PartsRead
 mod Allowed
 mod Beginnings
 mod Going
+pub mod HeadersBack
+pub mod OneReading
+pub mod ReadLaws

@@ -11,7 +11,7 @@ use Rattle.mid_format.specs.Faults.{header_fault, nothing_left, or_else, fault_a
 use Rattle.mid_format.specs.Parts.{IsInRange, PassesOver}
 use Rattle.mid_format.specs.declared.faults.MidFault.{MidFault}
 use Rattle.mid_format.specs.declared.faults.MidFault.TheVariants.{Truncated, NoBegin, NoEnd, AfterEnd, TooBig, ReadFault, BadRecord, TooLong}
-use Rattle.mid_format.specs.HeadersBack.{behind_head}
+use Rattle.mid_format.proofs.HeadersBack.{behind_head}
 
 pub of_bytes : (f : MidFault) (fact : Type 0) → fact → OfBytes f fact
 of_bytes (Truncated at) fact p = p

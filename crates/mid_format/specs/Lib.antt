@@ -3,6 +3,4 @@ pub mod Parts
 pub mod HasRead
 pub mod Steps
 pub mod Opened
-pub mod HeadersBack
-pub mod OneReading
 pub mod ReadLaws

@@ -7,7 +7,7 @@ use Rattle.daq_types.specs.declared.runs.ChannelState.{ChannelState}
 use Rattle.daq_types.specs.declared.runs.ChannelState.TheVariants.{Broken as IsBroken}
 use Rattle.daq_model.specs.RunFile.{begun_file}
 use Rattle.daq_io.specs.Seen.{Seen, Closes}
-use Rattle.daq_io.specs.SeenLaws.{IsWritten-Closes}
+use Rattle.daq_io.proofs.SeenLaws.{IsWritten-Closes}
 use Rattle.buffer_core.specs.declared.entry.BufferEntry.{BufferEntry}
 use Rattle.buffer_core.specs.declared.entry.BufferEntry.TheVariants.{Cancel}
 use Rattle.buffer_core.specs.Ports.{Access, GotEvent}

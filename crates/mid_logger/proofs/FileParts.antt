@@ -5,7 +5,7 @@ use Rattle.std.proofs.Math.Seq.{take-append-add, take-length}
 use Rattle.std.proofs.lemmas.List.{append-nil, take-append-le, take_min}
 use Rattle.daq_io.specs.Counts.{NamesFirst, first_of}
 use Rattle.daq_io.specs.Seen.{Seen, Extends, ExtendsPart, Closes}
-use Rattle.daq_io.specs.SeenLaws.{Extends-trans, Extends-Closes}
+use Rattle.daq_io.proofs.SeenLaws.{Extends-trans, Extends-Closes}
 use Rattle.mid_logger.specs.Channels.{ClosesPart}
 use Rattle.mid_logger.specs.Pulls.{NamesMore}
 

@@ -9,7 +9,7 @@ use Rattle.daq_model.specs.RunFile.{begun_file}
 use Rattle.daq_io.specs.Seen.{Seen}
 use Rattle.buffer_core.specs.declared.entry.BufferEntry.{BufferEntry}
 use Rattle.buffer_core.specs.Ports.{GotEvent}
-use Rattle.member_model.specs.ReadLaws.{run_push}
+use Rattle.member_model.proofs.ReadLaws.{run_push}
 use Rattle.mid_logger.specs.declared.channel_spec.ChannelSpec.{ChannelSpec}
 use Rattle.mid_logger.specs.declared.stage.BegunRun.{BegunRun}
 use Rattle.mid_logger.specs.Patterns.{file_name_by}

@@ -8,7 +8,7 @@ use Rattle.buffer_core.specs.declared.entry.BufferEntry.{BufferEntry}
 use Rattle.buffer_core.specs.declared.entry.BufferEntry.TheVariants.{Begin, End}
 use Rattle.buffer_core.specs.Ports.{GotEvent}
 use Rattle.member_model.specs.CutRuns.{HasReadOn, HasCutRun}
-use Rattle.member_model.specs.ReadLaws.{reading_begun, draining_begun}
+use Rattle.member_model.proofs.ReadLaws.{reading_begun, draining_begun}
 use Rattle.mid_logger.specs.declared.channel_spec.ChannelSpec.{ChannelSpec}
 use Rattle.mid_logger.specs.declared.stage.ChannelRun.{ChannelRun}
 use Rattle.mid_logger.specs.declared.stage.ChannelStage.{ChannelStage}

@@ -12,7 +12,7 @@ use Rattle.buffer_core.specs.declared.entry.BufferEntry.{BufferEntry}
 use Rattle.buffer_core.specs.declared.entry.BufferEntry.TheVariants.{Attach, Request}
 use Rattle.buffer_core.specs.Ports.{Access, GotEvent}
 use Rattle.member_model.specs.OwnCalls.{calls_after, gave_number}
-use Rattle.member_model.specs.ReadLaws.{calls_after-push}
+use Rattle.member_model.proofs.ReadLaws.{calls_after-push}
 use Rattle.mid_logger.specs.declared.channel_spec.ChannelSpec.{ChannelSpec}
 use Rattle.mid_logger.specs.declared.stage.ChannelRun.{ChannelRun}
 use Rattle.mid_logger.specs.declared.stage.ChannelStage.{ChannelStage}

@@ -12,13 +12,13 @@ use Rattle.daq_model.specs.RunFile.{IsFileEvent}
 use Rattle.daq_io.specs.declared.folder.NameRefused.{NameRefused}
 use Rattle.daq_io.specs.declared.folder.NameRefused.TheVariants.{Exists as NameTaken, Missing, Failed}
 use Rattle.daq_io.specs.Seen.{Seen}
-use Rattle.daq_io.specs.SeenLaws.{Creates-IsWritten}
+use Rattle.daq_io.proofs.SeenLaws.{Creates-IsWritten}
 use Rattle.buffer_core.specs.declared.replies.Received.TheVariants.{Got, Empty, NoClient, SmallBuf}
 use Rattle.buffer_core.specs.declared.entry.BufferEntry.{BufferEntry}
 use Rattle.buffer_core.specs.declared.entry.BufferEntry.TheVariants.{Attach, Detach, Request, Cancel, Send, SendInRun, Receive, Begin, Pause, Resume, End, Level, Accepted}
 use Rattle.buffer_core.specs.Ports.{Access, GotEvent, Calls, IsNewNumber, knowing}
 use Rattle.member_model.specs.OwnCalls.{calls_after, gave_number, IsOwnCall, AreOwnCalls, asks}
-use Rattle.member_model.specs.ReadLaws.{calls_after-push, asking_made}
+use Rattle.member_model.proofs.ReadLaws.{calls_after-push, asking_made}
 use Rattle.mid_logger.specs.declared.channel_spec.ChannelSpec.{ChannelSpec}
 use Rattle.mid_logger.specs.declared.stage.ChannelRun.{ChannelRun}
 use Rattle.mid_logger.specs.declared.stage.ChannelStage.{ChannelStage}

@@ -8,7 +8,7 @@ use Rattle.daq_types.specs.declared.events.Event.{Event}
 use Rattle.daq_model.specs.Events.{encoding}
 use Rattle.daq_model.specs.RunFile.{begun_file, IsFileEvent}
 use Rattle.daq_io.specs.Seen.{Seen}
-use Rattle.daq_io.specs.SeenLaws.{Extends-name, Extends-writes, IsWritten-Closes}
+use Rattle.daq_io.proofs.SeenLaws.{Extends-name, Extends-writes, IsWritten-Closes}
 use Rattle.buffer_core.specs.declared.replies.Received.{Received}
 use Rattle.buffer_core.specs.declared.replies.Received.TheVariants.{Got, Empty, NoClient, SmallBuf}
 use Rattle.buffer_core.specs.declared.replies.RequestRefusal.{RequestRefusal}

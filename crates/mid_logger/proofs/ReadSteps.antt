@@ -8,10 +8,11 @@ use Rattle.std.proofs.lemmas.List.Elements.{All-push}
 use mathlib.Core.List.{IsPrefix}
 use Rattle.daq_types.specs.declared.events.Event.{Event}
 use Rattle.daq_types.specs.declared.runs.Kind.TheVariants.{All}
-use Rattle.daq_model.specs.Events.{encoding, all_encoded, all_encoded-append, is_reserved}
+use Rattle.daq_model.specs.Events.{encoding, all_encoded, is_reserved}
+use Rattle.daq_model.proofs.Events.{all_encoded-append}
 use Rattle.daq_model.specs.RunFile.{begin_record, begun_file, IsFileEvent}
 use Rattle.daq_io.specs.Seen.{Seen, Extends, IsWritten}
-use Rattle.daq_io.specs.SeenLaws.{IsWritten-Extends}
+use Rattle.daq_io.proofs.SeenLaws.{IsWritten-Extends}
 use Rattle.buffer_core.specs.declared.replies.Received.{Received}
 use Rattle.buffer_core.specs.declared.replies.Received.TheVariants.{Got, Empty, NoClient, SmallBuf}
 use Rattle.buffer_core.specs.declared.replies.RequestRefusal.{RequestRefusal}
@@ -20,7 +21,7 @@ use Rattle.buffer_core.specs.declared.entry.BufferEntry.TheVariants.{Request, Ca
 use Rattle.buffer_core.specs.Ports.{GotEvent, IsGiven}
 use Rattle.member_model.specs.OwnCalls.{calls_after, asks, LeavesAsking, KeepsAsking, HasDrained, events_at}
 use Rattle.member_model.specs.ReadRuns.{IsAsking, HasReadRun}
-use Rattle.member_model.specs.ReadLaws.{reading_push, draining_push, run_read, run_push, calls_after-push}
+use Rattle.member_model.proofs.ReadLaws.{reading_push, draining_push, run_read, run_push, calls_after-push}
 use Rattle.mid_logger.specs.declared.channel_spec.ChannelSpec.{ChannelSpec}
 use Rattle.mid_logger.specs.declared.stage.ChannelRun.{ChannelRun}
 use Rattle.mid_logger.specs.Channels.{FileHead, AsksNothing, FileHolds, ReadsUntil, HasReadUntil, HasReadPart, is_in_run, is_behind_end}

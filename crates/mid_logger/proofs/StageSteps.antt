@@ -12,7 +12,7 @@ use Rattle.buffer_core.specs.Ports.{GotEvent, name_of, name_given}
 use Rattle.member_model.specs.OwnCalls.{calls_after, IsOwnCall, SendsNone, LeavesAsking, is_within, events_at}
 use Rattle.member_model.specs.ReadRuns.{EndsNot, IsReading, IsDraining}
 use Rattle.member_model.specs.CutRuns.{HasReadOn, MarksEnd, HasCutRun}
-use Rattle.member_model.specs.ReadLaws.{asking_push, reading_push, draining_push, run_push}
+use Rattle.member_model.proofs.ReadLaws.{asking_push, reading_push, draining_push, run_push}
 use Rattle.mid_logger.specs.declared.channel_spec.ChannelSpec.{ChannelSpec}
 use Rattle.mid_logger.specs.declared.stage.BegunRun.{BegunRun}
 use Rattle.mid_logger.specs.declared.stage.ChannelRun.{ChannelRun}

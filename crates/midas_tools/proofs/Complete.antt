@@ -6,7 +6,7 @@ use Rattle.daq_io.specs.Seen.{Stored, Seen}
 use Rattle.event_header.specs.declared.head.Header.{Header}
 use Rattle.mid_format.specs.Faults.{fault_at}
 use Rattle.mid_format.specs.HasRead.{IsReadSoFar, IsFaultAt, IsMidFault}
-use Rattle.mid_format.specs.ReadLaws.{whole_no_fault}
+use Rattle.mid_format.proofs.ReadLaws.{whole_no_fault}
 use Rattle.mid_format.specs.declared.faults.MidFault.{MidFault}
 use Rattle.midas_tools.specs.Summaries.{Tells}
 use Rattle.midas_tools.specs.Dumps.{IsDump, WritesOn}

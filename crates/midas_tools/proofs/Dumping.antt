@@ -7,21 +7,24 @@ use Rattle.daq_types.specs.declared.events.Event.{Event}
 use Rattle.daq_model.specs.Events.{encoding}
 use Rattle.daq_model.specs.RunFile.{end_record}
 use Rattle.daq_io.specs.Counts.{Rose}
-use Rattle.daq_io.specs.Streams.{AppendsPart, Appends-nil}
+use Rattle.daq_io.specs.Streams.{AppendsPart}
+use Rattle.daq_io.proofs.StreamsLaws.{Appends-nil}
 use Rattle.daq_io.specs.declared.faults.Failed.{Failed}
 use Rattle.event_header.specs.declared.head.Header.{Header}
 use Rattle.mid_format.specs.Faults.{OfBytes}
 use Rattle.mid_format.specs.HasRead.{IsReadSoFar, StandsBehind, HasRead, nothing_read}
 use Rattle.mid_format.specs.Parts.{CountedBy}
 use Rattle.mid_format.specs.Opened.{ReadsOn, events_after, CountsNext}
-use Rattle.mid_format.specs.ReadLaws.{has_read_none}
+use Rattle.mid_format.proofs.ReadLaws.{has_read_none}
 use Rattle.mid_format.specs.declared.faults.MidFault.{MidFault}
 use Rattle.mid_format.specs.declared.faults.MidFault.TheVariants.{Truncated, NoBegin, NoEnd, AfterEnd, TooBig, ReadFault, BadRecord, TooLong}
 use Rattle.mid_format.specs.declared.progress.Progress.{Progress}
-use Rattle.midas_tools.specs.Areas.{AreEventLines, AreLinesOf, AreLinesOf-more, Adds}
+use Rattle.midas_tools.specs.Areas.{AreEventLines, AreLinesOf, Adds}
+use Rattle.midas_tools.proofs.AreasLaws.{AreLinesOf-more}
 use Rattle.midas_tools.specs.Dumps.{HaltsBehind, ListsTo, SourceHalts, SinkHalts, ReadCounts, EndsUnread, PrintsLines, begin_lines, end_lines, fault_lines, new_begin, EndsAt, IsPart, IsDump, Listing, Printing, PrintsUpTo, PrintsRead, PrintsSome, PrintsDump, ended_text, EndsText, DumpsTo}
 use Rattle.midas_tools.specs.Findings.{FaultEnds, Printed, SinkByEnd}
-use Rattle.midas_tools.specs.Printing.{PrintsSoFar, PrintsSoFar-none, PrintsSoFar-more, PrintsSoFar-written, PrintsSoFar-all, PrintsSoFar-fails, PassesPage}
+use Rattle.midas_tools.specs.Printing.{PrintsSoFar, PassesPage}
+use Rattle.midas_tools.proofs.Printing.{PrintsSoFar-none, PrintsSoFar-more, PrintsSoFar-written, PrintsSoFar-all, PrintsSoFar-fails}
 use Rattle.midas_tools.specs.Texts.{bad_line}
 use Rattle.midas_tools.specs.declared.ends.InputFault.TheVariants.{Mid, Compressed, Missing, ScriptTooLong}
 use Rattle.midas_tools.specs.declared.halts.Halt.{Halt}

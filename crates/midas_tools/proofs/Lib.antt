@@ -5,3 +5,5 @@ mod Paging
 mod Dumping
 mod Dumped
 mod Complete
+pub mod AreasLaws
+pub mod Printing

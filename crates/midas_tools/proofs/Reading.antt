@@ -4,11 +4,13 @@ use Rattle.std.specs.Prelude.{is_some, unwrap_or, IsSome}
 use Rattle.std.proofs.lemmas.List.{append-nil}
 use Rattle.std.specs.Io.KnownBytes.{Consumes, IsAtEnd}
 use Rattle.daq_types.specs.declared.events.Event.{Event}
-use Rattle.daq_model.specs.Events.{encoding, all_encoded, all_encoded-append, length-encoding}
+use Rattle.daq_model.specs.Events.{encoding, all_encoded}
+use Rattle.daq_model.proofs.Events.{all_encoded-append, length-encoding}
 use Rattle.event_header.specs.declared.head.Header.{Header}
 use Rattle.mid_format.specs.HasRead.{HasRead, nothing_read, and_given}
 use Rattle.mid_format.specs.Opened.{ReadsOn, run_of}
-use Rattle.mid_format.specs.ReadLaws.{has_read_none, read_whole, read_fault, events_within, ReadsWhole}
+use Rattle.mid_format.proofs.ReadLaws.{has_read_none, read_whole, read_fault, events_within}
+use Rattle.mid_format.specs.ReadLaws.{ReadsWhole}
 use Rattle.mid_format.specs.declared.faults.MidFault.{MidFault}
 use Rattle.mid_format.specs.declared.faults.MidFault.TheVariants.{ReadFault}
 use Rattle.mid_format.specs.declared.progress.Progress.{Progress}

@@ -10,7 +10,7 @@ use Rattle.odb_tree.specs.declared.children.Child.{Child}
 use Rattle.odb_tree.specs.Rows.{Rows, row_at, is_child, is_listed, change_row, change_at, bytes_of, bytes_in, total_of}
 use Rattle.odb_tree.specs.Calls.{child_of}
 use Rattle.odb_tree.specs.Walks.{changed_at}
-use Rattle.odb_tree.specs.WalkLaws.{true_false, not_true, change_is_map, value_kept}
+use Rattle.odb_tree.proofs.WalkLaws.{true_false, not_true, change_is_map, value_kept}
 use Rattle.odb_tree.specs.Databases.{IsDatabase}
 use Rattle.odb_tree.proofs.Trees.{one_at, same_trans, same_sym}
 use Rattle.odb_tree.proofs.Limited.{change_counts, ChangeCounts}

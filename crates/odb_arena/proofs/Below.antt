@@ -6,7 +6,7 @@ use Rattle.std.proofs.lemmas.Bool.Decides.{nat_tests}
 use Rattle.odb_tree.specs.declared.rows.Row.{Row}
 use Rattle.odb_tree.specs.Rows.{row_numbered}
 use Rattle.odb_tree.specs.Calls.{path_with}
-use Rattle.odb_tree.specs.WalkLaws.{filter_append, map_append}
+use Rattle.odb_tree.proofs.WalkLaws.{filter_append, map_append}
 use Rattle.odb_arena.specs.Arena.{rows_below, path_at, IsNumbered}
 
 -- a numbering of rows gives the same rows below a number as one that agrees with it there

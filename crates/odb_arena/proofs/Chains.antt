@@ -15,7 +15,8 @@ use Rattle.odb_tree.specs.Calls.{path_with, after_delete}
 use Rattle.odb_tree.specs.Places.{made_for}
 use Rattle.odb_tree.specs.Trees.{AreApart, AreRising, IsTree, AreNew, with_rows}
 use Rattle.odb_tree.specs.Databases.{IsDatabase, IsRow}
-use Rattle.odb_tree.specs.WalkLaws.{NoneAt, and_left, and_right, both, not_true, filter_append}
+use Rattle.odb_tree.specs.WalkLaws.{NoneAt}
+use Rattle.odb_tree.proofs.WalkLaws.{and_left, and_right, both, not_true, filter_append}
 use Rattle.odb_tree.proofs.Trees.{tree_more, with_more, same_rows, same_long, same_front, long_same, same_refl, none_same}
 use Rattle.odb_tree.proofs.Kept.{made_new, created_with}
 use Rattle.odb_tree.proofs.Placed.{none_around}

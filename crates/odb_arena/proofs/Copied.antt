@@ -11,7 +11,7 @@ use Rattle.std.proofs.lemmas.Slice.Eq.{slice_eq-Decides}
 use Rattle.indexmap.specs.IndexMap.{insert_entry}
 use Rattle.odb_tree.specs.declared.rows.Row.{Row}
 use Rattle.odb_tree.specs.declared.children.Child.{Child}
-use Rattle.odb_tree.specs.WalkLaws.{not_true, true_false}
+use Rattle.odb_tree.proofs.WalkLaws.{not_true, true_false}
 use Rattle.odb_arena.specs.declared.directory.Directory.{Directory}
 use Rattle.odb_arena.specs.declared.node.Node.{Node}
 use Rattle.odb_arena.specs.Names.{names_in}

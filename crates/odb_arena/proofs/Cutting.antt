@@ -15,7 +15,8 @@ use Rattle.odb_tree.specs.Rows.{row_at, rows_outside, is_key, is_kind, is_child,
 use Rattle.odb_tree.specs.Calls.{child_of, last_name, after_delete}
 use Rattle.odb_tree.specs.Trees.{AreApart}
 use Rattle.odb_tree.specs.Databases.{IsDatabase, IsRow}
-use Rattle.odb_tree.specs.WalkLaws.{NoneAt, and_left, and_right, true_false, not_true}
+use Rattle.odb_tree.specs.WalkLaws.{NoneAt}
+use Rattle.odb_tree.proofs.WalkLaws.{and_left, and_right, true_false, not_true}
 use Rattle.odb_tree.proofs.Trees.{same_long, same_front, same_sym, same_trans, same_refl}
 use Rattle.odb_arena.specs.Names.{folded, entry_of, without_name}
 use Rattle.odb_arena.specs.Arena.{rows_below, all_rows, path_at, entries_in, names_left, IsNumbered, IsArena}

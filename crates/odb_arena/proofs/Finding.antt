@@ -15,7 +15,8 @@ use Rattle.odb_tree.specs.Rows.{row_at, is_key, is_child, is_listed}
 use Rattle.odb_tree.specs.Calls.{last_name, child_of}
 use Rattle.odb_tree.specs.Trees.{ArePlaced, AreApart}
 use Rattle.odb_tree.specs.Databases.{IsRow}
-use Rattle.odb_tree.specs.WalkLaws.{NoneAt, and_left, and_right, both}
+use Rattle.odb_tree.specs.WalkLaws.{NoneAt}
+use Rattle.odb_tree.proofs.WalkLaws.{and_left, and_right, both}
 use Rattle.odb_tree.proofs.Trees.{front_sym, front_within, none_same, name_sym}
 use Rattle.odb_arena.specs.Names.{folded, entry_of, child_in}
 use Rattle.odb_arena.specs.Arena.{entries_in}

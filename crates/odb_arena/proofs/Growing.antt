@@ -11,7 +11,8 @@ use Rattle.odb_tree.specs.Rows.{row_at, row_numbered, is_key, is_kind, is_child,
 use Rattle.odb_tree.specs.Calls.{child_of}
 use Rattle.odb_tree.specs.Trees.{HasDir, IsDir, ArePlaced, AreApart, AreRising, with_rows}
 use Rattle.odb_tree.specs.Databases.{IsDatabase}
-use Rattle.odb_tree.specs.WalkLaws.{NoneAt, and_left, and_right, both, true_false, not_true, and_false}
+use Rattle.odb_tree.specs.WalkLaws.{NoneAt}
+use Rattle.odb_tree.proofs.WalkLaws.{and_left, and_right, both, true_false, not_true, and_false}
 use Rattle.odb_tree.proofs.Trees.{same_long, long_same, same_refl, none_same, front_sym, front_within, front_more}
 use Rattle.odb_tree.proofs.Placed.{none_around}
 use Rattle.odb_arena.specs.Names.{entry_of, with_child}

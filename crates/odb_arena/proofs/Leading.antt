@@ -13,7 +13,8 @@ use Rattle.odb_tree.specs.Lookups.{parent_of, obstacle_at, obstacle_from, obstac
 use Rattle.odb_tree.specs.Making.{further, go_on, missing_at, missing_from}
 use Rattle.odb_tree.specs.Calls.{path_with, child_of}
 use Rattle.odb_tree.specs.Trees.{HasDir, IsDir, IsPlaced, ArePlaced, AreApart, AreRising, IsTree}
-use Rattle.odb_tree.specs.WalkLaws.{NoneAt, true_false}
+use Rattle.odb_tree.specs.WalkLaws.{NoneAt}
+use Rattle.odb_tree.proofs.WalkLaws.{true_false}
 use Rattle.odb_tree.proofs.Trees.{same_long, same_front, long_same, same_sym, same_trans, same_add, none_same, is_dir_append}
 use Rattle.odb_tree.proofs.Kept.{found_there}
 use Rattle.odb_tree.proofs.Along.{obstacle_more, missing_more, go_more}

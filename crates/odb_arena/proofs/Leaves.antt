@@ -15,7 +15,7 @@ use Rattle.odb_tree.specs.Lookups.{obstacle_to, found_row, seek, not_there, abse
 use Rattle.odb_tree.specs.Calls.{path_with, child_of, after_delete, count_gone, delete_reply, find_reply, number_reply, reply_or}
 use Rattle.odb_tree.specs.Trees.{IsDir, ArePlaced, AreRising, IsTree}
 use Rattle.odb_tree.specs.Databases.{IsDatabase, IsRow}
-use Rattle.odb_tree.specs.WalkLaws.{and_left, and_right, both, true_false, not_true, front_trans}
+use Rattle.odb_tree.proofs.WalkLaws.{and_left, and_right, both, true_false, not_true, front_trans}
 use Rattle.odb_tree.proofs.Trees.{front_short, front_within, same_front, same_sym, same_refl, long_same}
 use Rattle.odb_arena.specs.declared.tree.ArenaTree.TheInside.{Inside}
 use Rattle.odb_arena.specs.Names.{entry_of, last_named, last_child}

@@ -12,7 +12,7 @@ use Rattle.odb_tree.specs.Rows.{Rows, row_at, is_key, is_kind, is_child, is_list
 use Rattle.odb_tree.specs.Lookups.{obstacle_to, found_row, not_dir, dir_fault}
 use Rattle.odb_tree.specs.Calls.{child_of, children_of, children_or, list_reply}
 use Rattle.odb_tree.specs.Trees.{IsTree}
-use Rattle.odb_tree.specs.WalkLaws.{true_false, front_trans}
+use Rattle.odb_tree.proofs.WalkLaws.{true_false, front_trans}
 use Rattle.odb_tree.proofs.Trees.{same_long, same_front, same_sym}
 use Rattle.odb_arena.specs.declared.reaching.Reached.{Reached}
 use Rattle.odb_arena.specs.declared.tree.ArenaTree.TheInside.{Inside}

@@ -12,7 +12,8 @@ use Rattle.odb_tree.specs.Rows.{Rows, row_at, is_key, is_kind, is_child, is_list
 use Rattle.odb_tree.specs.Lookups.{parent_of, obstacle_at, obstacle_from, obstacle_to, found_row, seek, key_found, key_of, seek_key, dir_fault, not_dir}
 use Rattle.odb_tree.specs.Calls.{last_name, child_of, children_of}
 use Rattle.odb_tree.specs.Trees.{HasDir, IsDir, IsPlaced, ArePlaced, AreApart, IsTree, AreShort}
-use Rattle.odb_tree.specs.WalkLaws.{NoneAt, and_left, and_right, true_false}
+use Rattle.odb_tree.specs.WalkLaws.{NoneAt}
+use Rattle.odb_tree.proofs.WalkLaws.{and_left, and_right, true_false}
 use Rattle.odb_tree.proofs.Trees.{front_within, long_same, same_long, same_front, same_refl, same_sym, same_trans, is_dir_append}
 use Rattle.odb_tree.proofs.Placed.{none_around}
 use Rattle.odb_ascii.specs.Standing.{StandsIn, own_path}

@@ -13,7 +13,7 @@ use Rattle.odb_tree.specs.Calls.{last_name, child_of, children_of, children_or}
 use Rattle.odb_tree.specs.Trees.{IsDir, IsTree, AreShort}
 use Rattle.odb_tree.specs.Databases.{IsRow, IsDatabase}
 use Rattle.odb_tree.proofs.EachRow.{short_rows}
-use Rattle.odb_tree.specs.WalkLaws.{and_left, and_right}
+use Rattle.odb_tree.proofs.WalkLaws.{and_left, and_right}
 use Rattle.odb_ascii.specs.Dumps.{row_text, keys_text, section_text, section_with, root_text, dirs_text}
 use Rattle.odb_ascii.specs.Standing.{StandsIn, own_path, row_part, key_part, dir_part, begins_with_key}
 use Rattle.odb_ascii.proofs.Found.{RowStands, row_stands, child_stands, dir_there}

@@ -24,7 +24,7 @@ use Rattle.odb_tree.specs.declared.rows.Row.{Row}
 use Rattle.odb_tree.specs.Rows.{Rows, is_key, is_kind, is_child, is_listed, keys_in, dirs_in, bytes_of, bytes_in, bytes_of_row, total_of}
 use Rattle.odb_tree.specs.Calls.{last_name}
 use Rattle.odb_tree.specs.Walks.{walk_below, walk}
-use Rattle.odb_tree.specs.WalkLaws.{and_left, and_right}
+use Rattle.odb_tree.proofs.WalkLaws.{and_left, and_right}
 use Rattle.odb_tree.specs.Trees.{IsTree, AreShort}
 use Rattle.odb_tree.specs.Limits.{rows_limit, total_limit}
 use Rattle.odb_tree.specs.Databases.{IsRow, IsDatabase}

@@ -1,2 +1,4 @@
 mod AnswerLaws
 mod Made
+pub mod CommandCallLaws
+pub mod CommandLaws

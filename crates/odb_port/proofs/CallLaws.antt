@@ -2,7 +2,8 @@
 use Rattle.std.specs.Prelude.{◌≡◌, ◌≢◌, ℕ, ◌+◌, ◌≤◌, IsTrue, List, [], ◌∷◌, ◌++◌, length, refl}
 use Rattle.std.proofs.Common.{ap, sym, subst, ◌∙◌, append_assoc, arith, ne_eqb}
 use Rattle.std.proofs.lemmas.List.{append-nil}
-use Rattle.daq_types.specs.Callers.{entries_by, entries_by-append, entries_by-own}
+use Rattle.daq_types.specs.Callers.{entries_by}
+use Rattle.daq_types.proofs.CallersLaws.{entries_by-append, entries_by-own}
 use Rattle.odb_tree.specs.declared.entry.DatabaseEntry.{DatabaseEntry}
 use Rattle.odb_tree.specs.Histories.{IsLegal}
 use Rattle.odb_port.specs.DatabasePorts.{DatabaseAccess, AddsCall, AddsCalls, IsSamePort, own_calls, calls_by}

@@ -5,3 +5,6 @@ mod TypeLaws
 mod WordLaws
 mod TableLaws
 mod SpelledLaws
+pub mod Exits
+pub mod KeptForms
+pub mod ReadLines

@@ -10,5 +10,4 @@ pub mod TypeNames
 pub mod Forms
 pub mod FormTable
 pub mod Spelled
-pub mod KeptForms
 pub mod Exits

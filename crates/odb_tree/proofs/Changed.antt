@@ -8,7 +8,8 @@ use Rattle.odb_tree.specs.declared.rows.Row.{Row}
 use Rattle.odb_tree.specs.Rows.{Rows, rows_outside, change_at, row_at}
 use Rattle.odb_tree.specs.Calls.{after_set_all, after_set_all_at}
 use Rattle.odb_tree.specs.Walks.{walk, changed_at}
-use Rattle.odb_tree.specs.WalkLaws.{walk_outside, walk_changed, OneAt}
+use Rattle.odb_tree.proofs.WalkLaws.{walk_outside, walk_changed}
+use Rattle.odb_tree.specs.WalkLaws.{OneAt}
 use Rattle.odb_tree.specs.Trees.{IsTree}
 use Rattle.odb_tree.proofs.Trees.{one_at, rows_of}
 

@@ -16,7 +16,8 @@ use Rattle.odb_tree.specs.Making.{Way, last_of, further, go_on, no_way, way_to, 
 use Rattle.odb_tree.specs.Limits.{limit_fault}
 use Rattle.odb_tree.specs.Calls.{IsReply, rows_after, reply_or, exists_fault, kept_fault, items_fault, create_fault, create_reply, after_create, value_fault, set_all_fault, set_all_reply, after_set_all, after_set_all_at, number_at, new_value}
 use Rattle.odb_tree.specs.Histories.{IsLegal, replay}
-use Rattle.odb_tree.specs.WalkLaws.{not_true, NoneAt}
+use Rattle.odb_tree.proofs.WalkLaws.{not_true}
+use Rattle.odb_tree.specs.WalkLaws.{NoneAt}
 use Rattle.odb_tree.specs.Trees.{HasDir, IsDir, IsTree, with_rows, IsNewRow, AreNew, AreShort}
 use Rattle.odb_tree.specs.Places.{made_for}
 use Rattle.odb_tree.proofs.Limited.{or_none_left, or_none_right}

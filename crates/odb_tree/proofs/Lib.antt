@@ -13,3 +13,4 @@ pub mod EachRow
 pub mod Sound
 pub mod Lasting
 pub mod Listed
+pub mod WalkLaws

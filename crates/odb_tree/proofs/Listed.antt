@@ -16,7 +16,8 @@ use Rattle.odb_tree.specs.Rows.{Rows, row_at, is_key, is_kind, is_child, is_list
 use Rattle.odb_tree.specs.Lookups.{obstacle_to, found_row, seek, not_dir, dir_fault}
 use Rattle.odb_tree.specs.Calls.{child_of, children_of, children_or}
 use Rattle.odb_tree.specs.Walks.{walk_below, walk, directly_below}
-use Rattle.odb_tree.specs.WalkLaws.{and_left, and_right, both, front_trans, filter_append, not_true, true_false, walk_is, below_dirs}
+use Rattle.odb_tree.proofs.WalkLaws.{and_left, and_right, both, front_trans, filter_append, not_true, true_false, walk_is}
+use Rattle.odb_tree.specs.WalkLaws.{below_dirs}
 use Rattle.odb_tree.specs.Trees.{IsTree, IsDir, AreShort}
 use Rattle.odb_tree.proofs.Trees.{same_long, same_front, same_sym}
 use Rattle.odb_tree.proofs.Kept.{found_there}

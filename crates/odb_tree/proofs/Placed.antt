@@ -9,7 +9,8 @@ use Rattle.odb_tree.specs.declared.rows.NewKey.{NewKey}
 use Rattle.odb_tree.specs.Calls.{create_reply, after_create, new_value, set_all_reply, after_set_all, after_set_all_at}
 use Rattle.odb_tree.specs.Rows.{Rows, row_at, is_key, is_kind, is_child, is_listed, keys_in, dirs_in}
 use Rattle.odb_tree.specs.Walks.{walk_below, walk}
-use Rattle.odb_tree.specs.WalkLaws.{and_left, and_right, both, name_trans, front_trans, not_true, true_false, not_listed, listed_same, walk_elsewhere, same_beside, flat_map_append, walk_is, walk_new_key, walk_new_dir, below_dirs, NoneAt, NoneAbove}
+use Rattle.odb_tree.proofs.WalkLaws.{and_left, and_right, both, name_trans, front_trans, not_true, true_false, not_listed, listed_same, walk_elsewhere, same_beside, flat_map_append, walk_is, walk_new_key, walk_new_dir}
+use Rattle.odb_tree.specs.WalkLaws.{below_dirs, NoneAt, NoneAbove}
 use Rattle.odb_tree.specs.Trees.{HasDir, IsDir, IsPlaced, ArePlaced, AreApart, IsTree, with_rows, IsNewRow, AreNew, AreShort}
 use Rattle.odb_tree.specs.Places.{BeginsAt, stands_behind, IsInserted, AreInserted, made_for}
 use Rattle.odb_tree.proofs.Trees.{front_more, front_short, front_within, long_same, same_front, same_refl, other_sym, is_dir_append, filter_at, tree_more, name_sym}

@@ -8,7 +8,8 @@ use Rattle.odb_value.specs.Values.{HeldValue}
 use Rattle.odb_tree.specs.declared.rows.Row.{Row}
 use Rattle.odb_tree.specs.Rows.{Rows, row_at, rows_outside, change_at}
 use Rattle.odb_tree.specs.Walks.{changed_at}
-use Rattle.odb_tree.specs.WalkLaws.{and_left, and_right, both, names_decide, front_trans, filter_append, not_true, true_false, map_append, KeepsKind, changed_keeps, change_is_map, NoneAt, OneAt}
+use Rattle.odb_tree.proofs.WalkLaws.{and_left, and_right, both, names_decide, front_trans, filter_append, not_true, true_false, map_append, KeepsKind, changed_keeps, change_is_map}
+use Rattle.odb_tree.specs.WalkLaws.{NoneAt, OneAt}
 use Rattle.odb_tree.specs.Trees.{HasDir, IsDir, IsPlaced, ArePlaced, AreApart, AreRising, IsTree, with_rows, IsNewRow, AreNew}
 
 -- paths

@@ -3,3 +3,4 @@ pub mod FormSteps
 pub mod Stops
 pub mod FirstPlace
 pub mod KeyLines
+pub mod ReadAgain

@@ -7,5 +7,4 @@ pub mod Forms
 pub mod ItemTexts
 pub mod KeyTexts
 pub mod Sized
-pub mod ReadAgain
 pub mod Places

@@ -13,7 +13,7 @@ use Rattle.buffer_core.specs.Window.{Window, Sent}
 use Rattle.buffer_core.specs.Calls.{gone_of, to_drop, after_send, pushed}
 use Rattle.plain_buffer.specs.Rows.{slot_of_row, size_of_row, sent_of, kept_of}
 use Rattle.plain_buffer.specs.Plain.{window_of, IsPlain}
-use Rattle.buffer_core.specs.WindowLaws.{to_drop_fits, to_drop_within, slot_cover}
+use Rattle.buffer_core.proofs.WindowLaws.{to_drop_fits, to_drop_within, slot_cover}
 use Rattle.plain_buffer.proofs.Kept.{to_drop-kept_of, drop-kept_of, kept_of-push}
 use Rattle.plain_buffer.proofs.Room.{whole_is}
 

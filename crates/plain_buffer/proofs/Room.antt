@@ -9,7 +9,7 @@ use Rattle.buffer_core.specs.Window.{Window, accepted_of}
 use Rattle.buffer_core.specs.Calls.{send_reply, full_reply, gone_of, to_drop, owed_in}
 use Rattle.plain_buffer.specs.Rows.{slot_of_row, size_of_row, kept_of, bare}
 use Rattle.plain_buffer.specs.Plain.{window_of, IsPlain}
-use Rattle.buffer_core.specs.WindowLaws.{IsSendable, room_reply_is}
+use Rattle.buffer_core.proofs.WindowLaws.{IsSendable, room_reply_is}
 use Rattle.plain_buffer.proofs.Kept.{to_drop-kept_of, take-kept_of, owed_in-kept_of}
 
 -- rows and data of the same length

@@ -14,7 +14,7 @@ use Rattle.buffer_core.specs.declared.entry.BufferEntry.TheVariants.{Attach, Det
 use Rattle.buffer_core.specs.Slots.{slot_at, free_slot, change_slot}
 use Rattle.buffer_core.specs.Window.{Window, Sent, IsWindow, no_clients, accepted_of}
 use Rattle.buffer_core.specs.Calls.{with_clients, with_gate, joined, with_request, going_on, no_slot, detach_reply_to, request_reply_to, cancel_reply_to, cancel_reply_of, found_in, found_reply, receive_reply_to}
-use Rattle.buffer_core.specs.WindowKept.{window_opens, window_stays}
+use Rattle.buffer_core.proofs.WindowKept.{window_opens, window_stays}
 use Rattle.plain_buffer.specs.declared.rows.Row.{Row}
 use Rattle.plain_buffer.specs.declared.plain.PlainBuffer.TheInside.{Inside}
 use Rattle.plain_buffer.specs.Rows.{kept_of}

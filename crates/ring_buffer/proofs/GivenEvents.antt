@@ -18,7 +18,7 @@ use Rattle.buffer_core.specs.Window.{Sent, Window, slot_of_sent, level_of, cover
 use Rattle.buffer_core.specs.Calls.{detach_reply_to, found_in, found_reply, receive_reply_to, going_on, with_clients}
 use Rattle.client_pointers.specs.declared.pointer.Pointer.{Pointer}
 use Rattle.client_pointers.specs.Pointers.{clients_of, moved, position_of}
-use Rattle.client_pointers.specs.PointerLaws.{clients_change, client_at}
+use Rattle.client_pointers.proofs.PointerLaws.{clients_change, client_at}
 use Rattle.ring_buffer.specs.declared.ring_buffer.RingBuffer.TheInside.{Inside}
 use Rattle.ring_buffer.specs.declared.walk.Position.{Position}
 use Rattle.ring_buffer.specs.declared.walk.Found.{Found}

@@ -18,10 +18,10 @@ use Rattle.buffer_core.specs.Slots.{slot_at, free_slot, some_slot, change_slot}
 use Rattle.buffer_core.specs.SlotLaws.{split, slot_set_same, slot_set_other, slot_change_same, slot_change_other, slot_change_all}
 use Rattle.buffer_core.specs.Window.{Sent, Window, opening, slot_of_sent, accepted_of, covers, wants, IsWindow}
 use Rattle.buffer_core.specs.Calls.{IsReply, window_after, no_slot, joined, with_request, going_on, pushed, gone_of, after_send, found_in, found_reply, receive_reply_to}
-use Rattle.buffer_core.specs.WindowLaws.{to_drop_within}
-use Rattle.buffer_core.specs.WindowKept.{window_stays}
+use Rattle.buffer_core.proofs.WindowLaws.{to_drop_within}
+use Rattle.buffer_core.proofs.WindowKept.{window_stays}
 use Rattle.buffer_core.specs.Histories.{replay, IsLegal}
-use Rattle.buffer_core.specs.HistoryLaws.{replay-push, opening_replays}
+use Rattle.buffer_core.proofs.HistoryLaws.{replay-push, opening_replays}
 use Rattle.buffer_core.specs.Points.{news_of}
 use Rattle.buffer_core.specs.Continued.{added_by, sent_in}
 use Rattle.buffer_core.specs.Readers.{LeavesLife, KeepsLife}

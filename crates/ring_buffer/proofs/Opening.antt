@@ -5,7 +5,7 @@ use Rattle.buffer_core.specs.declared.gate.RunGate.TheVariants.{Shut}
 use Rattle.buffer_core.specs.Slots.{slot_at}
 use Rattle.buffer_core.specs.SlotLaws.{slot_free}
 use Rattle.buffer_core.specs.Window.{opening, no_clients, IsWindow}
-use Rattle.buffer_core.specs.WindowKept.{window_opens}
+use Rattle.buffer_core.proofs.WindowKept.{window_opens}
 use Rattle.client_pointers.specs.declared.pointer.Pointer.{Pointer}
 use Rattle.client_pointers.specs.Pointers.{no_pointers}
 use Rattle.ring_buffer.specs.declared.ring_buffer.RingBuffer.TheInside.{Inside}

@@ -8,18 +8,19 @@ use Rattle.std.proofs.lemmas.List.Sums.{sum_by-cons, sum_by_push, sum_by-take-dr
 use Rattle.daq_types.specs.declared.events.Event.{Event}
 use Rattle.daq_model.specs.Events.{slot_size, event_limit}
 use Rattle.event_header.specs.declared.head.Header.{Header}
-use Rattle.event_header.specs.Headers.{event_of, fields_of, header_back}
+use Rattle.event_header.specs.Headers.{event_of, fields_of}
+use Rattle.event_header.proofs.Headers.{header_back}
 use Rattle.ring_bytes.specs.Rings.{bytes_at, KeepsOtherOffsets}
-use Rattle.ring_bytes.specs.RingLaws.{bytes_at-turn}
+use Rattle.ring_bytes.proofs.RingLaws.{bytes_at-turn}
 use Rattle.buffer_core.specs.declared.client.Client.{Client}
 use Rattle.buffer_core.specs.Slots.{slot_at, change_all}
 use Rattle.buffer_core.specs.SlotLaws.{split, slot_change_all}
 use Rattle.buffer_core.specs.Window.{Sent, Window, slot_of_sent, level_of, accepted_of, IsWindow}
-use Rattle.buffer_core.specs.WindowLaws.{slot_cover, to_drop_within, to_drop_fits}
+use Rattle.buffer_core.proofs.WindowLaws.{slot_cover, to_drop_within, to_drop_fits}
 use Rattle.buffer_core.specs.Calls.{pushed, going_on, gone_of, after_send}
 use Rattle.client_pointers.specs.declared.pointer.Pointer.{Pointer}
 use Rattle.client_pointers.specs.Pointers.{clients_of, raised, moved}
-use Rattle.client_pointers.specs.PointerLaws.{clients_change_all, client_at}
+use Rattle.client_pointers.proofs.PointerLaws.{clients_change_all, client_at}
 use Rattle.ring_buffer.specs.declared.ring_buffer.RingBuffer.TheInside.{Inside}
 use Rattle.ring_buffer.specs.RingHolds.{front_of, HoldsEvent, HoldsEvents}
 use Rattle.ring_buffer.specs.Stored.{event_at, events_at, event_in, length_in, FitsSlot, AllFit, IsHeader}

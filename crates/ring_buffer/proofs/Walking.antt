@@ -12,7 +12,7 @@ use Rattle.buffer_core.specs.declared.client.Client.{Client}
 use Rattle.buffer_core.specs.Slots.{slot_at, first_slot}
 use Rattle.buffer_core.specs.Window.{Sent, slot_of_sent, owes, wants}
 use Rattle.buffer_core.specs.Calls.{to_drop, owed_in, or_later, found_in}
-use Rattle.buffer_core.specs.WindowLaws.{to_drop_none}
+use Rattle.buffer_core.proofs.WindowLaws.{to_drop_none}
 use Rattle.ring_buffer.specs.declared.walk.Position.{Position}
 use Rattle.ring_buffer.specs.RingHolds.{HoldsEvent, HoldsEvents}
 use Rattle.ring_buffer.specs.Stored.{event_at, events_at, FitsSlot, AllFit}

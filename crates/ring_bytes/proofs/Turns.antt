@@ -7,7 +7,7 @@ use Rattle.std.proofs.lemmas.Nat.{mod-mul-add}
 use Rattle.std.proofs.lemmas.List.{take_at, drop_at, get_or-drop, get_or-take, get_or_append_left, get_or-append_right, length-take-le, length-append, length-drop, take-append-drop}
 use Rattle.std.proofs.lemmas.Slice.{drop-append-drop}
 use Rattle.ring_bytes.specs.Rings.{byte_at, bytes_at, KeepsOtherOffsets}
-use Rattle.ring_bytes.specs.RingLaws.{bytes_at-add}
+use Rattle.ring_bytes.proofs.RingLaws.{bytes_at-add}
 
 -- the byte of an offset, after so many turns
 byte_turned : (ring : List ℕ) (q s : ℕ) → s < length ring → byte_at ring (q * length ring + s) ≡ get_or ring s 0

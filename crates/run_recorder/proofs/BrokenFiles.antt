@@ -7,7 +7,7 @@ use Rattle.daq_types.specs.declared.runs.Order.{Order}
 use Rattle.daq_model.specs.Events.{encoding, all_encoded}
 use Rattle.daq_model.specs.Generator.{generated_event, generated_events}
 use Rattle.daq_io.specs.Seen.{Seen, Stored, Touches, Creates, Extends, ExtendsPart, Closes, stored_open}
-use Rattle.daq_io.specs.SeenLaws.{Touches-trans, Extends-name, Extends-trans, Creates-Extends}
+use Rattle.daq_io.proofs.SeenLaws.{Touches-trans, Extends-name, Extends-trans, Creates-Extends}
 use Rattle.daq_types.specs.declared.runs.FrontEnded.{FrontEnded}
 use Rattle.daq_types.specs.declared.runs.FrontEnded.TheVariants.{Quota, Paused, Spent}
 use Rattle.session_console.specs.declared.records.FrontTally.{FrontTally}

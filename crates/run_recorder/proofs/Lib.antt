@@ -9,3 +9,6 @@ mod OfRuns
 mod OpeningRuns
 mod WholeFiles
 mod RunsKept
+pub mod KeptLaws
+pub mod RunNames
+pub mod RunRecords

@@ -6,7 +6,7 @@ use Rattle.daq_types.specs.declared.runs.Order.{Order}
 use Rattle.daq_types.specs.declared.runs.Kind.TheVariants.{All}
 use Rattle.daq_model.specs.Events.{slot_size}
 use Rattle.daq_model.specs.Generator.{generated_event, generated_events}
-use Rattle.daq_model.specs.GeneratorLaws.{generated_events-more, length-generated_events}
+use Rattle.daq_model.proofs.GeneratorLaws.{generated_events-more, length-generated_events}
 use Rattle.event_header.specs.declared.head.Header.{Header}
 use Rattle.event_header.specs.Headers.{event_of, fields_of}
 use Rattle.buffer_core.specs.declared.gate.RunGate.{RunGate}
@@ -22,8 +22,9 @@ use Rattle.buffer_core.specs.declared.entry.BufferEntry.TheVariants.{Attach, Req
 use Rattle.buffer_core.specs.Window.{Window, opening, accepted_of, any}
 use Rattle.buffer_core.specs.Slots.{slot_at}
 use Rattle.buffer_core.specs.Calls.{IsReply, window_after, event_after, request_reply_to, with_gate}
-use Rattle.buffer_core.specs.WindowLaws.{IsSendable}
-use Rattle.buffer_core.specs.ReadingLaws.{IsDrained, AfterSend, attach_opens, request_opens, opening_attach, drained_opens, drained_send, fed_reply, fed_event, fed_again, run_begins, run_ends, running_is}
+use Rattle.buffer_core.proofs.WindowLaws.{IsSendable}
+use Rattle.buffer_core.specs.ReadingLaws.{IsDrained}
+use Rattle.buffer_core.proofs.ReadingLaws.{AfterSend, attach_opens, request_opens, opening_attach, drained_opens, drained_send, fed_reply, fed_event, fed_again, run_begins, run_ends, running_is}
 use Rattle.local_port.specs.Ported.{Ported, AppendsCall}
 use Rattle.run_recorder.specs.BufferEntries.{front_caller, logger_caller, opening_entries, passed_entries}
 

@@ -9,7 +9,7 @@ use Rattle.daq_types.specs.Callers.{caller_of_client}
 use Rattle.daq_types.specs.declared.runs.StartOutcome.{StartOutcome}
 use Rattle.daq_types.specs.declared.runs.StartOutcome.TheVariants.{Completed, Refused}
 use Rattle.daq_model.specs.Generator.{generated_events}
-use Rattle.daq_model.specs.GeneratorLaws.{length-generated_events}
+use Rattle.daq_model.proofs.GeneratorLaws.{length-generated_events}
 use Rattle.daq_io.specs.declared.faults.Failed.{Failed}
 use Rattle.buffer_core.specs.Window.{any}
 use Rattle.buffer_core.specs.declared.entry.BufferEntry.{BufferEntry}
@@ -23,7 +23,8 @@ use Rattle.session_console.specs.declared.records.RunRecord.{RunRecord}
 use Rattle.session_console.specs.declared.records.FrontTally.{FrontTally}
 use Rattle.session_console.specs.declared.records.FileRecord.{FileRecord}
 use Rattle.run_recorder.specs.BufferEntries.{front_caller, logger_caller, begin_entry, passed_entries, end_entry, PassesFirst}
-use Rattle.run_recorder.specs.RunRecords.{RunOn, completed_record, order_of, sent_in, file_of, generated_events-by}
+use Rattle.run_recorder.specs.RunRecords.{RunOn, completed_record, order_of, sent_in, file_of}
+use Rattle.run_recorder.proofs.RunRecords.{generated_events-by}
 use Rattle.run_recorder.specs.RunHistories.{sent_by, wanted_of, events_of, segment_file, IsSegmentFile, is_marked, IsSentByFront, IsHeldRun}
 use Rattle.run_recorder.specs.RunsTold.{IsRead, IsFresh, IsOn, IsDone, TellsRun, IsTold, IsOnRun, IsEnded, IsStanding, KeepsTold, EndsTold, AddsOf, start_on}
 use Rattle.run_recorder.proofs.CallsKept.{calls_push}

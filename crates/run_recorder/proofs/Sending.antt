@@ -2,11 +2,12 @@
 use Rattle.std.proofs.Common.{◌≡◌, ℕ, ◌+◌, List, [], ◌∷◌, ◌++◌, ap, sym, subst, ◌∙◌}
 use Rattle.std.proofs.lemmas.List.{append-nil}
 use Rattle.daq_types.specs.declared.runs.Order.{Order}
-use Rattle.daq_model.specs.Events.{encoding, all_encoded, all_encoded-append}
+use Rattle.daq_model.specs.Events.{encoding, all_encoded}
+use Rattle.daq_model.proofs.Events.{all_encoded-append}
 use Rattle.daq_model.specs.Generator.{generated_event, generated_events}
-use Rattle.daq_model.specs.GeneratorLaws.{generated_events-more}
+use Rattle.daq_model.proofs.GeneratorLaws.{generated_events-more}
 use Rattle.daq_io.specs.Seen.{Seen, Extends}
-use Rattle.daq_io.specs.SeenLaws.{Extends-trans}
+use Rattle.daq_io.proofs.SeenLaws.{Extends-trans}
 
 pub all_encoded-more : (order : Order) (id mask k : ℕ) → all_encoded (generated_events order id mask k) ++ encoding (generated_event order id mask (k + 1)) ≡ all_encoded (generated_events order id mask (k + 1))
 all_encoded-more order id mask k = rw (generated_events-more order id mask k, all_encoded-append (generated_events order id mask k) (generated_event order id mask (k + 1) ∷ []))

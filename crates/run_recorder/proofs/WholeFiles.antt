@@ -5,9 +5,10 @@ use Rattle.std.proofs.lemmas.List.{append-nil}
 use Rattle.std.proofs.lemmas.List.Elements.{All-nil, All-push}
 use Rattle.daq_types.specs.declared.events.Event.{Event}
 use Rattle.daq_types.specs.declared.runs.Order.{Order}
-use Rattle.daq_model.specs.Events.{encoding, all_encoded, all_encoded-append, length-encoding}
+use Rattle.daq_model.specs.Events.{encoding, all_encoded}
+use Rattle.daq_model.proofs.Events.{all_encoded-append, length-encoding}
 use Rattle.daq_model.specs.Generator.{generated_event, generated_events}
-use Rattle.daq_model.specs.GeneratorLaws.{generated_body_is_small}
+use Rattle.daq_model.proofs.GeneratorLaws.{generated_body_is_small}
 use Rattle.daq_model.specs.RunFile.{begin_record, end_record, run_file, IsFileEvent, IsRunFile}
 
 file_event : (order : Order) (mask k : ℕ) → IsFileEvent (generated_event order 1 mask k)

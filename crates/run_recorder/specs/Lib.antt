@@ -5,7 +5,6 @@ pub mod Tallies
 pub mod BegunFiles
 pub mod FileFaults
 pub mod PartFiles
-pub mod KeptLaws
 pub mod BufferEntries
 pub mod BufferRecords
 pub mod RunHistories

@@ -1,5 +1,5 @@
 -- The record of a run: what it says of the run's file, and what the files hold.
-use Rattle.std.specs.Prelude.{◌≡◌, ◌≢◌, ℕ, zero, suc, List, [], ◌∷◌, Option, Some, All, IsTrue, ⊤, MatchOption, refl}
+use Rattle.std.specs.Prelude.{◌≡◌, ◌≢◌, ℕ, List, [], ◌∷◌, Option, Some, All, IsTrue, ⊤, MatchOption}
 use Rattle.daq_types.specs.declared.runs.Order.{Order}
 use Rattle.daq_types.specs.declared.runs.RunState.TheVariants.{Stopped}
 use Rattle.daq_types.specs.declared.runs.ChannelState.TheVariants.{Ended}
@@ -65,8 +65,3 @@ file_record run = record { channel = 0; name = run_name run; state = Ended }
 -- the record of a run that was stopped at this time
 abbrev pub completed_record : Order → (time : ℕ) → FrontTally → RunRecord
 completed_record order time front = record { run = order.run; start = order.start; time0 = order.time; time1 = time; outcome = Completed; fronts = front ∷ []; files = file_record order.run ∷ [] }
-
--- the events of a run depend on its start number and its time alone
-pub generated_events-by : (one other : Order) (id mask n : ℕ) → one.start ≡ other.start → one.time ≡ other.time → generated_events one id mask n ≡ generated_events other id mask n
-generated_events-by one other id mask zero s t = refl
-generated_events-by one other id mask (suc n) s t = rw (generated_events-by one other id mask n s t, s, t) refl

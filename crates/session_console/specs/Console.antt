@@ -1,8 +1,6 @@
 -- The console text of a script's replies, and the lines that were refused.
-use Rattle.std.specs.Prelude.{◌≡◌, ℕ, ◌+◌, ◌==◌, Bool, true, false, if◌then◌else◌, List, [], ◌∷◌, ◌++◌, length, codes}
+use Rattle.std.specs.Prelude.{ℕ, ◌+◌, ◌==◌, Bool, true, false, if◌then◌else◌, List, [], ◌∷◌, ◌++◌, codes}
 use Rattle.std.specs.Fmt.{decimal}
-use Rattle.std.proofs.Common.{sym, ap, ◌∙◌, append_assoc, arith}
-use Rattle.std.proofs.lemmas.List.{append-nil}
 use Rattle.daq_types.specs.declared.runs.RunState.{RunState}
 use Rattle.daq_types.specs.declared.runs.RunState.TheVariants.{Stopped, Paused, Running}
 use Rattle.daq_types.specs.declared.runs.ChannelState.{ChannelState}
@@ -92,17 +90,3 @@ refused_lines line (reply ∷ replies) = line_if (is_refusal reply) line ++ refu
 abbrev pub first_line : List ℕ → ℕ
 first_line [] = 0
 first_line (line ∷ lines) = line
-
--- One reply more.
-
-pub console_text-more : (line : ℕ) (replies : List Reply) (reply : Reply) → console_text line (replies ++ reply ∷ []) ≡ console_text line replies ++ text_of (line + length replies) reply
-console_text-more line [] reply = append-nil (text_of line reply) ∙ ap (λ (n : ℕ). text_of n reply) (omega arith)
-console_text-more line (first ∷ replies) reply =
-    ap (λ (text : List ℕ). text_of line first ++ text) (console_text-more (line + 1) replies reply ∙ ap (λ (n : ℕ). console_text (line + 1) replies ++ text_of n reply) (omega arith))
-    ∙ sym (append_assoc (text_of line first) (console_text (line + 1) replies) (text_of (line + length (first ∷ replies)) reply))
-
-pub refused_lines-more : (line : ℕ) (replies : List Reply) (reply : Reply) → refused_lines line (replies ++ reply ∷ []) ≡ refused_lines line replies ++ line_if (is_refusal reply) (line + length replies)
-refused_lines-more line [] reply = append-nil (line_if (is_refusal reply) line) ∙ ap (λ (n : ℕ). line_if (is_refusal reply) n) (omega arith)
-refused_lines-more line (first ∷ replies) reply =
-    ap (λ (more : List ℕ). line_if (is_refusal first) line ++ more) (refused_lines-more (line + 1) replies reply ∙ ap (λ (n : ℕ). refused_lines (line + 1) replies ++ line_if (is_refusal reply) n) (omega arith))
-    ∙ sym (append_assoc (line_if (is_refusal first) line) (refused_lines (line + 1) replies) (line_if (is_refusal reply) (line + length (first ∷ replies))))

@@ -13,7 +13,7 @@ use Rattle.turn_lock.specs.declared.lock.Pass.{Pass}
 use Rattle.turn_lock.specs.Views.{pair_of}
 use Rattle.turn_lock.specs.Passes.{number_of, seen_by, own_entries, held_by, IsOf}
 use Rattle.turn_lock.specs.Closing.{Absorbs}
-use Rattle.turn_lock.specs.Laws.{All_first, prefix_through, pair_stands}
+use Rattle.turn_lock.proofs.LockLaws.{All_first, prefix_through, pair_stands}
 
 module _ {X : Type 0} (P : X → Type 0) where
   -- what holds of each holds of one, and of the others

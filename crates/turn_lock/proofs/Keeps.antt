@@ -18,7 +18,7 @@ use Rattle.daq_types.specs.Callers.{entries_by}
 use Rattle.turn_lock.specs.History.{Leads}
 use Rattle.turn_lock.specs.Views.{first_view, holding_view, idle_view, missed_view, counted_view, giver_view, given_view, note_view, joined_view, spent_view, pair_of, longer, takes_turn, counts, Counted, frees, looks, Agrees, Settles}
 use Rattle.turn_lock.specs.Protocol.{IsPaired, Fits, IsLaid, Holds, IsLock}
-use Rattle.turn_lock.specs.Laws.{prefix_self, prefix_more, longer_along, longer_first, longer_second, at_within, at_end, entries_added, rest_none, entries_between, none_before, whole_history, leads_further, pair_stands}
+use Rattle.turn_lock.proofs.LockLaws.{prefix_self, prefix_more, longer_along, longer_first, longer_second, at_within, at_end, entries_added, rest_none, entries_between, none_before, whole_history, leads_further, pair_stands}
 
 module _ {S D E : Type 0} (state_of : S → D) (step : D → ℕ → E → D → Type 0) (first : D) (passes : ℕ) where
   abbrev V : Type 0

@@ -5,4 +5,3 @@ pub mod Passes
 pub mod Entered
 pub mod Roster
 pub mod Closing
-pub mod Laws

@@ -1,8 +1,8 @@
 use Rattle.std.proofs.Common.{List, ℕ, length, sym, subst, ap, arith}
 use Rattle.bank_format.specs.Faults.{Passes}
 use Rattle.bank_format.specs.Spelled.{IsBytes}
-use Rattle.bank_format.specs.BankLaws.{behind_is_shorter, IsBytes-behind, header_is_some}
-use Rattle.bank_format.specs.AreaLaws.{passes-more, passes-none}
+use Rattle.bank_format.proofs.BankLaws.{behind_is_shorter, IsBytes-behind, header_is_some}
+use Rattle.bank_format.proofs.AreaLaws.{passes-more, passes-none}
 use Rattle.bank_format.proofs.area.check_area.Goals as goal
 
 pub loop-left-init : goal.loop-left-init

@@ -1,4 +1,4 @@
-use Rattle.bank_format.specs.FrontLaws.{area_again}
+use Rattle.bank_format.proofs.FrontLaws.{area_again}
 use Rattle.bank_format.proofs.laws.banks_again.Goals as goal
 
 pub returns : goal.returns

@@ -1,4 +1,4 @@
-use Rattle.bank_format.specs.GeneratedLaws.{generated_is_plain}
+use Rattle.bank_format.proofs.GeneratedLaws.{generated_is_plain}
 use Rattle.bank_format.proofs.laws.generated_body_is_plain.Goals as goal
 
 pub returns : goal.returns

@@ -1,4 +1,4 @@
-use Rattle.bank_format.specs.FaultLaws.{one_fault, area_has_no_fault}
+use Rattle.bank_format.proofs.FaultLaws.{one_fault, area_has_no_fault}
 use Rattle.bank_format.proofs.laws.one_fault.Goals as goal
 
 pub returns : goal.returns

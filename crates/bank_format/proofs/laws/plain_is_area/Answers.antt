@@ -1,4 +1,4 @@
-use Rattle.bank_format.specs.PlainLaws.{plain_is_area}
+use Rattle.bank_format.proofs.PlainLaws.{plain_is_area}
 use Rattle.bank_format.proofs.laws.plain_is_area.Goals as goal
 
 pub returns : goal.returns

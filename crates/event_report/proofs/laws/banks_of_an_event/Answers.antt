@@ -3,7 +3,7 @@ use Rattle.bank_format.specs.BankAreas.{BankValue}
 use Rattle.bank_format.specs.Faults.{HoldsBanks}
 use Rattle.bank_format.specs.Spelled.{IsBytes}
 use Rattle.event_report.specs.EventBanks.{banks_of}
-use Rattle.event_report.specs.BankAreaLaws.{banks_of_area, area_of_banks}
+use Rattle.event_report.proofs.BankAreaLaws.{banks_of_area, area_of_banks}
 use Rattle.event_report.proofs.laws.banks_of_an_event.Goals as goal
 
 none_or : (bytes : List ℕ) (o : Option (List BankValue)) → IsBytes bytes → ((bs : List BankValue) → HoldsBanks bs bytes → ⊥) → banks_of bytes ≡ o → o ≡ None

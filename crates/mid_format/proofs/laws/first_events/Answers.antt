@@ -1,4 +1,4 @@
-use Rattle.mid_format.specs.ReadLaws.{events_so_far}
+use Rattle.mid_format.proofs.ReadLaws.{events_so_far}
 use Rattle.mid_format.proofs.laws.first_events.Goals as goal
 
 pub returns : goal.returns

@@ -1,4 +1,4 @@
-use Rattle.mid_format.specs.ReadLaws.{one_fault, whole_no_fault}
+use Rattle.mid_format.proofs.ReadLaws.{one_fault, whole_no_fault}
 use Rattle.mid_format.proofs.laws.one_fault.Goals as goal
 
 pub returns : goal.returns

@@ -1,4 +1,4 @@
-use Rattle.mid_format.specs.ReadLaws.{one_whole}
+use Rattle.mid_format.proofs.ReadLaws.{one_whole}
 use Rattle.mid_format.proofs.laws.one_reading.Goals as goal
 
 pub returns : goal.returns

@@ -1,4 +1,4 @@
-use Rattle.mid_format.specs.ReadLaws.{read_whole}
+use Rattle.mid_format.proofs.ReadLaws.{read_whole}
 use Rattle.mid_format.proofs.laws.whole_file.Goals as goal
 
 pub returns : goal.returns

@@ -1,6 +1,6 @@
 use Rattle.std.proofs.Common.{ℕ, List, ap, subst}
 use Rattle.daq_model.specs.Events.{encoding}
-use Rattle.daq_io.specs.SeenLaws.{Extends-writes}
+use Rattle.daq_io.proofs.SeenLaws.{Extends-writes}
 use Rattle.event_header.specs.declared.head.Header.{Header}
 use Rattle.event_header.specs.Headers.{event_of}
 use Rattle.mid_logger.specs.Channels.{ClosesPart}

@@ -1,7 +1,8 @@
 use Rattle.std.proofs.Common.{◌++◌, ℕ, List, inr, sym, subst}
 use Rattle.midas_tools.specs.Dumps.{end_lines}
 use Rattle.midas_tools.specs.Findings.{Printed}
-use Rattle.midas_tools.specs.Printing.{PrintsSoFar, PrintsSoFar-written, PrintsSoFar-fails, PrintsSoFar-more, PrintsSoFar-all}
+use Rattle.midas_tools.specs.Printing.{PrintsSoFar}
+use Rattle.midas_tools.proofs.Printing.{PrintsSoFar-written, PrintsSoFar-fails, PrintsSoFar-more, PrintsSoFar-all}
 use Rattle.midas_tools.specs.declared.ends.ToolEnd.TheVariants.{FileFault}
 use Rattle.midas_tools.proofs.Dumping.{unread_printed}
 use Rattle.midas_tools.proofs.dump.end_unread.Goals as goal

@@ -1,4 +1,4 @@
-use Rattle.odb_commands.specs.CommandCallLaws.{performs_answer}
+use Rattle.odb_commands.proofs.CommandCallLaws.{performs_answer}
 use Rattle.odb_commands.proofs.laws.answered_by_rows.Goals as goal
 
 pub returns : goal.returns

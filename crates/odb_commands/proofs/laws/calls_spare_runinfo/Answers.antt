@@ -1,4 +1,4 @@
-use Rattle.odb_commands.specs.CommandCallLaws.{performs_spares}
+use Rattle.odb_commands.proofs.CommandCallLaws.{performs_spares}
 use Rattle.odb_commands.proofs.laws.calls_spare_runinfo.Goals as goal
 
 pub returns : goal.returns

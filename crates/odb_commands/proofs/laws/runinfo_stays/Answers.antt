@@ -1,4 +1,4 @@
-use Rattle.odb_commands.specs.CommandLaws.{command_spares}
+use Rattle.odb_commands.proofs.CommandLaws.{command_spares}
 use Rattle.odb_commands.proofs.laws.runinfo_stays.Goals as goal
 
 pub returns : goal.returns

@@ -1,7 +1,7 @@
 use Rattle.std.proofs.Common.{◌≡◌, ℕ, ◌∙◌, ap, Ok, Err, None, Option, Result}
 use Rattle.std.specs.Str.Parse.{digits_value}
 use Rattle.daq_text.specs.Numbers.{mapped, up_to}
-use Rattle.odb_value.specs.ReadAgain.{digits_form-digits}
+use Rattle.odb_value.proofs.ReadAgain.{digits_form-digits}
 use Rattle.odb_lines.proofs.words.spelled.Goals as goal
 
 pub returns-in-Ok : goal.returns-in-Ok

@@ -1,5 +1,5 @@
 use Rattle.std.proofs.Common.{sym}
-use Rattle.odb_path.specs.PathLaws.{is_front-longer}
+use Rattle.odb_path.proofs.PathLaws.{is_front-longer}
 use Rattle.odb_path.proofs.compare.is_front.Goals as goal
 
 pub returns-then-names-front : goal.returns-then-names-front

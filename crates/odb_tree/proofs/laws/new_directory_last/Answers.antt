@@ -1,4 +1,4 @@
-use Rattle.odb_tree.specs.WalkLaws.{walk_new_dir}
+use Rattle.odb_tree.proofs.WalkLaws.{walk_new_dir}
 use Rattle.odb_tree.proofs.laws.new_directory_last.Goals as goal
 
 pub returns : goal.returns

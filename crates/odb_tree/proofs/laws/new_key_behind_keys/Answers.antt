@@ -1,4 +1,4 @@
-use Rattle.odb_tree.specs.WalkLaws.{walk_new_key}
+use Rattle.odb_tree.proofs.WalkLaws.{walk_new_key}
 use Rattle.odb_tree.proofs.laws.new_key_behind_keys.Goals as goal
 
 pub returns : goal.returns

@@ -1,4 +1,4 @@
-use Rattle.odb_tree.specs.WalkLaws.{walk_elsewhere}
+use Rattle.odb_tree.proofs.WalkLaws.{walk_elsewhere}
 use Rattle.odb_tree.proofs.laws.walk_elsewhere.Goals as goal
 
 pub returns : goal.returns

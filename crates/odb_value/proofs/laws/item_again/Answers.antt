@@ -1,4 +1,4 @@
-use Rattle.odb_value.specs.ReadAgain.{item_again}
+use Rattle.odb_value.proofs.ReadAgain.{item_again}
 use Rattle.odb_value.proofs.laws.item_again.Goals as goal
 
 pub returns : goal.returns

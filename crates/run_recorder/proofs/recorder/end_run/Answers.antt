@@ -3,7 +3,7 @@ use Rattle.daq_types.specs.declared.runs.Order.{Order}
 use Rattle.daq_model.specs.Events.{encoding, all_encoded}
 use Rattle.daq_model.specs.Generator.{generated_events}
 use Rattle.daq_model.specs.RunFile.{end_record}
-use Rattle.daq_io.specs.SeenLaws.{Extends-Closes}
+use Rattle.daq_io.proofs.SeenLaws.{Extends-Closes}
 use Rattle.buffer_core.specs.Window.{accepted_of}
 use Rattle.run_recorder.specs.FileFaults.{BreaksFile}
 use Rattle.run_recorder.proofs.BrokenFiles.{on_err, part_breaks, part_of_more, quota_sent, then_breaks}

@@ -3,7 +3,7 @@ use Rattle.std.proofs.lemmas.List.{append-nil}
 use Rattle.daq_model.specs.Events.{encoding}
 use Rattle.daq_model.specs.RunFile.{begin_record}
 use Rattle.daq_io.specs.Seen.{Creates}
-use Rattle.daq_io.specs.SeenLaws.{Creates-Extends}
+use Rattle.daq_io.proofs.SeenLaws.{Creates-Extends}
 use Rattle.run_recorder.specs.FileFaults.{CutsFile}
 use Rattle.run_recorder.proofs.BrokenFiles.{cut_made, on_err}
 use Rattle.run_recorder.proofs.run_files.begin_file.Goals as goal

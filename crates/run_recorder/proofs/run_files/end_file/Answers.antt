@@ -1,6 +1,6 @@
 use Rattle.std.proofs.Common.{List, ℕ, subst, ◌∙◌}
 use Rattle.std.proofs.lemmas.List.{append-nil}
-use Rattle.daq_io.specs.SeenLaws.{Extends-Closes, Extends-writes}
+use Rattle.daq_io.proofs.SeenLaws.{Extends-Closes, Extends-writes}
 use Rattle.run_recorder.specs.FileFaults.{BreaksFile}
 use Rattle.run_recorder.proofs.BrokenFiles.{close_breaks, on_err, part_breaks}
 use Rattle.run_recorder.proofs.run_files.end_file.Goals as goal

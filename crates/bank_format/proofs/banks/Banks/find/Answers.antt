@@ -4,7 +4,7 @@ use Rattle.std.specs.Cmp.Lexicographic.{pointwise}
 use Rattle.bank_format.specs.declared.formats.Format.{Format}
 use Rattle.bank_format.specs.BankAreas.{BankValue, BanksBefore}
 use Rattle.bank_format.specs.Places.{BankReading, banks_in, front_bank, first_named}
-use Rattle.bank_format.specs.AreaLaws.{goes_on}
+use Rattle.bank_format.proofs.AreaLaws.{goes_on}
 use Rattle.bank_format.proofs.Named.{named_here, named_later, named_nowhere}
 use Rattle.bank_format.proofs.banks.Banks.find.Goals as goal
 

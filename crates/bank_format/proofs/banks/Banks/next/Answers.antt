@@ -2,7 +2,7 @@ use Rattle.std.proofs.Common.{◌≡◌, ◌<◌, ◌∷◌, List, [], ℕ, leng
 use Rattle.bank_format.specs.declared.formats.Format.{Format}
 use Rattle.bank_format.specs.BankAreas.{BankValue, BanksBefore, bank_value}
 use Rattle.bank_format.specs.Places.{BankReading, banks_in, behind_bank}
-use Rattle.bank_format.specs.AreaLaws.{goes_on, banks_in-nil}
+use Rattle.bank_format.proofs.AreaLaws.{goes_on, banks_in-nil}
 use Rattle.bank_format.proofs.banks.Banks.next.Goals as goal
 
 pub returns-then-is_empty-clause-bank : goal.returns-then-is_empty-clause-bank

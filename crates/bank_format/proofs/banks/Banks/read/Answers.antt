@@ -3,8 +3,8 @@ use Rattle.bank_format.specs.declared.formats.Format.{Format}
 use Rattle.bank_format.specs.BankAreas.{BanksBefore, IsBankArea}
 use Rattle.bank_format.specs.Places.{banks_in, unread}
 use Rattle.bank_format.specs.Faults.{BreaksOff}
-use Rattle.bank_format.specs.AreaLaws.{area_whole}
-use Rattle.bank_format.specs.FrontLaws.{is_bank_area, banks_are, front_broken, broken_area, named_by, one_format}
+use Rattle.bank_format.proofs.AreaLaws.{area_whole}
+use Rattle.bank_format.proofs.FrontLaws.{is_bank_area, banks_are, front_broken, broken_area, named_by, one_format}
 use Rattle.bank_format.proofs.banks.Banks.read.Goals as goal
 
 pub returns-in_err-format-clause-only : goal.returns-in_err-format-clause-only

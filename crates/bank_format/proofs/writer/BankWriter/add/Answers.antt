@@ -7,7 +7,7 @@ use Rattle.bank_format.specs.declared.faults.BankRefusal.TheVariants.{TooLong, B
 use Rattle.bank_format.specs.BankAreas.{BankValue, IsBank, bank_value, plain_bank, plain_banks}
 use Rattle.bank_format.specs.Formats.{header_len, padded}
 use Rattle.bank_format.specs.Places.{banks_in}
-use Rattle.bank_format.specs.PlainLaws.{plain_back, plain_more, length-plain_bank, length-plain_banks, length-plain_banks-snoc}
+use Rattle.bank_format.proofs.PlainLaws.{plain_back, plain_more, length-plain_bank, length-plain_banks, length-plain_banks-snoc}
 use Rattle.bank_format.specs.Writing.{Written, refusal_of, with_bank}
 use Rattle.bank_format.proofs.Appending.{refused_long, refused_tid, refused_room, not_refused, fits_field}
 use Rattle.bank_format.proofs.Holding.{all-snoc, held, written}

@@ -2,7 +2,7 @@ use Rattle.std.proofs.Common.{◌≡◌, ◌+◌, ◌-◌, [], List, ℕ, length
 use Rattle.bank_format.specs.declared.formats.Format.{Format}
 use Rattle.bank_format.specs.BankAreas.{BankValue, plain_banks}
 use Rattle.bank_format.specs.Places.{banks_in}
-use Rattle.bank_format.specs.PlainLaws.{plain_back, length-plain_banks}
+use Rattle.bank_format.proofs.PlainLaws.{plain_back, length-plain_banks}
 use Rattle.bank_format.specs.Writing.{Written, nothing_written}
 use Rattle.bank_format.proofs.Appending.{cleared}
 use Rattle.bank_format.proofs.Holding.{held, written}

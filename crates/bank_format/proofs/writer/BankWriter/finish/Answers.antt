@@ -2,7 +2,7 @@ use Rattle.std.proofs.Common.{◌∙◌, ◌<◌, ◌^◌, ℕ, List, length, dr
 use Rattle.bank_format.specs.declared.formats.Format.{Format}
 use Rattle.bank_format.specs.BankAreas.{BankValue, IsBankArea, plain_area}
 use Rattle.bank_format.specs.Places.{banks_in}
-use Rattle.bank_format.specs.PlainLaws.{plain_is_area, length-plain_banks}
+use Rattle.bank_format.proofs.PlainLaws.{plain_is_area, length-plain_banks}
 use Rattle.bank_format.specs.Writing.{Written}
 use Rattle.bank_format.proofs.writer.BankWriter.finish.Goals as goal
 

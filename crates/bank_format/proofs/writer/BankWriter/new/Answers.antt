@@ -1,5 +1,5 @@
 use Rattle.std.proofs.Common.{[], length, ap, arith}
-use Rattle.bank_format.specs.PlainLaws.{plain_back, length-plain_banks}
+use Rattle.bank_format.proofs.PlainLaws.{plain_back, length-plain_banks}
 use Rattle.bank_format.proofs.Holding.{held, written}
 use Rattle.bank_format.proofs.writer.BankWriter.new.Goals as goal
 

@@ -4,7 +4,7 @@ use Rattle.buffer_core.specs.Slots.{first_slot}
 use Rattle.buffer_core.specs.Window.{owes}
 use Rattle.client_pointers.specs.declared.pointer.Pointer.{Pointer}
 use Rattle.client_pointers.specs.Pointers.{clients_of}
-use Rattle.client_pointers.specs.PointerLaws.{first_client}
+use Rattle.client_pointers.proofs.PointerLaws.{first_client}
 use Rattle.client_pointers.proofs.pointers.Pointers.owed.Goals as goal
 
 pub returns-in-Some : goal.returns-in-Some

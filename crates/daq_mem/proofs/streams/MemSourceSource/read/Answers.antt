@@ -1,5 +1,5 @@
 use Rattle.std.proofs.Common.{◌≡◌, ℕ, List, length, min, take, drop, ap, sym, ◌∙◌, subst, arith}
-use Rattle.daq_io.specs.ReadingLaws.{read_front, read_end}
+use Rattle.daq_io.proofs.ReadingLaws.{read_front, read_end}
 use Rattle.daq_mem.proofs.streams.MemSourceSource.read.Goals as goal
 
 pub returns-clause-bytes : goal.returns-clause-bytes

@@ -4,7 +4,7 @@ use Rattle.odb_tree.specs.Rows.{Rows}
 use Rattle.odb_tree.specs.Histories.{IsLegal}
 use Rattle.odb_runinfo.specs.RunKeys.{session_rows}
 use Rattle.odb_script.specs.Forms.{command_of}
-use Rattle.odb_script.specs.KeptForms.{command_of-nil}
+use Rattle.odb_script.proofs.KeptForms.{command_of-nil}
 use Rattle.daq_session.proofs.PlayingLaws.{halts_line, halts_unanswered}
 use Rattle.daq_session.proofs.desk.Desk.handle.Goals as goal
 

@@ -1,5 +1,5 @@
 use Rattle.std.proofs.Common.{◌≡◌, ◌+◌, ◌≤◌, length, take, drop, ap, sym, ◌∙◌, arith}
-use Rattle.daq_io.specs.ReadingLaws.{read_range}
+use Rattle.daq_io.proofs.ReadingLaws.{read_range}
 use Rattle.daq_std.proofs.ahead.ReadAhead.take.Goals as goal
 
 pub returns-clause-moved : goal.returns-clause-moved

@@ -6,7 +6,7 @@ use Rattle.bank_format.specs.BankAreas.{BankValue}
 use Rattle.bank_format.specs.Places.{BankReading}
 use Rattle.event_header.specs.Headers.{event_of}
 use Rattle.event_report.specs.EventBanks.{banks_of, integer_bank}
-use Rattle.event_report.specs.BankAreaLaws.{weight_within, banks_of_area, no_banks}
+use Rattle.event_report.proofs.BankAreaLaws.{weight_within, banks_of_area, no_banks}
 use Rattle.event_report.specs.Steps.{banks_after}
 use Rattle.event_report.specs.Held.{weight}
 use Rattle.event_report.specs.Reports.{Totals}

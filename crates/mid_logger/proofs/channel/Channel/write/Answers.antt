@@ -1,5 +1,5 @@
 use Rattle.std.proofs.Common.{ℕ, List, subst}
-use Rattle.daq_io.specs.SeenLaws.{Extends-name}
+use Rattle.daq_io.proofs.SeenLaws.{Extends-name}
 use Rattle.mid_logger.specs.Channels.{ClosesPart}
 use Rattle.mid_logger.proofs.FileParts.{part_closed, first_once}
 use Rattle.mid_logger.proofs.channel.Channel.write.Goals as goal

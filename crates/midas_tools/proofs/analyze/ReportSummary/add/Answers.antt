@@ -1,5 +1,6 @@
 use Rattle.std.proofs.Common.{◌∙◌, arith, ap, length, ℕ}
-use Rattle.event_report.specs.Reports.{Totals, report_bytes}
+use Rattle.event_report.specs.Reports.{Totals}
+use Rattle.event_report.proofs.Reports.{report_bytes}
 use Rattle.midas_tools.proofs.Reading.{encoded_more}
 use Rattle.midas_tools.proofs.analyze.ReportSummary.add.Goals as goal
 

@@ -1,7 +1,7 @@
 use Rattle.std.proofs.Common.{refl, Ok, Err}
 use Rattle.std.proofs.lemmas.Bool.{false≢true}
 use Rattle.odb_tree.specs.declared.entry.DatabaseEntry.TheVariants.{ListDir}
-use Rattle.odb_journal.specs.HistoryLaws.{noted_next}
+use Rattle.odb_journal.proofs.HistoryLaws.{noted_next}
 use Rattle.odb_journal.proofs.local.LocalDatabase.list.Goals as goal
 
 pub invariant_of-self : goal.invariant_of-self

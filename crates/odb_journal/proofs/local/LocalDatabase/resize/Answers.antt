@@ -1,6 +1,6 @@
 use Rattle.std.proofs.Common.{refl}
 use Rattle.odb_tree.specs.declared.entry.DatabaseEntry.TheVariants.{Resize}
-use Rattle.odb_journal.specs.HistoryLaws.{noted_next}
+use Rattle.odb_journal.proofs.HistoryLaws.{noted_next}
 use Rattle.odb_journal.proofs.local.LocalDatabase.resize.Goals as goal
 
 pub invariant_of-self : goal.invariant_of-self

@@ -1,6 +1,6 @@
 use Rattle.std.proofs.Common.{List, ℕ, ◌<◌, length, sym, subst}
 use Rattle.odb_path.specs.Paths.{depth_limit, IsPath}
-use Rattle.odb_path.specs.PathLaws.{is_path_push}
+use Rattle.odb_path.proofs.PathLaws.{is_path_push}
 use Rattle.odb_path.proofs.paths.Path.push.Goals as goal
 
 pub invariant_of-self-2 : goal.invariant_of-self-2

@@ -7,8 +7,8 @@ use Rattle.buffer_core.specs.Window.{Window, IsWindow}
 use Rattle.plain_buffer.specs.Rows.{slot_of_row, size_of_row, AreSmall, IsSmall, kept_of}
 use Rattle.event_header.specs.Headers.{event_of}
 use Rattle.buffer_core.specs.Calls.{after_send}
-use Rattle.buffer_core.specs.WindowLaws.{slot_cover}
-use Rattle.buffer_core.specs.WindowKept.{IsTaken, send_kept}
+use Rattle.buffer_core.proofs.WindowLaws.{slot_cover}
+use Rattle.buffer_core.proofs.WindowKept.{IsTaken, send_kept}
 use Rattle.plain_buffer.proofs.Admit.{IsFreed, freed, whole_admitted, counted_admitted, kept_admitted, window_admitted, admitted}
 use Rattle.plain_buffer.proofs.plain.PlainBuffer.admit.Goals as goal
 

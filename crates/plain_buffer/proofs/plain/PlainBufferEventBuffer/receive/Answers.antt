@@ -6,7 +6,7 @@ use Rattle.buffer_core.specs.Window.{Window, Sent, accepted_of}
 use Rattle.buffer_core.specs.Calls.{found_in, event_after}
 use Rattle.plain_buffer.specs.Rows.{sent_of, kept_of}
 use Rattle.plain_buffer.specs.Plain.{window_of}
-use Rattle.buffer_core.specs.WindowLaws.{event_got}
+use Rattle.buffer_core.proofs.WindowLaws.{event_got}
 use Rattle.std.specs.Prelude.{slice_set}
 use Rattle.buffer_core.specs.declared.client.Client.{Client}
 use Rattle.plain_buffer.proofs.Stays.{plain_clients, window_got, window_drained}

@@ -1,6 +1,6 @@
 use Rattle.std.proofs.Common.{sym, ◌∙◌, arith}
 use Rattle.buffer_core.specs.declared.gate.RunGate.TheVariants.{Running}
-use Rattle.buffer_core.specs.WindowKept.{gate_kept, paused_last}
+use Rattle.buffer_core.proofs.WindowKept.{gate_kept, paused_last}
 use Rattle.plain_buffer.specs.Plain.{window_of}
 use Rattle.plain_buffer.proofs.Stays.{plain_gate}
 use Rattle.plain_buffer.proofs.plain.PlainBufferEventBuffer.resume.Goals as goal

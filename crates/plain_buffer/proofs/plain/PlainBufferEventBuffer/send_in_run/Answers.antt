@@ -1,6 +1,6 @@
 use Rattle.std.proofs.Common.{◌≤◌, sym, ◌∙◌, subst, arith}
 use Rattle.buffer_core.specs.Window.{Window}
-use Rattle.buffer_core.specs.WindowKept.{running_last}
+use Rattle.buffer_core.proofs.WindowKept.{running_last}
 use Rattle.plain_buffer.proofs.plain.PlainBufferEventBuffer.send_in_run.Goals as goal
 
 pub put-requires : goal.put-requires

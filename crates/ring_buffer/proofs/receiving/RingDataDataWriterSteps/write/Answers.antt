@@ -1,6 +1,6 @@
 use Rattle.std.proofs.Common.{ℕ, ap, ◌∙◌, arith}
 use Rattle.ring_bytes.specs.Rings.{bytes_at}
-use Rattle.ring_bytes.specs.RingLaws.{length-bytes_at}
+use Rattle.ring_bytes.proofs.RingLaws.{length-bytes_at}
 use Rattle.ring_buffer.proofs.receiving.RingDataDataWriterSteps.write.Goals as goal
 
 pub get_at-requires : goal.get_at-requires

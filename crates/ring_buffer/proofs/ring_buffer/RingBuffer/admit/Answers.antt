@@ -3,7 +3,7 @@ use Rattle.daq_model.specs.Events.{slot_size, slot_of_length}
 use Rattle.event_header.specs.Headers.{event_of}
 use Rattle.buffer_core.specs.Window.{Window}
 use Rattle.buffer_core.specs.Calls.{after_send}
-use Rattle.buffer_core.specs.WindowLaws.{slot_cover}
+use Rattle.buffer_core.proofs.WindowLaws.{slot_cover}
 use Rattle.ring_buffer.proofs.Fields.{length-front_of}
 use Rattle.ring_buffer.proofs.Sending.{accepted_is, admitted, written_is, window_after_is, ring_after_is}
 use Rattle.ring_buffer.proofs.ring_buffer.RingBuffer.admit.Goals as goal

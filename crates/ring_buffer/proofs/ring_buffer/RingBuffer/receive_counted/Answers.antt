@@ -1,14 +1,14 @@
 use Rattle.std.proofs.Common.{◌≡◌, ◌+◌, ◌-◌, ◌≤◌, ℕ, length, refl, ap, sym, subst, ◌∙◌, arith, Option}
 use Rattle.daq_model.specs.Events.{slot_of_length}
 use Rattle.event_header.specs.Held.{HeldEvent}
-use Rattle.ring_bytes.specs.RingLaws.{length-bytes_at}
+use Rattle.ring_bytes.proofs.RingLaws.{length-bytes_at}
 use Rattle.buffer_core.specs.declared.client.Client.{Client}
 use Rattle.buffer_core.specs.declared.entry.BufferEntry.TheVariants.{Receive}
 use Rattle.buffer_core.specs.declared.replies.Received.TheVariants.{Got, Empty, SmallBuf}
 use Rattle.buffer_core.specs.Slots.{slot_at, change_slot}
 use Rattle.buffer_core.specs.Window.{Window, Sent, IsWindow, slot_of_sent, accepted_of}
-use Rattle.buffer_core.specs.WindowKept.{window_stays}
-use Rattle.buffer_core.specs.WindowLaws.{event_got, slot_cover}
+use Rattle.buffer_core.proofs.WindowKept.{window_stays}
+use Rattle.buffer_core.proofs.WindowLaws.{event_got, slot_cover}
 use Rattle.buffer_core.specs.Calls.{going_on, with_clients, event_after}
 use Rattle.client_pointers.specs.Pointers.{clients_of}
 use Rattle.ring_buffer.specs.Stored.{event_at}

@@ -1,7 +1,7 @@
 use Rattle.std.proofs.Common.{Ok, sym}
 use Rattle.event_header.specs.Headers.{event_of}
 use Rattle.buffer_core.specs.declared.entry.BufferEntry.TheVariants.{Send}
-use Rattle.buffer_core.specs.WindowKept.{window_stays}
+use Rattle.buffer_core.proofs.WindowKept.{window_stays}
 use Rattle.ring_buffer.proofs.ring_buffer.RingBuffer.send_counted.Goals as goal
 
 pub put-requires : goal.put-requires

@@ -4,7 +4,7 @@ use Rattle.buffer_core.specs.declared.entry.BufferEntry.TheVariants.{SendInRun}
 use Rattle.buffer_core.specs.Window.{Window}
 use Rattle.buffer_core.specs.Calls.{is_running, send_reply}
 use Rattle.buffer_core.specs.declared.replies.SendRefusal.TheVariants.{NotRunning}
-use Rattle.buffer_core.specs.WindowKept.{window_stays}
+use Rattle.buffer_core.proofs.WindowKept.{window_stays}
 use Rattle.ring_buffer.proofs.ring_buffer.RingBuffer.send_in_run_counted.Goals as goal
 
 pub put-requires : goal.put-requires

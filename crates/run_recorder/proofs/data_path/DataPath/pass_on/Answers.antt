@@ -2,7 +2,7 @@ use Rattle.std.proofs.Common.{◌≤◌, refl, ◌∙◌, arith}
 use Rattle.std.proofs.Math.Logic.{∥∥₁_map, ∥∥₁_elim}
 use Rattle.std.proofs.Props.{props}
 use Rattle.std.specs.Prelude.{length}
-use Rattle.buffer_core.specs.WindowLaws.{IsSendable}
+use Rattle.buffer_core.proofs.WindowLaws.{IsSendable}
 use Rattle.run_recorder.proofs.Passing.{passed, not_refused}
 use Rattle.run_recorder.proofs.data_path.DataPath.pass_on.Goals as goal
 

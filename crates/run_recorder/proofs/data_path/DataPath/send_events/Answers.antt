@@ -1,7 +1,7 @@
 use Rattle.std.proofs.Common.{rules, ◌+◌, ◌++◌, ◌∷◌, [], ℕ, ◌∙◌, ap, arith, length}
 use Rattle.daq_types.specs.declared.events.Event.{Event}
 use Rattle.daq_model.specs.Events.{encoding, slot_size}
-use Rattle.daq_model.specs.GeneratorLaws.{generated_body_is_small, generated_slot_is_small}
+use Rattle.daq_model.proofs.GeneratorLaws.{generated_body_is_small, generated_slot_is_small}
 use Rattle.buffer_core.specs.Window.{accepted_of}
 use Rattle.run_recorder.specs.BufferEntries.{passed_entries}
 use Rattle.run_recorder.proofs.Sending.{sent_more}

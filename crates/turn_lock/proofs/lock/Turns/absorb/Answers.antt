@@ -5,8 +5,8 @@ use Rattle.turn_lock.specs.Views.{carried}
 use Rattle.turn_lock.specs.Passes.{held_by}
 use Rattle.turn_lock.specs.Closing.{Absorbs}
 use Rattle.turn_lock.proofs.Endings.{Absorbing-join}
-use Rattle.turn_lock.specs.Laws.{All_last}
-use Rattle.turn_lock.specs.Laws.{prefix_self}
+use Rattle.turn_lock.proofs.LockLaws.{All_last}
+use Rattle.turn_lock.proofs.LockLaws.{prefix_self}
 use Rattle.turn_lock.proofs.lock.Turns.absorb.Goals as goal
 
 pub loop-pass-init : goal.loop-pass-init

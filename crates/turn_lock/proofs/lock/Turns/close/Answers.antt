@@ -4,7 +4,7 @@ use Rattle.std.proofs.lemmas.List.Elements.{All-same, All-map, All-contains, All
 use Rattle.turn_lock.specs.declared.lock.Pass.{Pass}
 use Rattle.daq_types.specs.Callers.{entries_by}
 use Rattle.turn_lock.specs.History.{IsPartOf}
-use Rattle.turn_lock.specs.Laws.{length_history}
+use Rattle.turn_lock.proofs.LockLaws.{length_history}
 use Rattle.turn_lock.specs.Protocol.{IsPaired}
 use Rattle.turn_lock.specs.Passes.{number_of, seen_by, own_entries, held_by, IsOf}
 use Rattle.turn_lock.specs.Roster.{numbers_of}

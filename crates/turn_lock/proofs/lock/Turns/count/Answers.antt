@@ -1,6 +1,6 @@
 use Rattle.std.proofs.Common.{rules, ap, refl, ◌++◌}
 use Rattle.turn_lock.specs.Passes.{seen_by}
-use Rattle.turn_lock.specs.Laws.{leads_in_step}
+use Rattle.turn_lock.proofs.LockLaws.{leads_in_step}
 use Rattle.turn_lock.proofs.Keeps.{counts_kept}
 use Rattle.turn_lock.proofs.lock.Turns.count.Goals as goal
 

@@ -12,8 +12,9 @@ use Rattle.bank_format.specs.Formats.{flags_of, format_with}
 use Rattle.bank_format.specs.BankAreas.{BankValue, BanksBefore, IsBankArea}
 use Rattle.bank_format.specs.Places.{stated_length, stated_flags, banks_in}
 use Rattle.bank_format.specs.Faults.{front_fault, BreaksOff}
-use Rattle.bank_format.specs.Spelled.{IsBytes, word_back}
-use Rattle.bank_format.specs.AreaLaws.{area_is, broken_is_not_whole}
+use Rattle.bank_format.specs.Spelled.{IsBytes}
+use Rattle.bank_format.proofs.Spelled.{word_back}
+use Rattle.bank_format.proofs.AreaLaws.{area_is, broken_is_not_whole}
 
 some_format : Format → Option Format
 some_format f = Some f

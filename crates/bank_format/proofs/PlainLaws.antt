@@ -8,7 +8,7 @@ use Rattle.bank_format.specs.declared.formats.Format.TheVariants.{Bank16, Bank32
 use Rattle.bank_format.specs.Formats.{flags_of, header_len, reserved_len, padded, padding_len}
 use Rattle.bank_format.specs.BankAreas.{BankValue, IsBank, IsFirst, BanksBefore, IsBankArea, field, plain_header, plain_bank, plain_area, plain_banks}
 use Rattle.bank_format.specs.Places.{banks_in}
-use Rattle.bank_format.specs.AreaLaws.{area_is}
+use Rattle.bank_format.proofs.AreaLaws.{area_is}
 
 length-plain_header : (f : Format) (name : List ℕ) (tid size : ℕ) → length name ≡ 4 → length (plain_header f name tid size) ≡ header_len f
 length-plain_header Bank16 name tid size four = omega (arith, length-append name (field Bank16 tid ++ (field Bank16 size ++ [])))

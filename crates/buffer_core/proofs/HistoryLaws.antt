@@ -14,8 +14,8 @@ use Rattle.buffer_core.specs.Window.{Window, Sent, opening, slot_of_sent, IsWind
 use Rattle.buffer_core.specs.Calls.{IsReply, window_after, found_in, found_reply, receive_reply_to}
 use Rattle.buffer_core.specs.Histories.{replay, IsLegal}
 use Rattle.buffer_core.specs.SlotLaws.{split}
-use Rattle.buffer_core.specs.WindowLaws.{slot_cover, found_stands}
-use Rattle.buffer_core.specs.WindowKept.{window_opens, window_stays}
+use Rattle.buffer_core.proofs.WindowLaws.{slot_cover, found_stands}
+use Rattle.buffer_core.proofs.WindowKept.{window_opens, window_stays}
 
 -- one call more at the end
 pub replay-push : (w : Window) (h : List (ℕ × BufferEntry)) (by : ℕ) (e : BufferEntry) → replay w (h ++ (by, e) ∷ []) ≡ window_after (replay w h) e

@@ -10,7 +10,8 @@ use mathlib.Core.Option.{none, some, some-ne-none}
 use native.Mathlib.Decide.{ℕ_discrete, dec_le}
 use lib.ListN.{get_elem?}
 use Rattle.atomic_table.proofs.Lists.{at_last}
-use Rattle.daq_types.specs.Callers.{entries_by, entries_by-append, entries_by-other}
+use Rattle.daq_types.specs.Callers.{entries_by}
+use Rattle.daq_types.proofs.CallersLaws.{entries_by-append, entries_by-other}
 use Rattle.turn_lock.specs.History.{entries_below, Leads, EndsInStep}
 use Rattle.turn_lock.specs.Views.{longer, pair_of}
 

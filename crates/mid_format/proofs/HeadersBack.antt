@@ -3,7 +3,8 @@ use Rattle.std.proofs.Common.{◌≡◌, ◌∙◌, ℕ, ◌+◌, ◌≤◌, ◌
 use Rattle.std.proofs.lemmas.Bool.{le-ltb}
 use Rattle.std.proofs.lemmas.Nat.{from_le_bytes-to_le_bytes_2, from_le_bytes-to_le_bytes_4}
 use Rattle.daq_model.specs.Events.{header_bytes}
-use Rattle.event_header.specs.Headers.{header_encoding, length-header_encoding}
+use Rattle.event_header.specs.Headers.{header_encoding}
+use Rattle.event_header.proofs.Headers.{length-header_encoding}
 use Rattle.event_header.specs.declared.head.Header.{Header}
 use Rattle.mid_format.specs.Faults.{header_at, header_fault, or_else, fault_at}
 use Rattle.mid_format.specs.declared.faults.MidFault.{MidFault}

@@ -8,12 +8,13 @@ use Rattle.daq_model.specs.Events.{encoding, all_encoded}
 use Rattle.daq_model.specs.RunFile.{begin_record, end_record, begun_file}
 use Rattle.daq_model.specs.Generator.{generated_events}
 use Rattle.daq_io.specs.Seen.{Seen, Stored, stored_open, stored_closed, IsFree, KeepsNumbers, Same, Creates, Closes, Touches}
-use Rattle.daq_io.specs.SeenLaws.{KeepsNumber-free, KeepsNumbers-from, KeepsNumbers-trans, KeepsOthers-trans}
+use Rattle.daq_io.proofs.SeenLaws.{KeepsNumber-free, KeepsNumbers-from, KeepsNumbers-trans, KeepsOthers-trans}
 use Rattle.session_console.specs.declared.records.RunRecord.{RunRecord}
 use Rattle.session_console.specs.declared.records.FrontTally.{FrontTally}
 use Rattle.session_console.specs.declared.records.FileRecord.{FileRecord}
 use Rattle.run_recorder.specs.RunRecords.{RunOn}
-use Rattle.run_recorder.specs.RunRecords.{refused_record, file_record, completed_record, file_of, IsFiled, Avoids, IsKept, order_of, generated_events-by}
+use Rattle.run_recorder.specs.RunRecords.{refused_record, file_record, completed_record, file_of, IsFiled, Avoids, IsKept, order_of}
+use Rattle.run_recorder.proofs.RunRecords.{generated_events-by}
 use Rattle.run_recorder.specs.RunNames.{run_name}
 
 -- a name that is not of a closed file is of no recorded run

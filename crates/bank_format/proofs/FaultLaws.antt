@@ -4,9 +4,9 @@ use Rattle.bank_format.specs.declared.formats.Format.{Format}
 use Rattle.bank_format.specs.declared.faults.BankFault.{BankFault}
 use Rattle.bank_format.specs.BankAreas.{BankValue, BanksBefore, IsBankArea}
 use Rattle.bank_format.specs.Faults.{bank_fault, BreaksOff, AreaBreaksOff, IsFirstFault}
-use Rattle.bank_format.specs.BankLaws.{front_is}
-use Rattle.bank_format.specs.AreaLaws.{first_has, fits_no_fault}
-use Rattle.bank_format.specs.FrontLaws.{one_format, no_fault, front_broken, broken_area}
+use Rattle.bank_format.proofs.BankLaws.{front_is}
+use Rattle.bank_format.proofs.AreaLaws.{first_has, fits_no_fault}
+use Rattle.bank_format.proofs.FrontLaws.{one_format, no_fault, front_broken, broken_area}
 
 same_fault : (a b : BankFault) → Some a ≡ Some b → a ≡ b
 same_fault a b e = cc

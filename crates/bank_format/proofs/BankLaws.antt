@@ -6,7 +6,8 @@ use Rattle.bank_format.specs.declared.formats.Format.TheVariants.{Bank16, Bank32
 use Rattle.bank_format.specs.Formats.{header_len, padded, padding_len}
 use Rattle.bank_format.specs.BankAreas.{BankValue, bank_value, IsFirst, field}
 use Rattle.bank_format.specs.Places.{stated_name, stated_tid, stated_size, front_bank, behind_bank, HasBank}
-use Rattle.bank_format.specs.Spelled.{HeaderIs, spelled_at, IsBytes, respelled}
+use Rattle.bank_format.proofs.Spelled.{HeaderIs, spelled_at, respelled}
+use Rattle.bank_format.specs.Spelled.{IsBytes}
 
 -- a bank that stands at the front, by its places
 pub record IsFront (f : Format) (b : BankValue) (rest bytes : List ℕ) : Type 0 where

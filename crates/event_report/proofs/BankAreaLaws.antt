@@ -11,9 +11,9 @@ use Rattle.bank_format.specs.BankAreas.{BankValue, BanksBefore}
 use Rattle.bank_format.specs.Places.{stated_flags, stated_size, behind_bank, HasBank, banks_within, banks_in}
 use Rattle.bank_format.specs.Faults.{front_fault, IsFirstFault, HoldsBanks}
 use Rattle.bank_format.specs.Spelled.{IsBytes}
-use Rattle.bank_format.specs.BankLaws.{front_is, front_back, behind_is_shorter, header_is_some, IsBytes-behind}
-use Rattle.bank_format.specs.FrontLaws.{front_right, named_by, front_of, banks_are, is_bank_area}
-use Rattle.bank_format.specs.FaultLaws.{area_has_no_fault}
+use Rattle.bank_format.proofs.BankLaws.{front_is, front_back, behind_is_shorter, header_is_some, IsBytes-behind}
+use Rattle.bank_format.proofs.FrontLaws.{front_right, named_by, front_of, banks_are, is_bank_area}
+use Rattle.bank_format.proofs.FaultLaws.{area_has_no_fault}
 use Rattle.event_report.specs.EventBanks.{are_banks, area_banks, banks_of}
 use Rattle.event_report.specs.Held.{weight}
 

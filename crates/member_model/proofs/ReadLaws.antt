@@ -9,7 +9,7 @@ use Rattle.buffer_core.specs.declared.entry.BufferEntry.{BufferEntry}
 use Rattle.buffer_core.specs.declared.entry.BufferEntry.TheVariants.{Request, Receive, Begin, End}
 use Rattle.buffer_core.specs.Ports.{GotEvent, name_of, name_given, names_given}
 use Rattle.member_model.specs.OwnCalls.{calls_after, asks, LeavesAsking, KeepsAsking, HasDrained, AreGivenBy, is_within, event_at, events_at}
-use Rattle.member_model.specs.SentLaws.{EachCall-push}
+use Rattle.member_model.proofs.SentLaws.{EachCall-push}
 use Rattle.member_model.specs.ReadRuns.{EndsNot, AskedOnce, IsAsking, IsReading, IsDraining, HasReadRun}
 
 -- Lists

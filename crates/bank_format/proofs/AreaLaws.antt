@@ -9,7 +9,7 @@ use Rattle.bank_format.specs.BankAreas.{BankValue, IsFirst, BanksBefore}
 use Rattle.bank_format.specs.Places.{front_bank, behind_bank, HasBank, banks_within, banks_in, stated_size}
 use Rattle.bank_format.specs.Faults.{bank_fault, Passes}
 use Rattle.bank_format.specs.Spelled.{IsBytes}
-use Rattle.bank_format.specs.BankLaws.{front_is, front_back, behind_is_shorter, header_is_some}
+use Rattle.bank_format.proofs.BankLaws.{front_is, front_back, behind_is_shorter, header_is_some}
 
 before-snoc : (f : Format) (bs : List BankValue) (b : BankValue) (rest left area : List ℕ) → BanksBefore f bs left area → IsFirst f b rest left → BanksBefore f (bs ++ b ∷ []) rest area
 before-snoc f [] b rest left area here first = (rest, subst (λ (xs : List ℕ). IsFirst f b rest xs) (sym here) first, refl)
