@@ -14,7 +14,7 @@ use Rattle.buffer_core.specs.Ports.{Access, GotEvent}
 use Rattle.event_report.specs.Reports.{Totals, report_of}
 use Rattle.transitions.specs.declared.answers.Answer.TheVariants.{Yes}
 use Rattle.transitions.specs.declared.answers.Tally.TheVariants.{Plain, Report}
-use Rattle.member_model.specs.Turns.{MemberTurn, HasTurnOf, answered}
+use Rattle.member_model.specs.Turns.{MemberTurn, HasTurnOf, latest_answered}
 use Rattle.member_model.proofs.TurnLaws.{HasTurnOf-earlier}
 use Rattle.member_model.specs.OwnCalls.{LeavesAsking, HasDrained}
 use Rattle.analyzers.specs.declared.analyzer_pull.AnalyzerPull.{AnalyzerPull}
@@ -230,17 +230,17 @@ reported wanted client r own got order earlier events same none whole report sta
     }
 
 finish_stage : (stage : AnalyzerStage) (wanted : EventRequest) (client : Option ℕ) (r : AnalyzerRun) (own : List BufferEntry) (got : List GotEvent) (turns : List MemberTurn) (events : List Event) → StageCounts stage own got turns (count_request wanted r.client r.request r.start) events
-    → r.report ≡ report_of events → AnalyzerStands wanted client (Some r) own got turns → AnalyzerStands wanted client (run_reported (Some r) (report_in stage r.report)) own got (answered turns (report_in stage r.report))
+    → r.report ≡ report_of events → AnalyzerStands wanted client (Some r) own got turns → AnalyzerStands wanted client (run_reported (Some r) (report_in stage r.report)) own got (latest_answered turns (report_in stage r.report))
 finish_stage Counting wanted client r own got turns events counts report stands = stands
 finish_stage (Draining accepted) wanted client r own got turns events counts report stands = stands
 finish_stage Drained wanted client r own got turns events counts report stands =
     let stop : IsStopOpen r.start turns = counts.0 in
-    subst (λ (ts : List MemberTurn). AnalyzerStands wanted client None own got (answered ts (Some (Yes (Report r.report))))) (sym stop.latest)
+    subst (λ (ts : List MemberTurn). AnalyzerStands wanted client None own got (latest_answered ts (Some (Yes (Report r.report))))) (sym stop.latest)
     (reported wanted client r own got stop.order stop.earlier events stop.of counts.1 counts.2 report (subst (λ (ts : List MemberTurn). AnalyzerStands wanted client (Some r) own got ts) stop.latest stands))
 
 -- what holds before a finish holds behind it, with the answer of the stop that waited
 pub finish_kept : (wanted : EventRequest) (client : Option ℕ) (run : Option AnalyzerRun) (own : List BufferEntry) (got : List GotEvent) (turns : List MemberTurn) → AnalyzerStands wanted client run own got turns
-    → AnalyzerStands wanted client (run_reported run (report_answer run)) own got (answered turns (report_answer run))
+    → AnalyzerStands wanted client (run_reported run (report_answer run)) own got (latest_answered turns (report_answer run))
 finish_kept wanted client None own got turns stands = stands
 finish_kept wanted client (Some r) own got turns stands =
     let on : CountsRun wanted client r own got turns = stands.counts in

@@ -8,7 +8,7 @@ use Rattle.buffer_core.specs.Ports.{GotEvent}
 use Rattle.event_report.specs.Reports.{Totals}
 use Rattle.transitions.specs.declared.answers.Answer.TheVariants.{Yes}
 use Rattle.transitions.specs.declared.answers.Tally.TheVariants.{Report}
-use Rattle.member_model.specs.Turns.{MemberTurn, HasTurnOf, IsAnswered, NoneOpen}
+use Rattle.member_model.specs.Turns.{MemberTurn, HasTurnOf, HasAnswer, NoneOpen}
 use Rattle.member_model.proofs.TurnLaws.{HasTurnOf-more}
 use Rattle.analyzers.specs.declared.analyzer_run.EventRequest.{EventRequest}
 use Rattle.analyzers.specs.declared.analyzer_run.AnalyzerRun.{AnalyzerRun}
@@ -67,13 +67,13 @@ reports_more wanted own got turns t other hold = λ u report here is. elim here 
 pub none_stops : (start : ℕ) (turns : List MemberTurn) → NoneOpen turns → IsStopOpen start turns → ⊥
 none_stops start turns none stop = subst (λ (ts : List MemberTurn). NoneOpen ts) stop.latest none
 
-stage_more : (stage : AnalyzerStage) (own : List BufferEntry) (got : List GotEvent) (turns : List MemberTurn) (t : MemberTurn) (q : CountRequest) (events : List Event) → NoneOpen turns → IsAnswered t.answer → StageCounts stage own got turns q events
+stage_more : (stage : AnalyzerStage) (own : List BufferEntry) (got : List GotEvent) (turns : List MemberTurn) (t : MemberTurn) (q : CountRequest) (events : List Event) → NoneOpen turns → HasAnswer t.answer → StageCounts stage own got turns q events
     → StageCounts stage own got (t ∷ turns) q events
 stage_more Counting own got turns t q events none answer counts = (answer, counts.1)
 stage_more (Draining accepted) own got turns t q events none answer counts = absurd (none_stops q.start turns none counts.0)
 stage_more Drained own got turns t q events none answer counts = absurd (none_stops q.start turns none counts.0)
 
-run_more : (wanted : EventRequest) (client : Option ℕ) (run : Option AnalyzerRun) (own : List BufferEntry) (got : List GotEvent) (turns : List MemberTurn) (t : MemberTurn) → NoneOpen turns → IsAnswered t.answer → RunCounts wanted client run own got turns
+run_more : (wanted : EventRequest) (client : Option ℕ) (run : Option AnalyzerRun) (own : List BufferEntry) (got : List GotEvent) (turns : List MemberTurn) (t : MemberTurn) → NoneOpen turns → HasAnswer t.answer → RunCounts wanted client run own got turns
     → RunCounts wanted client run own got (t ∷ turns)
 run_more wanted client None own got turns t none answer counts = (answer, counts.1)
 run_more wanted client (Some r) own got turns t none answer counts = record {
@@ -87,7 +87,7 @@ run_more wanted client (Some r) own got turns t none answer counts = record {
 }
 
 -- a turn that is answered at once, without a report, and leaves the run
-pub plain_more : (wanted : EventRequest) (client : Option ℕ) (run : Option AnalyzerRun) (own : List BufferEntry) (got : List GotEvent) (turns : List MemberTurn) (t : MemberTurn) → NoneOpen turns → IsAnswered t.answer
+pub plain_more : (wanted : EventRequest) (client : Option ℕ) (run : Option AnalyzerRun) (own : List BufferEntry) (got : List GotEvent) (turns : List MemberTurn) (t : MemberTurn) → NoneOpen turns → HasAnswer t.answer
     → ((report : Totals) → t.answer ≢ Some (Yes (Report report))) → AnalyzerStands wanted client run own got turns → AnalyzerStands wanted client run own got (t ∷ turns)
 plain_more wanted client run own got turns t none answer other stands = record {
   calls = stands.calls;

@@ -25,7 +25,7 @@ use Rattle.analyzers.specs.declared.analyzer_run.AnalyzerRun.{AnalyzerRun}
 use Rattle.analyzers.specs.declared.analyzer_run.AnalyzerStage.{AnalyzerStage}
 use Rattle.analyzers.specs.declared.analyzer_run.AnalyzerStage.TheVariants.{Counting, Draining, Drained}
 use Rattle.analyzers.specs.Analyzers.{AnalyzerAt, run_at}
-use Rattle.analyzers.specs.AnalyzerTurns.{analyzer_turn, analyzer_name, StaysAt, CancelsIn, DropsRun, GetsClient, BeginsBy, RequestsRun, StartsBy, StopsRun, StopsOwn, StopsBy, TurnsBy, begun_count}
+use Rattle.analyzers.specs.AnalyzerTurns.{analyzer_turn, analyzer_name, StaysAt, CancelsIn, DropsRun, GetsClient, BeginsBy, RequestsRun, StartsBy, StopsRun, StopsOwn, AnswersStop, TurnsBy, begun_count}
 use Rattle.analyzers.specs.CountedRuns.{CountRequest, IsCounted}
 use Rattle.analyzers.specs.AnalyzerKept.{HasOwnClient, AsksForNone, ReportsHold, StageCounts, CountsRun, AnalyzerStands, count_request}
 use Rattle.analyzers.proofs.OwnCallSteps.{reader_push, client_stays, none_stays, client_given, new_asks_none}
@@ -207,7 +207,7 @@ stop_own false wanted client r order port b answer turns same none stops stands 
     (stays_kept wanted (record { client = client; run = Some r; port = port }) b turns (analyzer_turn Stop order (Some (Yes Plain))) stops.1 none (λ report tells. cc (tells)) (Yes Plain) refl stands)
 
 stop_kept : (wanted : EventRequest) (client : Option ℕ) (run : Option AnalyzerRun) (order : Order) (port : Access) (b : AnalyzerAt) (answer : Option Answer) (turns : List MemberTurn) → NoneOpen turns
-    → StopsBy run order.start (record { client = client; run = run; port = port }) b answer → StandsBy wanted client run port turns → StandsBy wanted b.client b.run b.port (analyzer_turn Stop order answer ∷ turns)
+    → AnswersStop run order.start (record { client = client; run = run; port = port }) b answer → StandsBy wanted client run port turns → StandsBy wanted b.client b.run b.port (analyzer_turn Stop order answer ∷ turns)
 stop_kept wanted client None order port b answer turns none stops stands =
     rw stops.0
     (stays_kept wanted (record { client = client; run = None; port = port }) b turns (analyzer_turn Stop order (Some (Yes Plain))) stops.1 none (λ report tells. cc (tells)) (Yes Plain) refl stands)

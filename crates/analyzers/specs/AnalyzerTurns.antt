@@ -99,14 +99,14 @@ StopsOwn true r a b answer = StopsCount r a b answer
 StopsOwn false r a b answer = (answer ≡ Some (Yes Plain)) × StaysAt a b
 
 -- A stop of the run that is counted waits for its answer; any other is answered at once.
-abbrev pub StopsBy : Option AnalyzerRun → (start : ℕ) → (a b : AnalyzerAt) → Option Answer → Type 0
-StopsBy None start a b answer = (answer ≡ Some (Yes Plain)) × StaysAt a b
-StopsBy (Some r) start a b answer = StopsOwn (r.start == start) r a b answer
+abbrev pub AnswersStop : Option AnalyzerRun → (start : ℕ) → (a b : AnalyzerAt) → Option Answer → Type 0
+AnswersStop None start a b answer = (answer ≡ Some (Yes Plain)) × StaysAt a b
+AnswersStop (Some r) start a b answer = StopsOwn (r.start == start) r a b answer
 
 -- What a turn does. A start-abort drops the run, and a pause or resume does nothing.
 abbrev pub TurnsBy : Transition → EventRequest → Order → (blank : Option Totals) → (a b : AnalyzerAt) → Option Answer → Type 0
 TurnsBy Start wanted order blank a b answer = (given : Answer) × (answer ≡ Some given) × StartsBy blank wanted order.start a b given
-TurnsBy Stop wanted order blank a b answer = StopsBy a.run order.start a b answer
+TurnsBy Stop wanted order blank a b answer = AnswersStop a.run order.start a b answer
 TurnsBy Pause wanted order blank a b answer = (answer ≡ Some (Yes Plain)) × StaysAt a b
 TurnsBy Resume wanted order blank a b answer = (answer ≡ Some (Yes Plain)) × StaysAt a b
 TurnsBy StartAbort wanted order blank a b answer =

@@ -5,10 +5,10 @@ ghost use Rattle.daq_model.specs.Events.{event_limit};
 ghost use Rattle.event_report.specs.Reports.{report_of};
 ghost use Rattle.transitions.specs.declared.answers.Answer.TheVariants.{Yes};
 ghost use Rattle.transitions.specs.declared.answers.Tally.TheVariants.{Plain};
-ghost use Rattle.member_model.specs.Turns.{MemberTurn, NoneOpen, answered};
+ghost use Rattle.member_model.specs.Turns.{MemberTurn, NoneOpen, latest_answered};
 ghost use Rattle.analyzers.specs.declared.analyzer_run.AnalyzerStage.TheVariants.{Drained};
 ghost use Rattle.analyzers.specs.Analyzers.{AnalyzerState, CancelsRun, IsWithinGot, run_at};
-ghost use Rattle.analyzers.specs.AnalyzerTurns.{CancelsIn, DropsRun, GetsClient, StartsBy, StopsBy, StopsRun, TurnsBy, RequestsRun, analyzer_turn, report_answer, run_reported};
+ghost use Rattle.analyzers.specs.AnalyzerTurns.{CancelsIn, DropsRun, GetsClient, StartsBy, AnswersStop, StopsRun, TurnsBy, RequestsRun, analyzer_turn, report_answer, run_reported};
 ghost use Rattle.analyzers.specs.AnalyzerPulls.{CountsOwn, CountsReply, EndsReading, PullsBy, ReceivesFor, drains_by, got_bytes, pull_answer, was_drained};
 ghost use Rattle.analyzers.specs.AnalyzerKept.{AnalyzerStands};
 
@@ -303,7 +303,7 @@ impl Analyzer {
         requires entries { 1 ≤ (P.access port.old).entries }
         ensures wanted { self.new.wanted ≡ self.old.wanted }
         ensures room { self.new.room ≡ self.old.room }
-        ensures stops { StopsBy self.old.run order.now.start (record {
+        ensures stops { AnswersStop self.old.run order.now.start (record {
           client = self.old.client;
           run = self.old.run;
           port = P.access port.old;
@@ -484,7 +484,7 @@ impl Analyzer {
         ensures keeps { (own : List BufferEntry) → (got : List GotEvent) → (turns : List MemberTurn) →
             AnalyzerStands self.old.wanted self.old.client self.old.run own got turns →
             AnalyzerStands self.new.wanted self.new.client self.new.run own got
-            (answered turns result) }
+            (latest_answered turns result) }
     {
         let run = self.run.take()?;
         if !is_drained(run.stage) {

@@ -10,7 +10,7 @@ use Rattle.bank_format.proofs.Spelled.{HeaderIs, spelled_at, respelled}
 use Rattle.bank_format.specs.Spelled.{IsBytes}
 
 -- a bank that stands at the front, by its places
-pub record IsFront (f : Format) (b : BankValue) (rest bytes : List ℕ) : Type 0 where
+pub record IsFrontBank (f : Format) (b : BankValue) (rest bytes : List ℕ) : Type 0 where
   pub bank : front_bank f bytes ≡ b
   pub rest_is : behind_bank f bytes ≡ rest
   pub has : HasBank f bytes
@@ -25,7 +25,7 @@ data_then body padding rest p =
     subst (λ (xs : List ℕ). drop (padded (length body)) xs ≡ rest) (append_assoc body padding rest) (drop_at (body ++ padding) rest (padded (length body)) whole)
 
 front_at : (f : Format) (b : BankValue) (bytes padding rest : List ℕ) → length padding ≡ padding_len (length b.body)
-    → HeaderIs f bytes b.name b.tid (length b.body) (b.body ++ (padding ++ rest)) → IsFront f b rest bytes
+    → HeaderIs f bytes b.name b.tid (length b.body) (b.body ++ (padding ++ rest)) → IsFrontBank f b rest bytes
 front_at f b bytes padding rest p is =
     let body_is : take (stated_size f bytes) (drop (header_len f) bytes) ≡ b.body =
     rw (is.size_is, is.more_is) (take_at b.body (padding ++ rest) (length b.body) refl) in
@@ -39,9 +39,9 @@ front_at f b bytes padding rest p is =
     }
 
 -- a bank that was spelled at the front stands there
-pub front_is : (f : Format) (b : BankValue) (rest bytes : List ℕ) → IsFirst f b rest bytes → IsFront f b rest bytes
+pub front_is : (f : Format) (b : BankValue) (rest bytes : List ℕ) → IsFirst f b rest bytes → IsFrontBank f b rest bytes
 front_is f b rest bytes first =
-    subst (λ (xs : List ℕ). IsFront f b rest xs) (sym first.spelled)
+    subst (λ (xs : List ℕ). IsFrontBank f b rest xs) (sym first.spelled)
     (front_at f b _ first.padding rest first.padding_is
     (spelled_at f b.name b.tid (length b.body) first.reserved (b.body ++ (first.padding ++ rest)) first.bank.name first.bank.tid first.bank.size first.reserved_is))
 

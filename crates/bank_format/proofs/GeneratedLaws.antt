@@ -3,7 +3,7 @@ use Rattle.std.proofs.Common.{◌≡◌, ℕ, ◌+◌, ◌*◌, ◌/◌, ◌%◌
 use Rattle.std.specs.Prelude.{codes}
 use Rattle.std.specs.Int.{to_le_bytes, w16, w32}
 use Rattle.std.proofs.lemmas.List.{append-nil}
-use Rattle.daq_model.specs.Generator.{words_from, first_state, word_count, generated_body}
+use Rattle.daq_model.specs.Generator.{generated_words, first_state, word_count, generated_body}
 use Rattle.daq_model.proofs.GeneratorLaws.{length-words_from, length-words_encoded}
 use Rattle.bank_format.specs.declared.formats.Format.TheVariants.{Bank16}
 use Rattle.bank_format.specs.Formats.{padded, padding_len}
@@ -25,7 +25,7 @@ unfolding generated_body
 generated_is_plain id start k =
     let b : BankValue = generated_bank id start k in
     let count : ℕ = word_count k in
-    let words : List ℕ = words_from count (first_state id start k) in
+    let words : List ℕ = generated_words count (first_state id start k) in
     let len : length b.body ≡ 4 * count = length-words_encoded words ∙ ap (λ n. 4 * n) (length-words_from count (first_state id start k)) in
     same_area (8 + (4 * count + 7) / 8 * 8) (length (plain_bank Bank16 b)) (4 * count) (length b.body) (4 * (count % 2)) (padding_len (length b.body)) b.body
     (omega (arith, length-plain_bank Bank16 b refl, ap padded len)) (sym len) (omega (arith, len, ap padding_len len))

@@ -13,7 +13,7 @@ use Rattle.buffer_core.specs.Window.{Sent}
 use Rattle.buffer_core.specs.Runs.{events_between}
 use Rattle.buffer_core.specs.Readers.{among, places_of, wanted}
 use Rattle.buffer_core.specs.Ports.{GotEvent, name_of, names_given}
-use Rattle.member_model.specs.OwnCalls.{AreGivenBy, is_within, event_at, events_at}
+use Rattle.member_model.specs.OwnCalls.{AreGivenBy, is_place_within, event_at, events_at}
 use Rattle.caller_laws.specs.OneCaller.{events_in}
 use Rattle.caller_laws.proofs.OwnPlaces.{place_if, named_places, all_join}
 
@@ -80,11 +80,11 @@ all_named P c (n ∷ ns) all = all_join P (place_if (n.0 == c) n.1) (named_place
 -- Tests.
 
 -- below the first place none is within
-pub below_within : (from to p : ℕ) → p < from → is_within from to p ≡ false
+pub below_within : (from to p : ℕ) → p < from → is_place_within from to p ≡ false
 below_within from to p less = ap (λ (b : Bool). b && nat_lt p to) (lt-leb from p less)
 
 -- below the second, the first decides
-pub before_end : (from to p : ℕ) → p < to → nat_le from p ≡ is_within from to p
+pub before_end : (from to p : ℕ) → p < to → nat_le from p ≡ is_place_within from to p
 before_end from to p less = and_true (nat_le from p) (nat_lt p to) (lt-ltb p to less)
   where
     and_true : (a b : Bool) → b ≡ true → a ≡ a && b
@@ -92,7 +92,7 @@ before_end from to p less = and_true (nat_le from p) (nat_lt p to) (lt-ltb p to 
     and_true false b e = refl
 
 -- two ends above the place are as good
-pub same_ends : (from to other p : ℕ) → (p < to → p < other) → (p < other → p < to) → is_within from to p ≡ is_within from other p
+pub same_ends : (from to other p : ℕ) → (p < to → p < other) → (p < other → p < to) → is_place_within from to p ≡ is_place_within from other p
 same_ends from to other p first second =
     ap (λ (b : Bool). nat_le from p && b)
     (split (nat_lt p to) (λ b. nat_lt p to ≡ b → b ≡ nat_lt p other)
@@ -152,39 +152,39 @@ above n p le other =
     (λ h e. absurd (other (let same : n ≡ p = omega (arith, le, ltb-false n p e) in same)))
     refl
 
-any_place : (n : ℕ) (xs : List Sent) (p : ℕ) → list_any (λ (e : ℕ × Sent). e.0 == p) (enumerate_from n xs) ≡ is_within n (n + length xs) p
+any_place : (n : ℕ) (xs : List Sent) (p : ℕ) → list_any (λ (e : ℕ × Sent). e.0 == p) (enumerate_from n xs) ≡ is_place_within n (n + length xs) p
 any_place n [] p = sym (nothing_within n (n + 0) p (omega arith))
   where
-    nothing_within : (n m p : ℕ) → m ≤ n → is_within n m p ≡ false
+    nothing_within : (n m p : ℕ) → m ≤ n → is_place_within n m p ≡ false
     nothing_within n m p small =
         split (nat_le n p) (λ b. nat_le n p ≡ b → b && nat_lt p m ≡ false)
         (λ h e. le-ltb p m (omega (arith, small, leb-true n p e)))
         (λ h e. refl)
         refl
 any_place n (x ∷ xs) p =
-    split (n == p) (λ b. (n == p) ≡ b → (b || list_any (λ (e : ℕ × Sent). e.0 == p) (enumerate_from (n + 1) xs)) ≡ is_within n (n + suc (length xs)) p)
+    split (n == p) (λ b. (n == p) ≡ b → (b || list_any (λ (e : ℕ × Sent). e.0 == p) (enumerate_from (n + 1) xs)) ≡ is_place_within n (n + suc (length xs)) p)
     (λ h e.
     let same : n ≡ p = eqb-true n p e in
     sym (ap (λ (b : Bool). b && nat_lt p (n + suc (length xs))) (le-leb n p (omega (arith, same))) ∙ lt-ltb p (n + suc (length xs)) (omega (arith, same))))
     (λ h e. any_place (n + 1) xs p ∙ next n (length xs) p (eqb-false n p e))
     refl
   where
-    next : (n k p : ℕ) → (n ≡ p → ⊥) → is_within (n + 1) (n + 1 + k) p ≡ is_within n (n + suc k) p
+    next : (n k p : ℕ) → (n ≡ p → ⊥) → is_place_within (n + 1) (n + 1 + k) p ≡ is_place_within n (n + suc k) p
     next n k p other =
         split (nat_le n p) (λ b. nat_le n p ≡ b → nat_le (n + 1) p && nat_lt p (n + 1 + k) ≡ b && nat_lt p (n + suc k))
         (λ h e. ap (λ (b : Bool). b && nat_lt p (n + 1 + k)) (le-leb (n + 1) p (above n p (leb-true n p e) other)) ∙ ap (λ (m : ℕ). nat_lt p m) (let e' : n + 1 + k ≡ n + suc k = omega arith in e'))
         (λ h e. ap (λ (b : Bool). b && nat_lt p (n + 1 + k)) (lt-leb (n + 1) p (omega (arith, leb-false n p e))))
         refl
 
-pub among_is : (from to : ℕ) (ss : List Sent) (ps : List ℕ) → to ≤ length ss → among (events_between (Some from) (Some to) ss) ps ≡ filter (is_within from to) ps
+pub among_is : (from to : ℕ) (ss : List Sent) (ps : List ℕ) → to ≤ length ss → among (events_between (Some from) (Some to) ss) ps ≡ filter (is_place_within from to) ps
 among_is from to ss ps within =
     let xs : List Sent = drop from (take to ss) in
     let size : length xs ≡ to - from = length-drop from (take to ss) ∙ ap (λ (n : ℕ). n - from) (let e : length (take to ss) ≡ to = omega (arith, length-take to ss, within) in e) in
-    filter_agree (λ (p : ℕ). list_any (λ (e : ℕ × Sent). e.0 == p) (enumerate_from from xs)) (is_within from to)
-    (λ p. any_place from xs p ∙ (ap (λ (n : ℕ). is_within from (from + n) p) size ∙ ends from to p))
+    filter_agree (λ (p : ℕ). list_any (λ (e : ℕ × Sent). e.0 == p) (enumerate_from from xs)) (is_place_within from to)
+    (λ p. any_place from xs p ∙ (ap (λ (n : ℕ). is_place_within from (from + n) p) size ∙ ends from to p))
     ps
   where
-    ends : (from to p : ℕ) → is_within from (from + (to - from)) p ≡ is_within from to p
+    ends : (from to p : ℕ) → is_place_within from (from + (to - from)) p ≡ is_place_within from to p
     ends from to p =
         split (nat_le from p) (λ b. nat_le from p ≡ b → b && nat_lt p (from + (to - from)) ≡ b && nat_lt p to)
         (λ h e. split (nat_lt p to) (λ d. nat_lt p to ≡ d → nat_lt p (from + (to - from)) ≡ d)

@@ -14,7 +14,7 @@ use Rattle.buffer_core.specs.Delivered.{IsInOrder, Throughout}
 use Rattle.buffer_core.specs.Runs.{events_between}
 use Rattle.buffer_core.specs.Readers.{KeepsRequests, HasReadBelow, ReadsAll, places_got, places_of, wanted}
 use Rattle.buffer_core.specs.Ports.{name_given, names_given}
-use Rattle.member_model.specs.OwnCalls.{calls_after, gave_number, asks, KeepsAsking, is_within}
+use Rattle.member_model.specs.OwnCalls.{calls_after, gave_number, asks, KeepsAsking, is_place_within}
 use Rattle.member_model.specs.ReadRuns.{AskedOnce}
 use Rattle.caller_laws.specs.BufferLaws.{BufferLaws}
 use Rattle.caller_laws.specs.OneCaller.{HaveOwnClients}
@@ -152,11 +152,11 @@ reads_run laws size h front later by client id mask number start begun to asking
 -- So the places that its calls name since the begin, up to where it has read, are those of the events that it asks for.
 pub places_read : (laws : BufferLaws) (size : ℕ) (h : List (ℕ × BufferEntry)) (by client id mask number start begun to : ℕ) (asking rest : List BufferEntry) → Facts size h
     → AskedOnce (entries_by by h) client id mask number (asking ++ Begin start (Ok begun) ∷ rest) → KeepsAsking client (asking ++ Begin start (Ok begun) ∷ rest) → HasReadBelow h client to → to ≤ count_at (past_of h)
-    → filter (is_within begun to) (named_places client (names_given rest)) ≡ places_of (wanted id mask (events_between (Some begun) (Some to) (sent (past_of h))))
+    → filter (is_place_within begun to) (named_places client (names_given rest)) ≡ places_of (wanted id mask (events_between (Some begun) (Some to) (sent (past_of h))))
 places_read laws size h by client id mask number start begun to asking rest f asked keeps reads small =
     let call : BufferEntry = Request client id mask All (Ok number) in
     let begins : BufferEntry = Begin start (Ok begun) in
-    let test : ℕ → Bool = is_within begun to in
+    let test : ℕ → Bool = is_place_within begun to in
     let early : List BufferEntry = asked.before ++ call ∷ asking in
     let own_is : entries_by by h ≡ early ++ begins ∷ rest = asked.whole ∙ sym (append_assoc asked.before (call ∷ asking) (begins ∷ rest)) in
     let r : RequestStands h by client id mask number (asking ++ begins ∷ rest) = request_stands size h by client id mask number (asking ++ begins ∷ rest) f asked in

@@ -15,7 +15,7 @@ use Rattle.buffer_core.specs.Points.{Life, got_end, sent, count_at, past_of}
 use Rattle.buffer_core.specs.Runs.{segment, events_between}
 use Rattle.buffer_core.specs.Readers.{HasReadBelow, places_of, wanted}
 use Rattle.buffer_core.specs.Ports.{GotEvent, names_given}
-use Rattle.member_model.specs.OwnCalls.{calls_after, KeepsAsking, is_within}
+use Rattle.member_model.specs.OwnCalls.{calls_after, KeepsAsking, is_place_within}
 use Rattle.member_model.specs.ReadRuns.{AskedOnce, IsReading, IsDraining}
 use Rattle.caller_laws.specs.BufferLaws.{BufferLaws}
 use Rattle.caller_laws.specs.OneCaller.{WasSentAt, events_in}
@@ -77,7 +77,7 @@ behind_below client P xs early rest is all =
 part_up_to : (laws : BufferLaws) (size : ℕ) (h front later : List (ℕ × BufferEntry)) (by client id mask number start begun ended to : ℕ) (asking rest : List BufferEntry) (events : List Event)
     → h ≡ front ++ later → Facts size front → AskedOnce (entries_by by front) client id mask number (asking ++ Begin start (Ok begun) ∷ rest) → KeepsAsking client (asking ++ Begin start (Ok begun) ∷ rest)
     → HasReadBelow front client to → to ≤ count_at (past_of front) → to ≤ ended → RunStands size h start begun ended
-    → events ≡ events_of (sent (past_of h)) (filter (is_within begun to) (named_places client (names_given rest))) → IsFirstPart events (events_in (wanted id mask (segment h start)))
+    → events ≡ events_of (sent (past_of h)) (filter (is_place_within begun to) (named_places client (names_given rest))) → IsFirstPart events (events_in (wanted id mask (segment h start)))
 part_up_to laws size h front later by client id mask number start begun ended to asking rest events whole f asked keeps reads small less marks is =
     let ss : List Sent = sent (past_of h) in
     let segment_up_to : List (ℕ × Sent) = events_between (Some begun) (Some to) ss in
@@ -118,8 +118,8 @@ cut_reading laws size h by client id mask number start begun ended calls later g
     let marks : RunStands size h start begun ended = run_stands laws size h by start begun ended early (r.running ++ ends.before) ends.after f.legal marked in
     let ps : List ℕ = named_places client (names_given r.running) in
     let below : AllByRecursion (λ (p : ℕ). p < g.0) ps = behind_below client (λ (p : ℕ). p < g.0) (entries_by by front) early (begins ∷ r.running) early_is g.1.below in
-    let same : filter (nat_le begun) ps ≡ filter (is_within begun g.0) ps =
-    agree (nat_le begun) (is_within begun g.0) ps (all_weaker (λ (p : ℕ). p < g.0) (λ (p : ℕ). nat_le begun p ≡ is_within begun g.0 p) (λ p small. before_end begun g.0 p small) ps below) in
+    let same : filter (nat_le begun) ps ≡ filter (is_place_within begun g.0) ps =
+    agree (nat_le begun) (is_place_within begun g.0) ps (all_weaker (λ (p : ℕ). p < g.0) (λ (p : ℕ). nat_le begun p ≡ is_place_within begun g.0 p) (λ p small. before_end begun g.0 p small) ps below) in
     let by_all : AllByRecursion (WasSentAt h) got_by = all_front (WasSentAt h) got_by got_later (subst (AllByRecursion (WasSentAt h)) got_is sent_so) in
     let given_all : AllByRecursion (WasSentAt h) r.given = all_back (WasSentAt h) r.earlier r.given (subst (AllByRecursion (WasSentAt h)) r.got_is by_all) in
     part_up_to laws size h front s.after by client id mask number start begun ended g.0 r.asking r.running events s.whole f_front asked keeps g.1.reads g.1.within less marks
@@ -155,21 +155,21 @@ cut_draining laws size h by client id mask number start begun ended calls later 
     let parts_below : AllByRecursion far (ps ++ qs) =
     subst (AllByRecursion far) (ap (named_places client) (names_given-append d.running (end ∷ d.draining)) ∙ named_places-append client (names_given d.running) (names_given d.draining)) all_below in
     let before : AllByRecursion (λ (p : ℕ). p < ended) ps = running_below laws size front by client start begun ended early d.running d.draining f_front front_marked in
-    let same_one : filter (nat_le begun) ps ≡ filter (is_within begun to) ps =
-    agree (nat_le begun) (is_within begun to) ps
-    (all_weaker (λ (p : ℕ). (p < g.0) × (p < ended)) (λ (p : ℕ). nat_le begun p ≡ is_within begun to p) (λ p both. before_end begun to p (omega (arith, both.0, both.1))) ps
+    let same_one : filter (nat_le begun) ps ≡ filter (is_place_within begun to) ps =
+    agree (nat_le begun) (is_place_within begun to) ps
+    (all_weaker (λ (p : ℕ). (p < g.0) × (p < ended)) (λ (p : ℕ). nat_le begun p ≡ is_place_within begun to p) (λ p both. before_end begun to p (omega (arith, both.0, both.1))) ps
     (both_below far (λ (p : ℕ). p < ended) ps (all_front far ps qs parts_below) before)) in
-    let same_two : filter (is_within begun ended) qs ≡ filter (is_within begun to) qs =
-    agree (is_within begun ended) (is_within begun to) qs
-    (all_weaker far (λ (p : ℕ). is_within begun ended p ≡ is_within begun to p) (λ p less. same_ends begun ended to p (λ small. omega (arith, small, less)) (λ small. omega (arith, small))) qs (all_back far ps qs parts_below)) in
+    let same_two : filter (is_place_within begun ended) qs ≡ filter (is_place_within begun to) qs =
+    agree (is_place_within begun ended) (is_place_within begun to) qs
+    (all_weaker far (λ (p : ℕ). is_place_within begun ended p ≡ is_place_within begun to p) (λ p less. same_ends begun ended to p (λ small. omega (arith, small, less)) (λ small. omega (arith, small))) qs (all_back far ps qs parts_below)) in
     let ss : List Sent = sent (past_of h) in
     let sent_parts : PartsSent h d.given_running d.given_draining = parts_sent h got got_by got_later d.earlier d.given_running d.given_draining sent_so got_is d.got_is in
     let reads : HasReadBelow front client to = record { life = g.1.reads.life; lives = g.1.reads.lives; far = omega (arith, g.1.reads.far) } in
     part_up_to laws size h front s.after by client id mask number start begun ended to d.asking rest events s.whole f_front asked keeps reads (omega (arith, g.1.within)) (omega arith) marks
     (d.events_are
-    ∙ two_parts ss client begun to (nat_le begun) (is_within begun ended) d.running d.draining d.given_running d.given_draining start ended
+    ∙ two_parts ss client begun to (nat_le begun) (is_place_within begun ended) d.running d.draining d.given_running d.given_draining start ended
     (events_named ss client (nat_le begun) d.running d.given_running d.gives_running sent_parts.one)
-    (events_named ss client (is_within begun ended) d.draining d.given_draining d.gives_draining sent_parts.two)
+    (events_named ss client (is_place_within begun ended) d.draining d.given_draining d.gives_draining sent_parts.two)
     same_one same_two)
 
 pub cut_events : BufferLaws → CutEvents

@@ -18,7 +18,7 @@ use Rattle.buffer_core.specs.Continued.{sent_in}
 use Rattle.buffer_core.specs.Runs.{events_between}
 use Rattle.buffer_core.specs.Readers.{HasReadBelow, ReadsAll, places_got, places_of, among, wanted}
 use Rattle.buffer_core.specs.Ports.{GotEvent, names_given}
-use Rattle.member_model.specs.OwnCalls.{KeepsAsking, HasDrained, is_within, events_at}
+use Rattle.member_model.specs.OwnCalls.{KeepsAsking, HasDrained, is_place_within, events_at}
 use Rattle.member_model.specs.ReadRuns.{AskedOnce, IsDraining, HasReadRun}
 use Rattle.caller_laws.specs.BufferLaws.{BufferLaws}
 use Rattle.caller_laws.specs.OneCaller.{WasSentAt, events_in}
@@ -161,11 +161,11 @@ running_below laws size h by client start begun ended xs running draining f is =
 pub two_parts : (ss : List Sent) (client begun to : ℕ) (first second : ℕ → Bool) (running draining : List BufferEntry) (gs hs : List GotEvent) (start ended : ℕ)
     → events_at client first gs ≡ events_of ss (filter first (named_places client (names_given running)))
     → events_at client second hs ≡ events_of ss (filter second (named_places client (names_given draining)))
-    → filter first (named_places client (names_given running)) ≡ filter (is_within begun to) (named_places client (names_given running))
-    → filter second (named_places client (names_given draining)) ≡ filter (is_within begun to) (named_places client (names_given draining))
-    → events_at client first gs ++ events_at client second hs ≡ events_of ss (filter (is_within begun to) (named_places client (names_given (behind_begin start ended running draining))))
+    → filter first (named_places client (names_given running)) ≡ filter (is_place_within begun to) (named_places client (names_given running))
+    → filter second (named_places client (names_given draining)) ≡ filter (is_place_within begun to) (named_places client (names_given draining))
+    → events_at client first gs ++ events_at client second hs ≡ events_of ss (filter (is_place_within begun to) (named_places client (names_given (behind_begin start ended running draining))))
 two_parts ss client begun to first second running draining gs hs start ended one two same_one same_two =
-    let test : ℕ → Bool = is_within begun to in
+    let test : ℕ → Bool = is_place_within begun to in
     let ps : List ℕ = named_places client (names_given running) in
     let qs : List ℕ = named_places client (names_given draining) in
     ap (λ (es : List Event). es ++ events_at client second hs) (one ∙ ap (events_of ss) same_one)
@@ -198,15 +198,15 @@ read_events laws size h by own got legal clients part client id mask number star
     let below : AllByRecursion (λ (p : ℕ). p < ended) ps =
     running_below laws size a.front by client start begun ended (a.asked.before ++ Request client id mask All (Ok number) ∷ d.asking) d.running d.draining a.facts
     (with_marks (entries_by by a.front) client id mask number start begun ended d.asking d.running d.draining a.asked) in
-    let same : filter (nat_le begun) ps ≡ filter (is_within begun ended) ps =
-    agree (nat_le begun) (is_within begun ended) ps (all_weaker (λ (p : ℕ). p < ended) (λ (p : ℕ). nat_le begun p ≡ is_within begun ended p) (λ p less. before_end begun ended p less) ps below) in
-    let by_places : events ≡ events_of ss (filter (is_within begun ended) (named_places client (names_given rest))) =
+    let same : filter (nat_le begun) ps ≡ filter (is_place_within begun ended) ps =
+    agree (nat_le begun) (is_place_within begun ended) ps (all_weaker (λ (p : ℕ). p < ended) (λ (p : ℕ). nat_le begun p ≡ is_place_within begun ended p) (λ p less. before_end begun ended p less) ps below) in
+    let by_places : events ≡ events_of ss (filter (is_place_within begun ended) (named_places client (names_given rest))) =
     d.events_are
-    ∙ two_parts ss client begun ended (nat_le begun) (is_within begun ended) d.running d.draining d.given_running d.given_draining start ended
+    ∙ two_parts ss client begun ended (nat_le begun) (is_place_within begun ended) d.running d.draining d.given_running d.given_draining start ended
     (events_named ss client (nat_le begun) d.running d.given_running d.gives_running sent_parts.one)
-    (events_named ss client (is_within begun ended) d.draining d.given_draining d.gives_draining sent_parts.two)
+    (events_named ss client (is_place_within begun ended) d.draining d.given_draining d.gives_draining sent_parts.two)
     same refl in
-    let read : filter (is_within begun ended) (named_places client (names_given rest)) ≡ places_of (wanted id mask (events_between (Some begun) (Some ended) (sent (past_of a.front)))) =
+    let read : filter (is_place_within begun ended) (named_places client (names_given rest)) ≡ places_of (wanted id mask (events_between (Some begun) (Some ended) (sent (past_of a.front)))) =
     places_read laws size a.front by client id mask number start begun ended d.asking rest a.facts a.asked a.keeps a.reads a.within in
     let front_events : events_of ss (places_of (wanted id mask (events_between (Some begun) (Some ended) (sent (past_of a.front))))) ≡ events_in (wanted id mask (events_between (Some begun) (Some ended) ss)) =
     subst (λ (x : List (ℕ × BufferEntry)). events_of (sent (past_of x)) (places_of (wanted id mask (events_between (Some begun) (Some ended) (sent (past_of a.front))))) ≡ events_in (wanted id mask (events_between (Some begun) (Some ended) (sent (past_of x))))) (sym a.whole)

@@ -21,7 +21,7 @@ use Rattle.buffer_core.specs.Continued.{sent_in}
 use Rattle.buffer_core.specs.Runs.{AreRunsKept, begun_at, ended_at, segment, events_between}
 use Rattle.buffer_core.specs.Readers.{HasReadBelow, ReadsAll, places_got, places_of, among, wanted}
 use Rattle.buffer_core.specs.Ports.{GotEvent, name_of, names_given}
-use Rattle.member_model.specs.OwnCalls.{gave_number, KeepsAsking, is_within}
+use Rattle.member_model.specs.OwnCalls.{gave_number, KeepsAsking, is_place_within}
 use Rattle.caller_laws.specs.BufferLaws.{BufferLaws}
 use Rattle.caller_laws.specs.OneCaller.{HaveRunSends}
 use Rattle.caller_laws.specs.SeenRuns.{events_with_start, SeesRun}
@@ -155,7 +155,7 @@ first_member from to ss less small =
     among_is from to ss (from ∷ []) small ∙ ap (λ (b : Bool). if b then from ∷ [] else []) (starts_within from to less) in
     split (list_any (λ (e : ℕ × Sent). e.0 == from) (events_between (Some from) (Some to) ss)) (λ b. (if b then from ∷ [] else []) ≡ from ∷ [] → b ≡ true) (λ h e. refl) (λ h e. absurd (cc (e))) one
   where
-    starts_within : (from to : ℕ) → from < to → is_within from to from ≡ true
+    starts_within : (from to : ℕ) → from < to → is_place_within from to from ≡ true
     starts_within from to less = ap (λ (b : Bool). b && nat_lt from to) (le-leb from from (omega arith)) ∙ lt-ltb from to less
 
 -- the segment, where the run was ended and its begin is this

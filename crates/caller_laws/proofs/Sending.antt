@@ -16,7 +16,7 @@ use Rattle.buffer_core.specs.Runs.{begun_at, ended_at, segment, events_between}
 use Rattle.caller_laws.specs.BufferLaws.{BufferLaws}
 use Rattle.caller_laws.specs.OneCaller.{SendsInRuns, HaveRunSends}
 use Rattle.caller_laws.specs.CallerLaws.{IsSendOf, SentByCaller, SendIsAmong, SenderHasOwn, SenderSendsInRuns, SilentSendsInRuns, SendsOrReads, MembersFit}
-use Rattle.member_model.specs.SentCalls.{sent_by, own_sent, IsSendInRun, EachCall}
+use Rattle.member_model.specs.SentCalls.{sent_by_call, own_sent, IsSendInRun, EachCall}
 use Rattle.member_model.specs.OwnCalls.{calls_after, IsOwnCall, AreOwnCalls, SendsNone}
 use Rattle.caller_laws.proofs.OwnPlaces.{all_back}
 use Rattle.caller_laws.proofs.GotEvents.{StandThere, between_there}
@@ -251,12 +251,12 @@ sent_by_caller laws size h legal sends start index place x at =
 
 sent_append : (es fs : List BufferEntry) (start : ℕ) → own_sent (es ++ fs) start ≡ own_sent es start ++ own_sent fs start
 sent_append [] fs start = refl
-sent_append (e ∷ es) fs start = ap (λ (l : List Event). sent_by e start ++ l) (sent_append es fs start) ∙ sym (append_assoc (sent_by e start) (own_sent es start) (own_sent fs start))
+sent_append (e ∷ es) fs start = ap (λ (l : List Event). sent_by_call e start ++ l) (sent_append es fs start) ∙ sym (append_assoc (sent_by_call e start) (own_sent es start) (own_sent fs start))
 
 pub send_is_among : SendIsAmong
 send_is_among own start place event is =
     let call : BufferEntry = SendInRun start is.stated event (Ok place) in
-    let here : sent_by call start ≡ event ∷ [] = ap (λ (b : Bool). if b then event ∷ [] else []) (eq-eqb start start refl) in
+    let here : sent_by_call call start ≡ event ∷ [] = ap (λ (b : Bool). if b then event ∷ [] else []) (eq-eqb start start refl) in
     let whole : own_sent own start ≡ own_sent is.before start ++ event ∷ own_sent is.after start =
     ap (λ (es : List BufferEntry). own_sent es start) is.stands
     ∙ (sent_append is.before (call ∷ is.after) start ∙ ap (λ (l : List Event). own_sent is.before start ++ (l ++ own_sent is.after start)) here) in

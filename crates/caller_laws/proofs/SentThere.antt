@@ -16,7 +16,7 @@ use Rattle.buffer_core.specs.Runs.{begun_at, ended_at, segment, events_between}
 use Rattle.buffer_core.specs.Readers.{places_of}
 use Rattle.buffer_core.specs.Continued.{sent_in, RepliesCount}
 use Rattle.buffer_core.specs.Delivered.{Throughout}
-use Rattle.member_model.specs.SentCalls.{sent_by, own_sent}
+use Rattle.member_model.specs.SentCalls.{sent_by_call, own_sent}
 use Rattle.caller_laws.specs.BufferLaws.{BufferLaws}
 use Rattle.caller_laws.specs.OneCaller.{events_in}
 use Rattle.caller_laws.specs.SentRuns.{place_sent, places_sent, events_at_places}
@@ -69,7 +69,7 @@ places_of-append : (xs ys : List (ℕ × Sent)) → places_of (xs ++ ys) ≡ pla
 places_of-append [] ys = refl
 places_of-append (x ∷ xs) ys = ap (λ (ps : List ℕ). x.0 ∷ ps) (places_of-append xs ys)
 
-event_sent : (e : BufferEntry) (start : ℕ) → sent_by e start ≡ events_in (run_sent e start)
+event_sent : (e : BufferEntry) (start : ℕ) → sent_by_call e start ≡ events_in (run_sent e start)
 event_sent (SendInRun s stated e (Ok place)) start = split (s == start) (λ b. (if b then e ∷ [] else []) ≡ events_in (if b then (place, record { event = e; start = s }) ∷ [] else [])) (λ h. refl) (λ h. refl)
 event_sent entry start = refl
 

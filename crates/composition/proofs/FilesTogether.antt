@@ -17,7 +17,7 @@ use Rattle.transitions.specs.declared.answers.Answer.TheVariants.{Yes, No}
 use Rattle.transitions.specs.declared.answers.Tally.{Tally}
 use Rattle.transitions.specs.declared.answers.Tally.TheVariants.{Plain, Channels}
 use Rattle.transitions.specs.EnginePoints.{tally_of}
-use Rattle.member_model.specs.Turns.{MemberTurn, HasTurnOf, IsAcceptedStart, IsAnswered}
+use Rattle.member_model.specs.Turns.{MemberTurn, HasTurnOf, IsAcceptedStart, HasAnswer}
 use Rattle.member_model.specs.ReadRuns.{HasReadRun}
 use Rattle.member_model.specs.CutRuns.{MarksEnd, HasCutRun}
 use Rattle.member_model.specs.LoggerKept.{LoggerChannel, HasWritten, HasWrittenPart, TellsState, IsStartAnswer, IsStateSo}
@@ -179,7 +179,7 @@ channels_told laws s keep r run index channel at =
     let t1 : StopTally s r run s.logger last.1 = stop_tally laws s keep r run s.logger last.0 last.1 last.2 in
     let number : t1.turn.order.start ≡ r.start = number_of Stop r.last r.start t1.turn t1.of_begin in
     let told = keep.logger_keeps.stops (are_turns laws s keep s.logger) t0.turn t1.turn (subst (λ (n : ℕ). IsAcceptedStart turns n t0.turn) (sym number) accepted)
-    t1.stands (t1.completed refl) (subst IsAnswered (sym t1.answered) tt) index channel at in
+    t1.stands (t1.completed refl) (subst HasAnswer (sym t1.answered) tt) index channel at in
     let tally : last.1 ≡ Channels told.1.states = told_channels last.1 t1.turn.answer t1.answer told.1.states t1.tally_is t1.answered told.1.answered in (
       told.0,
       record {

@@ -5,11 +5,11 @@ use Rattle.std.proofs.Common.{ap, ◌∙◌, add-one, arith, length-append}
 use Rattle.std.proofs.lemmas.List.{length-replicate}
 use Rattle.daq_types.specs.declared.runs.Order.{Order}
 use Rattle.daq_model.specs.Events.{slot_size, slot_of_length}
-use Rattle.daq_model.specs.Generator.{words_from, words_encoded, first_state, word_count, generated_body, generated_event, generated_events}
+use Rattle.daq_model.specs.Generator.{generated_words, words_encoded, first_state, word_count, generated_body, generated_event, generated_events}
 
-pub length-words_from : (n x : ℕ) → length (words_from n x) ≡ n
+pub length-words_from : (n x : ℕ) → length (generated_words n x) ≡ n
 length-words_from zero x = refl
-length-words_from (suc n) x = length-append (words_from n x) (_ ∷ []) ∙ ap (λ k. k + 1) (length-words_from n x) ∙ add-one n
+length-words_from (suc n) x = length-append (generated_words n x) (_ ∷ []) ∙ ap (λ k. k + 1) (length-words_from n x) ∙ add-one n
 
 pub length-words_encoded : (ws : List ℕ) → length (words_encoded ws) ≡ 4 * length ws
 length-words_encoded [] = refl
@@ -18,7 +18,7 @@ length-words_encoded (w ∷ ws) = omega (arith, length-words_encoded ws, length-
 pub length-generated_body : (id start k : ℕ) → length (generated_body id start k) ≡ 16 + (4 * word_count k + 4 * (word_count k % 2))
 unfolding generated_body
 length-generated_body id start k =
-    let words : List ℕ = words_from (word_count k) (first_state id start k) in
+    let words : List ℕ = generated_words (word_count k) (first_state id start k) in
     omega (
       arith,
       length-append (words_encoded words) (replicate (4 * (word_count k % 2)) 0),

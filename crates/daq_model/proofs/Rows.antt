@@ -5,7 +5,7 @@ use Rattle.daq_types.specs.declared.runs.Order.{Order}
 use Rattle.daq_types.specs.declared.runs.RunState.TheVariants.{Stopped}
 use Rattle.daq_model.specs.Events.{header_bytes, encoding, matches, slot_of_length, is_reserved}
 use Rattle.daq_model.specs.RunFile.{run_file}
-use Rattle.daq_model.specs.Generator.{next_state, generated_body, generated_event, generated_events, words_from, first_state}
+use Rattle.daq_model.specs.Generator.{next_state, generated_body, generated_event, generated_events, generated_words, first_state}
 
 -- the order of the first run, begun at time 1000
 abbrev pub first_order : Order
@@ -27,7 +27,7 @@ unfolding header_bytes generated_body next_state
 first_event_row = refl
 
 -- the first words of front-ends 1 and 2
-pub first_words_row : words_from 1 (first_state 1 1 1) ++ words_from 1 (first_state 2 1 1) ≡ 1817669548 ∷ 3102535385 ∷ []
+pub first_words_row : generated_words 1 (first_state 1 1 1) ++ generated_words 1 (first_state 2 1 1) ≡ 1817669548 ∷ 3102535385 ∷ []
 unfolding next_state
 first_words_row = refl
 

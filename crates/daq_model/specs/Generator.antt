@@ -14,9 +14,9 @@ state_after zero x = x
 state_after (suc n) x = next_state (state_after n x)
 
 -- so many words from this state on: each is the upper half of the state that it leads to
-abbrev pub words_from : (words : ℕ) → ℕ → List ℕ
-words_from zero x = []
-words_from (suc n) x = words_from n x ++ (next_state (state_after n x) / 2 ^ 32) ∷ []
+abbrev pub generated_words : (words : ℕ) → ℕ → List ℕ
+generated_words zero x = []
+generated_words (suc n) x = generated_words n x ++ (next_state (state_after n x) / 2 ^ 32) ∷ []
 
 -- words of four bytes, one after the other
 abbrev pub words_encoded : List ℕ → List ℕ
@@ -38,7 +38,7 @@ generated_body id start k =
     let count : ℕ = word_count k in
     to_le_bytes w32 (8 + (4 * count + 7) / 8 * 8) ++ (to_le_bytes w32 1
     ++ (codes "GEN0" ++ (to_le_bytes w16 6 ++ (to_le_bytes w16 (4 * count)
-    ++ (words_encoded (words_from count (first_state id start k)) ++ replicate (4 * (count % 2)) 0)))))
+    ++ (words_encoded (generated_words count (first_state id start k)) ++ replicate (4 * (count % 2)) 0)))))
 
 -- event k of a front-end with this id and mask, in the run of this order
 abbrev pub generated_event : Order → (id mask k : ℕ) → Event

@@ -23,7 +23,7 @@ use Rattle.session_console.specs.declared.replies.Reply.{Reply}
 use Rattle.session_console.specs.declared.replies.Reply.TheVariants.{Silent, BadCommand, WrongState, RunNumber, StartRefused, Started, Stopped as run_stopped, Database}
 use Rattle.daq_session.specs.declared.session.Session.{Session}
 use Rattle.run_recorder.specs.RunRecords.{RunOn}
-use Rattle.session_console.specs.Console.{console_text, text_of, is_refusal, refused_lines}
+use Rattle.session_console.specs.Console.{console_text, text_of, refuses_line, refused_lines}
 use Rattle.session_console.proofs.ConsoleLaws.{refused_lines-more}
 use Rattle.session_console.specs.Refused.{Counts}
 use Rattle.daq_session.specs.RunTransitions.{CallsStand}
@@ -155,7 +155,7 @@ reply_same (One item) one other accepted = refl
 reply_same (Listed children) one other accepted = refl
 reply_same (Refused why) one other accepted = absurd (cc)
 
-text_same : (reply : Reply) (one other : ℕ) → is_refusal reply ≡ false → text_of one reply ≡ text_of other reply
+text_same : (reply : Reply) (one other : ℕ) → refuses_line reply ≡ false → text_of one reply ≡ text_of other reply
 text_same Silent one other accepted = refl
 text_same (BadCommand at) one other accepted = absurd (cc)
 text_same (WrongState state) one other accepted = absurd (cc)
@@ -165,7 +165,7 @@ text_same (Started run) one other accepted = refl
 text_same (run_stopped run front file) one other accepted = refl
 text_same (Database reply) one other accepted = reply_same reply one other accepted
 
-counts_accepted : (replies : List Reply) (reply : Reply) (refusals : Refusals) → is_refusal reply ≡ false → Counts (refused_lines 1 replies) refusals → Counts (refused_lines 1 (replies ++ reply ∷ [])) refusals
+counts_accepted : (replies : List Reply) (reply : Reply) (refusals : Refusals) → refuses_line reply ≡ false → Counts (refused_lines 1 replies) refusals → Counts (refused_lines 1 (replies ++ reply ∷ [])) refusals
 counts_accepted replies reply refusals accepted counts =
     subst (λ (lines : List ℕ). Counts lines refusals) (sym (refused_lines-more 1 replies reply ∙ rw accepted (append-nil (refused_lines 1 replies)))) counts
 
@@ -251,7 +251,7 @@ finished_idle o ending source left told_first told s now refusals idle played =
 
 -- the run was stopped, and this was written of that
 pub finished_stopped : (o : Outset) (ending : Ending) (closing : Option Halt) (source left told_first told_old told_new : Option (List ℕ)) (old new : Session) (before after : Outset) (refusals : Refusals) (reply : Reply)
-    → IsSome old.recorder.on → AnswersLine (Ok Stop) reply old new before after → new.recorder.on ≡ None → is_refusal reply ≡ false
+    → IsSome old.recorder.on → AnswersLine (Ok Stop) reply old new before after → new.recorder.on ≡ None → refuses_line reply ≡ false
     → ((number : ℕ) → WroteBehind ending closing told_old told_new number (reply ∷ []))
     → Played o ending source left told_first told_old old before refusals → Finished o ending closing source left told_first told_new new after refusals
 finished_stopped o ending closing source left told_first told_old told_new old new before after refusals reply running answers idle accepted here played =
@@ -287,19 +287,19 @@ behind_by TooLong closing told_old told_new number replies printing more = more
 behind_by SourceFault closing told_old told_new number replies printing more = more
 behind_by (Halted halt) closing told_old told_new number replies printing more = absurd (cc)
 
-one_text : (reply : Reply) (number : ℕ) → is_refusal reply ≡ false → text_of 0 reply ≡ console_text number (reply ∷ [])
+one_text : (reply : Reply) (number : ℕ) → refuses_line reply ≡ false → text_of 0 reply ≡ console_text number (reply ∷ [])
 one_text reply number accepted = text_same reply 0 number accepted ∙ sym (append-nil (text_of number reply))
 
-pub printed_behind : (ending : Ending) (told_old told_new : Option (List ℕ)) (reply : Reply) → prints ending ≡ true → is_refusal reply ≡ false → Prints told_old told_new (text_of 0 reply) (Ok (record {})) → (number : ℕ) → WroteBehind ending None told_old told_new number (reply ∷ [])
+pub printed_behind : (ending : Ending) (told_old told_new : Option (List ℕ)) (reply : Reply) → prints ending ≡ true → refuses_line reply ≡ false → Prints told_old told_new (text_of 0 reply) (Ok (record {})) → (number : ℕ) → WroteBehind ending None told_old told_new number (reply ∷ [])
 printed_behind ending told_old told_new reply printing accepted here number =
     behind_by ending None told_old told_new number (reply ∷ []) printing (subst (Appends told_old told_new) (one_text reply number accepted) here)
 
-cut_more : (halt : Halt) (told_old told_new : Option (List ℕ)) (reply : Reply) (number : ℕ) → is_refusal reply ≡ false → Prints told_old told_new (text_of 0 reply) (Err halt) → WroteMore (Some halt) told_old told_new number (reply ∷ [])
+cut_more : (halt : Halt) (told_old told_new : Option (List ℕ)) (reply : Reply) (number : ℕ) → refuses_line reply ≡ false → Prints told_old told_new (text_of 0 reply) (Err halt) → WroteMore (Some halt) told_old told_new number (reply ∷ [])
 cut_more NoMemory told_old told_new reply number accepted here = here
 cut_more SinkFault told_old told_new reply number accepted here = subst (AppendsPart told_old told_new) (one_text reply number accepted) here
 cut_more FileFault told_old told_new reply number accepted here = absurd here
 
-pub cut_behind : (ending : Ending) (halt : Halt) (told_old told_new : Option (List ℕ)) (reply : Reply) → prints ending ≡ true → is_refusal reply ≡ false → Prints told_old told_new (text_of 0 reply) (Err halt) → (number : ℕ) → WroteBehind ending (Some halt) told_old told_new number (reply ∷ [])
+pub cut_behind : (ending : Ending) (halt : Halt) (told_old told_new : Option (List ℕ)) (reply : Reply) → prints ending ≡ true → refuses_line reply ≡ false → Prints told_old told_new (text_of 0 reply) (Err halt) → (number : ℕ) → WroteBehind ending (Some halt) told_old told_new number (reply ∷ [])
 cut_behind ending halt told_old told_new reply printing accepted here number = behind_by ending (Some halt) told_old told_new number (reply ∷ []) printing (cut_more halt told_old told_new reply number accepted here)
 
 -- Behind the lines that alone fails which prints.

@@ -35,7 +35,7 @@ use Rattle.daq_session.specs.RunRecordFits.{GivesNumber, StartsIn, StopsBy, RunR
 use Rattle.daq_session.specs.Playing.{CutBy}
 use Rattle.daq_session.specs.Played.{IsPlayed}
 use Rattle.daq_session.specs.Sessions.{IsRecorded}
-use Rattle.daq_session.specs.Stages.{Outset, Stage, opening, called, Begins, Refuses, EndsRun, next_order}
+use Rattle.daq_session.specs.Stages.{Outset, Stage, opening_stage, called, Begins, Refuses, EndsRun, next_order}
 use Rattle.run_recorder.specs.RunRecords.{completed_record, refused_record}
 use Rattle.daq_session.proofs.PlayedLaws.{IsKeptByLines, script_keeps}
 
@@ -206,7 +206,7 @@ kept_by_lines = record {
   ends = λ o s new order on ends stands. ends_stands o s new order on ends stands;
 }
 
-opening_stands : (clashes : ℕ) → Stands (opening clashes)
+opening_stands : (clashes : ℕ) → Stands (opening_stage clashes)
 opening_stands clashes = record { fits = record { runs_fit = λ gives. All-nil (RunRecordFits []); on_fits = λ gives. tt }; spares = tt }
 
 -- The history, in which the main thread's calls stand among those of the front-end.

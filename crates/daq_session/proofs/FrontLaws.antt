@@ -18,7 +18,7 @@ use Rattle.daq_session.specs.RunTransitions.{HoldsRuns}
 use Rattle.daq_session.specs.Playing.{CutBy}
 use Rattle.daq_session.specs.Played.{IsPlayed}
 use Rattle.daq_session.specs.Sessions.{IsRecorded}
-use Rattle.daq_session.specs.Stages.{Outset, Stage, opening, called, Begins, Refuses, EndsRun, next_order}
+use Rattle.daq_session.specs.Stages.{Outset, Stage, opening_stage, called, Begins, Refuses, EndsRun, next_order}
 use Rattle.run_recorder.specs.RunRecords.{completed_record, refused_record}
 use Rattle.daq_session.proofs.PlayedLaws.{IsKeptByLines, script_keeps, script_idle}
 

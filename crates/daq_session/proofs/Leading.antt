@@ -26,7 +26,7 @@ use Rattle.run_recorder.specs.RunNames.{run_name}
 use Rattle.run_recorder.specs.RunRecords.{IsKept}
 use Rattle.run_recorder.specs.Tallies.{IsTally}
 use Rattle.run_recorder.specs.RunRecords.{refused_record, completed_record, file_record}
-use Rattle.daq_session.specs.Stages.{Outset, Stage, IsReading, IsFreeName, DoesStop, next_order}
+use Rattle.daq_session.specs.Stages.{Outset, Stage, IsClockReading, IsFreeName, DoesStop, next_order}
 use Rattle.daq_session.specs.Standing.{Course, behind_reply, order_in, stage_of, IsClock, IsAt, LeadsOutside, LineDoes, RunStarts}
 use Rattle.run_recorder.proofs.KeptLaws.{kept_begun, kept_same, kept_refused, kept_ended, kept_free, kept_taken}
 
@@ -44,7 +44,7 @@ pub record Reads (old new : Outset) (time : ℕ) : Type 0 where
   pub later : IsTrue old.clock_tells → (n : ℕ) → new.ahead n ≡ old.ahead (n + 1)
 
 -- the reading is the next one
-pub next_reading : (o : Outset) (readings time : ℕ) (old new : Outset) → IsClock o readings old → Reads old new time → IsReading o readings time
+pub next_reading : (o : Outset) (readings time : ℕ) (old new : Outset) → IsClock o readings old → Reads old new time → IsClockReading o readings time
 next_reading o readings time old new clock reads told = reads.value (clock.tells ∙ told) ∙ clock.ahead told 0 ∙ ap o.ahead (add-zero readings)
 
 -- and the clock has had one more

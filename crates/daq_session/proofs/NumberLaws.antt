@@ -14,7 +14,7 @@ use Rattle.daq_session.specs.Playing.{CutBy}
 use Rattle.daq_session.specs.Sessions.{IsRecorded}
 use Rattle.daq_session.specs.TakenNames.{taken_by, taken_names, AreWithinRise}
 use Rattle.run_recorder.specs.RunRecords.{completed_record, refused_record}
-use Rattle.daq_session.specs.Stages.{Outset, Stage, opening, called, Begins, Refuses, EndsRun, next_order}
+use Rattle.daq_session.specs.Stages.{Outset, Stage, opening_stage, called, Begins, Refuses, EndsRun, next_order}
 use Rattle.daq_session.proofs.PlayedLaws.{IsKeptByLines, script_keeps, script_idle}
 
 -- Each start has its record or is on.

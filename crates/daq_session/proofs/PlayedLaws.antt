@@ -30,7 +30,7 @@ use Rattle.daq_session.specs.Playing.{CutBy, StopsAt}
 use Rattle.daq_session.specs.Played.{IsPlayed}
 use Rattle.odb_runinfo.specs.RunSets.{AreSets, number_asked}
 use Rattle.daq_session.specs.RunCalls.{key_made}
-use Rattle.daq_session.specs.Stages.{Outset, Stage, opening, answered, called, OpensSession, Begins, Refuses, EndsRun, StartsRun, StartsFrom, DoesStart, DoesStop, DoesCommand, DoesByLine, Plays, CallsStart, CallsLine, opened_by, Interrupts}
+use Rattle.daq_session.specs.Stages.{Outset, Stage, opening_stage, answered, called, OpensSession, Begins, Refuses, EndsRun, StartsRun, StartsFrom, DoesStart, DoesStop, DoesCommand, DoesByLine, Plays, CallsStart, CallsLine, opened_by, Interrupts}
 
 -- what keeps a fact: a reply, another quota, calls of the main thread that remove nothing of `/Runinfo`, a run that begins
 -- or is refused behind the number that was got, and a run that ends
@@ -156,10 +156,10 @@ closes_keep P o (Some order) old new k on does here = line_keeps P o (Ok Stop) o
 
 -- So the whole script does.
 pub script_keeps : (P : Stage → Type 0) (o after : Outset) (ending : Ending) (source : Option (List ℕ)) (lines : List (List ℕ)) (final : Stage) → IsKeptByLines P → IsPlayed o after (CutBy ending source lines) lines final
-    → P (opening o.clashes) → P final
+    → P (opening_stage o.clashes) → P final
 script_keeps P o after ending source lines final k played here =
     closes_keep P o played.cut.on played.cut final k refl played.closes
-    (cut_keeps P ending source lines played.behind played.cut k played.is_cut (plays_keep P o (map command_of lines) (opening o.clashes) played.behind k played.plays here))
+    (cut_keeps P ending source lines played.behind played.cut k played.is_cut (plays_keep P o (map command_of lines) (opening_stage o.clashes) played.behind k played.plays here))
 
 -- no run is on at its end
 closes_idle : (o : Outset) (on : Option Order) (old new : Stage) → old.on ≡ on → MatchOption on (new ≡ old) (λ (order : Order). DoesByLine o old (Ok Stop) new) → new.on ≡ None

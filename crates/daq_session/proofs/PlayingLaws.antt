@@ -27,10 +27,10 @@ use Rattle.session_console.specs.Console.{text_of, console_text}
 use Rattle.session_console.proofs.ConsoleLaws.{console_text-more}
 use Rattle.session_console.proofs.Refused.{counts_noted}
 use Rattle.run_recorder.specs.RunRecords.{IsFiled}
-use Rattle.daq_session.specs.Stages.{Outset, Stage, opening, DoesByLine, Plays}
+use Rattle.daq_session.specs.Stages.{Outset, Stage, opening_stage, DoesByLine, Plays}
 use Rattle.daq_session.specs.RunTransitions.{CallsStand}
 use Rattle.daq_session.specs.Standing.{Course, behind_reply, order_in, stage_of, Handles, IsReady}
-use Rattle.odb_script.specs.Lines.{Reading, nothing_read, ReadsLine}
+use Rattle.odb_script.specs.Lines.{Reading, no_line_read, ReadsLine}
 use Rattle.odb_script.proofs.ReadLines.{HasReadLines, has_read_none, has_read_line}
 use Rattle.daq_session.specs.declared.desk.Going.TheVariants.{On, Exit}
 use Rattle.odb_tree.specs.Histories.{IsLegal}
@@ -74,7 +74,7 @@ moment_more o lines line replies reply number old new before after was now momen
     record {
       readings = leads.readings;
       clashes = leads.clashes;
-      plays = rw (map-append command_of lines (line ∷ [])) (Plays-more o (map command_of lines) (command_of line) (opening o.clashes) (stage_of old before_it) (stage_of new behind) moment.plays does);
+      plays = rw (map-append command_of lines (line ∷ [])) (Plays-more o (map command_of lines) (command_of line) (opening_stage o.clashes) (stage_of old before_it) (stage_of new behind) moment.plays does);
       at = leads.at;
       counts = rw (replied.is_noted, place) (counts_noted replies reply was moment.counts);
       numbered = omega (arith, moment.numbered, length-append replies (reply ∷ []), length-append lines (line ∷ []));
@@ -107,7 +107,7 @@ pub record SoFar (o : Outset) (source_first source_now told_first told_now : Opt
   pub is_number : length lines ≡ number
 
 -- none
-pub so_far_new : (o : Outset) (source told : Option (List ℕ)) (reading : Reading) (s : Session) (refusals : Refusals) → IsNew s → refusals ≡ record { count = 0; first = 0 } → reading ≡ nothing_read → SoFar o source source told told reading s o refusals 0
+pub so_far_new : (o : Outset) (source told : Option (List ℕ)) (reading : Reading) (s : Session) (refusals : Refusals) → IsNew s → refusals ≡ record { count = 0; first = 0 } → reading ≡ no_line_read → SoFar o source source told told reading s o refusals 0
 so_far_new o source told reading s refusals new none unread = record {
   lines = [];
   replies = [];

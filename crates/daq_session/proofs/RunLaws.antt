@@ -23,7 +23,7 @@ use Rattle.run_recorder.specs.RunRecords.{IsFiled}
 use Rattle.session_console.specs.Refused.{Counts}
 use Rattle.session_console.specs.declared.records.SessionRecord.{SessionRecord}
 use Rattle.session_console.specs.declared.replies.Reply.{Reply}
-use Rattle.daq_session.specs.Stages.{Outset, Stage, opening}
+use Rattle.daq_session.specs.Stages.{Outset, Stage, opening_stage}
 use Rattle.daq_session.specs.BrokenRuns.{turning}
 use Rattle.daq_session.specs.Standing.{Course, FailsLine, FailsTurn, order_in, stage_of}
 use Rattle.daq_session.specs.Endings.{SourceCounts, SinkCounts, FileCounts}
@@ -312,11 +312,11 @@ ran_none before =
       ends = ends_by before before (Halted NoMemory) None no_memory (record { count = 0; first = 0 }) c refl;
       session = λ whole. record {
         lines = [];
-        final = opening before.outset.clashes;
+        final = opening_stage before.outset.clashes;
         played = record {
-          behind = opening before.outset.clashes;
+          behind = opening_stage before.outset.clashes;
           plays = refl;
-          cut = opening before.outset.clashes;
+          cut = opening_stage before.outset.clashes;
           is_cut = inl refl;
           closes = refl;
           kept = record { tells = refl; filed = λ known. All-nil (IsFiled before.outset.files.at); begun = λ known. tt; others = λ known name avoids ne. refl; numbers = λ number. KeepsNumber-refl before.outset.files number };

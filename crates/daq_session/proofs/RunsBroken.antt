@@ -15,13 +15,13 @@ use Rattle.run_recorder.specs.PartFiles.{stopped_bytes}
 use Rattle.run_recorder.specs.FileFaults.{BeginBreaks, BreaksFile, CutsFile}
 use Rattle.run_recorder.specs.RunNames.{run_name}
 use Rattle.run_recorder.specs.RunRecords.{IsKept}
-use Rattle.daq_session.specs.Stages.{IsReading, Outset}
+use Rattle.daq_session.specs.Stages.{IsClockReading, Outset}
 use Rattle.daq_session.specs.Standing.{Course, FailsTurn, IsAt, order_in}
 use Rattle.run_recorder.proofs.KeptLaws.{absent_is_not_closed, all_filed, kept_free, kept_same, open_is_not_closed}
 use Rattle.daq_session.proofs.Leading.{Reads, next_reading, one_reading}
 
 -- the file of a run was made, and cut short
-cuts_run : (o : Outset) (c : Course) (s : Session) (before : Outset) (now : Seen) (run time : ℕ) → IsKept o.files before.files s.recorder.runs None → IsReading o c.readings time
+cuts_run : (o : Outset) (c : Course) (s : Session) (before : Outset) (now : Seen) (run time : ℕ) → IsKept o.files before.files s.recorder.runs None → IsClockReading o c.readings time
     → CutsFile before.files now (run_name run) (begun_file run time [] []) → CutsRun o c.readings s.recorder.runs now
 cuts_run o c s before now run time kept reading cut = record {
   run = run;

@@ -9,14 +9,14 @@ use Rattle.session_console.specs.declared.records.RunRecord.{RunRecord}
 use Rattle.run_recorder.specs.RunNames.{run_name}
 use Rattle.run_recorder.specs.RunRecords.{IsKept}
 use Rattle.run_recorder.specs.PartFiles.{HasPartBehind, IsKeptBut, stopped_bytes}
-use Rattle.daq_session.specs.Stages.{Outset, IsReading, IsFreeName}
+use Rattle.daq_session.specs.Stages.{Outset, IsClockReading, IsFreeName}
 
 -- Behind these runs the file of a run was made, whose name was free: it is being written, and has a first part of the begin
 -- record.
 pub record CutsRun (o : Outset) (readings : ℕ) (runs : List RunRecord) (now : Seen) : Type 0 where
   pub run : ℕ
   pub time : ℕ
-  pub reading : IsReading o readings time
+  pub reading : IsClockReading o readings time
   pub free : IsTrue o.files.tells → IsFreeName o runs (run_name run)
   pub kept : IsKeptBut o.files now runs (run_name run)
   pub count : ℕ
@@ -32,7 +32,7 @@ StartBreaks o readings runs now = IsKept o.files now runs None ⊎ CutsRun o rea
 -- and of the end record.
 pub record StopBreaks (o : Outset) (readings : ℕ) (runs : List RunRecord) (order : Order) (now : Seen) : Type 0 where
   pub time : ℕ
-  pub reading : IsReading o readings time
+  pub reading : IsClockReading o readings time
   pub kept : IsKeptBut o.files now runs (run_name order.run)
   pub own : IsTrue o.files.tells
       → HasPartBehind now (run_name order.run) (begun_file order.run order.time [] []) (stopped_bytes order time)

@@ -4,7 +4,7 @@ use Rattle.odb_script.specs.declared.forms.Command.TheVariants.{Stop}
 use Rattle.odb_script.specs.Forms.{command_of}
 use Rattle.run_recorder.specs.RunRecords.{IsKept}
 use Rattle.daq_session.specs.Standing.{IsClock}
-use Rattle.daq_session.specs.Stages.{Outset, Stage, opening, DoesByLine, Plays}
+use Rattle.daq_session.specs.Stages.{Outset, Stage, opening_stage, DoesByLine, Plays}
 
 -- the stop at the script's end, which is given where a run is on
 abbrev pub ClosesRun : Outset → Stage → Stage → Type 0
@@ -15,7 +15,7 @@ ClosesRun o old new = MatchOption old.on (new ≡ old) (λ order. DoesByLine o o
 -- that were refused.
 pub record IsPlayed (o after : Outset) (IsCut : Stage → Stage → Type 0) (lines : List (List ℕ)) (final : Stage) : Type 0 where
   pub behind : Stage
-  pub plays : Plays o (opening o.clashes) (map command_of lines) behind
+  pub plays : Plays o (opening_stage o.clashes) (map command_of lines) behind
   pub cut : Stage
   pub is_cut : IsCut behind cut
   pub closes : ClosesRun o cut final

@@ -19,9 +19,9 @@ use Rattle.daq_session.specs.declared.endings.Ending.TheVariants.{End, TooLong, 
 use Rattle.session_console.specs.declared.replies.Reply.{Reply}
 use Rattle.session_console.specs.declared.refusals.Refusals.{Refusals}
 use Rattle.daq_session.specs.declared.session.Session.{Session}
-use Rattle.session_console.specs.Console.{text_of, console_text, is_refusal, refused_lines}
+use Rattle.session_console.specs.Console.{text_of, console_text, refuses_line, refused_lines}
 use Rattle.session_console.specs.Refused.{noted, Counts}
-use Rattle.daq_session.specs.Stages.{HasHistory, Outset, Stage, opening, Plays, Interrupts}
+use Rattle.daq_session.specs.Stages.{HasHistory, Outset, Stage, opening_stage, Plays, Interrupts}
 use Rattle.daq_session.specs.Standing.{Course, stage_of, IsAt, IsReady, AnswersLine, Breaks, FailsLine, FailsTurn}
 use Rattle.daq_session.specs.BrokenRuns.{turning}
 
@@ -33,7 +33,7 @@ course_of readings clashes replies = record { readings = readings; clashes = cla
 pub record Moment (o : Outset) (lines : List (List ℕ)) (replies : List Reply) (s : Session) (now : Outset) (refusals : Refusals) : Type 0 where
   pub readings : ℕ
   pub clashes : ℕ
-  pub plays : Plays o (opening o.clashes) (map command_of lines) (stage_of s (course_of readings clashes replies))
+  pub plays : Plays o (opening_stage o.clashes) (map command_of lines) (stage_of s (course_of readings clashes replies))
   pub at : IsAt o (course_of readings clashes replies) s now
   pub counts : Counts (refused_lines 1 replies) refusals
   pub numbered : length replies ≡ length lines
@@ -51,7 +51,7 @@ pub record IsNew (s : Session) : Type 0 where
 pub record Replied (line : List ℕ) (number : ℕ) (reply : Reply) (old new : Session) (before after : Outset) (was now : Refusals) : Type 0 where
   pub answers : AnswersLine (command_of line) reply old new before after
   pub ready : IsReady after.files new.recorder.on
-  pub is_noted : now ≡ noted was number (is_refusal reply)
+  pub is_noted : now ≡ noted was number (refuses_line reply)
 
 -- The line was not answered, for want of memory.
 pub record Unanswered (line : List ℕ) (old new : Session) (before after : Outset) (told_old told_new : Option (List ℕ)) (was now : Refusals) : Type 0 where
@@ -165,7 +165,7 @@ pub record Played (o : Outset) (ending : Ending) (source left told_first told_no
   pub lines : List (List ℕ)
   pub replies : List Reply
   pub behind : Stage
-  pub plays : Plays o (opening o.clashes) (map command_of lines) behind
+  pub plays : Plays o (opening_stage o.clashes) (map command_of lines) behind
   pub readings : ℕ
   pub clashes : ℕ
   pub numbered : length replies ≡ length lines
@@ -189,7 +189,7 @@ pub record FailsAt (o : Outset) (source : Option (List ℕ)) (lines : List (List
 pub record PlayedUpTo (o : Outset) (source told_first told_now : Option (List ℕ)) (now : Outset) (refusals : Refusals) : Type 0 where
   pub lines : List (List ℕ)
   pub behind : Stage
-  pub plays : Plays o (opening o.clashes) (map command_of lines) behind
+  pub plays : Plays o (opening_stage o.clashes) (map command_of lines) behind
   pub fails : FailsAt o source lines behind now
   pub counts : Counts (refused_lines 1 behind.replies) refusals
   pub are_lines : (text : List ℕ) → source ≡ Some text → AreFirst text lines

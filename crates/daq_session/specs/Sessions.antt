@@ -28,7 +28,7 @@ use Rattle.daq_session.specs.Playing.{AreLines, CutBy, FailsAt, Wrote}
 use Rattle.run_recorder.specs.RunHistories.{HoldSegments, IsHeldRun}
 use Rattle.daq_session.specs.RunRecordFits.{FitsHistory}
 use Rattle.daq_session.specs.RunTransitions.{HoldsRuns}
-use Rattle.daq_session.specs.Stages.{HasHistory, Outset, Stage, Plays, opening}
+use Rattle.daq_session.specs.Stages.{HasHistory, Outset, Stage, Plays, opening_stage}
 use Rattle.daq_session.specs.Standing.{FailsTurn}
 use Rattle.run_recorder.specs.SystemCalls.{AreSystemCalls, IsOfRuns, completed_starts}
 use Rattle.daq_session.specs.TakenNames.{AreWithinRise}
@@ -149,7 +149,7 @@ FailsBy (Halted file_fault) o source lines behind now = FailsAt o source lines b
 pub record IsBrokenOff (before after : Environment) (ending : Ending) (refusals : Refusals) : Type 0 where
   pub lines : List (List ℕ)
   pub behind : Stage
-  pub plays : Plays before.outset (opening before.outset.clashes) (map command_of lines) behind
+  pub plays : Plays before.outset (opening_stage before.outset.clashes) (map command_of lines) behind
   pub fails : FailsBy ending before.outset before.source lines behind after.outset
   pub read : (text : List ℕ) → before.source ≡ Some text → AreLines ending text after.source lines
   pub refused : Counts (refused_lines 1 behind.replies) refusals

@@ -68,8 +68,8 @@ pub record Stage : Type 0 where
   pub replies : List Reply
 
 -- a session before its first line, where the count of clashes is this
-abbrev pub opening : (clashes : ℕ) → Stage
-opening clashes = record { quota = 0; starts = 0; readings = 0; clashes = clashes; opened = false; on = None; runs = []; own = []; front = []; replies = [] }
+abbrev pub opening_stage : (clashes : ℕ) → Stage
+opening_stage clashes = record { quota = 0; starts = 0; readings = 0; clashes = clashes; opened = false; on = None; runs = []; own = []; front = []; replies = [] }
 
 -- a line more was answered, and nothing else happened
 abbrev pub answered : Stage → Reply → Stage
@@ -84,8 +84,8 @@ abbrev pub front_called : Stage → DatabaseEntry → Stage
 front_called old entry = record old { front = old.front ++ entry ∷ [] }
 
 -- the clock gave this time at this reading
-abbrev pub IsReading : Outset → (reading time : ℕ) → Type 0
-IsReading o reading time = IsTrue o.clock_tells → time ≡ o.ahead reading
+abbrev pub IsClockReading : Outset → (reading time : ℕ) → Type 0
+IsClockReading o reading time = IsTrue o.clock_tells → time ≡ o.ahead reading
 
 -- no file has this name: there was none at first, and none of the recorded runs made it
 abbrev pub IsFreeName : Outset → List RunRecord → List ℕ → Type 0
@@ -103,7 +103,7 @@ OpensSession true old new = new ≡ old
 -- a start that came about: its file's name was free
 pub record Begins (o : Outset) (run : ℕ) (old new : Stage) : Type 0 where
   pub time : ℕ
-  pub reading : IsReading o old.readings time
+  pub reading : IsClockReading o old.readings time
   pub free : IsTrue o.files.tells → IsFreeName o old.runs (run_name run)
   pub sets : List DatabaseEntry
   pub are_sets : AreSets (start_sets run time ++ running_set) sets
@@ -115,7 +115,7 @@ pub record Begins (o : Outset) (run : ℕ) (old new : Stage) : Type 0 where
 -- is set back
 pub record Refuses (o : Outset) (run : ℕ) (old new : Stage) : Type 0 where
   pub time : ℕ
-  pub reading : IsReading o old.readings time
+  pub reading : IsClockReading o old.readings time
   pub taken : IsTrue o.files.tells → ¬ IsFreeName o old.runs (run_name run)
   pub clashes : ℕ
   pub clashed : Rose old.clashes clashes
@@ -126,7 +126,7 @@ pub record Refuses (o : Outset) (run : ℕ) (old new : Stage) : Type 0 where
 -- a stop of a run
 pub record EndsRun (o : Outset) (old : Stage) (order : Order) (new : Stage) : Type 0 where
   pub time : ℕ
-  pub reading : IsReading o old.readings time
+  pub reading : IsClockReading o old.readings time
   pub front : FrontTally
   pub tally : IsTally order.quota front
   pub sets : List DatabaseEntry

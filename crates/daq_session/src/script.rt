@@ -1,5 +1,5 @@
 ghost use Rattle.std.specs.Prelude.{◌≡◌, ◌≤◌, ◌<◌, ◌+◌, ◌^◌, ℕ, [], None, IfOk};
-ghost use Rattle.odb_script.specs.Lines.{nothing_read};
+ghost use Rattle.odb_script.specs.Lines.{no_line_read};
 ghost use Rattle.daq_session.specs.Endings.{SourceCounts, SinkCounts, FileCounts};
 ghost use Rattle.daq_session.specs.Stages.{outset_of};
 ghost use Rattle.daq_session.specs.Playing.{PlaysTo, IsNew};
@@ -24,7 +24,7 @@ pub fn play<R: Wait, S: Source, K: Sink, F: Files, E, C: Clock, P>(
 ) -> Ending
     requires new { IsNew desk.old.session }
     requires none { desk.old.refusals ≡ record { count = 0; first = 0 } }
-    requires unread { reader.old ≡ nothing_read }
+    requires unread { reader.old ≡ no_line_read }
     ensures did { PlaysTo
         (outset_of (F.seen outside.old.run_files) (F.clashes outside.old.run_files)
         (C.tells outside.old.clock) (C.ahead outside.old.clock))

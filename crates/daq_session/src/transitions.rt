@@ -6,7 +6,7 @@ ghost use Rattle.odb_runinfo.specs.RunKeys.{sent_path};
 ghost use Rattle.odb_script.specs.declared.forms.Command.TheVariants.{Start, Stop};
 ghost use Rattle.run_recorder.specs.Recordings.{HasRoomForRun, KeepsRecording};
 ghost use Rattle.run_recorder.specs.Tallies.{most_starts};
-ghost use Rattle.session_console.specs.Console.{is_refusal};
+ghost use Rattle.session_console.specs.Console.{refuses_line};
 ghost use Rattle.session_console.specs.FrontNames.{front_name};
 ghost use Rattle.daq_session.specs.FrontSets.{MadeSent};
 ghost use Rattle.daq_session.specs.RunTransitions.{CallsMore};
@@ -225,7 +225,7 @@ impl Session {
             (C.tells clock.new) (C.ahead clock.new))) }
         ensures idle { OnOk result (self.new.recorder.on ≡ None) }
         ensures accepted { IfOk result (λ reply. IsSome self.old.recorder.on
-            → is_refusal reply ≡ false) }
+            → refuses_line reply ≡ false) }
         ensures starts { self.new.recorder.starts ≡ self.old.recorder.starts }
         ensures faults { CountsFault (F.faults files.old) (F.faults files.new) result }
     {

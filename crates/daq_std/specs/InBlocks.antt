@@ -16,8 +16,8 @@ pub record InBlocks (F : Type 0) : Type 0 where
   pub tallied : Tallied
 
 -- what is told of the numbers
-abbrev pub told : {F : Type 0} → InBlocks F → Seen
-told files = told_numbers files.uses
+abbrev pub told_by : {F : Type 0} → InBlocks F → Seen
+told_by files = told_numbers files.uses
 
 -- The file of a number was given these bytes more; it may have them in its block. Other numbers' blocks stay.
 pub record GivesBytes {F : Type 0} (contents : F → Option (List ℕ)) (old new : InBlocks F) (number : ℕ) (bytes : List ℕ) : Type 0 where
@@ -39,4 +39,4 @@ CountsOne old new result = CountsFault old.tallied.faults new.tallied.faults res
 
 -- the name of the first fault by a call's answer, where the call is on this number
 abbrev pub NamesFirstAt : {F T E : Type 0} → ℕ → InBlocks F → InBlocks F → Result T E → Type 0
-NamesFirstAt number old new result = NamesFirst ((told old).name_of number) old.tallied.first new.tallied.first result
+NamesFirstAt number old new result = NamesFirst ((told_by old).name_of number) old.tallied.first new.tallied.first result

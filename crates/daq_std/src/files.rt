@@ -1,6 +1,6 @@
 ghost use Rattle.std.specs.Prelude.{◌≡◌, ℕ, [], IfOk, IsErr, IsTrue, OnErr, OnOk};
 ghost use Rattle.daq_io.specs.Seen.{Closes, Ends, Extends, ExtendsPart, InUse, IsFree};
-ghost use Rattle.daq_std.specs.InBlocks.{CountsOne, GivesBytes, HasAll, IsBroken, NamesFirstAt, told};
+ghost use Rattle.daq_std.specs.InBlocks.{CountsOne, GivesBytes, HasAll, IsBroken, NamesFirstAt, told_by};
 
 use crate::faults::{counted, refused};
 use crate::folder::SystemFolder;
@@ -55,9 +55,9 @@ impl<R: rt::Files + Drop> StdFiles<R> {
 }
 
 impl<R: rt::Files + Drop> Files for StdFiles<R> {
-    ghost use Rattle.daq_std.specs.InBlocks.{told};
+    ghost use Rattle.daq_std.specs.InBlocks.{told_by};
 
-    ghost seen = { λ s. told s };
+    ghost seen = { λ s. told_by s };
 
     ghost faults = { λ s. s.tallied.faults };
 
@@ -81,9 +81,9 @@ impl<R: rt::Files + Drop> Files for StdFiles<R> {
 
     /// Once a write failed, no byte of that file is taken.
     fn append(&mut self, file: u32, bytes: &[u8]) -> Result<(), Failed>
-        requires { IsTrue ((told self.old).writes file) }
-        ensures written { OnOk result (Extends (told self.old) (told self.new) file bytes.now) }
-        ensures part { OnErr result (ExtendsPart (told self.old) (told self.new) file bytes.now) }
+        requires { IsTrue ((told_by self.old).writes file) }
+        ensures written { OnOk result (Extends (told_by self.old) (told_by self.new) file bytes.now) }
+        ensures part { OnErr result (ExtendsPart (told_by self.old) (told_by self.new) file bytes.now) }
         ensures faults { CountsOne self.old self.new result }
         ensures clashes { self.new.tallied.clashes ≡ self.old.tallied.clashes }
         ensures first { NamesFirstAt file self.old self.new result }
@@ -102,17 +102,17 @@ impl<R: rt::Files + Drop> Files for StdFiles<R> {
 
     /// A written file is closed well where the system has put all of its bytes on the disk.
     fn close(&mut self, file: u32) -> Result<(), Failed>
-        requires { InUse (told self.old) file }
-        ensures written { IsTrue ((told self.old).writes file)
-            → Closes (told self.old) (told self.new) file [] }
-        ensures read { IsTrue ((told self.old).reads file)
-            → Ends (told self.old) (told self.new) file }
+        requires { InUse (told_by self.old) file }
+        ensures written { IsTrue ((told_by self.old).writes file)
+            → Closes (told_by self.old) (told_by self.new) file [] }
+        ensures read { IsTrue ((told_by self.old).reads file)
+            → Ends (told_by self.old) (told_by self.new) file }
         ensures faults { CountsOne self.old self.new result }
         ensures clashes { self.new.tallied.clashes ≡ self.old.tallied.clashes }
         ensures first { NamesFirstAt file self.old self.new result }
-        ensures all { IsTrue ((told self.old).writes file)
+        ensures all { IsTrue ((told_by self.old).writes file)
             → OnOk result (HasAll R.File.contents self.old file) }
-        ensures broken { IsTrue ((told self.old).writes file) → IsBroken self.old file
+        ensures broken { IsTrue ((told_by self.old).writes file) → IsBroken self.old file
             → IsErr result }
     {
         match self.numbers.usage(file) {

@@ -6,3 +6,4 @@ pub mod NameFaults
 pub mod Tids
 pub mod Transitions
 pub mod Callers
+pub mod FileDigits

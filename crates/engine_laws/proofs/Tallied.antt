@@ -35,7 +35,7 @@ use Rattle.transitions.specs.EngineHistories.{EngineHistory, IsLegalEngine, engi
 use Rattle.transitions.specs.EnginePoints.{engine_past, state_at, tally_of}
 use Rattle.transitions.specs.GivenTurns.{SpeaksFor}
 use Rattle.transitions.specs.Marks.{is_mark, HasNoMark, IsEndOf}
-use Rattle.member_model.specs.Turns.{MemberTurn, HasTurn, IsAnswered, NoneOpen}
+use Rattle.member_model.specs.Turns.{MemberTurn, HasTurn, HasAnswer, NoneOpen}
 use Rattle.member_model.specs.TurnCalls.{turn_told, turn_answered, turns_with, member_turns}
 use Rattle.engine_laws.specs.BegunTurns.{IsOfBegin, WantsAlone, OneWantsDump, IsTallyOfTurn}
 use Rattle.engine_laws.specs.EngineLaws.{DonesHaveBegins, TalliesAreAnswers}
@@ -292,7 +292,7 @@ record LatestSince (since : List MemberTurn) (t : MemberTurn) : Type 0 where
   is : since ≡ t ∷ rest
 
 latest_since : (since past rest : List MemberTurn) (t : MemberTurn) → t.answer ≡ None → NoneOpen past → since ++ past ≡ t ∷ rest → LatestSince since t
-latest_since [] past rest t unanswered none is = absurd (subst IsAnswered unanswered (subst NoneOpen is none))
+latest_since [] past rest t unanswered none is = absurd (subst HasAnswer unanswered (subst NoneOpen is none))
 latest_since (x ∷ xs) past rest t unanswered none is =
     let same : x ≡ t = cc (is) in
     record { rest = xs; is = ap (λ (y : MemberTurn). y ∷ xs) same }

@@ -13,7 +13,7 @@ use Rattle.transitions.specs.declared.answers.Answer.{Answer}
 use Rattle.transitions.specs.Called.{called_list}
 use Rattle.transitions.specs.CalledOrder.{IsBefore, AreInOrder, IsCalledIn, IsRegisteredFor, IsCalledList}
 use Rattle.transitions.specs.EngineCalls.{is_next}
-use Rattle.member_model.specs.Turns.{MemberTurn, HasTurn, IsAnswered, NoneOpen, current_run, HasNoStart, IsOfRun, IsNextTurn}
+use Rattle.member_model.specs.Turns.{MemberTurn, HasTurn, HasAnswer, NoneOpen, current_run, HasNoStart, IsOfRun, IsNextTurn}
 use Rattle.member_model.specs.TurnCalls.{turn_told, turn_answered}
 
 -- Clients to be called.
@@ -156,7 +156,7 @@ phase_push StartAbort come gone start ts order dump answer is never phase = λ g
 
 -- The latest turn.
 
-answered_is : (o : Option Answer) → IsAnswered o → is_some o ≡ true
+answered_is : (o : Option Answer) → HasAnswer o → is_some o ≡ true
 answered_is None is = absurd is
 answered_is (Some answer) is = refl
 

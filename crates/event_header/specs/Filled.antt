@@ -4,8 +4,8 @@ use Rattle.event_header.specs.Headers.{event_of, header_encoding}
 use Rattle.event_header.specs.Held.{HeldEvent}
 use Rattle.event_header.specs.declared.event_buf.EventBuf.TheInside.{Inside}
 
-abbrev pub held_of : Inside → HeldEvent
-held_of b = record { event = event_of b.header (drop 16 b.bytes.items); room = b.room }
+abbrev pub held_event : Inside → HeldEvent
+held_event b = record { event = event_of b.header (drop 16 b.bytes.items); room = b.room }
 
 -- the bytes are the header's and the data behind them, and there is room for the longest event
 pub record IsFilled (b : Inside) : Type 0 where

@@ -34,9 +34,9 @@ impl Model for EventBuf {
 
     ghost Value = { HeldEvent };
 
-    ghost use Rattle.event_header.specs.Filled.{held_of, IsFilled};
+    ghost use Rattle.event_header.specs.Filled.{held_event, IsFilled};
 
-    ghost view = { held_of };
+    ghost view = { held_event };
 
     ghost invariant = { IsFilled };
 }

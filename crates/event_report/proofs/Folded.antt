@@ -19,7 +19,7 @@ use Rattle.event_report.specs.Integers.{integer_type, whole_items}
 use Rattle.event_report.specs.EventBanks.{banks_of, IntegerBank, some_items, integer_bank, event_banks, integer_banks}
 use Rattle.event_report.specs.Listing.{has}
 use Rattle.event_report.specs.Tallies.{IdTally, own, id_row, id_tally, BankTally, bank_number, items_with, figures_of, bank_row, bank_tally}
-use Rattle.event_report.specs.Steps.{id_of, one_more, id_rows_after, id_tally_after, row_number, more_figures, joined, bank_rows_after, own_row, bank_tally_after, banks_after}
+use Rattle.event_report.specs.Steps.{id_of, one_more, id_rows_after, id_tally_after, row_number, more_figures, joined_figures, bank_rows_after, own_row, bank_tally_after, banks_after}
 use Rattle.event_report.specs.Reports.{Totals, report_of}
 use Rattle.event_report.proofs.Sums.{figures-append}
 use Rattle.event_report.proofs.Listed.{bit, true_or_false, both_false, eqb_flip}
@@ -104,7 +104,7 @@ items_some (b ∷ banks) n some there =
       | inr ne ↦ let further : has bank_number n banks ≡ true = rw ne at there in rw ne (items_some banks n some.1 further)
     ]
 
-figures_joined : (xs ys : List ℤ) → 0 < length xs → 0 < length ys → figures_of (xs ++ ys) ≡ joined (figures_of xs) (figures_of ys)
+figures_joined : (xs ys : List ℤ) → 0 < length xs → 0 < length ys → figures_of (xs ++ ys) ≡ joined_figures (figures_of xs) (figures_of ys)
 figures_joined [] ys some more = absurd (omega arith)
 figures_joined (x ∷ xs) [] some more = absurd (omega arith)
 figures_joined (x ∷ xs) (y ∷ ys) some more = figures-append x xs y ys

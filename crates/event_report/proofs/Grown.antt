@@ -6,7 +6,7 @@ use Rattle.std.proofs.lemmas.List.{length-map}
 use Rattle.std.proofs.lemmas.List.Sums.{sum_by-append, sum_by-cons}
 use Rattle.std.proofs.lemmas.List.Folds.{list_any-append}
 use Rattle.event_report.specs.Listing.{row_limit, has, listed, placed, in_order, rest_count}
-use Rattle.event_report.specs.Steps.{takes, changed, rows_after, rest_after}
+use Rattle.event_report.specs.Steps.{takes, changed_row, rows_with, rest_after}
 use Rattle.event_report.proofs.Listed.{bit, true_or_false, both_false, eqb_flip, there_if_listed, new_if_short, listed_known, listed_new, listed_full, has_in_order, length_in_order, in_order_more}
 
 has_map : {A R : Type 0} (number : A → ℕ) (rnum : R → ℕ) (f : A → R) (n : ℕ) (same : (a : A) → rnum (f a) ≡ number a) (xs : List A) → has rnum n (map f xs) ≡ has number n xs
@@ -38,7 +38,7 @@ map_others number rnum old new n change becomes (x ∷ xs) none =
     rw (first, map_others number rnum old new n change becomes xs parts.1) refl
 
 map_changed : {A R : Type 0} (number : A → ℕ) (rnum : R → ℕ) (old new : A → R) (n : ℕ) (change : R → R) → Becomes number rnum old new n change
-    → ((a : A) → eqb (number a) n ≡ true → new a ≡ change (old a)) → (xs : List A) → map (changed rnum n change) (map old xs) ≡ map new xs
+    → ((a : A) → eqb (number a) n ≡ true → new a ≡ change (old a)) → (xs : List A) → map (changed_row rnum n change) (map old xs) ≡ map new xs
 map_changed number rnum old new n change becomes same [] = refl
 map_changed number rnum old new n change becomes same (x ∷ xs) =
     let x_is = becomes.old_number x in
@@ -63,7 +63,7 @@ pub rows_more : {A R : Type 0} (number : A → ℕ) (rnum : R → ℕ) (old new 
     → Becomes number rnum old new (number y) change
     → (has number (number y) xs ≡ true → (a : A) → eqb (number a) (number y) ≡ true → new a ≡ change (old a))
     → (has number (number y) xs ≡ false → new y ≡ fresh)
-    → rows_after rnum (number y) change fresh (rows_of number old xs) ≡ rows_of number new (xs ++ y ∷ [])
+    → rows_with rnum (number y) change fresh (rows_of number old xs) ≡ rows_of number new (xs ++ y ∷ [])
 rows_more number rnum old new change fresh xs y becomes same first =
     let n : ℕ = number y in
     let ls = listed number xs in

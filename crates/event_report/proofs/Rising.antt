@@ -15,7 +15,7 @@ use Rattle.std.proofs.lemmas.List.{get_or-set_same, get_or-set_other}
 use Rattle.std.proofs.lemmas.List.Edits.{length-insert, get_or-insert_at, get_or-insert_below, get_or-insert_above}
 use Rattle.std.proofs.lemmas.List.Elements.{All-append, All-take, All-drop, All-cons}
 use Rattle.event_report.specs.Listing.{row_limit, has, placed}
-use Rattle.event_report.specs.Steps.{takes, changed, rows_after}
+use Rattle.event_report.specs.Steps.{takes, changed_row, rows_with}
 use Rattle.event_report.specs.Held.{IsRising, IsTable}
 use Rattle.event_report.specs.Found.{IsRowAt, FitsAt}
 
@@ -75,18 +75,18 @@ rising_tail : {R : Type 0} (number : R → ℕ) (r : R) (rows : List R) → IsRi
 rising_tail number r rows up i j d lt below = up (suc i) (suc j) d (omega arith) (omega arith)
 
 pub unchanged : {R : Type 0} (number : R → ℕ) (n : ℕ) (change : R → R) (rows : List R) → ((k : ℕ) (d : R) → k < length rows → number (get_or rows k d) ≢ n)
-    → map (changed number n change) rows ≡ rows
+    → map (changed_row number n change) rows ≡ rows
 unchanged number n change [] ne = refl
 unchanged number n change (r ∷ rows) ne =
     let first : eqb (number r) n ≡ false = unequal _ _ (ne 0 r (omega arith)) in
     rw first (ap (λ rs. r ∷ rs) (unchanged number n change rows (λ k d h. ne (suc k) d (omega arith))))
 
 changed_at : {R : Type 0} (number : R → ℕ) (n : ℕ) (change : R → R) (rows : List R) (at : ℕ) (v d : R) → IsRising number rows → at < length rows
-    → number (get_or rows at d) ≡ n → v ≡ change (get_or rows at d) → slice_set rows at v ≡ map (changed number n change) rows
+    → number (get_or rows at d) ≡ n → v ≡ change (get_or rows at d) → slice_set rows at v ≡ map (changed_row number n change) rows
 changed_at number n change [] at v d up below is v-is = absurd (omega arith)
 changed_at number n change (r ∷ rows) zero v d up below is v-is =
     let first : eqb (number r) n ≡ true = eq-eqb _ _ is in
-    let others : map (changed number n change) rows ≡ rows =
+    let others : map (changed_row number n change) rows ≡ rows =
     unchanged number n change rows (λ k e h same. let above = up 0 (suc k) e (omega arith) (omega arith) in omega (arith, above, same, is)) in
     rw (first, others, v-is) refl
 changed_at number n change (r ∷ rows) (suc at) v d up below is v-is =
@@ -205,7 +205,7 @@ pub takes_found : {R : Type 0} (number : R → ℕ) (n : ℕ) (rows : List R) (a
 takes_found number n rows at stands = let e = has_at number n rows at stands in rw e refl
 
 pub after_found : {R : Type 0} (number : R → ℕ) (n : ℕ) (change : R → R) (fresh : R) (rows : List R) (at : ℕ) (v d : R) → IsRising number rows → IsRowAt number n rows at
-    → v ≡ change (get_or rows at d) → slice_set rows at v ≡ rows_after number n change fresh rows
+    → v ≡ change (get_or rows at d) → slice_set rows at v ≡ rows_with number n change fresh rows
 after_found number n change fresh rows at v d up stands is =
     let e = has_at number n rows at stands in
     rw e (changed_at number n change rows at v d up stands.below (stands.is d) is)
@@ -218,7 +218,7 @@ takes_placed number n rows at fits room =
     rw (e, lt) refl
 
 pub after_placed : {R : Type 0} (number : R → ℕ) (change : R → R) (fresh : R) (rows : List R) (at : ℕ) → FitsAt number (number fresh) rows at → length rows < row_limit
-    → insert rows at fresh ≡ rows_after number (number fresh) change fresh rows
+    → insert rows at fresh ≡ rows_with number (number fresh) change fresh rows
 after_placed number change fresh rows at fits room =
     let e = not_there number (number fresh) rows at fits in
     let lt : ltb (length rows) row_limit ≡ true = lt-ltb _ _ room in
@@ -232,7 +232,7 @@ takes_full number n rows at fits full =
     rw (e, lt) refl
 
 pub after_full : {R : Type 0} (number : R → ℕ) (n : ℕ) (change : R → R) (fresh : R) (rows : List R) (at : ℕ) → FitsAt number n rows at → row_limit ≤ length rows
-    → rows ≡ rows_after number n change fresh rows
+    → rows ≡ rows_with number n change fresh rows
 after_full number n change fresh rows at fits full =
     let e = not_there number n rows at fits in
     let lt : ltb (length rows) row_limit ≡ false = le-ltb _ _ full in

@@ -10,7 +10,7 @@ use Rattle.event_report.specs.declared.integers.IntegerType.TheVariants.{UInt8, 
 use Rattle.event_report.specs.declared.rows.Figures.{Figures}
 use Rattle.event_report.specs.Integers.{item_size, first_item, items_from, whole_items}
 use Rattle.event_report.specs.Tallies.{total, figures_of}
-use Rattle.event_report.specs.Steps.{joined, some_figures}
+use Rattle.event_report.specs.Steps.{joined_figures, some_figures}
 use Rattle.event_report.specs.Held.{FiguresWithin}
 
 -- ---- sums, least and greatest over two lists
@@ -46,7 +46,7 @@ figures_same a b e f i j =
     made
 
 -- the figures of one list behind another are those of both, joined
-pub figures-append : (x : ℤ) (xs : List ℤ) (y : ℤ) (ys : List ℤ) → figures_of ((x ∷ xs) ++ (y ∷ ys)) ≡ joined (figures_of (x ∷ xs)) (figures_of (y ∷ ys))
+pub figures-append : (x : ℤ) (xs : List ℤ) (y : ℤ) (ys : List ℤ) → figures_of ((x ∷ xs) ++ (y ∷ ys)) ≡ joined_figures (figures_of (x ∷ xs)) (figures_of (y ∷ ys))
 figures-append x xs y ys =
     figures_same _ _
     (length-append (x ∷ xs) (y ∷ ys))
@@ -96,7 +96,7 @@ items-nil kind body lt = ap (λ (n : ℕ). items_from kind n body) (none_left ki
 
 -- figures, and some more items joined to them one by one
 abbrev pub figures_on : Figures → List ℤ → Figures
-figures_on f items = fold (λ (g : Figures) (x : ℤ). joined g (figures_of (x ∷ []))) f items
+figures_on f items = fold (λ (g : Figures) (x : ℤ). joined_figures g (figures_of (x ∷ []))) f items
 
 pub figures_on_is : (x : ℤ) (xs ys : List ℤ) → figures_on (figures_of (x ∷ xs)) ys ≡ figures_of ((x ∷ xs) ++ ys)
 figures_on_is x xs [] = ap figures_of (sym (append-nil (x ∷ xs)))
@@ -111,7 +111,7 @@ pub within_more : (m n : ℕ) (f : Figures) → m ≤ n → FiguresWithin m f �
 within_more m n f le within = record { count = omega (arith, within.count); low = within.low; high = within.high }
 
 -- joined figures are as large as both together
-pub within_joined : (m n : ℕ) (a b : Figures) → FiguresWithin m a → FiguresWithin n b → FiguresWithin (m + n) (joined a b)
+pub within_joined : (m n : ℕ) (a b : Figures) → FiguresWithin m a → FiguresWithin n b → FiguresWithin (m + n) (joined_figures a b)
 within_joined m n a b first second =
     record {
       count = omega (arith, first.count, second.count);
@@ -143,7 +143,7 @@ summed_first kind body left figures le left_is is within =
     }
 
 pub summed_more : (kind : IntegerType) (body left rest : List ℕ) (figures item new : Figures) → item_size kind ≤ length left → rest ≡ drop (item_size kind) left
-    → item ≡ figures_of (first_item kind left ∷ []) → new ≡ joined figures item → FiguresWithin new.count new → IsSummed kind body left figures → IsSummed kind body rest new
+    → item ≡ figures_of (first_item kind left ∷ []) → new ≡ joined_figures figures item → FiguresWithin new.count new → IsSummed kind body left figures → IsSummed kind body rest new
 summed_more kind body left rest figures item new le rest_is item_is new_is within so_far =
     let items = items-cons kind left le in
     let some = size_some kind in
@@ -151,7 +151,7 @@ summed_more kind body left rest figures item new le rest_is item_is new_is withi
     let count : new.count ≡ figures.count + item.count = ap (λ (f : Figures). f.count) new_is in
     record {
       counted = omega (arith, ap length rest_is, length-drop (item_size kind) left, so_far.counted);
-      whole = ap (λ (f : Figures). figures_on f (whole_items kind rest)) (new_is ∙ ap (joined figures) item_is)
+      whole = ap (λ (f : Figures). figures_on f (whole_items kind rest)) (new_is ∙ ap (joined_figures figures) item_is)
           ∙ ap (λ (xs : List ℕ). figures_on figures (first_item kind left ∷ whole_items kind xs)) rest_is
           ∙ ap (figures_on figures) (sym items) ∙ so_far.whole;
       within = within;

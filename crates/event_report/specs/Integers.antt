@@ -7,15 +7,15 @@ use Rattle.event_report.specs.declared.integers.IntegerType.{IntegerType}
 use Rattle.event_report.specs.declared.integers.IntegerType.TheVariants.{UInt8, Int8, UInt16, Int16, UInt32, Int32, Int64, UInt64}
 
 -- the type of banks and keys that it is
-abbrev pub tid_of : IntegerType → Tid
-tid_of UInt8 = tids.UInt8
-tid_of Int8 = tids.Int8
-tid_of UInt16 = tids.UInt16
-tid_of Int16 = tids.Int16
-tid_of UInt32 = tids.UInt32
-tid_of Int32 = tids.Int32
-tid_of Int64 = tids.Int64
-tid_of UInt64 = tids.UInt64
+abbrev pub integer_tid : IntegerType → Tid
+integer_tid UInt8 = tids.UInt8
+integer_tid Int8 = tids.Int8
+integer_tid UInt16 = tids.UInt16
+integer_tid Int16 = tids.Int16
+integer_tid UInt32 = tids.UInt32
+integer_tid Int32 = tids.Int32
+integer_tid Int64 = tids.Int64
+integer_tid UInt64 = tids.UInt64
 
 -- the integer type with this number; a number of any other type, or of none, is that of no integer type
 abbrev pub integer_type : ℕ → Option IntegerType

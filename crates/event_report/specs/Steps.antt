@@ -12,13 +12,13 @@ use Rattle.event_report.specs.Tallies.{IdTally, BankTally, order_number, bank_nu
 abbrev pub takes : {R : Type 0} → (R → ℕ) → ℕ → List R → Bool
 takes number n rows = has number n rows || nat_lt (length rows) row_limit
 
-abbrev pub changed : {R : Type 0} → (R → ℕ) → ℕ → (R → R) → R → R
-changed number n change row = if number row == n then change row else row
+abbrev pub changed_row : {R : Type 0} → (R → ℕ) → ℕ → (R → R) → R → R
+changed_row number n change row = if number row == n then change row else row
 
 -- the row of this number is changed; where there is none, and there is place, a new row stands there
-abbrev pub rows_after : {R : Type 0} → (R → ℕ) → ℕ → (change : R → R) (fresh : R) → List R → List R
-rows_after number n change fresh rows =
-    if has number n rows then map (changed number n change) rows
+abbrev pub rows_with : {R : Type 0} → (R → ℕ) → ℕ → (change : R → R) (fresh : R) → List R → List R
+rows_with number n change fresh rows =
+    if has number n rows then map (changed_row number n change) rows
     else (if nat_lt (length rows) row_limit then placed number fresh rows else rows)
 
 abbrev pub rest_after : Bool → ℕ → ℕ
@@ -31,23 +31,23 @@ abbrev pub one_more : IdRow → IdRow
 one_more r = record r { count = r.count + 1 }
 
 unfoldable pub id_rows_after : ℕ → List IdRow → List IdRow
-id_rows_after id rows = rows_after id_of id one_more (record { id = id; count = 1 }) rows
+id_rows_after id rows = rows_with id_of id one_more (record { id = id; count = 1 }) rows
 
 abbrev pub id_tally_after : ℕ → IdTally → IdTally
 id_tally_after id t = record { rows = id_rows_after id t.rows; rest = rest_after (takes id_of id t.rows) t.rest }
 
 -- the figures of two lists of integers, of which there are some in each, together
-abbrev pub joined : Figures → Figures → Figures
-joined a b = record { count = a.count + b.count; sum = a.sum +ℤ b.sum; least = int_min a.least b.least; greatest = int_max a.greatest b.greatest }
+abbrev pub joined_figures : Figures → Figures → Figures
+joined_figures a b = record { count = a.count + b.count; sum = a.sum +ℤ b.sum; least = int_min a.least b.least; greatest = int_max a.greatest b.greatest }
 
 abbrev pub row_number : BankRow → ℕ
 row_number r = order_number r.name r.kind
 
 abbrev pub more_figures : Figures → BankRow → BankRow
-more_figures f r = record r { figures = joined r.figures f }
+more_figures f r = record r { figures = joined_figures r.figures f }
 
 unfoldable pub bank_rows_after : BankRow → List BankRow → List BankRow
-bank_rows_after b rows = rows_after row_number (row_number b) (more_figures b.figures) b rows
+bank_rows_after b rows = rows_with row_number (row_number b) (more_figures b.figures) b rows
 
 -- a bank, and the figures of its own items
 abbrev pub own_row : IntegerBank → BankRow

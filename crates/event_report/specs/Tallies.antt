@@ -7,7 +7,7 @@ use Rattle.event_report.specs.declared.integers.IntegerType.{IntegerType}
 use Rattle.event_report.specs.declared.rows.Figures.{Figures}
 use Rattle.event_report.specs.declared.rows.IdRow.{IdRow}
 use Rattle.event_report.specs.declared.rows.BankRow.{BankRow}
-use Rattle.event_report.specs.Integers.{tid_of}
+use Rattle.event_report.specs.Integers.{integer_tid}
 use Rattle.event_report.specs.EventBanks.{IntegerBank}
 use Rattle.event_report.specs.Listing.{listed, in_order, rest_count}
 
@@ -35,7 +35,7 @@ pub record BankTally : Type 0 where
 -- The number by which names and types are told apart and put in order: the four bytes of the name, the first one
 -- weighing most, and then the number of the type.
 abbrev pub order_number : List ℕ → IntegerType → ℕ
-order_number name kind = from_be_bytes w32 name * 256 + tid_code (tid_of kind)
+order_number name kind = from_be_bytes w32 name * 256 + tid_code (integer_tid kind)
 
 abbrev pub bank_number : IntegerBank → ℕ
 bank_number b = order_number b.name b.kind

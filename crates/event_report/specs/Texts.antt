@@ -6,7 +6,7 @@ use Rattle.daq_types.specs.Tids.{tid_name}
 use Rattle.event_report.specs.declared.rows.Figures.{Figures}
 use Rattle.event_report.specs.declared.rows.IdRow.{IdRow}
 use Rattle.event_report.specs.declared.rows.BankRow.{BankRow}
-use Rattle.event_report.specs.Integers.{tid_of}
+use Rattle.event_report.specs.Integers.{integer_tid}
 use Rattle.event_report.specs.Reports.{Totals}
 
 -- The text has the first one in front.
@@ -28,7 +28,7 @@ abbrev pub id_text : IdRow → List ℕ
 id_text r = codes "id " ++ (decimal r.id ++ (codes " count " ++ decimal r.count))
 
 abbrev pub kind_text : BankRow → List ℕ
-kind_text r = codes "bank " ++ (map visible r.name ++ (codes " " ++ tid_name (tid_of r.kind)))
+kind_text r = codes "bank " ++ (map visible r.name ++ (codes " " ++ tid_name (integer_tid r.kind)))
 
 abbrev pub figures_text : Figures → List ℕ
 figures_text f =

@@ -1,7 +1,7 @@
 ghost use Rattle.std.specs.Prelude.{◌≡◌, ◌+◌, ◌≤◌, ◌^◌, length, [], ◌∷◌, IfSome, pos, neg_ℤ, ◌≤ℤ◌};
 ghost use Rattle.event_report.specs.Integers.{whole_items};
 ghost use Rattle.event_report.specs.Tallies.{figures_of};
-ghost use Rattle.event_report.specs.Steps.{joined, some_figures};
+ghost use Rattle.event_report.specs.Steps.{joined_figures, some_figures};
 ghost use Rattle.event_report.specs.Held.{FiguresWithin};
 
 use crate::integers::IntegerType;
@@ -27,7 +27,7 @@ pub fn join(first: &Figures, second: &Figures) -> Figures
     requires first { FiguresWithin first.now.count first.now }
     requires second { FiguresWithin second.now.count second.now }
     requires fits { first.now.count + second.now.count ≤ 2 ^ 62 }
-    ensures joined { result ≡ joined first.now second.now }
+    ensures joined { result ≡ joined_figures first.now second.now }
     ensures within { FiguresWithin (first.now.count + second.now.count) result }
 {
     Figures {

@@ -1,6 +1,6 @@
 ghost use Rattle.std.specs.Prelude.{◌≡◌, ◌≤◌, ◌^◌, length, pos, neg_ℤ, ◌≤ℤ◌};
 ghost use Rattle.std.specs.Int.{from_le_bytes, w16, w32, w64};
-ghost use Rattle.event_report.specs.Integers.{tid_of, integer_type, item_size, first_item};
+ghost use Rattle.event_report.specs.Integers.{integer_tid, integer_type, item_size, first_item};
 
 use daq_types::Tid;
 
@@ -37,7 +37,7 @@ impl IntegerType {
 
     /// The type among all types of banks and keys.
     pub fn tid(self) -> Tid
-        ensures { result ≡ tid_of self }
+        ensures { result ≡ integer_tid self }
     {
         match self {
             IntegerType::UInt8 => Tid::UInt8,

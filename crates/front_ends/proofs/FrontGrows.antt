@@ -17,12 +17,12 @@ use Rattle.buffer_core.specs.declared.entry.BufferEntry.TheVariants.{SendInRun}
 use Rattle.transitions.specs.declared.answers.Answer.{Answer}
 use Rattle.transitions.specs.declared.answers.Answer.TheVariants.{Yes, No}
 use Rattle.transitions.specs.declared.answers.Tally.TheVariants.{Plain, Front}
-use Rattle.member_model.specs.Turns.{MemberTurn, IsAcceptedStart, HasTurnOf, IsNewStart, IsNextTurn, IsAnswered, NoneOpen, AreEngineTurns}
+use Rattle.member_model.specs.Turns.{MemberTurn, IsAcceptedStart, HasTurnOf, IsNewStart, IsNextTurn, HasAnswer, NoneOpen, AreEngineTurns}
 use Rattle.member_model.proofs.TurnLaws.{HasTurnOf-more, HasTurnOf-earlier}
-use Rattle.member_model.specs.SentCalls.{sent_by, own_sent}
+use Rattle.member_model.specs.SentCalls.{sent_by_call, own_sent}
 use Rattle.member_model.proofs.SentLaws.{own_sent-push, WasSpent-push}
 use Rattle.front_ends.specs.declared.front_run.FrontRun.{FrontRun}
-use Rattle.front_ends.specs.Fronts.{ended_with, is_from_pause, paused_run}
+use Rattle.front_ends.specs.Fronts.{front_ended, is_from_pause, paused_run}
 use Rattle.front_ends.specs.FrontKept.{made_events, IsMade, IsNextCall, AreNextSends, StopsTold, EndedSo, IsFrontTally, KeepsFront, IsWaiting, IsSpentSo, NoStopAnswered, TakesPart}
 
 pub length-made_events : (makes : Order → ℕ → Event) (order : Order) (n : ℕ) → length (made_events makes order n) ≡ n
@@ -120,21 +120,21 @@ keeps_more takes makes own turns t keeps right starts tells = record {
   ];
 }
 
-waiting_more : (stop : Option Order) (start : ℕ) (turns : List MemberTurn) (t : MemberTurn) → IsWaiting stop start turns → NoneOpen turns → IsAnswered t.answer → IsWaiting stop start (t ∷ turns)
+waiting_more : (stop : Option Order) (start : ℕ) (turns : List MemberTurn) (t : MemberTurn) → IsWaiting stop start turns → NoneOpen turns → HasAnswer t.answer → IsWaiting stop start (t ∷ turns)
 waiting_more None start turns t waits none answered = answered
 waiting_more (Some order) start turns t waits none answered = absurd (subst (λ (ts : List MemberTurn). NoneOpen ts) waits.2 none)
 
 -- the new turn is no answered stop of this run
 abbrev pub LeavesRun : MemberTurn → (start : ℕ) → Type 0
-LeavesRun t start = t.transition ≡ Stop → IsAnswered t.answer → t.order.start ≢ start
+LeavesRun t start = t.transition ≡ Stop → HasAnswer t.answer → t.order.start ≢ start
 
 pub fresh_more : (turns : List MemberTurn) (t : MemberTurn) (start : ℕ) → NoStopAnswered turns start → LeavesRun t start → NoStopAnswered (t ∷ turns) start
 fresh_more turns t start fresh leaves = λ u stands is answer. elim stands as (λ w. u.order.start ≢ start) [
-  | inl same ↦ subst (λ (v : MemberTurn). v.transition ≡ Stop → IsAnswered v.answer → v.order.start ≢ start) same leaves is answer
+  | inl same ↦ subst (λ (v : MemberTurn). v.transition ≡ Stop → HasAnswer v.answer → v.order.start ≢ start) same leaves is answer
   | inr before ↦ fresh u before is answer
 ]
 
-pub on_more : (makes : Order → ℕ → Event) (own : List BufferEntry) (turns : List MemberTurn) (r : FrontRun) (t : MemberTurn) → TakesPart makes own turns r → NoneOpen turns → IsAnswered t.answer → LeavesRun t r.order.start → TakesPart makes own (t ∷ turns) r
+pub on_more : (makes : Order → ℕ → Event) (own : List BufferEntry) (turns : List MemberTurn) (r : FrontRun) (t : MemberTurn) → TakesPart makes own turns r → NoneOpen turns → HasAnswer t.answer → LeavesRun t r.order.start → TakesPart makes own (t ∷ turns) r
 on_more makes own turns r t on none answered leaves = record {
   begin_turn = on.begin_turn;
   is_start = HasTurnOf-more t on.is_start;
@@ -177,14 +177,14 @@ no_more quota sent over = leb-true quota sent (without (nat_le quota sent) over)
     without false e = e
 
 ended_holds : (own : List BufferEntry) (turns : List MemberTurn) (stop : Order) (sent quota : ℕ) (spent : Option ℕ) (from : RunState) (t : MemberTurn) → stop.from ≡ from → IsSpentSo own stop.start spent
-    → ((nat_le quota sent || is_some spent) || is_from_pause from) ≡ true → sent ≤ quota → HasTurnOf turns Start stop.start t → t.order.quota ≡ quota → EndedSo own turns stop sent (ended_with spent (is_from_pause from))
+    → ((nat_le quota sent || is_some spent) || is_from_pause from) ≡ true → sent ≤ quota → HasTurnOf turns Start stop.start t → t.order.quota ≡ quota → EndedSo own turns stop sent (front_ended spent (is_from_pause from))
 ended_holds own turns stop sent quota (Some total) from t came so over within is wants = so
 ended_holds own turns stop sent quota None Paused t came so over within is wants = came
 ended_holds own turns stop sent quota None Stopped t came so over within is wants = (t, is, omega (arith, no_more quota sent over))
 ended_holds own turns stop sent quota None Running t came so over within is wants = (t, is, omega (arith, no_more quota sent over))
 
 pub tally_holds : (makes : Order → ℕ → Event) (own : List BufferEntry) (turns : List MemberTurn) (r : FrontRun) (stop : Order) → TakesPart makes own turns r → AreEngineTurns turns → r.order.start ≡ stop.start
-    → ((nat_le r.order.quota r.sent || is_some r.spent) || is_from_pause stop.from) ≡ true → IsFrontTally own turns stop r.sent (ended_with r.spent (is_from_pause stop.from))
+    → ((nat_le r.order.quota r.sent || is_some r.spent) || is_from_pause stop.from) ≡ true → IsFrontTally own turns stop r.sent (front_ended r.spent (is_from_pause stop.from))
 tally_holds makes own turns r stop on are same over = record {
   number = subst (λ (start : ℕ). length (own_sent own start) ≡ r.sent) same (ap (λ (es : List Event). length es) (on.sent_is are) ∙ length-made_events makes r.order r.sent);
   ended_so = ended_holds own turns stop r.sent r.order.quota r.spent stop.from on.begin_turn refl
@@ -217,5 +217,5 @@ spent_pushed own entry start None so = so
 spent_pushed own entry start (Some total) so = WasSpent-push own entry start total so
 
 -- a call that sends nothing leaves what was sent
-pub sent_same : (own : List BufferEntry) (entry : BufferEntry) (start : ℕ) → sent_by entry start ≡ [] → own_sent (own ++ entry ∷ []) start ≡ own_sent own start
+pub sent_same : (own : List BufferEntry) (entry : BufferEntry) (start : ℕ) → sent_by_call entry start ≡ [] → own_sent (own ++ entry ∷ []) start ≡ own_sent own start
 sent_same own entry start none = own_sent-push own entry start ∙ (ap (λ (es : List Event). own_sent own start ++ es) none ∙ append-nil (own_sent own start))

@@ -10,8 +10,8 @@ use Rattle.buffer_core.specs.declared.replies.SendRefusal.{SendRefusal}
 use Rattle.buffer_core.specs.declared.replies.SendRefusal.TheVariants.{NotRunning, BadSize, ReservedId, TooLarge, Full, Spent}
 use Rattle.buffer_core.specs.declared.entry.BufferEntry.{BufferEntry}
 use Rattle.buffer_core.specs.declared.entry.BufferEntry.TheVariants.{SendInRun}
-use Rattle.member_model.specs.Turns.{MemberTurn, HasTurnOf, IsAnswered, AreEngineTurns}
-use Rattle.member_model.specs.SentCalls.{sent_by, own_sent, IsSendInRun}
+use Rattle.member_model.specs.Turns.{MemberTurn, HasTurnOf, HasAnswer, AreEngineTurns}
+use Rattle.member_model.specs.SentCalls.{sent_by_call, own_sent, IsSendInRun}
 use Rattle.member_model.proofs.SentLaws.{own_sent-push, EachCall-push, WasSpent-here}
 use Rattle.front_ends.specs.declared.front_run.FrontRun.{FrontRun}
 use Rattle.front_ends.specs.Fronts.{is_done, run_sent}
@@ -96,7 +96,7 @@ on_spent makes own turns r total on =
 accepted_here : (makes : Order → ℕ → Event) (own : List BufferEntry) (r : FrontRun) (place start : ℕ) → r.order.start ≡ start → own_sent (own ++ sent_next makes r (Ok place) ∷ []) start ≡ own_sent own start ++ makes r.order (suc r.sent) ∷ []
 accepted_here makes own r place start same =
     own_sent-push own (sent_next makes r (Ok place)) start
-    ∙ elim (eqb_tells r.order.start start) as (λ w. own_sent own start ++ sent_by (sent_next makes r (Ok place)) start ≡ own_sent own start ++ makes r.order (suc r.sent) ∷ []) [
+    ∙ elim (eqb_tells r.order.start start) as (λ w. own_sent own start ++ sent_by_call (sent_next makes r (Ok place)) start ≡ own_sent own start ++ makes r.order (suc r.sent) ∷ []) [
       | inl is ↦ rw is.0 refl
       | inr other ↦ absurd (other.1 same)
     ]
@@ -104,7 +104,7 @@ accepted_here makes own r place start same =
 accepted_elsewhere : (makes : Order → ℕ → Event) (own : List BufferEntry) (r : FrontRun) (place start : ℕ) → r.order.start ≢ start → own_sent (own ++ sent_next makes r (Ok place) ∷ []) start ≡ own_sent own start
 accepted_elsewhere makes own r place start other =
     sent_same own (sent_next makes r (Ok place)) start
-    (elim (eqb_tells r.order.start start) as (λ w. sent_by (sent_next makes r (Ok place)) start ≡ []) [
+    (elim (eqb_tells r.order.start start) as (λ w. sent_by_call (sent_next makes r (Ok place)) start ≡ []) [
       | inl is ↦ absurd (other is.1)
       | inr differs ↦ rw differs.0 refl
     ])
@@ -137,7 +137,7 @@ accepted_kept takes makes own turns r place more stands =
         made = λ are start. made_accepted makes own turns r place start on are (stands.keeps.made are start);
         tallies = λ are t sent ended here is answer.
             Tally-pushed own entry turns t.order sent ended
-            (accepted_elsewhere makes own r place t.order.start (λ (same : r.order.start ≡ t.order.start). on.fresh are t here is (subst (λ (a : Option Answer). IsAnswered a) (sym answer) tt) (sym same)))
+            (accepted_elsewhere makes own r place t.order.start (λ (same : r.order.start ≡ t.order.start). on.fresh are t here is (subst (λ (a : Option Answer). HasAnswer a) (sym answer) tt) (sym same)))
             (stands.keeps.tallies are t sent ended here is answer);
       };
       run_stands = record {

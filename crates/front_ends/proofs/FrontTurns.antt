@@ -14,10 +14,10 @@ use Rattle.buffer_core.specs.declared.entry.BufferEntry.{BufferEntry}
 use Rattle.transitions.specs.declared.answers.Answer.{Answer}
 use Rattle.transitions.specs.declared.answers.Answer.TheVariants.{Yes, No}
 use Rattle.transitions.specs.declared.answers.Tally.TheVariants.{Plain, Front}
-use Rattle.member_model.specs.Turns.{MemberTurn, IsAcceptedStart, HasTurnOf, IsAnswered, NoneOpen, current_run, IsOfRun, AreEngineTurns, answered}
+use Rattle.member_model.specs.Turns.{MemberTurn, IsAcceptedStart, HasTurnOf, HasAnswer, NoneOpen, current_run, IsOfRun, AreEngineTurns, latest_answered}
 use Rattle.member_model.proofs.TurnLaws.{HasTurnOf-earlier}
 use Rattle.front_ends.specs.declared.front_run.FrontRun.{FrontRun}
-use Rattle.front_ends.specs.Fronts.{front_turn, front_answer, run_after, begun_run, paused_run, stopping_run, is_stop_of, is_over, is_done, is_from_pause, tally_of, ended_with, finish_answer, finish_with, run_finished}
+use Rattle.front_ends.specs.Fronts.{front_turn, front_answer, run_after, begun_run, paused_run, stopping_run, is_stop_of, is_over, is_done, is_from_pause, front_tally, front_ended, finish_answer, finish_with, run_finished}
 use Rattle.front_ends.specs.FrontKept.{IsMade, EndedSo, IsFrontTally, IsWaiting, TakesPart, IsInRun, IsInCurrent, FrontStands}
 use Rattle.front_ends.proofs.FrontGrows.{AnswersStart, TellsTally, sends_turns, accepted_earlier, keeps_more, Tally-more, LeavesRun, fresh_more, on_more, on_paused, none_sent, tally_holds}
 
@@ -40,7 +40,7 @@ stop_in_run run turns start begin current of_run accepted = elim of_run as (λ w
 ]
 
 -- a turn that is answered without a tally, and that leaves the run
-plain_more : (takes : Order → Bool) (makes : Order → ℕ → Event) (own : List BufferEntry) (turns : List MemberTurn) (run : Option FrontRun) (t : MemberTurn) → NoneOpen turns → FrontStands takes makes run own turns → IsAnswered t.answer
+plain_more : (takes : Order → Bool) (makes : Order → ℕ → Event) (own : List BufferEntry) (turns : List MemberTurn) (run : Option FrontRun) (t : MemberTurn) → NoneOpen turns → FrontStands takes makes run own turns → HasAnswer t.answer
     → ((start : ℕ) (r : FrontRun) → run ≡ Some r → LeavesRun t r.order.start) → ((sent : ℕ) (ended : FrontEnded) → t.answer ≢ Some (Yes (Front sent ended))) → AnswersStart takes t → TellsTally turns t
     → (AreEngineTurns (t ∷ turns) → IsInCurrent run (t ∷ turns)) → FrontStands takes makes run own (t ∷ turns)
 plain_more takes makes own turns None t none stands answer leaves plain starts tells current = record {
@@ -91,22 +91,22 @@ refused_current run turns order are start begin on accepted =
 stop_kept : (takes : Order → Bool) (makes : Order → ℕ → Event) (own : List BufferEntry) (turns : List MemberTurn) (r : FrontRun) (order : Order) (same over : Bool) → (same ≡ true → r.order.start ≡ order.start) → (same ≡ false → r.order.start ≢ order.start)
     → (over ≡ true → is_over r order ≡ true) → NoneOpen turns → FrontStands takes makes (Some r) own turns
     → FrontStands takes makes (if same then (if over then None else Some (stopping_run order r)) else Some r) own
-    (front_turn Stop order (if same then (if over then Some (Yes (tally_of r order.from)) else None) else Some (Yes Plain)) ∷ turns)
+    (front_turn Stop order (if same then (if over then Some (Yes (front_tally r order.from)) else None) else Some (Yes Plain)) ∷ turns)
 stop_kept takes makes own turns r order true true is other over none stands =
-    let t : MemberTurn = front_turn Stop order (Some (Yes (tally_of r order.from))) in
+    let t : MemberTurn = front_turn Stop order (Some (Yes (front_tally r order.from))) in
     record {
       keeps = keeps_more takes makes own turns t stands.keeps
           (λ are sent ended stop tells.
-          let right : IsFrontTally own (t ∷ turns) order r.sent (ended_with r.spent (is_from_pause order.from)) =
-          Tally-more own turns t order r.sent (ended_with r.spent (is_from_pause order.from)) (tally_holds makes own turns r order stands.run_stands are.1 (is refl) (over refl)) in
+          let right : IsFrontTally own (t ∷ turns) order r.sent (front_ended r.spent (is_from_pause order.from)) =
+          Tally-more own turns t order r.sent (front_ended r.spent (is_from_pause order.from)) (tally_holds makes own turns r order stands.run_stands are.1 (is refl) (over refl)) in
           let number : r.sent ≡ sent = cc (tells) in
-          let how : ended_with r.spent (is_from_pause order.from) ≡ ended = cc (tells) in
+          let how : front_ended r.spent (is_from_pause order.from) ≡ ended = cc (tells) in
           subst (λ (n : ℕ). IsFrontTally own (t ∷ turns) order n ended) number
           (subst (λ (e : FrontEnded). IsFrontTally own (t ∷ turns) order r.sent e) how right))
           (λ starts. absurd (cc (starts)))
           (λ are stop begin answer accepted told.
-          let same_answer : Yes (tally_of r order.from) ≡ answer = cc (told) in
-          (r.sent, ended_with r.spent (is_from_pause order.from), sym same_answer));
+          let same_answer : Yes (front_tally r order.from) ≡ answer = cc (told) in
+          (r.sent, front_ended r.spent (is_from_pause order.from), sym same_answer));
       run_stands = tt;
       current = λ are. current_none None (t ∷ turns) refl;
     }
@@ -144,7 +144,7 @@ stop_kept takes makes own turns r order false over is other ends none stands =
 quiet_kept : (takes : Order → Bool) (makes : Order → ℕ → Event) (own : List BufferEntry) (turns : List MemberTurn) (run : Option FrontRun) (t : MemberTurn) → NoneOpen turns → FrontStands takes makes run own turns → t.answer ≡ Some (Yes Plain)
     → t.transition ≢ Start → t.transition ≢ Stop → current_run (t ∷ turns) ≡ current_run turns → FrontStands takes makes run own (t ∷ turns)
 quiet_kept takes makes own turns run t none stands plain no_start no_stop same =
-    plain_more takes makes own turns run t none stands (subst (λ (a : Option Answer). IsAnswered a) (sym plain) tt) (λ start r is stop answer. absurd (no_stop stop))
+    plain_more takes makes own turns run t none stands (subst (λ (a : Option Answer). HasAnswer a) (sym plain) tt) (λ start r is stop answer. absurd (no_stop stop))
     (λ sent ended tells. absurd (let e : Some (Yes Plain) ≡ Some (Yes (Front sent ended)) = sym plain ∙ tells in cc (e)))
     (λ starts. absurd (no_start starts))
     (λ are stop begin answer accepted told. absurd (no_stop stop))
@@ -213,11 +213,11 @@ done_is_over true b e = refl
 done_is_over false b e = absurd (cc (e))
 
 closed_kept : (takes : Order → Bool) (makes : Order → ℕ → Event) (r : FrontRun) (own : List BufferEntry) (earlier : List MemberTurn) (order : Order) → order.start ≡ r.order.start → is_done r ≡ true
-    → FrontStands takes makes (Some r) own (front_turn Stop order None ∷ earlier) → FrontStands takes makes None own (front_turn Stop order (Some (Yes (tally_of r order.from))) ∷ earlier)
+    → FrontStands takes makes (Some r) own (front_turn Stop order None ∷ earlier) → FrontStands takes makes None own (front_turn Stop order (Some (Yes (front_tally r order.from))) ∷ earlier)
 closed_kept takes makes r own earlier order same done stands =
     let before : MemberTurn = front_turn Stop order None in
-    let t : MemberTurn = front_turn Stop order (Some (Yes (tally_of r order.from))) in
-    let ended_as : FrontEnded = ended_with r.spent (is_from_pause order.from) in
+    let t : MemberTurn = front_turn Stop order (Some (Yes (front_tally r order.from))) in
+    let ended_as : FrontEnded = front_ended r.spent (is_from_pause order.from) in
     let other : before.transition ≢ Start = λ (e : Stop ≡ Start). cc (e) in
     record {
       keeps = record {
@@ -229,8 +229,8 @@ closed_kept takes makes r own earlier order same done stands =
         sends = λ are. sends_turns makes (before ∷ earlier) (t ∷ earlier) (λ start u of. across before t earlier start u other of) [] own (stands.keeps.sends are);
         stops = λ are start begin stop answer accepted stops is. elim stops.stands as (λ w. (sent : ℕ) × (ended : FrontEnded) × (answer ≡ Yes (Front sent ended))) [
           | inl same_turn ↦
-              let told : Some (Yes (tally_of r order.from)) ≡ Some answer = ap (λ (v : MemberTurn). v.answer) same_turn ∙ is in
-              let same_answer : Yes (tally_of r order.from) ≡ answer = cc (told) in
+              let told : Some (Yes (front_tally r order.from)) ≡ Some answer = ap (λ (v : MemberTurn). v.answer) same_turn ∙ is in
+              let same_answer : Yes (front_tally r order.from) ≡ answer = cc (told) in
               (r.sent, ended_as, sym same_answer)
           | inr old ↦
               let begin_old : IsAcceptedStart earlier start begin = accepted_earlier t earlier start begin other accepted in
@@ -262,22 +262,22 @@ closed_kept takes makes r own earlier order same done stands =
 
 abbrev finish_by : (done : Bool) → (stop : Option Order) → FrontRun → Option Answer
 finish_by done None r = None
-finish_by done (Some order) r = if done then Some (Yes (tally_of r order.from)) else None
+finish_by done (Some order) r = if done then Some (Yes (front_tally r order.from)) else None
 
 finish_with_kept : (takes : Order → Bool) (makes : Order → ℕ → Event) (r : FrontRun) (stop : Option Order) (done : Bool) (own : List BufferEntry) (turns : List MemberTurn) → (done ≡ true → is_done r ≡ true) → IsWaiting stop r.order.start turns → FrontStands takes makes (Some r) own turns
-    → FrontStands takes makes (run_finished (Some r) (finish_by done stop r)) own (answered turns (finish_by done stop r))
+    → FrontStands takes makes (run_finished (Some r) (finish_by done stop r)) own (latest_answered turns (finish_by done stop r))
 finish_with_kept takes makes r None done own turns ends waits stands = stands
 finish_with_kept takes makes r (Some order) false own turns ends waits stands = stands
 finish_with_kept takes makes r (Some order) true own turns ends waits stands =
-    subst (λ (ts : List MemberTurn). FrontStands takes makes None own (answered ts (Some (Yes (tally_of r order.from))))) (sym waits.2)
+    subst (λ (ts : List MemberTurn). FrontStands takes makes None own (latest_answered ts (Some (Yes (front_tally r order.from))))) (sym waits.2)
     (closed_kept takes makes r own waits.1 order waits.0 (ends refl) (subst (λ (ts : List MemberTurn). FrontStands takes makes (Some r) own ts) waits.2 stands))
 
 -- what holds before a finish holds behind it, with the answer of the stop that waited
 pub finish_kept : (takes : Order → Bool) (makes : Order → ℕ → Event) (run : Option FrontRun) (own : List BufferEntry) (turns : List MemberTurn) → FrontStands takes makes run own turns
-    → FrontStands takes makes (run_finished run (finish_answer run)) own (answered turns (finish_answer run))
+    → FrontStands takes makes (run_finished run (finish_answer run)) own (latest_answered turns (finish_answer run))
 finish_kept takes makes None own turns stands = stands
 finish_kept takes makes (Some r) own turns stands = by_stop r.stop stands.run_stands.waiting
   where
-    by_stop : (stop : Option Order) → IsWaiting stop r.order.start turns → FrontStands takes makes (run_finished (Some r) (finish_with stop r)) own (answered turns (finish_with stop r))
+    by_stop : (stop : Option Order) → IsWaiting stop r.order.start turns → FrontStands takes makes (run_finished (Some r) (finish_with stop r)) own (latest_answered turns (finish_with stop r))
     by_stop None waits = stands
     by_stop (Some order) waits = finish_with_kept takes makes r (Some order) (is_done r) own turns (λ e. e) waits stands

@@ -12,7 +12,7 @@ use Rattle.buffer_core.specs.declared.entry.BufferEntry.TheVariants.{SendInRun}
 use Rattle.transitions.specs.declared.answers.Answer.{Answer}
 use Rattle.transitions.specs.declared.answers.Answer.TheVariants.{Yes, No}
 use Rattle.transitions.specs.declared.answers.Tally.TheVariants.{Plain, Front}
-use Rattle.member_model.specs.Turns.{MemberTurn, HasTurn, HasTurnOf, IsAcceptedStart, IsAnswered, NoneOpen, current_run, AreEngineTurns}
+use Rattle.member_model.specs.Turns.{MemberTurn, HasTurn, HasTurnOf, IsAcceptedStart, HasAnswer, NoneOpen, current_run, AreEngineTurns}
 use Rattle.member_model.specs.SentCalls.{own_sent, IsSendInRun, EachCall, WasSpent}
 use Rattle.front_ends.specs.declared.front_run.FrontRun.{FrontRun}
 use Rattle.front_ends.specs.Fronts.{front_turn}
@@ -98,7 +98,7 @@ IsSpentSo own start (Some total) = WasSpent own start total
 
 -- no stop of this run was answered
 abbrev pub NoStopAnswered : List MemberTurn → (start : ℕ) → Type 0
-NoStopAnswered turns start = (t : MemberTurn) → HasTurn turns t → t.transition ≡ Stop → IsAnswered t.answer → t.order.start ≢ start
+NoStopAnswered turns start = (t : MemberTurn) → HasTurn turns t → t.transition ≡ Stop → HasAnswer t.answer → t.order.start ≢ start
 
 -- The run is on: it was ordered by a start turn, and its events so far are those that were sent.
 pub record TakesPart (makes : Order → ℕ → Event) (own : List BufferEntry) (turns : List MemberTurn) (r : FrontRun) : Type 0 where

@@ -49,15 +49,15 @@ is_from_pause Stopped = false
 is_from_pause Paused = true
 is_from_pause Running = false
 
-abbrev pub ended_with : (spent : Option ℕ) → (paused : Bool) → FrontEnded
-ended_with (Some total) paused = EndedSpent total
-ended_with None true = EndedPaused
-ended_with None false = Quota
+abbrev pub front_ended : (spent : Option ℕ) → (paused : Bool) → FrontEnded
+front_ended (Some total) paused = EndedSpent total
+front_ended None true = EndedPaused
+front_ended None false = Quota
 
 -- what is told at a stop in this state: the number sent; and that the buffer was spent, else that the run was paused, else
 -- that the quota was sent
-abbrev pub tally_of : FrontRun → RunState → Tally
-tally_of r from = Front r.sent (ended_with r.spent (is_from_pause from))
+abbrev pub front_tally : FrontRun → RunState → Tally
+front_tally r from = Front r.sent (front_ended r.spent (is_from_pause from))
 
 -- a new run
 abbrev pub begun_run : Order → FrontRun
@@ -75,7 +75,7 @@ abbrev pub stop_answer : Option FrontRun → Order → Option Answer
 stop_answer None order = Some (Yes Plain)
 stop_answer (Some r) order =
     if is_stop_of r order
-    then (if is_over r order then Some (Yes (tally_of r order.from)) else None)
+    then (if is_over r order then Some (Yes (front_tally r order.from)) else None)
     else Some (Yes Plain)
 
 -- What a turn is answered. A start is refused where the equipment does not take part in it; a stop of the run waits until
@@ -110,7 +110,7 @@ run_after takes run StartAbort order = None
 
 abbrev pub finish_with : (stop : Option Order) → FrontRun → Option Answer
 finish_with None r = None
-finish_with (Some order) r = if is_done r then Some (Yes (tally_of r order.from)) else None
+finish_with (Some order) r = if is_done r then Some (Yes (front_tally r order.from)) else None
 
 -- what a stop that waits is answered, once nothing more is to be sent
 abbrev pub finish_answer : Option FrontRun → Option Answer

@@ -4,11 +4,11 @@ ghost use Rattle.daq_types.specs.declared.events.Event.{Event};
 ghost use Rattle.buffer_core.specs.declared.entry.BufferEntry.TheVariants.{SendInRun};
 ghost use Rattle.buffer_core.specs.Ports.{Calls};
 ghost use Rattle.buffer_core.specs.declared.entry.BufferEntry.{BufferEntry};
-ghost use Rattle.member_model.specs.Turns.{MemberTurn, NoneOpen, answered};
+ghost use Rattle.member_model.specs.Turns.{MemberTurn, NoneOpen, latest_answered};
 ghost use Rattle.front_ends.specs.declared.front_step.FrontStep.TheVariants.{NoWork};
 ghost use Rattle.transitions.specs.declared.answers.Answer.TheVariants.{Yes};
 ghost use Rattle.transitions.specs.declared.answers.Tally.TheVariants.{Plain};
-ghost use Rattle.front_ends.specs.Fronts.{is_done, is_over, tally_of, begun_run, paused_run, stopping_run, stop_answer, stopped_run, IsStepOf, HasStep, run_sent, front_answer, run_after, finish_answer, run_finished, is_at_work, SendsNext, front_turn};
+ghost use Rattle.front_ends.specs.Fronts.{is_done, is_over, front_tally, begun_run, paused_run, stopping_run, stop_answer, stopped_run, IsStepOf, HasStep, run_sent, front_answer, run_after, finish_answer, run_finished, is_at_work, SendsNext, front_turn};
 ghost use Rattle.front_ends.specs.FrontIds.{event_room};
 ghost use Rattle.front_ends.specs.FrontKept.{FrontStands};
 
@@ -53,7 +53,7 @@ fn has_done(run: &FrontRun) -> bool
 
 /// What the front-end tells at a stop that came in this state.
 fn told_of(run: &FrontRun, from: RunState) -> Answer
-    ensures { result ≡ Yes (tally_of run.now from) }
+    ensures { result ≡ Yes (front_tally run.now from) }
 {
     let ended = match run.spent {
         Some(total) => FrontEnded::Spent { total },
@@ -308,7 +308,7 @@ impl<E: Equipment> FrontEnd<E> {
             FrontStands (E.takes self.old.equipment) (E.makes self.old.equipment)
             self.old.run own turns →
             FrontStands (E.takes self.new.equipment) (E.makes self.new.equipment)
-            self.new.run own (answered turns result) }
+            self.new.run own (latest_answered turns result) }
     {
         let run = self.run?;
         let stop = run.stop?;

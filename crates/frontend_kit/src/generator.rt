@@ -1,6 +1,6 @@
 ghost use Rattle.std.specs.Prelude.{◌≡◌, ◌≤◌, ◌+◌, ◌*◌, ◌-◌, ◌++◌, ◌↔◌, IsTrue, ℕ, length};
 ghost use Rattle.arrayvec.specs.ArrayVec.{array_vec_len};
-ghost use Rattle.daq_model.specs.Generator.{generated_body, generated_event, next_state, words_from, words_encoded};
+ghost use Rattle.daq_model.specs.Generator.{generated_body, generated_event, next_state, generated_words, words_encoded};
 ghost use Rattle.frontend_kit.specs.BankHeads.{heads};
 
 use arrayvec::ArrayVec;
@@ -98,7 +98,7 @@ fn write_heads(body: &mut Body, size: u32)
 /// Appends so many words: the upper halves of the states of a linear congruential generator behind this state.
 fn append_words(body: &mut Body, state: u64, count: u32)
     requires room { array_vec_len body.old + 4 * count ≤ 80 }
-    ensures bytes { body.new.items ≡ body.old.items ++ words_encoded (words_from count state) }
+    ensures bytes { body.new.items ≡ body.old.items ++ words_encoded (generated_words count state) }
     ensures length { array_vec_len body.new ≡ array_vec_len body.old + 4 * count }
 {
     let mut x = state;

@@ -8,7 +8,7 @@ use Rattle.buffer_core.specs.declared.replies.Received.{Received}
 use Rattle.buffer_core.specs.declared.entry.BufferEntry.{BufferEntry}
 use Rattle.buffer_core.specs.declared.entry.BufferEntry.TheVariants.{Request, Receive, Begin, End}
 use Rattle.buffer_core.specs.Ports.{GotEvent, name_of, name_given, names_given}
-use Rattle.member_model.specs.OwnCalls.{calls_after, asks, LeavesAsking, KeepsAsking, HasDrained, AreGivenBy, is_within, event_at, events_at}
+use Rattle.member_model.specs.OwnCalls.{calls_after, asks, LeavesAsking, KeepsAsking, HasDrained, AreGivenBy, is_place_within, event_at, events_at}
 use Rattle.member_model.proofs.SentLaws.{EachCall-push}
 use Rattle.member_model.specs.ReadRuns.{EndsNot, AskedOnce, IsAsking, IsReading, IsDraining, HasReadRun}
 
@@ -127,7 +127,7 @@ draining_begun own got client id mask number start begun ended events reads = re
 
 -- a call behind the end of the run, which gives these events
 pub draining_push : (own : List BufferEntry) (got : List GotEvent) (client id mask number start begun ended : ℕ) (events : List Event) (e : BufferEntry) (gs : List GotEvent) → IsDraining own got client id mask number start begun ended events
-    → LeavesAsking client e → name_given e ≡ map name_of gs → IsDraining (own ++ e ∷ []) (got ++ gs) client id mask number start begun ended (events ++ events_at client (is_within begun ended) gs)
+    → LeavesAsking client e → name_given e ≡ map name_of gs → IsDraining (own ++ e ∷ []) (got ++ gs) client id mask number start begun ended (events ++ events_at client (is_place_within begun ended) gs)
 draining_push own got client id mask number start begun ended events e gs drains leaves named =
     let front : List BufferEntry = drains.asking in
     let behind : List BufferEntry = drains.running ++ End start (Ok ended) ∷ drains.draining in
@@ -151,9 +151,9 @@ draining_push own got client id mask number start begun ended events e gs drains
           ∙ ap (λ (l : List GotEvent). drains.earlier ++ l) (append_assoc drains.given_running drains.given_draining gs));
       gives_running = drains.gives_running;
       gives_draining = AreGivenBy-push drains.draining drains.given_draining e gs drains.gives_draining named;
-      events_are = ap (λ (l : List Event). l ++ events_at client (is_within begun ended) gs) drains.events_are
-          ∙ (append_assoc (events_at client (nat_le begun) drains.given_running) (events_at client (is_within begun ended) drains.given_draining) (events_at client (is_within begun ended) gs)
-          ∙ ap (λ (l : List Event). events_at client (nat_le begun) drains.given_running ++ l) (sym (events_at-append client (is_within begun ended) drains.given_draining gs)));
+      events_are = ap (λ (l : List Event). l ++ events_at client (is_place_within begun ended) gs) drains.events_are
+          ∙ (append_assoc (events_at client (nat_le begun) drains.given_running) (events_at client (is_place_within begun ended) drains.given_draining) (events_at client (is_place_within begun ended) gs)
+          ∙ ap (λ (l : List Event). events_at client (nat_le begun) drains.given_running ++ l) (sym (events_at-append client (is_place_within begun ended) drains.given_draining gs)));
     }
 
 -- the receive that drains the client

@@ -12,7 +12,7 @@ use Rattle.buffer_core.specs.Ports.{GotEvent}
 use Rattle.transitions.specs.declared.answers.Answer.{Answer}
 use Rattle.transitions.specs.declared.answers.Answer.TheVariants.{Yes, No}
 use Rattle.transitions.specs.declared.answers.Tally.TheVariants.{Plain, Channels}
-use Rattle.member_model.specs.Turns.{MemberTurn, HasTurn, IsAcceptedStart, IsAnswered, AreEngineTurns}
+use Rattle.member_model.specs.Turns.{MemberTurn, HasTurn, IsAcceptedStart, HasAnswer, AreEngineTurns}
 use Rattle.member_model.specs.SentCalls.{EachCall}
 use Rattle.member_model.specs.OwnCalls.{calls_after, AreOwnCalls, SendsNone}
 use Rattle.member_model.specs.ReadRuns.{HasReadRun}
@@ -92,7 +92,7 @@ IsStateSo own start dump NoMark = RefusesEnd own start × ((ended : ℕ) → Mar
 -- each answered stop of a run whose start was accepted tells a state of each channel, and that is so
 abbrev pub StopsTellChannels : List LoggerChannel → (ports : (buffer : ℕ) → LoggerPort) → List MemberTurn → Type 0
 StopsTellChannels channels ports turns = (begin stop : MemberTurn) → IsAcceptedStart turns stop.order.start begin →
-    HasTurn turns stop → stop.transition ≡ Stop → IsAnswered stop.answer →
+    HasTurn turns stop → stop.transition ≡ Stop → HasAnswer stop.answer →
     (index : ℕ) → (channel : LoggerChannel) → slice_get channels index ≡ Some channel →
     (state : ChannelState) × TellsState turns stop channel state ×
     IsStateSo (ports channel.buffer).own stop.order.start stop.dump state

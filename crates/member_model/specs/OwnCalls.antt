@@ -79,8 +79,8 @@ pub record AreGivenBy (calls : List BufferEntry) (given : List GotEvent) : Type 
   pub named_so : names_given calls ≡ map name_of given
 
 -- the place is one from this on, and below that
-abbrev pub is_within : (from to place : ℕ) → Bool
-is_within from to place = nat_le from place && nat_lt place to
+abbrev pub is_place_within : (from to place : ℕ) → Bool
+is_place_within from to place = nat_le from place && nat_lt place to
 
 -- the event, where it is that of the client at a place that passes the test
 abbrev pub event_at : (client : ℕ) → (test : ℕ → Bool) → GotEvent → List Event

@@ -8,7 +8,7 @@ use Rattle.buffer_core.specs.declared.entry.BufferEntry.{BufferEntry}
 use Rattle.buffer_core.specs.declared.entry.BufferEntry.TheVariants.{Request, Receive, Begin, End}
 use Rattle.buffer_core.specs.Ports.{GotEvent}
 use Rattle.member_model.specs.SentCalls.{EachCall}
-use Rattle.member_model.specs.OwnCalls.{calls_after, asks, KeepsAsking, HasDrained, AreGivenBy, is_within, events_at}
+use Rattle.member_model.specs.OwnCalls.{calls_after, asks, KeepsAsking, HasDrained, AreGivenBy, is_place_within, events_at}
 
 -- the client's request for all events of this id and mask was made when it had no other, and these are the calls since
 pub record AskedOnce (own : List BufferEntry) (client id mask number : ℕ) (calls : List BufferEntry) : Type 0 where
@@ -58,7 +58,7 @@ pub record IsDraining (own : List BufferEntry) (got : List GotEvent) (client id 
   pub got_is : got ≡ earlier ++ (given_running ++ given_draining)
   pub gives_running : AreGivenBy running given_running
   pub gives_draining : AreGivenBy draining given_draining
-  pub events_are : events ≡ events_at client (nat_le begun) given_running ++ events_at client (is_within begun ended) given_draining
+  pub events_are : events ≡ events_at client (nat_le begun) given_running ++ events_at client (is_place_within begun ended) given_draining
 
 -- Then a receive was replied that the client has read all places below the end: these are the events of the run. Any calls
 -- may follow.

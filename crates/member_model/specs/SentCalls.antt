@@ -6,14 +6,14 @@ use Rattle.buffer_core.specs.declared.entry.BufferEntry.{BufferEntry}
 use Rattle.buffer_core.specs.declared.entry.BufferEntry.TheVariants.{SendInRun}
 
 -- the event of an accepted send in the run with this start number
-abbrev pub sent_by : BufferEntry → (start : ℕ) → List Event
-sent_by (SendInRun s stated e (Ok place)) start = if s == start then e ∷ [] else []
-sent_by entry start = []
+abbrev pub sent_by_call : BufferEntry → (start : ℕ) → List Event
+sent_by_call (SendInRun s stated e (Ok place)) start = if s == start then e ∷ [] else []
+sent_by_call entry start = []
 
 -- the events that these calls sent in the run with this start number, in order
 abbrev pub own_sent : List BufferEntry → (start : ℕ) → List Event
 own_sent [] start = []
-own_sent (e ∷ es) start = sent_by e start ++ own_sent es start
+own_sent (e ∷ es) start = sent_by_call e start ++ own_sent es start
 
 -- a call that sends in a run
 abbrev pub IsSendInRun : BufferEntry → Type 0

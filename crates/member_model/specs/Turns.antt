@@ -30,20 +30,20 @@ pub record IsAcceptedStart (turns : List MemberTurn) (start : ℕ) (turn : Membe
   pub is_start : HasTurnOf turns Start start turn
   pub accepted : turn.answer ≡ Some (Yes Plain)
 
-abbrev pub IsAnswered : Option Answer → Type 0
-IsAnswered None = ⊥
-IsAnswered (Some answer) = ⊤
+abbrev pub HasAnswer : Option Answer → Type 0
+HasAnswer None = ⊥
+HasAnswer (Some answer) = ⊤
 
 -- the latest turn, if there is one, was answered
 abbrev pub NoneOpen : List MemberTurn → Type 0
 NoneOpen [] = ⊤
-NoneOpen (t ∷ ts) = IsAnswered t.answer
+NoneOpen (t ∷ ts) = HasAnswer t.answer
 
 -- the turns, once the latest of them got this answer, if it is one
-abbrev pub answered : List MemberTurn → Option Answer → List MemberTurn
-answered ts None = ts
-answered [] (Some answer) = []
-answered (t ∷ ts) (Some answer) = record t { answer = Some answer } ∷ ts
+abbrev pub latest_answered : List MemberTurn → Option Answer → List MemberTurn
+latest_answered ts None = ts
+latest_answered [] (Some answer) = []
+latest_answered (t ∷ ts) (Some answer) = record t { answer = Some answer } ∷ ts
 
 -- What an engine gives a client. A start has a number other than 0 that no turn before it had. Any other turn has the number
 -- of the run that is on, unless the client was not called for the start of its run. So a run has one stop or one start-abort,

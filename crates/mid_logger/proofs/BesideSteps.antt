@@ -19,7 +19,7 @@ use Rattle.mid_logger.specs.declared.stage.ChannelRun.{ChannelRun}
 use Rattle.mid_logger.specs.declared.stage.ChannelStage.{ChannelStage}
 use Rattle.mid_logger.specs.declared.stage.ChannelStage.TheVariants.{Idle, Asking, Writing, Draining, Drained, Broken}
 use Rattle.mid_logger.specs.Patterns.{file_name_by}
-use Rattle.mid_logger.specs.Channels.{FileHead, IsOwnClient, ChannelStands, CancelsRequest, IsOpenFile, channel_run, written_run, run_on, reading_run, is_behind_end}
+use Rattle.mid_logger.specs.Channels.{FileHead, IsOwnClient, ChannelStands, CancelsRequest, IsOpenFile, channel_run, written_run, run_begun, reading_run, is_behind_end}
 use Rattle.mid_logger.specs.Pulls.{PullOf, LeavesAll, DrainsClient, TakesBy, drains_at_none, FindsNone, TakesReply, PullsOnce, PullsIn, Pulls}
 use Rattle.mid_logger.specs.ChannelTurns.{asking_run, broken_run, drained_run}
 use Rattle.mid_logger.specs.ChannelEnds.{CancelsStanding, RemovesFile, ClosesRead, ClosesFile}
@@ -146,7 +146,7 @@ stage_beside : (spec other : ChannelSpec) (client other_client : Option ℕ) (ot
 stage_beside spec other client other_client other_stage head other_head p room Idle is pulls file at apart stands = left_beside other other_client other_stage other_head p _ pulls stands
 stage_beside spec other client other_client other_stage head other_head p room (Asking opened) is pulls file at apart stands = left_beside other other_client other_stage other_head p _ pulls stands
 stage_beside spec other client other_client other_stage head other_head p room (Writing opened begun) is pulls file at apart stands =
-    run_beside spec other client other_client other_stage other_head p (run_on opened begun) room at.at.of at.own_client (ap (λ (s : ChannelStage). channel_run s) is) (ap (λ (s : ChannelStage). written_run s) is) file apart pulls stands
+    run_beside spec other client other_client other_stage other_head p (run_begun opened begun) room at.at.of at.own_client (ap (λ (s : ChannelStage). channel_run s) is) (ap (λ (s : ChannelStage). written_run s) is) file apart pulls stands
 stage_beside spec other client other_client other_stage head other_head p room (Draining run) is pulls file at apart stands =
     run_beside spec other client other_client other_stage other_head p run room at.at.of at.own_client (ap (λ (s : ChannelStage). channel_run s) is) (ap (λ (s : ChannelStage). written_run s) is) file apart pulls stands
 stage_beside spec other client other_client other_stage head other_head p room (Drained run) is pulls file at apart stands = left_beside other other_client other_stage other_head p _ pulls stands

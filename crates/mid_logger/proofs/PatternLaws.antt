@@ -10,7 +10,8 @@ use Rattle.std.proofs.lemmas.List.{length-replicate, length-take, get_or_append_
 use Rattle.std.proofs.lemmas.List.Elements.{All-append, All-replicate, All-nil, All-push, All-cons, All-head, All-tail}
 use Rattle.std.proofs.Math.Seq.{get_or-append_seam, drop-append_seam, take-append_seam}
 use Rattle.daq_types.specs.Names.{IsFileName, is_file_byte}
-use Rattle.mid_logger.specs.Patterns.{placeholder, NamePattern, HasNoPercent, IsPattern, IsPatternText, HasParts, IsFirstPercent, five_digits}
+use Rattle.mid_logger.specs.Patterns.{placeholder, NamePattern, HasNoPercent, IsPattern, IsPatternText, HasParts, IsFirstPercent}
+use Rattle.daq_types.specs.FileDigits.{five_digits}
 
 -- the first percent sign stands right behind a front that has none
 pub percent_behind : (text front tail : List ℕ) (place : ℕ) → IsFirstPercent text place → HasNoPercent front → text ≡ front ++ 37 ∷ tail → place ≡ length front

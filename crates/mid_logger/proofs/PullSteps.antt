@@ -22,7 +22,7 @@ use Rattle.mid_logger.specs.declared.stage.BegunRun.{BegunRun}
 use Rattle.mid_logger.specs.declared.stage.ChannelRun.{ChannelRun}
 use Rattle.mid_logger.specs.declared.stage.ChannelStage.{ChannelStage}
 use Rattle.mid_logger.specs.declared.stage.ChannelStage.TheVariants.{Idle, Asking, Writing, Draining, Drained, Broken}
-use Rattle.mid_logger.specs.Channels.{FileHead, KeepsOwnCalls, IsOwnClient, AsksNothing, FileHolds, ReadsUntil, ReadingAt, StageAt, ChannelStands, is_in_run, is_behind_end, run_on, reading_run, CancelsRequest, written_run, IsOpenFile}
+use Rattle.mid_logger.specs.Channels.{FileHead, KeepsOwnCalls, IsOwnClient, AsksNothing, FileHolds, ReadsUntil, ReadingAt, StageAt, ChannelStands, is_in_run, is_behind_end, run_begun, reading_run, CancelsRequest, written_run, IsOpenFile}
 use Rattle.mid_logger.specs.Pulls.{PullOf, LeavesAll, TakesBy, drains_at_none, FindsNone, TakesReply, PullsOnce, PullsIn, Pulls}
 use Rattle.mid_logger.proofs.OwnSteps.{own_push, own_client_push, given_by_reply, got_after_is}
 use Rattle.mid_logger.proofs.ReadSteps.{received, in_run, before_run, behind_run, event_taken, event_left, asks_still, asks_no_more, drained, part_read, file_event, begun_file_part, holds_more}
@@ -186,7 +186,7 @@ stage_kept : (spec : ChannelSpec) (client : Option ℕ) (head : FileHead) (p : P
 stage_kept spec client head p room Idle is pulls stands = leaves_kept spec client head p _ stands pulls
 stage_kept spec client head p room (Asking opened) is pulls stands = leaves_kept spec client head p _ stands pulls
 stage_kept spec client head p room (Writing opened begun) is pulls stands =
-    run_kept spec client (run_on opened begun) head p room (λ own got seen reading. subst (λ (s : ChannelStage). StageAt spec client s head own got seen) (sym is) reading) stands.port stands.own_client
+    run_kept spec client (run_begun opened begun) head p room (λ own got seen reading. subst (λ (s : ChannelStage). StageAt spec client s head own got seen) (sym is) reading) stands.port stands.own_client
     (subst (λ (s : ChannelStage). StageAt spec client s head p.port.own p.port.got p.files) is stands.at) pulls
 stage_kept spec client head p room (Draining run) is pulls stands =
     run_kept spec client run head p room (λ own got seen reading. subst (λ (s : ChannelStage). StageAt spec client s head own got seen) (sym is) reading) stands.port stands.own_client
@@ -237,7 +237,7 @@ run_used spec p room stage run is writes pulls used =
 stage_used : (spec : ChannelSpec) (p : PullOf) (room : ℕ) (stage : ChannelStage) → p.stage ≡ stage → PullsIn (reading_run stage) p room → IsOpenFile p.files spec (written_run p.stage) → IsOpenFile p.later_files spec (written_run p.later_stage)
 stage_used spec p room Idle is pulls used = leaves_used spec p _ used pulls
 stage_used spec p room (Asking opened) is pulls used = leaves_used spec p _ used pulls
-stage_used spec p room (Writing opened begun) is pulls used = run_used spec p room (Writing opened begun) (run_on opened begun) is refl pulls used
+stage_used spec p room (Writing opened begun) is pulls used = run_used spec p room (Writing opened begun) (run_begun opened begun) is refl pulls used
 stage_used spec p room (Draining run) is pulls used = run_used spec p room (Draining run) run is refl pulls used
 stage_used spec p room (Drained run) is pulls used = leaves_used spec p _ used pulls
 stage_used spec p room (Broken run) is pulls used = leaves_used spec p _ used pulls

@@ -9,7 +9,7 @@ use Rattle.buffer_core.specs.declared.replies.Received.TheVariants.{Got}
 use Rattle.buffer_core.specs.declared.entry.BufferEntry.{BufferEntry}
 use Rattle.buffer_core.specs.declared.entry.BufferEntry.TheVariants.{Receive, End}
 use Rattle.buffer_core.specs.Ports.{GotEvent, name_of, name_given}
-use Rattle.member_model.specs.OwnCalls.{calls_after, IsOwnCall, SendsNone, LeavesAsking, is_within, events_at}
+use Rattle.member_model.specs.OwnCalls.{calls_after, IsOwnCall, SendsNone, LeavesAsking, is_place_within, events_at}
 use Rattle.member_model.specs.ReadRuns.{EndsNot, IsReading, IsDraining}
 use Rattle.member_model.specs.CutRuns.{HasReadOn, MarksEnd, HasCutRun}
 use Rattle.member_model.proofs.ReadLaws.{asking_push, reading_push, draining_push, run_push}
@@ -19,7 +19,7 @@ use Rattle.mid_logger.specs.declared.stage.ChannelRun.{ChannelRun}
 use Rattle.mid_logger.specs.declared.stage.ChannelStage.{ChannelStage}
 use Rattle.mid_logger.specs.declared.stage.ChannelStage.TheVariants.{Idle, Asking, Writing, Draining, Drained, Broken}
 use Rattle.mid_logger.specs.Patterns.{file_name_by}
-use Rattle.mid_logger.specs.Channels.{FileHead, AsksNothing, FileHolds, ReadsUntil, ReadingAt, HasReadUntil, HasReadPart, StageAt, ChannelStands, run_on}
+use Rattle.mid_logger.specs.Channels.{FileHead, AsksNothing, FileHolds, ReadsUntil, ReadingAt, HasReadUntil, HasReadPart, StageAt, ChannelStands, run_begun}
 use Rattle.mid_logger.specs.Beside.{LeavesClient, LeavesRunOn, LeavesFile, LeavesChannelFile}
 use Rattle.mid_logger.proofs.OwnSteps.{own_push, own_client_push, nothing_push}
 use Rattle.mid_logger.proofs.ReadSteps.{leaves_receive}
@@ -81,7 +81,7 @@ reads_beside None own got client id mask request start begun events e gs beside 
     subst (λ (es : List Event). IsReading (own ++ e ∷ []) (got ++ gs) client id mask request start begun es) (same_events events (beside.none (nat_le begun)))
     (reading_push own got client id mask request start begun events e gs reads beside.leaves ends beside.named)
 reads_beside (Some end) own got client id mask request start begun events e gs beside ends reads =
-    subst (λ (es : List Event). IsDraining (own ++ e ∷ []) (got ++ gs) client id mask request start begun end es) (same_events events (beside.none (is_within begun end)))
+    subst (λ (es : List Event). IsDraining (own ++ e ∷ []) (got ++ gs) client id mask request start begun end es) (same_events events (beside.none (is_place_within begun end)))
     (draining_push own got client id mask request start begun end events e gs reads beside.leaves beside.named)
 
 pub on_push : (own : List BufferEntry) (got : List GotEvent) (client id mask request start begun : ℕ) (events : List Event) (more : List BufferEntry) (gs : List GotEvent) → HasReadOn own got client id mask request start begun events
@@ -154,7 +154,7 @@ stage_beside spec client (Asking opened) head own got seen e gs leaves ends name
   asking = asking_push own opened.client spec.id spec.mask opened.request e at.asking (beside_of client opened.client e gs at.of leaves named).leaves;
   holds = at.holds;
 }
-stage_beside spec client (Writing opened begun) head own got seen e gs leaves ends named at = reading_beside spec client (run_on opened begun) head own got seen e gs leaves ends named at
+stage_beside spec client (Writing opened begun) head own got seen e gs leaves ends named at = reading_beside spec client (run_begun opened begun) head own got seen e gs leaves ends named at
 stage_beside spec client (Draining run) head own got seen e gs leaves ends named at = reading_beside spec client run head own got seen e gs leaves ends named at
 stage_beside spec client (Drained run) head own got seen e gs leaves ends named at = record {
   events = at.events;
@@ -216,7 +216,7 @@ stage_left : (spec : ChannelSpec) (client : Option ℕ) (stage : ChannelStage) (
     → StageAt spec client stage head own got new
 stage_left spec client Idle head own got old new at leaves = at
 stage_left spec client (Asking opened) head own got old new at leaves = record { of = at.of; asking = at.asking; holds = holds_left spec head old new opened [] at.holds leaves }
-stage_left spec client (Writing opened begun) head own got old new at leaves = reading_left spec client (run_on opened begun) head own got old new at leaves
+stage_left spec client (Writing opened begun) head own got old new at leaves = reading_left spec client (run_begun opened begun) head own got old new at leaves
 stage_left spec client (Draining run) head own got old new at leaves = reading_left spec client run head own got old new at leaves
 stage_left spec client (Drained run) head own got old new at leaves =
     record { events = at.events; of = at.of; nothing = at.nothing; reads = at.reads; holds = holds_left spec head old new run.opened at.events at.holds leaves }

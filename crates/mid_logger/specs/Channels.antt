@@ -11,7 +11,7 @@ use Rattle.buffer_core.specs.declared.replies.RequestRefusal.{RequestRefusal}
 use Rattle.buffer_core.specs.declared.replies.MarkRefusal.{MarkRefusal}
 use Rattle.buffer_core.specs.Ports.{Access, GotEvent, Calls}
 use Rattle.member_model.specs.SentCalls.{EachCall}
-use Rattle.member_model.specs.OwnCalls.{calls_after, gave_number, AreOwnCalls, SendsNone, asks, is_within}
+use Rattle.member_model.specs.OwnCalls.{calls_after, gave_number, AreOwnCalls, SendsNone, asks, is_place_within}
 use Rattle.member_model.specs.ReadRuns.{IsAsking, IsReading, IsDraining, HasReadRun}
 use Rattle.member_model.specs.CutRuns.{HasReadOn, HasCutRun}
 use Rattle.mid_logger.specs.declared.channel_spec.ChannelSpec.{ChannelSpec}
@@ -58,7 +58,7 @@ pub record AskingAt (spec : ChannelSpec) (client : Option ℕ) (opened : Channel
 -- the place is one of the run: from its begin on, and below its end, where that is marked
 abbrev pub is_in_run : (begun : ℕ) → (ended : Option ℕ) → (place : ℕ) → Bool
 is_in_run begun None place = nat_le begun place
-is_in_run begun (Some end) place = is_within begun end place
+is_in_run begun (Some end) place = is_place_within begun end place
 
 -- the client reads the run, which is on, or was ended at a place, and these are the events that it got
 abbrev pub ReadsUntil : (ended : Option ℕ) → List BufferEntry → List GotEvent → (client id mask request start begun : ℕ) → List Event → Type 0
@@ -105,14 +105,14 @@ pub record BrokenAt (spec : ChannelSpec) (client : Option ℕ) (run : BegunRun) 
   pub front : IsPrefix bytes (begun_file head.run head.time head.dump events)
 
 -- a run that is on
-abbrev pub run_on : ChannelRun → (begun : ℕ) → BegunRun
-run_on opened begun = record { opened = opened; begun = begun; ended = None }
+abbrev pub run_begun : ChannelRun → (begun : ℕ) → BegunRun
+run_begun opened begun = record { opened = opened; begun = begun; ended = None }
 
 -- a channel in this stage
 abbrev pub StageAt : ChannelSpec → Option ℕ → ChannelStage → FileHead → List BufferEntry → List GotEvent → Seen → Type 0
 StageAt spec client Idle head own got seen = AsksNothing client own
 StageAt spec client (Asking opened) head own got seen = AskingAt spec client opened head own seen
-StageAt spec client (Writing opened begun) head own got seen = ReadingAt spec client (run_on opened begun) head own got seen
+StageAt spec client (Writing opened begun) head own got seen = ReadingAt spec client (run_begun opened begun) head own got seen
 StageAt spec client (Draining run) head own got seen = ReadingAt spec client run head own got seen
 StageAt spec client (Drained run) head own got seen = DrainedAt spec client run head own got seen
 StageAt spec client (Broken run) head own got seen = BrokenAt spec client run head own got seen
@@ -179,7 +179,7 @@ place_marked (Err why) = None
 
 -- the run of a channel that reads its buffer
 abbrev pub reading_run : ChannelStage → Option BegunRun
-reading_run (Writing opened begun) = Some (run_on opened begun)
+reading_run (Writing opened begun) = Some (run_begun opened begun)
 reading_run (Draining run) = Some run
 reading_run stage = None
 

@@ -2,6 +2,7 @@
 use Rattle.std.specs.Prelude.{◌≡◌, ◌≢◌, ℕ, ◌-◌, ◌<◌, ◌≤◌, List, ◌++◌, length, replicate, codes, slice_index}
 use Rattle.std.specs.Fmt.{decimal}
 use Rattle.daq_types.specs.Names.{IsFileName}
+use Rattle.daq_types.specs.FileDigits.{five_digits}
 
 -- what stands in a pattern in place of the run number
 abbrev pub placeholder : List ℕ
@@ -38,10 +39,6 @@ pub record IsFirstPercent (text : List ℕ) (place : ℕ) : Type 0 where
   pub within : place ≤ length text
   pub before : (k : ℕ) → k < place → slice_index text k ≢ 37
   pub here : place < length text → slice_index text place ≡ 37
-
--- a number in decimal digits, with zeros in front where there are fewer than five
-abbrev pub five_digits : ℕ → List ℕ
-five_digits n = replicate (5 - length (decimal n)) 48 ++ decimal n
 
 -- the name of the file in the run of this number
 unfoldable pub file_name_by : NamePattern → (run : ℕ) → List ℕ

@@ -1,6 +1,7 @@
 ghost use Rattle.std.specs.Prelude.{◌≡◌, ◌≤◌, ◌+◌, ◌++◌, ◌↔◌, IsOk, IfOk, OnOk, IsSome, IfSome, length};
 ghost use Rattle.daq_types.specs.Names.{IsFileName};
-ghost use Rattle.mid_logger.specs.Patterns.{IsFirstPercent, IsPatternText, HasParts, pattern_text, five_digits, file_name_by};
+ghost use Rattle.mid_logger.specs.Patterns.{IsFirstPercent, IsPatternText, HasParts, pattern_text, file_name_by};
+ghost use Rattle.daq_types.specs.FileDigits.{five_digits};
 
 use arrayvec::ArrayVec;
 use daq_types::{BadFileName, FileName};

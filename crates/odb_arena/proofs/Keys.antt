@@ -5,7 +5,7 @@ use Rattle.odb_value.specs.declared.items.Item.{Item}
 use Rattle.odb_tree.specs.declared.rows.Row.{Row}
 use Rattle.odb_tree.specs.declared.refusals.OdbRefusal.{OdbRefusal}
 use Rattle.odb_tree.specs.Rows.{Rows, row_at, bytes_of, total_of}
-use Rattle.odb_tree.specs.Lookups.{obstacle_to, found_row, key_of, key_found, seek_key}
+use Rattle.odb_tree.specs.Lookups.{obstacle_to, found_row, key_of, key_or_refusal, seek_key}
 use Rattle.odb_tree.specs.Changes.{CanPut, RowCanPut, IsKeyAt}
 use Rattle.odb_tree.proofs.FaultLemmas.{had_some}
 use Rattle.odb_arena.specs.declared.tree.ArenaTree.TheInside.{Inside}
@@ -32,7 +32,7 @@ pub key_row : (rows : List Row) (p : List (List ℕ)) (n : ℕ) (v : HeldValue) 
 key_row rows [] n v h = absurd (cc)
 key_row rows (name ∷ names) n v h = from (obstacle_to rows (name ∷ names)) (row_at rows (name ∷ names)) refl h
   where
-    from : (o : Option OdbRefusal) (r : Option Row) → row_at rows (name ∷ names) ≡ r → key_found (found_row o r) ≡ Ok (n, v) → IsKeyRow rows (name ∷ names) n v
+    from : (o : Option OdbRefusal) (r : Option Row) → row_at rows (name ∷ names) ≡ r → key_or_refusal (found_row o r) ≡ Ok (n, v) → IsKeyRow rows (name ∷ names) n v
     from (Some refusal) r e k = absurd (cc)
     from None None e k = absurd (cc)
     from None (Some row) e k =

@@ -9,14 +9,14 @@ use Rattle.odb_tree.specs.declared.children.Child.{Child}
 use Rattle.odb_tree.specs.declared.refusals.OdbRefusal.{OdbRefusal}
 use Rattle.odb_tree.specs.declared.refusals.OdbRefusal.TheVariants.{NoKey, NotDir}
 use Rattle.odb_tree.specs.Rows.{Rows, row_at, is_key, is_kind, is_child, is_listed, keys_in, dirs_in}
-use Rattle.odb_tree.specs.Lookups.{parent_of, obstacle_at, obstacle_from, obstacle_to, found_row, seek, key_found, key_of, seek_key, dir_fault, not_dir}
+use Rattle.odb_tree.specs.Lookups.{parent_of, obstacle_at, obstacle_from, obstacle_to, found_row, seek, key_or_refusal, key_of, seek_key, dir_fault, not_dir}
 use Rattle.odb_tree.specs.Calls.{last_name, child_of, children_of}
 use Rattle.odb_tree.specs.Trees.{HasDir, IsDir, IsPlaced, ArePlaced, AreApart, IsTree, AreShort}
 use Rattle.odb_tree.specs.WalkLaws.{NoneAt}
 use Rattle.odb_tree.proofs.WalkLaws.{and_left, and_right, true_false}
 use Rattle.odb_tree.proofs.Trees.{front_within, long_same, same_long, same_front, same_refl, same_sym, same_trans, is_dir_append}
 use Rattle.odb_tree.proofs.Placed.{none_around}
-use Rattle.odb_ascii.specs.Standing.{StandsIn, own_path}
+use Rattle.odb_ascii.specs.Standing.{IsChildIn, own_path}
 
 -- Rows found by their paths.
 
@@ -151,7 +151,7 @@ child_placed rows p r apart dir k child =
     let one : p ≡ k.parent = one_dir rows p k.parent apart dir k.there (long_same p k.parent even front) in
     k.path ∙ (ap (λ (q : List (List ℕ)). q ++ k.name ∷ []) (sym one) ∙ ap (λ (n : List ℕ). p ++ n ∷ []) (sym (ap last_name k.path ∙ last_is k.parent k.name)))
 
-key_sought : (rows : List Row) (p : List (List ℕ)) (name : List ℕ) → seek_key rows (p ++ name ∷ []) ≡ key_found (seek rows (p ++ name ∷ []))
+key_sought : (rows : List Row) (p : List (List ℕ)) (name : List ℕ) → seek_key rows (p ++ name ∷ []) ≡ key_or_refusal (seek rows (p ++ name ∷ []))
 key_sought rows [] name = refl
 key_sought rows (n ∷ names) name = refl
 
@@ -184,11 +184,11 @@ row_stands s p front r back e tree short dir child =
       path = path;
       short = omega (arith, deep, long);
       found = found;
-      key = key_sought s.rows p (last_name r.path) ∙ ap key_found (sought s.rows q r clear found);
+      key = key_sought s.rows p (last_name r.path) ∙ ap key_or_refusal (sought s.rows q r clear found);
       dir = λ k. inr (record { front = front; dir = r; back = back; there = e; path = path; kind = k });
     }
 
-pub child_stands : (s : Rows) (p : List (List ℕ)) (r : Row) → RowStands s p r → StandsIn s p (child_of r)
+pub child_stands : (s : Rows) (p : List (List ℕ)) (r : Row) → RowStands s p r → IsChildIn s p (child_of r)
 child_stands s p r h = record {
   row = r;
   is = refl;

@@ -15,7 +15,7 @@ use Rattle.odb_value.specs.declared.refusals.ItemRefusal.{ItemRefusal}
 use Rattle.odb_value.specs.Items.{tid_of, IsItem}
 use Rattle.odb_value.specs.ItemTexts.{item_read, text_read, text_found, text_limit, unsigned_read, signed_read, truth_read, char_read}
 use Rattle.odb_value.specs.Values.{IsShorter, size_limit}
-use Rattle.odb_value.specs.ValueChanges.{raised}
+use Rattle.odb_value.specs.ValueChanges.{size_with_item}
 use Rattle.daq_text.specs.Numbers.{mapped, up_to}
 use Rattle.odb_lines.specs.ItemLines.{IsItemLine}
 use Rattle.odb_ascii.specs.Grammar.{SizedItem, AreItemLines, size_given, BeginsBracketed}
@@ -84,9 +84,9 @@ read_short tid.UInt64 text item e = of_mapped (IsShorter size_limit) UInt64 (uns
 
 -- one item more
 
-pub size_push : (xs : List SizedItem) (x : SizedItem) → size_given (xs ++ x ∷ []) ≡ max (size_given xs) (raised x.size x.item)
+pub size_push : (xs : List SizedItem) (x : SizedItem) → size_given (xs ++ x ∷ []) ≡ max (size_given xs) (size_with_item x.size x.item)
 size_push [] x = omega arith
-size_push (y ∷ ys) x = ap (λ (n : ℕ). max (raised y.size y.item) n) (size_push ys x) ∙ omega arith
+size_push (y ∷ ys) x = ap (λ (n : ℕ). max (size_with_item y.size y.item) n) (size_push ys x) ∙ omega arith
 
 pub lines_push : (type : Tid) (index : ℕ) (own : List (List ℕ)) (xs : List SizedItem) (line : List ℕ) (x : SizedItem) → AreItemLines type index own xs
     → IsItemLine type (index + length xs) line x.size x.item → AreItemLines type index (own ++ line ∷ []) (xs ++ x ∷ [])
@@ -96,7 +96,7 @@ lines_push type index (l ∷ ls) [] line x h k = absurd h
 lines_push type index (l ∷ ls) (y ∷ ys) line x h k =
     (h.0, lines_push type (index + 1) ls ys line x h.1 (subst (λ (n : ℕ). IsItemLine type n line x.size x.item) (let e : index + suc (length ys) ≡ index + 1 + length ys = omega arith in e) k))
 
-pub raised_within : (given : ℕ) (item : Item) → given ≤ size_limit → IsShorter size_limit item → raised given item ≤ size_limit
+pub raised_within : (given : ℕ) (item : Item) → given ≤ size_limit → IsShorter size_limit item → size_with_item given item ≤ size_limit
 raised_within given (UInt8 n) h k = h
 raised_within given (Int8 z) h k = h
 raised_within given (Char b) h k = h
@@ -135,7 +135,7 @@ more_read type lines count items size rest more greater left a r =
       many = omega (arith, length_push a.own r.line, a.many);
       as_many = omega (arith, length_push a.xs x, a.as_many);
       items_are = r.one_more ∙ ap (λ (l : List Item). l ++ r.item ∷ []) a.items_are ∙ sym (map_push (λ (y : SizedItem). y.item) a.xs x);
-      size_is = r.raises ∙ ap (λ (n : ℕ). max n (raised r.given r.item)) a.size_is ∙ sym (size_push a.xs x);
+      size_is = r.raises ∙ ap (λ (n : ℕ). max n (size_with_item r.given r.item)) a.size_is ∙ sym (size_push a.xs x);
       within = omega (arith, r.raises, a.within, raised_within r.given r.item r.within r.short);
       sound = subst (All (IsItem type)) (sym r.one_more) (All-push (IsItem type) items r.item a.sound r.sound);
     }

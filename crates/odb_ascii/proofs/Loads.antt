@@ -23,7 +23,7 @@ use Rattle.odb_ascii.specs.Blocks.{IsBlock, IsBadAt, IsBlockFault}
 use Rattle.odb_ascii.specs.TextSteps.{TextStep, run_steps, or_refused, act_fault, rows_fault, after_act, written, skipped, keys_written, keys_skipped, dir_after, dirs_after}
 use Rattle.odb_ascii.specs.Grammar.{SizedItem, AreItemLines, SpellsAct, SpellsSteps, ArePassed}
 use Rattle.odb_ascii.specs.TextFaults.{IsBegunArray, IsBegunSkipped, LeavesGrammar, IsRefused, FaultPlace, IsTextFault}
-use Rattle.odb_ascii.specs.Loads.{IsLoaded, IsLoadedTo, counted, Place, PassesOver, DoesStep, Advances, RefusesFirst, IsFaultAt, place_at, IsRoomy, IsNear, broken_at, refused_at}
+use Rattle.odb_ascii.specs.Loads.{IsLoaded, IsLoadedTo, counts_with, Place, IsPassedOver, DoesStep, AdvancesText, RefusesFirst, IsTextFaultAt, place_at, IsRoomy, IsNear, broken_at, refused_at}
 
 -- one line more is passed over
 
@@ -99,7 +99,7 @@ nothing_loaded s all dir e = record {
   line_is = refl;
 }
 
-after_pass : (s : Rows) (lines : List (List ℕ)) (old new : Place) (before after : Rows) → IsLoadedTo s lines old before → PassesOver old new before after → IsLoadedTo s lines new after
+after_pass : (s : Rows) (lines : List (List ℕ)) (old new : Place) (before after : Rows) → IsLoadedTo s lines old before → IsPassedOver old new before after → IsLoadedTo s lines new after
 after_pass s lines old new before after h p = record {
   front = h.front ++ p.own ∷ [];
   whole = h.whole ∙ ap (λ (l : List (List ℕ)). h.front ++ l) p.whole ∙ sym (append_assoc h.front (p.own ∷ []) new.rest);
@@ -131,14 +131,14 @@ after_step s lines old new before after h p =
       line_is = omega (arith, p.next, h.line_is, length-append h.front p.own);
     }
 
-pub loaded_on : (s : Rows) (lines : List (List ℕ)) (old new : Place) (before after : Rows) → IsLoadedTo s lines old before → Advances old new before after → IsLoadedTo s lines new after
+pub loaded_on : (s : Rows) (lines : List (List ℕ)) (old new : Place) (before after : Rows) → IsLoadedTo s lines old before → AdvancesText old new before after → IsLoadedTo s lines new after
 loaded_on s lines old new before after h a = ⊎_elim (after_pass s lines old new before after h) (after_step s lines old new before after h) a
 
 pub loaded_whole : (s : Rows) (lines : List (List ℕ)) (at : Place) (now : Rows) → IsLoadedTo s lines at now → at.rest ≡ [] → IsLoaded s lines at.loaded now
 loaded_whole s lines at now h none =
     subst (λ (l : List (List ℕ)). IsLoaded s l at.loaded now) (sym (h.whole ∙ ap (λ (l : List (List ℕ)). h.front ++ l) none ∙ append-nil h.front)) h.so_far
 
-pub fault_found : (s : Rows) (lines : List (List ℕ)) (at : Place) (now : Rows) (why : LoadRefusal) → IsLoadedTo s lines at now → IsFaultAt at now why → IsTextFault s lines why
+pub fault_found : (s : Rows) (lines : List (List ℕ)) (at : Place) (now : Rows) (why : LoadRefusal) → IsLoadedTo s lines at now → IsTextFaultAt at now why → IsTextFault s lines why
 fault_found s lines at now (BadLine n) h f =
     let b = f.1 in (
       record {
@@ -174,11 +174,11 @@ fault_found s lines at now NoMemory h f = tt
 -- what the next lines do
 
 broken_bad : (bytes : List ℕ) (line : ℕ) (dir : List (List ℕ)) (loaded : Loaded) (now : Rows) (ls : List (List ℕ)) (place : ℕ) → lines bytes ≡ ls → IsBadAt dir ls place
-    → IsFaultAt (place_at bytes line dir loaded) now (BadLine (line + place))
+    → IsTextFaultAt (place_at bytes line dir loaded) now (BadLine (line + place))
 broken_bad bytes line dir loaded now ls place e b = (place, subst (λ (l : List (List ℕ)). IsBadAt dir l place) (sym e) b, refl)
 
 pub broken_fault : (bytes : List ℕ) (line : ℕ) (dir : List (List ℕ)) (loaded : Loaded) (now : Rows) (ls : List (List ℕ)) (fault : BlockFault) → lines bytes ≡ ls → IsBlockFault dir ls fault
-    → IsFaultAt (place_at bytes line dir loaded) now (broken_at line fault)
+    → IsTextFaultAt (place_at bytes line dir loaded) now (broken_at line fault)
 broken_fault bytes line dir loaded now ls (Bad place) e b = broken_bad bytes line dir loaded now ls place e b
 broken_fault bytes line dir loaded now ls (Refused why) e b = (record { opened = b.opened; left = b.rest; whole = e ∙ b.whole; refused = b.refused now }, refl)
 broken_fault bytes line dir loaded now ls no_memory e b = tt
@@ -193,7 +193,7 @@ first_refused bytes line dir loaded now ls rest act count why e b f = record {
 }
 
 pub refused_fault : (bytes : List ℕ) (line : ℕ) (dir : List (List ℕ)) (loaded : Loaded) (now : Rows) (ls rest : List (List ℕ)) (act : Act) (count : ℕ) (why : OdbRefusal) → lines bytes ≡ ls
-    → IsBlock dir ls act rest count → (why ≢ none_left → rows_fault now act ≡ Some why) → IsFaultAt (place_at bytes line dir loaded) now (refused_at line why)
+    → IsBlock dir ls act rest count → (why ≢ none_left → rows_fault now act ≡ Some why) → IsTextFaultAt (place_at bytes line dir loaded) now (refused_at line why)
 refused_fault bytes line dir loaded now ls rest act count NoKey e b h = (first_refused bytes line dir loaded now ls rest act count NoKey e b (h (λ (k : NoKey ≡ none_left). absurd (cc))), refl)
 refused_fault bytes line dir loaded now ls rest act count Exists e b h = (first_refused bytes line dir loaded now ls rest act count Exists e b (h (λ (k : Exists ≡ none_left). absurd (cc))), refl)
 refused_fault bytes line dir loaded now ls rest act count NotDir e b h = (first_refused bytes line dir loaded now ls rest act count NotDir e b (h (λ (k : NotDir ≡ none_left). absurd (cc))), refl)
@@ -227,8 +227,8 @@ one_key (Write p v) = omega arith
 one_key (Skip items) = omega arith
 
 pub done_step : (bytes left : List ℕ) (line next : ℕ) (dir new_dir : List (List ℕ)) (loaded counts : Loaded) (before after : Rows) (ls : List (List ℕ)) (act : Act) (count : ℕ) → lines bytes ≡ ls
-    → IsBlock dir ls act (lines left) count → rows_fault before act ≡ None → after ≡ after_act before act → next ≡ line + count → new_dir ≡ dir_after dir act → counts ≡ counted loaded act
-    → Advances (place_at bytes line dir loaded) (place_at left next new_dir counts) before after
+    → IsBlock dir ls act (lines left) count → rows_fault before act ≡ None → after ≡ after_act before act → next ≡ line + count → new_dir ≡ dir_after dir act → counts ≡ counts_with loaded act
+    → AdvancesText (place_at bytes line dir loaded) (place_at left next new_dir counts) before after
 done_step bytes left line next dir new_dir loaded counts before after ls act count e b f r n d k = inr (record {
   own = b.own;
   act = act;
@@ -242,7 +242,7 @@ done_step bytes left line next dir new_dir loaded counts before after ls act cou
 })
 
 pub room_left : (line next left behind before : ℕ) (loaded counts : Loaded) (dir ls rest : List (List ℕ)) (act : Act) (count : ℕ) → IsRoomy line before loaded → IsBlock dir ls act rest count
-    → left + count ≤ behind + 1 → behind < before → next ≡ line + count → counts ≡ counted loaded act → IsRoomy next left counts
+    → left + count ≤ behind + 1 → behind < before → next ≡ line + count → counts ≡ counts_with loaded act → IsRoomy next left counts
 room_left line next left behind before loaded counts dir ls rest act count room b shorter less n k =
     let keys : counts.keys ≡ loaded.keys + written act = ap (λ (l : Loaded). l.keys) k in
     let skips : counts.skipped ≡ loaded.skipped + skipped act = ap (λ (l : Loaded). l.skipped) k in

@@ -15,7 +15,7 @@ use Rattle.odb_tree.specs.Databases.{IsRow, IsDatabase}
 use Rattle.odb_tree.proofs.EachRow.{short_rows}
 use Rattle.odb_tree.proofs.WalkLaws.{and_left, and_right}
 use Rattle.odb_ascii.specs.Dumps.{row_text, keys_text, section_text, section_with, root_text, dirs_text}
-use Rattle.odb_ascii.specs.Standing.{StandsIn, own_path, row_part, key_part, dir_part, begins_with_key}
+use Rattle.odb_ascii.specs.Standing.{IsChildIn, own_path, row_part, key_part, dir_part, begins_with_key}
 use Rattle.odb_ascii.proofs.Found.{RowStands, row_stands, child_stands, dir_there}
 
 abbrev pub AllStand : Rows → List (List ℕ) → List Row → Type 0
@@ -110,14 +110,14 @@ dirs_whole depth s p h dir =
 
 AllChildren : Rows → List (List ℕ) → List Child → Type 0
 AllChildren s p [] = Unit {0}
-AllChildren s p (c ∷ cs) = StandsIn s p c × AllChildren s p cs
+AllChildren s p (c ∷ cs) = IsChildIn s p c × AllChildren s p cs
 
-all_of : (s : Rows) (p : List (List ℕ)) (cs : List Child) → AllChildren s p cs → All (StandsIn s p) cs
+all_of : (s : Rows) (p : List (List ℕ)) (cs : List Child) → AllChildren s p cs → All (IsChildIn s p) cs
 unfolding AllChildren
 all_of s p [] h = λ k d inside. absurd (omega (arith, inside))
 all_of s p (c ∷ cs) h = λ k d inside. at k d inside (all_of s p cs h.1)
   where
-    at : (k : ℕ) (d : Child) → k < length (c ∷ cs) → All (StandsIn s p) cs → StandsIn s p (get_or (c ∷ cs) k d)
+    at : (k : ℕ) (d : Child) → k < length (c ∷ cs) → All (IsChildIn s p) cs → IsChildIn s p (get_or (c ∷ cs) k d)
     at zero d inside rest = h.0
     at (suc k) d inside rest = rest k d (omega (arith, inside))
 
@@ -131,7 +131,7 @@ unfolding AllChildren
 no_more s p [] h = tt
 no_more s p (r ∷ rs) h = (child_stands s p r h.0, no_more s p rs h.1)
 
-pub all_stand : (s : Rows) (p : List (List ℕ)) → IsDatabase s → IsDir s.rows p → All (StandsIn s p) (children_of s.rows p)
+pub all_stand : (s : Rows) (p : List (List ℕ)) → IsDatabase s → IsDir s.rows p → All (IsChildIn s p) (children_of s.rows p)
 all_stand s p h dir =
     let short = short_rows s.rows h.rows in
     all_of s p (children_of s.rows p)
@@ -148,8 +148,8 @@ listed_children s p children h = cases (dir_fault s.rows p) h
     cases (Some x) e = absurd (cc)
 
 pub listed_stands : (s : Rows) (p : List (List ℕ)) (children : List Child) → IsDatabase s → IsDir s.rows p → children_or s.rows p (dir_fault s.rows p) ≡ Ok children
-    → All (StandsIn s p) children
-listed_stands s p children h dir e = subst (All (StandsIn s p)) (sym (listed_children s p children e)) (all_stand s p h dir)
+    → All (IsChildIn s p) children
+listed_stands s p children h dir e = subst (All (IsChildIn s p)) (sym (listed_children s p children e)) (all_stand s p h dir)
 
 -- the root has keys exactly where the first that stands in it is one
 pub root_is : (rows : List Row) → root_text rows ≡ cond (begins_with_key (children_of rows [])) (section_text rows []) []

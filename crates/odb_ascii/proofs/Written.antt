@@ -13,7 +13,7 @@ use Rattle.odb_value.specs.declared.items.Item.{Item}
 use Rattle.odb_value.specs.declared.items.Item.TheVariants.{UInt8, Int8, Char, UInt16, Int16, UInt32, Int32, Bool as Truth, Text, Int64, UInt64}
 use Rattle.odb_value.specs.Items.{tid_of, IsItem, is_kept}
 use Rattle.odb_value.specs.Values.{HeldValue, IsValue, IsShorter, IsSizeOf, size_limit, items_limit}
-use Rattle.odb_value.specs.ValueChanges.{raised}
+use Rattle.odb_value.specs.ValueChanges.{size_with_item}
 use Rattle.odb_tree.specs.declared.refusals.OdbRefusal.{OdbRefusal}
 use Rattle.odb_tree.specs.declared.refusals.OdbRefusal.TheVariants.{Limit}
 use Rattle.odb_tree.specs.declared.refusals.What.TheVariants.{Items, Size}
@@ -28,7 +28,7 @@ use Rattle.odb_ascii.specs.declared.faults.ItemsFault.TheVariants.{BadItem, Wide
 use Rattle.odb_ascii.specs.TextSteps.{own_limit, act_fault, rows_fault, many_fault, wide_fault}
 use Rattle.odb_ascii.specs.Grammar.{SizedItem, AreItemLines, size_given, size_for, held_with, IsKeyIn, IsArrayHead, IsSingleKey, IsSkippedHead, is_skipped, BeginsBracketed, SpellsAct}
 use Rattle.odb_ascii.specs.TextFaults.{NextIsNot, IsSomeItemLine, IsBegunArray, BeginsNothing, LeavesGrammar, IsRefused}
-use Rattle.odb_ascii.specs.Blocks.{IsBlock, IsBadAt, IsRefusedAlways, IsBlockFault, block_fault, AreRead, BreaksOff, IsWideLine, IsAloneRead, IsAloneFault, AreSkipped, SkipsOnlyTo, TakesItem, IsTakeFault}
+use Rattle.odb_ascii.specs.Blocks.{IsBlock, IsBadAt, IsRefusedAlways, IsBlockFault, block_fault, AreRead, StopsAtItem, IsWideLine, IsAloneRead, IsAloneFault, AreSkipped, SkipsOnlyTo, TakesItem, IsTakeFault}
 use Rattle.std.proofs.lemmas.List.{length_push, length-map, append_assoc}
 use Rattle.odb_lines.specs.ItemLines.{IsItemLine, IsAloneText}
 use Rattle.odb_lines.specs.LineForms.{behind_blank}
@@ -52,7 +52,7 @@ wider low high (Text bytes) h k = omega (arith, h, k)
 wider low high (Int64 z) h k = tt
 wider low high (UInt64 n) h k = tt
 
-within_raised : (given : ℕ) (item : Item) → IsShorter (raised given item) item
+within_raised : (given : ℕ) (item : Item) → IsShorter (size_with_item given item) item
 within_raised given (UInt8 n) = tt
 within_raised given (Int8 z) = tt
 within_raised given (Char b) = tt
@@ -68,7 +68,7 @@ within_raised given (UInt64 n) = tt
 items_shorter : (xs : List SizedItem) (s : ℕ) → size_given xs ≤ s → AllByRecursion (IsShorter s) (map (λ (x : SizedItem). x.item) xs)
 items_shorter [] s h = tt
 items_shorter (x ∷ xs) s h =
-    (wider (raised x.size x.item) s x.item (omega (arith, h)) (within_raised x.size x.item), items_shorter xs s (omega (arith, h)))
+    (wider (size_with_item x.size x.item) s x.item (omega (arith, h)) (within_raised x.size x.item), items_shorter xs s (omega (arith, h)))
 
 no_text : (type : Tid) (s : ℕ) (item : Item) → is_string type ≡ false → IsItem type item → IsShorter s item
 no_text type s (UInt8 n) h k = tt
@@ -162,7 +162,7 @@ wide n h = ap (λ (t : Bool). cond t (Some (Limit Size)) None) (lt-ltb size_limi
 no_own_limit : (p : List (List ℕ)) (v : HeldValue) → length v.items ≤ items_limit → v.size ≤ size_limit → own_limit (Write p v) ≡ None
 no_own_limit p v h k = ap (λ (o : Option OdbRefusal). option_or o (wide_fault v.size)) (no_many (length v.items) h) ∙ no_wide v.size k
 
-raised_least : (given : ℕ) (item : Item) → given ≤ raised given item
+raised_least : (given : ℕ) (item : Item) → given ≤ size_with_item given item
 raised_least given (UInt8 n) = omega arith
 raised_least given (Int8 z) = omega arith
 raised_least given (Char b) = omega arith
@@ -197,7 +197,7 @@ array_block dir line name type n behind items size rest h many a =
     }
 
 pub array_fault : (dir : List (List ℕ)) (line name : List ℕ) (type : Tid) (n : ℕ) (behind : List (List ℕ)) (fault : ItemsFault)
-    → IsArrayHead dir line name type n → n ≤ items_limit → BreaksOff type behind n fault → IsBlockFault dir (line ∷ behind) (block_fault fault)
+    → IsArrayHead dir line name type n → n ≤ items_limit → StopsAtItem type behind n fault → IsBlockFault dir (line ∷ behind) (block_fault fault)
 array_fault dir line name type n behind (BadItem at) h many b =
     let a = b.read in
     record {
@@ -291,7 +291,7 @@ single_fault dir line name type rest text behind (BadItem at) key kept single no
     })))
 single_fault dir line name type rest text behind WideItem key kept single no_pass no_dir a =
     let v : HeldValue = held_with type (a.x ∷ []) in
-    let size : v.size ≡ max (raised a.x.size a.x.item) 0 = ap (λ (b : Bool). size_for b type (size_given (a.x ∷ []))) a.string in
+    let size : v.size ≡ max (size_with_item a.x.size a.x.item) 0 = ap (λ (b : Bool). size_for b type (size_given (a.x ∷ []))) a.string in
     record {
       opened = line ∷ [];
       rest = behind;
@@ -421,8 +421,8 @@ alone_read type text given size item items width spells e short t =
       x = record { size = size; item = item };
       spells = spells;
       items_are = t.one_more;
-      size_is = t.raises ∙ ap (λ (n : ℕ). max 0 (raised n item)) g.0 ∙ omega arith;
-      within = omega (arith, t.raises, ap (λ (n : ℕ). raised n item) g.0, raised_within size item g.1 short);
+      size_is = t.raises ∙ ap (λ (n : ℕ). max 0 (size_with_item n item)) g.0 ∙ omega arith;
+      within = omega (arith, t.raises, ap (λ (n : ℕ). size_with_item n item) g.0, raised_within size item g.1 short);
       sound = subst (All (IsItem type)) (sym t.one_more) (All-push (IsItem type) [] item (All-nil (IsItem type)) t.sound);
     }
 

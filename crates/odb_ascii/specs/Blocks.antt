@@ -5,7 +5,7 @@ use Rattle.daq_types.specs.declared.types.Tid.{Tid}
 use Rattle.odb_value.specs.declared.items.Item.{Item}
 use Rattle.odb_value.specs.Items.{IsItem}
 use Rattle.odb_value.specs.Values.{size_limit, IsShorter}
-use Rattle.odb_value.specs.ValueChanges.{raised}
+use Rattle.odb_value.specs.ValueChanges.{size_with_item}
 use Rattle.odb_tree.specs.declared.refusals.OdbRefusal.{OdbRefusal}
 use Rattle.odb_tree.specs.declared.refusals.OdbRefusal.TheVariants.{Limit}
 use Rattle.odb_tree.specs.declared.refusals.What.TheVariants.{Size}
@@ -72,7 +72,7 @@ pub record TakesItem (type : Tid) (given : Option ℕ) (item : Item) (items : Li
   pub width : ℕ
   pub is_given : given ≡ Some width
   pub one_more : more ≡ items ++ item ∷ []
-  pub raises : greater ≡ max size (raised width item)
+  pub raises : greater ≡ max size (size_with_item width item)
   pub sound : IsItem type item
 
 abbrev pub IsTakeFault : (given : Option ℕ) → ItemsFault → Type 0
@@ -88,7 +88,7 @@ pub record ReadsItem (type : Tid) (index : ℕ) (lines : List (List ℕ)) (items
   pub first : lines ≡ line ∷ rest
   pub spells : IsItemLine type index line given item
   pub one_more : more ≡ items ++ item ∷ []
-  pub raises : greater ≡ max size (raised given item)
+  pub raises : greater ≡ max size (size_with_item given item)
   pub within : given ≤ size_limit
   pub short : IsShorter size_limit item
   pub sound : IsItem type item
@@ -110,7 +110,7 @@ IsItemFault type index lines WideItem = IsWideLine type index lines
 IsItemFault type index lines no_memory = Unit {0}
 
 -- what is wrong with the first line that is none of an item, or has too great a size
-pub record BreaksOff (type : Tid) (lines : List (List ℕ)) (count : ℕ) (fault : ItemsFault) : Type 0 where
+pub record StopsAtItem (type : Tid) (lines : List (List ℕ)) (count : ℕ) (fault : ItemsFault) : Type 0 where
   pub index : ℕ
   pub items : List Item
   pub size : ℕ

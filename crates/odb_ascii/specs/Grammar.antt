@@ -8,7 +8,7 @@ use Rattle.odb_path.specs.Paths.{depth_limit}
 use Rattle.odb_value.specs.declared.items.Item.{Item}
 use Rattle.odb_value.specs.Items.{is_kept}
 use Rattle.odb_value.specs.Values.{HeldValue}
-use Rattle.odb_value.specs.ValueChanges.{raised}
+use Rattle.odb_value.specs.ValueChanges.{size_with_item}
 use Rattle.odb_lines.specs.LineForms.{IsBracketed, IsPassed, IsDirLine, IsKeyLine, IsSingle, IsArray}
 use Rattle.odb_lines.specs.ItemLines.{is_string, IsItemLine, IsItemAlone}
 use Rattle.odb_ascii.specs.declared.acts.Act.{Act}
@@ -31,7 +31,7 @@ AreItemLines type index (line ∷ lines) (x ∷ xs) = IsItemLine type index line
 -- the greatest of the sizes given, and of the lengths of the texts plus 1
 abbrev pub size_given : List SizedItem → ℕ
 size_given [] = 0
-size_given (x ∷ xs) = max (raised x.size x.item) (size_given xs)
+size_given (x ∷ xs) = max (size_with_item x.size x.item) (size_given xs)
 
 -- the item size: that of the type, or for a STRING this one
 abbrev pub size_for : (string : Bool) → Tid → (size : ℕ) → ℕ

@@ -42,11 +42,11 @@ pub record IsLoadedTo (s : Rows) (all : List (List ℕ)) (at : Place) (now : Row
   pub line_is : at.line ≡ length front + 1
 
 -- the counts with those of this step
-abbrev pub counted : Loaded → Act → Loaded
-counted loaded act = record { keys = loaded.keys + written act; skipped = loaded.skipped + skipped act }
+abbrev pub counts_with : Loaded → Act → Loaded
+counts_with loaded act = record { keys = loaded.keys + written act; skipped = loaded.skipped + skipped act }
 
 -- A line is passed over.
-pub record PassesOver (old new : Place) (before after : Rows) : Type 0 where
+pub record IsPassedOver (old new : Place) (before after : Rows) : Type 0 where
   pub own : List ℕ
   pub whole : old.rest ≡ own ∷ new.rest
   pub passed : IsPassed own
@@ -64,11 +64,11 @@ pub record DoesStep (old new : Place) (before after : Rows) : Type 0 where
   pub fine : act_fault before act ≡ None
   pub next : new.line ≡ old.line + length own
   pub new_dir : new.dir ≡ dir_after old.dir act
-  pub one_more : new.loaded ≡ counted old.loaded act
+  pub one_more : new.loaded ≡ counts_with old.loaded act
   pub new_rows : after ≡ after_act before act
 
-abbrev pub Advances : (old new : Place) (before after : Rows) → Type 0
-Advances old new before after = PassesOver old new before after ⊎ DoesStep old new before after
+abbrev pub AdvancesText : (old new : Place) (before after : Rows) → Type 0
+AdvancesText old new before after = IsPassedOver old new before after ⊎ DoesStep old new before after
 
 -- the first lines left are refused
 pub record RefusesFirst (at : Place) (now : Rows) (why : OdbRefusal) : Type 0 where
@@ -78,10 +78,10 @@ pub record RefusesFirst (at : Place) (now : Rows) (why : OdbRefusal) : Type 0 wh
   pub refused : IsRefused now at.dir opened why
 
 -- what is wrong with the lines left
-abbrev pub IsFaultAt : Place → (now : Rows) → LoadRefusal → Type 0
-IsFaultAt at now (BadLine n) = (place : ℕ) × IsBadAt at.dir at.rest place × (n ≡ at.line + place)
-IsFaultAt at now (KeyRefused n why) = RefusesFirst at now why × (n ≡ at.line)
-IsFaultAt at now NoMemory = Unit {0}
+abbrev pub IsTextFaultAt : Place → (now : Rows) → LoadRefusal → Type 0
+IsTextFaultAt at now (BadLine n) = (place : ℕ) × IsBadAt at.dir at.rest place × (n ≡ at.line + place)
+IsTextFaultAt at now (KeyRefused n why) = RefusesFirst at now why × (n ≡ at.line)
+IsTextFaultAt at now NoMemory = Unit {0}
 
 -- The place in a text of which these bytes are left.
 abbrev pub place_at : (bytes : List ℕ) → (line : ℕ) → (dir : List (List ℕ)) → Loaded → Place

@@ -14,7 +14,7 @@ abbrev pub own_path : List (List ℕ) → Child → List (List ℕ)
 own_path p child = p ++ child.name ∷ []
 
 -- A row stands in this directory, and its path leads to it.
-pub record StandsIn (s : Rows) (p : List (List ℕ)) (child : Child) : Type 0 where
+pub record IsChildIn (s : Rows) (p : List (List ℕ)) (child : Child) : Type 0 where
   pub row : Row
   pub is : child ≡ child_of row
   pub path : row.path ≡ own_path p child

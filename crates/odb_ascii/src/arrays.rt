@@ -2,8 +2,8 @@ ghost use Rattle.std.specs.Prelude.{◌≡◌, ◌+◌, ◌≤◌, ◌<◌, leng
 ghost use Rattle.std.specs.Str.Lines.{lines};
 ghost use Rattle.odb_value.specs.Items.{tid_of};
 ghost use Rattle.odb_value.specs.Values.{items_limit, size_limit, IsShorter};
-ghost use Rattle.odb_value.specs.ValueChanges.{raised};
-ghost use Rattle.odb_ascii.specs.Blocks.{AreRead, ReadsItem, TakesItem, IsTakeFault, IsItemFault, BreaksOff};
+ghost use Rattle.odb_value.specs.ValueChanges.{size_with_item};
+ghost use Rattle.odb_ascii.specs.Blocks.{AreRead, ReadsItem, TakesItem, IsTakeFault, IsItemFault, StopsAtItem};
 
 use crate::faults::ItemsFault;
 use daq_types::Tid;
@@ -24,7 +24,7 @@ pub struct ItemsSoFar<'a> {
 /// The item size that an item wants for which this size is given.
 fn wanted_size(given: u64, item: &Item) -> u64
     requires { IsShorter size_limit item.now }
-    ensures { result ≡ raised given item.now }
+    ensures { result ≡ size_with_item given item.now }
 {
     match item {
         Item::Text(text) => given.max(text.as_slice().len() as u64 + 1),
@@ -93,7 +93,7 @@ pub fn read_items<'a>(
     ensures read { IfOk result (λ read. AreRead tid (lines text.now) count read.items.items read.size
         (lines read.rest.now)) }
     ensures shorter { IfOk result (λ read. length read.rest.now + count ≤ length text.now) }
-    ensures fault { IfErr result (BreaksOff tid (lines text.now) count) }
+    ensures fault { IfErr result (StopsAtItem tid (lines text.now) count) }
 {
     let mut so_far = ItemsSoFar {
         items: Vec::new(alloc),

@@ -2,7 +2,7 @@ ghost use Rattle.std.specs.Prelude.{◌≡◌, ◌++◌, ◌∷◌, [], IfOk, Al
 ghost use Rattle.odb_tree.specs.Trees.{IsDir};
 ghost use Rattle.odb_tree.specs.Databases.{IsDatabase};
 ghost use Rattle.odb_tree.specs.Calls.{children_of};
-ghost use Rattle.odb_ascii.specs.Standing.{StandsIn};
+ghost use Rattle.odb_ascii.specs.Standing.{IsChildIn};
 
 use daq_types::NoMemory;
 use odb_path::Path;
@@ -19,7 +19,7 @@ pub fn children_of<D: Database>(
     ensures children { IfOk result (λ children. children
         ≡ children_of (D.rows database.now).rows path.now) }
     ensures database { IfOk result (λ _. IsDatabase (D.rows database.now)) }
-    ensures stand { IfOk result (All (StandsIn (D.rows database.now) path.now)) }
+    ensures stand { IfOk result (All (IsChildIn (D.rows database.now) path.now)) }
 {
     match database.list(alloc, path) {
         Ok(children) => Ok(children),
@@ -34,7 +34,7 @@ pub fn path_of_child<D: Database>(
     path: &Path,
     child: &Child,
 ) -> Result<Path, NoMemory>
-    requires { StandsIn (D.rows _database.now) path.now child.now }
+    requires { IsChildIn (D.rows _database.now) path.now child.now }
     ensures { IfOk result (λ own. own ≡ path.now ++ child.now.name ∷ []) }
 {
     let mut own = path.try_clone(alloc)?;

@@ -5,7 +5,7 @@ ghost use Rattle.odb_tree.specs.Trees.{IsDir};
 ghost use Rattle.odb_tree.specs.Rows.{keys_in};
 ghost use Rattle.odb_tree.specs.Databases.{IsDatabase};
 ghost use Rattle.odb_ascii.specs.Dumps.{path_text, dir_line, keys_text, section_text, root_text, dirs_text};
-ghost use Rattle.odb_ascii.specs.Standing.{StandsIn, key_part, begins_with_key};
+ghost use Rattle.odb_ascii.specs.Standing.{IsChildIn, key_part, begins_with_key};
 
 use crate::children::{children_of, path_of_child};
 use daq_text::TextBuffer;
@@ -54,7 +54,7 @@ fn add_key<D: Database>(
     child: &Child,
     text: &mut TextBuffer,
 ) -> Result<(), NoMemory>
-    requires { StandsIn (D.rows database.now) path.now child.now }
+    requires { IsChildIn (D.rows database.now) path.now child.now }
     ensures { OnOk result (text.new
         ≡ text.old ++ key_part (D.rows database.now) path.now child.now) }
 {
@@ -76,7 +76,7 @@ fn add_children<D: Database>(
     children: &[Child],
     text: &mut TextBuffer,
 ) -> Result<(), NoMemory>
-    requires { All (StandsIn (D.rows database.now) path.now) children.now }
+    requires { All (IsChildIn (D.rows database.now) path.now) children.now }
     ensures { OnOk result (text.new ≡ text.old ++ flat_map (key_part (D.rows database.now) path.now)
         children.now) }
 {

@@ -7,7 +7,7 @@ ghost use Rattle.odb_ascii.specs.Dumps.{dump_limit};
 ghost use Rattle.odb_ascii.specs.TextSteps.{is_exists, there_already, make_fault, after_make, rows_fault, after_act, dir_after, written, skipped};
 ghost use Rattle.odb_tree.specs.Calls.{set_all_fault, after_set_all};
 ghost use Rattle.odb_ascii.specs.TextFaults.{IsTextFault};
-ghost use Rattle.odb_ascii.specs.Loads.{IsLoaded, Advances, IsFaultAt, counted, place_at, IsRoomy, IsNear, broken_at, refused_at};
+ghost use Rattle.odb_ascii.specs.Loads.{IsLoaded, AdvancesText, IsTextFaultAt, counts_with, place_at, IsRoomy, IsNear, broken_at, refused_at};
 
 use crate::acts::{Act, LoadRefusal, Loaded};
 use crate::blocks::{Block, read_block};
@@ -176,7 +176,7 @@ impl<'a> Cursor<'a> {
         requires line { self.old.line + block.lines < 2 ^ 32 }
         requires counts { self.old.loaded.keys + self.old.loaded.skipped + 1 < 2 ^ 32 }
         ensures dir { self.new.dir ≡ dir_after self.old.dir block.entry.act }
-        ensures loaded { self.new.loaded ≡ counted self.old.loaded block.entry.act }
+        ensures loaded { self.new.loaded ≡ counts_with self.old.loaded block.entry.act }
         ensures line { self.new.line ≡ self.old.line + block.entry.lines }
         ensures rest { self.new.rest.now ≡ block.entry.rest.now }
     {
@@ -203,12 +203,12 @@ fn do_block<'a, D: Database>(
     requires less { length behind.now < length at.old.rest.now }
     requires read { IsPassed line.now → ⊥ }
     requires room { IsRoomy at.old.line (length at.old.rest.now) at.old.loaded }
-    ensures on { OnOk result (Advances (place_at at.old.rest.now at.old.line at.old.dir at.old.loaded)
+    ensures on { OnOk result (AdvancesText (place_at at.old.rest.now at.old.line at.old.dir at.old.loaded)
         (place_at at.new.rest.now at.new.line at.new.dir at.new.loaded) (D.rows database.old)
         (D.rows database.new)) }
     ensures room { OnOk result (IsRoomy at.new.line (length at.new.rest.now) at.new.loaded) }
     ensures shorter { OnOk result (length at.new.rest.now < length at.old.rest.now) }
-    ensures fault { IfErr result (IsFaultAt (place_at at.old.rest.now at.old.line at.old.dir
+    ensures fault { IfErr result (IsTextFaultAt (place_at at.old.rest.now at.old.line at.old.dir
         at.old.loaded) (D.rows database.old)) }
 {
     match read_block(alloc, &at.dir, line, behind) {
@@ -234,12 +234,12 @@ fn read_on<'a, D: Database>(
     requires first { lines at.old.rest.now ≡ line.now ∷ lines behind.now }
     requires less { length behind.now < length at.old.rest.now }
     requires room { IsRoomy at.old.line (length at.old.rest.now) at.old.loaded }
-    ensures on { OnOk result (Advances (place_at at.old.rest.now at.old.line at.old.dir at.old.loaded)
+    ensures on { OnOk result (AdvancesText (place_at at.old.rest.now at.old.line at.old.dir at.old.loaded)
         (place_at at.new.rest.now at.new.line at.new.dir at.new.loaded) (D.rows database.old)
         (D.rows database.new)) }
     ensures room { OnOk result (IsRoomy at.new.line (length at.new.rest.now) at.new.loaded) }
     ensures shorter { OnOk result (length at.new.rest.now < length at.old.rest.now) }
-    ensures fault { IfErr result (IsFaultAt (place_at at.old.rest.now at.old.line at.old.dir
+    ensures fault { IfErr result (IsTextFaultAt (place_at at.old.rest.now at.old.line at.old.dir
         at.old.loaded) (D.rows database.old)) }
 {
     if is_passed(line) {

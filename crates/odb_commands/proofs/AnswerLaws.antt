@@ -26,7 +26,7 @@ use Rattle.odb_commands.specs.declared.replies.CommandRefusal.{CommandRefusal}
 use Rattle.odb_commands.specs.declared.replies.CommandRefusal.TheVariants.{Protected}
 use Rattle.odb_commands.specs.declared.replies.CommandReply.{CommandReply}
 use Rattle.odb_commands.specs.declared.replies.CommandReply.TheVariants.{Key}
-use Rattle.odb_commands.specs.Answers.{Answer, refused, at_path, done_or, listed_or, create_at, item_for, set_item, set_in, set_at, key_named, key_found, shown, get_in, get_at, list_at, is_protected, removed, remove_at, answer_of}
+use Rattle.odb_commands.specs.Answers.{Answer, refused, at_path, done_or, listed_or, create_at, item_for, set_item, set_in, set_at, key_named, key_found, shown_value, get_in, get_at, list_at, is_protected, removed, remove_at, answer_of}
 use Rattle.odb_commands.specs.CommandCalls.{AtPath, CreatesKey, SetsItem, SetsIn, Sets, Names, NamesFound, Shows, GetsIn, Gets, Lists, RemovesIf, RemovesKey, Performs, IsAnswered, IsAnswerOf, OthersLeave}
 
 -- A legal reply is that of the rows, where memory was not wanting.
@@ -85,7 +85,7 @@ found_answered s v (Ok row) calls reply legal does =
       does.2 ∙ ap (λ (path : Option (List (List ℕ))). Key (unwrap_or path []) v) same,
     )
 
-shown_answered : (s : Rows) (p : List (List ℕ)) (index : Option ℕ) (v : HeldValue) (calls : List DatabaseEntry) (reply : CommandReply) → IsLegal s (calls_by 0 calls) → Shows p index v calls reply → IsAnswered (shown s p index v) calls reply
+shown_answered : (s : Rows) (p : List (List ℕ)) (index : Option ℕ) (v : HeldValue) (calls : List DatabaseEntry) (reply : CommandReply) → IsLegal s (calls_by 0 calls) → Shows p index v calls reply → IsAnswered (shown_value s p index v) calls reply
 shown_answered s p None v calls reply legal does =
     let here = legal_as s calls (call.Find p does.0 ∷ does.1) does.2 legal in
     let same : does.0 ≡ find_reply s p = here.0.reply in

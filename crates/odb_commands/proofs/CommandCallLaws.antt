@@ -18,7 +18,7 @@ use Rattle.odb_tree.specs.declared.refusals.OdbRefusal.{OdbRefusal}
 use Rattle.odb_tree.specs.declared.refusals.OdbRefusal.TheVariants.{Exists, NotDir, NoKey, NotValue, NotKept, TypeMismatch, BadIndex, Limit, NoMemory as no_memory}
 use Rattle.odb_tree.specs.declared.refusals.What.{What}
 use Rattle.odb_tree.specs.Rows.{Rows, row_at, is_key}
-use Rattle.odb_tree.specs.Lookups.{obstacle_at, obstacle_from, obstacle_to, obstacle_to_new, parent_of, found_row, seek, key_of, key_found as found_key, seek_key, not_dir, dir_fault, not_there, absent_fault}
+use Rattle.odb_tree.specs.Lookups.{obstacle_at, obstacle_from, obstacle_to, obstacle_to_new, parent_of, found_row, seek, key_of, key_or_refusal as found_key, seek_key, not_dir, dir_fault, not_there, absent_fault}
 use Rattle.odb_tree.specs.Limits.{limit_fault, text_fault}
 use Rattle.odb_tree.specs.Calls.{reply_or, exists_fault, kept_fault, items_fault, create_fault, create_reply, after_create, type_fault, index_fault, set_fault, set_reply_to, set_reply, after_set, value_reply, get_reply, number_reply, find_reply, children_or, list_reply, delete_reply, path_with, count_gone}
 use Rattle.odb_tree.specs.Making.{new_number}
@@ -28,7 +28,7 @@ use Rattle.odb_script.specs.declared.forms.Command.TheVariants as command
 use Rattle.odb_commands.specs.declared.replies.CommandRefusal.{CommandRefusal}
 use Rattle.odb_commands.specs.declared.replies.CommandRefusal.TheVariants.{Protected}
 use Rattle.odb_commands.specs.declared.replies.CommandReply.{CommandReply}
-use Rattle.odb_commands.specs.Answers.{Answer, refused, at_path, create_at, item_for, set_item, set_in, set_at, key_found, shown, get_in, get_at, list_at, is_protected, removed, remove_at, answer_of}
+use Rattle.odb_commands.specs.Answers.{Answer, refused, at_path, create_at, item_for, set_item, set_in, set_at, key_found, shown_value, get_in, get_at, list_at, is_protected, removed, remove_at, answer_of}
 use Rattle.odb_commands.specs.CommandCalls.{AtPath, CreatesKey, SetsItem, SetsIn, Sets, NamesFound, Shows, GetsIn, Gets, Lists, RemovesIf, RemovesKey, Performs}
 use Rattle.odb_commands.specs.CommandCallLaws.{PerformsIf, Spares}
 
@@ -197,7 +197,7 @@ found_performs : (s : Rows) (v : HeldValue) (found : Result ℕ OdbRefusal) → 
 found_performs s v (Err why) = (refl, refl)
 found_performs s v (Ok row) = (path_with s.rows row, refl, refl)
 
-shown_performs : (s : Rows) (p : List (List ℕ)) (index : Option ℕ) (v : HeldValue) → Shows p index v (shown s p index v).calls (shown s p index v).reply
+shown_performs : (s : Rows) (p : List (List ℕ)) (index : Option ℕ) (v : HeldValue) → Shows p index v (shown_value s p index v).calls (shown_value s p index v).reply
 shown_performs s p None v = (find_reply s p, (key_found s v (find_reply s p)).calls, refl, find_settled s p, found_performs s v (find_reply s p))
 shown_performs s p (Some index) v = (refl, refl)
 

@@ -13,7 +13,7 @@ use Rattle.odb_script.specs.declared.forms.Command.{Command}
 use Rattle.odb_script.specs.declared.forms.Command.TheVariants.{Nothing, Events, Start, Stop, Create, CreateDir, Set, Get, List as Ls, Remove, Exit}
 use Rattle.odb_commands.specs.declared.replies.CommandRefusal.{CommandRefusal}
 use Rattle.odb_commands.specs.declared.replies.CommandRefusal.TheVariants.{Protected}
-use Rattle.odb_commands.specs.Answers.{Answer, refused, at_path, create_at, item_for, set_item, set_in, set_at, key_found, shown, get_in, get_at, list_at, removed, remove_at, answer_of}
+use Rattle.odb_commands.specs.Answers.{Answer, refused, at_path, create_at, item_for, set_item, set_in, set_at, key_found, shown_value, get_in, get_at, list_at, removed, remove_at, answer_of}
 use Rattle.odb_commands.specs.CommandLaws.{AnswerSpares, SparesIf}
 
 item_spares : (s : Rows) (p : List (List ℕ)) (index : ℕ) (item : Result Item CommandRefusal) → AnswerSpares (set_item s p index item)
@@ -28,7 +28,7 @@ found_spares : (s : Rows) (v : HeldValue) (found : Result ℕ OdbRefusal) → An
 found_spares s v (Err why) = tt
 found_spares s v (Ok row) = (tt, tt)
 
-shown_spares : (s : Rows) (p : List (List ℕ)) (index : Option ℕ) (v : HeldValue) → AnswerSpares (shown s p index v)
+shown_spares : (s : Rows) (p : List (List ℕ)) (index : Option ℕ) (v : HeldValue) → AnswerSpares (shown_value s p index v)
 shown_spares s p None v = (tt, found_spares s v (find_reply s p))
 shown_spares s p (Some index) v = tt
 

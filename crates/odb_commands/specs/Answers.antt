@@ -35,8 +35,8 @@ abbrev pub refused : CommandRefusal → Answer
 refused why = record { calls = []; reply = Refused why }
 
 -- with this call in front
-abbrev pub behind : DatabaseEntry → Answer → Answer
-behind entry answer = record { calls = entry ∷ answer.calls; reply = answer.reply }
+abbrev pub with_first_call : DatabaseEntry → Answer → Answer
+with_first_call entry answer = record { calls = entry ∷ answer.calls; reply = answer.reply }
 
 -- a call that is accepted prints nothing
 abbrev pub done_or : Result ℕ OdbRefusal → CommandReply
@@ -71,7 +71,7 @@ set_in s p index text (Err why) = refused (Database why)
 set_in s p index text (Ok v) = set_item s p index (item_for v index text)
 
 abbrev pub set_at : Rows → (index : ℕ) → (text : List ℕ) → List (List ℕ) → Answer
-set_at s index text p = behind (call.Get p (get_reply s p)) (set_in s p index text (get_reply s p))
+set_at s index text p = with_first_call (call.Get p (get_reply s p)) (set_in s p index text (get_reply s p))
 
 -- `get`: the key is got; for its lines it is also found, and the path of its row gives the name as it is spelled in the
 -- database.
@@ -87,16 +87,16 @@ abbrev pub one_or : (len : ℕ) → Option Item → CommandReply
 one_or len None = Refused (Database (BadIndex len))
 one_or len (Some item) = One item
 
-abbrev pub shown : Rows → List (List ℕ) → Option ℕ → HeldValue → Answer
-shown s p None v = behind (call.Find p (find_reply s p)) (key_found s v (find_reply s p))
-shown s p (Some index) v = record { calls = []; reply = one_or (length v.items) (slice_get v.items index) }
+abbrev pub shown_value : Rows → List (List ℕ) → Option ℕ → HeldValue → Answer
+shown_value s p None v = with_first_call (call.Find p (find_reply s p)) (key_found s v (find_reply s p))
+shown_value s p (Some index) v = record { calls = []; reply = one_or (length v.items) (slice_get v.items index) }
 
 abbrev pub get_in : Rows → List (List ℕ) → Option ℕ → Result HeldValue OdbRefusal → Answer
 get_in s p index (Err why) = refused (Database why)
-get_in s p index (Ok v) = shown s p index v
+get_in s p index (Ok v) = shown_value s p index v
 
 abbrev pub get_at : Rows → Option ℕ → List (List ℕ) → Answer
-get_at s index p = behind (call.Get p (get_reply s p)) (get_in s p index (get_reply s p))
+get_at s index p = with_first_call (call.Get p (get_reply s p)) (get_in s p index (get_reply s p))
 
 -- `ls`: one call.
 

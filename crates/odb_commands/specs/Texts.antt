@@ -35,12 +35,12 @@ child_lines children = flat_map child_line children
 
 -- Refusals: the name, and the fields in the order of their declaration, each behind a blank.
 
-abbrev pub path_text : PathRefusal → List ℕ
-path_text path.EmptyName = codes "EmptyName"
-path_text path.LongName = codes "LongName"
-path_text (path.BadByte at) = codes "BadByte " ++ decimal at
-path_text path.TooDeep = codes "TooDeep"
-path_text path.NoMemory = codes "NoMemory"
+abbrev pub path_refusal_text : PathRefusal → List ℕ
+path_refusal_text path.EmptyName = codes "EmptyName"
+path_refusal_text path.LongName = codes "LongName"
+path_refusal_text (path.BadByte at) = codes "BadByte " ++ decimal at
+path_refusal_text path.TooDeep = codes "TooDeep"
+path_refusal_text path.NoMemory = codes "NoMemory"
 
 abbrev pub item_refusal_text : ItemRefusal → List ℕ
 item_refusal_text (item.BadText at) = codes "BadText " ++ decimal at
@@ -68,7 +68,7 @@ odb_text odb.NoMemory = codes "NoMemory"
 
 -- a refusal within another stands in its place
 abbrev pub refusal_text : CommandRefusal → List ℕ
-refusal_text (Path why) = path_text why
+refusal_text (Path why) = path_refusal_text why
 refusal_text Protected = codes "Protected"
 refusal_text (BadItem why) = item_refusal_text why
 refusal_text (Database why) = odb_text why

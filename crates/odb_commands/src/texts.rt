@@ -2,7 +2,7 @@ ghost use Rattle.std.specs.Prelude.{◌≡◌, ◌++◌, ◌∷◌, [], OnOk};
 ghost use Rattle.odb_value.specs.ItemTexts.{item_text};
 ghost use Rattle.daq_types.specs.Tids.{tid_name};
 ghost use Rattle.odb_tree.specs.Calls.{last_name};
-ghost use Rattle.odb_commands.specs.Texts.{child_line, child_lines, item_refusal_text, limit_name, odb_text, path_text, refusal_text, refused_line, reply_text, slash_if};
+ghost use Rattle.odb_commands.specs.Texts.{child_line, child_lines, item_refusal_text, limit_name, odb_text, path_refusal_text, refusal_text, refused_line, reply_text, slash_if};
 
 use crate::replies::{CommandRefusal, CommandReply};
 use daq_text::TextBuffer;
@@ -52,7 +52,7 @@ fn add_children(text: &mut TextBuffer, children: &[Child]) -> Result<(), NoMemor
 
 /// Adds why a text is no path.
 fn add_path_refusal(text: &mut TextBuffer, why: PathRefusal) -> Result<(), NoMemory>
-    ensures { OnOk result (text.new ≡ text.old ++ path_text why) }
+    ensures { OnOk result (text.new ≡ text.old ++ path_refusal_text why) }
 {
     match why {
         PathRefusal::EmptyName => text.text(b"EmptyName"),

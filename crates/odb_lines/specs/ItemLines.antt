@@ -5,7 +5,7 @@ use Rattle.std.specs.Str.Parse.{digits_value}
 use Rattle.daq_types.specs.declared.types.Tid.{Tid}
 use Rattle.daq_types.specs.declared.types.Tid.TheVariants as tid
 use Rattle.odb_value.specs.declared.items.Item.{Item}
-use Rattle.odb_value.specs.ValueChanges.{raised}
+use Rattle.odb_value.specs.ValueChanges.{size_with_item}
 use Rattle.odb_value.specs.ItemTexts.{item_read}
 use Rattle.odb_lines.specs.LineForms.{behind_blank, IsBracketed}
 

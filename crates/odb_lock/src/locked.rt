@@ -36,7 +36,7 @@ impl<D: Database> Machine for LockedDatabase<D> {
 }
 
 impl<'a, D: Database> Call<LockedDatabase<D>> for CallMade<'a> {
-    ghost use Rattle.odb_lock.specs.Entries.{entry_of};
+    ghost use Rattle.odb_lock.specs.Entries.{noted_call};
 
-    ghost entry = { entry_of };
+    ghost entry = { noted_call };
 }

@@ -44,7 +44,7 @@ pub struct SharedOdb<D: Database> {
 impl<D: Database> SharedOdb<D> {
     ghost use Rattle.odb_lock.specs.SharedOdbs.{odb_lock_of, first_database};
     ghost use Rattle.odb_lock.specs.DatabaseSteps.{StepsRows};
-    ghost use Rattle.odb_lock.specs.Entries.{entry_of};
+    ghost use Rattle.odb_lock.specs.Entries.{noted_call};
 
     /// Shares the database among this many passes, 1 to 256, which are numbered from 0 on. The lock's memory is taken here,
     /// and by no other call. Where there is none the database is dropped.
@@ -72,8 +72,8 @@ impl<D: Database> SharedOdb<D> {
     fn enter(&self, pass: &mut OdbPass<D>, held: Held<LockedDatabase<D>>, call: &CallMade<'_>)
         requires own { IsOf (odb_lock_of self.now) pass.old }
         requires step { (before : _) × (held_by pass.old ≡ Some before)
-            × StepsRows before (number_of pass.old) (entry_of call.now) (D.rows held.value.database) }
-        ensures entered { Enters (odb_lock_of self.now) (entry_of call.now) pass.old pass.new }
+            × StepsRows before (number_of pass.old) (noted_call call.now) (D.rows held.value.database) }
+        ensures entered { Enters (odb_lock_of self.now) (noted_call call.now) pass.old pass.new }
         ensures legal { IsLegal (D.rows (first_database self.now)) (seen_by pass.new) }
     {
         self.turns.put(pass, held, call);

@@ -7,7 +7,7 @@ use Rattle.std.proofs.lemmas.Bool.{cases_lt, lt-leb}
 use Rattle.std.proofs.Math.Logic.{⊎_elim}
 use Rattle.std.specs.Str.Lines.{strip_carriage_return}
 use Rattle.std.specs.Io.KnownBytes.{Consumes, IsAtEnd}
-use Rattle.odb_script.specs.Lines.{Reading, nothing_read, ended_lines, behind_lines, whole_lines, last_line, script_lines, lines_of, script_limit, ReadsLine, ReadsLast, ReadsNone, ReadsTooMuch, ReadsPart}
+use Rattle.odb_script.specs.Lines.{Reading, no_line_read, ended_lines, behind_lines, whole_lines, last_line, script_lines, lines_of, script_limit, ReadsLine, ReadsLast, ReadsNone, ReadsTooMuch, ReadsPart}
 use Rattle.odb_script.specs.ReadLines.{AreGivenLines}
 
 -- Lines of texts behind one another.
@@ -82,7 +82,7 @@ pub record HasReadLines (first now : Option (List ℕ)) (reading : Reading) (giv
   pub within : length done ≤ script_limit
 
 -- nothing yet
-pub has_read_none : (first : Option (List ℕ)) → HasReadLines first first nothing_read []
+pub has_read_none : (first : Option (List ℕ)) → HasReadLines first first no_line_read []
 has_read_none None = record { done = []; consumed = tt; whole = refl; lines = refl; taken = refl; within = omega arith }
 has_read_none (Some text) = record { done = []; consumed = refl; whole = refl; lines = refl; taken = refl; within = omega arith }
 

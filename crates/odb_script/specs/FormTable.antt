@@ -48,10 +48,10 @@ forms =
     ∷ []
 
 -- the forms that go on with a word, each without the piece that the word fits
-abbrev pub going_on : List ℕ → List Form → List Form
-going_on text [] = []
-going_on text ([] ∷ fs) = going_on text fs
-going_on text ((piece ∷ pieces) ∷ fs) = if fits piece text then pieces ∷ going_on text fs else going_on text fs
+abbrev pub forms_going_on : List ℕ → List Form → List Form
+forms_going_on text [] = []
+forms_going_on text ([] ∷ fs) = forms_going_on text fs
+forms_going_on text ((piece ∷ pieces) ∷ fs) = if fits piece text then pieces ∷ forms_going_on text fs else forms_going_on text fs
 
 -- there is no form
 abbrev pub no_form : List Form → Bool
@@ -67,7 +67,7 @@ form_ended ((piece ∷ pieces) ∷ fs) = form_ended fs
 -- The place of the first word with which none of the forms goes on. It is the place of the line's end where none of
 -- them has ended there, and that of what is no word. There is none where the words are those of a form.
 abbrev pub first_misfit : List Form → Words → Option ℕ
-first_misfit fs (word at text rest) = if no_form (going_on text fs) then Some at else first_misfit (going_on text fs) rest
+first_misfit fs (word at text rest) = if no_form (forms_going_on text fs) then Some at else first_misfit (forms_going_on text fs) rest
 first_misfit fs (ended at) = if form_ended fs then None else Some at
 first_misfit fs (faulty at) = Some at
 

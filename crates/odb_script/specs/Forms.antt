@@ -39,20 +39,20 @@ line_end (ended at) = Ok tt
 line_end (faulty at) = Err (BadCommand at)
 
 -- the next word is no number
-abbrev pub number_at : ℕ → Option ℕ → Read ℕ
-number_at at None = Err (BadCommand at)
-number_at at (Some n) = Ok n
+abbrev pub read_number_at : ℕ → Option ℕ → Read ℕ
+read_number_at at None = Err (BadCommand at)
+read_number_at at (Some n) = Ok n
 
 -- the next word, which has to be a number of at most this
 abbrev pub next_number : (most : ℕ) → Words → Read ℕ
-next_number most (word at text ws) = number_at at (number_of most text)
+next_number most (word at text ws) = read_number_at at (number_of most text)
 next_number most (ended at) = Err (BadCommand at)
 next_number most (faulty at) = Err (BadCommand at)
 
 -- a number at the line's end, which may be left out
 abbrev pub last_number : Words → Read (Option ℕ)
 last_number (word at text ws) = do
-  n ← number_at at (number_of most_number text)
+  n ← read_number_at at (number_of most_number text)
   _ ← line_end ws
   Ok (Some n)
 last_number (ended at) = Ok None

@@ -50,8 +50,8 @@ pub record Reading : Type 0 where
   pub taken : ℕ
 
 -- nothing was read
-abbrev pub nothing_read : Reading
-nothing_read = record { line = []; pending = []; taken = 0 }
+abbrev pub no_line_read : Reading
+no_line_read = record { line = []; pending = []; taken = 0 }
 
 -- Some bytes are taken from the source, and those that are there then begin with a part of a line.
 pub record Takes (old : Reading) (before after : Option (List ℕ)) (part rest : List ℕ) : Type 0 where

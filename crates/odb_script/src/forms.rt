@@ -3,7 +3,7 @@ ghost use Rattle.odb_script.specs.Exits.{is_exit};
 ghost use Rattle.daq_text.specs.Numbers.{number_of};
 ghost use Rattle.odb_script.specs.Numbers.{most_number};
 ghost use Rattle.odb_script.specs.TypeNames.{type_named};
-ghost use Rattle.odb_script.specs.Forms.{next_text, words_behind, line_end, number_at, next_number as number_next, last_number as number_last, only, events_form, directory_form, value_form, create_form, set_end, set_form, get_form, list_form, remove_form, named_form, command_of};
+ghost use Rattle.odb_script.specs.Forms.{next_text, words_behind, line_end, read_number_at, next_number as number_next, last_number as number_last, only, events_form, directory_form, value_form, create_form, set_end, set_form, get_form, list_form, remove_form, named_form, command_of};
 
 use crate::line_text::LineText;
 use crate::refusals::{LINE_BYTES, LineRefusal};
@@ -77,7 +77,7 @@ fn word_number(text: &LineText<'_>, most: u32) -> Option<u32>
 
 /// The number of at most `most` that a word at this place is.
 fn number_there(at: u32, text: &LineText<'_>, most: u32) -> Result<u32, LineRefusal>
-    ensures { result ≡ number_at at (number_of most text.now) }
+    ensures { result ≡ read_number_at at (number_of most text.now) }
 {
     match word_number(text, most) {
         None => Err(LineRefusal::BadCommand { at }),

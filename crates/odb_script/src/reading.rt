@@ -1,7 +1,7 @@
 ghost use Rattle.std.specs.Prelude.{◌≡◌, ◌≢◌, ◌≤◌, ◌<◌, ◌++◌, IsOk, OnOk, OnErr, IfOk, List, ℕ, [], length, take, vec_capacity, true, false};
 ghost use Rattle.std.specs.Io.KnownBytes.{Consumes, IsAtEnd, Keeps};
 ghost use Rattle.std.specs.Str.Lines.{strip_carriage_return};
-ghost use Rattle.odb_script.specs.Lines.{Reading, nothing_read, script_limit};
+ghost use Rattle.odb_script.specs.Lines.{Reading, no_line_read, script_limit};
 ghost use Rattle.daq_io.specs.Counts.{CountsFault};
 ghost use Rattle.odb_script.specs.Advances.{IsFaultBy, Advances, IsFilledAgain, IsLinePart, IsRefilled, IsScanned};
 
@@ -101,7 +101,7 @@ fn finish(line: &mut Vec<u8>)
 impl LineReader {
     /// A reader that has read nothing.
     pub fn new(alloc: Global) -> Result<LineReader, NoMemory>
-        ensures { IfOk result (λ reader. reader ≡ nothing_read) }
+        ensures { IfOk result (λ reader. reader ≡ no_line_read) }
     {
         let block = vec![in alloc; 0; BLOCK_BYTES]?;
         let line = Vec::with_capacity(alloc, PART_BYTES)?;

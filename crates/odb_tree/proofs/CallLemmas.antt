@@ -20,7 +20,7 @@ use Rattle.odb_tree.specs.declared.refusals.OdbRefusal.TheVariants.{TypeMismatch
 use Rattle.odb_tree.specs.declared.refusals.What.TheVariants.{Size}
 use Rattle.odb_tree.specs.Rows.{Rows, row_at, bytes_of_row, total_of, rows_outside}
 use Rattle.odb_tree.specs.Limits.{IsWithin, text_fault, limit_fault}
-use Rattle.odb_tree.specs.Lookups.{obstacle_to, obstacle_to_new, found_row, key_of, key_found, seek_key}
+use Rattle.odb_tree.specs.Lookups.{obstacle_to, obstacle_to_new, found_row, key_of, key_or_refusal, seek_key}
 use Rattle.odb_tree.specs.Changes.{CanPut, IsKeyAt}
 use Rattle.odb_tree.specs.Calls.{set_fault, set_all_fault, after_set, after_set_all, type_fault, index_fault, value_fault, tid_fault, there_fault, own_fault, create_fault, exists_fault, kept_fault, items_fault, after_create}
 use Rattle.odb_tree.proofs.Limited.{or_none_left, or_none_right, own_none, within}
@@ -62,7 +62,7 @@ value_from number (Some w) n v h =
     let pair : (number, w) ≡ (n, v) = cc in
     ap (λ (p : ℕ × HeldValue). Some p.1) pair
 
-key_from : (o : Option OdbRefusal) (r : Option Row) (n : ℕ) (v : HeldValue) → key_found (found_row o r) ≡ Ok (n, v) → (row : Row) × (r ≡ Some row) × (row.value ≡ Some v)
+key_from : (o : Option OdbRefusal) (r : Option Row) (n : ℕ) (v : HeldValue) → key_or_refusal (found_row o r) ≡ Ok (n, v) → (row : Row) × (r ≡ Some row) × (row.value ≡ Some v)
 key_from (Some refusal) r n v h = absurd (cc)
 key_from None None n v h = absurd (cc)
 key_from None (Some row) n v h = (row, refl, value_from row.number row.value n v h)

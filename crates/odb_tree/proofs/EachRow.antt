@@ -15,7 +15,7 @@ use Rattle.odb_value.specs.declared.items.Item.{Item}
 use Rattle.odb_value.specs.declared.items.Item.TheVariants.{Text}
 use Rattle.odb_value.specs.Items.{tid_of, is_kept, IsSound, IsItem}
 use Rattle.odb_value.specs.Values.{HeldValue, IsValue, IsSizeOf, IsShorter, size_limit, items_limit}
-use Rattle.odb_value.specs.ValueChanges.{raised, put_in, default_item, default_size, new_held, resized}
+use Rattle.odb_value.specs.ValueChanges.{size_with_item, put_in, default_item, default_size, new_held, resized}
 use Rattle.odb_value.proofs.ValueKept.{is_value-resized}
 use Rattle.odb_tree.specs.declared.rows.Row.{Row}
 use Rattle.odb_tree.specs.Rows.{Rows, row_at, change_row, change_at}
@@ -100,7 +100,7 @@ made_rows s p value h path is short =
 
 -- values
 
-size_raised : (item : Item) (type : Tid) (size : ℕ) → tid_of item ≡ type → IsShorter size_limit item → IsSizeOf type size → IsSizeOf type (raised size item)
+size_raised : (item : Item) (type : Tid) (size : ℕ) → tid_of item ≡ type → IsShorter size_limit item → IsSizeOf type size → IsSizeOf type (size_with_item size item)
 size_raised (Text bytes) type size same short h =
     subst (λ (t : Tid). IsSizeOf t (max size (length bytes + 1))) same (largest size (length bytes + 1) (subst (λ (t : Tid). IsSizeOf t size) (sym same) h) (omega (arith, short)))
   where
@@ -112,14 +112,14 @@ shorter_than_more : (item : Item) (size more : ℕ) → size ≤ more → IsShor
 shorter_than_more (Text bytes) size more l h = omega (arith, l, h)
 shorter_than_more _ size more l h = tt
 
-still_shorter : (size : ℕ) (item other : Item) → IsShorter size other → IsShorter (raised size item) other
+still_shorter : (size : ℕ) (item other : Item) → IsShorter size other → IsShorter (size_with_item size item) other
 still_shorter size (Text bytes) other h = shorter_than_more other size (max size (length bytes + 1)) (left size (length bytes + 1)) h
   where
     left : (a b : ℕ) → a ≤ max a b
     left a b = grind arith
 still_shorter size _ other h = h
 
-own_shorter : (size : ℕ) (item : Item) → IsShorter (raised size item) item
+own_shorter : (size : ℕ) (item : Item) → IsShorter (size_with_item size item) item
 own_shorter size (Text bytes) = right size (length bytes)
   where
     right : (a n : ℕ) → n < max a (n + 1)
@@ -133,8 +133,8 @@ value_put v index item h can sound = record {
   many = omega (arith, length-set v.items index item, h.many);
   of_type = All-set (IsItem v.tid) v.items index item (record { tid = can.of_type; sound = sound }) h.of_type;
   size = size_raised item v.tid v.size can.of_type can.short h.size;
-  shorter = All-set (IsShorter (raised v.size item)) v.items index item (own_shorter v.size item)
-      (All-weaker (IsShorter v.size) (IsShorter (raised v.size item)) (λ x k. still_shorter v.size item x k) v.items h.shorter);
+  shorter = All-set (IsShorter (size_with_item v.size item)) v.items index item (own_shorter v.size item)
+      (All-weaker (IsShorter v.size) (IsShorter (size_with_item v.size item)) (λ x k. still_shorter v.size item x k) v.items h.shorter);
 }
 
 size_new : (type : Tid) → IsSizeOf type (default_size type)

@@ -12,7 +12,7 @@ use Rattle.odb_value.specs.Items.{tid_of, is_kept, IsItem}
 use Rattle.odb_value.specs.ItemTexts.{text_limit}
 use Rattle.odb_value.specs.Values.{HeldValue, IsValue, IsSizeOf, IsShorter, items_limit}
 use Rattle.odb_value.proofs.ValueKept.{is_kept-value}
-use Rattle.odb_value.specs.ValueChanges.{put_in, resized, raised, default_item}
+use Rattle.odb_value.specs.ValueChanges.{put_in, resized, size_with_item, default_item}
 use Rattle.odb_tree.specs.declared.rows.Row.{Row}
 use Rattle.odb_tree.specs.declared.rows.NewKey.{NewKey}
 use Rattle.odb_tree.specs.declared.refusals.OdbRefusal.{OdbRefusal}
@@ -79,12 +79,12 @@ len_right : (n : ℕ) → 1 ≤ n → n ≤ items_limit → len_fault n ≡ None
 len_right n some many = grind arith
 
 pub set_is : (s : Rows) (p : List (List ℕ)) (v : HeldValue) (index : ℕ) (item : Item) (had bytes len size : ℕ) → IsKeyAt s.rows p v → IsValue v → had ≡ bytes_of v → len ≡ length v.items
-    → (text_fault item ≡ None → size ≡ raised v.size item) → (len_fault len ≡ None → bytes ≡ len * size)
+    → (text_fault item ≡ None → size ≡ size_with_item v.size item) → (len_fault len ≡ None → bytes ≡ len * size)
     → option_map Limit (passed (text_fault item) (length s.rows) (total_of s.rows - had + bytes) s.next) ≡ limit_fault (text_fault item) (after_set s p index item)
 set_is s p v index item had bytes len size h value k e r b =
     let right : len_fault len ≡ None = len_right len (omega (arith, e, value.some)) (omega (arith, e, value.many)) in
     change_is s p v (λ (x : HeldValue). put_in x index item) (text_fault item) had bytes h k
-    (λ none. b right ∙ (ap (λ (n : ℕ). len * n) (r none) ∙ ap (λ (n : ℕ). n * raised v.size item) (e ∙ sym (length-set v.items index item))))
+    (λ none. b right ∙ (ap (λ (n : ℕ). len * n) (r none) ∙ ap (λ (n : ℕ). n * size_with_item v.size item) (e ∙ sym (length-set v.items index item))))
 
 -- set_all
 

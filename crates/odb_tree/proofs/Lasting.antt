@@ -6,7 +6,7 @@ use Rattle.odb_tree.specs.declared.rows.Row.{Row}
 use Rattle.odb_tree.specs.declared.refusals.OdbRefusal.{OdbRefusal}
 use Rattle.odb_tree.specs.declared.refusals.OdbRefusal.TheVariants.{NoKey, NotDir, NoMemory}
 use Rattle.odb_tree.specs.Rows.{row_at, is_key}
-use Rattle.odb_tree.specs.Lookups.{obstacle_at, obstacle_from, obstacle_to, parent_of, found_row, seek, key_of, key_found, seek_key, not_there, absent_fault}
+use Rattle.odb_tree.specs.Lookups.{obstacle_at, obstacle_from, obstacle_to, parent_of, found_row, seek, key_of, key_or_refusal, seek_key, not_there, absent_fault}
 
 at_key : (t : Bool) → cond t (Some NotDir) None ≡ Some NoMemory → ⊥
 at_key true h = cc
@@ -38,7 +38,7 @@ of_value : (number : ℕ) (o : Option HeldValue) → key_of number o ≡ Err NoM
 of_value number None e = cc
 of_value number (Some v) e = cc
 
-of_found : (r : Result Row OdbRefusal) → (r ≡ Err NoMemory → ⊥) → key_found r ≡ Err NoMemory → ⊥
+of_found : (r : Result Row OdbRefusal) → (r ≡ Err NoMemory → ⊥) → key_or_refusal r ≡ Err NoMemory → ⊥
 of_found (Ok r) h e = of_value r.number r.value e
 of_found (Err x) h e = let same : x ≡ NoMemory = cc in h (ap (λ (z : OdbRefusal). Err z) same)
 

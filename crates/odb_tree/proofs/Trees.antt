@@ -265,11 +265,11 @@ tree_more s new h k = record {
   numbered = rising_more 1 s.rows s.next new h.numbered k.number;
 }
 
-abbrev pub rows_of : List Row → ℕ → Rows
-rows_of rows next = record { rows = rows; next = next }
+abbrev pub plain_rows : List Row → ℕ → Rows
+plain_rows rows next = record { rows = rows; next = next }
 
-pub same_rows : (xs ys : List Row) (n m : ℕ) → xs ≡ ys → n ≡ m → rows_of xs n ≡ rows_of ys m
-same_rows xs ys n m e f = ap (λ (l : List Row). rows_of l n) e ∙ ap (rows_of ys) f
+pub same_rows : (xs ys : List Row) (n m : ℕ) → xs ≡ ys → n ≡ m → plain_rows xs n ≡ plain_rows ys m
+same_rows xs ys n m e f = ap (λ (l : List Row). plain_rows l n) e ∙ ap (plain_rows ys) f
 
 -- rows one after the other
 pub with_more : (s : Rows) (new : Row) (made : List Row) → with_rows (with_rows s (new ∷ [])) made ≡ with_rows s (new ∷ made)

@@ -44,14 +44,14 @@ abbrev pub key_of : (number : ℕ) → Option HeldValue → Result (ℕ × HeldV
 key_of number None = Err NotValue
 key_of number (Some v) = Ok (number, v)
 
-abbrev pub key_found : Result Row OdbRefusal → Result (ℕ × HeldValue) OdbRefusal
-key_found (Err refusal) = Err refusal
-key_found (Ok r) = key_of r.number r.value
+abbrev pub key_or_refusal : Result Row OdbRefusal → Result (ℕ × HeldValue) OdbRefusal
+key_or_refusal (Err refusal) = Err refusal
+key_or_refusal (Ok r) = key_of r.number r.value
 
 -- the number and the value of the key at a path, or why there is none
 abbrev pub seek_key : List Row → List (List ℕ) → Result (ℕ × HeldValue) OdbRefusal
 seek_key rows [] = Err NotValue
-seek_key rows (name ∷ names) = key_found (seek rows (name ∷ names))
+seek_key rows (name ∷ names) = key_or_refusal (seek rows (name ∷ names))
 
 -- why no directory stands at a path, if so; the root is one
 abbrev pub not_dir : Result Row OdbRefusal → Option OdbRefusal

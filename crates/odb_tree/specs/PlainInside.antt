@@ -2,5 +2,5 @@
 use Rattle.odb_tree.specs.Rows.{Rows}
 use Rattle.odb_tree.specs.declared.plain.PlainTree.TheInside.{Inside}
 
-abbrev pub rows_of : Inside → Rows
-rows_of t = record { rows = t.rows.items; next = t.next }
+abbrev pub plain_rows : Inside → Rows
+plain_rows t = record { rows = t.rows.items; next = t.next }

@@ -1,6 +1,6 @@
 ghost use Rattle.std.specs.Prelude.{◌≡◌, ◌≤◌, ◌<◌, ◌^◌, ◌*◌, length, None};
 ghost use Rattle.std.specs.Option.{option_map};
-ghost use Rattle.odb_value.specs.ValueChanges.{default_size, raised};
+ghost use Rattle.odb_value.specs.ValueChanges.{default_size, size_with_item};
 ghost use Rattle.odb_tree.specs.declared.refusals.OdbRefusal.TheVariants.{Limit};
 ghost use Rattle.odb_tree.specs.Rows.{bytes_of, bytes_of_row, total_of};
 ghost use Rattle.odb_tree.specs.Limits.{passed, len_fault, text_fault, total_limit};
@@ -120,7 +120,7 @@ pub fn new_size(tid: Tid) -> u32
 
 /// The item size of a key with this item put in.
 pub fn raised_size(size: u32, item: &Item) -> u32
-    ensures { text_fault item.now ≡ None → result ≡ raised size item.now }
+    ensures { text_fault item.now ≡ None → result ≡ size_with_item size item.now }
 {
     match item {
         Item::Text(text) => size.max(text.as_slice().len().min(MAX_TEXT) as u32 + 1),

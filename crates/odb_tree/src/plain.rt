@@ -41,11 +41,11 @@ impl Model for PlainTree {
 
     ghost Value = { Rows };
 
-    ghost use Rattle.odb_tree.specs.PlainInside.{rows_of};
+    ghost use Rattle.odb_tree.specs.PlainInside.{plain_rows};
 
-    ghost view = { rows_of };
+    ghost view = { plain_rows };
 
-    ghost invariant = { λ t. IsDatabase (rows_of t) };
+    ghost invariant = { λ t. IsDatabase (plain_rows t) };
 }
 
 impl PlainTree {

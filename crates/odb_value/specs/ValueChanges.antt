@@ -31,13 +31,13 @@ abbrev pub new_held : Tid → ℕ → HeldValue
 new_held type len = record { tid = type; size = default_size type; items = replicate len (default_item type) }
 
 -- the item size with this item in the value: a text as long as it or longer raises it to its length plus 1
-abbrev pub raised : ℕ → Item → ℕ
-raised size (Text bytes) = max size (length bytes + 1)
-raised size item = size
+abbrev pub size_with_item : ℕ → Item → ℕ
+size_with_item size (Text bytes) = max size (length bytes + 1)
+size_with_item size item = size
 
 -- the value with this item at the index
 abbrev pub put_in : HeldValue → ℕ → Item → HeldValue
-put_in v index item = record { tid = v.tid; size = raised v.size item; items = slice_set v.items index item }
+put_in v index item = record { tid = v.tid; size = size_with_item v.size item; items = slice_set v.items index item }
 
 -- the value with so many items: cut at the end, or with those of a new key behind
 abbrev pub resized : HeldValue → ℕ → HeldValue

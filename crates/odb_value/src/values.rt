@@ -1,7 +1,7 @@
 ghost use Rattle.std.specs.Prelude.{◌≡◌, ◌≤◌, ◌<◌, ◌++◌, length, take, replicate, slice_set, IsTrue, IfOk, OnOk, OnErr};
 ghost use Rattle.odb_value.specs.Items.{is_kept, tid_of};
 ghost use Rattle.odb_value.specs.Values.{HeldValue, IsValue, IsShorter, items_limit, size_limit};
-ghost use Rattle.odb_value.specs.ValueChanges.{default_item, default_size, new_held, raised, put_in, resized};
+ghost use Rattle.odb_value.specs.ValueChanges.{default_item, default_size, new_held, size_with_item, put_in, resized};
 
 use crate::items::Item;
 use crate::parts::{CharByte, TextBytes};
@@ -71,7 +71,7 @@ fn new_size(tid: Tid) -> u32
 /// The item size where this item is put into a key of this item size.
 fn raised_size(size: u32, item: &Item) -> u32
     requires { IsShorter size_limit item.now }
-    ensures { result ≡ raised size item.now }
+    ensures { result ≡ size_with_item size item.now }
 {
     match item {
         Item::Text(text) => size.max(text.as_slice().len() as u32 + 1),

@@ -11,23 +11,23 @@ use Rattle.odb_watch.specs.declared.notes.WatchRefusal.{WatchRefusal}
 use Rattle.odb_watch.specs.declared.entry.WatchEntry.{WatchEntry}
 use Rattle.odb_watch.specs.declared.entry.WatchEntry.TheVariants.{Call, Watch, Notes, Unwatch}
 use Rattle.odb_watch.specs.Changes.{Change, changes_of}
-use Rattle.odb_watch.specs.Keeping.{with_note, note_of, is_of, noted, noted_all, notes_limit, counted}
-use Rattle.odb_watch.specs.Slots.{Watched, all_noted, slot, with_slot, free_slot, new_watch, emptied, emptied_slot}
+use Rattle.odb_watch.specs.Keeping.{with_note, note_of, is_of, with_change, noted_all, notes_limit, counted}
+use Rattle.odb_watch.specs.Slots.{Watched, all_noted, slot, with_slot, free_watch, new_watch, emptied, emptied_slot}
 use Rattle.odb_watch.specs.History.{changes_by, rows_by, rows_through, changes_in, GivesKept, GivesWatched, AreWatchReplies, watched_after, watched_through, unwatched, begins, row_by, watched_row, notes_for, AreDue}
 use Rattle.odb_watch.proofs.NotesKept.{note_keeps_row, none_noted}
 
 -- Notes of changes, all together.
 
-row_kept : (k : a_watch) (c : Change) → (noted k c).row ≡ k.row
+row_kept : (k : a_watch) (c : Change) → (with_change k c).row ≡ k.row
 row_kept k c = elim (is_of k.row c) as (λ (t : Bool). (cond t (with_note k (note_of c)) k).row ≡ k.row) [ true ↦ note_keeps_row k (note_of c) | false ↦ refl ]
 
 rows_kept : (k : a_watch) (cs : List Change) → (noted_all k cs).row ≡ k.row
 rows_kept k [] = refl
-rows_kept k (c ∷ cs) = rows_kept (noted k c) cs ∙ row_kept k c
+rows_kept k (c ∷ cs) = rows_kept (with_change k c) cs ∙ row_kept k c
 
 noted_append : (k : a_watch) (cs ds : List Change) → noted_all k (cs ++ ds) ≡ noted_all (noted_all k cs) ds
 noted_append k [] ds = refl
-noted_append k (c ∷ cs) ds = noted_append (noted k c) cs ds
+noted_append k (c ∷ cs) ds = noted_append (with_change k c) cs ds
 
 -- what was told: the first notes, and how many others
 record IsTold (k now : a_watch) (ns : List Note) : Type 0 where
@@ -105,7 +105,7 @@ slot_mapped f [] w e = sym e
 slot_mapped f (x ∷ xs) zero e = refl
 slot_mapped f (x ∷ xs) (suc w) e = slot_mapped f xs w e
 
-free_within : (xs : List (Option a_watch)) → free_slot xs ≤ length xs
+free_within : (xs : List (Option a_watch)) → free_watch xs ≤ length xs
 free_within [] = omega arith
 free_within (None ∷ xs) = omega arith
 free_within (Some k ∷ xs) = omega (arith, free_within xs)

@@ -8,7 +8,7 @@ use Rattle.odb_watch.specs.declared.notes.Note.{Note}
 use Rattle.odb_watch.specs.declared.notes.Watch.{Watch}
 use Rattle.odb_watch.specs.Changes.{Change, changes_from, changes_for}
 use Rattle.odb_watch.specs.Slots.{all_noted}
-use Rattle.odb_watch.specs.Keeping.{with_note, with_notes, note_of, is_of, noted, noted_all, notes_limit, counted}
+use Rattle.odb_watch.specs.Keeping.{with_note, with_notes, note_of, is_of, with_change, noted_all, notes_limit, counted}
 
 pub note_keeps_row : (k : Watch) (note : Note) → (with_note k note).row ≡ k.row
 note_keeps_row k note = cases (ltb (length k.notes) notes_limit)

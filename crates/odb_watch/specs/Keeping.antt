@@ -32,9 +32,9 @@ note_of c = record { row = c.row; index = c.index }
 abbrev pub is_of : (row : ℕ) → Change → Bool
 is_of row c = is_row_below c.rows c.row row
 
-abbrev pub noted : Watch → Change → Watch
-noted k c = if is_of k.row c then with_note k (note_of c) else k
+abbrev pub with_change : Watch → Change → Watch
+with_change k c = if is_of k.row c then with_note k (note_of c) else k
 
 abbrev pub noted_all : Watch → List Change → Watch
 noted_all k [] = k
-noted_all k (c ∷ cs) = noted_all (noted k c) cs
+noted_all k (c ∷ cs) = noted_all (with_change k c) cs

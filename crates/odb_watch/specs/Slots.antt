@@ -30,10 +30,10 @@ with_slot (x ∷ xs) zero k = k ∷ xs
 with_slot (x ∷ xs) (suc w) k = x ∷ with_slot xs w k
 
 -- the least number that no watch has
-abbrev pub free_slot : List (Option Watch) → ℕ
-free_slot [] = 0
-free_slot (None ∷ xs) = 0
-free_slot (Some k ∷ xs) = free_slot xs + 1
+abbrev pub free_watch : List (Option Watch) → ℕ
+free_watch [] = 0
+free_watch (None ∷ xs) = 0
+free_watch (Some k ∷ xs) = free_watch xs + 1
 
 -- the most watches that live
 abbrev pub watches_limit : ℕ
@@ -44,8 +44,8 @@ new_watch row = record { row = row; notes = []; lost = 0 }
 
 -- `watch` answers the least free number, or that all are taken; or memory was wanting
 abbrev pub GivesWatch : List (Option Watch) → Result ℕ WatchRefusal → Type 0
-GivesWatch slots (Ok w) = (w ≡ free_slot slots) × (nat_lt w watches_limit ≡ true)
-GivesWatch slots (Err NoWatchSlot) = nat_lt (free_slot slots) watches_limit ≡ false
+GivesWatch slots (Ok w) = (w ≡ free_watch slots) × (nat_lt w watches_limit ≡ true)
+GivesWatch slots (Err NoWatchSlot) = nat_lt (free_watch slots) watches_limit ≡ false
 GivesWatch slots (Err NoMemory) = Unit {0}
 
 abbrev pub after_watch : List (Option Watch) → (row : ℕ) → Result ℕ WatchRefusal → List (Option Watch)

@@ -1,5 +1,5 @@
 ghost use Rattle.std.specs.Prelude.{◌≡◌, ◌≤◌, length};
-ghost use Rattle.odb_watch.specs.Slots.{free_slot, GivesUnwatch, GivesWatch, GivesNotes, GivesTaken, after_watch, after_notes, after_unwatch, emptied_slot};
+ghost use Rattle.odb_watch.specs.Slots.{free_watch, GivesUnwatch, GivesWatch, GivesNotes, GivesTaken, after_watch, after_notes, after_unwatch, emptied_slot};
 
 use crate::notes::{NoWatch, Note, Notes, Watch, WatchRefusal};
 use std::alloc::Global;
@@ -10,7 +10,7 @@ const WATCHES: usize = 64;
 
 /// The place of the first slot with no watch, or else the place behind the last.
 fn free_slot(slots: &[Option<Watch>]) -> usize
-    ensures free { result ≡ free_slot slots.now }
+    ensures free { result ≡ free_watch slots.now }
     ensures within { result ≤ length slots.now }
 {
     for i in 0..slots.len() {

@@ -12,7 +12,7 @@ use Rattle.buffer_core.specs.Slots.{change_all}
 use Rattle.buffer_core.specs.Window.{Window, Sent}
 use Rattle.buffer_core.specs.Calls.{gone_of, to_drop, after_send, pushed}
 use Rattle.plain_buffer.specs.Rows.{slot_of_row, size_of_row, sent_of, kept_of}
-use Rattle.plain_buffer.specs.Plain.{window_of, IsPlain}
+use Rattle.plain_buffer.specs.Plain.{plain_window, IsPlain}
 use Rattle.buffer_core.proofs.WindowLaws.{to_drop_fits, to_drop_within, slot_cover}
 use Rattle.plain_buffer.proofs.Kept.{to_drop-kept_of, drop-kept_of, kept_of-push}
 use Rattle.plain_buffer.proofs.Room.{whole_is}
@@ -44,13 +44,13 @@ freed_at rows size slot h =
       sizes = sum_by-take-drop size_of_row rows gone;
     }
 
-pub gone_rows : (b : Inside) (w : Window) (h : Header) (body : List ℕ) (gone : ℕ) → window_of b ≡ w → IsPlain b → gone ≡ gone_of w (event_of h body)
+pub gone_rows : (b : Inside) (w : Window) (h : Header) (body : List ℕ) (gone : ℕ) → plain_window b ≡ w → IsPlain b → gone ≡ gone_of w (event_of h body)
     → gone ≡ to_drop slot_of_row b.size (slot_of_length (length body)) b.rows.items
 gone_rows b w h body gone view plain e =
     subst (λ (x : Window). gone ≡ gone_of x (event_of h body)) (sym view) e
     ∙ to_drop-kept_of b.size (slot_of_length (length body)) b.rows.items b.bytes.items (whole_is b plain)
 
-pub freed : (b : Inside) (w : Window) (h : Header) (body : List ℕ) (gone : ℕ) → window_of b ≡ w → IsPlain b → gone ≡ gone_of w (event_of h body)
+pub freed : (b : Inside) (w : Window) (h : Header) (body : List ℕ) (gone : ℕ) → plain_window b ≡ w → IsPlain b → gone ≡ gone_of w (event_of h body)
     → slot_of_length (length body) ≤ w.size → IsFreed b.rows.items gone b.size (slot_of_length (length body))
 freed b w h body gone view plain e fits =
     let here : slot_of_length (length body) ≤ b.size = subst (λ (x : Window). slot_of_length (length body) ≤ x.size) (sym view) fits in
@@ -95,14 +95,14 @@ admitted b gone slot kept clients =
     record { size = b.size; first = b.first + gone; kept = kept; clients = clients; gate = b.gate; last = b.last; total = b.total + slot }
 
 -- the window is the one after the send
-pub window_admitted : (b : Inside) (w : Window) (h : Header) (body : List ℕ) (gone slot start : ℕ) (kept : List Sent) (clients : List (Option Client)) → window_of b ≡ w
+pub window_admitted : (b : Inside) (w : Window) (h : Header) (body : List ℕ) (gone slot start : ℕ) (kept : List Sent) (clients : List (Option Client)) → plain_window b ≡ w
     → gone ≡ gone_of w (event_of h body) → slot ≡ slot_of_length (length body)
     → kept ≡ drop gone (kept_of b.rows.items b.bytes.items) ++ record { event = event_of h body; start = start } ∷ []
     → clients ≡ change_all (pushed (b.first + gone)) b.clients
     → admitted b gone slot kept clients ≡ after_send w start (event_of h body)
 window_admitted b w h body gone slot start kept clients view is_gone is_slot is_kept is_clients =
     let e = event_of h body in
-    let here : gone ≡ gone_of (window_of b) e = subst (λ (x : Window). gone ≡ gone_of x e) (sym view) is_gone in
+    let here : gone ≡ gone_of (plain_window b) e = subst (λ (x : Window). gone ≡ gone_of x e) (sym view) is_gone in
     subst (λ (x : Window). admitted b gone slot kept clients ≡ after_send x start e) view
     (ap (λ (ss : List Sent). admitted b gone slot ss clients) is_kept
     ∙ (ap (admitted b gone slot (drop gone (kept_of b.rows.items b.bytes.items) ++ record { event = e; start = start } ∷ [])) is_clients

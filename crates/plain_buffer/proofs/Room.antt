@@ -8,7 +8,7 @@ use Rattle.plain_buffer.specs.declared.rows.Row.{Row}
 use Rattle.buffer_core.specs.Window.{Window, accepted_of}
 use Rattle.buffer_core.specs.Calls.{send_reply, full_reply, gone_of, to_drop, owed_in}
 use Rattle.plain_buffer.specs.Rows.{slot_of_row, size_of_row, kept_of, bare}
-use Rattle.plain_buffer.specs.Plain.{window_of, IsPlain}
+use Rattle.plain_buffer.specs.Plain.{plain_window, IsPlain}
 use Rattle.buffer_core.proofs.WindowLaws.{IsSendable, room_reply_is}
 use Rattle.plain_buffer.proofs.Kept.{to_drop-kept_of, take-kept_of, owed_in-kept_of}
 
@@ -29,7 +29,7 @@ pub record IsTested (b : Inside) (h : Header) (body : List ℕ) (slot size : ℕ
 slot_right : (b : Inside) (h : Header) (body : List ℕ) (slot size : ℕ) → IsTested b h body slot size → slot ≡ slot_of_length (length body)
 slot_right b h body slot size tested = tested.slot_is ∙ ap slot_of_length tested.stated
 
-sendable : (b : Inside) (h : Header) (body : List ℕ) (slot size : ℕ) → IsTested b h body slot size → IsSendable (window_of b) h.data_size (event_of h body)
+sendable : (b : Inside) (h : Header) (body : List ℕ) (slot size : ℕ) → IsTested b h body slot size → IsSendable (plain_window b) h.data_size (event_of h body)
 sendable b h body slot size tested =
     let right : slot ≡ slot_of_length (length body) = slot_right b h body slot size tested in
     record {
@@ -39,12 +39,12 @@ sendable b h body slot size tested =
       fits = omega (arith, right, tested.size_is, tested.fits);
     }
 
-unspent : (b : Inside) (h : Header) (body : List ℕ) (slot size : ℕ) → IsTested b h body slot size → (window_of b).total + slot_size (event_of h body) ≤ 2 ^ 62
+unspent : (b : Inside) (h : Header) (body : List ℕ) (slot size : ℕ) → IsTested b h body slot size → (plain_window b).total + slot_size (event_of h body) ≤ 2 ^ 62
 unspent b h body slot size tested = omega (arith, slot_right b h body slot size tested, tested.unspent)
 
 -- so many events have to go for this one
 pub gone_is : (b : Inside) (h : Header) (body : List ℕ) (gone slot size : ℕ) → IsPlain b → IsTested b h body slot size
-    → gone ≡ to_drop slot_of_row size slot b.rows.items → gone ≡ gone_of (window_of b) (event_of h body)
+    → gone ≡ to_drop slot_of_row size slot b.rows.items → gone ≡ gone_of (plain_window b) (event_of h body)
 gone_is b h body gone slot size plain tested counted =
     counted
     ∙ (ap (λ (n : ℕ). to_drop slot_of_row n slot b.rows.items) tested.size_is
@@ -60,12 +60,12 @@ owed_is b gone front is_front =
     ∙ ap (λ (rows : List Row). owed_in b.clients b.first (bare rows)) (sym is_front))
 
 -- the reply, where nothing but room is in question
-pub room_is : (b : Inside) (w : Window) (h : Header) (body : List ℕ) (gone slot size : ℕ) (front : List Row) (owed : Option (ℕ × ℕ)) → window_of b ≡ w → IsPlain b
+pub room_is : (b : Inside) (w : Window) (h : Header) (body : List ℕ) (gone slot size : ℕ) (front : List Row) (owed : Option (ℕ × ℕ)) → plain_window b ≡ w → IsPlain b
     → IsTested b h body slot size
     → gone ≡ to_drop slot_of_row size slot b.rows.items → front ≡ take gone b.rows.items → owed_in b.clients b.first (bare front) ≡ owed
     → send_reply w h.data_size (event_of h body) ≡ full_reply owed (accepted_of w)
 room_is b w h body gone slot size front owed view plain tested counted is_front is_owed =
-    let found : Window = window_of b in
+    let found : Window = plain_window b in
     let goes : gone ≡ gone_of found (event_of h body) = gone_is b h body gone slot size plain tested counted in
     let here : send_reply found h.data_size (event_of h body) ≡ full_reply owed (accepted_of found) =
     room_reply_is found h.data_size (event_of h body) (sendable b h body slot size tested) (unspent b h body slot size tested)

@@ -18,7 +18,7 @@ use Rattle.buffer_core.proofs.WindowKept.{window_opens, window_stays}
 use Rattle.plain_buffer.specs.declared.rows.Row.{Row}
 use Rattle.plain_buffer.specs.declared.plain.PlainBuffer.TheInside.{Inside}
 use Rattle.plain_buffer.specs.Rows.{kept_of}
-use Rattle.plain_buffer.specs.Plain.{window_of, IsPlain}
+use Rattle.plain_buffer.specs.Plain.{plain_window, IsPlain}
 
 -- a new buffer
 pub window_new : (size : ℕ) (rows : List Row) (bytes : List ℕ) (clients : List (Option Client)) → rows ≡ [] → clients ≡ no_clients
@@ -28,7 +28,7 @@ window_new size rows bytes clients no_rows free =
     (subst (λ (cs : List (Option Client)). IsWindow (record { size = size; first = 0; kept = []; clients = cs; gate = Shut; last = 0; total = 0 })) (sym free) (window_opens size))
 
 -- other clients, or another gate
-pub plain_clients : (b : Inside) (clients : List (Option Client)) → IsPlain b → IsWindow (with_clients (window_of b) clients) → IsPlain (record b { clients = clients })
+pub plain_clients : (b : Inside) (clients : List (Option Client)) → IsPlain b → IsWindow (with_clients (plain_window b) clients) → IsPlain (record b { clients = clients })
 plain_clients b clients is window =
     record {
       kept = window;
@@ -43,7 +43,7 @@ plain_clients b clients is window =
       bytes_room = is.bytes_room;
     }
 
-pub plain_gate : (b : Inside) (gate : RunGate) (last : ℕ) → IsPlain b → IsWindow (with_gate (window_of b) gate last) → IsPlain (record b { gate = gate; last = last })
+pub plain_gate : (b : Inside) (gate : RunGate) (last : ℕ) → IsPlain b → IsWindow (with_gate (plain_window b) gate last) → IsPlain (record b { gate = gate; last = last })
 plain_gate b gate last is window =
     record {
       kept = window;

@@ -4,12 +4,12 @@ use Rattle.plain_buffer.specs.declared.plain.PlainBuffer.TheInside.{Inside}
 use Rattle.buffer_core.specs.Window.{Window, IsWindow}
 use Rattle.plain_buffer.specs.Rows.{slot_of_row, size_of_row, AreSmall, kept_of}
 
-abbrev pub window_of : Inside → Window
-window_of b = record { size = b.size; first = b.first; kept = kept_of b.rows.items b.bytes.items; clients = b.clients; gate = b.gate; last = b.last; total = b.total }
+abbrev pub plain_window : Inside → Window
+plain_window b = record { size = b.size; first = b.first; kept = kept_of b.rows.items b.bytes.items; clients = b.clients; gate = b.gate; last = b.last; total = b.total }
 
 -- what every plain buffer keeps
 pub record IsPlain (b : Inside) : Type 0 where
-  pub kept : IsWindow (window_of b)
+  pub kept : IsWindow (plain_window b)
   pub whole : sum_by size_of_row b.rows.items ≡ length b.bytes.items
   pub counted : b.level ≡ sum_by slot_of_row b.rows.items
   pub small : AreSmall b.rows.items

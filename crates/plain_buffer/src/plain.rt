@@ -35,9 +35,9 @@ impl Model for PlainBuffer {
 
     ghost Value = { Window };
 
-    ghost use Rattle.plain_buffer.specs.Plain.{window_of, IsPlain};
+    ghost use Rattle.plain_buffer.specs.Plain.{plain_window, IsPlain};
 
-    ghost view = { window_of };
+    ghost view = { plain_window };
 
     ghost invariant = { IsPlain };
 }

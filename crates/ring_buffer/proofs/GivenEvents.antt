@@ -23,7 +23,7 @@ use Rattle.ring_buffer.specs.declared.ring_buffer.RingBuffer.TheInside.{Inside}
 use Rattle.ring_buffer.specs.declared.walk.Position.{Position}
 use Rattle.ring_buffer.specs.declared.walk.Found.{Found}
 use Rattle.ring_buffer.specs.RingHolds.{HoldsEvents}
-use Rattle.ring_buffer.specs.Stored.{event_at, events_at, FitsSlot, AllFit}
+use Rattle.ring_buffer.specs.Stored.{ring_event_at, ring_events_at, FitsSlot, AllFit}
 use Rattle.ring_buffer.specs.RingViews.{window_of, IsAtOffset, IsRingBuffer}
 use Rattle.ring_buffer.specs.Walks.{between, IsWalk, IsFoundFor, FindsNothing}
 use Rattle.ring_buffer.proofs.Walking.{at, IsNext, next_is}
@@ -102,7 +102,7 @@ walk_of b client p is lives =
     let holds : HoldsEvents b.ring p.off rest = subst (λ (o : ℕ). HoldsEvents b.ring o (drop k kept)) rest_off (holds_drop b.ring k b.off kept old) in
     let fits : AllFit rest = fit_drop k kept is.fit in
     let count : b.count - p.client.next ≡ length rest = omega (arith, length-drop k kept, length-events_at b.ring b.off (b.count - b.first), from, to) in
-    let rest_is : between b.ring (at p.off p.client.next) (at b.total b.count) ≡ rest = ap (λ (n : ℕ). events_at b.ring p.off n) count ∙ events_read b.ring p.off rest holds fits in
+    let rest_is : between b.ring (at p.off p.client.next) (at b.total b.count) ≡ rest = ap (λ (n : ℕ). ring_events_at b.ring p.off n) count ∙ events_read b.ring p.off rest holds fits in
     record {
       walk = record {
         order = to;
@@ -167,11 +167,11 @@ reader b client position is e =
 
 -- the event that was found for the client
 pub record IsGiven (b : Inside) (client : ℕ) (from : Position) (f : Found) : Type 0 where
-  pub fits : FitsSlot (event_at b.ring f.at.off)
-  pub found : (c : Client) → slot_at (clients_of b.clients) client ≡ Some c → found_in c b.first (window_of b).kept ≡ Some (f.at.place, event_at b.ring f.at.off)
-  pub size : f.front.header.data_size ≡ length (event_at b.ring f.at.off).event.body
-  pub whole : event_of f.front.header (bytes_at b.ring (f.at.off + 24) f.front.header.data_size) ≡ (event_at b.ring f.at.off).event
-  pub behind : f.at.off + slot_of_sent (event_at b.ring f.at.off) + sum_by slot_of_sent (drop (f.at.place + 1 - b.first) (window_of b).kept) ≡ b.total
+  pub fits : FitsSlot (ring_event_at b.ring f.at.off)
+  pub found : (c : Client) → slot_at (clients_of b.clients) client ≡ Some c → found_in c b.first (window_of b).kept ≡ Some (f.at.place, ring_event_at b.ring f.at.off)
+  pub size : f.front.header.data_size ≡ length (ring_event_at b.ring f.at.off).event.body
+  pub whole : event_of f.front.header (bytes_at b.ring (f.at.off + 24) f.front.header.data_size) ≡ (ring_event_at b.ring f.at.off).event
+  pub behind : f.at.off + slot_of_sent (ring_event_at b.ring f.at.off) + sum_by slot_of_sent (drop (f.at.place + 1 - b.first) (window_of b).kept) ≡ b.total
   pub later : from.place ≤ f.at.place
 
 same_client : (c d : Client) (o : Option Client) → o ≡ Some c → o ≡ Some d → c ≡ d
@@ -179,10 +179,10 @@ same_client c d o e f = cc
 
 pub given : (b : Inside) (client : ℕ) (from : Position) (f : Found) → IsReader b client from → IsFoundFor b.ring (clients_of b.clients) client from (at b.total b.count) f → IsGiven b client from f
 given b client from f r found =
-    let s : Sent = event_at b.ring f.at.off in
+    let s : Sent = ring_event_at b.ring f.at.off in
     let next : IsNext b.ring from f.at.off f.at.place (at b.total b.count) = next_is b.ring from f.at.off f.at.place (at b.total b.count) found.on_way found.early in
     let index : (from.place - b.first) + (f.at.place + 1 - from.place) ≡ f.at.place + 1 - b.first = omega (arith, r.first, found.on_way.later) in
-    let rest : between b.ring (at (f.at.off + slot_of_sent (event_at b.ring f.at.off)) (f.at.place + 1)) (at b.total b.count) ≡ drop (f.at.place + 1 - b.first) (window_of b).kept =
+    let rest : between b.ring (at (f.at.off + slot_of_sent (ring_event_at b.ring f.at.off)) (f.at.place + 1)) (at b.total b.count) ≡ drop (f.at.place + 1 - b.first) (window_of b).kept =
     next.on_way.rest
     ∙ (ap (λ (ss : List Sent). drop (f.at.place + 1 - from.place) ss) r.rest
     ∙ (drop-drop (f.at.place + 1 - from.place) (from.place - b.first) (window_of b).kept ∙ ap (λ (n : ℕ). drop n (window_of b).kept) index)) in
@@ -190,20 +190,20 @@ given b client from f r found =
       fits = next.fits;
       found = λ c lives.
           let own : c ≡ r.pointer.client = same_client c r.pointer.client _ lives (client_is b client r.pointer r.lives) in
-          subst (λ (d : Client). found_in d b.first (window_of b).kept ≡ Some (f.at.place, event_at b.ring f.at.off)) (sym own)
+          subst (λ (d : Client). found_in d b.first (window_of b).kept ≡ Some (f.at.place, ring_event_at b.ring f.at.off)) (sym own)
           (r.found ∙ found.found r.pointer.client (client_is b client r.pointer r.lives));
       size = ap (λ (h : Header). h.data_size) found.header;
       whole =
           ap (λ (h : Header). event_of h (bytes_at b.ring (f.at.off + 24) h.data_size)) found.header
-          ∙ ap (λ (bs : List ℕ). event_of (fields_of (event_at b.ring f.at.off).event) bs) next.holds.body;
-      behind = ap (λ (ss : List Sent). f.at.off + slot_of_sent (event_at b.ring f.at.off) + sum_by slot_of_sent ss) (sym rest) ∙ next.on_way.walk.level;
+          ∙ ap (λ (bs : List ℕ). event_of (fields_of (ring_event_at b.ring f.at.off).event) bs) next.holds.body;
+      behind = ap (λ (ss : List Sent). f.at.off + slot_of_sent (ring_event_at b.ring f.at.off) + sum_by slot_of_sent ss) (sym rest) ∙ next.on_way.walk.level;
       later = found.on_way.later;
     }
 
-pub got_reply : (b : Inside) (w : Window) (client room start : ℕ) (from : Position) (f : Found) → window_of b ≡ w → IsReader b client from → IsGiven b client from f → start ≡ (event_at b.ring f.at.off).start
+pub got_reply : (b : Inside) (w : Window) (client room start : ℕ) (from : Position) (f : Found) → window_of b ≡ w → IsReader b client from → IsGiven b client from f → start ≡ (ring_event_at b.ring f.at.off).start
     → f.front.header.data_size ≤ room → Got f.at.place start ≡ receive_reply_to w room (slot_at w.clients client)
 got_reply b w client room start from f view r g started fits =
-    let s : Sent = event_at b.ring f.at.off in
+    let s : Sent = ring_event_at b.ring f.at.off in
     let fit : nat_le (length s.event.body) room ≡ true = le-leb _ _ (omega (arith, g.size, fits)) in
     let here : receive_reply_to (window_of b) room (slot_at (clients_of b.clients) client) ≡ Got f.at.place s.start =
     ap (receive_reply_to (window_of b) room) (client_is b client r.pointer r.lives)
@@ -214,7 +214,7 @@ got_reply b w client room start from f view r g started fits =
 pub small_reply : (b : Inside) (w : Window) (client room : ℕ) (from : Position) (f : Found) → window_of b ≡ w → IsReader b client from → IsGiven b client from f → room < f.front.header.data_size
     → SmallBuf f.front.header.data_size ≡ receive_reply_to w room (slot_at w.clients client)
 small_reply b w client room from f view r g long =
-    let s : Sent = event_at b.ring f.at.off in
+    let s : Sent = ring_event_at b.ring f.at.off in
     let fit : nat_le (length s.event.body) room ≡ false = lt-leb _ _ (omega (arith, g.size, long)) in
     let here : receive_reply_to (window_of b) room (slot_at (clients_of b.clients) client) ≡ SmallBuf (length s.event.body) =
     ap (receive_reply_to (window_of b) room) (client_is b client r.pointer r.lives)
@@ -257,14 +257,14 @@ ring_moved b slots client off' place' is are placed window =
     n p (subst (λ (xs : List (Option Pointer)). slot_at xs n ≡ Some p) are e))
 
 -- the data fit the ring
-pub given_room : (b : Inside) (client : ℕ) (from : Position) (f : Found) → IsRingBuffer b → IsReader b client from → IsFoundFor b.ring (clients_of b.clients) client from (at b.total b.count) f → slot_of_sent (event_at b.ring f.at.off) ≤ length b.ring
+pub given_room : (b : Inside) (client : ℕ) (from : Position) (f : Found) → IsRingBuffer b → IsReader b client from → IsFoundFor b.ring (clients_of b.clients) client from (at b.total b.count) f → slot_of_sent (ring_event_at b.ring f.at.off) ≤ length b.ring
 given_room b client from f is r found =
     let kept : List Sent = (window_of b).kept in
     let j : ℕ = (from.place - b.first) + (f.at.place - from.place) in
     let next : IsNext b.ring from f.at.off f.at.place (at b.total b.count) = next_is b.ring from f.at.off f.at.place (at b.total b.count) found.on_way found.early in
-    let rest : List Sent = between b.ring (at (f.at.off + slot_of_sent (event_at b.ring f.at.off)) (f.at.place + 1)) (at b.total b.count) in
+    let rest : List Sent = between b.ring (at (f.at.off + slot_of_sent (ring_event_at b.ring f.at.off)) (f.at.place + 1)) (at b.total b.count) in
     let cut : between b.ring f.at (at b.total b.count) ≡ drop j kept =
     found.on_way.rest ∙ (ap (λ (ss : List Sent). drop (f.at.place - from.place) ss) r.rest ∙ drop-drop (f.at.place - from.place) (from.place - b.first) kept) in
-    let sum : sum_by slot_of_sent (drop j kept) ≡ slot_of_sent (event_at b.ring f.at.off) + sum_by slot_of_sent rest =
-    ap (λ (ss : List Sent). sum_by slot_of_sent ss) (sym cut ∙ next.first) ∙ sum_by-cons slot_of_sent (event_at b.ring f.at.off) rest in
+    let sum : sum_by slot_of_sent (drop j kept) ≡ slot_of_sent (ring_event_at b.ring f.at.off) + sum_by slot_of_sent rest =
+    ap (λ (ss : List Sent). sum_by slot_of_sent ss) (sym cut ∙ next.first) ∙ sum_by-cons slot_of_sent (ring_event_at b.ring f.at.off) rest in
     omega (arith, sum, sum_by-take-drop slot_of_sent kept j, is.window.fits)

@@ -10,13 +10,13 @@ use Rattle.client_pointers.specs.declared.pointer.Pointer.{Pointer}
 use Rattle.client_pointers.specs.Pointers.{no_pointers}
 use Rattle.ring_buffer.specs.declared.ring_buffer.RingBuffer.TheInside.{Inside}
 use Rattle.ring_buffer.specs.RingViews.{window_of, IsRingBuffer}
-use Rattle.ring_buffer.specs.Stored.{events_at}
+use Rattle.ring_buffer.specs.Stored.{ring_events_at}
 
 abbrev pub opened : (ring : List ℕ) → List (Option Pointer) → Inside
 opened ring slots = record { ring = ring; first = 0; off = 0; count = 0; total = 0; clients = slots; gate = Shut; last = 0 }
 
 pub opening_is : (ring : List ℕ) → window_of (opened ring no_pointers) ≡ opening (length ring)
-unfolding no_pointers no_clients events_at
+unfolding no_pointers no_clients ring_events_at
 opening_is ring = refl
 
 nobody : (n : ℕ) (p : Pointer) → slot_at no_pointers n ≡ Some p → ⊥
@@ -24,7 +24,7 @@ unfolding no_pointers
 nobody n p e = cc (slot_free {X = Pointer} 64 n, e)
 
 pub opened_is : (ring : List ℕ) → 256 ≤ length ring → IsRingBuffer (opened ring no_pointers)
-unfolding events_at
+unfolding ring_events_at
 opened_is ring least =
     record {
       window = subst IsWindow (sym (opening_is ring)) (window_opens (length ring));

@@ -23,32 +23,32 @@ use Rattle.client_pointers.specs.Pointers.{clients_of, raised, moved}
 use Rattle.client_pointers.proofs.PointerLaws.{clients_change_all, client_at}
 use Rattle.ring_buffer.specs.declared.ring_buffer.RingBuffer.TheInside.{Inside}
 use Rattle.ring_buffer.specs.RingHolds.{front_of, HoldsEvent, HoldsEvents}
-use Rattle.ring_buffer.specs.Stored.{event_at, events_at, event_in, length_in, FitsSlot, AllFit, IsHeader}
+use Rattle.ring_buffer.specs.Stored.{ring_event_at, ring_events_at, event_in, length_in, FitsSlot, AllFit, IsHeader}
 use Rattle.ring_buffer.specs.RingViews.{window_of, IsRingBuffer}
 use Rattle.ring_buffer.proofs.Fields.{event_back, length_back}
 
 -- What stands in a ring is read back.
 
-event_read : (ring : List ℕ) (off : ℕ) (s : Sent) → HoldsEvent ring off s → FitsSlot s → event_at ring off ≡ s
-unfolding event_at
+event_read : (ring : List ℕ) (off : ℕ) (s : Sent) → HoldsEvent ring off s → FitsSlot s → ring_event_at ring off ≡ s
+unfolding ring_event_at
 event_read ring off s holds fits =
     let size : length_in (bytes_at ring off 24) ≡ length s.event.body = ap length_in holds.front ∙ length_back s.start (fields_of s.event) (omega (arith, fits.small)) in
     ap (λ (n : ℕ). event_in (bytes_at ring off 24) (bytes_at ring (off + 24) n)) size
     ∙ (ap (λ (bs : List ℕ). event_in (bytes_at ring off 24) bs) holds.body
     ∙ (ap (λ (bs : List ℕ). event_in bs s.event.body) holds.front ∙ event_back s fits))
 
-pub events_read : (ring : List ℕ) (off : ℕ) (ss : List Sent) → HoldsEvents ring off ss → AllFit ss → events_at ring off (length ss) ≡ ss
-unfolding events_at
+pub events_read : (ring : List ℕ) (off : ℕ) (ss : List Sent) → HoldsEvents ring off ss → AllFit ss → ring_events_at ring off (length ss) ≡ ss
+unfolding ring_events_at
 events_read ring off [] holds fits = refl
 events_read ring off (s ∷ ss) holds fits =
-    let one : event_at ring off ≡ s = event_read ring off s holds.0 fits.0 in
-    ap (λ (x : Sent). x ∷ events_at ring (off + slot_of_sent x) (length ss)) one
+    let one : ring_event_at ring off ≡ s = event_read ring off s holds.0 fits.0 in
+    ap (λ (x : Sent). x ∷ ring_events_at ring (off + slot_of_sent x) (length ss)) one
     ∙ ap (λ (xs : List Sent). s ∷ xs) (events_read ring (off + slot_of_sent s) ss holds.1 fits.1)
 
-pub length-events_at : (ring : List ℕ) (off n : ℕ) → length (events_at ring off n) ≡ n
-unfolding events_at
+pub length-events_at : (ring : List ℕ) (off n : ℕ) → length (ring_events_at ring off n) ≡ n
+unfolding ring_events_at
 length-events_at ring off zero = refl
-length-events_at ring off (suc n) = ap (λ (k : ℕ). suc k) (length-events_at ring (off + slot_of_sent (event_at ring off)) n)
+length-events_at ring off (suc n) = ap (λ (k : ℕ). suc k) (length-events_at ring (off + slot_of_sent (ring_event_at ring off)) n)
 
 -- Parts of the kept events.
 
@@ -167,7 +167,7 @@ accepted_is b is = omega (arith, length-events_at b.ring b.off (b.count - b.firs
 
 -- what stands in the ring afterwards
 pub record Stands (b : Inside) (new : List ℕ) (off place start : ℕ) (e : Event) : Type 0 where
-  pub kept : events_at new off (b.count + 1 - place) ≡ (after_send (window_of b) start e).kept
+  pub kept : ring_events_at new off (b.count + 1 - place) ≡ (after_send (window_of b) start e).kept
   pub holds : HoldsEvents new off (after_send (window_of b) start e).kept
   pub fits : AllFit (after_send (window_of b) start e).kept
   pub sum : off + sum_by slot_of_sent (after_send (window_of b) start e).kept ≡ b.total + slot_size e
@@ -194,7 +194,7 @@ stands b once new off place start h body front is adm written front_is =
     let count : b.count + 1 - place ≡ length (rest ++ s ∷ []) =
     omega (arith, length_push rest s, length-drop gone kept, within, length-events_at b.ring b.off (b.count - b.first), is.order, adm.place) in
     record {
-      kept = ap (λ (n : ℕ). events_at new off n) count ∙ events_read new off (rest ++ s ∷ []) holds fits;
+      kept = ap (λ (n : ℕ). ring_events_at new off n) count ∙ events_read new off (rest ++ s ∷ []) holds fits;
       holds = holds;
       fits = fits;
       sum = omega (arith, sum_by_push slot_of_sent rest s, adm.level);
@@ -212,8 +212,8 @@ window_after_is b once new off place slot start h body front clients is adm writ
     ap clients_of clients_are
     ∙ (clients_change_all (raised off place) (pushed place) (pushed_is off place) b.clients
     ∙ ap (λ (n : ℕ). change_all (pushed n) (clients_of b.clients)) adm.place) in
-    ap (λ (n : ℕ). made n place (events_at new off (b.count + 1 - place)) (clients_of clients) (b.total + slot)) (written.long_on ∙ written.long)
-    ∙ (ap (λ (n : ℕ). made (length b.ring) n (events_at new off (b.count + 1 - place)) (clients_of clients) (b.total + slot)) adm.place
+    ap (λ (n : ℕ). made n place (ring_events_at new off (b.count + 1 - place)) (clients_of clients) (b.total + slot)) (written.long_on ∙ written.long)
+    ∙ (ap (λ (n : ℕ). made (length b.ring) n (ring_events_at new off (b.count + 1 - place)) (clients_of clients) (b.total + slot)) adm.place
     ∙ (ap (λ (ss : List Sent). made (length b.ring) w.first ss (clients_of clients) (b.total + slot)) there.kept
     ∙ (ap (λ (xs : List (Option Client)). made (length b.ring) w.first w.kept xs (b.total + slot)) cs
     ∙ ap (λ (n : ℕ). made (length b.ring) w.first w.kept w.clients (b.total + n)) slot_is)))

@@ -15,7 +15,7 @@ use Rattle.buffer_core.specs.Calls.{to_drop, owed_in, or_later, found_in}
 use Rattle.buffer_core.proofs.WindowLaws.{to_drop_none}
 use Rattle.ring_buffer.specs.declared.walk.Position.{Position}
 use Rattle.ring_buffer.specs.RingHolds.{HoldsEvent, HoldsEvents}
-use Rattle.ring_buffer.specs.Stored.{event_at, events_at, FitsSlot, AllFit}
+use Rattle.ring_buffer.specs.Stored.{ring_event_at, ring_events_at, FitsSlot, AllFit}
 use Rattle.ring_buffer.specs.Walks.{between, IsWalk, IsOnWay, to_go, in_the_way, IsWay}
 
 abbrev pub at : (off place : ℕ) → Position
@@ -23,34 +23,34 @@ at off place = record { off = off; place = place }
 
 -- the event at a position before the end, and the walk behind it
 pub record IsNext (ring : List ℕ) (from : Position) (off place : ℕ) (end : Position) : Type 0 where
-  pub holds : HoldsEvent ring off (event_at ring off)
-  pub fits : FitsSlot (event_at ring off)
-  pub first : between ring (at off place) end ≡ event_at ring off ∷ between ring (at (off + slot_of_sent (event_at ring off)) (place + 1)) end
-  pub on_way : IsOnWay ring from (at (off + slot_of_sent (event_at ring off)) (place + 1)) end
+  pub holds : HoldsEvent ring off (ring_event_at ring off)
+  pub fits : FitsSlot (ring_event_at ring off)
+  pub first : between ring (at off place) end ≡ ring_event_at ring off ∷ between ring (at (off + slot_of_sent (ring_event_at ring off)) (place + 1)) end
+  pub on_way : IsOnWay ring from (at (off + slot_of_sent (ring_event_at ring off)) (place + 1)) end
 
 next_by : (ring : List ℕ) (from : Position) (off place : ℕ) (end : Position) (n : ℕ) → IsOnWay ring from (at off place) end → end.place - place ≡ suc n → IsNext ring from off place end
-unfolding events_at
+unfolding ring_events_at
 next_by ring from off place end n on left =
-    let s : Sent = event_at ring off in
+    let s : Sent = ring_event_at ring off in
     let left_is : n ≡ end.place - (place + 1) = omega (arith, left) in
-    let rest : List Sent = events_at ring (off + slot_of_sent (event_at ring off)) n in
-    let rest_is : rest ≡ between ring (at (off + slot_of_sent (event_at ring off)) (place + 1)) end = ap (λ (k : ℕ). events_at ring (off + slot_of_sent (event_at ring off)) k) left_is in
-    let whole : between ring (at off place) end ≡ event_at ring off ∷ rest = ap (λ (k : ℕ). events_at ring off k) left in
-    let holds : HoldsEvents ring off (event_at ring off ∷ rest) = subst (λ (ss : List Sent). HoldsEvents ring off ss) whole on.walk.holds in
-    let fit : AllFit (event_at ring off ∷ rest) = subst AllFit whole on.walk.fit in
-    let sum : sum_by slot_of_sent (between ring (at off place) end) ≡ slot_of_sent (event_at ring off) + sum_by slot_of_sent rest =
-    ap (λ (ss : List Sent). sum_by slot_of_sent ss) whole ∙ sum_by-cons slot_of_sent (event_at ring off) rest in
-    let sum' : sum_by slot_of_sent rest ≡ sum_by slot_of_sent (between ring (at (off + slot_of_sent (event_at ring off)) (place + 1)) end) = ap (λ (ss : List Sent). sum_by slot_of_sent ss) rest_is in
+    let rest : List Sent = ring_events_at ring (off + slot_of_sent (ring_event_at ring off)) n in
+    let rest_is : rest ≡ between ring (at (off + slot_of_sent (ring_event_at ring off)) (place + 1)) end = ap (λ (k : ℕ). ring_events_at ring (off + slot_of_sent (ring_event_at ring off)) k) left_is in
+    let whole : between ring (at off place) end ≡ ring_event_at ring off ∷ rest = ap (λ (k : ℕ). ring_events_at ring off k) left in
+    let holds : HoldsEvents ring off (ring_event_at ring off ∷ rest) = subst (λ (ss : List Sent). HoldsEvents ring off ss) whole on.walk.holds in
+    let fit : AllFit (ring_event_at ring off ∷ rest) = subst AllFit whole on.walk.fit in
+    let sum : sum_by slot_of_sent (between ring (at off place) end) ≡ slot_of_sent (ring_event_at ring off) + sum_by slot_of_sent rest =
+    ap (λ (ss : List Sent). sum_by slot_of_sent ss) whole ∙ sum_by-cons slot_of_sent (ring_event_at ring off) rest in
+    let sum' : sum_by slot_of_sent rest ≡ sum_by slot_of_sent (between ring (at (off + slot_of_sent (ring_event_at ring off)) (place + 1)) end) = ap (λ (ss : List Sent). sum_by slot_of_sent ss) rest_is in
     let index : (place - from.place) + 1 ≡ place + 1 - from.place = omega (arith, on.later) in
     record {
       holds = holds.0;
       fits = fit.0;
-      first = whole ∙ ap (λ (ss : List Sent). event_at ring off ∷ ss) rest_is;
+      first = whole ∙ ap (λ (ss : List Sent). ring_event_at ring off ∷ ss) rest_is;
       on_way = record {
         later = omega (arith, on.later);
         walk = record {
           order = omega (arith, left);
-          holds = subst (λ (ss : List Sent). HoldsEvents ring (off + slot_of_sent (event_at ring off)) ss) rest_is holds.1;
+          holds = subst (λ (ss : List Sent). HoldsEvents ring (off + slot_of_sent (ring_event_at ring off)) ss) rest_is holds.1;
           fit = subst AllFit rest_is fit.1;
           level = omega (arith, sum, sum', on.walk.level);
         };
@@ -66,8 +66,8 @@ next_is ring from off place end on early = next_by ring from off place end (end.
 
 -- at the end there is nothing left
 pub end_is : (ring : List ℕ) (off place : ℕ) (end : Position) → end.place ≤ place → between ring (at off place) end ≡ []
-unfolding events_at
-end_is ring off place end late = ap (λ (k : ℕ). events_at ring off k) (let none : end.place - place ≡ 0 = omega (arith, late) in none)
+unfolding ring_events_at
+end_is ring off place end late = ap (λ (k : ℕ). ring_events_at ring off k) (let none : end.place - place ≡ 0 = omega (arith, late) in none)
 
 pub begins : (ring : List ℕ) (from end : Position) → IsWalk ring from end → IsOnWay ring from (at from.off from.place) end
 begins ring from end walk =
@@ -112,48 +112,48 @@ owed_now place h s clients r same is =
 
 -- the event in front has to go
 goes : (ring : List ℕ) (from : Position) (off place : ℕ) (end : Position) (slot : ℕ) → IsOnWay ring from (at off place) end → IsNext ring from off place end → length ring < end.off - off + slot
-    → to_go ring (at off place) end slot ≡ suc (to_go ring (at (off + slot_of_sent (event_at ring off)) (place + 1)) end slot)
+    → to_go ring (at off place) end slot ≡ suc (to_go ring (at (off + slot_of_sent (ring_event_at ring off)) (place + 1)) end slot)
 goes ring from off place end slot on next full =
-    let rest : List Sent = between ring (at (off + slot_of_sent (event_at ring off)) (place + 1)) end in
-    let sum : sum_by slot_of_sent (between ring (at off place) end) ≡ sum_by slot_of_sent (event_at ring off ∷ rest) = ap (λ (ss : List Sent). sum_by slot_of_sent ss) next.first in
-    let not_yet : nat_le (sum_by slot_of_sent (event_at ring off ∷ rest) + slot) (length ring) ≡ false = lt-leb _ _ (omega (arith, sum, on.walk.level, full)) in
+    let rest : List Sent = between ring (at (off + slot_of_sent (ring_event_at ring off)) (place + 1)) end in
+    let sum : sum_by slot_of_sent (between ring (at off place) end) ≡ sum_by slot_of_sent (ring_event_at ring off ∷ rest) = ap (λ (ss : List Sent). sum_by slot_of_sent ss) next.first in
+    let not_yet : nat_le (sum_by slot_of_sent (ring_event_at ring off ∷ rest) + slot) (length ring) ≡ false = lt-leb _ _ (omega (arith, sum, on.walk.level, full)) in
     ap (λ (ss : List Sent). to_drop slot_of_sent (length ring) slot ss) next.first
     ∙ ap (λ (b : Bool). if b then 0 else suc (to_drop slot_of_sent (length ring) slot rest)) not_yet
 
 way_at : (ring : List ℕ) (clients : List (Option Client)) (from : Position) (off place : ℕ) (end : Position) (slot : ℕ) → IsOnWay ring from (at off place) end → IsNext ring from off place end → length ring < end.off - off + slot
     → in_the_way ring clients (at off place) end slot
-    ≡ or_later (first_slot (owes place (event_at ring off).event) clients) place (in_the_way ring clients (at (off + slot_of_sent (event_at ring off)) (place + 1)) end slot)
+    ≡ or_later (first_slot (owes place (ring_event_at ring off).event) clients) place (in_the_way ring clients (at (off + slot_of_sent (ring_event_at ring off)) (place + 1)) end slot)
 way_at ring clients from off place end slot on next full =
-    let rest : List Sent = between ring (at (off + slot_of_sent (event_at ring off)) (place + 1)) end in
-    let k : ℕ = to_go ring (at (off + slot_of_sent (event_at ring off)) (place + 1)) end slot in
+    let rest : List Sent = between ring (at (off + slot_of_sent (ring_event_at ring off)) (place + 1)) end in
+    let k : ℕ = to_go ring (at (off + slot_of_sent (ring_event_at ring off)) (place + 1)) end slot in
     let one : suc place ≡ place + 1 = omega arith in
     ap (λ (n : ℕ). owed_in clients place (take n (between ring (at off place) end))) (goes ring from off place end slot on next full)
     ∙ (ap (λ (ss : List Sent). owed_in clients place (take (suc k) ss)) next.first
-    ∙ ap (λ (n : ℕ). or_later (first_slot (owes place (event_at ring off).event) clients) place (owed_in clients n (take k rest))) one)
+    ∙ ap (λ (n : ℕ). or_later (first_slot (owes place (ring_event_at ring off).event) clients) place (owed_in clients n (take k rest))) one)
 
 pub walk_next : (ring : List ℕ) (clients : List (Option Client)) (from : Position) (off place : ℕ) (end : Position) (slot before steps steps' off' : ℕ) → IsWalked ring clients from off place end slot before steps → place < end.place
-    → length ring < end.off - off + slot → first_slot (owes place (event_at ring off).event) clients ≡ None → steps' ≡ steps + 1 → off' ≡ off + slot_of_sent (event_at ring off)
+    → length ring < end.off - off + slot → first_slot (owes place (ring_event_at ring off).event) clients ≡ None → steps' ≡ steps + 1 → off' ≡ off + slot_of_sent (ring_event_at ring off)
     → IsWalked ring clients from off' (place + 1) end slot before steps'
 walk_next ring clients from off place end slot before steps steps' off' walked early full none stepped moved =
     let next : IsNext ring from off place end = next_is ring from off place end walked.on_way early in
-    let here : IsWalked ring clients from (off + slot_of_sent (event_at ring off)) (place + 1) end slot before steps' =
+    let here : IsWalked ring clients from (off + slot_of_sent (ring_event_at ring off)) (place + 1) end slot before steps' =
     record {
       on_way = next.on_way;
       gone = omega (arith, walked.gone, goes ring from off place end slot walked.on_way next full, walked.on_way.later);
       owed =
           walked.owed
           ∙ (way_at ring clients from off place end slot walked.on_way next full
-          ∙ ap (λ (o : Option ℕ). or_later o place (in_the_way ring clients (at (off + slot_of_sent (event_at ring off)) (place + 1)) end slot)) none);
+          ∙ ap (λ (o : Option ℕ). or_later o place (in_the_way ring clients (at (off + slot_of_sent (ring_event_at ring off)) (place + 1)) end slot)) none);
       steps_are = omega (arith, walked.steps_are, stepped, walked.on_way.later);
     } in
     subst (λ (o : ℕ). IsWalked ring clients from o (place + 1) end slot before steps') (sym moved) here
 
 pub walk_blocked : (ring : List ℕ) (clients : List (Option Client)) (from : Position) (off place : ℕ) (end : Position) (slot before steps client : ℕ) → IsWalked ring clients from off place end slot before steps → place < end.place
-    → length ring < end.off - off + slot → first_slot (owes place (event_at ring off).event) clients ≡ Some client → in_the_way ring clients from end slot ≡ Some (client, place)
+    → length ring < end.off - off + slot → first_slot (owes place (ring_event_at ring off).event) clients ≡ Some client → in_the_way ring clients from end slot ≡ Some (client, place)
 walk_blocked ring clients from off place end slot before steps client walked early full owed =
     walked.owed
     ∙ (way_at ring clients from off place end slot walked.on_way (next_is ring from off place end walked.on_way early) full
-    ∙ ap (λ (o : Option ℕ). or_later o place (in_the_way ring clients (at (off + slot_of_sent (event_at ring off)) (place + 1)) end slot)) owed)
+    ∙ ap (λ (o : Option ℕ). or_later o place (in_the_way ring clients (at (off + slot_of_sent (ring_event_at ring off)) (place + 1)) end slot)) owed)
 
 pub walk_ends : (ring : List ℕ) (clients : List (Option Client)) (from : Position) (off place : ℕ) (end : Position) (slot before steps : ℕ) → IsWalked ring clients from off place end slot before steps
     → end.off - off + slot ≤ length ring → IsWay ring clients from (at off place) end slot
@@ -196,34 +196,34 @@ pub small_front : (h : Header) (s : Sent) → h ≡ fields_of s.event → FitsSl
 small_front h s same fits = omega (arith, ap (λ (k : Header). k.data_size) same, fits.small)
 
 found_at : (ring : List ℕ) (from : Position) (off place : ℕ) (end : Position) (c : Client) → IsNext ring from off place end
-    → found_in c place (between ring (at off place) end) ≡ (if wants place (event_at ring off).event c then Some (place, event_at ring off) else found_in c (place + 1) (between ring (at (off + slot_of_sent (event_at ring off)) (place + 1)) end))
+    → found_in c place (between ring (at off place) end) ≡ (if wants place (ring_event_at ring off).event c then Some (place, ring_event_at ring off) else found_in c (place + 1) (between ring (at (off + slot_of_sent (ring_event_at ring off)) (place + 1)) end))
 found_at ring from off place end c next =
     let one : suc place ≡ place + 1 = omega arith in
     ap (λ (ss : List Sent). found_in c place ss) next.first
-    ∙ ap (λ (n : ℕ). if wants place (event_at ring off).event c then Some (place, event_at ring off) else found_in c n (between ring (at (off + slot_of_sent (event_at ring off)) (place + 1)) end)) one
+    ∙ ap (λ (n : ℕ). if wants place (ring_event_at ring off).event c then Some (place, ring_event_at ring off) else found_in c n (between ring (at (off + slot_of_sent (ring_event_at ring off)) (place + 1)) end)) one
 
 pub sought_next : (ring : List ℕ) (clients : List (Option Client)) (client : ℕ) (from : Position) (off place : ℕ) (end : Position) (before steps steps' off' : ℕ) → IsSought ring clients client from off place end before steps → place < end.place
-    → ((c : Client) → slot_at clients client ≡ Some c → wants place (event_at ring off).event c ≡ false) → steps' ≡ steps + 1 → off' ≡ off + slot_of_sent (event_at ring off)
+    → ((c : Client) → slot_at clients client ≡ Some c → wants place (ring_event_at ring off).event c ≡ false) → steps' ≡ steps + 1 → off' ≡ off + slot_of_sent (ring_event_at ring off)
     → IsSought ring clients client from off' (place + 1) end before steps'
 sought_next ring clients client from off place end before steps steps' off' sought early unwanted stepped moved =
     let next : IsNext ring from off place end = next_is ring from off place end sought.on_way early in
-    let here : IsSought ring clients client from (off + slot_of_sent (event_at ring off)) (place + 1) end before steps' =
+    let here : IsSought ring clients client from (off + slot_of_sent (ring_event_at ring off)) (place + 1) end before steps' =
     record {
       on_way = next.on_way;
       found = λ c lives.
           sought.found c lives
           ∙ (found_at ring from off place end c next
-          ∙ ap (λ (b : Bool). if b then Some (place, event_at ring off) else found_in c (place + 1) (between ring (at (off + slot_of_sent (event_at ring off)) (place + 1)) end)) (unwanted c lives));
+          ∙ ap (λ (b : Bool). if b then Some (place, ring_event_at ring off) else found_in c (place + 1) (between ring (at (off + slot_of_sent (ring_event_at ring off)) (place + 1)) end)) (unwanted c lives));
       steps_are = omega (arith, sought.steps_are, stepped, sought.on_way.later);
     } in
     subst (λ (o : ℕ). IsSought ring clients client from o (place + 1) end before steps') (sym moved) here
 
 pub sought_found : (ring : List ℕ) (clients : List (Option Client)) (client : ℕ) (from : Position) (off place : ℕ) (end : Position) (before steps : ℕ) → IsSought ring clients client from off place end before steps → place < end.place
-    → (c : Client) → slot_at clients client ≡ Some c → wants place (event_at ring off).event c ≡ true → found_in c from.place (between ring from end) ≡ Some (place, event_at ring off)
+    → (c : Client) → slot_at clients client ≡ Some c → wants place (ring_event_at ring off).event c ≡ true → found_in c from.place (between ring from end) ≡ Some (place, ring_event_at ring off)
 sought_found ring clients client from off place end before steps sought early c lives wanted =
     sought.found c lives
     ∙ (found_at ring from off place end c (next_is ring from off place end sought.on_way early)
-    ∙ ap (λ (b : Bool). if b then Some (place, event_at ring off) else found_in c (place + 1) (between ring (at (off + slot_of_sent (event_at ring off)) (place + 1)) end)) wanted)
+    ∙ ap (λ (b : Bool). if b then Some (place, ring_event_at ring off) else found_in c (place + 1) (between ring (at (off + slot_of_sent (ring_event_at ring off)) (place + 1)) end)) wanted)
 
 pub sought_nothing : (ring : List ℕ) (clients : List (Option Client)) (client : ℕ) (from : Position) (off place : ℕ) (end : Position) (before steps : ℕ) → IsSought ring clients client from off place end before steps → end.place ≤ place
     → (c : Client) → slot_at clients client ≡ Some c → found_in c from.place (between ring from end) ≡ None

@@ -6,14 +6,14 @@ use Rattle.client_pointers.specs.declared.pointer.Pointer.{Pointer}
 use Rattle.client_pointers.specs.Pointers.{clients_of}
 use Rattle.ring_buffer.specs.declared.ring_buffer.RingBuffer.TheInside.{Inside}
 use Rattle.ring_buffer.specs.RingHolds.{RingHolds}
-use Rattle.ring_buffer.specs.Stored.{events_at, AllFit}
+use Rattle.ring_buffer.specs.Stored.{ring_events_at, AllFit}
 
 -- the window: its kept events are those that stand in the ring
 abbrev pub window_of : Inside → Window
 window_of b = record {
   size = length b.ring;
   first = b.first;
-  kept = events_at b.ring b.off (b.count - b.first);
+  kept = ring_events_at b.ring b.off (b.count - b.first);
   clients = clients_of b.clients;
   gate = b.gate;
   last = b.last;

@@ -25,13 +25,13 @@ unfoldable pub length_in : (front : List ℕ) → ℕ
 length_in front = from_le_bytes w32 (take 4 (drop 4 front))
 
 -- the event from this offset on
-unfoldable pub event_at : (ring : List ℕ) (off : ℕ) → Sent
-event_at ring off = event_in (bytes_at ring off front_bytes) (bytes_at ring (off + front_bytes) (length_in (bytes_at ring off front_bytes)))
+unfoldable pub ring_event_at : (ring : List ℕ) (off : ℕ) → Sent
+ring_event_at ring off = event_in (bytes_at ring off front_bytes) (bytes_at ring (off + front_bytes) (length_in (bytes_at ring off front_bytes)))
 
 -- so many events from this offset on
-unfoldable pub events_at : (ring : List ℕ) (off count : ℕ) → List Sent
-events_at ring off zero = []
-events_at ring off (suc count) = event_at ring off ∷ events_at ring (off + slot_of_sent (event_at ring off)) count
+unfoldable pub ring_events_at : (ring : List ℕ) (off count : ℕ) → List Sent
+ring_events_at ring off zero = []
+ring_events_at ring off (suc count) = ring_event_at ring off ∷ ring_events_at ring (off + slot_of_sent (ring_event_at ring off)) count
 
 -- the fields of an event fit where they stand
 pub record FitsSlot (s : Sent) : Type 0 where

@@ -8,11 +8,11 @@ use Rattle.buffer_core.specs.Calls.{to_drop, owed_in, found_in}
 use Rattle.ring_buffer.specs.declared.walk.Position.{Position}
 use Rattle.ring_buffer.specs.declared.walk.Found.{Found}
 use Rattle.ring_buffer.specs.RingHolds.{HoldsEvents}
-use Rattle.ring_buffer.specs.Stored.{event_at, events_at, AllFit}
+use Rattle.ring_buffer.specs.Stored.{ring_event_at, ring_events_at, AllFit}
 
 -- the events from one position up to the place of another
 abbrev pub between : (ring : List ℕ) → (from end : Position) → List Sent
-between ring from end = events_at ring from.off (end.place - from.place)
+between ring from end = ring_events_at ring from.off (end.place - from.place)
 
 -- from the first position on stand the events, up to the second
 pub record IsWalk (ring : List ℕ) (from end : Position) : Type 0 where
@@ -45,9 +45,9 @@ pub record IsWay (ring : List ℕ) (clients : List (Option Client)) (from at end
 pub record IsFoundFor (ring : List ℕ) (clients : List (Option Client)) (client : ℕ) (from end : Position) (f : Found) : Type 0 where
   pub on_way : IsOnWay ring from f.at end
   pub early : f.at.place < end.place
-  pub start : f.front.start ≡ (event_at ring f.at.off).start
-  pub header : f.front.header ≡ fields_of (event_at ring f.at.off).event
-  pub found : (c : Client) → slot_at clients client ≡ Some c → found_in c from.place (between ring from end) ≡ Some (f.at.place, event_at ring f.at.off)
+  pub start : f.front.start ≡ (ring_event_at ring f.at.off).start
+  pub header : f.front.header ≡ fields_of (ring_event_at ring f.at.off).event
+  pub found : (c : Client) → slot_at clients client ≡ Some c → found_in c from.place (between ring from end) ≡ Some (f.at.place, ring_event_at ring f.at.off)
 
 abbrev pub FindsNothing : (ring : List ℕ) → List (Option Client) → (client : ℕ) → (from end : Position) → Type 0
 FindsNothing ring clients client from end = (c : Client) → slot_at clients client ≡ Some c → found_in c from.place (between ring from end) ≡ None

@@ -3,8 +3,8 @@ use Rattle.std.specs.Prelude.{ℕ, ◌≤◌, List, length}
 use Rattle.ring_bytes.specs.declared.ring.Ring.TheInside.{Inside}
 use Rattle.ring_bytes.specs.Rings.{most_bytes}
 
-abbrev pub bytes_of : Inside → List ℕ
-bytes_of r = r.bytes.items
+abbrev pub inside_bytes : Inside → List ℕ
+inside_bytes r = r.bytes.items
 
 pub record IsRing (r : Inside) : Type 0 where
   pub some : 1 ≤ length r.bytes.items

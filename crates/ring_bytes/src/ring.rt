@@ -17,9 +17,9 @@ impl Model for Ring {
 
     ghost Value = { List ℕ };
 
-    ghost use Rattle.ring_bytes.specs.Views.{bytes_of, IsRing};
+    ghost use Rattle.ring_bytes.specs.Views.{inside_bytes, IsRing};
 
-    ghost view = { bytes_of };
+    ghost view = { inside_bytes };
 
     ghost invariant = { IsRing };
 }

@@ -7,7 +7,8 @@ use Rattle.std.proofs.lemmas.Grind.{common_steps}
 use Rattle.std.proofs.lemmas.List.{length-replicate}
 use Rattle.std.proofs.lemmas.List.Elements.{All-append, All-replicate, All-nil, All-push}
 use Rattle.daq_types.specs.Names.{IsFileName, is_file_byte}
-use Rattle.run_recorder.specs.RunNames.{five_digits, run_name}
+use Rattle.run_recorder.specs.RunNames.{run_name}
+use Rattle.daq_types.specs.FileDigits.{five_digits}
 
 abbrev MayStand : ℕ → Type 0
 MayStand b = IsTrue (is_file_byte b)

@@ -23,7 +23,7 @@ use Rattle.session_console.specs.declared.records.RunRecord.{RunRecord}
 use Rattle.session_console.specs.declared.records.FrontTally.{FrontTally}
 use Rattle.session_console.specs.declared.records.FileRecord.{FileRecord}
 use Rattle.run_recorder.specs.BufferEntries.{front_caller, logger_caller, begin_entry, passed_entries, end_entry, PassesFirst}
-use Rattle.run_recorder.specs.RunRecords.{RunOn, completed_record, order_of, sent_in, file_of}
+use Rattle.run_recorder.specs.RunRecords.{RunOn, completed_record, order_of, number_sent, file_of}
 use Rattle.run_recorder.proofs.RunRecords.{generated_events-by}
 use Rattle.run_recorder.specs.RunHistories.{sent_by, wanted_of, events_of, segment_file, IsSegmentFile, is_marked, IsSentByFront, IsHeldRun}
 use Rattle.run_recorder.specs.RunsTold.{IsRead, IsFresh, IsOn, IsDone, TellsRun, IsTold, IsOnRun, IsEnded, IsStanding, KeepsTold, EndsTold, AddsOf, start_on}
@@ -210,10 +210,10 @@ held_by h count r (front ∷ fronts) same read told =
     let events : List Event = generated_events (order_of r) 1 0 front.sent in
     let held : IsHeld h r.start events = is_held h count r.start told.0.from events read told.0.done in
     let alone : r.fronts ≡ front ∷ [] = sym same ∙ ap (λ (xs : List FrontTally). front ∷ xs) told.1 in
-    let sent : sent_in r.fronts ≡ front.sent = ap sent_in alone in
-    let said : events_of (wanted_of h any any r.start) ≡ generated_events (order_of r) 1 0 (sent_in r.fronts) = held.wanted ∙ ap (λ (n : ℕ). generated_events (order_of r) 1 0 n) (sym sent) in
+    let sent : number_sent r.fronts ≡ front.sent = ap number_sent alone in
+    let said : events_of (wanted_of h any any r.start) ≡ generated_events (order_of r) 1 0 (number_sent r.fronts) = held.wanted ∙ ap (λ (n : ℕ). generated_events (order_of r) 1 0 n) (sym sent) in
     record {
-      marks = λ is. marked_by (begun_at (past_of h) r.start) (ended_at (past_of h) r.start) told.0.from (length events) (sent_in r.fronts) told.0.done.begun told.0.done.ended
+      marks = λ is. marked_by (begun_at (past_of h) r.start) (ended_at (past_of h) r.start) told.0.from (length events) (number_sent r.fronts) told.0.done.begun told.0.done.ended
           (length-generated_events (order_of r) 1 0 front.sent ∙ sym sent);
       fronts = subst (λ (xs : List FrontTally). All (IsSentByFront h r) xs) (sym alone) (All-cons (IsSentByFront h r) front [] (record {
         sent = ap (λ (n : ℕ). sent_by h (caller_of_client n) r.start) told.0.client ∙ held.sent;
@@ -222,7 +222,7 @@ held_by h count r (front ∷ fronts) same read told =
       got = λ k d less. held.got;
       file = λ k d less. ap (λ (es : List Event). run_file r.run r.time0 [] es r.time1 []) said;
       run_file = λ k d less. subst (λ (es : List Event). IsRunFile (run_file r.run r.time0 [] es r.time1 []) r.run r.time0 [] es r.time1 []) (sym said)
-          (generated_file (order_of r) r.run r.time0 r.time1 (sent_in r.fronts) (subst (λ (n : ℕ). n < 2 ^ 32) (sym sent) told.0.few));
+          (generated_file (order_of r) r.run r.time0 r.time1 (number_sent r.fronts) (subst (λ (n : ℕ). n < 2 ^ 32) (sym sent) told.0.few));
     }
 
 pub held_runs : (h : List (ℕ × BufferEntry)) (count last : ℕ) (runs : List RunRecord) → IsTold h count last runs → All (IsHeldRun h) runs

@@ -18,7 +18,7 @@ use Rattle.session_console.specs.declared.records.RunRecord.{RunRecord}
 use Rattle.session_console.specs.declared.records.FrontTally.{FrontTally}
 use Rattle.session_console.specs.declared.records.FileRecord.{FileRecord}
 use Rattle.run_recorder.specs.BufferRecords.{history_in}
-use Rattle.run_recorder.specs.RunRecords.{order_of, sent_in, file_of}
+use Rattle.run_recorder.specs.RunRecords.{order_of, number_sent, file_of}
 
 -- the event of an accepted send in the run with this start number
 abbrev pub sent_in_run : (start : ℕ) → BufferEntry → Option Event
@@ -69,7 +69,7 @@ is_marked (Some from) (Some to) sent = to == from + sent
 -- the front-ends sent; what the channel's client got, for each file; and that the file that the history says is the one
 -- that the record says, and a run file.
 pub record IsHeldRun (h : List (ℕ × BufferEntry)) (r : RunRecord) : Type 0 where
-  pub marks : r.outcome ≡ Completed → IsTrue (is_marked (begun_at (past_of h) r.start) (ended_at (past_of h) r.start) (sent_in r.fronts))
+  pub marks : r.outcome ≡ Completed → IsTrue (is_marked (begun_at (past_of h) r.start) (ended_at (past_of h) r.start) (number_sent r.fronts))
   pub fronts : All (IsSentByFront h r) r.fronts
   pub got : All (λ f. among (segment h r.start) (places_got h 0) ≡ places_of (wanted_of h any any r.start)) r.files
   pub file : All (λ f. segment_file h r ≡ file_of r) r.files

@@ -14,17 +14,17 @@ use Rattle.session_console.specs.declared.records.FileRecord.{FileRecord}
 use Rattle.run_recorder.specs.RunNames.{run_name}
 
 -- how many events the front-end sent
-abbrev pub sent_in : List FrontTally → ℕ
-sent_in [] = 0
-sent_in (front ∷ fronts) = front.sent
+abbrev pub number_sent : List FrontTally → ℕ
+number_sent [] = 0
+number_sent (front ∷ fronts) = front.sent
 
 -- what the members were told at the start of a recorded run, with the number of its events as the quota
 abbrev pub order_of : RunRecord → Order
-order_of r = record { run = r.run; start = r.start; time = r.time0; from = Stopped; quota = sent_in r.fronts }
+order_of r = record { run = r.run; start = r.start; time = r.time0; from = Stopped; quota = number_sent r.fronts }
 
 -- the file of a recorded run: the begin record, the events of the front-end FE with id 1 and mask 0, the end record
 abbrev pub file_of : RunRecord → List ℕ
-file_of r = run_file r.run r.time0 [] (generated_events (order_of r) 1 0 (sent_in r.fronts)) r.time1 []
+file_of r = run_file r.run r.time0 [] (generated_events (order_of r) 1 0 (number_sent r.fronts)) r.time1 []
 
 -- each file that the record names is there, whole and closed
 abbrev pub IsFiled : (List ℕ → Option Stored) → RunRecord → Type 0

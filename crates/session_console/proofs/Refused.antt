@@ -4,7 +4,7 @@ use Rattle.std.proofs.Common.{ap, ◌∙◌, sym, arith, length-append, ne_eqb}
 use Rattle.std.proofs.lemmas.List.{append-nil}
 use Rattle.session_console.specs.declared.replies.Reply.{Reply}
 use Rattle.session_console.specs.declared.refusals.Refusals.{Refusals}
-use Rattle.session_console.specs.Console.{is_refusal, refused_lines, line_if}
+use Rattle.session_console.specs.Console.{refuses_line, refused_lines, line_if}
 use Rattle.session_console.proofs.ConsoleLaws.{refused_lines-more}
 use Rattle.session_console.specs.Refused.{noted, Counts}
 
@@ -17,5 +17,5 @@ counts_more (x ∷ xs) refusals line counts true = record {
   first = let some : (refusals.count == 0) ≡ false = ne_eqb refusals.count 0 (omega (arith, counts.count)) in rw some counts.first;
 }
 
-pub counts_noted : (replies : List Reply) (reply : Reply) (refusals : Refusals) → Counts (refused_lines 1 replies) refusals → Counts (refused_lines 1 (replies ++ reply ∷ [])) (noted refusals (1 + length replies) (is_refusal reply))
-counts_noted replies reply refusals counts = rw (refused_lines-more 1 replies reply) (counts_more (refused_lines 1 replies) refusals (1 + length replies) counts (is_refusal reply))
+pub counts_noted : (replies : List Reply) (reply : Reply) (refusals : Refusals) → Counts (refused_lines 1 replies) refusals → Counts (refused_lines 1 (replies ++ reply ∷ [])) (noted refusals (1 + length replies) (refuses_line reply))
+counts_noted replies reply refusals counts = rw (refused_lines-more 1 replies reply) (counts_more (refused_lines 1 replies) refusals (1 + length replies) counts (refuses_line reply))

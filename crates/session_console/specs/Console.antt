@@ -67,15 +67,15 @@ console_text line [] = []
 console_text line (reply ∷ replies) = text_of line reply ++ console_text (line + 1) replies
 
 -- whether a reply refuses its line
-abbrev pub is_refusal : Reply → Bool
-is_refusal Silent = false
-is_refusal (BadCommand at) = true
-is_refusal (WrongState state) = true
-is_refusal (RunNumber have) = true
-is_refusal (StartRefused client why) = true
-is_refusal (Started run) = false
-is_refusal (run_stopped run front file) = false
-is_refusal (Database reply) = is_refused reply
+abbrev pub refuses_line : Reply → Bool
+refuses_line Silent = false
+refuses_line (BadCommand at) = true
+refuses_line (WrongState state) = true
+refuses_line (RunNumber have) = true
+refuses_line (StartRefused client why) = true
+refuses_line (Started run) = false
+refuses_line (run_stopped run front file) = false
+refuses_line (Database reply) = is_refused reply
 
 abbrev pub line_if : Bool → ℕ → List ℕ
 line_if true line = line ∷ []
@@ -84,7 +84,7 @@ line_if false line = []
 -- the numbers of the lines that were refused
 abbrev pub refused_lines : (line : ℕ) → List Reply → List ℕ
 refused_lines line [] = []
-refused_lines line (reply ∷ replies) = line_if (is_refusal reply) line ++ refused_lines (line + 1) replies
+refused_lines line (reply ∷ replies) = line_if (refuses_line reply) line ++ refused_lines (line + 1) replies
 
 -- the first of them; 0 where none was refused
 abbrev pub first_line : List ℕ → ℕ

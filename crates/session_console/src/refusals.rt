@@ -1,5 +1,5 @@
 ghost use Rattle.std.specs.Prelude.{◌≡◌, ◌<◌, ◌+◌, ◌^◌};
-ghost use Rattle.session_console.specs.Console.{is_refusal};
+ghost use Rattle.session_console.specs.Console.{refuses_line};
 ghost use Rattle.session_console.specs.Refused.{noted};
 
 use crate::replies::Reply;
@@ -16,7 +16,7 @@ pub struct Refusals {
 impl Reply {
     /// Whether the reply refuses its line.
     pub fn is_refusal(&self) -> bool
-        ensures { result ≡ is_refusal self.now }
+        ensures { result ≡ refuses_line self.now }
     {
         match self {
             Reply::BadCommand { .. }
@@ -36,7 +36,7 @@ impl Refusals {
     /// Notes the reply to the line of this number.
     pub fn note(&mut self, line: u64, reply: &Reply)
         requires { self.old.count + 1 < 2 ^ 64 }
-        ensures { self.new ≡ noted self.old line (is_refusal reply.now) }
+        ensures { self.new ≡ noted self.old line (refuses_line reply.now) }
     {
         if reply.is_refusal() {
             if self.count == 0 {

@@ -3,11 +3,11 @@ use Rattle.daq_types.specs.Tids.{tid_code}
 use Rattle.bank_format.specs.Spelled.{IsBytes}
 use Rattle.event_report.specs.declared.integers.IntegerType.{IntegerType}
 use Rattle.event_report.specs.declared.integers.IntegerType.TheVariants.{UInt8, Int8, UInt16, Int16, UInt32, Int32, Int64, UInt64}
-use Rattle.event_report.specs.Integers.{tid_of, integer_type}
+use Rattle.event_report.specs.Integers.{integer_tid, integer_type}
 use Rattle.event_report.specs.Tallies.{order_number}
 use Rattle.event_report.proofs.laws.one_number.Goals as goal
 
-code_small : (kind : IntegerType) → tid_code (tid_of kind) < 256
+code_small : (kind : IntegerType) → tid_code (integer_tid kind) < 256
 code_small UInt8 = omega arith
 code_small Int8 = omega arith
 code_small UInt16 = omega arith
@@ -17,7 +17,7 @@ code_small Int32 = omega arith
 code_small Int64 = omega arith
 code_small UInt64 = omega arith
 
-type_back : (kind : IntegerType) → integer_type (tid_code (tid_of kind)) ≡ Some kind
+type_back : (kind : IntegerType) → integer_type (tid_code (integer_tid kind)) ≡ Some kind
 type_back UInt8 = refl
 type_back Int8 = refl
 type_back UInt16 = refl
@@ -33,13 +33,13 @@ same_kind kind other e = cc
 same_name : (a b c d e f g h : ℕ) → a ≡ e → b ≡ f → c ≡ g → d ≡ h → a ∷ b ∷ c ∷ d ∷ [] ≡ e ∷ f ∷ g ∷ h ∷ []
 same_name a b c d e f g h p q r s = rw (p, q, r, s) refl
 
-number_of : (a b c d : ℕ) (kind : IntegerType) → order_number (a ∷ b ∷ c ∷ d ∷ []) kind ≡ (a * 16777216 + b * 65536 + c * 256 + d) * 256 + tid_code (tid_of kind)
+number_of : (a b c d : ℕ) (kind : IntegerType) → order_number (a ∷ b ∷ c ∷ d ∷ []) kind ≡ (a * 16777216 + b * 65536 + c * 256 + d) * 256 + tid_code (integer_tid kind)
 number_of a b c d kind = omega arith
 
 tells : (a b : List ℕ) (kind other : IntegerType) → IsBytes a → IsBytes b → length a ≡ 4 → length b ≡ 4 → order_number a kind ≡ order_number b other → (a ≡ b) × (kind ≡ other)
 tells (a ∷ b ∷ c ∷ d ∷ []) (e ∷ f ∷ g ∷ h ∷ []) kind other small small' four four' same =
-    let k = tid_code (tid_of kind) in
-    let l = tid_code (tid_of other) in
+    let k = tid_code (integer_tid kind) in
+    let l = tid_code (integer_tid other) in
     let k_small = code_small kind in
     let l_small = code_small other in
     let is : (a * 16777216 + b * 65536 + c * 256 + d) * 256 + k ≡ (e * 16777216 + f * 65536 + g * 256 + h) * 256 + l = sym (number_of a b c d kind) ∙ same ∙ number_of e f g h other in

@@ -1,6 +1,6 @@
 use Rattle.std.proofs.Common.{◌≡◌, ℕ, ◌<◌, List, ◌∷◌, length, sym, subst}
 use Rattle.std.specs.Str.Lines.{lines}
-use Rattle.odb_ascii.specs.Loads.{IsFaultAt, place_at, IsRoomy}
+use Rattle.odb_ascii.specs.Loads.{IsTextFaultAt, place_at, IsRoomy}
 use Rattle.odb_ascii.proofs.Written.{block_rest}
 use Rattle.odb_ascii.proofs.Loads.{near_fault, broken_fault, refused_fault, done_step, room_left, shorter_left}
 use Rattle.odb_ascii.proofs.loading.do_block.Goals as goal
@@ -13,13 +13,13 @@ broken_at-requires g c =
 pub returns-in-Err-clause-fault : goal.returns-in-Err-clause-fault
 returns-in-Err-clause-fault g c =
     let at = c.args.at.now in
-    subst (IsFaultAt (place_at at.rest.now at.line at.dir at.loaded) (g.D.Database.rows c.args.database.now)) (sym c.broken_at.ensures)
+    subst (IsTextFaultAt (place_at at.rest.now at.line at.dir at.loaded) (g.D.Database.rows c.args.database.now)) (sym c.broken_at.ensures)
     (broken_fault at.rest.now at.line at.dir at.loaded (g.D.Database.rows c.args.database.now) (c.args.line.now ∷ lines c.args.behind.now) c.in-Err.fault c.requires.first c.in-Err.ensures.fault)
 
 pub returns-in-Err-do_act-clause-fault : goal.returns-in-Err-do_act-clause-fault
 returns-in-Err-do_act-clause-fault g c =
     let at = c.args.at.now in
-    subst (IsFaultAt (place_at at.rest.now at.line at.dir at.loaded) (g.D.Database.rows c.args.database.now)) (sym c.refused_at.ensures)
+    subst (IsTextFaultAt (place_at at.rest.now at.line at.dir at.loaded) (g.D.Database.rows c.args.database.now)) (sym c.refused_at.ensures)
     (refused_fault at.rest.now at.line at.dir at.loaded (g.D.Database.rows c.args.database.now) (c.args.line.now ∷ lines c.args.behind.now) (lines c.in-Ok.block.rest.now) c.in-Ok.block.act c.in-Ok.block.lines
     c.in-Err-do_act.why c.requires.first c.in-Ok.ensures.block c.in-Err-do_act.ensures.refused)
 

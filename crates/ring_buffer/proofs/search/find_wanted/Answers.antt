@@ -1,6 +1,6 @@
 use Rattle.std.proofs.Common.{◌<◌, refl, ◌∙◌, arith}
 use Rattle.client_pointers.specs.Pointers.{clients_of}
-use Rattle.ring_buffer.specs.Stored.{event_at}
+use Rattle.ring_buffer.specs.Stored.{ring_event_at}
 use Rattle.ring_buffer.proofs.Walking.{next_is, wanted_now, moved_on, small_front, sought_next, sought_found, sought_nothing}
 use Rattle.ring_buffer.proofs.search.find_wanted.Goals as goal
 
@@ -8,14 +8,14 @@ pub slot_len-requires : goal.slot_len-requires
 slot_len-requires g c =
     let early : c.loop-place.place < c.args.end.place = omega arith in
     let next = next_is c.args.ring.now c.args.from c.loop-place.off c.loop-place.place c.args.end c.loop-place.invariant.on_way early in
-    small_front c.read_front-front.result.header (event_at c.args.ring.now c.loop-place.off) (c.read_front-front.ensures.header (event_at c.args.ring.now c.loop-place.off) next.holds next.fits) next.fits
+    small_front c.read_front-front.result.header (ring_event_at c.args.ring.now c.loop-place.off) (c.read_front-front.ensures.header (ring_event_at c.args.ring.now c.loop-place.off) next.holds next.fits) next.fits
 
 pub loop-place-preserved : goal.loop-place-preserved
 loop-place-preserved g c =
     let early : c.loop-place.place < c.args.end.place = omega arith in
     let next = next_is c.args.ring.now c.args.from c.loop-place.off c.loop-place.place c.args.end c.loop-place.invariant.on_way early in
-    let s = event_at c.args.ring.now c.loop-place.off in
-    let header = c.read_front-front.ensures.header (event_at c.args.ring.now c.loop-place.off) next.holds next.fits in
+    let s = ring_event_at c.args.ring.now c.loop-place.off in
+    let header = c.read_front-front.ensures.header (ring_event_at c.args.ring.now c.loop-place.off) next.holds next.fits in
     sought_next c.args.ring.now (clients_of c.args.clients.now) c.args.client c.args.from c.loop-place.off c.loop-place.place c.args.end c.args.steps.now c.loop-place.steps _ _
     c.loop-place.invariant early
     (λ k lives. wanted_now c.loop-place.place c.read_front-front.result.header s k c.is_wanted.result header (c.is_wanted.ensures k lives) ∙ c.if-is_wanted.false)
@@ -26,12 +26,12 @@ pub returns-then-is_wanted-clause-found : goal.returns-then-is_wanted-clause-fou
 returns-then-is_wanted-clause-found g c =
     let early : c.loop-place.place < c.args.end.place = omega arith in
     let next = next_is c.args.ring.now c.args.from c.loop-place.off c.loop-place.place c.args.end c.loop-place.invariant.on_way early in
-    let s = event_at c.args.ring.now c.loop-place.off in
-    let header = c.read_front-front.ensures.header (event_at c.args.ring.now c.loop-place.off) next.holds next.fits in
+    let s = ring_event_at c.args.ring.now c.loop-place.off in
+    let header = c.read_front-front.ensures.header (ring_event_at c.args.ring.now c.loop-place.off) next.holds next.fits in
     record {
       on_way = c.loop-place.invariant.on_way;
       early = early;
-      start = c.read_front-front.ensures.start (event_at c.args.ring.now c.loop-place.off) next.holds next.fits;
+      start = c.read_front-front.ensures.start (ring_event_at c.args.ring.now c.loop-place.off) next.holds next.fits;
       header = header;
       found = λ k lives.
           sought_found c.args.ring.now (clients_of c.args.clients.now) c.args.client c.args.from c.loop-place.off c.loop-place.place c.args.end c.args.steps.now c.loop-place.steps c.loop-place.invariant early k lives

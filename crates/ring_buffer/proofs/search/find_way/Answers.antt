@@ -1,6 +1,6 @@
 use Rattle.std.proofs.Common.{◌<◌, ◌-◌, ◌+◌, length, refl, arith}
 use Rattle.client_pointers.specs.Pointers.{clients_of}
-use Rattle.ring_buffer.specs.Stored.{event_at}
+use Rattle.ring_buffer.specs.Stored.{ring_event_at}
 use Rattle.ring_buffer.proofs.Walking.{next_is, owed_now, moved_on, small_front, walk_next, walk_blocked, walk_ends, walk_out}
 use Rattle.ring_buffer.proofs.search.find_way.Goals as goal
 
@@ -8,14 +8,14 @@ pub slot_len-requires : goal.slot_len-requires
 slot_len-requires g c =
     let early : c.loop-place.place < c.args.end.place = omega arith in
     let next = next_is c.args.ring.now c.args.from c.loop-place.off c.loop-place.place c.args.end c.loop-place.invariant.on_way early in
-    small_front c.read_front-front.result.header (event_at c.args.ring.now c.loop-place.off) (c.read_front-front.ensures.header (event_at c.args.ring.now c.loop-place.off) next.holds next.fits) next.fits
+    small_front c.read_front-front.result.header (ring_event_at c.args.ring.now c.loop-place.off) (c.read_front-front.ensures.header (ring_event_at c.args.ring.now c.loop-place.off) next.holds next.fits) next.fits
 
 pub loop-place-preserved : goal.loop-place-preserved
 loop-place-preserved g c =
     let early : c.loop-place.place < c.args.end.place = omega arith in
     let next = next_is c.args.ring.now c.args.from c.loop-place.off c.loop-place.place c.args.end c.loop-place.invariant.on_way early in
-    let s = event_at c.args.ring.now c.loop-place.off in
-    let header = c.read_front-front.ensures.header (event_at c.args.ring.now c.loop-place.off) next.holds next.fits in
+    let s = ring_event_at c.args.ring.now c.loop-place.off in
+    let header = c.read_front-front.ensures.header (ring_event_at c.args.ring.now c.loop-place.off) next.holds next.fits in
     let full : length c.args.ring.now < c.args.end.off - c.loop-place.off + c.args.slot = omega (arith, c.size.ensures.size, c.from-size.ensures, c.if-end-off.false) in
     walk_next c.args.ring.now (clients_of c.args.clients.now) c.args.from c.loop-place.off c.loop-place.place c.args.end c.args.slot c.args.steps.now c.loop-place.steps _ _
     c.loop-place.invariant early full
@@ -27,8 +27,8 @@ pub returns-in-Some-clause-owed : goal.returns-in-Some-clause-owed
 returns-in-Some-clause-owed g c =
     let early : c.loop-place.place < c.args.end.place = omega arith in
     let next = next_is c.args.ring.now c.args.from c.loop-place.off c.loop-place.place c.args.end c.loop-place.invariant.on_way early in
-    let s = event_at c.args.ring.now c.loop-place.off in
-    let header = c.read_front-front.ensures.header (event_at c.args.ring.now c.loop-place.off) next.holds next.fits in
+    let s = ring_event_at c.args.ring.now c.loop-place.off in
+    let header = c.read_front-front.ensures.header (ring_event_at c.args.ring.now c.loop-place.off) next.holds next.fits in
     let full : length c.args.ring.now < c.args.end.off - c.loop-place.off + c.args.slot = omega (arith, c.size.ensures.size, c.from-size.ensures, c.if-end-off.false) in
     walk_blocked c.args.ring.now (clients_of c.args.clients.now) c.args.from c.loop-place.off c.loop-place.place c.args.end c.args.slot c.args.steps.now c.loop-place.steps c.in-Some.client
     c.loop-place.invariant early full

@@ -4,7 +4,8 @@ use Rattle.std.specs.String.{string_bytes}
 use Rattle.std.specs.Prelude.{codes}
 use Rattle.std.specs.Fmt.{padded_integral, char_count, styled_decimal, format_spec, decimal}
 use Rattle.daq_types.specs.Names.{IsFileName}
-use Rattle.run_recorder.specs.RunNames.{run_name, five_digits}
+use Rattle.run_recorder.specs.RunNames.{run_name}
+use Rattle.daq_types.specs.FileDigits.{five_digits}
 use Rattle.run_recorder.proofs.RunNames.{run_name_is_name}
 use Rattle.run_recorder.proofs.run_names.name_of_run.Goals as goal
 

@@ -3,7 +3,7 @@ use Rattle.std.specs.Prelude.{Option, Some, None}
 use Rattle.transitions.specs.declared.answers.Answer.{Answer}
 use Rattle.transitions.specs.declared.answers.Answer.TheVariants.{Yes}
 use Rattle.transitions.specs.declared.answers.Tally.TheVariants.{Report}
-use Rattle.member_model.specs.Turns.{answered}
+use Rattle.member_model.specs.Turns.{latest_answered}
 use Rattle.analyzers.specs.AnalyzerTurns.{report_answer, run_reported}
 use Rattle.analyzers.specs.AnalyzerKept.{AnalyzerStands}
 use Rattle.analyzers.proofs.PullSteps.{finish_kept}
@@ -14,5 +14,5 @@ returns-clause-keeps c = λ own got turns stands.
     let told : report_answer c.self.inside.run ≡ Some (Yes (Report c.in_ok-run.run'.report)) = search rules in
     let gone : c.take.new.self ≡ None = search rules in
     rw gone
-    (subst (λ (a : Option Answer). AnalyzerStands c.self.inside.wanted c.self.inside.client (run_reported c.self.inside.run a) own got (answered turns a)) told
+    (subst (λ (a : Option Answer). AnalyzerStands c.self.inside.wanted c.self.inside.client (run_reported c.self.inside.run a) own got (latest_answered turns a)) told
     (finish_kept c.self.inside.wanted c.self.inside.client c.self.inside.run own got turns (rw (← c.self.view_is) at stands)))

@@ -4,14 +4,14 @@ use Rattle.odb_path.specs.Paths.{IsPath}
 use Rattle.odb_tree.specs.declared.refusals.OdbRefusal.{OdbRefusal}
 use Rattle.odb_tree.specs.declared.rows.Row.{Row}
 use Rattle.odb_tree.specs.Lookups.{absent_fault}
-use Rattle.odb_tree.specs.PlainInside.{rows_of}
+use Rattle.odb_tree.specs.PlainInside.{plain_rows}
 use Rattle.odb_tree.proofs.Sound.{database_outside}
 use Rattle.odb_tree.proofs.Lasting.{absent, refusal_is}
 use Rattle.odb_tree.proofs.plain.PlainTreeDatabase.delete.Goals as goal
 
 pub invariant_of-self : goal.invariant_of-self
 invariant_of-self c =
-    database_outside (rows_of c.self.inside) c.names-names.result.now c.remove_at-gone.new.rows.items c.self.invariant
+    database_outside (plain_rows c.self.inside) c.names-names.result.now c.remove_at-gone.new.rows.items c.self.invariant
     (subst IsPath (sym c.names-names.ensures.names) c.names-names.ensures.is_path)
     (subst (λ (rows : List Row). absent_fault rows c.names-names.result.now ≡ None) c.as_slice.ensures.value c.in_ok-check_there.ensures.row) c.remove_at-gone.ensures.rows
 

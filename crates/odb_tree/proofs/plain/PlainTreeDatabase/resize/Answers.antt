@@ -7,7 +7,7 @@ use Rattle.odb_tree.specs.Lookups.{seek_key}
 use Rattle.odb_tree.specs.Limits.{len_fault, limit_fault}
 use Rattle.odb_tree.specs.Calls.{after_resize}
 use Rattle.odb_tree.specs.Databases.{IsDatabase}
-use Rattle.odb_tree.specs.PlainInside.{rows_of}
+use Rattle.odb_tree.specs.PlainInside.{plain_rows}
 use Rattle.odb_tree.proofs.Sound.{database_resized}
 use Rattle.odb_tree.proofs.plain.PlainTreeDatabase.resize.Goals as goal
 
@@ -21,7 +21,7 @@ invariant_of-self c = subst (λ (rows : List Row). IsDatabase (record { rows = r
 
 pub invariant_of-self-2 : goal.invariant_of-self-2
 invariant_of-self-2 c =
-    database_resized (rows_of c.self.inside) c.names-names.result.now c.args.len c.in_ok-key.key.number c.in_ok-key.key.value.now c.resize_fault.result c.resize_at.new.rows.items
+    database_resized (plain_rows c.self.inside) c.names-names.result.now c.args.len c.in_ok-key.key.number c.in_ok-key.key.value.now c.resize_fault.result c.resize_at.new.rows.items
     c.self.invariant (subst IsPath (sym c.names-names.ensures.names) c.names-names.ensures.is_path)
     (subst (λ (rows : List Row). seek_key rows c.names-names.result.now ≡ Ok (c.in_ok-key.key.number, c.in_ok-key.key.value.now)) c.as_slice.ensures.value c.in_ok-key.ensures.found)
     (subst (λ (s : Rows). c.resize_fault.result ≡ limit_fault (len_fault c.args.len) (after_resize s c.names-names.result.now c.args.len)) (sym c.self.view_is) c.resize_fault.ensures)

@@ -8,7 +8,7 @@ use Rattle.odb_tree.specs.Changes.{IsKeyAt}
 use Rattle.odb_tree.proofs.CallLemmas.{sought_key, can_put, can_put_there}
 use Rattle.odb_tree.specs.Lookups.{seek_key}
 use Rattle.odb_tree.specs.Calls.{set_fault}
-use Rattle.odb_tree.specs.PlainInside.{rows_of}
+use Rattle.odb_tree.specs.PlainInside.{plain_rows}
 use Rattle.odb_tree.proofs.Sound.{database_set}
 use Rattle.odb_tree.proofs.Lasting.{sought_key as lasting, handed}
 use Rattle.odb_tree.proofs.plain.PlainTreeDatabase.set.Goals as goal
@@ -28,7 +28,7 @@ put_at-requires c =
 
 pub invariant_of-self : goal.invariant_of-self
 invariant_of-self c =
-    database_set (rows_of c.self.inside) c.names-names.result.now c.args.index c.args.item.now c.in_ok-item.item c.in_ok-key.key.number c.in_ok-key.key.value.now c.set_fault.result c.put_at.new.rows.items
+    database_set (plain_rows c.self.inside) c.names-names.result.now c.args.index c.args.item.now c.in_ok-item.item c.in_ok-key.key.number c.in_ok-key.key.value.now c.set_fault.result c.put_at.new.rows.items
     c.self.invariant (subst IsPath (sym c.names-names.ensures.names) c.names-names.ensures.is_path) c.tid.ensures.is_item.sound
     (subst (λ (rows : List Row). seek_key rows c.names-names.result.now ≡ Ok (c.in_ok-key.key.number, c.in_ok-key.key.value.now)) c.as_slice.ensures.value c.in_ok-key.ensures.found)
     (subst (λ (s : Rows). c.set_fault.result ≡ set_fault s c.names-names.result.now c.args.index c.args.item.now c.in_ok-key.key.value.now) (sym c.self.view_is) c.set_fault.ensures)

@@ -11,7 +11,7 @@ use Rattle.buffer_core.proofs.WindowKept.{window_stays}
 use Rattle.buffer_core.proofs.WindowLaws.{event_got, slot_cover}
 use Rattle.buffer_core.specs.Calls.{going_on, with_clients, event_after}
 use Rattle.client_pointers.specs.Pointers.{clients_of}
-use Rattle.ring_buffer.specs.Stored.{event_at}
+use Rattle.ring_buffer.specs.Stored.{ring_event_at}
 use Rattle.ring_buffer.specs.Reads.{reads_of_receive}
 use Rattle.ring_buffer.specs.RingViews.{window_of}
 use Rattle.ring_buffer.proofs.Walking.{at}
@@ -41,7 +41,7 @@ invariant_of-data g c =
     let r = reader c.self.inside c.args.client c.in-Some.position c.self.invariant c.in-Some.ensures in
     let v = given c.self.inside c.args.client (at c.in-Some.position.0 c.in-Some.position.1) c.in-Some-find_wanted.found r c.in-Some-find_wanted.ensures.found in
     let room = given_room c.self.inside c.args.client (at c.in-Some.position.0 c.in-Some.position.1) c.in-Some-find_wanted.found c.self.invariant r c.in-Some-find_wanted.ensures.found in
-    record { fits = omega (arith, room, v.size, slot_cover (length (event_at c.self.inside.ring c.in-Some-find_wanted.found.at.off).event.body)) }
+    record { fits = omega (arith, room, v.size, slot_cover (length (ring_event_at c.self.inside.ring c.in-Some-find_wanted.found.at.off).event.body)) }
 
 pub fill_with-requires-clause-whole : goal.fill_with-requires-clause-whole
 fill_with-requires-clause-whole g c = length-bytes_at _ _ _
@@ -57,7 +57,7 @@ invariant_of-self g c =
     let r = reader c.self.inside c.args.client c.in-Some.position c.self.invariant c.in-Some.ensures in
     let v = given c.self.inside c.args.client (at c.in-Some.position.0 c.in-Some.position.1) c.in-Some-find_wanted.found r c.in-Some-find_wanted.ensures.found in
     let reply = got_reply c.self.inside (window_of c.self.inside) c.args.client c.args.into.now.room c.in-Some-find_wanted.found.front.start (at c.in-Some.position.0 c.in-Some.position.1) c.in-Some-find_wanted.found refl r v c.in-Some-find_wanted.ensures.found.start (omega (arith, c.room.ensures, c.if-header-room.false)) in
-    let slot : c.from.result ≡ slot_of_sent (event_at c.self.inside.ring c.in-Some-find_wanted.found.at.off) = c.from.ensures ∙ (c.slot_len.ensures ∙ ap slot_of_length v.size) in
+    let slot : c.from.result ≡ slot_of_sent (ring_event_at c.self.inside.ring c.in-Some-find_wanted.found.at.off) = c.from.ensures ∙ (c.slot_len.ensures ∙ ap slot_of_length v.size) in
     ring_moved c.self.inside c.advance.new.self c.args.client (c.in-Some-find_wanted.found.at.off + c.from.result) (c.in-Some-find_wanted.found.at.place + 1) c.self.invariant
     (advanced _ c.advance.result c.self.inside c.args.client (at c.in-Some.position.0 c.in-Some.position.1) r c.advance.ensures.reply c.advance.ensures.ok)
     (omega (arith, slot, v.behind))
@@ -90,7 +90,7 @@ pub returns-else-header-room-clause-event : goal.returns-else-header-room-clause
 returns-else-header-room-clause-event g c =
     let r = reader c.self.inside c.args.client c.in-Some.position c.self.invariant c.in-Some.ensures in
     let v = given c.self.inside c.args.client (at c.in-Some.position.0 c.in-Some.position.1) c.in-Some-find_wanted.found r c.in-Some-find_wanted.ensures.found in
-    let s : Sent = event_at c.self.inside.ring c.in-Some-find_wanted.found.at.off in
+    let s : Sent = ring_event_at c.self.inside.ring c.in-Some-find_wanted.found.at.off in
     let got : event_after c.args.into.now.event (window_of c.self.inside) (Got c.in-Some-find_wanted.found.at.place c.in-Some-find_wanted.found.front.start) ≡ s.event =
     event_got (window_of c.self.inside) r.pointer.client c.in-Some-find_wanted.found.at.place c.in-Some-find_wanted.found.front.start s c.args.into.now.event (v.found r.pointer.client (client_is c.self.inside c.args.client r.pointer r.lives)) in
     ap (λ (h : HeldEvent). h.event) c.fill_with.ensures.event
