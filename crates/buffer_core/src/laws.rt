@@ -47,7 +47,8 @@ pub fn goes_on()
 /// The number that an attach gives is none of a client that lives: none that an attach gave and no detach took back since,
 /// of whichever caller.
 pub fn numbers_free()
-    ensures { (size : ℕ) → (before after : History) → (caller : ℕ) → (name : List ℕ) → (client : ℕ) →
+    ensures { (size : ℕ) → (before after : History) → (caller : ℕ) → (name : List ℕ) →
+        (client : ℕ) →
         IsLegal (opening size) (before ++ (caller, Attach name (Ok client)) ∷ after) →
         life_at (past_of before) client ≡ None }
 {}
@@ -89,10 +90,12 @@ pub fn has_read()
         IsLegal (opening size) (before ++ (caller, Receive client room (Got place start)) ∷ after) →
         KeepsLife client after →
         HasReadBelow (before ++ (caller, Receive client room (Got place start)) ∷ after) client (place + 1) }
-    ensures drained { (size : ℕ) → (before after : History) → (caller client room : ℕ) → (gate : RunGate) → (last : ℕ) →
+    ensures drained { (size : ℕ) → (before after : History) → (caller client room : ℕ) →
+        (gate : RunGate) → (last : ℕ) →
         IsLegal (opening size) (before ++ (caller, Receive client room (Empty gate last)) ∷ after) →
         KeepsLife client after →
-        HasReadBelow (before ++ (caller, Receive client room (Empty gate last)) ∷ after) client (count_at (past_of before)) }
+        HasReadBelow (before ++ (caller, Receive client room (Empty gate last)) ∷ after) client
+        (count_at (past_of before)) }
 {}
 
 /// A client that reads by one request for all events gets, of the places from the request on that it has read, just
@@ -188,7 +191,8 @@ pub fn tells_numbers_apart()
 /// it detaches it. Where no client of the caller is known to be detached by another, each attach
 /// gives a number that none of the caller's clients has.
 pub fn keeps_numbers()
-    ensures given { (before after : Access) → (name : List ℕ) → (client : ℕ) → (got : List GotEvent) →
+    ensures given { (before after : Access) → (name : List ℕ) → (client : ℕ) →
+        (got : List GotEvent) →
         Called before after (Attach name (Ok client)) got →
         IsGivenAt after.own (length before.own) client }
     ensures stays { (before after : Access) → (entry : BufferEntry) → (got : List GotEvent) →
