@@ -12,25 +12,23 @@ use std::alloc::Global;
 use std::test::Fail;
 use transitions::{Answer, Engine, Polled, Progress, Reports, Sheet, Tallies, Tally};
 
-impl SharedEngine {
-    /// Takes both passes of an engine with two out of the list, the main thread's first.
-    fn two_passes(&self, passes: &mut EnginePasses) -> (EnginePass, EnginePass)
-        requires own { ArePassesOf (engine_lock_of self.now) passes.old }
-        requires fresh { AreFresh passes.old }
-        requires numbers { numbers_of passes.old ≡ 0 ∷ 1 ∷ [] }
-        ensures left { ArePassesOf (engine_lock_of self.now) passes.new × (items_of passes.new ≡ []) }
-        ensures own { IsOf (engine_lock_of self.now) result.0 × IsOf (engine_lock_of self.now) result.1 }
-        ensures fresh { IsFresh result.0 × IsFresh result.1 }
-        ensures numbers { (number_of result.0 ≡ 0) × (number_of result.1 ≡ 1) }
-    {
-        let Some(other) = passes.pop() else {
-            unreachable!()
-        };
-        let Some(main) = passes.pop() else {
-            unreachable!()
-        };
-        (main, other)
-    }
+/// Takes both passes of an engine with two out of the list, the main thread's first.
+fn two_passes(_shared: &SharedEngine, passes: &mut EnginePasses) -> (EnginePass, EnginePass)
+    requires own { ArePassesOf (engine_lock_of _shared.now) passes.old }
+    requires fresh { AreFresh passes.old }
+    requires numbers { numbers_of passes.old ≡ 0 ∷ 1 ∷ [] }
+    ensures left { ArePassesOf (engine_lock_of _shared.now) passes.new × (items_of passes.new ≡ []) }
+    ensures own { IsOf (engine_lock_of _shared.now) result.0 × IsOf (engine_lock_of _shared.now) result.1 }
+    ensures fresh { IsFresh result.0 × IsFresh result.1 }
+    ensures numbers { (number_of result.0 ≡ 0) × (number_of result.1 ≡ 1) }
+{
+    let Some(other) = passes.pop() else {
+        unreachable!()
+    };
+    let Some(main) = passes.pop() else {
+        unreachable!()
+    };
+    (main, other)
 }
 
 /// A sheet without dump and blank reports.
@@ -50,7 +48,7 @@ fn bare_sheet(alloc: Global) -> Sheet
 fn a_client_takes_its_turn(rt: HostRuntime) -> Result<(), Fail> {
     let alloc = rt.alloc();
     let (shared, mut passes) = SharedEngine::new(alloc, Engine::new(alloc)?, 2)?;
-    let (mut main, mut other) = shared.two_passes(&mut passes);
+    let (mut main, mut other) = two_passes(&shared, &mut passes);
     let sequences = Sequences {
         start: Some(500),
         stop: None,
@@ -89,7 +87,7 @@ fn a_client_takes_its_turn(rt: HostRuntime) -> Result<(), Fail> {
 fn the_main_thread_checks_and_closes(rt: HostRuntime) -> Result<(), Fail> {
     let alloc = rt.alloc();
     let (shared, mut passes) = SharedEngine::new(alloc, Engine::new(alloc)?, 2)?;
-    let (mut main, _other) = shared.two_passes(&mut passes);
+    let (mut main, _other) = two_passes(&shared, &mut passes);
     let mut tallies = Tallies::new(alloc)?;
     assert_eq!(rt; shared.check(&rt, &mut main, &mut tallies), Progress::None);
     assert_eq!(rt; shared.close(&rt, &mut main), Ok(()));
