@@ -42,6 +42,11 @@ abbrev pub is_at_work : Option FrontRun → Bool
 is_at_work None = false
 is_at_work (Some r) = not r.paused && not (is_done r)
 
+-- how many events were sent in the run with this start number, where it is the front-end's
+abbrev pub events_sent : Option FrontRun → (start : ℕ) → ℕ
+events_sent None start = 0
+events_sent (Some r) start = if r.order.start == start then r.sent else 0
+
 -- Turns.
 
 abbrev pub is_from_pause : RunState → Bool
