@@ -101,7 +101,8 @@ pub record KeepsMoments (own : List BufferEntry) (turns : List MemberTurn) (mome
 -- the latest turn is a stop that is not answered, if one waits
 abbrev pub IsWaiting : (stop : Option Order) → (start : ℕ) → List MemberTurn → Type 0
 IsWaiting None start turns = NoneOpen turns
-IsWaiting (Some order) start turns = (order.start ≡ start) × (earlier : List MemberTurn) × (turns ≡ front_turn Stop order None ∷ earlier)
+IsWaiting (Some order) start turns =
+    (order.start ≡ start) × (dump : Option (List ℕ)) × (earlier : List MemberTurn) × (turns ≡ front_turn dump Stop order None ∷ earlier)
 
 abbrev pub IsSpentSo : List BufferEntry → (start : ℕ) → (spent : Option ℕ) → Type 0
 IsSpentSo own start None = ⊤

@@ -1,5 +1,5 @@
 -- A front-end as its calls see it: what each turn is answered, what a step sends, and the run after it.
-use Rattle.std.specs.Prelude.{◌≡◌, ℕ, suc, ◌==◌, ◌≤◌, Bool, true, false, ◌&&◌, ◌||◌, not, nat_le, is_some, if◌then◌else◌, length, Option, Some, None, Result, Ok, Err, ⊤}
+use Rattle.std.specs.Prelude.{◌≡◌, ℕ, suc, ◌==◌, ◌≤◌, Bool, true, false, ◌&&◌, ◌||◌, not, nat_le, is_some, if◌then◌else◌, List, length, Option, Some, None, Result, Ok, Err, ⊤}
 use Rattle.std.specs.Option.{option_map}
 use Rattle.daq_types.specs.declared.events.Event.{Event}
 use Rattle.daq_types.specs.declared.runs.Order.{Order}
@@ -127,9 +127,9 @@ abbrev pub run_finished : Option FrontRun → Option Answer → Option FrontRun
 run_finished run None = run
 run_finished run (Some answer) = None
 
--- the turn that the front-end was given, which has no dump
-abbrev pub front_turn : Transition → Order → Option Answer → MemberTurn
-front_turn transition order answer = record { transition = transition; order = order; dump = None; answer = answer }
+-- the turn that the front-end was given; a dump that came with it is passed over
+abbrev pub front_turn : (dump : Option (List ℕ)) → Transition → Order → Option Answer → MemberTurn
+front_turn dump transition order answer = record { transition = transition; order = order; dump = dump; answer = answer }
 
 -- Steps.
 

@@ -1,4 +1,4 @@
-ghost use Rattle.std.specs.Prelude.{◌≡◌, ◌<◌, ◌≤◌, ◌↔◌, ℕ, suc, List, [], ◌∷◌, length, Some, None, IfOk, true, false};
+ghost use Rattle.std.specs.Prelude.{◌≡◌, ◌<◌, ◌≤◌, ◌↔◌, ℕ, suc, List, [], ◌∷◌, length, Option, Some, None, IfOk, true, false};
 ghost use Rattle.std.specs.Option.{option_map};
 ghost use Rattle.daq_types.specs.declared.events.Event.{Event};
 ghost use Rattle.buffer_core.specs.declared.entry.BufferEntry.TheVariants.{SendInRun};
@@ -243,15 +243,16 @@ impl<E: Equipment> FrontEnd<E> {
           run = run_after
               (E.takes self.old.equipment order.now) self.old.run transition order.now;
         } }
-        ensures keeps { (own : List BufferEntry) → (turns : List MemberTurn) →
-            NoneOpen turns →
+        ensures keeps { (own : List BufferEntry) → (dump : Option (List ℕ)) →
+            (turns : List MemberTurn) → NoneOpen turns →
             FrontStands (E.takes self.old.equipment) (E.makes self.old.equipment)
             self.old.run own turns →
             FrontStands (E.takes self.new.equipment) (E.makes self.new.equipment)
-            self.new.run own (front_turn transition order.now result ∷ turns) }
-        ensures moments { (own : List BufferEntry) → (turns : List MemberTurn) → (moments : List ℕ) →
+            self.new.run own (front_turn dump transition order.now result ∷ turns) }
+        ensures moments { (own : List BufferEntry) → (dump : Option (List ℕ)) →
+            (turns : List MemberTurn) → (moments : List ℕ) →
             KeepsMoments own turns moments →
-            KeepsMoments own (front_turn transition order.now result ∷ turns)
+            KeepsMoments own (front_turn dump transition order.now result ∷ turns)
             (length own ∷ moments) }
     {
         let takes = self.equipment.check(order);
