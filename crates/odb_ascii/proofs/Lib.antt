@@ -9,3 +9,4 @@ pub mod Written
 pub mod Loads
 pub mod Replies
 pub mod OneReading
+pub mod OneFault
