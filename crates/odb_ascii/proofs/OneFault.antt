@@ -26,7 +26,7 @@ use Rattle.odb_ascii.proofs.Items.{read_tid}
 use Rattle.odb_ascii.proofs.Beginnings.{key_once, not_both, kept_is_not_skipped}
 use Rattle.odb_ascii.proofs.Written.{no_many, wide}
 use Rattle.odb_ascii.proofs.Loads.{same_length}
-use Rattle.odb_ascii.proofs.OneReading.{item_once, array_once, key_not_passed, dir_not_key, HeadOf, head_of, no_both, skipped_same, kept_type, skipped_type, one_line, acts_once, same_cons, not_passed_head, first_once, none_left}
+use Rattle.odb_ascii.proofs.OneReading.{item_once, array_once, key_not_passed, dir_not_key, head_of, no_both, skipped_same, kept_type, skipped_type, one_line, acts_once, same_cons, not_passed_head, first_once, none_left}
 
 -- lines of items
 
@@ -304,7 +304,7 @@ step_and_wide : (dir : List (List ℕ)) (line : List ℕ) (more : List (List ℕ
 step_and_wide dir line more act now s w =
     let a = array_step dir line s.own act w.name w.type w.n s.spells w.head in
     let grows : size_given w.xs ≤ size_given a.ys =
-        sizes_grow w.type 0 w.own s.own w.rest s.left w.xs a.ys w.are a.are (omega (arith, w.few, a.count)) (sym w.parts ∙ s.parts) in
+    sizes_grow w.type 0 w.own s.own w.rest s.left w.xs a.ys w.are a.are (omega (arith, w.few, a.count)) (sym w.parts ∙ s.parts) in
     ap (λ (z : Act). act_fault now z) a.act_is
     ∙ write_wide now a.path w.type a.ys (is_text w.type 0 w.own w.xs w.are w.great) (omega (arith, a.count, w.limited)) (omega (arith, grows, w.great))
 
@@ -321,22 +321,22 @@ array_and_array dir line more place other a b =
     let same = array_same dir line a.name b.name a.type b.type a.n b.n a.head b.head in
     let are : AreItemLines a.type 0 b.own b.xs = subst (λ (t : Tid). AreItemLines t 0 b.own b.xs) (sym same.0) b.are in
     let after_a : NextIsNot (IsSomeItemLine a.type (0 + length a.xs)) a.rest =
-        subst (λ (k : ℕ). NextIsNot (IsSomeItemLine a.type k) a.rest) (let s : length a.xs ≡ 0 + length a.xs = omega arith in s) a.next in
+    subst (λ (k : ℕ). NextIsNot (IsSomeItemLine a.type k) a.rest) (let s : length a.xs ≡ 0 + length a.xs = omega arith in s) a.next in
     let after_b : NextIsNot (IsSomeItemLine a.type (0 + length b.xs)) b.rest =
-        subst (λ (k : ℕ). NextIsNot (IsSomeItemLine a.type k) b.rest) (let s : length b.xs ≡ 0 + length b.xs = omega arith in s)
-        (subst (λ (t : Tid). NextIsNot (IsSomeItemLine t (length b.xs)) b.rest) (sym same.0) b.next) in
+    subst (λ (k : ℕ). NextIsNot (IsSomeItemLine a.type k) b.rest) (let s : length b.xs ≡ 0 + length b.xs = omega arith in s)
+    (subst (λ (t : Tid). NextIsNot (IsSomeItemLine t (length b.xs)) b.rest) (sym same.0) b.next) in
     let no_less : length b.xs ≤ length a.xs =
-        not_less (length a.xs) (length b.xs) (λ (l : length a.xs < length b.xs). goes_on a.type 0 a.own b.own a.rest b.rest a.xs b.xs a.are are l (sym a.parts ∙ b.parts) after_a) in
+    not_less (length a.xs) (length b.xs) (λ (l : length a.xs < length b.xs). goes_on a.type 0 a.own b.own a.rest b.rest a.xs b.xs a.are are l (sym a.parts ∙ b.parts) after_a) in
     let no_more : length a.xs ≤ length b.xs =
-        not_less (length b.xs) (length a.xs) (λ (l : length b.xs < length a.xs). goes_on a.type 0 b.own a.own b.rest a.rest b.xs a.xs are a.are l (sym b.parts ∙ a.parts) after_b) in
+    not_less (length b.xs) (length a.xs) (λ (l : length b.xs < length a.xs). goes_on a.type 0 b.own a.own b.rest a.rest b.xs a.xs are a.are l (sym b.parts ∙ a.parts) after_b) in
     omega (arith, a.place_is, b.place_is, same_length a.type 0 a.own a.xs a.are, same_length a.type 0 b.own b.xs are, no_less, no_more)
 
 skipped_and_skipped : (dir : List (List ℕ)) (line : List ℕ) (more : List (List ℕ)) (place other : ℕ) → SkippedStops dir line more place → SkippedStops dir line more other → place ≡ other
 skipped_and_skipped dir line more place other a b =
     let no_less : length b.own ≤ length a.own =
-        not_less (length a.own) (length b.own) (λ (l : length a.own < length b.own). skipped_go_on a.own b.own a.rest b.rest b.are l (sym a.parts ∙ b.parts) a.next) in
+    not_less (length a.own) (length b.own) (λ (l : length a.own < length b.own). skipped_go_on a.own b.own a.rest b.rest b.are l (sym a.parts ∙ b.parts) a.next) in
     let no_more : length a.own ≤ length b.own =
-        not_less (length b.own) (length a.own) (λ (l : length b.own < length a.own). skipped_go_on b.own a.own b.rest a.rest a.are l (sym b.parts ∙ a.parts) b.next) in
+    not_less (length b.own) (length a.own) (λ (l : length b.own < length a.own). skipped_go_on b.own a.own b.rest a.rest a.are l (sym b.parts ∙ a.parts) b.next) in
     omega (arith, a.place_is, b.place_is, no_less, no_more)
 
 array_and_many : (dir : List (List ℕ)) (line name : List ℕ) (type : Tid) (n : ℕ) → IsArrayHead dir line name type n → n ≤ items_limit → ManyAt dir line → ⊥
@@ -361,9 +361,9 @@ array_and_wide dir line more place a w =
     let same = array_same dir line a.name w.name a.type w.type a.n w.n a.head w.head in
     let are : AreItemLines a.type 0 w.own w.xs = subst (λ (t : Tid). AreItemLines t 0 w.own w.xs) (sym same.0) w.are in
     let after_a : NextIsNot (IsSomeItemLine a.type (0 + length a.xs)) a.rest =
-        subst (λ (k : ℕ). NextIsNot (IsSomeItemLine a.type k) a.rest) (let s : length a.xs ≡ 0 + length a.xs = omega arith in s) a.next in
+    subst (λ (k : ℕ). NextIsNot (IsSomeItemLine a.type k) a.rest) (let s : length a.xs ≡ 0 + length a.xs = omega arith in s) a.next in
     let no_less : length w.xs ≤ length a.xs =
-        not_less (length a.xs) (length w.xs) (λ (l : length a.xs < length w.xs). goes_on a.type 0 a.own w.own a.rest w.rest a.xs w.xs a.are are l (sym a.parts ∙ w.parts) after_a) in
+    not_less (length a.xs) (length w.xs) (λ (l : length a.xs < length w.xs). goes_on a.type 0 a.own w.own a.rest w.rest a.xs w.xs a.are are l (sym a.parts ∙ w.parts) after_a) in
     let grows : size_given w.xs ≤ size_given a.xs = sizes_grow a.type 0 w.own a.own w.rest a.rest w.xs a.xs are a.are no_less (sym w.parts ∙ a.parts) in
     omega (arith, grows, a.small, w.great)
 
@@ -635,20 +635,26 @@ refused_in now dir opened rest why h =
               line = begun.head;
               more = begun.more ++ rest;
               spelled = ap (λ (l : List (List ℕ)). l ++ rest) begun.spelled;
-              stuck = (refl, inr (inr (record {
-                name = begun.name;
-                type = w.0;
-                n = w.2;
-                xs = w.1;
-                own = begun.more;
-                rest = rest;
-                parts = refl;
-                head = begun.array;
-                are = begun.items;
-                few = w.4;
-                limited = begun.many;
-                great = w.5;
-              }, t.1)));
+              stuck = (
+                refl,
+                inr (inr (
+                  record {
+                    name = begun.name;
+                    type = w.0;
+                    n = w.2;
+                    xs = w.1;
+                    own = begun.more;
+                    rest = rest;
+                    parts = refl;
+                    head = begun.array;
+                    are = begun.items;
+                    few = w.4;
+                    limited = begun.many;
+                    great = w.5;
+                  },
+                  t.1,
+                )),
+              );
             })
       ]
     ]
@@ -708,10 +714,10 @@ no_fault_behind n m dir lines (t ∷ ts) s after front tail (d ∷ ds) now fault
     let a = runs_on t.line (act_fault s t.act) (run_steps ts (after_act s t.act)) after ran in
     let b = runs_on d.line (act_fault s d.act) (run_steps ds (after_act s d.act)) now on in
     let reads : SpellsSteps (m + length k.0 + length k.1) (dir_after dir t.act) k.2 ds =
-        subst (λ (z : Act). SpellsSteps (m + length k.0 + length k.1) (dir_after dir z) k.2 ds) (sym f.block.act_is) k.7 in
+    subst (λ (z : Act). SpellsSteps (m + length k.0 + length k.1) (dir_after dir z) k.2 ds) (sym f.block.act_is) k.7 in
     let runs : run_steps ds (after_act s t.act) ≡ Ok now = subst (λ (z : Act). run_steps ds (after_act s z) ≡ Ok now) (sym f.block.act_is) b.1 in
     let there : StuckIn now (dirs_after (dir_after dir t.act) ds) tail fault =
-        subst (λ (z : Act). StuckIn now (dirs_after (dir_after dir z) ds) tail fault) (sym f.block.act_is) stuck in
+    subst (λ (z : Act). StuckIn now (dirs_after (dir_after dir z) ds) tail fault) (sym f.block.act_is) stuck in
     no_fault_behind (n + length h.0 + length h.1) (m + length k.0 + length k.1) (dir_after dir t.act) h.2 ts (after_act s t.act) after k.2 tail ds now fault
     h.7 a.1 f.block.rest_is reads runs there
 
@@ -735,12 +741,12 @@ one_fault_behind n m dir s front tail (t ∷ ts) now fault other left (d ∷ ds)
     let p = runs_on t.line (act_fault s t.act) (run_steps ts (after_act s t.act)) now ran in
     let q = runs_on d.line (act_fault s d.act) (run_steps ds (after_act s d.act)) later on in
     let reads : SpellsSteps (m + length k.0 + length k.1) (dir_after dir t.act) k.2 ds =
-        subst (λ (z : Act). SpellsSteps (m + length k.0 + length k.1) (dir_after dir z) k.2 ds) (sym f.block.act_is) k.7 in
+    subst (λ (z : Act). SpellsSteps (m + length k.0 + length k.1) (dir_after dir z) k.2 ds) (sym f.block.act_is) k.7 in
     let runs : run_steps ds (after_act s t.act) ≡ Ok later = subst (λ (z : Act). run_steps ds (after_act s z) ≡ Ok later) (sym f.block.act_is) q.1 in
     let there : StuckIn later (dirs_after (dir_after dir t.act) ds) left that =
-        subst (λ (z : Act). StuckIn later (dirs_after (dir_after dir z) ds) left that) (sym f.block.act_is) b in
+    subst (λ (z : Act). StuckIn later (dirs_after (dir_after dir z) ds) left that) (sym f.block.act_is) b in
     let rest = one_fault_behind (n + length h.0 + length h.1) (m + length k.0 + length k.1) (dir_after dir t.act) (after_act s t.act) h.2 tail ts now fault k.2 left ds later that
-        f.block.rest_is h.7 p.1 a reads runs there in
+    f.block.rest_is h.7 p.1 a reads runs there in
     let passed : length h.0 ≡ length k.0 = ap (length {A = List ℕ}) f.passed_are in
     let own : length h.1 ≡ length k.1 = ap (length {A = List ℕ}) f.block.own_is in
     let first : length front ≡ length h.0 + (length h.1 + length h.2) = omega (arith, ap (length {A = List ℕ}) h.3, length-append h.0 (h.1 ++ h.2), length-append h.1 h.2) in
@@ -787,5 +793,5 @@ one_fault s lines why other some more h k =
     let f = has_fault s lines why some h in
     let g = has_fault s lines other more k in
     let r = one_fault_behind 1 1 [] s f.place.front (f.place.opened ++ f.place.rest) f.place.steps f.place.now f.fault g.place.front (g.place.opened ++ g.place.rest) g.place.steps g.place.now g.fault
-        (sym f.place.whole ∙ g.place.whole) f.place.reads f.place.ran f.stuck g.place.reads g.place.ran g.stuck in
+    (sym f.place.whole ∙ g.place.whole) f.place.reads f.place.ran f.stuck g.place.reads g.place.ran g.stuck in
     f.why_is ∙ ap (λ (z : ℕ). shifted z f.fault) r.far ∙ ap (λ (z : LoadRefusal). shifted (length g.place.front) z) r.same ∙ sym g.why_is

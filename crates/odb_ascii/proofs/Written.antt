@@ -39,7 +39,7 @@ use Rattle.odb_ascii.proofs.Beginnings.{begins_nothing, not_both, kept_is_not_sk
 
 -- the sizes of items
 
-wider : (low high : ℕ) (item : Item) → low ≤ high → IsShorter low item → IsShorter high item
+pub wider : (low high : ℕ) (item : Item) → low ≤ high → IsShorter low item → IsShorter high item
 wider low high (UInt8 n) h k = tt
 wider low high (Int8 z) h k = tt
 wider low high (Char b) h k = tt

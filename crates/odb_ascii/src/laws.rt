@@ -9,10 +9,16 @@ ghost use Rattle.odb_ascii.specs.declared.acts.LoadRefusal.TheVariants.{NoMemory
 ghost use Rattle.odb_ascii.specs.TextSteps.{TextStep, run_steps};
 ghost use Rattle.odb_ascii.specs.Grammar.{SpellsSteps};
 ghost use Rattle.odb_ascii.specs.TextFaults.{IsTextFault};
+ghost use Rattle.odb_ascii.specs.DumpSteps.{DumpFollowsWalk};
 
 /// A dump has at most 268,435,456 bytes.
 pub fn dump_is_small()
     ensures { (s : Rows) → IsDatabase s → length (dump_text s) ≤ dump_limit }
+{}
+
+/// The lines of a dump ask for each row of the walk, in its order, and before them for the root where it has keys.
+pub fn dump_follows_walk()
+    ensures { (s : Rows) → IsDatabase s → DumpFollowsWalk s }
 {}
 
 /// At most one list of steps stands in the grammar with some lines.
