@@ -162,6 +162,7 @@ run_read = record {
     draining = Receive 0 0 (Empty Shut 1) ∷ [];
     asked = record { before = Attach [] (Ok 0) ∷ []; whole = refl; alone = λ n. refl };
     asks_on = tt;
+    no_begin = tt;
     reads_on = (tt, tt);
     no_end = (tt, tt);
     drains_on = (tt, tt);

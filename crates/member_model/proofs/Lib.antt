@@ -1,3 +1,4 @@
 pub mod ReadLaws
 pub mod SentLaws
 pub mod TurnLaws
+pub mod MomentLaws

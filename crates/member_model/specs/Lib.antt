@@ -1,5 +1,6 @@
 pub mod Turns
 pub mod TurnCalls
+pub mod Moments
 pub mod SentCalls
 pub mod OwnCalls
 pub mod ReadRuns
