@@ -2,3 +2,4 @@ pub mod ReadLaws
 pub mod SentLaws
 pub mod TurnLaws
 pub mod MomentLaws
+pub mod GotRunLaws

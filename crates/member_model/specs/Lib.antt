@@ -3,6 +3,7 @@ pub mod TurnCalls
 pub mod Moments
 pub mod SentCalls
 pub mod OwnCalls
+pub mod GotRuns
 pub mod ReadRuns
 pub mod CutRuns
 pub mod LoggerKept
