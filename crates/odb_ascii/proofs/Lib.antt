@@ -17,3 +17,6 @@ pub mod DumpKeys
 pub mod DumpWalk
 pub mod DumpPlain
 pub mod DumpFollows
+pub mod WalkAgain
+pub mod Remade
+pub mod DumpLoads

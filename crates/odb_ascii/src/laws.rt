@@ -1,6 +1,7 @@
 //! Laws of dumps and of texts that are loaded: each function does nothing, and its contract is the law.
 
 ghost use Rattle.std.specs.Prelude.{◌≡◌, ◌≢◌, ◌≤◌, ℕ, List, [], length, Ok};
+ghost use Rattle.std.specs.Str.Lines.{lines};
 ghost use Rattle.odb_tree.specs.Rows.{Rows};
 ghost use Rattle.odb_tree.specs.Databases.{IsDatabase};
 ghost use Rattle.odb_ascii.specs.Dumps.{dump_text, dump_limit};
@@ -9,7 +10,7 @@ ghost use Rattle.odb_ascii.specs.declared.acts.LoadRefusal.TheVariants.{NoMemory
 ghost use Rattle.odb_ascii.specs.TextSteps.{TextStep, run_steps};
 ghost use Rattle.odb_ascii.specs.Grammar.{SpellsSteps};
 ghost use Rattle.odb_ascii.specs.TextFaults.{IsTextFault};
-ghost use Rattle.odb_ascii.specs.DumpSteps.{DumpFollowsWalk};
+ghost use Rattle.odb_ascii.specs.DumpSteps.{DumpFollowsWalk, RemakesRows, LoadsAgain};
 
 /// A dump has at most 268,435,456 bytes.
 pub fn dump_is_small()
@@ -19,6 +20,14 @@ pub fn dump_is_small()
 /// The lines of a dump ask for each row of the walk, in its order, and before them for the root where it has keys.
 pub fn dump_follows_walk()
     ensures { (s : Rows) → IsDatabase s → DumpFollowsWalk s }
+{}
+
+/// A dump loads again: its lines ask for steps, and whatever steps they ask for lead from a new database to the same
+/// paths and values in the order of the walk; none of them is refused, and none skips a key.
+pub fn loads_again()
+    ensures steps { (s : Rows) → IsDatabase s → LoadsAgain s }
+    ensures remade { (s : Rows) (steps : List TextStep) → IsDatabase s
+        → SpellsSteps 1 [] (lines (dump_text s)) steps → RemakesRows s steps }
 {}
 
 /// At most one list of steps stands in the grammar with some lines.
