@@ -1,5 +1,5 @@
 -- What an analyzer tells at its turns, as turns are added.
-use Rattle.std.specs.Prelude.{◌≡◌, ◌≢◌, ℕ, ◌==◌, Bool, true, false, List, [], ◌∷◌, Option, Some, None, Result, Ok, Err, refl, ◌⊎◌}
+use Rattle.std.specs.Prelude.{◌≡◌, ◌≢◌, ℕ, ◌==◌, Bool, true, false, List, ◌∷◌, Option, Some, None, Result, Ok, Err, refl}
 use Rattle.std.proofs.Common.{ap, sym, subst, ◌∙◌, inl, inr}
 use Rattle.std.proofs.lemmas.Bool.{eqb-false}
 use Rattle.daq_types.specs.declared.events.Event.{Event}
@@ -17,7 +17,7 @@ use Rattle.event_report.specs.Reports.{Totals}
 use Rattle.transitions.specs.declared.answers.Answer.{Answer}
 use Rattle.transitions.specs.declared.answers.Answer.TheVariants.{Yes, No}
 use Rattle.transitions.specs.declared.answers.Tally.TheVariants.{Plain, Report}
-use Rattle.member_model.specs.Turns.{MemberTurn, HasTurn, HasTurnOf, IsAcceptedStart, IsNewStart, IsOfRun, IsNextTurn, AreEngineTurns, current_run, latest_answered}
+use Rattle.member_model.specs.Turns.{MemberTurn, IsAcceptedStart, IsNewStart, IsOfRun, IsNextTurn, AreEngineTurns, current_run, latest_answered}
 use Rattle.member_model.proofs.TurnLaws.{HasTurnOf-earlier}
 use Rattle.member_model.specs.LoggerKept.{IsStartAnswer}
 use Rattle.analyzers.specs.declared.analyzer_pull.AnalyzerPull.{AnalyzerPull}
@@ -26,7 +26,7 @@ use Rattle.analyzers.specs.declared.analyzer_run.AnalyzerRun.{AnalyzerRun}
 use Rattle.analyzers.specs.declared.analyzer_run.AnalyzerStage.{AnalyzerStage}
 use Rattle.analyzers.specs.declared.analyzer_run.AnalyzerStage.TheVariants.{Counting, Draining, Drained}
 use Rattle.analyzers.specs.Analyzers.{AnalyzerAt, run_at}
-use Rattle.analyzers.specs.AnalyzerTurns.{analyzer_turn, StaysAt, BeginsBy, RequestsRun, StartsBy, StopsRun, StopsOwn, AnswersStop, TurnsBy, begun_count, report_in, report_answer, run_reported}
+use Rattle.analyzers.specs.AnalyzerTurns.{analyzer_turn, BeginsBy, RequestsRun, StartsBy, StopsOwn, AnswersStop, TurnsBy, begun_count, report_in, report_answer, run_reported}
 use Rattle.analyzers.specs.AnalyzerPulls.{CountsOwn, CountsReply, EndsReading, CountsOnce, CountsIn, PullsBy, drains_by}
 use Rattle.analyzers.specs.CountedRuns.{CountRequest}
 use Rattle.analyzers.specs.AnalyzerKept.{IsStopOpen, StageCounts, CountsRun, AnalyzerStands, count_request, StopsReported, CountsStart, CountsCurrent, AnalyzerTells}

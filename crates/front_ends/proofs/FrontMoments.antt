@@ -1,23 +1,22 @@
 -- The moments of a front-end's turns, and how much it had sent by then.
-use Rattle.std.specs.Prelude.{◌≡◌, ◌≢◌, ℕ, ◌≤◌, ◌==◌, Bool, true, false, if◌then◌else◌, List, [], ◌∷◌, ◌++◌, length, drop, Option, Some, None, Result, Ok, Err, refl, ◌⊎◌}
+use Rattle.std.specs.Prelude.{◌≡◌, ◌≢◌, ℕ, ◌==◌, Bool, if◌then◌else◌, List, [], ◌∷◌, ◌++◌, length, drop, Option, Some, None, Result, Ok, Err, refl}
 use Rattle.std.proofs.Common.{ap, sym, subst, ◌∙◌, inl, inr, arith, length-append}
 use Rattle.std.proofs.lemmas.Bool.Decides.{eqb_tells}
 use Rattle.std.proofs.lemmas.List.{drop_all, drop-append-le}
 use Rattle.daq_types.specs.declared.events.Event.{Event}
 use Rattle.daq_types.specs.declared.runs.Order.{Order}
-use Rattle.daq_types.specs.declared.runs.Transition.TheVariants.{Start}
 use Rattle.buffer_core.specs.declared.replies.SendRefusal.{SendRefusal}
 use Rattle.buffer_core.specs.declared.entry.BufferEntry.{BufferEntry}
 use Rattle.buffer_core.specs.declared.entry.BufferEntry.TheVariants.{SendInRun}
 use Rattle.transitions.specs.declared.answers.Answer.{Answer}
-use Rattle.member_model.specs.Turns.{MemberTurn, IsAcceptedStart, HasTurnOf, HasAnswer, HasNoStart, IsOfRun, AreEngineTurns, latest_answered}
-use Rattle.member_model.specs.Moments.{AreMoments, HasMoment, moments_answered}
+use Rattle.member_model.specs.Turns.{MemberTurn, IsAcceptedStart, IsOfRun, AreEngineTurns, latest_answered}
+use Rattle.member_model.specs.Moments.{moments_answered}
 use Rattle.member_model.specs.SentCalls.{sent_by_call, own_sent, SendsNotIn, EachCall}
 use Rattle.member_model.proofs.SentLaws.{EachCall-push}
 use Rattle.member_model.proofs.MomentLaws.{AreMoments-later, moment_within, moment_stands}
 use Rattle.front_ends.specs.declared.front_run.FrontRun.{FrontRun}
 use Rattle.front_ends.specs.Fronts.{events_sent}
-use Rattle.front_ends.specs.FrontKept.{made_events, IsMade, IsMadeFor, IsNextCall, AreNextSends, KeepsFront, KeepsMoments, TakesPart, IsInRun, FrontStands}
+use Rattle.front_ends.specs.FrontKept.{IsNextCall, AreNextSends, KeepsMoments, TakesPart, IsInRun, FrontStands}
 use Rattle.front_ends.proofs.FrontGrows.{length-made_events}
 
 -- nothing stands behind all calls
