@@ -15,7 +15,7 @@ use Rattle.mid_logger.specs.declared.channel_spec.ChannelSpec.{ChannelSpec}
 use Rattle.odb_path.specs.Paths.{same_name}
 use Rattle.session_setup.specs.declared.declared.BufferDeclared.{BufferDeclared}
 use Rattle.session_setup.specs.declared.declared.FrontDeclared.{FrontDeclared}
-use Rattle.session_setup.specs.Setup.{Declared, AreSound, system_name, system_size, most_buffer_bytes, is_buffer_size, is_front_id, total_size, has_buffer, buffer_named, has_front_id, has_channel}
+use Rattle.session_setup.specs.Setup.{Declared, AreSound, system_name, system_size, most_in_all, is_buffer_size, is_front_id, total_size, has_buffer, buffer_named, has_front_id, has_channel}
 use Rattle.session_setup.specs.SetupLines.{first_resized, with_buffer, with_front, with_channel, number_of_buffer, buffer_refusal, equip_refusal, channel_refusal, default_front, default_channel}
 use Rattle.session_setup.proofs.Taken.{buffer_taken, front_taken, channel_taken}
 
@@ -157,7 +157,7 @@ system_stays (b ∷ bs) new h = h
 
 buffers_sound : (d : Declared) (is_system : Bool) (name : List ℕ) (size : ℕ) → AreSound d → is_buffer_size size ≡ true
     → length (if is_system then first_resized size d.buffers else (d.buffers ++ record { name = name; size = size } ∷ [])) ≤ 8
-    → total_size (if is_system then first_resized size d.buffers else (d.buffers ++ record { name = name; size = size } ∷ [])) ≤ most_buffer_bytes
+    → total_size (if is_system then first_resized size d.buffers else (d.buffers ++ record { name = name; size = size } ∷ [])) ≤ most_in_all
     → (is_system ≡ false → has_buffer d.buffers name ≡ false)
     → AreSound (record d { buffers = if is_system then first_resized size d.buffers else (d.buffers ++ record { name = name; size = size } ∷ []) })
 buffers_sound d true name size sound sized few total fresh = let same = length_resized size d.buffers in record {

@@ -8,7 +8,7 @@ use Rattle.daq_types.specs.declared.names.NameRefusal.{NameRefusal}
 use Rattle.mid_logger.specs.Patterns.{NamePattern}
 use Rattle.session_setup.specs.declared.refusals.SetupRefusal.{SetupRefusal}
 use Rattle.session_setup.specs.declared.refusals.SetupRefusal.TheVariants.{Exists, BadBufferSize, TooMany, SameName, BadId, SameId, NoBuffer, BadChannel, SameChannel, BadPattern}
-use Rattle.session_setup.specs.Setup.{Declared, most_buffer_bytes, is_buffer_size, is_front_id, total_size, has_buffer, has_front_id, has_channel, is_member_name}
+use Rattle.session_setup.specs.Setup.{Declared, most_in_all, is_buffer_size, is_front_id, total_size, has_buffer, has_front_id, has_channel, is_member_name}
 use Rattle.session_setup.specs.Refusals.{first_refusal, refused_if, name_refusal}
 use Rattle.session_setup.specs.SetupLines.{buffers_with, is_taken_name, buffer_tests, equip_tests, channel_tests, buffer_refusal, equip_refusal, channel_refusal}
 
@@ -37,7 +37,7 @@ pub record BufferTaken (d : Declared) (read : Result (List ℕ) NameRefusal) (na
   pub fresh : is_taken_name d.buffers name ≡ false
   pub sized : is_buffer_size size ≡ true
   pub few : length (buffers_with d.buffers name size) ≤ 8
-  pub total : total_size (buffers_with d.buffers name size) ≤ most_buffer_bytes
+  pub total : total_size (buffers_with d.buffers name size) ≤ most_in_all
 
 pub buffer_taken : (d : Declared) (read : Result (List ℕ) NameRefusal) (name : List ℕ) (size : ℕ) → buffer_refusal d read name size ≡ None → BufferTaken d read name size
 buffer_taken d read name size h = let none = none_of (buffer_tests d read name size) h in let few = length (buffers_with d.buffers name size) in let total = total_size (buffers_with d.buffers name size) in record {
@@ -45,7 +45,7 @@ buffer_taken d read name size h = let none = none_of (buffer_tests d read name s
   fresh = passed (is_taken_name d.buffers name) Exists none.1.1.0;
   sized = is_true (is_buffer_size size) (passed (not (is_buffer_size size)) BadBufferSize none.1.1.1.0);
   few = at_most 8 few (passed (nat_lt 8 few) (TooMany 8) none.1.1.1.1.0);
-  total = at_most most_buffer_bytes total (passed (nat_lt most_buffer_bytes total) (TooMany most_buffer_bytes) none.1.1.1.1.1.0);
+  total = at_most most_in_all total (passed (nat_lt most_in_all total) (TooMany most_in_all) none.1.1.1.1.1.0);
 }
 
 pub record FrontTaken (d : Declared) (read : Result (List ℕ) NameRefusal) (name : List ℕ) (id : ℕ) (buffer : List ℕ) : Type 0 where

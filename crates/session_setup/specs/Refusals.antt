@@ -6,8 +6,12 @@ use Rattle.daq_types.specs.declared.names.NameRefusal.{NameRefusal}
 use Rattle.session_setup.specs.declared.refusals.SetupRefusal.{SetupRefusal}
 use Rattle.session_setup.specs.declared.refusals.SetupRefusal.TheVariants.{BadName}
 
+-- what each test of a line refuses, in their order
+abbrev pub LineTests : Type 0
+LineTests = List (Option SetupRefusal)
+
 -- the first refusal of a list
-abbrev pub first_refusal : List (Option SetupRefusal) → Option SetupRefusal
+abbrev pub first_refusal : LineTests → Option SetupRefusal
 first_refusal [] = None
 first_refusal (None ∷ rest) = first_refusal rest
 first_refusal (Some refusal ∷ rest) = Some refusal
@@ -22,12 +26,16 @@ abbrev pub ok_unless : Option SetupRefusal → Result (Unit {0}) SetupRefusal
 ok_unless None = Ok tt
 ok_unless (Some refusal) = Err refusal
 
--- what a text is as a name: the name, or why it is none
-abbrev pub IsNameRead : List ℕ → Result (List ℕ) NameRefusal → Type 0
+-- a name, or why a text is none
+abbrev pub NameRead : Type 0
+NameRead = Result (List ℕ) NameRefusal
+
+-- what a text is as a name
+abbrev pub IsNameRead : List ℕ → NameRead → Type 0
 IsNameRead text (Ok name) = IsName text × (name ≡ text)
 IsNameRead text (Err refusal) = IsNameFault text refusal
 
 -- the refusal of a text that is no name
-abbrev pub name_refusal : Result (List ℕ) NameRefusal → Option SetupRefusal
+abbrev pub name_refusal : NameRead → Option SetupRefusal
 name_refusal (Ok name) = None
 name_refusal (Err refusal) = Some (BadName refusal)

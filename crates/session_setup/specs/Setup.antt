@@ -6,8 +6,8 @@ use Rattle.mid_logger.specs.declared.channel_spec.ChannelSpec.{ChannelSpec}
 use Rattle.session_setup.specs.declared.declared.BufferDeclared.{BufferDeclared}
 use Rattle.session_setup.specs.declared.declared.FrontDeclared.{FrontDeclared}
 
--- The declarations of a session, each list in their order, and whether the session was opened. A buffer's number is its
--- place in the list.
+-- The declarations of a session, each list in their order, and whether the session was opened. A buffer's number is
+-- its place in the list.
 pub record Declared : Type 0 where
   pub opened : Bool
   pub buffers : List BufferDeclared
@@ -22,12 +22,17 @@ abbrev pub system_size : ℕ
 system_size = 1048576
 
 -- the most bytes that all buffers have together
-abbrev pub most_buffer_bytes : ℕ
-most_buffer_bytes = 1073741824
+abbrev pub most_in_all : ℕ
+most_in_all = 1073741824
 
 -- a session for which nothing is declared yet
 abbrev pub nothing_declared : Declared
-nothing_declared = record { opened = false; buffers = record { name = system_name; size = system_size } ∷ []; fronts = []; channels = [] }
+nothing_declared = record {
+  opened = false;
+  buffers = record { name = system_name; size = system_size } ∷ [];
+  fronts = [];
+  channels = [];
+}
 
 -- a size that a buffer may have, in bytes
 abbrev pub is_buffer_size : ℕ → Bool
@@ -63,13 +68,14 @@ has_channel channels number = list_any (λ channel. channel.number == number) ch
 abbrev pub is_member_name : Declared → List ℕ → Bool
 is_member_name d name = same_name (codes "Logger") name || front_named d.fronts name
 
--- What all declarations keep: SYSTEM is the first buffer; sizes, ids and numbers are in their ranges, and their lists within
--- the limits; no two buffers, front-ends or channels are called the same; and each reads or writes a buffer that is there.
+-- What all declarations keep: SYSTEM is the first buffer; sizes, ids and numbers are in their ranges, and their lists
+-- within the limits; no two buffers, front-ends or channels are called the same; and each front-end and channel has a
+-- buffer that is there.
 pub record AreSound (d : Declared) : Type 0 where
   pub system : map (λ buffer. buffer.name) (take 1 d.buffers) ≡ system_name ∷ []
   pub few_buffers : length d.buffers ≤ 8
   pub sizes : All (λ buffer. IsTrue (is_buffer_size buffer.size)) d.buffers
-  pub total : total_size d.buffers ≤ most_buffer_bytes
+  pub total : total_size d.buffers ≤ most_in_all
   pub buffer_names : IsDistinct same_name (map (λ buffer. buffer.name) d.buffers)
   pub few_fronts : length d.fronts ≤ 32
   pub front_ids : All (λ front. IsTrue (is_front_id front.id)) d.fronts

@@ -20,8 +20,8 @@ const MOST_BUFFER_BYTES: u64 = 1_073_741_824;
 /// The id and the mask with which a channel asks for all events.
 const ANY: u16 = 0xFFFF;
 
-/// What a session has before it opens: buffers, of which `SYSTEM` is there from the beginning, front-ends, and the channels
-/// of its logger. The room for all that can be declared is taken once.
+/// What a session has before it opens: buffers, of which `SYSTEM` is there from the beginning, front-ends, and the
+/// channels of its logger. The room for all that can be declared is taken once.
 #[derive(Debug, Drop)]
 pub struct Declarations {
     opened: bool,
@@ -35,9 +35,19 @@ impl Model for Declarations {
 
     ghost Value = { Declared };
 
-    ghost view = { λ d. record { opened = d.opened; buffers = d.buffers; fronts = d.fronts; channels = d.channels } };
+    ghost view = { λ d. record {
+      opened = d.opened;
+      buffers = d.buffers;
+      fronts = d.fronts;
+      channels = d.channels;
+    } };
 
-    ghost invariant = { λ d. AreSound (record { opened = d.opened; buffers = d.buffers; fronts = d.fronts; channels = d.channels }) };
+    ghost invariant = { λ d. AreSound (record {
+      opened = d.opened;
+      buffers = d.buffers;
+      fronts = d.fronts;
+      channels = d.channels;
+    }) };
 }
 
 /// The refusal of a text that is no name.
@@ -200,8 +210,8 @@ impl Declarations {
         Ok(())
     }
 
-    /// Opens the session: from here on nothing can be declared. Where no front-end was declared there is one, `FE`, whose
-    /// events have id 1; and where no channel was, there is channel 0, for all events of `SYSTEM`.
+    /// Opens the session: from here on nothing can be declared. Where no front-end was declared there is one, `FE`,
+    /// whose events have id 1; and where no channel was, there is channel 0, for all events of `SYSTEM`.
     pub fn open(&mut self)
         ensures { self.new ≡ opened_with_defaults self.old }
     {
