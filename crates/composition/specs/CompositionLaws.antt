@@ -1,5 +1,5 @@
--- What the members' contracts and the histories of all objects tell together: what the laws say of a session whose members keep
--- their contracts.
+-- What the members' contracts and the histories of all objects tell together: what the laws say of a session whose members
+-- keep their contracts.
 use Rattle.std.specs.Prelude.{◌≡◌, ℕ, List, slice_get, Some}
 use Rattle.daq_types.specs.declared.runs.ChannelState.{ChannelState}
 use Rattle.daq_types.specs.declared.runs.ChannelState.TheVariants.{Ended, Broken}
@@ -28,16 +28,17 @@ FrontsSent s = (r : SessionRun) → IsStoppedRun s r →
     (f : SessionFront) → HasFront s f → (sent : ℕ) → (ended : FrontEnded) → TellsFront r f.client sent ended →
     FrontSent s r f sent ended
 
--- And all of that stands between the marks of the run, in the front-end's order: at the places of its sends stand just these
--- events.
+-- And all of that stands between the marks of the run, in the front-end's order: at the places of its sends stand just
+-- these events.
 abbrev pub FrontsStand : Session → Type 0
 FrontsStand s = (r : SessionRun) → IsStoppedRun s r →
     (f : SessionFront) → HasFront s f → (sent : ℕ) → (ended : FrontEnded) → TellsFront r f.client sent ended →
     (let own : List BufferEntry = buffer_calls s f.buffer f.client in
-    events_in (events_at_places (places_sent own r.start) (segment (s.history f.buffer) r.start)) ≡ made_events f.makes (run_order r) sent)
+    events_in (events_at_places (places_sent own r.start) (segment (s.history f.buffer) r.start))
+    ≡ made_events f.makes (run_order r) sent)
 
--- Each front-end set in the database, in its own key alone, 0 at each start, and at each pause and each stop how many events it
--- had sent in the run by then, in the order of these turns.
+-- Each front-end set in the database, in its own key alone, 0 at each start, and at each pause and each stop how many events
+-- it had sent in the run by then, in the order of these turns.
 abbrev pub FrontsSet : Session → Type 0
 FrontsSet s = (f : SessionFront) → HasFront s f →
     AreTurnSets f.name (buffer_calls s f.buffer f.client) (turns_of s f.client) f.moments (database_calls s f.client)
@@ -45,11 +46,13 @@ FrontsSet s = (f : SessionFront) → HasFront s f →
 -- What it set at the stop of a run is what it told in the Done of the stop.
 abbrev pub StopsSet : Session → Type 0
 StopsSet s = (r : SessionRun) → IsStoppedRun s r →
-    (f : SessionFront) → HasFront s f → (sent : ℕ) → (ended : FrontEnded) → TellsFront r f.client sent ended → SetAtStop s r f sent
+    (f : SessionFront) → HasFront s f → (sent : ℕ) → (ended : FrontEnded) → TellsFront r f.client sent ended →
+    SetAtStop s r f sent
 
 -- Each event between the marks of a run in a buffer was sent in that run by a front-end of that buffer.
 abbrev pub OnlyFrontsSent : Session → Type 0
-OnlyFrontsSent s = (buffer start index place : ℕ) → (x : Sent) → slice_get (segment (s.history buffer) start) index ≡ Some (place, x) →
+OnlyFrontsSent s = (buffer start index place : ℕ) → (x : Sent) →
+    slice_get (segment (s.history buffer) start) index ≡ Some (place, x) →
     IsOfFront s buffer start place x.event
 
 -- The logger has told in the Done of the stop what became of each channel, and that is so.
@@ -65,8 +68,8 @@ FilesHoldRuns s = (r : SessionRun) → IsStoppedRun s r →
     (index : ℕ) → (channel : LoggerChannel) → slice_get s.channels index ≡ Some channel → ToldState s r channel Ended →
     (dump : List ℕ) → r.first.dump ≡ Some dump → HoldsRunFile s r channel dump
 
--- The file of a channel that was told to be broken begins that run file, where the end of the run was accepted and the stop had
--- a dump.
+-- The file of a channel that was told to be broken begins that run file, where the end of the run was accepted and the stop
+-- had a dump.
 abbrev pub FilesHoldParts : Session → Type 0
 FilesHoldParts s = (r : SessionRun) → IsStoppedRun s r →
     (index : ℕ) → (channel : LoggerChannel) → slice_get s.channels index ≡ Some channel → ToldState s r channel Broken →
@@ -79,14 +82,15 @@ abbrev pub ReportsTold : Session → Type 0
 ReportsTold s = (r : SessionRun) → IsStoppedRun s r →
     (a : SessionAnalyzer) → HasAnalyzer s a → (report : Totals) × TellsTotals r a.client report
 
--- And that is the report of the events with the run's start number that its client got, in order, from its one request on, until
--- it was drained of all that the buffer had taken by its stop.
+-- And that is the report of the events with the run's start number that its client got, in order, from its one request on,
+-- until it was drained of all that the buffer had taken by its stop.
 abbrev pub ReportsSo : Session → Type 0
 ReportsSo s = (r : SessionRun) → IsStoppedRun s r →
-    (a : SessionAnalyzer) → HasAnalyzer s a → (report : Totals) → TellsTotals r a.client report → ReportsRun s r a report
+    (a : SessionAnalyzer) → HasAnalyzer s a → (report : Totals) → TellsTotals r a.client report →
+    ReportsRun s r a report
 
 -- And where it saw the run through, it is the report of all events between the marks of the run that it asks for.
 abbrev pub ReportsWhole : Session → Type 0
 ReportsWhole s = (r : SessionRun) →
-    (a : SessionAnalyzer) → HasAnalyzer s a → (report : Totals) → (told : ReportsRun s r a report) → SawThrough s r a report told →
-    report ≡ report_of (analyzer_events s r a)
+    (a : SessionAnalyzer) → HasAnalyzer s a → (report : Totals) → (told : ReportsRun s r a report) →
+    SawThrough s r a report told → report ≡ report_of (analyzer_events s r a)

@@ -49,13 +49,17 @@ abbrev pub counted_engine : (told : Event) → EngineHistory
 counted_engine told =
     (0, Register [] (at_all 1) true false (Ok 0)) ∷ (0, Register [] (at_all 2) false false (Ok 1))
     ∷ (0, Register [] (at_all 3) false true (Ok 2)) ∷ (0, Begin Start counted_sheet (Ok 1))
-    ∷ (1, Poll 0 (Turn Start (order_for counted_sheet 1 Stopped) (Some (7 ∷ [])) None)) ∷ (1, Answer 0 (Yes Plain) (Ok tt))
+    ∷ (1, Poll 0 (Turn Start (order_for counted_sheet 1 Stopped) (Some (7 ∷ [])) None))
+    ∷ (1, Answer 0 (Yes Plain) (Ok tt))
     ∷ (2, Poll 1 (Turn Start (order_for counted_sheet 1 Stopped) None None)) ∷ (2, Answer 1 (Yes Plain) (Ok tt))
-    ∷ (3, Poll 2 (Turn Start (order_for counted_sheet 1 Stopped) None (Some (report_of [])))) ∷ (3, Answer 2 (Yes Plain) (Ok tt))
+    ∷ (3, Poll 2 (Turn Start (order_for counted_sheet 1 Stopped) None (Some (report_of []))))
+    ∷ (3, Answer 2 (Yes Plain) (Ok tt))
     ∷ (0, Check (Done Completed) plain_by_three) ∷ (0, Begin Stop last_sheet (Ok 1))
-    ∷ (1, Poll 0 (Turn Stop (order_for last_sheet 1 Running) (Some (8 ∷ [])) None)) ∷ (1, Answer 0 (Yes (Channels [])) (Ok tt))
+    ∷ (1, Poll 0 (Turn Stop (order_for last_sheet 1 Running) (Some (8 ∷ [])) None))
+    ∷ (1, Answer 0 (Yes (Channels [])) (Ok tt))
     ∷ (2, Poll 1 (Turn Stop (order_for last_sheet 1 Running) None None)) ∷ (2, Answer 1 (Yes (Front 1 Quota)) (Ok tt))
-    ∷ (3, Poll 2 (Turn Stop (order_for last_sheet 1 Running) None None)) ∷ (3, Answer 2 (Yes (Report (counted_report told))) (Ok tt))
+    ∷ (3, Poll 2 (Turn Stop (order_for last_sheet 1 Running) None None))
+    ∷ (3, Answer 2 (Yes (Report (counted_report told))) (Ok tt))
     ∷ (0, Check (Done Completed) (counted_tallies told)) ∷ []
 
 -- the one buffer, in which the front-end's event is sent, and the analyzer gets what stands at its place

@@ -97,7 +97,8 @@ early_front = record sample_front { moments = 0 ∷ 0 ∷ [] }
 abbrev pub early_session : Session
 early_session = record sample_session {
   fronts = early_front ∷ [];
-  database = (2, Set (sent_path sample_name) 0 (UInt64 0) (Ok 8)) ∷ (2, Set (sent_path sample_name) 0 (UInt64 0) (Ok 8)) ∷ [];
+  database =
+      (2, Set (sent_path sample_name) 0 (UInt64 0) (Ok 8)) ∷ (2, Set (sent_path sample_name) 0 (UInt64 0) (Ok 8)) ∷ [];
 }
 
 -- the front-end sets nothing
@@ -106,7 +107,14 @@ nothing_set = record sample_session { database = [] }
 
 -- there is no file
 abbrev pub no_files : Seen
-no_files = record { tells = true; at = λ name. None; writes = λ number. false; reads = λ number. false; name_of = λ number. []; left = λ number. [] }
+no_files = record {
+  tells = true;
+  at = λ name. None;
+  writes = λ number. false;
+  reads = λ number. false;
+  name_of = λ number. [];
+  left = λ number. [];
+}
 
 abbrev pub nothing_stored : Session
 nothing_stored = record sample_session { files = no_files }
@@ -117,14 +125,21 @@ other_got zero = got_first longer_event ∷ []
 other_got (suc n) = []
 
 abbrev pub other_files : Seen
-other_files = record sample_files { at = λ name. Some (stored_closed (run_file 1 1000 (7 ∷ []) (longer_event ∷ []) 2000 (8 ∷ []))) }
+other_files = record sample_files {
+  at = λ name. Some (stored_closed (run_file 1 1000 (7 ∷ []) (longer_event ∷ []) 2000 (8 ∷ [])));
+}
 
 abbrev pub other_told : Session
 other_told = record sample_session { got = other_got; files = other_files }
 
 -- an analyzer that asks for all events, by this client of the engine
 abbrev pub sample_analyzer : (client : ℕ) → SessionAnalyzer
-sample_analyzer client = record { client = client; buffer = 0; wanted = record { id = any; mask = any; kind = All }; got = [] }
+sample_analyzer client = record {
+  client = client;
+  buffer = 0;
+  wanted = record { id = any; mask = any; kind = All };
+  got = [];
+}
 
 -- what is taken for an analyzer is the front-end, which tells no report
 abbrev pub front_for_analyzer : Session
@@ -177,22 +192,32 @@ plain_tallies = record { client = 0; tally = Plain } ∷ []
 -- the Dones tell what no client answered
 abbrev pub made_up_engine : EngineHistory
 made_up_engine =
-    (0, Register [] (at_all 1) true false (Ok 0)) ∷ (0, Begin Start first_sheet (Ok 1)) ∷ (0, Check (Done Completed) plain_tallies)
-    ∷ (0, Begin Stop last_sheet (Ok 1)) ∷ (0, Check (Done Completed) (record { client = 0; tally = Channels (Ended ∷ []) } ∷ [])) ∷ []
+    (0, Register [] (at_all 1) true false (Ok 0)) ∷ (0, Begin Start first_sheet (Ok 1))
+    ∷ (0, Check (Done Completed) plain_tallies)
+    ∷ (0, Begin Stop last_sheet (Ok 1))
+    ∷ (0, Check (Done Completed) (record { client = 0; tally = Channels (Ended ∷ []) } ∷ [])) ∷ []
 
 abbrev pub made_up : Session
 made_up = logger_session (λ buffer. []) made_up_engine
 
 abbrev pub ended_run : SessionRun
-ended_run = record { start = 1; first = first_sheet; last = last_sheet; first_tallies = plain_tallies; last_tallies = record { client = 0; tally = Channels (Ended ∷ []) } ∷ [] }
+ended_run = record {
+  start = 1;
+  first = first_sheet;
+  last = last_sheet;
+  first_tallies = plain_tallies;
+  last_tallies = record { client = 0; tally = Channels (Ended ∷ []) } ∷ [];
+}
 
 -- another caller answers for the logger
 abbrev pub spoken_for_engine : EngineHistory
 spoken_for_engine =
     (0, Register [] (at_all 1) true false (Ok 0)) ∷ (0, Begin Start first_sheet (Ok 1))
-    ∷ (3, Poll 0 (Turn Start (order_for first_sheet 1 Stopped) (Some (7 ∷ [])) None)) ∷ (3, Answer 0 (Yes Plain) (Ok tt))
+    ∷ (3, Poll 0 (Turn Start (order_for first_sheet 1 Stopped) (Some (7 ∷ [])) None))
+    ∷ (3, Answer 0 (Yes Plain) (Ok tt))
     ∷ (0, Check (Done Completed) plain_tallies) ∷ (0, Begin Stop last_sheet (Ok 1))
-    ∷ (3, Poll 0 (Turn Stop (order_for last_sheet 1 Running) (Some (8 ∷ [])) None)) ∷ (3, Answer 0 (Yes (Channels (Ended ∷ []))) (Ok tt))
+    ∷ (3, Poll 0 (Turn Stop (order_for last_sheet 1 Running) (Some (8 ∷ [])) None))
+    ∷ (3, Answer 0 (Yes (Channels (Ended ∷ []))) (Ok tt))
     ∷ (0, Check (Done Completed) (record { client = 0; tally = Channels (Ended ∷ []) } ∷ [])) ∷ []
 
 abbrev pub spoken_for : Session
@@ -204,7 +229,8 @@ no_dump_engine =
     (0, Register [] (at_all 1) false false (Ok 0)) ∷ (0, Begin Start first_sheet (Ok 1))
     ∷ (1, Poll 0 (Turn Start (order_for first_sheet 1 Stopped) None None)) ∷ (1, Answer 0 (Yes Plain) (Ok tt))
     ∷ (0, Check (Done Completed) plain_tallies) ∷ (0, Begin Stop last_sheet (Ok 1))
-    ∷ (1, Poll 0 (Turn Stop (order_for last_sheet 1 Running) None None)) ∷ (1, Answer 0 (Yes (Channels (NoEnd ∷ []))) (Ok tt))
+    ∷ (1, Poll 0 (Turn Stop (order_for last_sheet 1 Running) None None))
+    ∷ (1, Answer 0 (Yes (Channels (NoEnd ∷ []))) (Ok tt))
     ∷ (0, Check (Done Completed) (record { client = 0; tally = Channels (NoEnd ∷ []) } ∷ [])) ∷ []
 
 abbrev pub marked_history : (buffer : ℕ) → History
@@ -215,4 +241,10 @@ abbrev pub no_dump : Session
 no_dump = logger_session marked_history no_dump_engine
 
 abbrev pub no_end_run : SessionRun
-no_end_run = record { start = 1; first = first_sheet; last = last_sheet; first_tallies = plain_tallies; last_tallies = record { client = 0; tally = Channels (NoEnd ∷ []) } ∷ [] }
+no_end_run = record {
+  start = 1;
+  first = first_sheet;
+  last = last_sheet;
+  first_tallies = plain_tallies;
+  last_tallies = record { client = 0; tally = Channels (NoEnd ∷ []) } ∷ [];
+}

@@ -68,14 +68,17 @@ paused_engine =
     ∷ (0, Register [] (at_each 2) true false (Ok 2)) ∷ (0, Begin Start first_sheet (Ok 1))
     ∷ (1, Poll 0 (Turn Start (order_for first_sheet 1 Stopped) None None)) ∷ (1, Answer 0 (Yes Plain) (Ok tt))
     ∷ (2, Poll 1 (Turn Start (order_for first_sheet 1 Stopped) None None)) ∷ (2, Answer 1 (Yes Plain) (Ok tt))
-    ∷ (3, Poll 2 (Turn Start (order_for first_sheet 1 Stopped) (Some (7 ∷ [])) None)) ∷ (3, Answer 2 (Yes Plain) (Ok tt))
+    ∷ (3, Poll 2 (Turn Start (order_for first_sheet 1 Stopped) (Some (7 ∷ [])) None))
+    ∷ (3, Answer 2 (Yes Plain) (Ok tt))
     ∷ (0, Check (Done Completed) plain_by_all) ∷ (0, Begin Pause pause_sheet (Ok 1))
     ∷ (1, Poll 0 (Turn Pause (order_for pause_sheet 1 Running) None None)) ∷ (1, Answer 0 (Yes Plain) (Ok tt))
     ∷ (2, Poll 1 (Turn Pause (order_for pause_sheet 1 Running) None None)) ∷ (2, Answer 1 (Yes Plain) (Ok tt))
     ∷ (3, Poll 2 (Turn Pause (order_for pause_sheet 1 Running) None None)) ∷ (3, Answer 2 (Yes Plain) (Ok tt))
     ∷ (0, Check (Done Completed) plain_by_all) ∷ (0, Begin Stop paused_stop_sheet (Ok 1))
-    ∷ (1, Poll 0 (Turn Stop (order_for paused_stop_sheet 1 Paused) None None)) ∷ (1, Answer 0 (Yes (Front 1 EndedPaused)) (Ok tt))
-    ∷ (2, Poll 1 (Turn Stop (order_for paused_stop_sheet 1 Paused) None None)) ∷ (2, Answer 1 (Yes (Front 1 EndedPaused)) (Ok tt))
+    ∷ (1, Poll 0 (Turn Stop (order_for paused_stop_sheet 1 Paused) None None))
+    ∷ (1, Answer 0 (Yes (Front 1 EndedPaused)) (Ok tt))
+    ∷ (2, Poll 1 (Turn Stop (order_for paused_stop_sheet 1 Paused) None None))
+    ∷ (2, Answer 1 (Yes (Front 1 EndedPaused)) (Ok tt))
     ∷ (3, Poll 2 (Turn Stop (order_for paused_stop_sheet 1 Paused) (Some (8 ∷ [])) None))
     ∷ (3, Answer 2 (Yes (Channels (Ended ∷ Ended ∷ []))) (Ok tt))
     ∷ (0, Check (Done Completed) paused_tallies) ∷ (0, Begin Start refused_sheet (Ok 2))
@@ -131,7 +134,14 @@ paused_database =
 
 -- the channel of this number, at the buffer of this number
 abbrev pub paused_channel : (number : ℕ) → LoggerChannel
-paused_channel number = record { number = number; name = λ run. number ∷ []; buffer = number; client = 0; id = any; mask = any }
+paused_channel number = record {
+  number = number;
+  name = λ run. number ∷ [];
+  buffer = number;
+  client = 0;
+  id = any;
+  mask = any;
+}
 
 -- each file is that of the run
 abbrev pub paused_files : Seen
@@ -159,4 +169,10 @@ paused_session = record {
 }
 
 abbrev pub pausing_run : SessionRun
-pausing_run = record { start = 1; first = first_sheet; last = paused_stop_sheet; first_tallies = plain_by_all; last_tallies = paused_tallies }
+pausing_run = record {
+  start = 1;
+  first = first_sheet;
+  last = paused_stop_sheet;
+  first_tallies = plain_by_all;
+  last_tallies = paused_tallies;
+}

@@ -30,7 +30,8 @@ numbers_set own (t ∷ turns) (moment ∷ moments) =
 
 -- The calls on the database of the front-end with this name are the sets of these numbers in its own key, in order, whatever
 -- they were replied; those of a latest turn that has no answer may still be to come.
-abbrev pub AreTurnSets : (name : List ℕ) → List BufferEntry → List MemberTurn → (moments : List ℕ) → List DatabaseEntry → Type 0
+abbrev pub AreTurnSets : (name : List ℕ) → List BufferEntry → List MemberTurn → (moments : List ℕ) →
+    List DatabaseEntry → Type 0
 AreTurnSets name own [] moments calls = calls ≡ []
 AreTurnSets name own (t ∷ turns) [] calls = ⊥
 AreTurnSets name own (t ∷ turns) (moment ∷ moments) calls =

@@ -47,11 +47,14 @@ last_tallies = record { client = 0; tally = Channels (Ended ∷ []) } ∷ record
 -- the engine's calls: registrations, the start, and the stop
 abbrev pub sample_engine : EngineHistory
 sample_engine =
-    (0, Register [] (at_all 1) true false (Ok 0)) ∷ (0, Register [] (at_all 2) false false (Ok 1)) ∷ (0, Begin Start first_sheet (Ok 1))
-    ∷ (1, Poll 0 (Turn Start (order_for first_sheet 1 Stopped) (Some (7 ∷ [])) None)) ∷ (1, Answer 0 (Yes Plain) (Ok tt))
+    (0, Register [] (at_all 1) true false (Ok 0)) ∷ (0, Register [] (at_all 2) false false (Ok 1))
+    ∷ (0, Begin Start first_sheet (Ok 1))
+    ∷ (1, Poll 0 (Turn Start (order_for first_sheet 1 Stopped) (Some (7 ∷ [])) None))
+    ∷ (1, Answer 0 (Yes Plain) (Ok tt))
     ∷ (2, Poll 1 (Turn Start (order_for first_sheet 1 Stopped) None None)) ∷ (2, Answer 1 (Yes Plain) (Ok tt))
     ∷ (0, Check (Done Completed) first_tallies) ∷ (0, Begin Stop last_sheet (Ok 1))
-    ∷ (1, Poll 0 (Turn Stop (order_for last_sheet 1 Running) (Some (8 ∷ [])) None)) ∷ (1, Answer 0 (Yes (Channels (Ended ∷ []))) (Ok tt))
+    ∷ (1, Poll 0 (Turn Stop (order_for last_sheet 1 Running) (Some (8 ∷ [])) None))
+    ∷ (1, Answer 0 (Yes (Channels (Ended ∷ []))) (Ok tt))
     ∷ (2, Poll 1 (Turn Stop (order_for last_sheet 1 Running) None None)) ∷ (2, Answer 1 (Yes (Front 1 Quota)) (Ok tt))
     ∷ (0, Check (Done Completed) last_tallies) ∷ []
 
@@ -70,10 +73,18 @@ sample_name = codes "F"
 
 -- it sets 0 at its start, and 1 at its stop
 abbrev pub sample_database : List (ℕ × DatabaseEntry)
-sample_database = (2, Set (sent_path sample_name) 0 (UInt64 0) (Ok 8)) ∷ (2, Set (sent_path sample_name) 0 (UInt64 1) (Ok 8)) ∷ []
+sample_database =
+    (2, Set (sent_path sample_name) 0 (UInt64 0) (Ok 8)) ∷ (2, Set (sent_path sample_name) 0 (UInt64 1) (Ok 8)) ∷ []
 
 abbrev pub sample_front : SessionFront
-sample_front = record { name = sample_name; client = 1; buffer = 0; takes = λ order. true; makes = λ order number. sample_event; moments = 1 ∷ 0 ∷ [] }
+sample_front = record {
+  name = sample_name;
+  client = 1;
+  buffer = 0;
+  takes = λ order. true;
+  makes = λ order number. sample_event;
+  moments = 1 ∷ 0 ∷ [];
+}
 
 abbrev pub sample_channel : LoggerChannel
 sample_channel = record { number = 0; name = λ run. []; buffer = 0; client = 0; id = any; mask = any }
@@ -104,4 +115,10 @@ sample_session = record {
 }
 
 abbrev pub sample_run : SessionRun
-sample_run = record { start = 1; first = first_sheet; last = last_sheet; first_tallies = first_tallies; last_tallies = last_tallies }
+sample_run = record {
+  start = 1;
+  first = first_sheet;
+  last = last_sheet;
+  first_tallies = first_tallies;
+  last_tallies = last_tallies;
+}

@@ -1,4 +1,5 @@
--- A session's objects and members: the one history of each object, and the contract that each member keeps over its own calls.
+-- A session's objects and members: the one history of each object, and the contract that each member keeps over its own
+-- calls.
 use Rattle.std.specs.Prelude.{◌≡◌, ℕ, Bool, List, [], slice_get, Some, Ok, ◌++◌, ◌∷◌, ⊤, ◌⊎◌}
 use Rattle.std.specs.List.{AllByRecursion}
 use Rattle.daq_types.specs.Callers.{caller_of_client, entries_by}
@@ -28,7 +29,8 @@ use Rattle.caller_laws.specs.OneCaller.{WasSentAt}
 use Rattle.engine_laws.specs.BegunTurns.{IsRegisteredIn, OneWantsDump}
 use Rattle.composition.specs.SentSets.{AreTurnSets}
 
--- a front-end: its name, its client number, the number of its buffer, what its equipment does, and the moments of its turns
+-- a front-end: its name, its client number, the number of its buffer, what its equipment does, and the moments of its
+-- turns
 pub record SessionFront : Type 0 where
   pub name : List ℕ
   pub client : ℕ
@@ -44,9 +46,9 @@ pub record SessionAnalyzer : Type 0 where
   pub wanted : EventRequest
   pub got : List GotEvent
 
--- A session, as the histories of its objects tell it: the size and the history of the buffer of each number, where a number that
--- no buffer has has no calls; the history of the engine, and that of the database; the front-ends; the logger's client number,
--- its channels, and what it got at each buffer; the analyzers; and the run files.
+-- A session, as the histories of its objects tell it: the size and the history of the buffer of each number, where a number
+-- that no buffer has has no calls; the history of the engine, and that of the database; the front-ends; the logger's client
+-- number, its channels, and what it got at each buffer; the analyzers; and the run files.
 pub record Session : Type 0 where
   pub size : (buffer : ℕ) → ℕ
   pub history : (buffer : ℕ) → History
@@ -95,7 +97,8 @@ pub record IsAnalyzerCaller (s : Session) (buffer caller : ℕ) : Type 0 where
 
 -- a member that may call on this buffer: the logger, a front-end of the buffer, or an analyzer of it
 abbrev pub IsMemberCaller : Session → (buffer caller : ℕ) → Type 0
-IsMemberCaller s buffer caller = (caller ≡ caller_of_client s.logger) ⊎ (IsFrontCaller s buffer caller ⊎ IsAnalyzerCaller s buffer caller)
+IsMemberCaller s buffer caller =
+    (caller ≡ caller_of_client s.logger) ⊎ (IsFrontCaller s buffer caller ⊎ IsAnalyzerCaller s buffer caller)
 
 -- who polls or answers does so for its own client
 abbrev pub NamesOwnClient : ℕ × EngineEntry → Type 0
@@ -105,7 +108,8 @@ NamesOwnClient entry = ⊤
 
 -- the client was registered, with a sequence number for the transition, before any transition was begun
 abbrev pub IsRegistered : Session → (client : ℕ) → Transition → Type 0
-IsRegistered s client transition = (earlier later : EngineHistory) → (caller : ℕ) → (begun : Transition) → (sheet : Sheet) → (start : ℕ) →
+IsRegistered s client transition = (earlier later : EngineHistory) → (caller : ℕ) → (begun : Transition) →
+    (sheet : Sheet) → (start : ℕ) →
     s.engine ≡ earlier ++ (caller, Begin begun sheet (Ok start)) ∷ later → IsRegisteredIn earlier client transition
 
 -- What is asked of a session.
@@ -128,11 +132,13 @@ MembersCall s = (buffer caller : ℕ) → (entries_by caller (s.history buffer) 
 
 -- each front-end keeps its contract over its own calls and its turns
 abbrev pub FrontsKeep : Session → Type 0
-FrontsKeep s = (f : SessionFront) → HasFront s f → KeepsFront f.takes f.makes (buffer_calls s f.buffer f.client) (turns_of s f.client)
+FrontsKeep s = (f : SessionFront) → HasFront s f →
+    KeepsFront f.takes f.makes (buffer_calls s f.buffer f.client) (turns_of s f.client)
 
 -- and its turns have these moments
 abbrev pub FrontsHaveMoments : Session → Type 0
-FrontsHaveMoments s = (f : SessionFront) → HasFront s f → KeepsMoments (buffer_calls s f.buffer f.client) (turns_of s f.client) f.moments
+FrontsHaveMoments s = (f : SessionFront) → HasFront s f →
+    KeepsMoments (buffer_calls s f.buffer f.client) (turns_of s f.client) f.moments
 
 -- it sets in the database how many events it had sent
 abbrev pub FrontsSetNumbers : Session → Type 0
@@ -150,7 +156,8 @@ LoggerGotSent s = (buffer : ℕ) → AllByRecursion (WasSentAt (s.history buffer
 
 -- each analyzer keeps its contract
 abbrev pub AnalyzersKeep : Session → Type 0
-AnalyzersKeep s = (a : SessionAnalyzer) → HasAnalyzer s a → KeepsAnalyzer a.wanted (buffer_calls s a.buffer a.client) a.got (turns_of s a.client)
+AnalyzersKeep s = (a : SessionAnalyzer) → HasAnalyzer s a →
+    KeepsAnalyzer a.wanted (buffer_calls s a.buffer a.client) a.got (turns_of s a.client)
 
 -- and what it got are the events that its calls gave, each of which was sent
 abbrev pub AnalyzersGotSent : Session → Type 0
@@ -159,10 +166,12 @@ AnalyzersGotSent s = (a : SessionAnalyzer) → HasAnalyzer s a →
 
 -- each member is registered for starts and stops before the first transition
 abbrev pub FrontsRegistered : Session → Type 0
-FrontsRegistered s = (f : SessionFront) → HasFront s f → IsRegistered s f.client Start × IsRegistered s f.client Stop
+FrontsRegistered s = (f : SessionFront) → HasFront s f →
+    IsRegistered s f.client Start × IsRegistered s f.client Stop
 
 abbrev pub AnalyzersRegistered : Session → Type 0
-AnalyzersRegistered s = (a : SessionAnalyzer) → HasAnalyzer s a → IsRegistered s a.client Start × IsRegistered s a.client Stop
+AnalyzersRegistered s = (a : SessionAnalyzer) → HasAnalyzer s a →
+    IsRegistered s a.client Start × IsRegistered s a.client Stop
 
 abbrev pub LoggerRegistered : Session → Type 0
 LoggerRegistered s = IsRegistered s s.logger Start × IsRegistered s s.logger Stop
