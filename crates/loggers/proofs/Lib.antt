@@ -1,0 +1,12 @@
+pub mod InTurns
+pub mod SlotLists
+pub mod ReadySteps
+pub mod StepEntries
+pub mod StoppedRuns
+pub mod NewSlots
+pub mod Moved
+pub mod PullMoves
+pub mod PulledLogger
+pub mod AbortMoves
+pub mod OpenMoves
+pub mod SameShape

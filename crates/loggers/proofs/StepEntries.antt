@@ -1,0 +1,104 @@
+-- One step of a channel, over any ports: what it does to the lists, and how many calls it notes.
+use Rattle.std.specs.Prelude.{◌≡◌, ◌≢◌, ◌≤◌, ◌+◌, ℕ, List, length, map, slice_get, slice_set, Option, Some, None, Result, Ok, Err, ⊤, refl}
+use Rattle.std.specs.Option.{option_map}
+use Rattle.std.proofs.Common.{ap, sym, subst, ◌∙◌, arith, inl, inr}
+use Rattle.std.proofs.lemmas.List.{length-set, length-map, map-set}
+use Rattle.std.proofs.lemmas.Option.{slice_get-map}
+use Rattle.daq_types.specs.declared.runs.Order.{Order}
+use Rattle.daq_types.specs.declared.runs.Why.{Why}
+use Rattle.daq_types.specs.declared.runs.Why.TheVariants.{NotReady, Exists, Fault, BufferRefused}
+use Rattle.buffer_core.specs.Ports.{Access}
+use Rattle.buffer_core.specs.Slots.{slot_at}
+use Rattle.buffer_core.specs.SlotLaws.{slot_set_other}
+use Rattle.mid_logger.specs.declared.channel.Channel.{Channel}
+use Rattle.mid_logger.specs.declared.channel_spec.ChannelSpec.{ChannelSpec}
+use Rattle.mid_logger.specs.declared.stage.ChannelRun.{ChannelRun}
+use Rattle.mid_logger.specs.ChannelTurns.{ChannelAt, HasClient, MakesRequest, AsksEvents, RefusesRun, OpensBy, asking_run}
+use Rattle.mid_logger.specs.ChannelEnds.{CancelsStanding}
+use Rattle.loggers.specs.Moments.{RunFiles, LoggerMoment, ChannelStep, StepsChannel, StepsSlot, StepsAt, LeavesOthers, UseEntries}
+use Rattle.loggers.specs.ChannelSteps.{OpensChannel, AbortsChannel}
+use Rattle.loggers.proofs.SlotLists.{got_there, got_elsewhere, same_or_other}
+
+-- The lists.
+
+pub stepped : {P : Type 0} (Step : ChannelStep → Type 0) (access : P → Access) (n : ℕ) (before after : Channel) (slots : List (Option Channel)) (ports : List P) (p q : P) (files later : RunFiles) → slice_get ports before.spec.buffer ≡ Some p
+    → Step (record { before = before; after = after; port = access p; later_port = access q; files = files; later_files = later })
+    → StepsChannel Step n before (record { slots = slots; ports = map access ports; files = files }) (record { slots = slice_set slots n (Some after); ports = map access (slice_set ports before.spec.buffer q); files = later })
+stepped {P} Step access n before after slots ports p q files later there step = record {
+  after = after;
+  port = access p;
+  later_port = access q;
+  at_port = slice_get-map access ports before.spec.buffer ∙ ap (λ (o : Option P). option_map access o) there;
+  slots = refl;
+  ports = map-set access ports before.spec.buffer q;
+  step = step;
+}
+
+pub step_here : (Step : ChannelStep → Type 0) (n : ℕ) (slot : Option Channel) (a b : LoggerMoment) → slot_at a.slots n ≡ slot → StepsSlot Step n slot a b → StepsAt Step n a b
+step_here Step n slot a b there step = subst (λ (o : Option Channel). StepsSlot Step n o a b) (sym there) step
+
+pub others_left : (slots : List (Option Channel)) (n : ℕ) (o : Option Channel) → LeavesOthers n slots (slice_set slots n o)
+others_left slots n o = record { many = length-set slots n o; at = λ m other. slot_set_other slots n m o other }
+
+pub none_left : (slots : List (Option Channel)) (n : ℕ) → LeavesOthers n slots slots
+none_left slots n = record { many = refl; at = λ m other. refl }
+
+-- Calls.
+
+pub uses_one_port : {P : Type 0} (access : P → Access) (ports : List P) (buffer count : ℕ) (p q : P) → slice_get ports buffer ≡ Some p → (access p).entries ≤ (access q).entries + count → UseEntries count (map access ports) (map access (slice_set ports buffer q))
+uses_one_port {P} access ports buffer count p q there few =
+    let p_there : slice_get (map access ports) buffer ≡ Some (access p) = slice_get-map access ports buffer ∙ ap (λ (o : Option P). option_map access o) there in
+    let now : UseEntries count (map access ports) (slice_set (map access ports) buffer (access q)) = record {
+      many = length-set (map access ports) buffer (access q);
+      each = λ n a b before after. elim (same_or_other n buffer) as (λ w. a.entries ≤ b.entries + count) [
+        | inl same ↦
+            let put : slice_get (slice_set (map access ports) buffer (access q)) buffer ≡ Some (access q) = got_there (map access ports) buffer (access p) (access q) p_there in
+            let a_is : a ≡ access p = cc (before, same, p_there) in
+            let b_is : b ≡ access q = cc (after, same, put) in
+            subst (λ (x : Access). x.entries ≤ b.entries + count) (sym a_is) (subst (λ (x : Access). (access p).entries ≤ x.entries + count) (sym b_is) few)
+        | inr other ↦
+            let still : slice_get (map access ports) n ≡ Some b = got_elsewhere (map access ports) buffer n (access q) b other after in
+            let is : a ≡ b = cc (before, still) in
+            subst (λ (x : Access). a.entries ≤ x.entries + count) is (omega arith)
+      ];
+    } in
+    subst (λ (l : List Access). UseEntries count (map access ports) l) (sym (map-set access ports buffer q)) now
+
+client_entries : (client later : Option ℕ) (a b : Access) → HasClient client later a b → a.entries ≤ b.entries + 1
+client_entries (Some client) later a b has = subst (λ (x : Access). a.entries ≤ x.entries + 1) (sym has.1) (omega arith)
+client_entries None (Some client) a b has = has.0.entries
+client_entries None None a b has = has.1.entries
+
+request_entries : (spec : ChannelSpec) (client request : Option ℕ) (a b : Access) → MakesRequest spec client request a b → a.entries ≤ b.entries + 1
+request_entries spec (Some client) (Some request) a b made = made.entries
+request_entries spec (Some client) None a b made = made.1.entries
+request_entries spec None (Some request) a b made = absurd made
+request_entries spec None None a b made = subst (λ (x : Access). a.entries ≤ x.entries + 1) (sym made) (omega arith)
+
+asks_entries : (spec : ChannelSpec) (client later request : Option ℕ) (a b : Access) → AsksEvents spec client later request a b → a.entries ≤ b.entries + 2
+asks_entries spec client later request a b asks = omega (arith, client_entries client later a asks.middle asks.attached, request_entries spec later request asks.middle b asks.asked)
+
+same_entries : (a b : Access) → b ≡ a → a.entries ≤ b.entries + 2
+same_entries a b same = subst (λ (x : Access). a.entries ≤ x.entries + 2) (sym same) (omega arith)
+
+refusal_entries : (spec : ChannelSpec) (name : List ℕ) (why : Why) (a b : ChannelAt) → RefusesRun why spec name a b → a.port.entries ≤ b.port.entries + 2
+refusal_entries spec name NotReady a b refuses = absurd refuses
+refusal_entries spec name (Exists channel) a b refuses = same_entries a.port b.port refuses.1.port
+refusal_entries spec name (Fault channel) a b refuses = same_entries a.port b.port refuses.1.port
+refusal_entries spec name BufferRefused a b refuses = asks_entries spec a.client b.client None a.port b.port refuses.0
+
+by_entries : (spec : ChannelSpec) (order : Order) (dump : List ℕ) (r : Result ⊤ Why) (a b : ChannelAt) → OpensBy r spec order dump a b → a.port.entries ≤ b.port.entries + 2
+by_entries spec order dump (Ok done) a b opens = asks_entries spec a.client b.client (Some opens.asks.request) a.port b.port opens.asks.asks
+by_entries spec order dump (Err why) a b opens = refusal_entries spec _ why a b opens.1
+
+-- a channel that opens a run, or refuses it, notes at most two calls
+pub opens_entries : (order : Order) (dump : List ℕ) (r : Result ⊤ Why) (s : ChannelStep) → OpensChannel order dump r s → s.port.entries ≤ s.later_port.entries + 2
+opens_entries order dump r s opens = by_entries s.before.spec order dump r _ _ opens.opens
+
+cancels_entries : (standing : Option ChannelRun) (a b : Access) → CancelsStanding standing a b → a.entries ≤ b.entries + 1
+cancels_entries None a b cancels = subst (λ (x : Access). a.entries ≤ x.entries + 1) (sym cancels) (omega arith)
+cancels_entries (Some opened) a b cancels = cancels.1.entries
+
+-- a channel that calls its run off notes at most one
+pub aborts_entries : (s : ChannelStep) → AbortsChannel s → s.port.entries ≤ s.later_port.entries + 1
+aborts_entries s aborts = cancels_entries (asking_run s.before.stage) s.port s.later_port aborts.cancels
