@@ -92,6 +92,7 @@ given_now client (Got place start) e = record { client = client; place = place; 
 given_now client reply e = []
 
 given_is : (got : List GotEvent) (client : ℕ) (reply : Received) (e : Event) → got_after got client reply e ≡ got ++ given_now client reply e
+unfolding given_now
 given_is got client (Got place start) e = refl
 given_is got client (Empty gate last) e = sym (append-nil got)
 given_is got client NoClient e = sym (append-nil got)

@@ -2,6 +2,7 @@
 use Rattle.std.specs.Prelude.{◌≡◌, ◌≢◌, ◌≤◌, ◌<◌, ◌||◌, ◌==◌, ℕ, Bool, true, false, if◌then◌else◌, IsTrue, List, length, map, slice_get, slice_set, Option, Some, None, Result, Ok, Err, ◌⊎◌, ⊤, refl}
 use Rattle.std.specs.Option.{option_map}
 use Rattle.std.proofs.Common.{ap, sym, subst, ◌∙◌, arith, inl, inr}
+use Rattle.std.proofs.lemmas.List.{length-map}
 use Rattle.daq_types.specs.declared.runs.ChannelState.{ChannelState}
 use Rattle.daq_types.specs.declared.runs.Order.{Order}
 use Rattle.daq_types.specs.declared.runs.Why.{Why}
@@ -20,7 +21,7 @@ use Rattle.mid_logger.specs.Channels.{IsOpenFile, channel_run, written_run, stag
 use Rattle.mid_logger.specs.ChannelTurns.{drained_run}
 use Rattle.mid_logger.specs.ChannelEnds.{ClosesFile, stage_settled}
 use Rattle.mid_logger.specs.Keeping.{ChangesFile, KeepsRun, OpensFile, PullsChange, AbortsChange, ClosesChange, OpensChange}
-use Rattle.loggers.specs.Moments.{RunFiles, LoggerMoment, ChannelStep, StepsChannel, StepsSlot, StepsAt, CallsBuffer, MarksBuffer, noted_channel, HaveNumbersApart, HaveFilesOpen, IsLoggerReady, AreIdle}
+use Rattle.loggers.specs.Moments.{RunFiles, LoggerMoment, ChannelStep, StepsChannel, StepsSlot, StepsAt, CallsBuffer, MarksBuffer, noted_channel, HaveNumbersApart, HaveFilesOpen, IsLoggerReady, AreIdle, channel_limit}
 use Rattle.loggers.specs.ChannelSteps.{OpensChannel, AbortsChannel, PullsChannel, EndsChannel}
 use Rattle.loggers.specs.SlotPulls.{PullsSlot}
 use Rattle.loggers.specs.Turning.{BeginsBuffer, RefusesBegin, EndsBuffer}
@@ -231,7 +232,7 @@ marked_ready entry note buffer a b keeps marks ready =
     let specs : (c : Channel) → (noted_channel note buffer c).spec ≡ c.spec = λ c. noted_spec note buffer c (c.spec.buffer == buffer) in
     let written : (c : Channel) → written_run (noted_channel note buffer c).stage ≡ written_run c.stage = λ c. noted_written note c (c.spec.buffer == buffer) keeps in
     let now : IsLoggerReady (map (option_map (noted_channel note buffer)) a.slots) b.ports b.files.seen = record {
-      many = omega (arith, called.many);
+      many = subst (λ (k : ℕ). k ≤ channel_limit) (sym (length-map a.slots (option_map (noted_channel note buffer)))) called.many;
       served = λ n c there.
           let was : WasNoted note buffer a.slots n c = was_noted note buffer a.slots n c there in
           subst (λ (x : Channel). x.spec.buffer < length b.ports) (sym was.is) (subst (λ (sp : ChannelSpec). sp.buffer < length b.ports) (sym (specs was.before)) (called.served n was.before was.there));
@@ -252,7 +253,7 @@ marked_ready entry note buffer a b keeps marks ready =
     rw marks.noted now
 
 -- the run files, of which this is told
-pub files_with : Seen → RunFiles
+abbrev pub files_with : Seen → RunFiles
 files_with seen = record { seen = seen; faults = 0; clashes = 0; first = None }
 
 begun_stays : (place : ℕ) (stage : ChannelStage) → written_run (stage_begun stage place) ≡ written_run stage

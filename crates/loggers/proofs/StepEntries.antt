@@ -1,21 +1,23 @@
 -- One step of a channel, over any ports: what it does to the lists, and how many calls it notes.
-use Rattle.std.specs.Prelude.{◌≡◌, ◌≢◌, ◌≤◌, ◌+◌, ℕ, List, length, map, slice_get, slice_set, Option, Some, None, Result, Ok, Err, ⊤, refl}
+use Rattle.std.specs.Prelude.{◌≡◌, ◌≢◌, ◌≤◌, ◌+◌, ◌==◌, ℕ, Bool, true, false, if◌then◌else◌, List, length, map, slice_get, slice_set, Option, Some, None, Result, Ok, Err, ⊤, refl}
 use Rattle.std.specs.Option.{option_map}
 use Rattle.std.proofs.Common.{ap, sym, subst, ◌∙◌, arith, inl, inr}
-use Rattle.std.proofs.lemmas.List.{length-set, length-map, map-set}
-use Rattle.std.proofs.lemmas.Option.{slice_get-map}
+use Rattle.std.proofs.lemmas.Bool.{eqb-true, eqb-false}
+use Rattle.std.proofs.lemmas.List.{length-set, length-map, map-set, set-get_or, get_or_past}
+use Rattle.std.proofs.lemmas.Option.{slice_get-map, get_or_from_slice_get}
 use Rattle.daq_types.specs.declared.runs.Order.{Order}
 use Rattle.daq_types.specs.declared.runs.Why.{Why}
 use Rattle.daq_types.specs.declared.runs.Why.TheVariants.{NotReady, Exists, Fault, BufferRefused}
-use Rattle.buffer_core.specs.Ports.{Access}
+use Rattle.buffer_core.specs.declared.entry.BufferEntry.{BufferEntry}
+use Rattle.buffer_core.specs.Ports.{Access, Calls}
 use Rattle.buffer_core.specs.Slots.{slot_at}
-use Rattle.buffer_core.specs.SlotLaws.{slot_set_other}
+use Rattle.buffer_core.specs.SlotLaws.{split, slot_set_other}
 use Rattle.mid_logger.specs.declared.channel.Channel.{Channel}
 use Rattle.mid_logger.specs.declared.channel_spec.ChannelSpec.{ChannelSpec}
 use Rattle.mid_logger.specs.declared.stage.ChannelRun.{ChannelRun}
 use Rattle.mid_logger.specs.ChannelTurns.{ChannelAt, HasClient, MakesRequest, AsksEvents, RefusesRun, OpensBy, asking_run}
 use Rattle.mid_logger.specs.ChannelEnds.{CancelsStanding}
-use Rattle.loggers.specs.Moments.{RunFiles, LoggerMoment, ChannelStep, StepsChannel, StepsSlot, StepsAt, LeavesOthers, UseEntries}
+use Rattle.loggers.specs.Moments.{RunFiles, LoggerMoment, ChannelStep, StepsChannel, StepsSlot, StepsAt, LeavesOthers, UseEntries, CallsBuffer, UsesEntry}
 use Rattle.loggers.specs.ChannelSteps.{OpensChannel, AbortsChannel}
 use Rattle.loggers.proofs.SlotLists.{got_there, got_elsewhere, same_or_other}
 
@@ -36,6 +38,18 @@ stepped {P} Step access n before after slots ports p q files later there step = 
 
 pub step_here : (Step : ChannelStep → Type 0) (n : ℕ) (slot : Option Channel) (a b : LoggerMoment) → slot_at a.slots n ≡ slot → StepsSlot Step n slot a b → StepsAt Step n a b
 step_here Step n slot a b there step = subst (λ (o : Option Channel). StepsSlot Step n o a b) (sym there) step
+
+-- a number behind the last has no channel
+pub slot_past : (slots : List (Option Channel)) (n : ℕ) → length slots ≤ n → slot_at slots n ≡ None
+slot_past slots n past = get_or_past slots n None past
+
+-- no channel put where there was none
+pub slot_put_back : (slots : List (Option Channel)) (n : ℕ) → slot_at slots n ≡ None → slice_set slots n None ≡ slots
+slot_put_back slots n there = subst (λ (o : Option Channel). slice_set slots n o ≡ slots) there (set-get_or slots n None)
+
+-- the channel of a number that was read
+pub slot_read_at : (slots : List (Option Channel)) (n : ℕ) (slot : Option Channel) → slice_get slots n ≡ Some slot → slot_at slots n ≡ slot
+slot_read_at slots n slot there = get_or_from_slice_get slots n slot None there
 
 pub others_left : (slots : List (Option Channel)) (n : ℕ) (o : Option Channel) → LeavesOthers n slots (slice_set slots n o)
 others_left slots n o = record { many = length-set slots n o; at = λ m other. slot_set_other slots n m o other }
@@ -63,6 +77,42 @@ uses_one_port {P} access ports buffer count p q there few =
       ];
     } in
     subst (λ (l : List Access). UseEntries count (map access ports) l) (sym (map-set access ports buffer q)) now
+
+-- One call on a port.
+
+pub called_at : {P : Type 0} (access : P → Access) (entry : BufferEntry) (buffer : ℕ) (slots : List (Option Channel)) (ports : List P) (p q : P) (files : RunFiles) → slice_get ports buffer ≡ Some p → Calls (access p) (access q) entry
+    → CallsBuffer entry buffer (record { slots = slots; ports = map access ports; files = files }) (record { slots = slots; ports = map access (slice_set ports buffer q); files = files })
+called_at {P} access entry buffer slots ports p q files there called = record {
+  port = access p;
+  later_port = access q;
+  at_port = slice_get-map access ports buffer ∙ ap (λ (o : Option P). option_map access o) there;
+  called = called;
+  ports = map-set access ports buffer q;
+  slots = refl;
+  files = refl;
+}
+
+pub uses_entry : {P : Type 0} (access : P → Access) (ports : List P) (buffer : ℕ) (p q : P) → slice_get ports buffer ≡ Some p → (access p).entries ≤ (access q).entries + 1 → UsesEntry buffer (map access ports) (map access (slice_set ports buffer q))
+uses_entry {P} access ports buffer p q there few =
+    let p_there : slice_get (map access ports) buffer ≡ Some (access p) = slice_get-map access ports buffer ∙ ap (λ (o : Option P). option_map access o) there in
+    let now : UsesEntry buffer (map access ports) (slice_set (map access ports) buffer (access q)) = record {
+      many = length-set (map access ports) buffer (access q);
+      each = λ n a b before after. split (n == buffer) (λ (t : Bool). a.entries ≤ b.entries + (if t then 1 else 0))
+          (λ hit.
+          let same : n ≡ buffer = eqb-true n buffer hit in
+          let put : slice_get (slice_set (map access ports) buffer (access q)) buffer ≡ Some (access q) = got_there (map access ports) buffer (access p) (access q) p_there in
+          let a_is : a ≡ access p = cc (before, same, p_there) in
+          let b_is : b ≡ access q = cc (after, same, put) in
+          subst (λ (x : Access). x.entries ≤ b.entries + 1) (sym a_is) (subst (λ (x : Access). (access p).entries ≤ x.entries + 1) (sym b_is) few))
+          (λ miss.
+          let other : n ≢ buffer = eqb-false n buffer miss in
+          let still : slice_get (map access ports) n ≡ Some b = got_elsewhere (map access ports) buffer n (access q) b other after in
+          let is : a ≡ b = cc (before, still) in
+          subst (λ (x : Access). a.entries ≤ x.entries + 0) is (omega arith));
+    } in
+    subst (λ (l : List Access). UsesEntry buffer (map access ports) l) (sym (map-set access ports buffer q)) now
+
+-- what a channel's steps use
 
 client_entries : (client later : Option ℕ) (a b : Access) → HasClient client later a b → a.entries ≤ b.entries + 1
 client_entries (Some client) later a b has = subst (λ (x : Access). a.entries ≤ x.entries + 1) (sym has.1) (omega arith)

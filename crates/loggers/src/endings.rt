@@ -1,15 +1,18 @@
 //! How the files of a run that was stopped are ended.
 
-ghost use Rattle.std.specs.Prelude.{◌≡◌, ◌<◌, ◌≤◌, length, IfSome};
+ghost use Rattle.std.specs.Prelude.{◌≡◌, ◌<◌, ◌≤◌, List, Option, Some, length, slice_set, IfSome};
 ghost use Rattle.daq_model.specs.Events.{record_limit};
+ghost use Rattle.buffer_core.specs.Slots.{slot_at};
+ghost use Rattle.mid_logger.specs.declared.channel.Channel.{Channel as a_channel};
+ghost use Rattle.mid_logger.specs.Channels.{IsOpenFile, written_run};
 ghost use Rattle.loggers.specs.Moments.{InTurn, HaveFilesOpen};
-ghost use Rattle.loggers.specs.Finishing.{EndsSlotAt, states_idle, waiting_stop};
+ghost use Rattle.loggers.specs.Finishing.{EndsSlot, EndsSlotAt, states_idle, waiting_stop};
 
 use crate::logged_run::{LoggedRun, RunPart};
 use crate::slots::Slots;
 use daq_io::Files;
 use daq_types::{Bytes, ChannelState};
-use mid_logger::laws as channel_laws;
+use mid_logger::{Channel, laws as channel_laws};
 
 /// The states of the channels, each at its number.
 pub type States = [ChannelState; 16];
@@ -21,6 +24,45 @@ pub fn stop_time(run: Option<LoggedRun>) -> Option<u32>
     match run?.part {
         RunPart::Stopping { time } => Some(time),
         RunPart::Refused | RunPart::Started => None,
+    }
+}
+
+/// Ends the file of this channel, where there is one, and tells its state at its number.
+fn end_slot<F: Files>(
+    slot: &mut Option<Channel>,
+    files: &mut F,
+    states: &mut States,
+    number: usize,
+    time: u32,
+    dump: &Option<Bytes>,
+)
+    requires number { number < 16 }
+    requires file { (c : a_channel) → slot.old ≡ Some c →
+        IsOpenFile (F.seen files.old) c.spec (written_run c.stage) }
+    requires small { IfSome dump.now (λ bytes. length bytes ≤ record_limit) }
+    ensures ends { (slots : List (Option a_channel)) → slot_at slots number ≡ slot.old →
+        EndsSlot time dump.now number slot.old (record {
+      slots = slots;
+      files = record {
+        seen = F.seen files.old;
+        faults = F.faults files.old;
+        clashes = F.clashes files.old;
+        first = F.first files.old;
+      };
+      states = states.old;
+    }) (record {
+      slots = slice_set slots number slot.new;
+      files = record {
+        seen = F.seen files.new;
+        faults = F.faults files.new;
+        clashes = F.clashes files.new;
+        first = F.first files.new;
+      };
+      states = states.new;
+    }) }
+{
+    if let Some(channel) = slot {
+        states[number] = channel.close(files, time, dump);
     }
 }
 
@@ -59,8 +101,8 @@ fn end_file_at<F: Files>(
     ensures many { length slots.new ≡ length slots.old }
 {
     channel_laws::closes_kept();
-    if let Some(Some(channel)) = slots.get_mut(number) {
-        states[number] = channel.close(files, time, dump);
+    if let Some(slot) = slots.get_mut(number) {
+        end_slot(slot, files, states, number, time, dump);
     }
 }
 

@@ -357,9 +357,10 @@ impl Logger {
         ensures same { self.new ≡ self.old }
         ensures files { files.new ≡ files.old }
     {
-        if goes_on(self.run, order.start) {
-            pause_all(rt, ports, order.start);
+        if !goes_on(self.run, order.start) {
+            return plain();
         }
+        pause_all(rt, ports, order.start);
         plain()
     }
 
@@ -395,9 +396,10 @@ impl Logger {
         ensures same { self.new ≡ self.old }
         ensures files { files.new ≡ files.old }
     {
-        if goes_on(self.run, order.start) {
-            resume_all(rt, ports, order.start);
+        if !goes_on(self.run, order.start) {
+            return plain();
         }
+        resume_all(rt, ports, order.start);
         plain()
     }
 
@@ -431,12 +433,13 @@ impl Logger {
         ensures idle { IsIdleOutside self.new.run self.new.channels }
         ensures begun { buffers_begun self.new.run ≤ length ports.new }
     {
-        if let Some(begun) = begun_in(self.run, order.start) {
-            end_first(&mut self.channels, rt, ports, begun, order.start);
-            abort_all(&mut self.channels, rt, files, ports);
-            self.run = None;
-            self.stop_dump = None;
-        }
+        let Some(begun) = begun_in(self.run, order.start) else {
+            return plain();
+        };
+        end_first(&mut self.channels, rt, ports, begun, order.start);
+        abort_all(&mut self.channels, rt, files, ports);
+        self.run = None;
+        self.stop_dump = None;
         plain()
     }
 

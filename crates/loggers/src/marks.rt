@@ -4,37 +4,62 @@ ghost use Rattle.std.specs.Prelude.{◌≡◌, ◌<◌, ◌≤◌, ℕ, List, Op
 ghost use Rattle.std.specs.Option.{option_map};
 ghost use Rattle.daq_io.specs.Seen.{Seen};
 ghost use Rattle.buffer_core.specs.Slots.{change_slot};
-ghost use Rattle.mid_logger.specs.declared.channel.Channel.{Channel};
+ghost use Rattle.mid_logger.specs.declared.channel.Channel.{Channel as a_channel};
 ghost use Rattle.mid_logger.specs.Channels.{stage_begun, stage_ended};
 ghost use Rattle.loggers.specs.Moments.{RunFiles, IsLoggerReady, HasEntry, UsesEntry, HaveEntries, UseEntries, InTurn, noted_channel};
 ghost use Rattle.loggers.specs.Turning.{BeginsBuffer, RefusesBegin, EndsBuffer, PausesBuffer, ResumesBuffer, BeginsBelow, RefusesMark};
 
 use crate::slots::{Ports, Slots};
 use buffer_core::BufferPort;
+use mid_logger::Channel;
 use std::sync::Wait;
 
-/// The channel of this number notes that its run was begun in its buffer, where it reads this one.
-fn note_begun_at(slots: &mut Slots, number: usize, buffer: usize, place: u64)
-    ensures { slots.new ≡ change_slot (noted_channel (λ stage. stage_begun stage place) buffer)
-        slots.old number }
+/// The channel, if there is one, notes that its run was begun in its buffer, where it reads this one.
+fn note_begun_in(slot: &mut Option<Channel>, buffer: usize, place: u64)
+    ensures { slot.new ≡ option_map (noted_channel (λ stage. stage_begun stage place) buffer)
+        slot.old }
 {
-    if let Some(Some(channel)) = slots.get_mut(number) {
+    if let Some(channel) = slot {
         if channel.spec.buffer as usize == buffer {
             channel.note_begun(place);
         }
     }
 }
 
-/// The channel of this number notes that its run was ended in its buffer, or could not be, where it reads this one.
-fn note_ended_at(slots: &mut Slots, number: usize, buffer: usize, place: Option<u64>)
-    ensures { slots.new ≡ change_slot (noted_channel (λ stage. stage_ended stage place) buffer)
+/// The channel of this number notes that its run was begun in its buffer, where it reads this one.
+fn note_begun_at(slots: &mut Slots, number: usize, buffer: usize, place: u64)
+    requires { number < length slots.old }
+    ensures { slots.new ≡ change_slot (noted_channel (λ stage. stage_begun stage place) buffer)
         slots.old number }
 {
-    if let Some(Some(channel)) = slots.get_mut(number) {
+    let Some(slot) = slots.get_mut(number) else {
+        unreachable!()
+    };
+    note_begun_in(slot, buffer, place);
+}
+
+/// The channel, if there is one, notes that its run was ended in its buffer, or could not be, where it reads this one.
+fn note_ended_in(slot: &mut Option<Channel>, buffer: usize, place: Option<u64>)
+    ensures { slot.new ≡ option_map (noted_channel (λ stage. stage_ended stage place) buffer)
+        slot.old }
+{
+    if let Some(channel) = slot {
         if channel.spec.buffer as usize == buffer {
             channel.note_ended(place);
         }
     }
+}
+
+/// The channel of this number notes that its run was ended in its buffer, or could not be, where it reads this one.
+fn note_ended_at(slots: &mut Slots, number: usize, buffer: usize, place: Option<u64>)
+    requires { number < length slots.old }
+    ensures { slots.new ≡ change_slot (noted_channel (λ stage. stage_ended stage place) buffer)
+        slots.old number }
+{
+    let Some(slot) = slots.get_mut(number) else {
+        unreachable!()
+    };
+    note_ended_in(slot, buffer, place);
 }
 
 /// The channels of a buffer note that their run was begun in it.
@@ -117,7 +142,7 @@ fn end_at<R: Wait, P: BufferPort>(
 fn pause_at<R: Wait, P: BufferPort>(rt: &R, ports: &mut Ports<P>, buffer: usize, start: u32)
     requires within { buffer < length ports.old }
     requires entries { HasEntry buffer (map P.access ports.old) }
-    ensures pauses { (slots : List (Option Channel)) → (files : RunFiles) → PausesBuffer start buffer
+    ensures pauses { (slots : List (Option a_channel)) → (files : RunFiles) → PausesBuffer start buffer
         (record { slots = slots; ports = map P.access ports.old; files = files })
         (record { slots = slots; ports = map P.access ports.new; files = files }) }
     ensures entries { UsesEntry buffer (map P.access ports.old) (map P.access ports.new) }
@@ -132,7 +157,7 @@ fn pause_at<R: Wait, P: BufferPort>(rt: &R, ports: &mut Ports<P>, buffer: usize,
 fn resume_at<R: Wait, P: BufferPort>(rt: &R, ports: &mut Ports<P>, buffer: usize, start: u32)
     requires within { buffer < length ports.old }
     requires entries { HasEntry buffer (map P.access ports.old) }
-    ensures resumes { (slots : List (Option Channel)) → (files : RunFiles) → ResumesBuffer start buffer
+    ensures resumes { (slots : List (Option a_channel)) → (files : RunFiles) → ResumesBuffer start buffer
         (record { slots = slots; ports = map P.access ports.old; files = files })
         (record { slots = slots; ports = map P.access ports.new; files = files }) }
     ensures entries { UsesEntry buffer (map P.access ports.old) (map P.access ports.new) }
@@ -197,7 +222,7 @@ pub fn end_first<R: Wait, P: BufferPort>(
 /// Pauses the run in every buffer, in order.
 pub fn pause_all<R: Wait, P: BufferPort>(rt: &R, ports: &mut Ports<P>, start: u32)
     requires entries { HaveEntries 1 (map P.access ports.old) }
-    ensures pauses { (slots : List (Option Channel)) → (files : RunFiles) →
+    ensures pauses { (slots : List (Option a_channel)) → (files : RunFiles) →
         InTurn (λ buffer. PausesBuffer start buffer) (length ports.old)
         (record { slots = slots; ports = map P.access ports.old; files = files })
         (record { slots = slots; ports = map P.access ports.new; files = files }) }
@@ -212,7 +237,7 @@ pub fn pause_all<R: Wait, P: BufferPort>(rt: &R, ports: &mut Ports<P>, start: u3
 /// Resumes the run in every buffer, in order.
 pub fn resume_all<R: Wait, P: BufferPort>(rt: &R, ports: &mut Ports<P>, start: u32)
     requires entries { HaveEntries 1 (map P.access ports.old) }
-    ensures resumes { (slots : List (Option Channel)) → (files : RunFiles) →
+    ensures resumes { (slots : List (Option a_channel)) → (files : RunFiles) →
         InTurn (λ buffer. ResumesBuffer start buffer) (length ports.old)
         (record { slots = slots; ports = map P.access ports.old; files = files })
         (record { slots = slots; ports = map P.access ports.new; files = files }) }

@@ -63,7 +63,7 @@ fn no_channels(alloc: Global) -> Result<Slots, NoMemory>
     ensures { IfOk result (λ slots. slots ≡ replicate channel_limit None) }
 {
     let mut slots = Slots::new(alloc)?;
-    for number in 0..16 {
+    for number in 0_usize..16 {
         slots.push(None);
     }
     Ok(slots)

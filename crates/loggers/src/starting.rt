@@ -65,6 +65,7 @@ pub fn abort_all<R: Wait, F: Files, P: BufferPort>(
         (F.clashes files.new) (F.first files.new)) }
     ensures idle { AreIdle slots.new }
     ensures ready { IsLoggerReady slots.new (map P.access ports.new) (F.seen files.new) }
+    ensures count { length ports.new ≡ length ports.old }
 {
     for number in 0..slots.len() {
         abort_at(slots, rt, files, ports, number);

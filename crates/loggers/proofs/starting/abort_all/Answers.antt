@@ -1,4 +1,5 @@
 use Rattle.std.proofs.Common.{◌<◌, ◌≤◌, ◌+◌, ◌*◌, ◌≡◌, ℕ, length, map, refl, sym, subst, ◌∙◌, arith, inl, inr}
+use Rattle.std.proofs.lemmas.List.{length-map}
 use Rattle.buffer_core.specs.SlotLaws.{slot_within}
 use Rattle.buffer_core.specs.Slots.{slot_at}
 use Rattle.std.specs.Prelude.{Some}
@@ -45,3 +46,6 @@ returns-clause-aborts g c =
 pub returns-clause-idle : goal.returns-clause-idle
 returns-clause-idle g c = λ n d there.
     c.loop-number.invariant.idle n d (omega (arith, slot_within c.loop-number.slots n d there, c.loop-number.invariant.many, c.loop-number-test.false, c.len-number-end.ensures)) there
+
+pub returns-clause-count : goal.returns-clause-count
+returns-clause-count g c = omega (arith, c.loop-number.invariant.used.many, length-map c.args.ports.now g.P.BufferPort.access, length-map c.loop-number.ports g.P.BufferPort.access)
