@@ -32,7 +32,7 @@ use Rattle.loggers.proofs.Moved.{Grows, Moves, moved}
 
 -- Files of others.
 
-number_left : (old new : Seen) (written : Option ChannelRun) → ((s : ChannelRun) → written ≡ Some s → LeavesNumber (Some s) old new) → LeavesNumber written old new
+pub number_left : (old new : Seen) (written : Option ChannelRun) → ((s : ChannelRun) → written ≡ Some s → LeavesNumber (Some s) old new) → LeavesNumber written old new
 number_left old new None keeps = tt
 number_left old new (Some s) keeps = keeps s refl
 
@@ -166,7 +166,7 @@ mark_stays own more start place marks = record {
   is = ap (λ (l : List BufferEntry). l ++ more) marks.is ∙ append_assoc marks.before (End start (Ok place) ∷ marks.after) more;
 }
 
-refusal_stays : (own more : List BufferEntry) (start : ℕ) → RefusesEnd own start → RefusesEnd (own ++ more) start
+pub refusal_stays : (own more : List BufferEntry) (start : ℕ) → RefusesEnd own start → RefusesEnd (own ++ more) start
 refusal_stays own more start refuses = record {
   before = refuses.before;
   after = refuses.after ++ more;

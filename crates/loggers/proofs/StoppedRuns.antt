@@ -46,7 +46,7 @@ found absent (None ∷ slots) index channel at = found_later absent None slots c
 found absent (Some c ∷ slots) zero channel at = record { number = 0; c = c; there = refl; is = let e : logger_channel (absent c.spec.number) c ≡ channel = cc (at) in sym e }
 found absent (Some c ∷ slots) (suc index) channel at = found_later absent (Some c) slots channel (found absent slots index channel at)
 
-there_is : {X : Type 0} (xs : List X) (n : ℕ) → n < length xs → (x : X) × (slice_get xs n ≡ Some x)
+pub there_is : {X : Type 0} (xs : List X) (n : ℕ) → n < length xs → (x : X) × (slice_get xs n ≡ Some x)
 there_is [] n within = absurd (omega arith)
 there_is (x ∷ xs) zero within = (x, refl)
 there_is (x ∷ xs) (suc n) within = there_is xs n (omega arith)
