@@ -21,7 +21,7 @@ use Rattle.loggers.specs.Turning.{BeginsBuffer, RefusesBegin, EndsBuffer, Pauses
 use Rattle.loggers.specs.LoggerStands.{IsStartedStage, HasEndTurn, SlotsStand}
 use Rattle.loggers.proofs.SlotLists.{same_or_other, got_there, got_elsewhere, many_set}
 use Rattle.loggers.proofs.PortSteps.{IsFrom}
-use Rattle.loggers.proofs.MarkMoves.{begin_quiet, pause_quiet, resume_quiet, called_stands, IsAskingStage, begun_started, begins_from, begins_stands, NeverEnded, MayEnd, HasEnded, has_ended, NoneTold, ends_from, ends_stands}
+use Rattle.loggers.proofs.MarkMoves.{refused_quiet, pause_quiet, resume_quiet, called_stands, IsAskingStage, begun_started, begins_from, begins_stands, NeverEnded, MayEnd, HasEnded, has_ended, NoneTold, ends_from, ends_stands}
 
 
 -- Marks that no channel notes.
@@ -89,7 +89,7 @@ begun_below law begun H turns start wide (suc n) a b steps to = begun_more law b
 -- where a buffer refuses to begin the run
 pub begin_refused : LeftBeside → CallsBeside → BegunKeeps → (H : ChannelRun → FileHead → Type 0) (turns : List MemberTurn) (start wide count : ℕ) (a b : LoggerMoment) → RefusesMark start count a b → BegunTo H turns start wide 0 a → SlotsStand H turns b.slots b.ports b.files.seen
 begin_refused law calls begun H turns start wide count a b refuses to =
-    called_stands law calls H turns (Begin start (Err refuses.refuses.0)) count refuses.begun b (begin_quiet start (Err refuses.refuses.0)) refuses.refuses.1 ((begun_below law begun H turns start wide count a refuses.begun refuses.begins to).standing)
+    called_stands law calls H turns (Begin start (Err refuses.refuses.0)) count refuses.begun b (refused_quiet start refuses.refuses.0) refuses.refuses.1 ((begun_below law begun H turns start wide count a refuses.begun refuses.begins to).standing)
 
 -- The end.
 

@@ -97,48 +97,58 @@ own_more own e keeps none is_own = record {
   own_calls = subst (λ (es : List BufferEntry). AreOwnCalls es) (sym (calls_after-push [] own e)) (is_own, keeps.own_calls);
 }
 
--- a call that sends nothing, names no client, gives no event, and ends no run
-pub record QuietCall (e : BufferEntry) : Type 0 where
+-- a call that sends nothing, names no client, and ends no run
+pub record PlainCall (e : BufferEntry) : Type 0 where
   pub sends : SendsNone e
   pub is_own : (es : List BufferEntry) → IsOwnCall e es
+  pub ends : EndsNone e
+
+-- and which also begins no run and gives no event
+pub record QuietCall (e : BufferEntry) : Type 0 where
+  pub plain : PlainCall e
   pub client : (c : Option ℕ) → LeavesClient c e
   pub run : (s : ChannelStage) → LeavesRunOn s e
   pub gives : name_given e ≡ []
-  pub ends : EndsNone e
 
 no_client : (e : BufferEntry) → ((n : ℕ) → LeavesClient (Some n) e) → (c : Option ℕ) → LeavesClient c e
 no_client e some None = tt
 no_client e some (Some n) = some n
 
-begin_run : (start : ℕ) (reply : Result ℕ MarkRefusal) (s : ChannelStage) → LeavesRunOn s (Begin start reply)
-begin_run start reply (Writing opened begun) = tt
-begin_run start reply (Draining run) = tt
-begin_run start reply s = tt
+refused_run : (start : ℕ) (why : MarkRefusal) (s : ChannelStage) → LeavesRunOn s (Begin start (Err why))
+refused_run start why (Asking opened) = tt
+refused_run start why (Writing opened begun) = tt
+refused_run start why (Draining run) = tt
+refused_run start why s = tt
 
 pause_run : (start : ℕ) (reply : Result ℕ MarkRefusal) (s : ChannelStage) → LeavesRunOn s (Pause start reply)
+pause_run start reply (Asking opened) = tt
 pause_run start reply (Writing opened begun) = tt
 pause_run start reply (Draining run) = tt
 pause_run start reply s = tt
 
 resume_run : (start : ℕ) (reply : Result ℕ MarkRefusal) (s : ChannelStage) → LeavesRunOn s (Resume start reply)
+resume_run start reply (Asking opened) = tt
 resume_run start reply (Writing opened begun) = tt
 resume_run start reply (Draining run) = tt
 resume_run start reply s = tt
 
-pub begin_quiet : (start : ℕ) (reply : Result ℕ MarkRefusal) → QuietCall (Begin start reply)
-begin_quiet start reply = record { sends = tt; is_own = λ es. tt; client = no_client (Begin start reply) (λ n. tt); run = begin_run start reply; gives = refl; ends = tt }
+begin_plain : (start : ℕ) (reply : Result ℕ MarkRefusal) → PlainCall (Begin start reply)
+begin_plain start reply = record { sends = tt; is_own = λ es. tt; ends = tt }
+
+pub refused_quiet : (start : ℕ) (why : MarkRefusal) → QuietCall (Begin start (Err why))
+refused_quiet start why = record { plain = begin_plain start (Err why); client = no_client (Begin start (Err why)) (λ n. tt); run = refused_run start why; gives = refl }
 
 pub pause_quiet : (start : ℕ) (reply : Result ℕ MarkRefusal) → QuietCall (Pause start reply)
-pause_quiet start reply = record { sends = tt; is_own = λ es. tt; client = no_client (Pause start reply) (λ n. tt); run = pause_run start reply; gives = refl; ends = tt }
+pause_quiet start reply = record { plain = record { sends = tt; is_own = λ es. tt; ends = tt }; client = no_client (Pause start reply) (λ n. tt); run = pause_run start reply; gives = refl }
 
 pub resume_quiet : (start : ℕ) (reply : Result ℕ MarkRefusal) → QuietCall (Resume start reply)
-resume_quiet start reply = record { sends = tt; is_own = λ es. tt; client = no_client (Resume start reply) (λ n. tt); run = resume_run start reply; gives = refl; ends = tt }
+resume_quiet start reply = record { plain = record { sends = tt; is_own = λ es. tt; ends = tt }; client = no_client (Resume start reply) (λ n. tt); run = resume_run start reply; gives = refl }
 
 grows_quiet : (p q : Access) (e : BufferEntry) → q.own ≡ p.own ++ e ∷ [] → q.got ≡ p.got → EndsNone e → GrowsOn p q
 grows_quiet p q e own got ends = record { more = e ∷ []; given = []; own = own; got = got ∙ sym (append-nil p.got); quiet = (ends, tt) }
 
 -- such a call, which the channels of the buffer note so
-quiet_steps : (note : ChannelStage → ChannelStage) (turns : List MemberTurn) (slots later : List (Option Channel)) (buffer : ℕ) (p q : Access) (seen : Seen) (e : BufferEntry) → QuietCall e → q.own ≡ p.own ++ e ∷ [] → q.got ≡ p.got → length later ≡ length slots
+quiet_steps : (note : ChannelStage → ChannelStage) (turns : List MemberTurn) (slots later : List (Option Channel)) (buffer : ℕ) (p q : Access) (seen : Seen) (e : BufferEntry) → PlainCall e → q.own ≡ p.own ++ e ∷ [] → q.got ≡ p.got → length later ≡ length slots
     → ((n : ℕ) (c : Channel) → slot_at later n ≡ Some c → IsFrom note slots buffer n c)
     → ((n : ℕ) (c : Channel) → slot_at slots n ≡ Some c → c.spec.buffer ≡ buffer → (head : FileHead) → ChannelStands c.spec c.client c.stage head p.own p.got seen → ChannelStands c.spec c.client (note c.stage) head (p.own ++ e ∷ []) p.got seen)
     → StepsPort note turns slots later buffer p q seen
@@ -167,8 +177,8 @@ pub called_stands : LeftBeside → CallsBeside → (H : ChannelRun → FileHead 
 called_stands law calls H turns e buffer a b quiet called stands =
     let p : Access = called.port in
     let q : Access = called.later_port in
-    let steps : StepsPort (λ s. s) turns a.slots a.slots buffer p q a.files.seen = quiet_steps (λ s. s) turns a.slots a.slots buffer p q a.files.seen e quiet called.called.own called.called.got_is refl (same_from a.slots buffer)
-        (λ n c stood same head at. quiet_beside calls c c.stage head p.own p.got a.files.seen e quiet.sends (quiet.is_own (calls_after [] p.own)) (quiet.client c.client) (quiet.run c.stage) quiet.gives at) in
+    let steps : StepsPort (λ s. s) turns a.slots a.slots buffer p q a.files.seen = quiet_steps (λ s. s) turns a.slots a.slots buffer p q a.files.seen e quiet.plain called.called.own called.called.got_is refl (same_from a.slots buffer)
+        (λ n c stood same head at. quiet_beside calls c c.stage head p.own p.got a.files.seen e quiet.plain.sends (quiet.plain.is_own (calls_after [] p.own)) (quiet.client c.client) (quiet.run c.stage) quiet.gives at) in
     rw (called.slots, called.ports, called.files) (port_stepped law H (λ s. s) turns a.slots a.slots a.ports buffer p q a.files.seen called.at_port steps stands)
 
 -- The begin of a run.
@@ -209,7 +219,7 @@ begins_stands law begun H turns start buffer a b begins asking stands =
     let called = begins.1.marks in
     let p : Access = called.port in
     let q : Access = called.later_port in
-    let steps : StepsPort (λ s. stage_begun s place) turns a.slots b.slots buffer p q a.files.seen = quiet_steps (λ s. stage_begun s place) turns a.slots b.slots buffer p q a.files.seen (Begin start (Ok place)) (begin_quiet start (Ok place)) called.called.own called.called.got_is
+    let steps : StepsPort (λ s. stage_begun s place) turns a.slots b.slots buffer p q a.files.seen = quiet_steps (λ s. stage_begun s place) turns a.slots b.slots buffer p q a.files.seen (Begin start (Ok place)) (begin_plain start (Ok place)) called.called.own called.called.got_is
         (ap (λ (l : List (Option Channel)). length l) begins.1.noted ∙ length-map (option_map (noted_channel (λ s. stage_begun s place) buffer)) a.slots) (begins_from start buffer a b begins)
         (λ n c stood same head at. begin_stage begun c.spec c.client c.stage start place head p.own p.got a.files.seen (asking n c stood same) at) in
     rw (called.ports, called.files) (port_stepped law H (λ s. stage_begun s place) turns a.slots b.slots a.ports buffer p q a.files.seen called.at_port steps stands)
