@@ -18,3 +18,6 @@ pub mod MarkLoops
 pub mod NoneTaken
 pub mod OpenSlots
 pub mod TurnedLogger
+pub mod CloseMoves
+pub mod FinishedLogger
+pub mod NewStands

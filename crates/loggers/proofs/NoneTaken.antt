@@ -2,9 +2,6 @@
 -- by then, none had before.
 use Rattle.std.specs.Prelude.{◌≡◌, ◌≢◌, ◌<◌, ℕ, zero, suc, List, [], ◌∷◌, length, slice_get, slice_set, Contains, Option, Some, None, Result, Ok, Err, ⊤, refl}
 use Rattle.std.proofs.Common.{ap, sym, subst, ◌∙◌, arith, inl, inr}
-use Rattle.std.proofs.lemmas.Option.{slice_get_within, slice_get-get_or, get_or_from_slice_get}
-use Rattle.std.proofs.Common.{get_or, get_or-set_other}
-use Rattle.std.proofs.lemmas.List.{length-set}
 use Rattle.daq_types.specs.declared.runs.Order.{Order}
 use Rattle.daq_types.specs.declared.runs.Why.{Why}
 use Rattle.daq_types.specs.declared.runs.Why.TheVariants.{NotReady, Exists, Fault, BufferRefused}
@@ -19,7 +16,7 @@ use Rattle.mid_logger.specs.ChannelEnds.{CancelsStanding}
 use Rattle.loggers.specs.Moments.{LoggerMoment, InTurn, ChannelStep, StepsChannel, StepsSlot, CallsBuffer}
 use Rattle.loggers.specs.ChannelSteps.{OpensChannel, AbortsChannel}
 use Rattle.loggers.specs.NewLoggers.{NoneTakenBack}
-use Rattle.loggers.proofs.SlotLists.{same_or_other, got_there}
+use Rattle.loggers.proofs.SlotLists.{same_or_other, got_there, kept_there}
 
 -- what was known stays known
 abbrev pub StillKnown : Access → Access → Type 0
@@ -35,11 +32,6 @@ members_none xs x is has = let never : Contains [] x = subst (λ (l : List ℕ).
 none_known : (a b : Access) → StillKnown a b → b.taken_back ≡ [] → a.taken_back ≡ []
 none_known a b still none = no_members a.taken_back (λ call has. members_none b.taken_back call none (still call has))
 
-still_there : (ports : List Access) (buffer k : ℕ) (q x : Access) → k ≢ buffer → slice_get ports k ≡ Some x → slice_get (slice_set ports buffer q) k ≡ Some x
-still_there ports buffer k q x other there =
-    let within : k < length (slice_set ports buffer q) = omega (arith, length-set ports buffer q, slice_get_within ports k x there) in
-    slice_get-get_or (slice_set ports buffer q) k x within ∙ ap Some (get_or-set_other ports buffer k q x other ∙ get_or_from_slice_get ports k x x there)
-
 -- one port more
 none_before : (ports : List Access) (buffer : ℕ) (p q : Access) → slice_get ports buffer ≡ Some p → StillKnown p q → NoneTakenBack (slice_set ports buffer q) → NoneTakenBack ports
 none_before ports buffer p q there still none k x at = elim (same_or_other k buffer) as (λ w. x.taken_back ≡ []) [
@@ -47,7 +39,7 @@ none_before ports buffer p q there still none k x at = elim (same_or_other k buf
       let is : p ≡ x = cc (there, same, at) in
       let last : q.taken_back ≡ [] = none buffer q (got_there ports buffer p q there) in
       subst (λ (y : Access). y.taken_back ≡ []) is (none_known p q still last)
-  | inr other ↦ none k x (still_there ports buffer k q x other at)
+  | inr other ↦ none k x (kept_there ports buffer k q x other at)
 ]
 
 pub none_called : (entry : BufferEntry) (buffer : ℕ) (a b : LoggerMoment) → CallsBuffer entry buffer a b → NoneTakenBack b.ports → NoneTakenBack a.ports

@@ -128,7 +128,7 @@ aborted_ready change n (Some before) a b there s ready =
 
 -- Ending files.
 
-settled_written : (stage : ChannelStage) → (written_run (stage_settled stage) ≡ written_run stage) ⊎ (written_run (stage_settled stage) ≡ None)
+pub settled_written : (stage : ChannelStage) → (written_run (stage_settled stage) ≡ written_run stage) ⊎ (written_run (stage_settled stage) ≡ None)
 settled_written Idle = inl refl
 settled_written (Asking opened) = inl refl
 settled_written (Writing opened begun) = inl refl
