@@ -220,7 +220,7 @@ begins_stands law begun H turns start buffer a b begins asking stands =
     let p : Access = called.port in
     let q : Access = called.later_port in
     let steps : StepsPort (λ s. stage_begun s place) turns a.slots b.slots buffer p q a.files.seen = quiet_steps (λ s. stage_begun s place) turns a.slots b.slots buffer p q a.files.seen (Begin start (Ok place)) (begin_plain start (Ok place)) called.called.own called.called.got_is
-        (ap (λ (l : List (Option Channel)). length l) begins.1.noted ∙ length-map (option_map (noted_channel (λ s. stage_begun s place) buffer)) a.slots) (begins_from start buffer a b begins)
+        (ap (λ (l : List (Option Channel)). length l) begins.1.noted ∙ length-map a.slots (option_map (noted_channel (λ s. stage_begun s place) buffer))) (begins_from start buffer a b begins)
         (λ n c stood same head at. begin_stage begun c.spec c.client c.stage start place head p.own p.got a.files.seen (asking n c stood same) at) in
     rw (called.ports, called.files) (port_stepped law H (λ s. stage_begun s place) turns a.slots b.slots a.ports buffer p q a.files.seen called.at_port steps stands)
 
@@ -363,7 +363,7 @@ ends_stands law calls ended Spare H turns start buffer a b ends turn none never 
     let q : Access = called.later_port in
     let note : ChannelStage → ChannelStage = λ s. stage_ended s (place_marked reply) in
     let steps : StepsPort note turns a.slots b.slots buffer p q a.files.seen = record {
-      many = ap (λ (l : List (Option Channel)). length l) ends.1.noted ∙ length-map (option_map (noted_channel note buffer)) a.slots;
+      many = ap (λ (l : List (Option Channel)). length l) ends.1.noted ∙ length-map a.slots (option_map (noted_channel note buffer));
       from = ends_from start buffer a b ends;
       kept = λ n c stood same head at. rw (called.called.own, called.called.got_is) (end_stage calls ended Spare c start reply head p.own p.got a.files.seen (may n c stood same) at);
       more = End start reply ∷ [];

@@ -87,7 +87,7 @@ pub grows_cancel : (x y : Access) (opened : ChannelRun) → CancelsRequest x y o
 grows_cancel x y opened cancels = record { more = Cancel opened.client opened.request cancels.0 ∷ []; given = []; own = cancels.1.own; got = cancels.1.got_is ∙ sym (append-nil x.got); quiet = (tt, tt) }
 
 -- the event that a receive gave, if it gave one
-given_now : (client : ℕ) → Received → Event → List GotEvent
+abbrev given_now : (client : ℕ) → Received → Event → List GotEvent
 given_now client (Got place start) e = record { client = client; place = place; start = start; event = e } ∷ []
 given_now client reply e = []
 

@@ -2,6 +2,7 @@
 use Rattle.std.specs.Prelude.{◌≡◌, ◌≢◌, ◌≤◌, ◌<◌, ◌||◌, ◌==◌, ℕ, Bool, true, false, if◌then◌else◌, IsTrue, List, length, map, slice_get, slice_set, Option, Some, None, Result, Ok, Err, ◌⊎◌, ⊤, refl}
 use Rattle.std.specs.Option.{option_map}
 use Rattle.std.proofs.Common.{ap, sym, subst, ◌∙◌, arith, inl, inr}
+use Rattle.std.proofs.lemmas.List.{length-map}
 use Rattle.daq_types.specs.declared.runs.ChannelState.{ChannelState}
 use Rattle.daq_types.specs.declared.runs.Order.{Order}
 use Rattle.daq_types.specs.declared.runs.Why.{Why}
@@ -231,7 +232,7 @@ marked_ready entry note buffer a b keeps marks ready =
     let specs : (c : Channel) → (noted_channel note buffer c).spec ≡ c.spec = λ c. noted_spec note buffer c (c.spec.buffer == buffer) in
     let written : (c : Channel) → written_run (noted_channel note buffer c).stage ≡ written_run c.stage = λ c. noted_written note c (c.spec.buffer == buffer) keeps in
     let now : IsLoggerReady (map (option_map (noted_channel note buffer)) a.slots) b.ports b.files.seen = record {
-      many = omega (arith, called.many);
+      many = omega (arith, called.many, length-map a.slots (option_map (noted_channel note buffer)));
       served = λ n c there.
           let was : WasNoted note buffer a.slots n c = was_noted note buffer a.slots n c there in
           subst (λ (x : Channel). x.spec.buffer < length b.ports) (sym was.is) (subst (λ (sp : ChannelSpec). sp.buffer < length b.ports) (sym (specs was.before)) (called.served n was.before was.there));

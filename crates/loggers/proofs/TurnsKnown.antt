@@ -71,7 +71,7 @@ of_current turns start begin of_run = elim of_run as (λ w. current_run turns �
   | inr none ↦ absurd (none begin.0 begin.1.stands begin.1.is begin.1.of)
 ]
 
-accepted_more : (t : MemberTurn) (turns : List MemberTurn) (start : ℕ) (begin : MemberTurn) → IsAcceptedStart turns start begin → IsAcceptedStart (t ∷ turns) start begin
+pub accepted_more : (t : MemberTurn) (turns : List MemberTurn) (start : ℕ) (begin : MemberTurn) → IsAcceptedStart turns start begin → IsAcceptedStart (t ∷ turns) start begin
 accepted_more t turns start begin accepted = record { is_start = HasTurnOf-more t accepted.is_start; accepted = accepted.accepted }
 
 accepted_earlier : (t : MemberTurn) (turns : List MemberTurn) (start : ℕ) (begin : MemberTurn) → t.transition ≢ Start → IsAcceptedStart (t ∷ turns) start begin → IsAcceptedStart turns start begin
