@@ -1,6 +1,6 @@
 -- What the ending of one channel's file is to the others, and how its run is left.
-use Rattle.std.specs.Prelude.{◌≡◌, ◌≢◌, ◌≤◌, ◌<◌, ℕ, Bool, true, false, IsTrue, List, [], length, slice_get, slice_set, Option, Some, None, ◌⊎◌, refl}
-use Rattle.std.proofs.Common.{ap, sym, subst, ◌∙◌, arith, inl, inr}
+use Rattle.std.specs.Prelude.{◌≡◌, ◌≢◌, ℕ, Bool, true, IsTrue, List, slice_get, slice_set, Option, Some, None, ◌⊎◌, refl}
+use Rattle.std.proofs.Common.{ap, sym, subst, ◌∙◌, inl, inr}
 use Rattle.std.proofs.lemmas.List.{set-get_or}
 use Rattle.std.proofs.lemmas.Option.{get_or_from_slice_get}
 use Rattle.daq_types.specs.declared.runs.ChannelState.{ChannelState}
@@ -16,18 +16,18 @@ use Rattle.mid_logger.specs.declared.stage.ChannelRun.{ChannelRun}
 use Rattle.mid_logger.specs.declared.stage.ChannelStage.{ChannelStage}
 use Rattle.mid_logger.specs.declared.stage.ChannelStage.TheVariants.{Idle, Asking, Writing, Draining, Drained, Broken}
 use Rattle.mid_logger.specs.Patterns.{file_name_by}
-use Rattle.mid_logger.specs.Channels.{FileHead, ChannelStands, StageAt, DrainedAt, BrokenAt, IsOpenFile, channel_run, written_run}
-use Rattle.mid_logger.specs.ChannelTurns.{drained_run, broken_run}
-use Rattle.mid_logger.specs.ChannelEnds.{ClosesRead, ClosesFile, HasBroken, HasLeftRead, HasLeft, stage_settled, state_ended, state_otherwise}
-use Rattle.mid_logger.specs.Beside.{ClosesBeside, FilesBeside, LeftBeside}
+use Rattle.mid_logger.specs.Channels.{FileHead, ChannelStands, IsOpenFile, channel_run, written_run}
+use Rattle.mid_logger.specs.ChannelTurns.{drained_run}
+use Rattle.mid_logger.specs.ChannelEnds.{ClosesRead, ClosesFile, HasBroken, HasLeftRead, stage_settled, state_ended}
+use Rattle.mid_logger.specs.Beside.{ClosesBeside, FilesBeside}
 use Rattle.mid_logger.specs.Keeping.{ChangesFile, ClosesKeep, ClosesChange}
-use Rattle.loggers.specs.Moments.{RunFiles, HaveNumbersApart}
+use Rattle.loggers.specs.Moments.{RunFiles}
 use Rattle.loggers.specs.ChannelSteps.{EndsChannel}
 use Rattle.loggers.specs.Finishing.{is_settled_stage}
-use Rattle.loggers.specs.LoggerStands.{HasHead, IsHeadTold, IsEndedSo, IsEndedRun, IsStoppingStage, ChannelKept, SlotsApart, LeftRun, SlotsStand}
+use Rattle.loggers.specs.LoggerStands.{HasHead, IsHeadTold, IsEndedSo, IsStoppingStage, ChannelKept, SlotsApart, LeftRun, SlotsStand}
 use Rattle.loggers.proofs.SlotLists.{one_changed}
 use Rattle.loggers.proofs.ReadySteps.{settled_written}
-use Rattle.loggers.proofs.Moved.{Moves, moved, grown_none}
+use Rattle.loggers.proofs.Moved.{Moves, grown_none}
 use Rattle.loggers.proofs.PullMoves.{run_file_left, apart_on, tells_same}
 
 settled_run : (stage : ChannelStage) → (channel_run (stage_settled stage) ≡ channel_run stage) ⊎ (channel_run (stage_settled stage) ≡ None)
@@ -58,9 +58,9 @@ close_moves keep change beside others H turns time dump state slots n before aft
     let changes : ChangesFile before.spec (channel_run before.stage) (written_run before.stage) old new = change before.spec before.stage state time dump old new files.faults later.faults ends.ends file in
     let tells : new.tells ≡ old.tells = tells_same before.spec (channel_run before.stage) (written_run before.stage) old new changes in
     let ran : (o : ChannelRun) → channel_run after.stage ≡ Some o → channel_run before.stage ≡ Some o =
-        λ o is. same_run (channel_run before.stage) (channel_run (stage_settled before.stage)) o (settled_run before.stage) (sym (ap (λ (s : ChannelStage). channel_run s) stage) ∙ is) in
+    λ o is. same_run (channel_run before.stage) (channel_run (stage_settled before.stage)) o (settled_run before.stage) (sym (ap (λ (s : ChannelStage). channel_run s) stage) ∙ is) in
     let wrote : (o : ChannelRun) → written_run after.stage ≡ Some o → written_run before.stage ≡ Some o =
-        λ o is. same_run (written_run before.stage) (written_run (stage_settled before.stage)) o (settled_written before.stage) (sym (ap (λ (s : ChannelStage). written_run s) stage) ∙ is) in
+    λ o is. same_run (written_run before.stage) (written_run (stage_settled before.stage)) o (settled_written before.stage) (sym (ap (λ (s : ChannelStage). written_run s) stage) ∙ is) in
     record {
       spec = spec;
       client = λ k is. client ∙ is;
@@ -161,12 +161,12 @@ left_now keep change turns stop state slots ports n before after a files later t
     let time : ℕ = stop.order.time in
     let dump : Option (List ℕ) = stop.dump in
     let l : RunLeft turns stop.order.start time dump before kept.head a later.seen state =
-        run_left keep turns stop.order.start time dump state before.stage before kept.head a files.seen later.seen files.faults later.faults refl settled at kept.stands ends.ends in
+    run_left keep turns stop.order.start time dump state before.stage before kept.head a files.seen later.seen files.faults later.faults refl settled at kept.stands ends.ends in
     let spec : after.spec ≡ before.spec = ap (λ (c : Channel). c.spec) ends.channel in
     let client : after.client ≡ before.client = ap (λ (c : Channel). c.client) ends.channel in
     let stage : after.stage ≡ Idle = ap (λ (c : Channel). c.stage) ends.channel ∙ settled_idle before.stage settled in
     let tells : later.seen.tells ≡ files.seen.tells =
-        tells_same before.spec (channel_run before.stage) (written_run before.stage) files.seen later.seen (change before.spec before.stage state time dump files.seen later.seen files.faults later.faults ends.ends file) in
+    tells_same before.spec (channel_run before.stage) (written_run before.stage) files.seen later.seen (change before.spec before.stage state time dump files.seen later.seen files.faults later.faults ends.ends file) in
     record {
       run = l.run;
       head = kept.head;

@@ -1,5 +1,5 @@
 -- What a logger keeps where it answers the stop that waits.
-use Rattle.std.specs.Prelude.{◌≡◌, ◌≢◌, ◌≤◌, ◌<◌, ◌&&◌, ℕ, zero, suc, Bool, true, false, List, [], ◌∷◌, length, replicate, slice_get, slice_set, Option, Some, None, ◌⊎◌, refl}
+use Rattle.std.specs.Prelude.{◌≡◌, ◌≢◌, ◌≤◌, ◌<◌, ◌&&◌, ℕ, zero, suc, Bool, true, false, List, [], ◌∷◌, length, slice_get, slice_set, Option, Some, None, refl}
 use Rattle.std.specs.List.{list_all}
 use Rattle.std.proofs.Common.{ap, sym, subst, ◌∙◌, arith, inl, inr}
 use Rattle.std.proofs.lemmas.List.{length-set, length-replicate}
@@ -13,28 +13,23 @@ use Rattle.buffer_core.specs.declared.entry.BufferEntry.TheVariants.{End}
 use Rattle.buffer_core.specs.Ports.{Access}
 use Rattle.buffer_core.specs.Slots.{slot_at}
 use Rattle.buffer_core.specs.SlotLaws.{slot_within}
-use Rattle.transitions.specs.declared.answers.Answer.{Answer}
 use Rattle.transitions.specs.declared.answers.Answer.TheVariants.{Yes}
 use Rattle.transitions.specs.declared.answers.Tally.TheVariants.{Channels}
 use Rattle.member_model.specs.Turns.{MemberTurn, AreEngineTurns, latest_answered}
-use Rattle.member_model.specs.SentCalls.{EachCall}
 use Rattle.mid_logger.specs.declared.channel.Channel.{Channel}
 use Rattle.mid_logger.specs.declared.channel_spec.ChannelSpec.{ChannelSpec}
-use Rattle.mid_logger.specs.declared.stage.ChannelRun.{ChannelRun}
 use Rattle.mid_logger.specs.declared.stage.ChannelStage.{ChannelStage}
 use Rattle.mid_logger.specs.declared.stage.ChannelStage.TheVariants.{Idle}
 use Rattle.mid_logger.specs.Channels.{FileHead, channel_run}
-use Rattle.mid_logger.specs.ChannelEnds.{stage_settled}
 use Rattle.mid_logger.specs.Beside.{ClosesBeside, FilesBeside, LeftBeside}
 use Rattle.mid_logger.specs.Keeping.{ClosesKeep, ClosesChange}
 use Rattle.loggers.specs.declared.logged_run.LoggedRun.{LoggedRun}
 use Rattle.loggers.specs.declared.logged_run.RunPart.{RunPart}
 use Rattle.loggers.specs.declared.logged_run.RunPart.TheVariants.{Refused, Started, Stopping}
-use Rattle.loggers.specs.Moments.{RunFiles, InTurn, HaveFilesOpen, AreIdle, channel_limit}
-use Rattle.loggers.specs.ChannelSteps.{EndsChannel}
-use Rattle.loggers.specs.Finishing.{is_settled_stage, is_settled_slot, waiting_stop, EndingMoment, EndsNumbered, EndsSlot, EndsSlotAt, LoggerFinish, LeavesWaiting, states_idle, EndsFiles, FinishesBy, FinishesLogger}
-use Rattle.loggers.specs.LoggerStands.{logger_turn, HasHead, HasEndTurn, IsEndTold, IsHeadTold, IsStoppingStage, IsStagePart, IsStageOf, ChannelKept, PortKept, LeftRun, TellsStates, ToldSo, SlotsStand, IsStopWaiting, IsPartTold, IsRunTold, LoggerStands}
-use Rattle.loggers.proofs.SlotLists.{same_or_other, one_changed, got_there, kept_there}
+use Rattle.loggers.specs.Moments.{InTurn, HaveFilesOpen, channel_limit}
+use Rattle.loggers.specs.Finishing.{is_settled_stage, is_settled_slot, waiting_stop, EndingMoment, EndsNumbered, EndsSlot, EndsSlotAt, LoggerFinish, states_idle, EndsFiles, FinishesBy, FinishesLogger}
+use Rattle.loggers.specs.LoggerStands.{logger_turn, HasHead, HasEndTurn, IsEndTold, IsHeadTold, IsStoppingStage, IsStagePart, IsStageOf, ChannelKept, PortKept, LeftRun, ToldSo, SlotsStand, IsStopWaiting, IsPartTold, IsRunTold, LoggerStands}
+use Rattle.loggers.proofs.SlotLists.{one_changed, got_there, kept_there}
 use Rattle.loggers.proofs.StoppedRuns.{there_is}
 use Rattle.loggers.proofs.ReadySteps.{ended_files}
 use Rattle.loggers.proofs.Moved.{Moves, moved, left_moved, grown_none}
@@ -92,15 +87,15 @@ ended_one laws turns stop ports many k before a b there ends to =
     let spec : after.spec ≡ before.spec = ap (λ (c : Channel). c.spec) ends.ends.channel in
     let now = to.stages k before p there at_port (omega arith) in
     let moves : Moves (IsHeadTold turns) turns a.slots k before after p p a.files.seen b.files.seen =
-        close_moves laws.keep laws.change laws.beside laws.files (IsHeadTold turns) turns stop.order.time stop.dump ends.state a.slots k before after p a.files b.files there (to.in_use.files k before there)
-        (λ m d other stood. to.standing.apart k m before d (λ same. other (sym same)) there stood) ends.ends in
+    close_moves laws.keep laws.change laws.beside laws.files (IsHeadTold turns) turns stop.order.time stop.dump ends.state a.slots k before after p a.files b.files there (to.in_use.files k before there)
+    (λ m d other stood. to.standing.apart k m before d (λ same. other (sym same)) there stood) ends.ends in
     let standing : SlotsStand (IsHeadTold turns) turns slots ports b.files.seen = subst (λ (l : List Access). SlotsStand (IsHeadTold turns) turns slots l b.files.seen) (put_back ports before.spec.buffer p at_port)
-        (moved laws.left (IsHeadTold turns) turns a.slots ports k before after p p a.files.seen b.files.seen there at_port moves to.standing) in
+    (moved laws.left (IsHeadTold turns) turns a.slots ports k before after p p a.files.seen b.files.seen there at_port moves to.standing) in
     let within : k < length a.states = omega (arith, slot_within a.slots k before there, to.standing.many, to.wide) in
     let state_there = there_is a.states k within in
     let told : slice_get (slice_set a.states k ends.state) k ≡ Some ends.state = got_there a.states k state_there.0 ends.state state_there.1 in
     let left_here : AreEngineTurns turns → LeftRun turns slots b.files.seen after p stop ends.state =
-        left_now laws.keep laws.change turns stop ends.state a.slots ports k before after p a.files b.files there at_port (to.in_use.files k before there) now.1 now.0 to.standing ends.ends in
+    left_now laws.keep laws.change turns stop ends.state a.slots ports k before after p a.files b.files there at_port (to.in_use.files k before there) now.1 now.0 to.standing ends.ends in
     let middle : EndingMoment = record { slots = slots; files = b.files; states = slice_set a.states k ends.state } in
     let done : EndedTo turns stop ports many (suc k) middle = record {
       standing = standing;
@@ -120,13 +115,15 @@ ended_one laws turns stop ports many k before a b there ends to =
           let is : p ≡ y = one_port ports before.spec.buffer after.spec.buffer p y (sym (ap (λ (s : ChannelSpec). s.buffer) spec)) at_port at_y in
           (ends.state, told, subst (λ (w : Access). LeftRun turns slots b.files.seen after w stop ends.state) is (left_here are)))
           (λ j z other here y at_y low.
-          let was : (s : ChannelState) × (slice_get a.states j ≡ Some s) × LeftRun turns a.slots a.files.seen z y stop s = to.left are j z y here at_y (omega arith) in
-          (was.0, kept_there a.states k j ends.state was.0 other was.1,
-          left_moved laws.left (IsHeadTold turns) turns a.slots k before after p p a.files.seen b.files.seen moves there z z y y refl (λ i is. is) (grown_none y) stop was.0 was.2))
+          let was : (s : ChannelState) × (slice_get a.states j ≡ Some s) × LeftRun turns a.slots a.files.seen z y stop s = to.left are j z y here at_y (omega arith) in (
+            was.0,
+            kept_there a.states k j ends.state was.0 other was.1,
+            left_moved laws.left (IsHeadTold turns) turns a.slots k before after p p a.files.seen b.files.seen moves there z z y y refl (λ i is. is) (grown_none y) stop was.0 was.2,
+          ))
           before there n c stood x at below;
     } in
     let slots_are : EndedTo turns stop ports many (suc k) (record { slots = b.slots; files = b.files; states = slice_set a.states k ends.state }) =
-        subst (λ (l : List (Option Channel)). EndedTo turns stop ports many (suc k) (record { slots = l; files = b.files; states = slice_set a.states k ends.state })) (sym ends.slots) done in
+    subst (λ (l : List (Option Channel)). EndedTo turns stop ports many (suc k) (record { slots = l; files = b.files; states = slice_set a.states k ends.state })) (sym ends.slots) done in
     subst (λ (l : List ChannelState). EndedTo turns stop ports many (suc k) (record { slots = b.slots; files = b.files; states = l })) (sym ends.states) slots_are
 
 ended_slot : EndingLaws → (turns : List MemberTurn) (stop : MemberTurn) (ports : List Access) (many k : ℕ) (slot : Option Channel) (a b : EndingMoment) → slot_at a.slots k ≡ slot → EndsSlot stop.order.time stop.dump k slot a b → EndedTo turns stop ports many k a
@@ -279,7 +276,7 @@ finished laws f ports turns time waits settled in_use ends stands =
     let last : EndingMoment = record { slots = f.later_slots; files = f.later_files; states = ends.states } in
     let turns_now : List MemberTurn = stop_answered stop.order f.stop_dump ends.states stop.earlier in
     let stages : (n : ℕ) (c : Channel) (a : Access) → slot_at f.slots n ≡ Some c → slice_get ports c.spec.buffer ≡ Some a → IsStoppingStage before a.own w.r.start c.stage = λ n c a stood at.
-        subst (λ (p : RunPart). IsStagePart p before a.own w.r.start c.stage) w.part (subst (λ (x : Option LoggedRun). IsStageOf x before a.own c.stage) w.is (now.stages n c a stood at)) in
+    subst (λ (p : RunPart). IsStagePart p before a.own w.r.start c.stage) w.part (subst (λ (x : Option LoggedRun). IsStageOf x before a.own c.stage) w.is (now.stages n c a stood at)) in
     let to : EndedTo before (logger_turn Stop stop.order f.stop_dump None) ports (length f.slots) (length f.slots) last = ended_with laws f ports stop.order stop.earlier w.r.start time stop.of stop.at settled in_use ends now.standing now.served stages ends in
     let known : TurnsKnown None None turns_now = finish_known f.run f.stop_dump f.stop_dump ends.states stop.order stop.earlier (record { starts = now.starts; stops = now.stops; told = now.told; current = now.current }) in
     let done : LoggerStands None None f.later_slots ports turns_now f.later_files.seen = record {

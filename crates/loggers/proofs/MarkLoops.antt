@@ -1,10 +1,7 @@
 -- What stands where a run is begun, paused, resumed or ended in one buffer after another.
-use Rattle.std.specs.Prelude.{◌≡◌, ◌≢◌, ◌≤◌, ◌<◌, ◌+◌, ℕ, zero, suc, List, [], ◌∷◌, ◌++◌, length, map, slice_get, slice_set, Option, Some, None, Result, Ok, Err, ◌⊎◌, ⊤, refl}
-use Rattle.std.specs.Option.{option_map}
+use Rattle.std.specs.Prelude.{◌≡◌, ◌≢◌, ◌≤◌, ◌<◌, ℕ, zero, suc, List, [], ◌∷◌, ◌++◌, length, slice_get, slice_set, Option, Some, Result, Err, refl}
 use Rattle.std.proofs.Common.{ap, sym, subst, ◌∙◌, arith, inl, inr}
-use Rattle.daq_io.specs.Seen.{Seen}
 use Rattle.buffer_core.specs.declared.replies.MarkRefusal.{MarkRefusal}
-use Rattle.buffer_core.specs.declared.entry.BufferEntry.{BufferEntry}
 use Rattle.buffer_core.specs.declared.entry.BufferEntry.TheVariants.{Begin, Pause, Resume, End}
 use Rattle.buffer_core.specs.Ports.{Access}
 use Rattle.buffer_core.specs.Slots.{slot_at}
@@ -16,13 +13,12 @@ use Rattle.mid_logger.specs.declared.stage.ChannelStage.{ChannelStage}
 use Rattle.mid_logger.specs.Channels.{FileHead, stage_begun, stage_ended, place_marked}
 use Rattle.mid_logger.specs.Beside.{CallsBeside, LeftBeside}
 use Rattle.mid_logger.specs.Keeping.{BegunKeeps, EndedKeeps}
-use Rattle.loggers.specs.Moments.{LoggerMoment, InTurn, CallsBuffer}
-use Rattle.loggers.specs.Turning.{BeginsBuffer, RefusesBegin, EndsBuffer, PausesBuffer, ResumesBuffer, BeginsBelow, RefusesMark}
+use Rattle.loggers.specs.Moments.{LoggerMoment, InTurn}
+use Rattle.loggers.specs.Turning.{BeginsBuffer, EndsBuffer, PausesBuffer, ResumesBuffer, BeginsBelow, RefusesMark}
 use Rattle.loggers.specs.LoggerStands.{IsStartedStage, HasEndTurn, SlotsStand}
 use Rattle.loggers.proofs.SlotLists.{same_or_other, got_there, got_elsewhere, many_set}
 use Rattle.loggers.proofs.PortSteps.{IsFrom}
 use Rattle.loggers.proofs.MarkMoves.{refused_quiet, pause_quiet, resume_quiet, called_stands, IsAskingStage, begun_started, begins_from, begins_stands, NeverEnded, MayEnd, HasEnded, has_ended, NoneTold, ends_from, ends_stands}
-
 
 -- Marks that no channel notes.
 
@@ -44,15 +40,15 @@ pub record HaveStayed (H : ChannelRun → FileHead → Type 0) (turns : List Mem
 pub paused_all : LeftBeside → CallsBeside → (H : ChannelRun → FileHead → Type 0) (turns : List MemberTurn) (start count : ℕ) (a b : LoggerMoment) → InTurn (λ buffer. PausesBuffer start buffer) count a b → SlotsStand H turns a.slots a.ports a.files.seen → HaveStayed H turns a b
 paused_all law calls H turns start count a b steps stands =
     let done : StaysStanding H turns a.slots b = all_stay H turns (λ buffer. PausesBuffer start buffer) a.slots count a b
-        (λ k x y step stays. record { standing = called_stands law calls H turns (Pause start step.0) k x y (pause_quiet start step.0) step.1 stays.standing; same = step.1.slots ∙ stays.same }) steps
-        (record { standing = stands; same = refl }) in
+    (λ k x y step stays. record { standing = called_stands law calls H turns (Pause start step.0) k x y (pause_quiet start step.0) step.1 stays.standing; same = step.1.slots ∙ stays.same }) steps
+    (record { standing = stands; same = refl }) in
     record { standing = done.standing; same = done.same }
 
 pub resumed_all : LeftBeside → CallsBeside → (H : ChannelRun → FileHead → Type 0) (turns : List MemberTurn) (start count : ℕ) (a b : LoggerMoment) → InTurn (λ buffer. ResumesBuffer start buffer) count a b → SlotsStand H turns a.slots a.ports a.files.seen → HaveStayed H turns a b
 resumed_all law calls H turns start count a b steps stands =
     let done : StaysStanding H turns a.slots b = all_stay H turns (λ buffer. ResumesBuffer start buffer) a.slots count a b
-        (λ k x y step stays. record { standing = called_stands law calls H turns (Resume start step.0) k x y (resume_quiet start step.0) step.1 stays.standing; same = step.1.slots ∙ stays.same }) steps
-        (record { standing = stands; same = refl }) in
+    (λ k x y step stays. record { standing = called_stands law calls H turns (Resume start step.0) k x y (resume_quiet start step.0) step.1 stays.standing; same = step.1.slots ∙ stays.same }) steps
+    (record { standing = stands; same = refl }) in
     record { standing = done.standing; same = done.same }
 
 -- The begin.

@@ -1,5 +1,5 @@
 -- What a mark in a buffer is to all channels: the begin of a run and its end, and calls that none notes.
-use Rattle.std.specs.Prelude.{◌≡◌, ◌≢◌, ◌==◌, ◌++◌, ℕ, Bool, true, false, if◌then◌else◌, List, [], ◌∷◌, length, map, slice_get, slice_set, Option, Some, None, Result, Ok, Err, ◌⊎◌, refl}
+use Rattle.std.specs.Prelude.{◌≡◌, ◌≢◌, ◌==◌, ◌++◌, ℕ, Bool, true, false, if◌then◌else◌, List, [], ◌∷◌, length, map, Option, Some, None, Result, Ok, Err, ◌⊎◌, refl}
 use Rattle.std.specs.Option.{option_map}
 use Rattle.std.proofs.Common.{ap, sym, subst, ◌∙◌, inl, inr, eq-eqb}
 use Rattle.std.proofs.lemmas.Bool.{eqb-true}
@@ -13,22 +13,20 @@ use Rattle.buffer_core.specs.Ports.{Access, GotEvent, name_given}
 use Rattle.buffer_core.specs.Slots.{slot_at}
 use Rattle.member_model.specs.Turns.{MemberTurn, AreEngineTurns}
 use Rattle.member_model.specs.OwnCalls.{calls_after, AreOwnCalls, IsOwnCall, SendsNone}
-use Rattle.member_model.specs.SentCalls.{EachCall}
-use Rattle.member_model.specs.CutRuns.{MarksEnd, RefusesEnd}
+use Rattle.member_model.specs.CutRuns.{MarksEnd}
 use Rattle.member_model.proofs.ReadLaws.{calls_after-push}
 use Rattle.member_model.proofs.SentLaws.{EachCall-push}
 use Rattle.mid_logger.specs.declared.channel.Channel.{Channel}
 use Rattle.mid_logger.specs.declared.channel_spec.ChannelSpec.{ChannelSpec}
-use Rattle.mid_logger.specs.declared.stage.BegunRun.{BegunRun}
 use Rattle.mid_logger.specs.declared.stage.ChannelRun.{ChannelRun}
 use Rattle.mid_logger.specs.declared.stage.ChannelStage.{ChannelStage}
 use Rattle.mid_logger.specs.declared.stage.ChannelStage.TheVariants.{Idle, Asking, Writing, Draining, Drained, Broken}
 use Rattle.mid_logger.specs.Channels.{FileHead, KeepsOwnCalls, ChannelStands, channel_run, written_run, stage_begun, stage_ended, place_marked, end_marked}
 use Rattle.mid_logger.specs.Beside.{LeavesClient, LeavesRunOn, CallsBeside, LeftBeside}
 use Rattle.mid_logger.specs.Keeping.{BegunKeeps, EndedKeeps}
-use Rattle.loggers.specs.Moments.{LoggerMoment, CallsBuffer, MarksBuffer, noted_channel}
-use Rattle.loggers.specs.Turning.{BeginsBuffer, RefusesBegin, EndsBuffer, PausesBuffer, ResumesBuffer}
-use Rattle.loggers.specs.LoggerStands.{IsEndedSo, IsUnended, IsEndedRun, IsStartedStage, IsStoppingStage, HasEndTurn, IsEndTold, PortKept, TellsStates, SlotsStand}
+use Rattle.loggers.specs.Moments.{LoggerMoment, CallsBuffer, noted_channel}
+use Rattle.loggers.specs.Turning.{BeginsBuffer, EndsBuffer}
+use Rattle.loggers.specs.LoggerStands.{IsEndedSo, IsStartedStage, IsStoppingStage, HasEndTurn, IsEndTold, TellsStates, SlotsStand}
 use Rattle.loggers.proofs.ReadySteps.{WasNoted, was_noted}
 use Rattle.loggers.proofs.PullMoves.{EndsNone, GrowsOn, mark_stays, refusal_stays, ended_stays, port_grown}
 use Rattle.loggers.proofs.PortSteps.{KeepsChannel, IsFrom, StepsPort, port_stepped}
@@ -178,7 +176,7 @@ called_stands law calls H turns e buffer a b quiet called stands =
     let p : Access = called.port in
     let q : Access = called.later_port in
     let steps : StepsPort (λ s. s) turns a.slots a.slots buffer p q a.files.seen = quiet_steps (λ s. s) turns a.slots a.slots buffer p q a.files.seen e quiet.plain called.called.own called.called.got_is refl (same_from a.slots buffer)
-        (λ n c stood same head at. quiet_beside calls c c.stage head p.own p.got a.files.seen e quiet.plain.sends (quiet.plain.is_own (calls_after [] p.own)) (quiet.client c.client) (quiet.run c.stage) quiet.gives at) in
+    (λ n c stood same head at. quiet_beside calls c c.stage head p.own p.got a.files.seen e quiet.plain.sends (quiet.plain.is_own (calls_after [] p.own)) (quiet.client c.client) (quiet.run c.stage) quiet.gives at) in
     rw (called.slots, called.ports, called.files) (port_stepped law H (λ s. s) turns a.slots a.slots a.ports buffer p q a.files.seen called.at_port steps stands)
 
 -- The begin of a run.
@@ -220,8 +218,8 @@ begins_stands law begun H turns start buffer a b begins asking stands =
     let p : Access = called.port in
     let q : Access = called.later_port in
     let steps : StepsPort (λ s. stage_begun s place) turns a.slots b.slots buffer p q a.files.seen = quiet_steps (λ s. stage_begun s place) turns a.slots b.slots buffer p q a.files.seen (Begin start (Ok place)) (begin_plain start (Ok place)) called.called.own called.called.got_is
-        (ap (λ (l : List (Option Channel)). length l) begins.1.noted ∙ length-map a.slots (option_map (noted_channel (λ s. stage_begun s place) buffer))) (begins_from start buffer a b begins)
-        (λ n c stood same head at. begin_stage begun c.spec c.client c.stage start place head p.own p.got a.files.seen (asking n c stood same) at) in
+    (ap (λ (l : List (Option Channel)). length l) begins.1.noted ∙ length-map a.slots (option_map (noted_channel (λ s. stage_begun s place) buffer))) (begins_from start buffer a b begins)
+    (λ n c stood same head at. begin_stage begun c.spec c.client c.stage start place head p.own p.got a.files.seen (asking n c stood same) at) in
     rw (called.ports, called.files) (port_stepped law H (λ s. stage_begun s place) turns a.slots b.slots a.ports buffer p q a.files.seen called.at_port steps stands)
 
 -- The end of a run.

@@ -1,21 +1,21 @@
 -- What stands of all channels, where one of them did a step on its port and its file.
-use Rattle.std.specs.Prelude.{◌≡◌, ◌≢◌, ◌≤◌, ◌==◌, ◌++◌, ℕ, Bool, IsTrue, List, [], length, slice_get, slice_set, Option, Some, None, ◌⊎◌, refl}
+use Rattle.std.specs.Prelude.{◌≡◌, ◌≢◌, ◌++◌, ℕ, Bool, IsTrue, List, [], slice_get, slice_set, Option, Some, None, ◌⊎◌, refl}
 use Rattle.std.proofs.Common.{ap, sym, subst, ◌∙◌, arith, inl, inr}
 use Rattle.std.proofs.lemmas.List.{length-set, append-nil}
 use Rattle.daq_types.specs.declared.runs.ChannelState.{ChannelState}
-use Rattle.daq_io.specs.Seen.{Seen, Touches}
+use Rattle.daq_io.specs.Seen.{Seen}
 use Rattle.buffer_core.specs.declared.entry.BufferEntry.{BufferEntry}
 use Rattle.buffer_core.specs.Ports.{Access, GotEvent}
 use Rattle.buffer_core.specs.Slots.{slot_at}
-use Rattle.member_model.specs.Turns.{MemberTurn, AreEngineTurns}
+use Rattle.member_model.specs.Turns.{MemberTurn}
 use Rattle.mid_logger.specs.declared.channel.Channel.{Channel}
 use Rattle.mid_logger.specs.declared.channel_spec.ChannelSpec.{ChannelSpec}
 use Rattle.mid_logger.specs.declared.stage.ChannelRun.{ChannelRun}
 use Rattle.mid_logger.specs.Patterns.{file_name_by}
 use Rattle.mid_logger.specs.Channels.{FileHead, channel_run}
 use Rattle.mid_logger.specs.Beside.{LeavesRunFile, LeftBeside}
-use Rattle.loggers.specs.LoggerStands.{IsEndedSo, ChannelKept, SlotsApart, PortKept, LeftRun, TellsStates, ToldSo, SlotsStand}
-use Rattle.loggers.proofs.SlotLists.{same_or_other, one_changed, put_there, got_there, got_elsewhere}
+use Rattle.loggers.specs.LoggerStands.{IsEndedSo, ChannelKept, SlotsApart, PortKept, LeftRun, ToldSo, SlotsStand}
+use Rattle.loggers.proofs.SlotLists.{same_or_other, one_changed, got_there, got_elsewhere}
 
 -- a port after more calls, by which more events were got; what was told of the ends of runs stays so
 pub record Grows (x y : Access) : Type 0 where

@@ -1,22 +1,20 @@
 -- What a new logger keeps.
-use Rattle.std.specs.Prelude.{◌≡◌, ◌≤◌, ◌<◌, ℕ, List, [], ◌∷◌, ◌++◌, length, slice_get, Option, Some, None, Ok, refl}
+use Rattle.std.specs.Prelude.{◌≡◌, ℕ, List, [], ◌∷◌, ◌++◌, slice_get, Option, Some, None, Ok}
 use Rattle.std.proofs.Common.{ap, sym, subst, ◌∙◌, arith}
 use Rattle.daq_io.specs.Seen.{Seen}
 use Rattle.buffer_core.specs.declared.entry.BufferEntry.{BufferEntry}
 use Rattle.buffer_core.specs.declared.entry.BufferEntry.TheVariants.{End}
-use Rattle.buffer_core.specs.Ports.{Access, GotEvent}
+use Rattle.buffer_core.specs.Ports.{Access}
 use Rattle.buffer_core.specs.Slots.{slot_at}
-use Rattle.member_model.specs.Turns.{MemberTurn}
 use Rattle.member_model.specs.CutRuns.{MarksEnd}
 use Rattle.mid_logger.specs.declared.channel.Channel.{Channel}
 use Rattle.mid_logger.specs.declared.channel_spec.ChannelSpec.{ChannelSpec}
-use Rattle.mid_logger.specs.declared.stage.ChannelRun.{ChannelRun}
 use Rattle.mid_logger.specs.declared.stage.ChannelStage.{ChannelStage}
 use Rattle.mid_logger.specs.declared.stage.ChannelStage.TheVariants.{Idle}
 use Rattle.mid_logger.specs.Channels.{FileHead, ChannelStands, channel_run, written_run}
-use Rattle.loggers.specs.Moments.{IsLoggerReady, channel_limit}
-use Rattle.loggers.specs.NewLoggers.{new_channel, IsNewChannel, HasNewChannels, AreUnused, HavePorts}
-use Rattle.loggers.specs.LoggerStands.{IsHeadTold, ChannelKept, SlotsApart, PortKept, SlotsStand, LoggerStands}
+use Rattle.loggers.specs.Moments.{IsLoggerReady}
+use Rattle.loggers.specs.NewLoggers.{IsNewChannel, HasNewChannels, AreUnused, HavePorts}
+use Rattle.loggers.specs.LoggerStands.{IsHeadTold, PortKept, SlotsStand, LoggerStands}
 
 -- a channel of a new logger is idle and has no client
 record IsFresh (specs : List ChannelSpec) (c : Channel) : Type 0 where

@@ -1,32 +1,29 @@
 -- What stands where one channel after another opens a run.
-use Rattle.std.specs.Prelude.{◌≡◌, ◌≢◌, ◌≤◌, ◌<◌, ◌+◌, ℕ, zero, suc, Bool, true, false, IsTrue, List, [], ◌∷◌, length, slice_get, slice_set, Option, Some, None, Result, Ok, Err, ◌⊎◌, ⊤, refl}
+use Rattle.std.specs.Prelude.{◌≡◌, ◌≤◌, ◌<◌, ℕ, zero, suc, Bool, true, false, IsTrue, List, [], length, slice_get, slice_set, Option, Some, None, Result, Ok, Err, ⊤, refl}
 use Rattle.std.proofs.Common.{ap, sym, subst, ◌∙◌, arith, inl, inr}
 use Rattle.std.proofs.lemmas.List.{length-set}
-use Rattle.daq_types.specs.declared.runs.ChannelState.{ChannelState}
 use Rattle.daq_types.specs.declared.runs.Order.{Order}
 use Rattle.daq_types.specs.declared.runs.Why.{Why}
 use Rattle.daq_model.specs.Events.{record_limit}
 use Rattle.daq_io.specs.Seen.{Seen}
 use Rattle.buffer_core.specs.Ports.{Access}
 use Rattle.buffer_core.specs.Slots.{slot_at}
-use Rattle.buffer_core.specs.SlotLaws.{slot_within}
 use Rattle.member_model.specs.Turns.{MemberTurn}
 use Rattle.mid_logger.specs.declared.channel.Channel.{Channel}
 use Rattle.mid_logger.specs.declared.channel_spec.ChannelSpec.{ChannelSpec}
 use Rattle.mid_logger.specs.declared.stage.ChannelRun.{ChannelRun}
 use Rattle.mid_logger.specs.declared.stage.ChannelStage.{ChannelStage}
-use Rattle.mid_logger.specs.declared.stage.ChannelStage.TheVariants.{Idle, Asking}
+use Rattle.mid_logger.specs.declared.stage.ChannelStage.TheVariants.{Idle}
 use Rattle.mid_logger.specs.Patterns.{file_name_by}
-use Rattle.mid_logger.specs.Channels.{FileHead, ChannelStands, IsOpenFile, channel_run, written_run}
-use Rattle.mid_logger.specs.ChannelTurns.{ChannelAt, OpensBy}
+use Rattle.mid_logger.specs.Channels.{FileHead, IsOpenFile, channel_run, written_run}
 use Rattle.mid_logger.specs.RecordFiles.{IsGone}
-use Rattle.mid_logger.specs.Beside.{LeavesRunFile, ChannelsApart, FilesBeside, OpensBeside, LeftBeside}
+use Rattle.mid_logger.specs.Beside.{LeavesRunFile, FilesBeside, OpensBeside, LeftBeside}
 use Rattle.mid_logger.specs.Keeping.{OpensFile, OpensKeep, OpensChange, FilesThere, order_head}
-use Rattle.loggers.specs.Moments.{LoggerMoment, ChannelStep, StepsChannel, StepsSlot, StepsAt, InTurn, HaveNumbersApart, HaveFilesOpen, IsLoggerReady, AreIdle}
+use Rattle.loggers.specs.Moments.{LoggerMoment, ChannelStep, StepsChannel, StepsSlot, HaveFilesOpen, IsLoggerReady}
 use Rattle.loggers.specs.ChannelSteps.{OpensChannel}
 use Rattle.loggers.specs.Turning.{OpensBelow, RefusesOpen}
 use Rattle.loggers.specs.NewLoggers.{NoneTakenBack}
-use Rattle.loggers.specs.LoggerStands.{ChannelKept, SlotsApart, PortKept, LeftRun, SlotsStand}
+use Rattle.loggers.specs.LoggerStands.{ChannelKept, SlotsStand}
 use Rattle.loggers.proofs.SlotLists.{same_or_other, one_changed, got_there}
 use Rattle.loggers.proofs.ReadySteps.{open_fresh, opened_ready}
 use Rattle.loggers.proofs.Moved.{Moves, moved}
@@ -34,7 +31,7 @@ use Rattle.loggers.proofs.PullMoves.{GrowsOn, grown_on, port_grown, apart_on, nu
 use Rattle.loggers.proofs.StoppedRuns.{there_is}
 use Rattle.loggers.proofs.OpenMoves.{IsOrderHead, open_client, open_grows, left_not_new, left_stays}
 use Rattle.loggers.proofs.MarkMoves.{IsAskingStage}
-use Rattle.loggers.proofs.NoneTaken.{none_opened, none_opened_slot, none_turns}
+use Rattle.loggers.proofs.NoneTaken.{none_opened, none_opened_slot}
 
 -- One channel.
 
@@ -102,10 +99,10 @@ open_moves keep change file_there beside files order dump r turns slots ports n 
     let kept : ChannelKept H old before s.port = stands.channels n before s.port there at_port in
     let now : ChannelKept H new s.after s.later_port = open_self keep order dump r s opens idle small none kept in
     let not_gone : (m : ℕ) (d : Channel) → slot_at slots m ≡ Some d → (o : ChannelRun) → channel_run d.stage ≡ Some o → IsTrue old.tells → old.at (file_name_by d.spec.pattern o.run) ≡ None → ⊥ =
-        λ m d stood o is told. (
-        let port : (p : Access) × (slice_get ports d.spec.buffer ≡ Some p) = has_port m d stood in
-        let k : ChannelKept H old d port.0 = stands.channels m d port.0 stood port.1 in
-        file_there d.spec d.client d.stage k.head port.0.own port.0.got old k.stands o is told) in
+    λ m d stood o is told. (
+    let port : (p : Access) × (slice_get ports d.spec.buffer ≡ Some p) = has_port m d stood in
+    let k : ChannelKept H old d port.0 = stands.channels m d port.0 stood port.1 in
+    file_there d.spec d.client d.stage k.head port.0.own port.0.got old k.stands o is told) in
     record {
       spec = opens.spec;
       client = λ k is. open_client before.spec order dump r _ _ k opens.opens is;
@@ -171,7 +168,7 @@ open_stepped law keep change file_there beside files order dump r turns n before
     let put : slice_get (slice_set a.ports before.spec.buffer s.later_port) before.spec.buffer ≡ Some s.later_port = got_there a.ports before.spec.buffer s.port s.later_port s.at_port in
     let at_last : slice_get b.ports before.spec.buffer ≡ Some s.later_port = subst (λ (l : List Access). slice_get l before.spec.buffer ≡ Some s.later_port) (sym s.ports) put in
     let moves : Moves (IsOrderHead order dump) turns a.slots n before s.after s.port s.later_port a.files.seen b.files.seen =
-        open_moves keep change file_there beside files order dump r turns a.slots a.ports n step there s.at_port (port_there a.slots a.ports a.files.seen ready) idle small (none before.spec.buffer s.later_port at_last) ready.files stands s.step in
+    open_moves keep change file_there beside files order dump r turns a.slots a.ports n step there s.at_port (port_there a.slots a.ports a.files.seen ready) idle small (none before.spec.buffer s.later_port at_last) ready.files stands s.step in
     rw (s.slots, s.ports) (moved law (IsOrderHead order dump) turns a.slots a.ports n before s.after s.port s.later_port a.files.seen b.files.seen there s.at_port moves stands)
 
 asks_now : (order : Order) (dump : List ℕ) (s : ChannelStep) → OpensChannel order dump (Ok tt) s → IsAskingStage order.start s.after.stage
@@ -220,5 +217,5 @@ pub open_refused : LeftBeside → OpensKeep → OpensChange → FilesThere → O
 open_refused law keep change file_there beside files order dump why turns many wide a b small none refuses to =
     let n : ℕ = refuses.number in
     let to_here : OpenedTo order dump turns many wide n refuses.opened =
-        opened_below law keep change file_there beside files order dump turns many wide n a refuses.opened small (none_opened order dump (Err why) n refuses.channel refuses.opened b refuses.refuses none) refuses.opens to in
+    opened_below law keep change file_there beside files order dump turns many wide n a refuses.opened small (none_opened order dump (Err why) n refuses.channel refuses.opened b refuses.refuses none) refuses.opens to in
     open_stepped law keep change file_there beside files order dump (Err why) turns n refuses.channel refuses.opened b refuses.there (to_here.idle n refuses.channel refuses.there (omega arith)) small none to_here.ready refuses.refuses to_here.standing

@@ -1,8 +1,6 @@
 -- What one call on a buffer is to all channels, where those that read the buffer may note it.
-use Rattle.std.specs.Prelude.{◌≡◌, ◌≢◌, ◌≤◌, ◌<◌, ◌==◌, ◌++◌, ℕ, Bool, true, false, if◌then◌else◌, IsTrue, List, [], ◌∷◌, length, map, slice_get, slice_set, Option, Some, None, ◌⊎◌, refl}
-use Rattle.std.specs.Option.{option_map}
+use Rattle.std.specs.Prelude.{◌≡◌, ◌≢◌, ◌++◌, ℕ, List, [], length, slice_get, slice_set, Option, Some, None, ◌⊎◌, refl}
 use Rattle.std.proofs.Common.{ap, sym, subst, ◌∙◌, arith, inl, inr}
-use Rattle.std.proofs.lemmas.Bool.{eqb-true, eqb-false}
 use Rattle.std.proofs.lemmas.List.{append-nil}
 use Rattle.daq_types.specs.declared.runs.ChannelState.{ChannelState}
 use Rattle.daq_io.specs.Seen.{Seen}
@@ -17,7 +15,6 @@ use Rattle.mid_logger.specs.declared.stage.ChannelStage.{ChannelStage}
 use Rattle.mid_logger.specs.Patterns.{file_name_by}
 use Rattle.mid_logger.specs.Channels.{FileHead, ChannelStands, channel_run, written_run}
 use Rattle.mid_logger.specs.Beside.{LeavesRunFile, LeftBeside}
-use Rattle.loggers.specs.Moments.{LoggerMoment, CallsBuffer, MarksBuffer, noted_channel}
 use Rattle.loggers.specs.LoggerStands.{IsEndedSo, ChannelKept, SlotsApart, PortKept, LeftRun, TellsStates, ToldSo, SlotsStand}
 use Rattle.loggers.proofs.SlotLists.{got_there, got_elsewhere, same_or_other}
 

@@ -1,25 +1,22 @@
 -- What the channels and the ports keep behind one turn more, and for other heads of files.
-use Rattle.std.specs.Prelude.{◌≡◌, ℕ, List, [], ◌∷◌, Option, Some, None, ◌⊎◌}
-use Rattle.std.proofs.Common.{ap, sym, subst, ◌∙◌, inl, inr}
+use Rattle.std.specs.Prelude.{◌≡◌, ℕ, List, [], ◌∷◌, Option, Some, None}
+use Rattle.std.proofs.Common.{ap, sym, ◌∙◌, inl, inr}
 use Rattle.daq_types.specs.declared.runs.ChannelState.{ChannelState}
-use Rattle.daq_types.specs.declared.runs.Order.{Order}
 use Rattle.daq_io.specs.Seen.{Seen}
 use Rattle.buffer_core.specs.declared.entry.BufferEntry.{BufferEntry}
 use Rattle.buffer_core.specs.declared.entry.BufferEntry.TheVariants.{End}
 use Rattle.buffer_core.specs.Ports.{Access}
 use Rattle.buffer_core.specs.Slots.{slot_at}
-use Rattle.transitions.specs.declared.answers.Answer.{Answer}
 use Rattle.transitions.specs.declared.answers.Answer.TheVariants.{Yes}
 use Rattle.transitions.specs.declared.answers.Tally.TheVariants.{Channels}
-use Rattle.member_model.specs.Turns.{MemberTurn, HasTurn, AreEngineTurns}
+use Rattle.member_model.specs.Turns.{MemberTurn}
 use Rattle.member_model.specs.SentCalls.{EachCall}
 use Rattle.mid_logger.specs.declared.channel.Channel.{Channel}
 use Rattle.mid_logger.specs.declared.stage.ChannelRun.{ChannelRun}
 use Rattle.mid_logger.specs.declared.stage.ChannelStage.{ChannelStage}
-use Rattle.mid_logger.specs.declared.stage.ChannelStage.TheVariants.{Idle}
 use Rattle.mid_logger.specs.Channels.{FileHead, channel_run}
 use Rattle.loggers.specs.Moments.{AreIdle}
-use Rattle.loggers.specs.LoggerStands.{HasHead, HasEndTurn, IsEndTold, IsHeadTold, ChannelKept, PortKept, LeftRun, TellsStates, ToldSo, SlotsStand}
+use Rattle.loggers.specs.LoggerStands.{HasHead, IsEndTold, IsHeadTold, ChannelKept, PortKept, LeftRun, ToldSo, SlotsStand}
 use Rattle.loggers.proofs.TurnsKnown.{accepted_more}
 
 pub each_map : (P Q : BufferEntry → Type 0) (es : List BufferEntry) → ((e : BufferEntry) → P e → Q e) → EachCall P es → EachCall Q es

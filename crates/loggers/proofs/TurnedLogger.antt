@@ -1,16 +1,14 @@
 -- What a logger keeps behind a turn.
-use Rattle.std.specs.Prelude.{◌≡◌, ◌≢◌, ◌≤◌, ◌<◌, ◌++◌, ℕ, zero, suc, Bool, true, false, List, [], ◌∷◌, length, unwrap_or, slice_get, Option, Some, None, Result, Ok, Err, ◌⊎◌, ⊤, refl}
+use Rattle.std.specs.Prelude.{◌≡◌, ◌≤◌, ◌++◌, ℕ, Bool, true, false, List, [], ◌∷◌, length, unwrap_or, slice_get, Option, Some, None, Result, Ok, Err, ⊤, refl}
 use Rattle.std.proofs.Common.{ap, sym, subst, ◌∙◌, arith, inl, inr}
 use Rattle.std.proofs.lemmas.Bool.{eqb-true}
 use Rattle.std.proofs.lemmas.Option.{slice_get_within}
-use Rattle.daq_types.specs.declared.runs.ChannelState.{ChannelState}
 use Rattle.daq_types.specs.declared.runs.Order.{Order}
 use Rattle.daq_types.specs.declared.runs.Transition.{Transition}
 use Rattle.daq_types.specs.declared.runs.Transition.TheVariants.{Start, Stop, Pause, Resume, StartAbort}
 use Rattle.daq_types.specs.declared.runs.Why.{Why}
 use Rattle.daq_types.specs.declared.runs.Why.TheVariants.{NotReady}
 use Rattle.daq_model.specs.Events.{record_limit}
-use Rattle.daq_io.specs.Seen.{Seen}
 use Rattle.buffer_core.specs.declared.entry.BufferEntry.{BufferEntry}
 use Rattle.buffer_core.specs.declared.entry.BufferEntry.TheVariants.{Begin, End}
 use Rattle.buffer_core.specs.Ports.{Access}
@@ -18,16 +16,15 @@ use Rattle.buffer_core.specs.Slots.{slot_at}
 use Rattle.buffer_core.specs.SlotLaws.{slot_within}
 use Rattle.transitions.specs.declared.answers.Answer.{Answer}
 use Rattle.transitions.specs.declared.answers.Answer.TheVariants.{Yes, No}
-use Rattle.transitions.specs.declared.answers.Tally.TheVariants.{Plain, Channels}
-use Rattle.member_model.specs.Turns.{MemberTurn, HasTurnOf, NoneOpen, current_run, IsOfRun, AreEngineTurns}
+use Rattle.transitions.specs.declared.answers.Tally.TheVariants.{Plain}
+use Rattle.member_model.specs.Turns.{MemberTurn, HasTurnOf, NoneOpen, IsOfRun, AreEngineTurns}
 use Rattle.member_model.specs.SentCalls.{EachCall}
 use Rattle.member_model.specs.CutRuns.{MarksEnd}
 use Rattle.mid_logger.specs.declared.channel.Channel.{Channel}
-use Rattle.mid_logger.specs.declared.stage.BegunRun.{BegunRun}
 use Rattle.mid_logger.specs.declared.stage.ChannelRun.{ChannelRun}
 use Rattle.mid_logger.specs.declared.stage.ChannelStage.{ChannelStage}
 use Rattle.mid_logger.specs.declared.stage.ChannelStage.TheVariants.{Idle, Asking, Writing, Draining, Drained, Broken}
-use Rattle.mid_logger.specs.Channels.{FileHead, channel_run}
+use Rattle.mid_logger.specs.Channels.{FileHead}
 use Rattle.mid_logger.specs.Beside.{CallsBeside, FilesBeside, OpensBeside, AbortsBeside, LeftBeside}
 use Rattle.mid_logger.specs.Keeping.{OpensKeep, OpensChange, FilesThere, AbortsKeep, AbortsChange, BegunKeeps, EndedKeeps, order_head}
 use Rattle.loggers.specs.declared.logged_run.LoggedRun.{LoggedRun}
@@ -35,16 +32,16 @@ use Rattle.loggers.specs.declared.logged_run.RunPart.{RunPart}
 use Rattle.loggers.specs.declared.logged_run.RunPart.TheVariants.{Refused, Started, Stopping}
 use Rattle.loggers.specs.Moments.{LoggerMoment, InTurn, StepsAt, IsLoggerReady, AreIdle}
 use Rattle.loggers.specs.ChannelSteps.{AbortsChannel}
-use Rattle.loggers.specs.Turning.{LoggerTurn, LeavesLogger, BeginsBuffer, EndsBuffer, PausesBuffer, ResumesBuffer, AbortsAll, StartsAll, UndoesOpens, UndoesBegins, StartsSo, StartsLogger, TakesStart, StopsLogger, MarksAll, CallsRunOff, TakesStop, TakesMark, TakesAbort, TakesTurnBy, TakesTurn, is_run_on, IsIdleOutside, is_started, is_of_start, buffers_begun, start_answer, start_part}
+use Rattle.loggers.specs.Turning.{LoggerTurn, LeavesLogger, BeginsBuffer, PausesBuffer, ResumesBuffer, AbortsAll, StartsAll, UndoesOpens, UndoesBegins, StartsSo, TakesStart, TakesStop, TakesMark, TakesAbort, TakesTurnBy, TakesTurn, is_run_on, IsIdleOutside, is_started, is_of_start, buffers_begun, start_answer, start_part}
 use Rattle.loggers.specs.NewLoggers.{NoneTakenBack}
-use Rattle.loggers.specs.LoggerStands.{logger_turn, IsEndedRun, IsStartedStage, IsStoppingStage, IsStagePart, IsStageOf, HasEndTurn, IsEndTold, HasHead, IsHeadTold, SlotsStand, TellsStates, IsInStarted, HasStart, IsPartTold, IsRunTold, LoggerStands}
+use Rattle.loggers.specs.LoggerStands.{logger_turn, IsStartedStage, IsStoppingStage, IsStagePart, IsStageOf, HasEndTurn, IsEndTold, HasHead, IsHeadTold, SlotsStand, IsInStarted, HasStart, IsPartTold, IsRunTold, LoggerStands}
 use Rattle.loggers.proofs.InTurns.{turns_keep}
 use Rattle.loggers.proofs.StoppedRuns.{there_is}
 use Rattle.loggers.proofs.AbortMoves.{abort_stands}
 use Rattle.loggers.proofs.OpenMoves.{IsOrderHead}
 use Rattle.loggers.proofs.TurnsKnown.{TurnsKnown, no_end_turn, of_current, started_run, left_refused, start_refused, start_accepted, start_known, stop_known, left_stop, left_pause, left_resume, left_abort, off_known}
 use Rattle.loggers.proofs.TurnMore.{TellsNone, heads_as, heads_idle, told_more}
-use Rattle.loggers.proofs.MarkMoves.{IsAskingStage, NeverEnded, MayEnd, HasEnded, NoneTold}
+use Rattle.loggers.proofs.MarkMoves.{MayEnd, NoneTold}
 use Rattle.loggers.proofs.MarkLoops.{HaveStayed, paused_all, resumed_all, BegunTo, begun_below, begin_refused, EndedTo, ended_below}
 use Rattle.loggers.proofs.NoneTaken.{none_called, none_aborted, none_turns}
 use Rattle.loggers.proofs.OpenSlots.{OpenedTo, opened_below, open_refused}
@@ -157,11 +154,11 @@ started_all : ChannelLaws → (order : Order) (dump : List ℕ) (begun : ℕ) (t
 started_all laws order dump begun turns a b small none ready starts to =
     let opened : LoggerMoment = starts.opened in
     let none_opened : NoneTakenBack opened.ports = none_turns (λ buffer. BeginsBuffer order.start buffer) (length a.ports) opened b
-        (λ k x y step. none_called (Begin order.start (Ok step.0)) k x (record y { slots = x.slots }) step.1.marks) starts.begins none in
+    (λ k x y step. none_called (Begin order.start (Ok step.0)) k x (record y { slots = x.slots }) step.1.marks) starts.begins none in
     let all : OpenedTo order dump turns (length a.slots) (length a.ports) (length a.slots) opened =
-        opened_below laws.left laws.opens_keep laws.opens_change laws.file_there laws.opens_beside laws.files order dump turns (length a.slots) (length a.ports) (length a.slots) a opened small none_opened starts.opens to in
+    opened_below laws.left laws.opens_keep laws.opens_change laws.file_there laws.opens_beside laws.files order dump turns (length a.slots) (length a.ports) (length a.slots) a opened small none_opened starts.opens to in
     let end : BegunTo (IsOrderHead order dump) turns order.start (length a.ports) (length a.ports) b =
-        begun_below laws.left laws.begun (IsOrderHead order dump) turns order.start (length a.ports) (length a.ports) opened b starts.begins (all_asking order dump turns (length a.slots) (length a.ports) opened all) in
+    begun_below laws.left laws.begun (IsOrderHead order dump) turns order.start (length a.ports) (length a.ports) opened b starts.begins (all_asking order dump turns (length a.slots) (length a.ports) opened all) in
     record { standing = end.standing; stages = λ n c stood. end.done n c stood (omega (arith, ready.served n c stood, end.ports)) }
 
 undone_opens : ChannelLaws → (order : Order) (dump : List ℕ) (why : Why) (begun : ℕ) (turns : List MemberTurn) (a b : LoggerMoment) → length dump ≤ record_limit → NoneTakenBack b.ports → UndoesOpens order dump why begun a b
@@ -178,9 +175,9 @@ undone_begins laws order dump why begun turns a b small none undoes to =
     let none_refused : NoneTakenBack refused.ports = none_aborts refused b undoes.aborts none in
     let none_begun : NoneTakenBack undoes.begins.begun.ports = none_called (Begin order.start (Err undoes.begins.refuses.0)) begun undoes.begins.begun refused undoes.begins.refuses.1 none_refused in
     let none_opened : NoneTakenBack opened.ports = none_turns (λ buffer. BeginsBuffer order.start buffer) begun opened undoes.begins.begun
-        (λ k x y step. none_called (Begin order.start (Ok step.0)) k x (record y { slots = x.slots }) step.1.marks) undoes.begins.begins none_begun in
+    (λ k x y step. none_called (Begin order.start (Ok step.0)) k x (record y { slots = x.slots }) step.1.marks) undoes.begins.begins none_begun in
     let all : OpenedTo order dump turns (length a.slots) (length a.ports) (length a.slots) opened =
-        opened_below laws.left laws.opens_keep laws.opens_change laws.file_there laws.opens_beside laws.files order dump turns (length a.slots) (length a.ports) (length a.slots) a opened small none_opened undoes.opens to in
+    opened_below laws.left laws.opens_keep laws.opens_change laws.file_there laws.opens_beside laws.files order dump turns (length a.slots) (length a.ports) (length a.slots) a opened small none_opened undoes.opens to in
     aborted_all laws (IsOrderHead order dump) turns (length refused.slots) refused b undoes.aborts
     (begin_refused laws.left laws.calls laws.begun (IsOrderHead order dump) turns order.start (length a.ports) begun opened refused undoes.begins (all_asking order dump turns (length a.slots) (length a.ports) opened all))
 
@@ -212,7 +209,7 @@ start_result laws t turns (Ok done) begun small given idle starts run =
     let turn : MemberTurn = logger_turn Start t.order t.dump (Some (Yes Plain)) in
     let dump : List ℕ = unwrap_or t.dump [] in
     let have : HaveStarted t.order dump (turn ∷ turns) t.after =
-        started_all laws t.order dump begun (turn ∷ turns) t.before t.after small given.none given.later_ready starts (opening turn t.order dump turns t.before (λ states told. absurd (cc (told))) idle given.ready given.stands.standing) in
+    started_all laws t.order dump begun (turn ∷ turns) t.before t.after small given.none given.later_ready starts (opening turn t.order dump turns t.before (λ states told. absurd (cc (told))) idle given.ready given.stands.standing) in
     all_of (Some (record { start = t.order.start; begun = begun; part = Started })) None t.after (turn ∷ turns) (start_known t.run t.stop_dump begun turns t.order t.dump (known_of t.run t.stop_dump t.before turns given.stands)) given.later_ready
     (heads_as (IsOrderHead t.order dump) (IsHeadTold (turn ∷ turns)) (turn ∷ turns) t.after.slots t.after.ports t.after.files.seen (λ n c stood opened head is has. order_told t.order t.dump turns opened head has) have.standing)
     (λ n c a stood at. have.stages n c stood)
@@ -305,9 +302,9 @@ stop_stands laws t turns true is on given takes =
     let begin : HasStart turns start = going_start t.run r start turns t.stop_dump going.1 going.2 given.stands.told in
     let turn_now : HasEndTurn (turn ∷ turns) start = record { turn = turn; stands = inl refl; ends = inl refl; of = refl } in
     let first : EndedTo ⊥ (IsHeadTold (turn ∷ turns)) (turn ∷ turns) start (length t.before.ports) 0 t.before =
-        ending ⊥ turn turns start t.before quiet of_run begin given.stands.standing (λ n c stood. inr (going_stages t turns r given going.1 going.2 n c stood)) in
+    ending ⊥ turn turns start t.before quiet of_run begin given.stands.standing (λ n c stood. inr (going_stages t turns r given going.1 going.2 n c stood)) in
     let end : EndedTo ⊥ (IsHeadTold (turn ∷ turns)) (turn ∷ turns) start (length t.before.ports) (length t.before.ports) t.after =
-        ended_below laws.left laws.calls laws.ended ⊥ (IsHeadTold (turn ∷ turns)) (turn ∷ turns) start (length t.before.ports) (length t.before.ports) t.before t.after turn_now (none_told turn turns start quiet of_run begin) takes.ends first in
+    ended_below laws.left laws.calls laws.ended ⊥ (IsHeadTold (turn ∷ turns)) (turn ∷ turns) start (length t.before.ports) (length t.before.ports) t.before t.after turn_now (none_told turn turns start quiet of_run begin) takes.ends first in
     let known : TurnsKnown (Some r) t.stop_dump turns = subst (λ (x : Option LoggedRun). TurnsKnown x t.stop_dump turns) going.1 (known_of t.run t.stop_dump t.before turns given.stands) in
     rw (is, takes.answer_is, takes.run, takes.stop_dump)
     (all_of (Some (record { start = start; begun = 0; part = Stopping t.order.time })) t.dump t.after (turn ∷ turns) (stop_known r t.stop_dump turns t.order t.dump going.2 known) given.later_ready end.standing
@@ -376,11 +373,11 @@ abort_turn laws t turns true is of given takes =
     let quiet : TellsNone turn = λ states told. absurd (cc (told)) in
     let of_run : AreEngineTurns (turn ∷ turns) → IsOfRun start turns = λ are. are.0 in
     let may : MayCallOff turns start t.before.slots = run_off t.run turns start t.stop_dump t.before of given.open_before given.stands.told
-        (λ n c stood. let port : (a : Access) × (slice_get t.before.ports c.spec.buffer ≡ Some a) = port_of t.before n c given.ready stood in (port.0.own, given.stands.stages n c port.0 stood port.1)) in
+    (λ n c stood. let port : (a : Access) × (slice_get t.before.ports c.spec.buffer ≡ Some a) = port_of t.before n c given.ready stood in (port.0.own, given.stands.stages n c port.0 stood port.1)) in
     let turn_now : HasEndTurn (turn ∷ turns) start = record { turn = turn; stands = inl refl; ends = inr refl; of = refl } in
     let end : EndedTo ⊤ (IsHeadTold (turn ∷ turns)) (turn ∷ turns) start (length t.before.ports) (buffers_begun t.run) takes.ended =
-        ended_below laws.left laws.calls laws.ended ⊤ (IsHeadTold (turn ∷ turns)) (turn ∷ turns) start (length t.before.ports) (buffers_begun t.run) t.before takes.ended turn_now (none_told turn turns start quiet of_run may.begin) takes.ends
-        (ending ⊤ turn turns start t.before quiet of_run may.begin given.stands.standing may.stages) in
+    ended_below laws.left laws.calls laws.ended ⊤ (IsHeadTold (turn ∷ turns)) (turn ∷ turns) start (length t.before.ports) (buffers_begun t.run) t.before takes.ended turn_now (none_told turn turns start quiet of_run may.begin) takes.ends
+    (ending ⊤ turn turns start t.before quiet of_run may.begin given.stands.standing may.stages) in
     let idle : AreIdle t.after.slots = given.later_idle (ap (λ (r : Option LoggedRun). is_run_on r) takes.run) in
     rw (is, takes.answer_is, takes.run, takes.stop_dump)
     (all_of None None t.after (turn ∷ turns) (off_known t.run t.stop_dump turns t.order t.dump (known_of t.run t.stop_dump t.before turns given.stands)) given.later_ready

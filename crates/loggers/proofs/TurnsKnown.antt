@@ -1,5 +1,5 @@
 -- What a logger knows of its turns, behind one turn more.
-use Rattle.std.specs.Prelude.{◌≡◌, ◌≢◌, ℕ, Bool, true, false, List, [], ◌∷◌, Option, Some, None, ◌⊎◌, refl}
+use Rattle.std.specs.Prelude.{◌≡◌, ◌≢◌, ℕ, true, false, List, [], ◌∷◌, Option, Some, None, refl}
 use Rattle.std.proofs.Common.{ap, sym, subst, ◌∙◌, inl, inr, eq-eqb}
 use Rattle.std.proofs.lemmas.Bool.{eqb-true}
 use Rattle.daq_types.specs.declared.runs.ChannelState.{ChannelState}
@@ -10,14 +10,14 @@ use Rattle.daq_types.specs.declared.runs.Why.{Why}
 use Rattle.transitions.specs.declared.answers.Answer.{Answer}
 use Rattle.transitions.specs.declared.answers.Answer.TheVariants.{Yes, No}
 use Rattle.transitions.specs.declared.answers.Tally.TheVariants.{Plain, Channels}
-use Rattle.member_model.specs.Turns.{MemberTurn, HasTurn, HasTurnOf, IsAcceptedStart, HasAnswer, NoneOpen, current_run, IsNextTurn, IsOfRun, IsNewStart, AreEngineTurns}
+use Rattle.member_model.specs.Turns.{MemberTurn, HasTurn, IsAcceptedStart, HasAnswer, NoneOpen, current_run, IsNextTurn, IsOfRun, IsNewStart, AreEngineTurns}
 use Rattle.member_model.specs.LoggerKept.{IsStartAnswer}
 use Rattle.member_model.proofs.TurnLaws.{HasTurnOf-more, HasTurnOf-earlier}
 use Rattle.loggers.specs.declared.logged_run.LoggedRun.{LoggedRun}
 use Rattle.loggers.specs.declared.logged_run.RunPart.{RunPart}
 use Rattle.loggers.specs.declared.logged_run.RunPart.TheVariants.{Refused, Started, Stopping}
 use Rattle.loggers.specs.Turning.{is_started}
-use Rattle.loggers.specs.LoggerStands.{logger_turn, HasEndTurn, IsStopWaiting, HasStart, HasAcceptedStart, IsPartTold, IsRunTold, IsInStarted, HasCurrentRun, StopsTellStates}
+use Rattle.loggers.specs.LoggerStands.{logger_turn, HasEndTurn, HasStart, IsPartTold, IsRunTold, IsInStarted, HasCurrentRun, StopsTellStates}
 
 pub record TurnsKnown (run : Option LoggedRun) (stop_dump : Option (List ℕ)) (turns : List MemberTurn) : Type 0 where
   pub starts : (start : MemberTurn) → (answer : Answer) → HasTurn turns start → start.transition ≡ Start → start.answer ≡ Some answer → IsStartAnswer answer
