@@ -1,5 +1,5 @@
 -- What the calling off of one channel's run is to the others.
-use Rattle.std.specs.Prelude.{◌≡◌, ◌≢◌, ℕ, List, Option, Some, None, refl}
+use Rattle.std.specs.Prelude.{◌≡◌, ◌≢◌, ℕ, List, Option, Some, None}
 use Rattle.std.proofs.Common.{ap, sym, subst, ◌∙◌}
 use Rattle.daq_io.specs.Seen.{Seen}
 use Rattle.buffer_core.specs.Ports.{Access}
@@ -48,7 +48,7 @@ abort_moves keep change beside files H turns slots n s there apart kept aborts =
     let tells : new.tells ≡ old.tells = tells_same before.spec (channel_run before.stage) (written_run before.stage) old new changes in
     let grows : GrowsOn s.port s.later_port = standing_grows (asking_run before.stage) s.port s.later_port aborts.cancels in
     let own_stands : (head : FileHead) → ChannelStands before.spec before.client before.stage head s.port.own s.port.got old → ChannelStands s.after.spec s.after.client s.after.stage head s.later_port.own s.later_port.got new =
-        λ head stands. rw (spec, client, idle) (keep before.spec before.client before.stage head s.port s.later_port old new aborts.cancels stands) in
+    λ head stands. rw (spec, client, idle) (keep before.spec before.client before.stage head s.port s.later_port old new aborts.cancels stands) in
     record {
       spec = spec;
       client = λ k is. client ∙ is;
@@ -83,5 +83,5 @@ abort_stands law keep change beside files H turns n None a b there step stands =
 abort_stands law keep change beside files H turns n (Some before) a b there s stands =
     let step : ChannelStep = record { before = before; after = s.after; port = s.port; later_port = s.later_port; files = a.files; later_files = b.files } in
     let moves : Moves H turns a.slots n before s.after s.port s.later_port a.files.seen b.files.seen =
-        abort_moves keep change beside files H turns a.slots n step there (λ m d other stood. stands.apart n m before d (λ same. other (sym same)) there stood) (stands.channels n before s.port there s.at_port) s.step in
+    abort_moves keep change beside files H turns a.slots n step there (λ m d other stood. stands.apart n m before d (λ same. other (sym same)) there stood) (stands.channels n before s.port there s.at_port) s.step in
     rw (s.slots, s.ports) (moved law H turns a.slots a.ports n before s.after s.port s.later_port a.files.seen b.files.seen there s.at_port moves stands)

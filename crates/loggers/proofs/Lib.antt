@@ -10,3 +10,14 @@ pub mod PulledLogger
 pub mod AbortMoves
 pub mod OpenMoves
 pub mod SameShape
+pub mod TurnsKnown
+pub mod TurnMore
+pub mod PortSteps
+pub mod MarkMoves
+pub mod MarkLoops
+pub mod NoneTaken
+pub mod OpenSlots
+pub mod TurnedLogger
+pub mod CloseMoves
+pub mod FinishedLogger
+pub mod NewStands

@@ -1,21 +1,21 @@
 -- What stands of all channels, where one of them did a step on its port and its file.
-use Rattle.std.specs.Prelude.{◌≡◌, ◌≢◌, ◌≤◌, ◌==◌, ◌++◌, ℕ, Bool, IsTrue, List, [], length, slice_get, slice_set, Option, Some, None, ◌⊎◌, refl}
+use Rattle.std.specs.Prelude.{◌≡◌, ◌≢◌, ◌++◌, ℕ, Bool, IsTrue, List, [], slice_get, slice_set, Option, Some, None, ◌⊎◌, refl}
 use Rattle.std.proofs.Common.{ap, sym, subst, ◌∙◌, arith, inl, inr}
 use Rattle.std.proofs.lemmas.List.{length-set, append-nil}
 use Rattle.daq_types.specs.declared.runs.ChannelState.{ChannelState}
-use Rattle.daq_io.specs.Seen.{Seen, Touches}
+use Rattle.daq_io.specs.Seen.{Seen}
 use Rattle.buffer_core.specs.declared.entry.BufferEntry.{BufferEntry}
 use Rattle.buffer_core.specs.Ports.{Access, GotEvent}
 use Rattle.buffer_core.specs.Slots.{slot_at}
-use Rattle.member_model.specs.Turns.{MemberTurn, AreEngineTurns}
+use Rattle.member_model.specs.Turns.{MemberTurn}
 use Rattle.mid_logger.specs.declared.channel.Channel.{Channel}
 use Rattle.mid_logger.specs.declared.channel_spec.ChannelSpec.{ChannelSpec}
 use Rattle.mid_logger.specs.declared.stage.ChannelRun.{ChannelRun}
 use Rattle.mid_logger.specs.Patterns.{file_name_by}
 use Rattle.mid_logger.specs.Channels.{FileHead, channel_run}
 use Rattle.mid_logger.specs.Beside.{LeavesRunFile, LeftBeside}
-use Rattle.loggers.specs.LoggerStands.{IsEndedSo, ChannelKept, SlotsApart, PortKept, LeftRun, TellsStates, ToldSo, SlotsStand}
-use Rattle.loggers.proofs.SlotLists.{same_or_other, one_changed, put_there, got_there, got_elsewhere}
+use Rattle.loggers.specs.LoggerStands.{IsEndedSo, ChannelKept, SlotsApart, PortKept, LeftRun, ToldSo, SlotsStand}
+use Rattle.loggers.proofs.SlotLists.{same_or_other, one_changed, got_there, got_elsewhere}
 
 -- a port after more calls, by which more events were got; what was told of the ends of runs stays so
 pub record Grows (x y : Access) : Type 0 where
@@ -41,7 +41,7 @@ pub record Moves (IsHeadOf : ChannelRun → FileHead → Type 0) (turns : List M
       LeavesRunFile c.spec (Some l.run.opened) None old new
       × ((opened : ChannelRun) → channel_run after.stage ≡ Some opened → IsTrue new.tells → file_name_by c.spec.pattern l.run.opened.run ≢ file_name_by after.spec.pattern opened.run)
 
-grown_none : (a : Access) → Grows a a
+pub grown_none : (a : Access) → Grows a a
 grown_none a = record { more = []; given = []; own = sym (append-nil a.own); got = sym (append-nil a.got); ended = λ start ended so. so }
 
 -- two channels that did nothing are still apart
@@ -60,7 +60,7 @@ apart_flipped seen c d apart = record {
 }
 
 -- a run that was left, behind the step: of a channel that has the same spec, and the client if it had one
-left_moved : LeftBeside → (H : ChannelRun → FileHead → Type 0) (turns : List MemberTurn) (slots : List (Option Channel)) (n : ℕ) (before after : Channel) (p q : Access) (old new : Seen) → Moves H turns slots n before after p q old new → slot_at slots n ≡ Some before
+pub left_moved : LeftBeside → (H : ChannelRun → FileHead → Type 0) (turns : List MemberTurn) (slots : List (Option Channel)) (n : ℕ) (before after : Channel) (p q : Access) (old new : Seen) → Moves H turns slots n before after p q old new → slot_at slots n ≡ Some before
     → (c d : Channel) (x y : Access) → d.spec ≡ c.spec → ((k : ℕ) → c.client ≡ Some k → d.client ≡ Some k) → Grows x y → (stop : MemberTurn) (state : ChannelState) → LeftRun turns slots old c x stop state → LeftRun turns (slice_set slots n (Some after)) new d y stop state
 left_moved law H turns slots n before after p q old new moves there c d x y spec client grows stop state l =
     let stays = moves.left c x stop state l in

@@ -1,5 +1,5 @@
 -- What a pull of one channel is to the others.
-use Rattle.std.specs.Prelude.{◌≡◌, ◌≢◌, ℕ, Bool, true, false, nat_lt, IsTrue, List, [], ◌∷◌, ◌++◌, Option, Some, None, Ok, Err, ◌⊎◌, ⊤, refl}
+use Rattle.std.specs.Prelude.{◌≡◌, ◌≢◌, ℕ, Bool, true, false, nat_lt, IsTrue, List, [], ◌∷◌, ◌++◌, Option, Some, None, Ok, Err, ⊤, refl}
 use Rattle.std.proofs.Common.{ap, sym, subst, ◌∙◌, append_assoc, inl, inr}
 use Rattle.std.proofs.lemmas.List.{append-nil}
 use Rattle.daq_types.specs.declared.events.Event.{Event}
@@ -11,7 +11,7 @@ use Rattle.buffer_core.specs.declared.replies.Received.{Received}
 use Rattle.buffer_core.specs.declared.replies.Received.TheVariants.{Got, Empty, NoClient, SmallBuf}
 use Rattle.buffer_core.specs.Ports.{Access, GotEvent, got_after}
 use Rattle.buffer_core.specs.Slots.{slot_at}
-use Rattle.member_model.specs.Turns.{MemberTurn, AreEngineTurns}
+use Rattle.member_model.specs.Turns.{MemberTurn}
 use Rattle.member_model.specs.SentCalls.{EachCall}
 use Rattle.member_model.specs.CutRuns.{MarksEnd, RefusesEnd}
 use Rattle.mid_logger.specs.declared.channel.Channel.{Channel}
@@ -21,7 +21,7 @@ use Rattle.mid_logger.specs.declared.stage.BegunRun.{BegunRun}
 use Rattle.mid_logger.specs.declared.stage.ChannelRun.{ChannelRun}
 use Rattle.mid_logger.specs.Patterns.{file_name_by}
 use Rattle.mid_logger.specs.Channels.{FileHead, KeepsOwnCalls, ChannelStands, IsOpenFile, CancelsRequest, channel_run, written_run, reading_run, is_behind_end}
-use Rattle.mid_logger.specs.Pulls.{PullOf, LeavesAll, DrainsClient, TakesBy, FindsNone, TakesReply, PullsOnce, PullsIn, Pulls, drains_at_none}
+use Rattle.mid_logger.specs.Pulls.{PullOf, TakesBy, FindsNone, TakesReply, PullsIn, Pulls, drains_at_none}
 use Rattle.mid_logger.specs.Beside.{LeavesNumber, LeavesRunFile, ChannelsApart, FilesBeside, PullsBeside, LeftBeside}
 use Rattle.mid_logger.specs.Keeping.{ChangesFile, KeepsRun, PullsKeep, PullsChange}
 use Rattle.loggers.specs.Moments.{LoggerMoment, ChannelStep, StepsChannel, HaveNumbersApart}
@@ -32,7 +32,7 @@ use Rattle.loggers.proofs.Moved.{Grows, Moves, moved}
 
 -- Files of others.
 
-number_left : (old new : Seen) (written : Option ChannelRun) → ((s : ChannelRun) → written ≡ Some s → LeavesNumber (Some s) old new) → LeavesNumber written old new
+pub number_left : (old new : Seen) (written : Option ChannelRun) → ((s : ChannelRun) → written ≡ Some s → LeavesNumber (Some s) old new) → LeavesNumber written old new
 number_left old new None keeps = tt
 number_left old new (Some s) keeps = keeps s refl
 
@@ -87,7 +87,7 @@ pub grows_cancel : (x y : Access) (opened : ChannelRun) → CancelsRequest x y o
 grows_cancel x y opened cancels = record { more = Cancel opened.client opened.request cancels.0 ∷ []; given = []; own = cancels.1.own; got = cancels.1.got_is ∙ sym (append-nil x.got); quiet = (tt, tt) }
 
 -- the event that a receive gave, if it gave one
-given_now : (client : ℕ) → Received → Event → List GotEvent
+abbrev given_now : (client : ℕ) → Received → Event → List GotEvent
 given_now client (Got place start) e = record { client = client; place = place; start = start; event = e } ∷ []
 given_now client reply e = []
 
@@ -167,7 +167,7 @@ mark_stays own more start place marks = record {
   is = ap (λ (l : List BufferEntry). l ++ more) marks.is ∙ append_assoc marks.before (End start (Ok place) ∷ marks.after) more;
 }
 
-refusal_stays : (own more : List BufferEntry) (start : ℕ) → RefusesEnd own start → RefusesEnd (own ++ more) start
+pub refusal_stays : (own more : List BufferEntry) (start : ℕ) → RefusesEnd own start → RefusesEnd (own ++ more) start
 refusal_stays own more start refuses = record {
   before = refuses.before;
   after = refuses.after ++ more;
@@ -250,7 +250,7 @@ pull_moves keep change beside files H turns answer slots n s there file apart ke
     let tells : new.tells ≡ old.tells = tells_same s.before.spec (channel_run s.before.stage) (written_run s.before.stage) old new changes.0 in
     let grows : GrowsOn s.port s.later_port = pull_grows p room pulls.pulls in
     let own_stands : ChannelStands s.after.spec s.after.client s.after.stage kept.head s.later_port.own s.later_port.got new =
-        rw (pulls.spec, pulls.client) (keep p room s.before.spec s.before.client kept.head pulls.pulls kept.stands) in
+    rw (pulls.spec, pulls.client) (keep p room s.before.spec s.before.client kept.head pulls.pulls kept.stands) in
     record {
       spec = pulls.spec;
       client = λ k is. pulls.client ∙ is;
@@ -279,5 +279,5 @@ pub pull_stands : LeftBeside → PullsKeep → PullsChange → PullsBeside → F
 pull_stands law keep change beside files H turns answer n before a b there file s stands =
     let step : ChannelStep = record { before = before; after = s.after; port = s.port; later_port = s.later_port; files = a.files; later_files = b.files } in
     let moves : Moves H turns a.slots n before s.after s.port s.later_port a.files.seen b.files.seen =
-        pull_moves keep change beside files H turns answer a.slots n step there file (λ m d other stood. stands.apart n m before d (λ same. other (sym same)) there stood) (stands.channels n before s.port there s.at_port) s.step in
+    pull_moves keep change beside files H turns answer a.slots n step there file (λ m d other stood. stands.apart n m before d (λ same. other (sym same)) there stood) (stands.channels n before s.port there s.at_port) s.step in
     rw (s.slots, s.ports) (moved law H turns a.slots a.ports n before s.after s.port s.later_port a.files.seen b.files.seen there s.at_port moves stands)

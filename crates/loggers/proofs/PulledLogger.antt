@@ -1,5 +1,5 @@
 -- What a logger keeps behind a pull.
-use Rattle.std.specs.Prelude.{◌≡◌, ◌≢◌, ◌<◌, ℕ, Bool, true, false, nat_lt, List, length, slice_get, slice_set, Option, Some, None, ◌⊎◌, refl}
+use Rattle.std.specs.Prelude.{◌≡◌, ◌<◌, ℕ, Bool, true, false, nat_lt, List, length, slice_get, slice_set, Option, Some, None, ◌⊎◌, refl}
 use Rattle.std.proofs.Common.{ap, sym, subst, ◌∙◌, arith, inl, inr}
 use Rattle.std.proofs.lemmas.List.{length-set}
 use Rattle.daq_types.specs.declared.events.Event.{Event}
@@ -8,7 +8,7 @@ use Rattle.buffer_core.specs.declared.replies.Received.{Received}
 use Rattle.buffer_core.specs.declared.replies.Received.TheVariants.{Got, Empty, NoClient, SmallBuf}
 use Rattle.buffer_core.specs.Ports.{Access}
 use Rattle.buffer_core.specs.Slots.{slot_at}
-use Rattle.member_model.specs.Turns.{MemberTurn, AreEngineTurns}
+use Rattle.member_model.specs.Turns.{MemberTurn}
 use Rattle.mid_logger.specs.declared.channel.Channel.{Channel}
 use Rattle.mid_logger.specs.declared.channel_spec.ChannelSpec.{ChannelSpec}
 use Rattle.mid_logger.specs.declared.pulled.Pulled.{Pulled}
@@ -153,8 +153,11 @@ pulled_here law keep change beside files run stop_dump turns answer n before a b
     let put : slice_get ports before.spec.buffer ≡ Some s.later_port = got_there a.ports before.spec.buffer s.port s.later_port s.at_port in
     record {
       standing = pull_stands law keep change beside files (IsHeadTold turns) turns answer n before a b there (open_files.files n before there) s stands.standing;
-      served = rw (s.slots, s.ports) (λ m c stood. omega (arith, length-set a.ports before.spec.buffer s.later_port,
-          one_changed (λ k x. x.spec.buffer < length a.ports) a.slots n s.after (λ x e. subst (λ (sp : ChannelSpec). sp.buffer < length a.ports) (sym s.step.spec) (stands.served n before there)) (λ k x other e. stands.served k x e) before there m c stood));
+      served = rw (s.slots, s.ports) (λ m c stood. omega (
+        arith,
+        length-set a.ports before.spec.buffer s.later_port,
+        one_changed (λ k x. x.spec.buffer < length a.ports) a.slots n s.after (λ x e. subst (λ (sp : ChannelSpec). sp.buffer < length a.ports) (sym s.step.spec) (stands.served n before there)) (λ k x other e. stands.served k x e) before there m c stood,
+      ));
       stages = rw (s.slots, s.ports) (λ m c x stood at.
           one_changed (λ k z. (y : Access) → slice_get ports z.spec.buffer ≡ Some y → IsStageOf run turns y.own z.stage) a.slots n s.after
           (λ z here y at_y.

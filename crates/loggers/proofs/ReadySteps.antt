@@ -129,7 +129,7 @@ aborted_ready change n (Some before) a b there s ready =
 
 -- Ending files.
 
-settled_written : (stage : ChannelStage) → (written_run (stage_settled stage) ≡ written_run stage) ⊎ (written_run (stage_settled stage) ≡ None)
+pub settled_written : (stage : ChannelStage) → (written_run (stage_settled stage) ≡ written_run stage) ⊎ (written_run (stage_settled stage) ≡ None)
 settled_written Idle = inl refl
 settled_written (Asking opened) = inl refl
 settled_written (Writing opened begun) = inl refl
@@ -169,7 +169,7 @@ opened_files slots n before after name old new there opens file fresh open_befor
     }
 
 -- a number that a run is opened under was free; at a refusal the channel stays idle
-open_fresh : (order : Order) (dump : List ℕ) (r : Result ⊤ Why) (s : ChannelStep) → OpensChannel order dump r s → s.before.stage ≡ Idle → (o : ChannelRun) → written_run s.after.stage ≡ Some o → s.files.seen.writes o.file ≡ false
+pub open_fresh : (order : Order) (dump : List ℕ) (r : Result ⊤ Why) (s : ChannelStep) → OpensChannel order dump r s → s.before.stage ≡ Idle → (o : ChannelRun) → written_run s.after.stage ≡ Some o → s.files.seen.writes o.file ≡ false
 open_fresh order dump (Ok done) s opens idle o is =
     let made : ChannelRun = record { run = order.run; start = order.start; file = opens.opens.file; client = opens.opens.asks.client; request = opens.opens.asks.request } in
     let at_stage : written_run s.after.stage ≡ Some made = ap (λ (x : ChannelStage). written_run x) opens.opens.asks.stage in
@@ -211,16 +211,16 @@ noted_written note c true keeps = keeps c.stage
 noted_written note c false keeps = refl
 
 -- the channel that was noted is one that stood there
-record WasNoted (note : ChannelStage → ChannelStage) (buffer : ℕ) (slots : List (Option Channel)) (n : ℕ) (c : Channel) : Type 0 where
-  before : Channel
-  there : slot_at slots n ≡ Some before
-  is : c ≡ noted_channel note buffer before
+pub record WasNoted (note : ChannelStage → ChannelStage) (buffer : ℕ) (slots : List (Option Channel)) (n : ℕ) (c : Channel) : Type 0 where
+  pub before : Channel
+  pub there : slot_at slots n ≡ Some before
+  pub is : c ≡ noted_channel note buffer before
 
 some_mapped : (f : Channel → Channel) (slot : Option Channel) (c : Channel) → option_map f slot ≡ Some c → (b : Channel) × (slot ≡ Some b) × (c ≡ f b)
 some_mapped f None c is = absurd (cc (is))
 some_mapped f (Some b) c is = (b, refl, let e : f b ≡ c = cc (is) in sym e)
 
-was_noted : (note : ChannelStage → ChannelStage) (buffer : ℕ) (slots : List (Option Channel)) (n : ℕ) (c : Channel) → slot_at (map (option_map (noted_channel note buffer)) slots) n ≡ Some c → WasNoted note buffer slots n c
+pub was_noted : (note : ChannelStage → ChannelStage) (buffer : ℕ) (slots : List (Option Channel)) (n : ℕ) (c : Channel) → slot_at (map (option_map (noted_channel note buffer)) slots) n ≡ Some c → WasNoted note buffer slots n c
 was_noted note buffer slots n c there =
     let found = some_mapped (noted_channel note buffer) (slot_at slots n) c (sym (slot_change_all (noted_channel note buffer) slots n) ∙ there) in
     record { before = found.0; there = found.1; is = found.2 }
@@ -232,7 +232,7 @@ marked_ready entry note buffer a b keeps marks ready =
     let specs : (c : Channel) → (noted_channel note buffer c).spec ≡ c.spec = λ c. noted_spec note buffer c (c.spec.buffer == buffer) in
     let written : (c : Channel) → written_run (noted_channel note buffer c).stage ≡ written_run c.stage = λ c. noted_written note c (c.spec.buffer == buffer) keeps in
     let now : IsLoggerReady (map (option_map (noted_channel note buffer)) a.slots) b.ports b.files.seen = record {
-      many = subst (λ (k : ℕ). k ≤ channel_limit) (sym (length-map a.slots (option_map (noted_channel note buffer)))) called.many;
+      many = omega (arith, called.many, length-map a.slots (option_map (noted_channel note buffer)));
       served = λ n c there.
           let was : WasNoted note buffer a.slots n c = was_noted note buffer a.slots n c there in
           subst (λ (x : Channel). x.spec.buffer < length b.ports) (sym was.is) (subst (λ (sp : ChannelSpec). sp.buffer < length b.ports) (sym (specs was.before)) (called.served n was.before was.there));

@@ -56,3 +56,9 @@ module _ {X : Type 0} where
 
   pub many_set : (xs : List X) (n : ℕ) (y : X) → length (slice_set xs n y) ≡ length xs
   many_set xs n y = length-set xs n y
+
+  -- a member of a list with another number stays
+  pub kept_there : (xs : List X) (n m : ℕ) (y z : X) → m ≢ n → slice_get xs m ≡ Some z → slice_get (slice_set xs n y) m ≡ Some z
+  kept_there xs n m y z other there =
+      let within : m < length (slice_set xs n y) = omega (arith, length-set xs n y, slice_get_within xs m z there) in
+      slice_get-get_or (slice_set xs n y) m z within ∙ ap Some (get_or-set_other xs n m y z other ∙ get_or_from_slice_get xs m z z there)

@@ -1,31 +1,30 @@
 -- What a logger keeps between its calls has the logger's contract.
 use mathlib.Core.List.{IsPrefix}
-use Rattle.std.specs.Prelude.{◌≡◌, ◌≢◌, ◌<◌, ℕ, zero, suc, List, [], ◌∷◌, ◌++◌, length, slice_get, unwrap_or, Option, Some, None, ◌⊎◌, refl}
+use Rattle.std.specs.Prelude.{◌≡◌, ◌<◌, ℕ, zero, suc, List, [], ◌∷◌, ◌++◌, length, slice_get, unwrap_or, Option, Some, None, ◌⊎◌, refl}
 use Rattle.std.proofs.Common.{ap, sym, subst, ◌∙◌, arith, inl, inr}
 use Rattle.daq_types.specs.declared.events.Event.{Event}
 use Rattle.daq_types.specs.declared.runs.ChannelState.{ChannelState}
 use Rattle.daq_types.specs.declared.runs.ChannelState.TheVariants.{Broken as IsBroken, Ended}
-use Rattle.daq_types.specs.declared.runs.Transition.TheVariants.{Stop}
 use Rattle.daq_model.specs.Events.{encoding}
 use Rattle.daq_model.specs.RunFile.{begun_file, end_record}
 use Rattle.daq_io.specs.Seen.{Seen, IsStored}
 use Rattle.buffer_core.specs.declared.entry.BufferEntry.{BufferEntry}
-use Rattle.buffer_core.specs.Ports.{Access, GotEvent}
+use Rattle.buffer_core.specs.Ports.{Access}
 use Rattle.buffer_core.specs.Slots.{slot_at}
 use Rattle.transitions.specs.declared.answers.Answer.{Answer}
 use Rattle.transitions.specs.declared.answers.Answer.TheVariants.{Yes}
 use Rattle.transitions.specs.declared.answers.Tally.TheVariants.{Channels}
-use Rattle.member_model.specs.Turns.{MemberTurn, HasTurn, HasAnswer, IsAcceptedStart, AreEngineTurns}
+use Rattle.member_model.specs.Turns.{MemberTurn, HasAnswer}
 use Rattle.member_model.specs.SentCalls.{EachCall}
 use Rattle.member_model.specs.OwnCalls.{calls_after, AreOwnCalls, SendsNone}
 use Rattle.member_model.specs.ReadRuns.{HasReadRun}
 use Rattle.member_model.specs.CutRuns.{MarksEnd, HasCutRun}
-use Rattle.member_model.specs.LoggerKept.{LoggerChannel, LoggerPort, HasWritten, HasWrittenPart, TellsState, IsStateSo, KeepsLogger}
+use Rattle.member_model.specs.LoggerKept.{LoggerChannel, LoggerPort, HasWritten, HasWrittenPart, IsStateSo, KeepsLogger}
 use Rattle.mid_logger.specs.declared.channel.Channel.{Channel}
 use Rattle.mid_logger.specs.declared.stage.BegunRun.{BegunRun}
 use Rattle.mid_logger.specs.Patterns.{file_name_by}
 use Rattle.mid_logger.specs.Channels.{KeepsOwnCalls, HasReadUntil, HasReadPart}
-use Rattle.mid_logger.specs.ChannelEnds.{HasClosed, HasBroken, HasLeftRead, last_bytes, state_ended}
+use Rattle.mid_logger.specs.ChannelEnds.{HasClosed, HasBroken, last_bytes, state_ended}
 use Rattle.loggers.specs.declared.logged_run.LoggedRun.{LoggedRun}
 use Rattle.loggers.specs.LoggerStands.{logger_channel, logger_channels, logger_port, logger_ports, IsEndedSo, LeftRun, TellsStates, ToldSo, LoggerStands}
 
@@ -46,7 +45,7 @@ found absent (None ∷ slots) index channel at = found_later absent None slots c
 found absent (Some c ∷ slots) zero channel at = record { number = 0; c = c; there = refl; is = let e : logger_channel (absent c.spec.number) c ≡ channel = cc (at) in sym e }
 found absent (Some c ∷ slots) (suc index) channel at = found_later absent (Some c) slots channel (found absent slots index channel at)
 
-there_is : {X : Type 0} (xs : List X) (n : ℕ) → n < length xs → (x : X) × (slice_get xs n ≡ Some x)
+pub there_is : {X : Type 0} (xs : List X) (n : ℕ) → n < length xs → (x : X) × (slice_get xs n ≡ Some x)
 there_is [] n within = absurd (omega arith)
 there_is (x ∷ xs) zero within = (x, refl)
 there_is (x ∷ xs) (suc n) within = there_is xs n (omega arith)
@@ -95,21 +94,21 @@ left_written absent turns slots seen c a stop l parts =
     let time : ℕ = stop.order.time in
     let named : (n : ℕ) → List ℕ = λ n. file_name_by c.spec.pattern n in
     let reads_0 : HasReadRun a.own a.got run.opened.client c.spec.id c.spec.mask run.opened.request run.opened.start run.begun parts.place events =
-        subst (λ (e : Option ℕ). HasReadUntil e a.own a.got run.opened.client c.spec.id c.spec.mask run.opened.request run.opened.start run.begun events) parts.ended_is closed.reads in
+    subst (λ (e : Option ℕ). HasReadUntil e a.own a.got run.opened.client c.spec.id c.spec.mask run.opened.request run.opened.start run.begun events) parts.ended_is closed.reads in
     let reads_1 : HasReadRun a.own a.got run.opened.client c.spec.id c.spec.mask run.opened.request stop.order.start run.begun parts.place events =
-        subst (λ (s : ℕ). HasReadRun a.own a.got run.opened.client c.spec.id c.spec.mask run.opened.request s run.begun parts.place events) l.of reads_0 in
+    subst (λ (s : ℕ). HasReadRun a.own a.got run.opened.client c.spec.id c.spec.mask run.opened.request s run.begun parts.place events) l.of reads_0 in
     let client_is : unwrap_or c.client absent ≡ run.opened.client = ap (λ (o : Option ℕ). unwrap_or o absent) l.client in
     let run_is : run.opened.run ≡ turn.order.run = sym closed.number ∙ l.headed.run in
     let stored_0 : IsStored seen (named run.opened.run) (begun_file l.head.run l.head.time l.head.dump events ++ last_bytes run.opened.run (Some parts.place) time stop.dump) =
-        subst (λ (e : Option ℕ). IsStored seen (named run.opened.run) (begun_file l.head.run l.head.time l.head.dump events ++ last_bytes run.opened.run e time stop.dump)) parts.ended_is closed.file in
+    subst (λ (e : Option ℕ). IsStored seen (named run.opened.run) (begun_file l.head.run l.head.time l.head.dump events ++ last_bytes run.opened.run e time stop.dump)) parts.ended_is closed.file in
     let stored_1 : IsStored seen (named run.opened.run) (begun_file l.head.run l.head.time l.head.dump events ++ encoding (end_record run.opened.run time parts.bytes)) =
-        subst (λ (d : Option (List ℕ)). IsStored seen (named run.opened.run) (begun_file l.head.run l.head.time l.head.dump events ++ last_bytes run.opened.run (Some parts.place) time d)) parts.dump_is stored_0 in
+    subst (λ (d : Option (List ℕ)). IsStored seen (named run.opened.run) (begun_file l.head.run l.head.time l.head.dump events ++ last_bytes run.opened.run (Some parts.place) time d)) parts.dump_is stored_0 in
     let stored_2 : IsStored seen (named turn.order.run) (begun_file l.head.run l.head.time l.head.dump events ++ encoding (end_record turn.order.run time parts.bytes)) =
-        subst (λ (n : ℕ). IsStored seen (named n) (begun_file l.head.run l.head.time l.head.dump events ++ encoding (end_record n time parts.bytes))) run_is stored_1 in
+    subst (λ (n : ℕ). IsStored seen (named n) (begun_file l.head.run l.head.time l.head.dump events ++ encoding (end_record n time parts.bytes))) run_is stored_1 in
     let stored_3 : IsStored seen (named turn.order.run) (begun_file turn.order.run l.head.time l.head.dump events ++ encoding (end_record turn.order.run time parts.bytes)) =
-        subst (λ (n : ℕ). IsStored seen (named turn.order.run) (begun_file n l.head.time l.head.dump events ++ encoding (end_record turn.order.run time parts.bytes))) l.headed.run stored_2 in
+    subst (λ (n : ℕ). IsStored seen (named turn.order.run) (begun_file n l.head.time l.head.dump events ++ encoding (end_record turn.order.run time parts.bytes))) l.headed.run stored_2 in
     let stored_4 : IsStored seen (named turn.order.run) (begun_file turn.order.run turn.order.time l.head.dump events ++ encoding (end_record turn.order.run time parts.bytes)) =
-        subst (λ (t : ℕ). IsStored seen (named turn.order.run) (begun_file turn.order.run t l.head.dump events ++ encoding (end_record turn.order.run time parts.bytes))) l.headed.time stored_3 in
+    subst (λ (t : ℕ). IsStored seen (named turn.order.run) (begun_file turn.order.run t l.head.dump events ++ encoding (end_record turn.order.run time parts.bytes))) l.headed.time stored_3 in
     record {
       start = turn;
       is_start = l.headed.is_start;
@@ -155,24 +154,28 @@ left_part absent turns slots seen c a stop ended dump l ended_is dump_is =
           × IsPrefix broken.bytes (begun_file turn.order.run turn.order.time (unwrap_or turn.dump []) events ++ encoding (end_record turn.order.run time dump)))) [
             | inl cut ↦
                 let cut_0 : HasCutRun a.own a.got run.opened.client c.spec.id c.spec.mask run.opened.request run.opened.start run.begun ended events =
-                    subst (λ (e : Option ℕ). HasReadPart e a.own a.got run.opened.client c.spec.id c.spec.mask run.opened.request run.opened.start run.begun events) ended_is cut.0 in
+                subst (λ (e : Option ℕ). HasReadPart e a.own a.got run.opened.client c.spec.id c.spec.mask run.opened.request run.opened.start run.begun events) ended_is cut.0 in
                 let cut_1 : HasCutRun a.own a.got run.opened.client c.spec.id c.spec.mask run.opened.request stop.order.start run.begun ended events =
-                    subst (λ (s : ℕ). HasCutRun a.own a.got run.opened.client c.spec.id c.spec.mask run.opened.request s run.begun ended events) l.of cut_0 in
-                inl (subst (λ (k : ℕ). HasCutRun a.own a.got k c.spec.id c.spec.mask run.opened.request stop.order.start run.begun ended events) (sym client_is) cut_1,
-                head_whole broken.bytes events l.head.run l.head.time turn.order.run turn.order.time l.head.dump (unwrap_or turn.dump []) l.headed.run l.headed.time l.headed.dump cut.1)
+                subst (λ (s : ℕ). HasCutRun a.own a.got run.opened.client c.spec.id c.spec.mask run.opened.request s run.begun ended events) l.of cut_0 in
+                inl (
+                  subst (λ (k : ℕ). HasCutRun a.own a.got k c.spec.id c.spec.mask run.opened.request stop.order.start run.begun ended events) (sym client_is) cut_1,
+                  head_whole broken.bytes events l.head.run l.head.time turn.order.run turn.order.time l.head.dump (unwrap_or turn.dump []) l.headed.run l.headed.time l.headed.dump cut.1,
+                )
             | inr whole ↦
                 let read_0 : HasReadRun a.own a.got run.opened.client c.spec.id c.spec.mask run.opened.request run.opened.start run.begun ended events =
-                    subst (λ (e : Option ℕ). HasReadUntil e a.own a.got run.opened.client c.spec.id c.spec.mask run.opened.request run.opened.start run.begun events) ended_is whole.0 in
+                subst (λ (e : Option ℕ). HasReadUntil e a.own a.got run.opened.client c.spec.id c.spec.mask run.opened.request run.opened.start run.begun events) ended_is whole.0 in
                 let read_1 : HasReadRun a.own a.got run.opened.client c.spec.id c.spec.mask run.opened.request stop.order.start run.begun ended events =
-                    subst (λ (s : ℕ). HasReadRun a.own a.got run.opened.client c.spec.id c.spec.mask run.opened.request s run.begun ended events) l.of read_0 in
+                subst (λ (s : ℕ). HasReadRun a.own a.got run.opened.client c.spec.id c.spec.mask run.opened.request s run.begun ended events) l.of read_0 in
                 let front_0 : IsPrefix broken.bytes (begun_file l.head.run l.head.time l.head.dump events ++ last_bytes run.opened.run (Some ended) time stop.dump) =
-                    subst (λ (e : Option ℕ). IsPrefix broken.bytes (begun_file l.head.run l.head.time l.head.dump events ++ last_bytes run.opened.run e time stop.dump)) ended_is whole.1 in
+                subst (λ (e : Option ℕ). IsPrefix broken.bytes (begun_file l.head.run l.head.time l.head.dump events ++ last_bytes run.opened.run e time stop.dump)) ended_is whole.1 in
                 let front_1 : IsPrefix broken.bytes (begun_file l.head.run l.head.time l.head.dump events ++ encoding (end_record run.opened.run time dump)) =
-                    subst (λ (d : Option (List ℕ)). IsPrefix broken.bytes (begun_file l.head.run l.head.time l.head.dump events ++ last_bytes run.opened.run (Some ended) time d)) dump_is front_0 in
+                subst (λ (d : Option (List ℕ)). IsPrefix broken.bytes (begun_file l.head.run l.head.time l.head.dump events ++ last_bytes run.opened.run (Some ended) time d)) dump_is front_0 in
                 let front_2 : IsPrefix broken.bytes (begun_file l.head.run l.head.time l.head.dump events ++ encoding (end_record turn.order.run time dump)) =
-                    subst (λ (n : ℕ). IsPrefix broken.bytes (begun_file l.head.run l.head.time l.head.dump events ++ encoding (end_record n time dump))) run_is front_1 in
-                inr (subst (λ (k : ℕ). HasReadRun a.own a.got k c.spec.id c.spec.mask run.opened.request stop.order.start run.begun ended events) (sym client_is) read_1,
-                head_part broken.bytes events l.head.run l.head.time turn.order.run turn.order.time l.head.dump (unwrap_or turn.dump []) (encoding (end_record turn.order.run time dump)) l.headed.run l.headed.time l.headed.dump front_2)
+                subst (λ (n : ℕ). IsPrefix broken.bytes (begun_file l.head.run l.head.time l.head.dump events ++ encoding (end_record n time dump))) run_is front_1 in
+                inr (
+                  subst (λ (k : ℕ). HasReadRun a.own a.got k c.spec.id c.spec.mask run.opened.request stop.order.start run.begun ended events) (sym client_is) read_1,
+                  head_part broken.bytes events l.head.run l.head.time turn.order.run turn.order.time l.head.dump (unwrap_or turn.dump []) (encoding (end_record turn.order.run time dump)) l.headed.run l.headed.time l.headed.dump front_2,
+                )
           ];
     }
 
@@ -232,7 +235,7 @@ pub keeps_contract : (run : Option LoggedRun) (stop_dump : Option (List ℕ)) (s
     → KeepsLogger (logger_channels absent slots) (logger_ports ports) turns seen
 keeps_contract run stop_dump slots ports turns seen absent stands =
     let calls : (buffer : ℕ) → EachCall SendsNone (logger_ports ports buffer).own × AreOwnCalls (calls_after [] (logger_ports ports buffer).own) =
-        λ buffer. port_calls (slice_get ports buffer) (λ a there. (stands.standing.calls buffer a there).calls) in
+    λ buffer. port_calls (slice_get ports buffer) (λ a there. (stands.standing.calls buffer a there).calls) in
     record {
       sends_none = λ buffer. (calls buffer).0;
       own_calls = λ buffer. (calls buffer).1;
@@ -250,14 +253,14 @@ keeps_contract run stop_dump slots ports turns seen absent stands =
       ended = λ are stop index channel at tells.
           let k : KnownChannel absent run stop_dump slots ports turns seen channel = known absent run stop_dump slots ports turns seen index channel stands at in
           let so : ToldSo turns slots seen k.number k.c k.a stop tells.states =
-              stands.standing.left are stop tells.states (record { stands = tells.stands; is = tells.is; answered = tells.answered }) k.number k.c k.a k.there k.at_port in
+          stands.standing.left are stop tells.states (record { stands = tells.stands; is = tells.is; answered = tells.answered }) k.number k.c k.a k.there k.at_port in
           let l : LeftRun turns slots seen k.c k.a stop Ended = left_as turns slots seen k.c k.a stop so.state Ended (state_told tells.states channel.number k.number Ended so.state k.numbered tells.told so.told) so.left in
           at_contract (λ port x. HasWritten port turns seen x stop) absent run stop_dump slots ports turns seen channel k
           (left_written (absent k.c.spec.number) turns slots seen k.c k.a stop l (told_ended turns slots seen k.c k.a stop l));
       broken = λ are stop index channel at tells ended marks dump dump_is.
           let k : KnownChannel absent run stop_dump slots ports turns seen channel = known absent run stop_dump slots ports turns seen index channel stands at in
           let so : ToldSo turns slots seen k.number k.c k.a stop tells.states =
-              stands.standing.left are stop tells.states (record { stands = tells.stands; is = tells.is; answered = tells.answered }) k.number k.c k.a k.there k.at_port in
+          stands.standing.left are stop tells.states (record { stands = tells.stands; is = tells.is; answered = tells.answered }) k.number k.c k.a k.there k.at_port in
           let l : LeftRun turns slots seen k.c k.a stop IsBroken = left_as turns slots seen k.c k.a stop so.state IsBroken (state_told tells.states channel.number k.number IsBroken so.state k.numbered tells.told so.told) so.left in
           let marks_here : MarksEnd k.a.own stop.order.start ended = marks_at absent run stop_dump slots ports turns seen channel k stop.order.start ended marks in
           let ended_is : l.run.ended ≡ Some ended = ended_place k.a.own stop.order.start l.run.ended ended l.ended marks_here ((stands.standing.calls k.c.spec.buffer k.a k.at_port).once are stop.order.start) in

@@ -5,3 +5,4 @@ pub mod Finishing
 pub mod LoggerStands
 pub mod NewLoggers
 pub mod SlotPulls
+pub mod LoggerLaws

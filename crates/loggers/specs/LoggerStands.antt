@@ -13,7 +13,7 @@ use Rattle.buffer_core.specs.Slots.{slot_at}
 use Rattle.transitions.specs.declared.answers.Answer.{Answer}
 use Rattle.transitions.specs.declared.answers.Answer.TheVariants.{Yes}
 use Rattle.transitions.specs.declared.answers.Tally.TheVariants.{Channels}
-use Rattle.member_model.specs.Turns.{MemberTurn, HasTurn, IsAcceptedStart, NoneOpen, current_run, AreEngineTurns}
+use Rattle.member_model.specs.Turns.{MemberTurn, HasTurn, HasTurnOf, IsAcceptedStart, NoneOpen, current_run, AreEngineTurns}
 use Rattle.member_model.specs.SentCalls.{EachCall}
 use Rattle.member_model.specs.CutRuns.{MarksEnd, RefusesEnd}
 use Rattle.member_model.specs.LoggerKept.{LoggerChannel, LoggerPort, IsStartAnswer, KeepsLogger}
@@ -186,13 +186,16 @@ pub record IsStopWaiting (turns : List MemberTurn) (start time : ℕ) (dump : Op
   pub of : order.start ≡ start
   pub at : order.time ≡ time
 
+abbrev pub HasStart : List MemberTurn → (start : ℕ) → Type 0
+HasStart turns start = (begin : MemberTurn) × HasTurnOf turns Start start begin
+
 abbrev pub HasAcceptedStart : List MemberTurn → (start : ℕ) → Type 0
 HasAcceptedStart turns start = (begin : MemberTurn) × IsAcceptedStart turns start begin
 
 -- the run that the logger has, by its turns
 abbrev pub IsPartTold : RunPart → List MemberTurn → (start : ℕ) → (stop_dump : Option (List ℕ)) → Type 0
-IsPartTold Refused turns start stop_dump = NoneOpen turns
-IsPartTold Started turns start stop_dump = NoneOpen turns × HasAcceptedStart turns start × (AreEngineTurns turns → HasEndTurn turns start → ⊥)
+IsPartTold Refused turns start stop_dump = NoneOpen turns × HasStart turns start
+IsPartTold Started turns start stop_dump = NoneOpen turns × HasAcceptedStart turns start
 IsPartTold (Stopping time) turns start stop_dump = IsStopWaiting turns start time stop_dump × HasAcceptedStart turns start
 
 abbrev pub IsRunTold : Option LoggedRun → List MemberTurn → (stop_dump : Option (List ℕ)) → Type 0
