@@ -1,8 +1,8 @@
 -- The channels of a new logger, which are put at their numbers from the last to the first.
-use Rattle.std.specs.Prelude.{◌≡◌, ◌≢◌, ◌≤◌, ◌<◌, ◌+◌, ◌-◌, ◌++◌, ℕ, List, [], ◌∷◌, length, replicate, slice_get, slice_set, Option, Some, None, ◌⊎◌, refl}
-use Rattle.std.proofs.Common.{ap, sym, subst, ◌∙◌, arith, inl, inr}
-use Rattle.std.proofs.lemmas.List.{length-set}
-use Rattle.std.proofs.lemmas.Option.{slice_get_within}
+use Rattle.std.specs.Prelude.{◌≡◌, ◌≢◌, ◌≤◌, ◌<◌, ◌+◌, ◌-◌, ◌++◌, ℕ, zero, suc, List, [], ◌∷◌, length, replicate, slice_get, slice_set, Option, Some, None, ◌⊎◌, refl}
+use Rattle.std.proofs.Common.{ap, sym, subst, ◌∙◌, arith, inl, inr, take, get_or}
+use Rattle.std.proofs.lemmas.List.{length-set, length-take-le}
+use Rattle.std.proofs.lemmas.Option.{slice_get_within, slice_get-get_or}
 use Rattle.buffer_core.specs.Slots.{slot_at}
 use Rattle.buffer_core.specs.SlotLaws.{slot_set_same, slot_set_other, slot_free}
 use Rattle.mid_logger.specs.declared.channel.Channel.{Channel}
@@ -60,3 +60,54 @@ added_more specs rooms place slots c numbers new added =
 
 pub all_added : (specs : List ChannelSpec) (rooms : List ℕ) (slots : List (Option Channel)) → AddedFrom specs rooms 0 slots → HasNewChannels specs rooms slots
 all_added specs rooms slots added = record { many = added.many; each = λ place c new. added.each place c (omega arith) new; only = added.only }
+
+-- One spec after another, from the last on.
+
+none_taken : {X : Type 0} (before : List X) (x : X) → [] ≡ before ++ x ∷ [] → ⊥
+none_taken {X} [] x is = cc (is)
+none_taken {X} (b ∷ bs) x is = cc (is)
+
+-- the last one of those that are left, and the others
+taken_back : {X : Type 0} (xs before : List X) (x d : X) (k : ℕ) → k ≤ length xs → take k xs ≡ before ++ x ∷ [] → (get_or xs (length before) d ≡ x) × (take (length before) xs ≡ before) × (k ≡ length before + 1)
+taken_back {X} [] before x d zero fits is = absurd (none_taken before x is)
+taken_back {X} [] before x d (suc k) fits is = absurd (omega (arith, fits))
+taken_back {X} (y ∷ ys) before x d zero fits is = absurd (none_taken before x is)
+taken_back {X} (y ∷ ys) [] x d (suc k) fits is =
+    let first : y ≡ x = cc (is) in
+    let rest : take k ys ≡ [] = cc (is) in
+    let none : length (take k ys) ≡ 0 = ap (λ (l : List X). length l) rest in
+    (first, refl, omega (arith, none, length-take-le k ys (omega (arith, fits))))
+taken_back {X} (y ∷ ys) (b ∷ bs) x d (suc k) fits is =
+    let first : y ≡ b = cc (is) in
+    let rest : take k ys ≡ bs ++ x ∷ [] = cc (is) in
+    let below = taken_back ys bs x d k (omega (arith, fits)) rest in
+    (below.0, ap (λ (z : X). z ∷ take (length bs) ys) first ∙ ap (λ (l : List X). b ∷ l) below.1, omega (arith, below.2))
+
+-- a channel for the last spec that is left
+pub put_more : (specs : List ChannelSpec) (rooms : List ℕ) (before : List ChannelSpec) (spec : ChannelSpec) (place k count : ℕ) (slots later : List (Option Channel)) (c : Channel) → HaveNumbers specs → length rooms ≡ length specs → k ≤ length specs → k ≡ place + 1
+    → take k specs ≡ before ++ spec ∷ [] → count ≡ length before → c ≡ new_channel spec (get_or rooms count 0) → later ≡ slice_set slots spec.number (Some c) → AddedFrom specs rooms k slots → (before ≡ take place specs) × AddedFrom specs rooms place later
+put_more specs rooms before spec place k count slots later c numbers many fits next left count_is is put added =
+    let back = taken_back specs before spec spec k fits left in
+    let here : length before ≡ place = omega (arith, back.2, next) in
+    let so_far : AddedFrom specs rooms (place + 1) slots = subst (λ (n : ℕ). AddedFrom specs rooms n slots) next added in
+    let has_spec : slice_get specs place ≡ Some spec =
+        slice_get-get_or specs place spec (omega (arith, fits, next)) ∙ ap (λ (s : ChannelSpec). Some s) (ap (λ (n : ℕ). get_or specs n spec) (sym here) ∙ back.0) in
+    let new : IsNewChannel specs rooms place c = record {
+      spec = spec;
+      room = get_or rooms place 0;
+      has_spec = has_spec;
+      has_room = slice_get-get_or rooms place 0 (omega (arith, fits, next, many));
+      is = is ∙ ap (λ (n : ℕ). new_channel spec (get_or rooms n 0)) (count_is ∙ here);
+    } in
+    let number : c.spec.number ≡ spec.number = ap (λ (x : Channel). x.spec.number) is in
+    let now : AddedFrom specs rooms place (slice_set slots c.spec.number (Some c)) = added_more specs rooms place slots c numbers new so_far in
+    (
+      sym back.1 ∙ ap (λ (n : ℕ). take n specs) here,
+      subst (λ (l : List (Option Channel)). AddedFrom specs rooms place l) (ap (λ (n : ℕ). slice_set slots n (Some c)) number ∙ sym put) now,
+    )
+
+-- its number is one of the logger's
+pub number_fits : (specs before : List ChannelSpec) (spec : ChannelSpec) (k : ℕ) → HaveNumbers specs → k ≤ length specs → take k specs ≡ before ++ spec ∷ [] → spec.number < channel_limit
+number_fits specs before spec k numbers fits left =
+    let back = taken_back specs before spec spec k fits left in
+    numbers.below (length before) spec (slice_get-get_or specs (length before) spec (omega (arith, fits, back.2)) ∙ ap (λ (s : ChannelSpec). Some s) back.0)

@@ -18,18 +18,20 @@ use Rattle.buffer_core.specs.SlotLaws.{slot_change_all}
 use Rattle.mid_logger.specs.declared.channel.Channel.{Channel}
 use Rattle.mid_logger.specs.declared.channel_spec.ChannelSpec.{ChannelSpec}
 use Rattle.mid_logger.specs.declared.pulled.Pulled.{Pulled}
+use Rattle.mid_logger.specs.declared.pulled.Pulled.TheVariants.{Nothing}
 use Rattle.mid_logger.specs.declared.stage.BegunRun.{BegunRun}
 use Rattle.mid_logger.specs.declared.stage.ChannelRun.{ChannelRun}
 use Rattle.mid_logger.specs.declared.stage.ChannelStage.{ChannelStage}
 use Rattle.mid_logger.specs.declared.stage.ChannelStage.TheVariants.{Idle}
 use Rattle.mid_logger.specs.Channels.{CancelsRequest, reading_run, is_behind_end, stage_begun, stage_ended, place_marked}
-use Rattle.mid_logger.specs.Pulls.{PullOf, TakesBy, FindsNone, TakesReply, PullsIn, drains_at_none}
+use Rattle.mid_logger.specs.Pulls.{PullOf, LeavesAll, TakesBy, FindsNone, TakesReply, PullsIn, drains_at_none}
 use Rattle.mid_logger.specs.ChannelTurns.{ChannelAt, HasClient, MakesRequest, AsksEvents, RefusesRun, OpensBy, asking_run}
 use Rattle.mid_logger.specs.ChannelEnds.{CancelsStanding}
-use Rattle.loggers.specs.Moments.{LoggerMoment, ChannelStep, StepsChannel, StepsSlot, StepsAt, CallsBuffer, MarksBuffer, InTurn, noted_channel, IsSameAccess, AreSamePorts}
+use Rattle.loggers.specs.declared.logged_run.LoggedRun.{LoggedRun}
+use Rattle.loggers.specs.Moments.{LoggerMoment, ChannelStep, StepsChannel, StepsSlot, StepsAt, CallsBuffer, MarksBuffer, InTurn, noted_channel, AreIdle, IsSameAccess, AreSamePorts}
 use Rattle.loggers.specs.ChannelSteps.{OpensChannel, AbortsChannel, PullsChannel}
 use Rattle.loggers.specs.SlotPulls.{HasEventRoom, PullsSlot, PullsNumbered}
-use Rattle.loggers.specs.Turning.{BeginsBuffer, RefusesBegin, EndsBuffer, PausesBuffer, ResumesBuffer, LoggerTurn, LeavesLogger, OpensBelow, BeginsBelow, AbortsAll, RefusesOpen, RefusesMark, StartsAll, UndoesOpens, UndoesBegins, StartsSo, StartsLogger, TakesStart, StopsLogger, MarksAll, CallsRunOff, TakesStop, TakesMark, TakesAbort, TakesTurnBy, TakesTurn, is_run_on, is_started, is_of_start, buffers_begun}
+use Rattle.loggers.specs.Turning.{IsIdleOutside, BeginsBuffer, RefusesBegin, EndsBuffer, PausesBuffer, ResumesBuffer, LoggerTurn, LeavesLogger, OpensBelow, BeginsBelow, AbortsAll, RefusesOpen, RefusesMark, StartsAll, UndoesOpens, UndoesBegins, StartsSo, StartsLogger, TakesStart, StopsLogger, MarksAll, CallsRunOff, TakesStop, TakesMark, TakesAbort, TakesTurnBy, TakesTurn, is_run_on, is_started, is_of_start, buffers_begun}
 use Rattle.loggers.proofs.InTurns.{turns_keep}
 use Rattle.loggers.proofs.SlotLists.{same_or_other, one_changed, got_there, got_elsewhere}
 
@@ -319,3 +321,20 @@ pull_ports n answer a b pulls = (pull_shape n answer (slot_at a.slots n) a b ref
 
 pub pull_room : (n : ℕ) (answer : Pulled) (a b : LoggerMoment) → PullsNumbered n answer a b → ((number : ℕ) → HasEventRoom number a.slots a.ports) → (number : ℕ) → HasEventRoom number b.slots b.ports
 pull_room n answer a b pulls have = room_kept a b (pull_shape n answer (slot_at a.slots n) a b refl pulls) have
+
+-- Outside a run.
+
+idle_pull : (p : PullOf) (room : ℕ) → p.stage ≡ Idle → PullsIn (reading_run p.stage) p room → p.later_stage ≡ Idle
+idle_pull p room idle pulls =
+    let at : LeavesAll p Nothing = subst (λ (stage : ChannelStage). PullsIn (reading_run stage) p room) idle pulls in
+    at.stage ∙ idle
+
+pulled_idle : (n : ℕ) (answer : Pulled) (slot : Option Channel) (a b : LoggerMoment) → slot_at a.slots n ≡ slot → PullsSlot slot n answer a b → AreIdle a.slots → AreIdle b.slots
+pulled_idle n answer None a b there pulls idle = subst (λ (m : LoggerMoment). AreIdle m.slots) (sym pulls.1) idle
+pulled_idle n answer (Some before) a b there s idle = λ m c at.
+    one_changed (λ k x. x.stage ≡ Idle) a.slots n s.after (λ x stood. idle_pull _ before.event.room (idle n before there) s.step.pulls) (λ k x other stood. idle k x stood) before there m c
+    (subst (λ (l : List (Option Channel)). slot_at l m ≡ Some c) s.slots at)
+
+-- what pulls outside a run leaves every channel idle
+pub pull_idle : (run : Option LoggedRun) (n : ℕ) (answer : Pulled) (a b : LoggerMoment) → PullsNumbered n answer a b → IsIdleOutside run a.slots → IsIdleOutside run b.slots
+pull_idle run n answer a b pulls idle off = pulled_idle n answer (slot_at a.slots n) a b refl pulls (idle off)

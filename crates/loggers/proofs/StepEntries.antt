@@ -1,10 +1,10 @@
 -- One step of a channel, over any ports: what it does to the lists, and how many calls it notes.
 use Rattle.std.specs.Prelude.{◌≡◌, ◌≢◌, ◌≤◌, ◌+◌, ◌==◌, ℕ, Bool, true, false, if◌then◌else◌, List, length, map, slice_get, slice_set, Option, Some, None, Result, Ok, Err, ⊤, refl}
 use Rattle.std.specs.Option.{option_map}
-use Rattle.std.proofs.Common.{ap, sym, subst, ◌∙◌, arith, inl, inr}
+use Rattle.std.proofs.Common.{ap, sym, subst, ◌∙◌, arith, inl, inr, get_or}
 use Rattle.std.proofs.lemmas.Bool.{eqb-true, eqb-false}
 use Rattle.std.proofs.lemmas.List.{length-set, length-map, map-set, set-get_or, get_or_past}
-use Rattle.std.proofs.lemmas.Option.{slice_get-map, get_or_from_slice_get}
+use Rattle.std.proofs.lemmas.Option.{slice_get-map, slice_get-get_or, get_or_from_slice_get}
 use Rattle.daq_types.specs.declared.runs.Order.{Order}
 use Rattle.daq_types.specs.declared.runs.Why.{Why}
 use Rattle.daq_types.specs.declared.runs.Why.TheVariants.{NotReady, Exists, Fault, BufferRefused}
@@ -46,6 +46,17 @@ slot_past slots n past = get_or_past slots n None past
 -- no channel put where there was none
 pub slot_put_back : (slots : List (Option Channel)) (n : ℕ) → slot_at slots n ≡ None → slice_set slots n None ≡ slots
 slot_put_back slots n there = subst (λ (o : Option Channel). slice_set slots n o ≡ slots) there (set-get_or slots n None)
+
+-- what is lent stands at its place
+pub lent_at : {X : Type 0} (xs : List X) (n : ℕ) (x : X) → n < length xs → x ≡ get_or xs n x → slice_get xs n ≡ Some x
+lent_at {X} xs n x within is = slice_get-get_or xs n x within ∙ ap (λ (y : X). Some y) (sym is)
+
+pub lent_port : {P : Type 0} (access : P → Access) (ports : List P) (n : ℕ) (p : P) → slice_get ports n ≡ Some p → slice_get (map access ports) n ≡ Some (access p)
+lent_port {P} access ports n p there = slice_get-map access ports n ∙ ap (λ (o : Option P). option_map access o) there
+
+-- the step of a slot that has a channel
+pub slot_steps : (Step : ChannelStep → Type 0) (n : ℕ) (slot : Option Channel) (before : Channel) (a b : LoggerMoment) → slot ≡ Some before → StepsChannel Step n before a b → StepsSlot Step n slot a b
+slot_steps Step n slot before a b is step = subst (λ (o : Option Channel). StepsSlot Step n o a b) (sym is) step
 
 -- the channel of a number that was read
 pub slot_read_at : (slots : List (Option Channel)) (n : ℕ) (slot : Option Channel) → slice_get slots n ≡ Some slot → slot_at slots n ≡ slot

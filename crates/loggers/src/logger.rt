@@ -7,7 +7,7 @@ ghost use Rattle.member_model.specs.Turns.{MemberTurn, NoneOpen, latest_answered
 ghost use Rattle.daq_types.specs.declared.runs.Transition.TheVariants.{Start, Stop, Pause, Resume, StartAbort};
 ghost use Rattle.transitions.specs.declared.answers.Answer.TheVariants.{Yes};
 ghost use Rattle.transitions.specs.declared.answers.Tally.TheVariants.{Plain};
-ghost use Rattle.loggers.specs.Moments.{moment_of, IsLoggerReady, HaveFilesOpen, HaveEntries, AreIdle};
+ghost use Rattle.loggers.specs.Moments.{moment_of, IsLoggerReady, HaveFilesOpen, HaveEntries, UseEntries, AreIdle, AreSamePorts};
 ghost use Rattle.loggers.specs.Turning.{TakesTurn, TakesStart, TakesStop, TakesMark, TakesAbort, StartsLogger, PausesBuffer, ResumesBuffer, is_run_on, is_started, is_of_start, buffers_begun, IsIdleOutside, start_answer, start_part};
 ghost use Rattle.loggers.specs.Finishing.{FinishesLogger};
 ghost use Rattle.loggers.specs.SlotPulls.{HasEventRoom, PullsNumbered};
@@ -15,6 +15,7 @@ ghost use Rattle.loggers.specs.NewLoggers.{HaveNumbers, HasNewChannels, HavePort
 ghost use Rattle.loggers.specs.LoggerStands.{LoggerStands, logger_turn};
 
 use crate::endings::{end_files, stop_time};
+use crate::laws as logger_laws;
 use crate::logged_run::{LoggedRun, RunPart};
 use crate::marks::{end_first, pause_all, resume_all};
 use crate::slots::{ChannelSpecs, Ports, Slots, any_failed, are_settled, new_channels};
@@ -174,6 +175,9 @@ impl Logger {
         ensures begun { buffers_begun self.new.run ≤ length ports.new }
         ensures small { IfSome self.old.stop_dump (λ bytes. length bytes ≤ record_limit) →
             IfSome self.new.stop_dump (λ bytes. length bytes ≤ record_limit) }
+        ensures same { AreSamePorts (map P.access ports.old) (map P.access ports.new) }
+        ensures room { ((number : ℕ) → HasEventRoom number self.old.channels (map P.access ports.old)) →
+            (number : ℕ) → HasEventRoom number self.new.channels (map P.access ports.new) }
         ensures keeps { (turns : List MemberTurn) → NoneOpen turns →
             NoneTakenBack (map P.access ports.new) →
             LoggerStands self.old.run self.old.stop_dump self.old.channels
@@ -181,6 +185,45 @@ impl Logger {
             LoggerStands self.new.run self.new.stop_dump self.new.channels
             (map P.access ports.new) (logger_turn transition order.now dump result ∷ turns)
             (F.seen files.new) }
+    {
+        logger_laws::turns_keep();
+        self.take_turn(rt, files, ports, transition, order, dump)
+    }
+
+    /// Takes a turn: what is done, and what is answered.
+    fn take_turn<R: Wait, F: Files, P: BufferPort>(
+        &mut self,
+        rt: &R,
+        files: &mut F,
+        ports: &mut Ports<P>,
+        transition: Transition,
+        order: &Order,
+        dump: Option<Bytes>,
+    ) -> Option<Answer>
+        requires ready { IsLoggerReady self.old.channels (map P.access ports.old) (F.seen files.old) }
+        requires entries { HaveEntries 49 (map P.access ports.old) }
+        requires idle { IsIdleOutside self.old.run self.old.channels }
+        requires begun { buffers_begun self.old.run ≤ length ports.old }
+        requires small { IfSome dump (λ bytes. length bytes ≤ record_limit) }
+        ensures takes { TakesTurn (record {
+          transition = transition;
+          order = order.now;
+          dump = dump;
+          answer = result;
+          run = self.old.run;
+          later_run = self.new.run;
+          stop_dump = self.old.stop_dump;
+          later_stop_dump = self.new.stop_dump;
+          before = moment_of self.old.channels (map P.access ports.old) (F.seen files.old)
+              (F.faults files.old) (F.clashes files.old) (F.first files.old);
+          after = moment_of self.new.channels (map P.access ports.new) (F.seen files.new)
+              (F.faults files.new) (F.clashes files.new) (F.first files.new);
+        }) }
+        ensures ready { IsLoggerReady self.new.channels (map P.access ports.new) (F.seen files.new) }
+        ensures idle { IsIdleOutside self.new.run self.new.channels }
+        ensures begun { buffers_begun self.new.run ≤ length ports.new }
+        ensures small { IfSome self.old.stop_dump (λ bytes. length bytes ≤ record_limit) →
+            IfSome self.new.stop_dump (λ bytes. length bytes ≤ record_limit) }
     {
         match transition {
             Transition::Start => Some(self.on_start(rt, files, ports, order, &dump)),
@@ -465,6 +508,10 @@ impl Logger {
         ensures stop_dump { self.new.stop_dump ≡ self.old.stop_dump }
         ensures ready { IsLoggerReady self.new.channels (map P.access ports.new) (F.seen files.new) }
         ensures idle { IsIdleOutside self.new.run self.new.channels }
+        ensures uses { UseEntries 2 (map P.access ports.old) (map P.access ports.new) }
+        ensures same { AreSamePorts (map P.access ports.old) (map P.access ports.new) }
+        ensures room { ((number : ℕ) → HasEventRoom number self.old.channels (map P.access ports.old)) →
+            (number : ℕ) → HasEventRoom number self.new.channels (map P.access ports.new) }
         ensures keeps { (turns : List MemberTurn) →
             LoggerStands self.old.run self.old.stop_dump self.old.channels
             (map P.access ports.old) turns (F.seen files.old) →
@@ -511,11 +558,51 @@ impl Logger {
             IsLoggerReady self.new.channels ports (F.seen files.new) }
         ensures idle { IsIdleOutside self.new.run self.new.channels }
         ensures begun { buffers_begun self.new.run ≤ buffers_begun self.old.run }
+        ensures room { (ports : List Access) →
+            ((number : ℕ) → HasEventRoom number self.old.channels ports) →
+            (number : ℕ) → HasEventRoom number self.new.channels ports }
         ensures keeps { (ports : List Access) → (turns : List MemberTurn) →
             LoggerStands self.old.run self.old.stop_dump self.old.channels ports turns
             (F.seen files.old) →
             LoggerStands self.new.run self.new.stop_dump self.new.channels ports
             (latest_answered turns result) (F.seen files.new) }
+    {
+        logger_laws::finishes_keep();
+        self.end_run(files)
+    }
+
+    /// Ends the files of the run whose stop waits, where every channel is settled.
+    fn end_run<F: Files>(&mut self, files: &mut F) -> Option<Answer>
+        requires many { length self.old.channels ≤ 16 }
+        requires files { HaveFilesOpen self.old.channels (F.seen files.old) }
+        requires idle { IsIdleOutside self.old.run self.old.channels }
+        requires small { IfSome self.old.stop_dump (λ bytes. length bytes ≤ record_limit) }
+        ensures finishes { FinishesLogger (record {
+          run = self.old.run;
+          later_run = self.new.run;
+          stop_dump = self.old.stop_dump;
+          later_stop_dump = self.new.stop_dump;
+          slots = self.old.channels;
+          later_slots = self.new.channels;
+          files = record {
+            seen = F.seen files.old;
+            faults = F.faults files.old;
+            clashes = F.clashes files.old;
+            first = F.first files.old;
+          };
+          later_files = record {
+            seen = F.seen files.new;
+            faults = F.faults files.new;
+            clashes = F.clashes files.new;
+            first = F.first files.new;
+          };
+          answer = result;
+        }) }
+        ensures ready { (ports : List Access) →
+            IsLoggerReady self.old.channels ports (F.seen files.old) →
+            IsLoggerReady self.new.channels ports (F.seen files.new) }
+        ensures idle { IsIdleOutside self.new.run self.new.channels }
+        ensures begun { buffers_begun self.new.run ≤ buffers_begun self.old.run }
     {
         let time = stop_time(self.run)?;
         if !are_settled(&self.channels) {

@@ -1,29 +1,36 @@
-use Rattle.std.proofs.Common.{rules, ◌≡◌, ◌<◌, ◌≤◌, ℕ, List, Option, length, map, slice_set, OnOk, OnErr, IfErr, ◌+◌, ◌-◌, ◌*◌, ◌/◌, ◌%◌, Bool, true, false, nat_eq, nat_lt, [], ◌∷◌, ◌++◌, slice_index_or, bit_and, bit_or, Fits, w8, w32, w64, Bor, MutBor}
-use Rattle.std.specs.Option.{option_map}
-use Rattle.daq_io.specs.Seen.{Seen}
-use Rattle.buffer_core.specs.Slots.{change_slot}
-use Rattle.mid_logger.specs.declared.channel.Channel.{Channel}
-use Rattle.mid_logger.specs.Channels.{stage_begun, stage_ended}
-use Rattle.loggers.specs.Moments.{RunFiles, IsLoggerReady, HasEntry, UsesEntry, HaveEntries, UseEntries, InTurn, noted_channel}
-use Rattle.loggers.specs.Turning.{BeginsBuffer, RefusesBegin, EndsBuffer, PausesBuffer, ResumesBuffer, BeginsBelow, RefusesMark}
+use Rattle.std.proofs.Common.{◌≡◌, Some, map}
+use Rattle.loggers.proofs.StepEntries.{lent_at, lent_port, called_at, uses_entry}
 use Rattle.loggers.proofs.marks.begin_at.Goals as goal
 
--- src/marks.rt:85:11
 pub begin-requires : goal.begin-requires
-begin-requires g c = ?
+begin-requires g c = record {
+  room = c.requires.entries (g.P.BufferPort.access c.in-Some.port.now)
+      (lent_port g.P.BufferPort.access c.args.ports.now c.args.buffer c.in-Some.port.now (lent_at c.args.ports.now c.args.buffer c.in-Some.port.now c.requires.within c.in-Some.ensures.entry.1));
+}
 
--- src/marks.rt:65:1
 pub returns-in-Ok-clause-begins : goal.returns-in-Ok-clause-begins
-returns-in-Ok-clause-begins g c = ?
+returns-in-Ok-clause-begins g c = λ files. (
+  c.in-Ok.place,
+  record {
+    marks = called_at g.P.BufferPort.access _ c.args.buffer c.args.slots.now c.args.ports.now c.in-Some.port.now c.begin.new.self files
+        (lent_at c.args.ports.now c.args.buffer c.in-Some.port.now c.requires.within c.in-Some.ensures.entry.1) c.in-Ok.ensures;
+    noted = c.note_begun.ensures;
+  },
+)
 
--- src/marks.rt:65:1
 pub returns-in-Ok-clause-entries : goal.returns-in-Ok-clause-entries
-returns-in-Ok-clause-entries g c = ?
+returns-in-Ok-clause-entries g c =
+    uses_entry g.P.BufferPort.access c.args.ports.now c.args.buffer c.in-Some.port.now c.begin.new.self
+    (lent_at c.args.ports.now c.args.buffer c.in-Some.port.now c.requires.within c.in-Some.ensures.entry.1) c.begin.ensures.entries
 
--- src/marks.rt:65:1
 pub returns-in-Err-clause-refuses : goal.returns-in-Err-clause-refuses
-returns-in-Err-clause-refuses g c = ?
+returns-in-Err-clause-refuses g c = λ files. (
+  _,
+  called_at g.P.BufferPort.access _ c.args.buffer c.args.slots.now c.args.ports.now c.in-Some.port.now c.begin.new.self files
+  (lent_at c.args.ports.now c.args.buffer c.in-Some.port.now c.requires.within c.in-Some.ensures.entry.1) c.in-Err.ensures,
+)
 
--- src/marks.rt:65:1
 pub returns-in-Err-clause-entries : goal.returns-in-Err-clause-entries
-returns-in-Err-clause-entries g c = ?
+returns-in-Err-clause-entries g c =
+    uses_entry g.P.BufferPort.access c.args.ports.now c.args.buffer c.in-Some.port.now c.begin.new.self
+    (lent_at c.args.ports.now c.args.buffer c.in-Some.port.now c.requires.within c.in-Some.ensures.entry.1) c.begin.ensures.entries

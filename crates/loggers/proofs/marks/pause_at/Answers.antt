@@ -1,21 +1,21 @@
-use Rattle.std.proofs.Common.{rules, ◌≡◌, ◌<◌, ◌≤◌, ℕ, List, Option, length, map, slice_set, OnOk, OnErr, IfErr, ◌+◌, ◌-◌, ◌*◌, ◌/◌, ◌%◌, Bool, true, false, nat_eq, nat_lt, [], ◌∷◌, ◌++◌, slice_index_or, bit_and, bit_or, Fits, w8, w32, w64, Bor, MutBor}
-use Rattle.std.specs.Option.{option_map}
-use Rattle.daq_io.specs.Seen.{Seen}
-use Rattle.buffer_core.specs.Slots.{change_slot}
-use Rattle.mid_logger.specs.declared.channel.Channel.{Channel}
-use Rattle.mid_logger.specs.Channels.{stage_begun, stage_ended}
-use Rattle.loggers.specs.Moments.{RunFiles, IsLoggerReady, HasEntry, UsesEntry, HaveEntries, UseEntries, InTurn, noted_channel}
-use Rattle.loggers.specs.Turning.{BeginsBuffer, RefusesBegin, EndsBuffer, PausesBuffer, ResumesBuffer, BeginsBelow, RefusesMark}
+use Rattle.std.proofs.Common.{◌≡◌, Some, map}
+use Rattle.loggers.proofs.StepEntries.{lent_at, lent_port, called_at, uses_entry}
 use Rattle.loggers.proofs.marks.pause_at.Goals as goal
 
--- src/marks.rt:128:13
 pub pause-requires : goal.pause-requires
-pause-requires g c = ?
+pause-requires g c = record {
+  room = c.requires.entries (g.P.BufferPort.access c.in-Some.port.now)
+      (lent_port g.P.BufferPort.access c.args.ports.now c.args.buffer c.in-Some.port.now (lent_at c.args.ports.now c.args.buffer c.in-Some.port.now c.requires.within c.in-Some.ensures.entry.1));
+}
 
--- src/marks.rt:117:1
 pub returns-clause-pauses : goal.returns-clause-pauses
-returns-clause-pauses g c = ?
+returns-clause-pauses g c = λ slots files. (
+  c.pause.result,
+  called_at g.P.BufferPort.access _ c.args.buffer slots c.args.ports.now c.in-Some.port.now c.pause.new.self files
+  (lent_at c.args.ports.now c.args.buffer c.in-Some.port.now c.requires.within c.in-Some.ensures.entry.1) c.pause.ensures,
+)
 
--- src/marks.rt:117:1
 pub returns-clause-entries : goal.returns-clause-entries
-returns-clause-entries g c = ?
+returns-clause-entries g c =
+    uses_entry g.P.BufferPort.access c.args.ports.now c.args.buffer c.in-Some.port.now c.pause.new.self
+    (lent_at c.args.ports.now c.args.buffer c.in-Some.port.now c.requires.within c.in-Some.ensures.entry.1) c.pause.ensures.entries

@@ -1,15 +1,17 @@
-use Rattle.std.proofs.Common.{rules, ◌≡◌, length, replicate, IfOk, None, ℕ, ◌+◌, ◌-◌, ◌*◌, ◌<◌, ◌≤◌, ◌/◌, ◌%◌, Bool, true, false, nat_eq, nat_lt, List, [], ◌∷◌, ◌++◌, slice_index_or, slice_set, bit_and, bit_or, Fits, w8, w32, w64, Bor, MutBor}
-use Rattle.std.specs.List.{list_all}
-use Rattle.buffer_core.specs.Slots.{some_slot, passes}
-use Rattle.loggers.specs.Moments.{channel_limit}
-use Rattle.loggers.specs.Finishing.{is_settled_slot}
-use Rattle.loggers.specs.NewLoggers.{HaveNumbers, HasNewChannels, new_channel}
+use Rattle.std.proofs.Common.{◌≡◌, ◌<◌, ◌-◌, ◌+◌, ◌∷◌, ◌++◌, [], length, take, sym, ◌∙◌, arith, lit<}
+use Rattle.loggers.proofs.NewSlots.{number_fits, put_more}
 use Rattle.loggers.proofs.slots.new_channels.Goals as goal
 
--- src/slots.rt:103:9
 pub set-requires : goal.set-requires
-set-requires c = ?
+set-requires c =
+    let left : take (length c.args.specs - c.loop-count.count) c.args.specs ≡ c.pop.new.self ++ c.in-Some.spec ∷ [] = sym c.loop-count.invariant.left ∙ c.in-Some.ensures.last in
+    let fits = number_fits c.args.specs c.pop.new.self c.in-Some.spec (length c.args.specs - c.loop-count.count) c.requires.numbers (omega arith) left in
+    (lit< tt, omega (arith, fits, c.loop-count.invariant.added.many))
 
--- src/slots.rt:97:5
 pub loop-count-preserved : goal.loop-count-preserved
-loop-count-preserved c = ?
+loop-count-preserved c =
+    let left : take (length c.args.specs - c.loop-count.count) c.args.specs ≡ c.pop.new.self ++ c.in-Some.spec ∷ [] = sym c.loop-count.invariant.left ∙ c.in-Some.ensures.last in
+    let more = put_more c.args.specs c.args.rooms.now c.pop.new.self c.in-Some.spec (length c.args.specs - (c.loop-count.count + 1)) (length c.args.specs - c.loop-count.count) c.len.result
+        c.loop-count.slots c.set.new.self c.in_ok-channel.channel c.requires.numbers c.requires.rooms (omega arith) (omega (arith, c.loop-count-test.true, c.requires.rooms)) left c.len.ensures c.in_ok-channel.ensures c.set.ensures
+        c.loop-count.invariant.added in
+    record { left = more.0; added = more.1 }

@@ -1,28 +1,25 @@
-use Rattle.std.proofs.Common.{rules, ◌≡◌, ◌≤◌, ◌<◌, ℕ, List, [], ◌∷◌, if◌then◌else◌, length, map, unwrap_or, Option, Some, None, IfOk, IfSome, ◌+◌, ◌-◌, ◌*◌, ◌/◌, ◌%◌, Bool, true, false, nat_eq, nat_lt, ◌++◌, slice_index_or, slice_set, bit_and, bit_or, Fits, w8, w32, w64, Bor, MutBor}
-use Rattle.daq_model.specs.Events.{record_limit}
-use Rattle.daq_io.specs.Seen.{Seen}
-use Rattle.buffer_core.specs.Ports.{Access}
-use Rattle.buffer_core.specs.Slots.{some_slot}
-use Rattle.member_model.specs.Turns.{MemberTurn, NoneOpen, latest_answered}
-use Rattle.daq_types.specs.declared.runs.Transition.TheVariants.{Start, Stop, Pause, Resume, StartAbort}
-use Rattle.transitions.specs.declared.answers.Answer.TheVariants.{Yes}
-use Rattle.transitions.specs.declared.answers.Tally.TheVariants.{Plain}
-use Rattle.loggers.specs.Moments.{moment_of, IsLoggerReady, HaveFilesOpen, HaveEntries, AreIdle}
-use Rattle.loggers.specs.Turning.{TakesTurn, TakesStart, TakesStop, TakesMark, TakesAbort, StartsLogger, PausesBuffer, ResumesBuffer, is_run_on, is_started, is_of_start, buffers_begun, IsIdleOutside, start_answer, start_part}
-use Rattle.loggers.specs.Finishing.{FinishesLogger}
-use Rattle.loggers.specs.SlotPulls.{HasEventRoom, PullsNumbered}
-use Rattle.loggers.specs.NewLoggers.{HaveNumbers, HasNewChannels, HavePorts, AreUnused, NoneTakenBack}
-use Rattle.loggers.specs.LoggerStands.{LoggerStands, logger_turn}
+use Rattle.loggers.proofs.EndedReady.{ended_room}
+use Rattle.loggers.specs.Finishing.{LoggerFinish}
 use Rattle.loggers.proofs.logger.Logger.finish.Goals as goal
 
--- src/logger.rt:480:5
-pub returns-clause-ready : goal.returns-clause-ready
-returns-clause-ready g c = ?
-
--- src/logger.rt:480:5
-pub returns-clause-idle : goal.returns-clause-idle
-returns-clause-idle g c = ?
-
--- src/logger.rt:480:5
-pub returns-clause-keeps : goal.returns-clause-keeps
-returns-clause-keeps g c = ?
+pub returns : goal.returns
+returns g c =
+    let f : LoggerFinish = record {
+      run = c.args.self.now.run;
+      later_run = c.end_run.new.self.run;
+      stop_dump = c.args.self.now.stop_dump;
+      later_stop_dump = c.end_run.new.self.stop_dump;
+      slots = c.args.self.now.channels;
+      later_slots = c.end_run.new.self.channels;
+      files = record { seen = g.F.Files.seen c.args.files.now; faults = g.F.Files.faults c.args.files.now; clashes = g.F.Files.clashes c.args.files.now; first = g.F.Files.first c.args.files.now };
+      later_files = record { seen = g.F.Files.seen c.end_run.new.files; faults = g.F.Files.faults c.end_run.new.files; clashes = g.F.Files.clashes c.end_run.new.files; first = g.F.Files.first c.end_run.new.files };
+      answer = c.end_run.result;
+    } in
+    record {
+      finishes = c.end_run.ensures.finishes;
+      ready = c.end_run.ensures.ready;
+      idle = c.end_run.ensures.idle;
+      begun = c.end_run.ensures.begun;
+      room = λ ports room. ended_room f ports c.end_run.ensures.finishes room;
+      keeps = λ ports turns stands. c.finishes_keep.ensures f ports turns c.end_run.ensures.finishes c.requires.files stands;
+    }

@@ -1,40 +1,38 @@
-use Rattle.std.proofs.Common.{rules, ◌≡◌, ◌≤◌, ◌<◌, ℕ, List, [], ◌∷◌, if◌then◌else◌, length, map, unwrap_or, Option, Some, None, IfOk, IfSome, ◌+◌, ◌-◌, ◌*◌, ◌/◌, ◌%◌, Bool, true, false, nat_eq, nat_lt, ◌++◌, slice_index_or, slice_set, bit_and, bit_or, Fits, w8, w32, w64, Bor, MutBor}
+use Rattle.std.specs.Prelude.{◌≤◌, ℕ, IfSome, List, [], length, unwrap_or, Option, Some, None}
+use Rattle.std.proofs.Common.{arith, map}
 use Rattle.daq_model.specs.Events.{record_limit}
-use Rattle.daq_io.specs.Seen.{Seen}
-use Rattle.buffer_core.specs.Ports.{Access}
-use Rattle.buffer_core.specs.Slots.{some_slot}
-use Rattle.member_model.specs.Turns.{MemberTurn, NoneOpen, latest_answered}
-use Rattle.daq_types.specs.declared.runs.Transition.TheVariants.{Start, Stop, Pause, Resume, StartAbort}
-use Rattle.transitions.specs.declared.answers.Answer.TheVariants.{Yes}
-use Rattle.transitions.specs.declared.answers.Tally.TheVariants.{Plain}
-use Rattle.loggers.specs.Moments.{moment_of, IsLoggerReady, HaveFilesOpen, HaveEntries, AreIdle}
-use Rattle.loggers.specs.Turning.{TakesTurn, TakesStart, TakesStop, TakesMark, TakesAbort, StartsLogger, PausesBuffer, ResumesBuffer, is_run_on, is_started, is_of_start, buffers_begun, IsIdleOutside, start_answer, start_part}
-use Rattle.loggers.specs.Finishing.{FinishesLogger}
-use Rattle.loggers.specs.SlotPulls.{HasEventRoom, PullsNumbered}
-use Rattle.loggers.specs.NewLoggers.{HaveNumbers, HasNewChannels, HavePorts, AreUnused, NoneTakenBack}
-use Rattle.loggers.specs.LoggerStands.{LoggerStands, logger_turn}
+use Rattle.loggers.specs.Moments.{moment_of}
+use Rattle.loggers.specs.Turning.{LoggerTurn}
+use Rattle.loggers.proofs.SameShape.{turn_ports, turn_room}
 use Rattle.loggers.proofs.logger.Logger.on_turn.Goals as goal
 
--- src/logger.rt:144:5
-pub returns-in-Start-clause-keeps : goal.returns-in-Start-clause-keeps
-returns-in-Start-clause-keeps g c = ?
+-- a turn without a dump has a small one
+small_dump : (dump : Option (List ℕ)) → IfSome dump (λ bytes. length bytes ≤ record_limit) → length (unwrap_or dump []) ≤ record_limit
+small_dump None small = omega arith
+small_dump (Some bytes) small = small
 
--- src/logger.rt:144:5
-pub returns-in-Stop-clause-keeps : goal.returns-in-Stop-clause-keeps
-returns-in-Stop-clause-keeps g c = ?
-
--- src/logger.rt:144:5
-pub returns-in-Pause-clause-keeps : goal.returns-in-Pause-clause-keeps
-returns-in-Pause-clause-keeps g c = ?
-
--- src/logger.rt:144:5
-pub returns-in-Resume-clause-keeps : goal.returns-in-Resume-clause-keeps
-returns-in-Resume-clause-keeps g c = ?
-
--- src/logger.rt:144:5
-pub returns-in-StartAbort-clause-small : goal.returns-in-StartAbort-clause-small
-returns-in-StartAbort-clause-small g c = ?
-
--- src/logger.rt:144:5
-pub returns-in-StartAbort-clause-keeps : goal.returns-in-StartAbort-clause-keeps
-returns-in-StartAbort-clause-keeps g c = ?
+pub returns : goal.returns
+returns g c =
+    let t : LoggerTurn = record {
+      transition = c.args.transition;
+      order = c.args.order.now;
+      dump = c.args.dump;
+      answer = c.take_turn.result;
+      run = c.args.self.now.run;
+      later_run = c.take_turn.new.self.run;
+      stop_dump = c.args.self.now.stop_dump;
+      later_stop_dump = c.take_turn.new.self.stop_dump;
+      before = moment_of c.args.self.now.channels (map g.P.BufferPort.access c.args.ports.now) (g.F.Files.seen c.args.files.now) (g.F.Files.faults c.args.files.now) (g.F.Files.clashes c.args.files.now) (g.F.Files.first c.args.files.now);
+      after = moment_of c.take_turn.new.self.channels (map g.P.BufferPort.access c.take_turn.new.ports) (g.F.Files.seen c.take_turn.new.files) (g.F.Files.faults c.take_turn.new.files) (g.F.Files.clashes c.take_turn.new.files) (g.F.Files.first c.take_turn.new.files);
+    } in
+    record {
+      takes = c.take_turn.ensures.takes;
+      ready = c.take_turn.ensures.ready;
+      idle = c.take_turn.ensures.idle;
+      begun = c.take_turn.ensures.begun;
+      small = c.take_turn.ensures.small;
+      same = turn_ports t c.take_turn.ensures.takes;
+      room = turn_room t c.take_turn.ensures.takes;
+      keeps = λ turns answered none stands.
+          c.turns_keep.ensures t turns c.take_turn.ensures.takes (small_dump c.args.dump c.requires.small) c.requires.ready c.take_turn.ensures.ready c.requires.idle c.take_turn.ensures.idle answered none stands;
+    }
