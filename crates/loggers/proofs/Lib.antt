@@ -21,3 +21,4 @@ pub mod TurnedLogger
 pub mod CloseMoves
 pub mod FinishedLogger
 pub mod NewStands
+pub mod EndedReady
