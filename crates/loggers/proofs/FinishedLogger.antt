@@ -223,7 +223,7 @@ and_both : (a b : Bool) → (a && b) ≡ true → (a ≡ true) × (b ≡ true)
 and_both true b e = (refl, e)
 and_both false b e = absurd (cc (e))
 
-all_settled : (slots : List (Option Channel)) (n : ℕ) (c : Channel) → list_all is_settled_slot slots ≡ true → slot_at slots n ≡ Some c → is_settled_stage c.stage ≡ true
+pub all_settled : (slots : List (Option Channel)) (n : ℕ) (c : Channel) → list_all is_settled_slot slots ≡ true → slot_at slots n ≡ Some c → is_settled_stage c.stage ≡ true
 all_settled [] n c all stood = absurd (cc (stood))
 all_settled (o ∷ os) zero c all stood = subst (λ (x : Option Channel). is_settled_slot x ≡ true) stood (and_both (is_settled_slot o) (list_all is_settled_slot os) all).0
 all_settled (o ∷ os) (suc n) c all stood = all_settled os n c (and_both (is_settled_slot o) (list_all is_settled_slot os) all).1 stood

@@ -22,3 +22,4 @@ pub mod CloseMoves
 pub mod FinishedLogger
 pub mod NewStands
 pub mod TurnParts
+pub mod EndedReady
