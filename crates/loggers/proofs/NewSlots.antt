@@ -46,7 +46,7 @@ added_more specs rooms place slots c numbers new added =
             subst (λ (x : Channel). slot_at (slice_set slots c.spec.number (Some c)) x.spec.number ≡ Some x) (sym is) (slot_set_same slots c.spec.number (Some c) within)
         | inr ne ↦
             let apart : d.spec.number ≢ c.spec.number = λ e. numbers.differ other place at.spec new.spec at.has_spec new.has_spec ne
-                (sym (ap (λ (s : ChannelSpec). s.number) (spec_is specs rooms other d at)) ∙ (e ∙ number_is)) in
+            (sym (ap (λ (s : ChannelSpec). s.number) (spec_is specs rooms other d at)) ∙ (e ∙ number_is)) in
             slot_set_other slots c.spec.number d.spec.number (Some c) apart ∙ added.each other d (omega (arith, least, ne)) at
       ];
       only = λ n d there. elim (same_or_other n c.spec.number) as (λ w. (d.spec.number ≡ n) × ((k : ℕ) × IsNewChannel specs rooms k d)) [
@@ -91,7 +91,7 @@ put_more specs rooms before spec place k count slots later c numbers many fits n
     let here : length before ≡ place = omega (arith, back.2, next) in
     let so_far : AddedFrom specs rooms (place + 1) slots = subst (λ (n : ℕ). AddedFrom specs rooms n slots) next added in
     let has_spec : slice_get specs place ≡ Some spec =
-        slice_get-get_or specs place spec (omega (arith, fits, next)) ∙ ap (λ (s : ChannelSpec). Some s) (ap (λ (n : ℕ). get_or specs n spec) (sym here) ∙ back.0) in
+    slice_get-get_or specs place spec (omega (arith, fits, next)) ∙ ap (λ (s : ChannelSpec). Some s) (ap (λ (n : ℕ). get_or specs n spec) (sym here) ∙ back.0) in
     let new : IsNewChannel specs rooms place c = record {
       spec = spec;
       room = get_or rooms place 0;
@@ -100,8 +100,7 @@ put_more specs rooms before spec place k count slots later c numbers many fits n
       is = is ∙ ap (λ (n : ℕ). new_channel spec (get_or rooms n 0)) (count_is ∙ here);
     } in
     let number : c.spec.number ≡ spec.number = ap (λ (x : Channel). x.spec.number) is in
-    let now : AddedFrom specs rooms place (slice_set slots c.spec.number (Some c)) = added_more specs rooms place slots c numbers new so_far in
-    (
+    let now : AddedFrom specs rooms place (slice_set slots c.spec.number (Some c)) = added_more specs rooms place slots c numbers new so_far in (
       sym back.1 ∙ ap (λ (n : ℕ). take n specs) here,
       subst (λ (l : List (Option Channel)). AddedFrom specs rooms place l) (ap (λ (n : ℕ). slice_set slots n (Some c)) number ∙ sym put) now,
     )

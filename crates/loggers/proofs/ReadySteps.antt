@@ -1,5 +1,5 @@
 -- What the calls need stands behind each step.
-use Rattle.std.specs.Prelude.{◌≡◌, ◌≢◌, ◌≤◌, ◌<◌, ◌||◌, ◌==◌, ℕ, Bool, true, false, if◌then◌else◌, IsTrue, List, length, map, slice_get, slice_set, Option, Some, None, Result, Ok, Err, ◌⊎◌, ⊤, refl}
+use Rattle.std.specs.Prelude.{◌≡◌, ◌≢◌, ◌≤◌, ◌<◌, ◌||◌, ◌==◌, ℕ, Bool, true, false, if◌then◌else◌, IsTrue, List, length, map, slice_get, slice_set, Option, Some, None, Result, Ok, Err, OnOk, IfErr, ◌⊎◌, ⊤, refl}
 use Rattle.std.specs.Option.{option_map}
 use Rattle.std.proofs.Common.{ap, sym, subst, ◌∙◌, arith, inl, inr}
 use Rattle.std.proofs.lemmas.List.{length-map}
@@ -24,7 +24,9 @@ use Rattle.mid_logger.specs.Keeping.{ChangesFile, KeepsRun, OpensFile, PullsChan
 use Rattle.loggers.specs.Moments.{RunFiles, LoggerMoment, ChannelStep, StepsChannel, StepsSlot, StepsAt, CallsBuffer, MarksBuffer, noted_channel, HaveNumbersApart, HaveFilesOpen, IsLoggerReady, AreIdle, channel_limit}
 use Rattle.loggers.specs.ChannelSteps.{OpensChannel, AbortsChannel, PullsChannel, EndsChannel}
 use Rattle.loggers.specs.SlotPulls.{PullsSlot}
+use Rattle.loggers.specs.Finishing.{EndingMoment, EndsSlot}
 use Rattle.loggers.specs.Turning.{BeginsBuffer, RefusesBegin, EndsBuffer}
+use Rattle.loggers.proofs.StepEntries.{OpensSlot, RefusesSlot}
 use Rattle.loggers.proofs.SlotLists.{one_changed, many_set, same_or_other}
 
 -- Files.
@@ -91,8 +93,11 @@ pub step_ready : (Step : ChannelStep → Type 0) (n : ℕ) (before : Channel) (a
 step_ready Step n before a b s there spec files ready =
     let now : IsLoggerReady (slice_set a.slots n (Some s.after)) (slice_set a.ports before.spec.buffer s.later_port) b.files.seen = record {
       many = omega (arith, many_set a.slots n (Some s.after), ready.many);
-      served = λ m c stood. omega (arith, many_set a.ports before.spec.buffer s.later_port,
-          one_changed (λ k x. x.spec.buffer < length a.ports) a.slots n s.after (λ x e. subst (λ (sp : ChannelSpec). sp.buffer < length a.ports) (sym spec) (ready.served n before there)) (λ k x other e. ready.served k x e) before there m c stood);
+      served = λ m c stood. omega (
+        arith,
+        many_set a.ports before.spec.buffer s.later_port,
+        one_changed (λ k x. x.spec.buffer < length a.ports) a.slots n s.after (λ x e. subst (λ (sp : ChannelSpec). sp.buffer < length a.ports) (sym spec) (ready.served n before there)) (λ k x other e. ready.served k x e) before there m c stood,
+      );
       files = files;
     } in
     rw (s.slots, s.ports) now
@@ -140,9 +145,9 @@ settled_written (Broken run) = inl refl
 -- the file of a stage that is not settled stays in use
 settled_file : (spec : ChannelSpec) (stage : ChannelStage) (old new : Seen) → (written_run (stage_settled stage) ≡ None) ⊎ (new ≡ old) → IsOpenFile old spec (written_run stage) → IsOpenFile new spec (written_run (stage_settled stage))
 settled_file spec Idle old new either file = tt
-settled_file spec (Asking opened) old new either file = elim either as (λ w. IsOpenFile new spec (Some opened)) [ | inl none ↦ absurd (cc (none)) | inr same ↦ subst (λ (s : Seen). IsOpenFile s spec (Some opened)) (sym same) file ]
-settled_file spec (Writing opened begun) old new either file = elim either as (λ w. IsOpenFile new spec (Some opened)) [ | inl none ↦ absurd (cc (none)) | inr same ↦ subst (λ (s : Seen). IsOpenFile s spec (Some opened)) (sym same) file ]
-settled_file spec (Draining run) old new either file = elim either as (λ w. IsOpenFile new spec (Some run.opened)) [ | inl none ↦ absurd (cc (none)) | inr same ↦ subst (λ (s : Seen). IsOpenFile s spec (Some run.opened)) (sym same) file ]
+settled_file spec (Asking opened) old new either file = elim either as (λ w. IsOpenFile new spec (Some opened)) [ inl none ↦ absurd (cc (none)) | inr same ↦ subst (λ (s : Seen). IsOpenFile s spec (Some opened)) (sym same) file ]
+settled_file spec (Writing opened begun) old new either file = elim either as (λ w. IsOpenFile new spec (Some opened)) [ inl none ↦ absurd (cc (none)) | inr same ↦ subst (λ (s : Seen). IsOpenFile s spec (Some opened)) (sym same) file ]
+settled_file spec (Draining run) old new either file = elim either as (λ w. IsOpenFile new spec (Some run.opened)) [ inl none ↦ absurd (cc (none)) | inr same ↦ subst (λ (s : Seen). IsOpenFile s spec (Some run.opened)) (sym same) file ]
 settled_file spec (Drained run) old new either file = tt
 settled_file spec (Broken run) old new either file = tt
 
@@ -153,9 +158,9 @@ pub opened_files : (slots : List (Option Channel)) (n : ℕ) (before after : Cha
     → ((r : ChannelRun) → written_run after.stage ≡ Some r → old.writes r.file ≡ false) → HaveFilesOpen slots old → HaveFilesOpen (slice_set slots n (Some after)) new
 opened_files slots n before after name old new there opens file fresh open_before =
     let used : (m : ℕ) (c : Channel) (s : ChannelRun) → slot_at slots m ≡ Some c → written_run c.stage ≡ Some s → IsTrue (old.writes s.file) =
-        λ m c s stood is. (subst (λ (w : Option ChannelRun). IsOpenFile old c.spec w) is (open_before.files m c stood)).0 in
+    λ m c s stood is. (subst (λ (w : Option ChannelRun). IsOpenFile old c.spec w) is (open_before.files m c stood)).0 in
     let apart : (m : ℕ) (c : Channel) → slot_at slots m ≡ Some c → HaveNumbersApart (written_run after.stage) (written_run c.stage) =
-        λ m c stood r s is other_is same. (let never : true ≡ false = sym (used m c s stood other_is) ∙ (ap (λ (k : ℕ). old.writes k) (sym same) ∙ fresh r is) in cc (never)) in
+    λ m c stood r s is other_is same. (let never : true ≡ false = sym (used m c s stood other_is) ∙ (ap (λ (k : ℕ). old.writes k) (sym same) ∙ fresh r is) in cc (never)) in
     record {
       files = one_changed (λ m c. IsOpenFile new c.spec (written_run c.stage)) slots n after (λ b stood. file)
           (λ m c other stood. open_left c.spec old new (written_run c.stage) (λ s is in_use_before. opens.numbers s.file in_use_before) (open_before.files m c stood)) before there;
@@ -292,7 +297,7 @@ ended_files change time dump state slots n before after files later there ends o
     let spec : after.spec ≡ before.spec = ap (λ (c : Channel). c.spec) ends.channel in
     let stage : after.stage ≡ stage_settled before.stage = ap (λ (c : Channel). c.stage) ends.channel in
     let closed : IsOpenFile later.seen before.spec (written_run (stage_settled before.stage)) =
-        settled_file before.spec before.stage files.seen later.seen (none_or_same before.stage state time dump files.seen later.seen files.faults later.faults ends.ends) file in
+    settled_file before.spec before.stage files.seen later.seen (none_or_same before.stage state time dump files.seen later.seen files.faults later.faults ends.ends) file in
     files_kept slots n before after files.seen later.seen there
     (record {
       spec = spec;
@@ -300,3 +305,21 @@ ended_files change time dump state slots n before after files later there ends o
       changes = change before.spec before.stage state time dump files.seen later.seen files.faults later.faults ends.ends file;
       file = rw (spec, stage) closed;
     }) open_before
+
+-- A slot by its number.
+
+pub opened_at : OpensChange → (order : Order) (dump : List ℕ) (r : Result ⊤ Why) (n : ℕ) (slot later : Option Channel) (slots : List (Option Channel)) (ports later_ports : List Access) (files later_files : RunFiles) → slot_at slots n ≡ slot → ((c : Channel) → slot ≡ Some c → c.stage ≡ Idle)
+    → OnOk r (OpensSlot order dump slot later ports later_ports files later_files) → IfErr r (RefusesSlot order dump slot later ports later_ports files later_files) → IsLoggerReady slots ports files.seen → IsLoggerReady (slice_set slots n later) later_ports later_files.seen
+opened_at change order dump (Ok done) n None later slots ports later_ports files later_files there idle opens refuses ready =
+    subst (λ (m : LoggerMoment). IsLoggerReady m.slots m.ports m.files.seen) (sym (opens slots n there)) ready
+opened_at change order dump (Ok done) n (Some c) later slots ports later_ports files later_files there idle opens refuses ready =
+    opened_ready change order dump (Ok tt) n c _ _ there (idle c refl) (opens slots n there) ready
+opened_at change order dump (Err why) n slot later slots ports later_ports files later_files there idle opens refuses ready =
+    opened_ready change order dump (Err why) n refuses.0 _ _ (there ∙ refuses.1) (idle refuses.0 refuses.1) (refuses.2 slots n there) ready
+
+pub ended_at : ClosesChange → (time : ℕ) (dump : Option (List ℕ)) (n : ℕ) (slot later : Option Channel) (slots : List (Option Channel)) (files later_files : RunFiles) (states later_states : List ChannelState) → slot_at slots n ≡ slot
+    → EndsSlot time dump n slot (record { slots = slots; files = files; states = states }) (record { slots = slice_set slots n later; files = later_files; states = later_states })
+    → HaveFilesOpen slots files.seen → HaveFilesOpen (slice_set slots n later) later_files.seen
+ended_at change time dump n None later slots files later_files states later_states there ends in_use_before = subst (λ (m : EndingMoment). HaveFilesOpen m.slots m.files.seen) (sym ends) in_use_before
+ended_at change time dump n (Some before) later slots files later_files states later_states there ends in_use_before =
+    subst (λ (l : List (Option Channel)). HaveFilesOpen l later_files.seen) (sym ends.slots) (ended_files change time dump ends.state slots n before ends.after files later_files there ends.ends in_use_before)

@@ -1,5 +1,5 @@
 -- One step of a channel, over any ports: what it does to the lists, and how many calls it notes.
-use Rattle.std.specs.Prelude.{◌≡◌, ◌≢◌, ◌≤◌, ◌+◌, ◌==◌, ℕ, Bool, true, false, if◌then◌else◌, List, length, map, slice_get, slice_set, Option, Some, None, Result, Ok, Err, ⊤, refl}
+use Rattle.std.specs.Prelude.{◌≡◌, ◌≢◌, ◌≤◌, ◌<◌, ◌+◌, ◌==◌, ℕ, Bool, true, false, if◌then◌else◌, List, length, map, slice_get, slice_set, Option, Some, None, Result, Ok, Err, ◌⊎◌, OnOk, IfErr, nat_lt, ⊤, refl}
 use Rattle.std.specs.Option.{option_map}
 use Rattle.std.proofs.Common.{ap, sym, subst, ◌∙◌, arith, inl, inr, get_or}
 use Rattle.std.proofs.lemmas.Bool.{eqb-true, eqb-false}
@@ -8,17 +8,25 @@ use Rattle.std.proofs.lemmas.Option.{slice_get-map, slice_get-get_or, get_or_fro
 use Rattle.daq_types.specs.declared.runs.Order.{Order}
 use Rattle.daq_types.specs.declared.runs.Why.{Why}
 use Rattle.daq_types.specs.declared.runs.Why.TheVariants.{NotReady, Exists, Fault, BufferRefused}
+use Rattle.daq_types.specs.declared.events.Event.{Event}
 use Rattle.buffer_core.specs.declared.entry.BufferEntry.{BufferEntry}
+use Rattle.buffer_core.specs.declared.replies.Received.{Received}
+use Rattle.buffer_core.specs.declared.replies.Received.TheVariants.{Got, Empty, NoClient, SmallBuf}
 use Rattle.buffer_core.specs.Ports.{Access, Calls}
 use Rattle.buffer_core.specs.Slots.{slot_at}
 use Rattle.buffer_core.specs.SlotLaws.{split, slot_set_other}
 use Rattle.mid_logger.specs.declared.channel.Channel.{Channel}
 use Rattle.mid_logger.specs.declared.channel_spec.ChannelSpec.{ChannelSpec}
+use Rattle.mid_logger.specs.declared.pulled.Pulled.{Pulled}
+use Rattle.mid_logger.specs.declared.stage.BegunRun.{BegunRun}
 use Rattle.mid_logger.specs.declared.stage.ChannelRun.{ChannelRun}
+use Rattle.mid_logger.specs.Channels.{CancelsRequest, is_behind_end}
+use Rattle.mid_logger.specs.Pulls.{PullOf, TakesBy, FindsNone, TakesReply, PullsIn, drains_at_none}
 use Rattle.mid_logger.specs.ChannelTurns.{ChannelAt, HasClient, MakesRequest, AsksEvents, RefusesRun, OpensBy, asking_run}
 use Rattle.mid_logger.specs.ChannelEnds.{CancelsStanding}
 use Rattle.loggers.specs.Moments.{RunFiles, LoggerMoment, ChannelStep, StepsChannel, StepsSlot, StepsAt, LeavesOthers, UseEntries, CallsBuffer, UsesEntry}
-use Rattle.loggers.specs.ChannelSteps.{OpensChannel, AbortsChannel}
+use Rattle.loggers.specs.ChannelSteps.{OpensChannel, AbortsChannel, PullsChannel}
+use Rattle.loggers.specs.SlotPulls.{PullsSlot}
 use Rattle.loggers.proofs.SlotLists.{got_there, got_elsewhere, same_or_other}
 
 -- The lists.
@@ -148,7 +156,7 @@ refusal_entries spec name (Exists channel) a b refuses = same_entries a.port b.p
 refusal_entries spec name (Fault channel) a b refuses = same_entries a.port b.port refuses.1.port
 refusal_entries spec name BufferRefused a b refuses = asks_entries spec a.client b.client None a.port b.port refuses.0
 
-by_entries : (spec : ChannelSpec) (order : Order) (dump : List ℕ) (r : Result ⊤ Why) (a b : ChannelAt) → OpensBy r spec order dump a b → a.port.entries ≤ b.port.entries + 2
+pub by_entries : (spec : ChannelSpec) (order : Order) (dump : List ℕ) (r : Result ⊤ Why) (a b : ChannelAt) → OpensBy r spec order dump a b → a.port.entries ≤ b.port.entries + 2
 by_entries spec order dump (Ok done) a b opens = asks_entries spec a.client b.client (Some opens.asks.request) a.port b.port opens.asks.asks
 by_entries spec order dump (Err why) a b opens = refusal_entries spec _ why a b opens.1
 
@@ -156,10 +164,79 @@ by_entries spec order dump (Err why) a b opens = refusal_entries spec _ why a b 
 pub opens_entries : (order : Order) (dump : List ℕ) (r : Result ⊤ Why) (s : ChannelStep) → OpensChannel order dump r s → s.port.entries ≤ s.later_port.entries + 2
 opens_entries order dump r s opens = by_entries s.before.spec order dump r _ _ opens.opens
 
-cancels_entries : (standing : Option ChannelRun) (a b : Access) → CancelsStanding standing a b → a.entries ≤ b.entries + 1
+pub cancels_entries : (standing : Option ChannelRun) (a b : Access) → CancelsStanding standing a b → a.entries ≤ b.entries + 1
 cancels_entries None a b cancels = subst (λ (x : Access). a.entries ≤ x.entries + 1) (sym cancels) (omega arith)
 cancels_entries (Some opened) a b cancels = cancels.1.entries
 
 -- a channel that calls its run off notes at most one
 pub aborts_entries : (s : ChannelStep) → AbortsChannel s → s.port.entries ≤ s.later_port.entries + 1
 aborts_entries s aborts = cancels_entries (asking_run s.before.stage) s.port s.later_port aborts.cancels
+
+-- A pull notes at most two calls.
+
+cancel_entries : (a b : Access) (opened : ChannelRun) → CancelsRequest a b opened → a.entries ≤ b.entries + 1
+cancel_entries a b opened cancels = cancels.1.entries
+
+quiet_entries : (a b : Access) → b ≡ a → a.entries ≤ b.entries + 1
+quiet_entries a b same = subst (λ (x : Access). a.entries ≤ x.entries + 1) (sym same) (omega arith)
+
+takes_entries : (p : PullOf) (run : BegunRun) (place : ℕ) (e : Event) (behind early : Bool) → TakesBy behind early p run place e → p.port.entries ≤ p.later_port.entries + 1
+takes_entries p run place e true early takes = cancel_entries p.port p.later_port run.opened takes.port
+takes_entries p run place e false true takes = quiet_entries p.port p.later_port takes.port
+takes_entries p run place e false false takes = elim takes as (λ w. p.port.entries ≤ p.later_port.entries + 1) [
+  | inl writes ↦ quiet_entries p.port p.later_port writes.port
+  | inr breaks ↦ cancel_entries p.port p.later_port run.opened breaks.port
+]
+
+none_entries : (p : PullOf) (run : BegunRun) (drains : Bool) → FindsNone drains p run → p.port.entries ≤ p.later_port.entries + 1
+none_entries p run true found = cancel_entries p.port p.later_port run.opened found.port
+none_entries p run false found = quiet_entries p.port p.later_port found.port
+
+reply_entries : (p : PullOf) (run : BegunRun) (reply : Received) (e : Event) → TakesReply p run reply e → p.port.entries ≤ p.later_port.entries + 1
+reply_entries p run (Got place start) e taken = takes_entries p run place e (is_behind_end run.ended place) (nat_lt place run.begun) taken
+reply_entries p run (Empty gate last) e taken = none_entries p run (drains_at_none p.stage) taken
+reply_entries p run NoClient e taken = quiet_entries p.port p.later_port taken.port
+reply_entries p run (SmallBuf need) e taken = absurd taken
+
+pub pulls_entries : (p : PullOf) (room : ℕ) (reads : Option BegunRun) → PullsIn reads p room → p.port.entries ≤ p.later_port.entries + 2
+pulls_entries p room None pulls = omega (arith, quiet_entries p.port p.later_port pulls.port)
+pulls_entries p room (Some run) pulls =
+    omega (arith, pulls.received.entries, reply_entries (record p { port = pulls.middle }) run pulls.reply pulls.event pulls.taken)
+
+-- Slots.
+
+pub slot_pulls : (answer : Pulled) (n : ℕ) (slot : Option Channel) (before : Channel) (a b : LoggerMoment) → slot ≡ Some before → StepsChannel (PullsChannel answer) n before a b → PullsSlot slot n answer a b
+slot_pulls answer n slot before a b is step = subst (λ (o : Option Channel). PullsSlot o n answer a b) (sym is) step
+
+-- the moments before and behind a step of a slot
+abbrev pub slot_before : (ports : List Access) → (files : RunFiles) → List (Option Channel) → LoggerMoment
+slot_before ports files slots = record { slots = slots; ports = ports; files = files }
+
+abbrev pub slot_behind : (later : Option Channel) → (ports : List Access) → (files : RunFiles) → List (Option Channel) → (number : ℕ) → LoggerMoment
+slot_behind later ports files slots number = record { slots = slice_set slots number later; ports = ports; files = files }
+
+-- a slot opens the run, whatever the other slots are
+abbrev pub OpensSlot : Order → (dump : List ℕ) → (slot later : Option Channel) → (ports later_ports : List Access) → (files later_files : RunFiles) → Type 0
+OpensSlot order dump slot later ports later_ports files later_files =
+    (slots : List (Option Channel)) → (number : ℕ) → slot_at slots number ≡ slot → StepsSlot (OpensChannel order dump (Ok tt)) number slot (slot_before ports files slots) (slot_behind later later_ports later_files slots number)
+
+abbrev pub RefusesSlot : Order → (dump : List ℕ) → (slot later : Option Channel) → (ports later_ports : List Access) → (files later_files : RunFiles) → Why → Type 0
+RefusesSlot order dump slot later ports later_ports files later_files why =
+    (c : Channel) × (slot ≡ Some c) × ((slots : List (Option Channel)) → (number : ℕ) → slot_at slots number ≡ slot → StepsChannel (OpensChannel order dump (Err why)) number c (slot_before ports files slots) (slot_behind later later_ports later_files slots number))
+
+pub slot_opens : {P : Type 0} (access : P → Access) (order : Order) (dump : List ℕ) (r : Result ⊤ Why) (slot : Option Channel) (before after : Channel) (ports : List P) (p q : P) (files later : RunFiles) → slot ≡ Some before → slice_get ports before.spec.buffer ≡ Some p
+    → OpensChannel order dump r (record { before = before; after = after; port = access p; later_port = access q; files = files; later_files = later })
+    → OnOk r (OpensSlot order dump slot (Some after) (map access ports) (map access (slice_set ports before.spec.buffer q)) files later)
+slot_opens {P} access order dump (Ok done) slot before after ports p q files later is there opens = λ slots number at.
+    slot_steps (OpensChannel order dump (Ok tt)) number slot before _ _ is (stepped (OpensChannel order dump (Ok tt)) access number before after slots ports p q files later there opens)
+slot_opens {P} access order dump (Err why) slot before after ports p q files later is there opens = tt
+
+pub slot_refuses : {P : Type 0} (access : P → Access) (order : Order) (dump : List ℕ) (r : Result ⊤ Why) (slot : Option Channel) (before after : Channel) (ports : List P) (p q : P) (files later : RunFiles) → slot ≡ Some before → slice_get ports before.spec.buffer ≡ Some p
+    → OpensChannel order dump r (record { before = before; after = after; port = access p; later_port = access q; files = files; later_files = later })
+    → IfErr r (RefusesSlot order dump slot (Some after) (map access ports) (map access (slice_set ports before.spec.buffer q)) files later)
+slot_refuses {P} access order dump (Ok done) slot before after ports p q files later is there opens = tt
+slot_refuses {P} access order dump (Err why) slot before after ports p q files later is there opens = (
+  before,
+  is,
+  λ slots number at. stepped (OpensChannel order dump (Err why)) access number before after slots ports p q files later there opens,
+)

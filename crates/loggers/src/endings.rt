@@ -42,24 +42,24 @@ fn end_slot<F: Files>(
     requires small { IfSome dump.now (λ bytes. length bytes ≤ record_limit) }
     ensures ends { (slots : List (Option a_channel)) → slot_at slots number ≡ slot.old →
         EndsSlot time dump.now number slot.old (record {
-      slots = slots;
-      files = record {
-        seen = F.seen files.old;
-        faults = F.faults files.old;
-        clashes = F.clashes files.old;
-        first = F.first files.old;
-      };
-      states = states.old;
-    }) (record {
-      slots = slice_set slots number slot.new;
-      files = record {
-        seen = F.seen files.new;
-        faults = F.faults files.new;
-        clashes = F.clashes files.new;
-        first = F.first files.new;
-      };
-      states = states.new;
-    }) }
+          slots = slots;
+          files = record {
+            seen = F.seen files.old;
+            faults = F.faults files.old;
+            clashes = F.clashes files.old;
+            first = F.first files.old;
+          };
+          states = states.old;
+        }) (record {
+          slots = slice_set slots number slot.new;
+          files = record {
+            seen = F.seen files.new;
+            faults = F.faults files.new;
+            clashes = F.clashes files.new;
+            first = F.first files.new;
+          };
+          states = states.new;
+        }) }
 {
     if let Some(channel) = slot {
         states[number] = channel.close(files, time, dump);

@@ -475,6 +475,8 @@ impl Logger {
         ensures ready { IsLoggerReady self.new.channels (map P.access ports.new) (F.seen files.new) }
         ensures idle { IsIdleOutside self.new.run self.new.channels }
         ensures begun { buffers_begun self.new.run ≤ length ports.new }
+        ensures small { IfSome self.old.stop_dump (λ bytes. length bytes ≤ record_limit) →
+            IfSome self.new.stop_dump (λ bytes. length bytes ≤ record_limit) }
     {
         let Some(begun) = begun_in(self.run, order.start) else {
             return plain();
@@ -500,10 +502,10 @@ impl Logger {
         requires idle { IsIdleOutside self.old.run self.old.channels }
         requires room { HasEventRoom channel self.old.channels (map P.access ports.old) }
         ensures pulls { PullsNumbered channel result
-        (moment_of self.old.channels (map P.access ports.old) (F.seen files.old)
-        (F.faults files.old) (F.clashes files.old) (F.first files.old))
-        (moment_of self.new.channels (map P.access ports.new) (F.seen files.new)
-        (F.faults files.new) (F.clashes files.new) (F.first files.new)) }
+            (moment_of self.old.channels (map P.access ports.old) (F.seen files.old)
+            (F.faults files.old) (F.clashes files.old) (F.first files.old))
+            (moment_of self.new.channels (map P.access ports.new) (F.seen files.new)
+            (F.faults files.new) (F.clashes files.new) (F.first files.new)) }
         ensures run { self.new.run ≡ self.old.run }
         ensures stop_dump { self.new.stop_dump ≡ self.old.stop_dump }
         ensures ready { IsLoggerReady self.new.channels (map P.access ports.new) (F.seen files.new) }

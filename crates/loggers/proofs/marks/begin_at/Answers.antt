@@ -27,7 +27,7 @@ pub returns-in-Err-clause-refuses : goal.returns-in-Err-clause-refuses
 returns-in-Err-clause-refuses g c = λ files. (
   _,
   called_at g.P.BufferPort.access _ c.args.buffer c.args.slots.now c.args.ports.now c.in-Some.port.now c.begin.new.self files
-  (lent_at c.args.ports.now c.args.buffer c.in-Some.port.now c.requires.within c.in-Some.ensures.entry.1) c.in-Err.ensures,
+      (lent_at c.args.ports.now c.args.buffer c.in-Some.port.now c.requires.within c.in-Some.ensures.entry.1) c.in-Err.ensures,
 )
 
 pub returns-in-Err-clause-entries : goal.returns-in-Err-clause-entries

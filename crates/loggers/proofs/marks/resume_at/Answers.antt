@@ -12,7 +12,7 @@ pub returns-clause-resumes : goal.returns-clause-resumes
 returns-clause-resumes g c = λ slots files. (
   c.resume.result,
   called_at g.P.BufferPort.access _ c.args.buffer slots c.args.ports.now c.in-Some.port.now c.resume.new.self files
-  (lent_at c.args.ports.now c.args.buffer c.in-Some.port.now c.requires.within c.in-Some.ensures.entry.1) c.resume.ensures,
+      (lent_at c.args.ports.now c.args.buffer c.in-Some.port.now c.requires.within c.in-Some.ensures.entry.1) c.resume.ensures,
 )
 
 pub returns-clause-entries : goal.returns-clause-entries

@@ -16,5 +16,10 @@ abort_all-requires-in-Err-begin_all-clause-entries g c =
 
 pub returns-in-Err-begin_all-clause-begun : goal.returns-in-Err-begin_all-clause-begun
 returns-in-Err-begin_all-clause-begun g c =
-    omega (arith, (c.in-Err-begin_all.ensures.refuses (files_with (g.F.Files.seen c.open_all.new.files))).within, length-map c.open_all.new.ports g.P.BufferPort.access, c.begin_all.ensures.count,
-    c.abort_all-in-Err-begin_all.ensures.count)
+    omega (
+      arith,
+      (c.in-Err-begin_all.ensures.refuses (files_with (g.F.Files.seen c.open_all.new.files))).within,
+      length-map c.open_all.new.ports g.P.BufferPort.access,
+      c.begin_all.ensures.count,
+      c.abort_all-in-Err-begin_all.ensures.count,
+    )
