@@ -1,3 +1,5 @@
 pub mod NotesKept
 pub mod WatchSlots
 pub mod Due
+pub mod StepLemmas
+mod Few
