@@ -21,7 +21,7 @@ use Rattle.mid_logger.specs.declared.channel.Channel.{Channel}
 use Rattle.mid_logger.specs.declared.stage.BegunRun.{BegunRun}
 use Rattle.mid_logger.specs.declared.stage.ChannelRun.{ChannelRun}
 use Rattle.mid_logger.specs.declared.stage.ChannelStage.{ChannelStage}
-use Rattle.mid_logger.specs.declared.stage.ChannelStage.TheVariants.{Idle, Asking, Writing, Draining, Drained, Broken}
+use Rattle.mid_logger.specs.declared.stage.ChannelStage.TheVariants.{Idle, Writing, Draining, Drained, Broken}
 use Rattle.mid_logger.specs.Patterns.{file_name_by}
 use Rattle.mid_logger.specs.Channels.{FileHead, KeepsOwnCalls, ChannelStands, channel_run, written_run}
 use Rattle.mid_logger.specs.ChannelEnds.{HasLeftRead, state_ended}
