@@ -9,8 +9,8 @@ use Rattle.loggers.specs.Finishing.{LoggerFinish, FinishesLogger}
 use Rattle.loggers.specs.NewLoggers.{NoneTakenBack}
 use Rattle.loggers.specs.LoggerStands.{logger_turn, LoggerStands}
 
--- Behind a turn that comes once the latest was answered the logger stands with that turn and its answer, where no client of it
--- is known to be detached by another.
+-- Behind a turn that comes once the latest was answered the logger stands with that turn and its answer, where no
+-- client of it is known to be detached by another.
 abbrev pub TurnsKeep : Type 0
 TurnsKeep = (t : LoggerTurn) → (turns : List MemberTurn) → TakesTurn t → length (unwrap_or t.dump []) ≤ record_limit →
     IsLoggerReady t.before.slots t.before.ports t.before.files.seen →
