@@ -1,22 +1,19 @@
 -- What the calls need, and that every channel is idle, behind the ending of the files.
-use Rattle.std.specs.Prelude.{◌≡◌, ◌≢◌, ◌≤◌, ◌<◌, ◌-◌, ℕ, zero, suc, Bool, true, false, min, List, length, slice_get, slice_set, Option, Some, None, ◌⊎◌, refl}
+use Rattle.std.specs.Prelude.{◌≡◌, ◌≢◌, ◌≤◌, ◌<◌, ◌-◌, ℕ, zero, suc, Bool, true, false, min, List, length, slice_get, slice_set, Option, Some, None, refl}
 use Rattle.std.specs.List.{list_all}
-use Rattle.std.proofs.Common.{ap, sym, subst, ◌∙◌, arith, inl, inr}
+use Rattle.std.proofs.Common.{ap, sym, subst, ◌∙◌, arith}
 use Rattle.std.proofs.lemmas.List.{length-set}
-use Rattle.daq_types.specs.declared.runs.ChannelState.{ChannelState}
 use Rattle.daq_model.specs.Events.{event_limit}
-use Rattle.daq_io.specs.Seen.{Seen}
 use Rattle.buffer_core.specs.Ports.{Access}
 use Rattle.buffer_core.specs.Slots.{slot_at}
 use Rattle.buffer_core.specs.SlotLaws.{slot_within}
 use Rattle.mid_logger.specs.declared.channel.Channel.{Channel}
 use Rattle.mid_logger.specs.declared.channel_spec.ChannelSpec.{ChannelSpec}
-use Rattle.mid_logger.specs.declared.stage.ChannelStage.{ChannelStage}
 use Rattle.mid_logger.specs.declared.stage.ChannelStage.TheVariants.{Idle}
 use Rattle.loggers.specs.Moments.{InTurn, HaveFilesOpen, IsLoggerReady, AreIdle}
 use Rattle.loggers.specs.SlotPulls.{HasEventRoom}
-use Rattle.loggers.specs.Finishing.{is_settled_stage, is_settled_slot, waiting_stop, EndingMoment, EndsNumbered, EndsSlot, EndsSlotAt, LoggerFinish, FinishesBy, FinishesLogger}
-use Rattle.loggers.proofs.SlotLists.{same_or_other, one_changed}
+use Rattle.loggers.specs.Finishing.{is_settled_stage, is_settled_slot, waiting_stop, EndingMoment, EndsSlot, EndsSlotAt, LoggerFinish, FinishesBy, FinishesLogger}
+use Rattle.loggers.proofs.SlotLists.{one_changed}
 use Rattle.loggers.proofs.CloseMoves.{settled_idle}
 use Rattle.loggers.proofs.FinishedLogger.{all_settled}
 

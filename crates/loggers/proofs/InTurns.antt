@@ -1,6 +1,6 @@
 -- Steps one after another, and the room to note calls.
-use Rattle.std.specs.Prelude.{◌≡◌, ◌≢◌, ◌≤◌, ◌<◌, ◌+◌, ◌==◌, ℕ, zero, suc, if◌then◌else◌, nat_lt, List, length, slice_get, Some, refl}
-use Rattle.std.proofs.Common.{ap, sym, subst, ◌∙◌, add-one, arith, get_or}
+use Rattle.std.specs.Prelude.{◌≡◌, ◌≤◌, ◌+◌, ◌==◌, ℕ, zero, suc, if◌then◌else◌, nat_lt, List, length, slice_get, Some, refl}
+use Rattle.std.proofs.Common.{sym, subst, ◌∙◌, add-one, arith, get_or}
 use Rattle.std.proofs.lemmas.Option.{slice_get_within, slice_get-get_or}
 use Rattle.buffer_core.specs.Ports.{Access}
 use Rattle.loggers.specs.Moments.{InTurn, HaveEntries, UseEntries, HasEntry, UsesEntry}

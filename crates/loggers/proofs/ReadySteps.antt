@@ -1,5 +1,5 @@
 -- What the calls need stands behind each step.
-use Rattle.std.specs.Prelude.{◌≡◌, ◌≢◌, ◌≤◌, ◌<◌, ◌||◌, ◌==◌, ℕ, Bool, true, false, if◌then◌else◌, IsTrue, List, length, map, slice_get, slice_set, Option, Some, None, Result, Ok, Err, OnOk, IfErr, ◌⊎◌, ⊤, refl}
+use Rattle.std.specs.Prelude.{◌≡◌, ◌≢◌, ◌<◌, ◌||◌, ◌==◌, ℕ, Bool, true, false, if◌then◌else◌, IsTrue, List, length, map, slice_set, Option, Some, None, Result, Ok, Err, OnOk, IfErr, ◌⊎◌, ⊤, refl}
 use Rattle.std.specs.Option.{option_map}
 use Rattle.std.proofs.Common.{ap, sym, subst, ◌∙◌, arith, inl, inr}
 use Rattle.std.proofs.lemmas.List.{length-map}
@@ -9,7 +9,7 @@ use Rattle.daq_types.specs.declared.runs.Why.{Why}
 use Rattle.daq_io.specs.Seen.{Seen, KeepsNumber}
 use Rattle.buffer_core.specs.declared.entry.BufferEntry.{BufferEntry}
 use Rattle.buffer_core.specs.Ports.{Access}
-use Rattle.buffer_core.specs.Slots.{slot_at, change_all}
+use Rattle.buffer_core.specs.Slots.{slot_at}
 use Rattle.buffer_core.specs.SlotLaws.{slot_change_all}
 use Rattle.mid_logger.specs.declared.channel.Channel.{Channel}
 use Rattle.mid_logger.specs.declared.channel_spec.ChannelSpec.{ChannelSpec}
@@ -20,14 +20,14 @@ use Rattle.mid_logger.specs.declared.stage.ChannelStage.TheVariants.{Idle, Askin
 use Rattle.mid_logger.specs.Channels.{IsOpenFile, channel_run, written_run, stage_begun, stage_ended, place_marked}
 use Rattle.mid_logger.specs.ChannelTurns.{drained_run}
 use Rattle.mid_logger.specs.ChannelEnds.{ClosesFile, stage_settled}
-use Rattle.mid_logger.specs.Keeping.{ChangesFile, KeepsRun, OpensFile, PullsChange, AbortsChange, ClosesChange, OpensChange}
-use Rattle.loggers.specs.Moments.{RunFiles, LoggerMoment, ChannelStep, StepsChannel, StepsSlot, StepsAt, CallsBuffer, MarksBuffer, noted_channel, HaveNumbersApart, HaveFilesOpen, IsLoggerReady, AreIdle, channel_limit}
+use Rattle.mid_logger.specs.Keeping.{ChangesFile, OpensFile, PullsChange, AbortsChange, ClosesChange, OpensChange}
+use Rattle.loggers.specs.Moments.{RunFiles, LoggerMoment, ChannelStep, StepsChannel, StepsSlot, CallsBuffer, MarksBuffer, noted_channel, HaveNumbersApart, HaveFilesOpen, IsLoggerReady}
 use Rattle.loggers.specs.ChannelSteps.{OpensChannel, AbortsChannel, PullsChannel, EndsChannel}
 use Rattle.loggers.specs.SlotPulls.{PullsSlot}
 use Rattle.loggers.specs.Finishing.{EndingMoment, EndsSlot}
 use Rattle.loggers.specs.Turning.{BeginsBuffer, RefusesBegin, EndsBuffer}
 use Rattle.loggers.proofs.StepEntries.{OpensSlot, RefusesSlot}
-use Rattle.loggers.proofs.SlotLists.{one_changed, many_set, same_or_other}
+use Rattle.loggers.proofs.SlotLists.{one_changed, many_set}
 
 -- Files.
 

@@ -1,5 +1,5 @@
 -- Each step leaves which channels there are, with their room for events, and to which buffers the ports lead.
-use Rattle.std.specs.Prelude.{◌≡◌, ◌≢◌, ◌≤◌, ◌-◌, ◌==◌, ℕ, Bool, true, false, if◌then◌else◌, nat_lt, min, List, length, map, slice_get, slice_set, Option, Some, None, Result, Ok, Err, ◌⊎◌, ⊤, refl}
+use Rattle.std.specs.Prelude.{◌≡◌, ◌==◌, ℕ, Bool, true, false, if◌then◌else◌, nat_lt, List, length, slice_get, slice_set, Option, Some, None, Result, Ok, Err, ⊤, refl}
 use Rattle.std.specs.Option.{option_map}
 use Rattle.std.proofs.Common.{ap, sym, subst, ◌∙◌, inl, inr}
 use Rattle.daq_types.specs.declared.events.Event.{Event}
@@ -8,7 +8,6 @@ use Rattle.daq_types.specs.declared.runs.Transition.{Transition}
 use Rattle.daq_types.specs.declared.runs.Transition.TheVariants.{Start, Stop, Pause, Resume, StartAbort}
 use Rattle.daq_types.specs.declared.runs.Why.{Why}
 use Rattle.daq_types.specs.declared.runs.Why.TheVariants.{NotReady, Exists, Fault, BufferRefused}
-use Rattle.daq_model.specs.Events.{event_limit}
 use Rattle.buffer_core.specs.declared.entry.BufferEntry.{BufferEntry}
 use Rattle.buffer_core.specs.declared.replies.Received.{Received}
 use Rattle.buffer_core.specs.declared.replies.Received.TheVariants.{Got, Empty, NoClient, SmallBuf}
@@ -31,7 +30,7 @@ use Rattle.loggers.specs.declared.logged_run.LoggedRun.{LoggedRun}
 use Rattle.loggers.specs.Moments.{LoggerMoment, ChannelStep, StepsChannel, StepsSlot, StepsAt, CallsBuffer, MarksBuffer, InTurn, noted_channel, AreIdle, IsSameAccess, AreSamePorts}
 use Rattle.loggers.specs.ChannelSteps.{OpensChannel, AbortsChannel, PullsChannel}
 use Rattle.loggers.specs.SlotPulls.{HasEventRoom, PullsSlot, PullsNumbered}
-use Rattle.loggers.specs.Turning.{IsIdleOutside, BeginsBuffer, RefusesBegin, EndsBuffer, PausesBuffer, ResumesBuffer, LoggerTurn, LeavesLogger, OpensBelow, BeginsBelow, AbortsAll, RefusesOpen, RefusesMark, StartsAll, UndoesOpens, UndoesBegins, StartsSo, StartsLogger, TakesStart, StopsLogger, MarksAll, CallsRunOff, TakesStop, TakesMark, TakesAbort, TakesTurnBy, TakesTurn, is_run_on, is_started, is_of_start, buffers_begun}
+use Rattle.loggers.specs.Turning.{IsIdleOutside, BeginsBuffer, EndsBuffer, PausesBuffer, ResumesBuffer, LoggerTurn, OpensBelow, BeginsBelow, AbortsAll, UndoesOpens, UndoesBegins, StartsSo, TakesStart, TakesStop, TakesMark, TakesAbort, TakesTurnBy, TakesTurn, is_run_on, is_started, is_of_start, buffers_begun}
 use Rattle.loggers.proofs.InTurns.{turns_keep}
 use Rattle.loggers.proofs.SlotLists.{same_or_other, one_changed, got_there, got_elsewhere}
 

@@ -1,9 +1,9 @@
 -- One step of a channel, over any ports: what it does to the lists, and how many calls it notes.
-use Rattle.std.specs.Prelude.{◌≡◌, ◌≢◌, ◌≤◌, ◌<◌, ◌+◌, ◌==◌, ℕ, Bool, true, false, if◌then◌else◌, List, length, map, slice_get, slice_set, Option, Some, None, Result, Ok, Err, ◌⊎◌, OnOk, IfErr, nat_lt, ⊤, refl}
+use Rattle.std.specs.Prelude.{◌≡◌, ◌≢◌, ◌≤◌, ◌<◌, ◌+◌, ◌==◌, ℕ, Bool, true, false, if◌then◌else◌, List, length, map, slice_get, slice_set, Option, Some, None, Result, Ok, Err, OnOk, IfErr, nat_lt, ⊤, refl}
 use Rattle.std.specs.Option.{option_map}
 use Rattle.std.proofs.Common.{ap, sym, subst, ◌∙◌, arith, inl, inr, get_or}
 use Rattle.std.proofs.lemmas.Bool.{eqb-true, eqb-false}
-use Rattle.std.proofs.lemmas.List.{length-set, length-map, map-set, set-get_or, get_or_past}
+use Rattle.std.proofs.lemmas.List.{length-set, map-set, set-get_or, get_or_past}
 use Rattle.std.proofs.lemmas.Option.{slice_get-map, slice_get-get_or, get_or_from_slice_get}
 use Rattle.daq_types.specs.declared.runs.Order.{Order}
 use Rattle.daq_types.specs.declared.runs.Why.{Why}

@@ -1,8 +1,8 @@
 -- Turns by what was found of the run that the logger has.
-use Rattle.std.specs.Prelude.{◌≡◌, ℕ, Bool, true, false, if◌then◌else◌, Option, Some, None}
+use Rattle.std.specs.Prelude.{◌≡◌, ℕ, Bool, true, false, if◌then◌else◌, Some, None}
 use Rattle.std.proofs.Common.{sym, subst, refl}
 use Rattle.loggers.specs.Moments.{LoggerMoment}
-use Rattle.loggers.specs.Turning.{LoggerTurn, LeavesLogger, StopsLogger, MarksAll, CallsRunOff, TakesStop, TakesMark, TakesAbort}
+use Rattle.loggers.specs.Turning.{LoggerTurn, StopsLogger, MarksAll, CallsRunOff, TakesStop, TakesMark, TakesAbort}
 
 pub stop_taken : (of : Bool) (t : LoggerTurn) → true ≡ of → StopsLogger t → TakesStop of t
 stop_taken of t is stops = subst (λ (b : Bool). TakesStop b t) is stops

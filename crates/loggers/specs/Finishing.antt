@@ -1,5 +1,5 @@
 -- How a logger ends the files of a run that was stopped, and what it answers then.
-use Rattle.std.specs.Prelude.{◌≡◌, ℕ, Bool, true, false, List, length, replicate, slice_set, Option, Some, None, ⊤}
+use Rattle.std.specs.Prelude.{◌≡◌, ℕ, Bool, true, false, List, length, replicate, slice_set, Option, Some, None}
 use Rattle.std.specs.List.{list_all}
 use Rattle.daq_types.specs.declared.runs.ChannelState.{ChannelState}
 use Rattle.daq_types.specs.declared.runs.ChannelState.TheVariants.{Idle as IsIdle}
@@ -49,7 +49,8 @@ pub record EndsNumbered (time : ℕ) (dump : Option (List ℕ)) (number : ℕ) (
   pub states : b.states ≡ slice_set a.states number state
   pub ends : EndsChannel time dump state before after a.files b.files
 
-abbrev pub EndsSlot : (time : ℕ) → (dump : Option (List ℕ)) → (number : ℕ) → Option Channel → (a b : EndingMoment) → Type 0
+abbrev pub EndsSlot : (time : ℕ) → (dump : Option (List ℕ)) → (number : ℕ) → Option Channel → (a b : EndingMoment) →
+    Type 0
 EndsSlot time dump number None a b = b ≡ a
 EndsSlot time dump number (Some before) a b = EndsNumbered time dump number before a b
 
@@ -80,7 +81,8 @@ pub record LeavesWaiting (f : LoggerFinish) : Type 0 where
 abbrev pub states_idle : List ChannelState
 states_idle = replicate channel_limit IsIdle
 
--- The file of each channel, in order of number, is ended at the time of the stop with its dump; the answer tells the states.
+-- The file of each channel, in order of number, is ended at the time of the stop with its dump; the answer tells the
+-- states.
 pub record EndsFiles (f : LoggerFinish) (time : ℕ) : Type 0 where
   pub states : List ChannelState
   pub answer_is : f.answer ≡ Some (Yes (Channels states))

@@ -1,5 +1,5 @@
 -- What each call keeps of what a logger keeps between its calls.
-use Rattle.std.specs.Prelude.{◌≤◌, ℕ, List, [], ◌∷◌, length, unwrap_or}
+use Rattle.std.specs.Prelude.{◌≤◌, List, [], ◌∷◌, length, unwrap_or}
 use Rattle.daq_model.specs.Events.{record_limit}
 use Rattle.buffer_core.specs.Ports.{Access}
 use Rattle.member_model.specs.Turns.{MemberTurn, NoneOpen, latest_answered}
@@ -9,8 +9,8 @@ use Rattle.loggers.specs.Finishing.{LoggerFinish, FinishesLogger}
 use Rattle.loggers.specs.NewLoggers.{NoneTakenBack}
 use Rattle.loggers.specs.LoggerStands.{logger_turn, LoggerStands}
 
--- Behind a turn that comes once the latest was answered the logger stands with that turn and its answer, where no client of it
--- is known to be detached by another.
+-- Behind a turn that comes once the latest was answered the logger stands with that turn and its answer, where no
+-- client of it is known to be detached by another.
 abbrev pub TurnsKeep : Type 0
 TurnsKeep = (t : LoggerTurn) → (turns : List MemberTurn) → TakesTurn t → length (unwrap_or t.dump []) ≤ record_limit →
     IsLoggerReady t.before.slots t.before.ports t.before.files.seen →

@@ -21,7 +21,7 @@ use Rattle.mid_logger.specs.declared.channel.Channel.{Channel}
 use Rattle.mid_logger.specs.declared.stage.BegunRun.{BegunRun}
 use Rattle.mid_logger.specs.declared.stage.ChannelRun.{ChannelRun}
 use Rattle.mid_logger.specs.declared.stage.ChannelStage.{ChannelStage}
-use Rattle.mid_logger.specs.declared.stage.ChannelStage.TheVariants.{Idle, Asking, Writing, Draining, Drained, Broken}
+use Rattle.mid_logger.specs.declared.stage.ChannelStage.TheVariants.{Idle, Writing, Draining, Drained, Broken}
 use Rattle.mid_logger.specs.Patterns.{file_name_by}
 use Rattle.mid_logger.specs.Channels.{FileHead, KeepsOwnCalls, ChannelStands, channel_run, written_run}
 use Rattle.mid_logger.specs.ChannelEnds.{HasLeftRead, state_ended}
@@ -34,7 +34,12 @@ use Rattle.loggers.specs.Moments.{HaveNumbersApart, channel_limit}
 
 -- a turn with its answer, as a member's turns are listed
 abbrev pub logger_turn : Transition → Order → (dump : Option (List ℕ)) → Option Answer → MemberTurn
-logger_turn transition order dump answer = record { transition = transition; order = order; dump = dump; answer = answer }
+logger_turn transition order dump answer = record {
+  transition = transition;
+  order = order;
+  dump = dump;
+  answer = answer;
+}
 
 -- A channel of the logger. While it has no client, this number stands for it.
 abbrev pub logger_channel : (absent : ℕ) → Channel → LoggerChannel
@@ -108,14 +113,15 @@ abbrev pub IsStageOf : Option LoggedRun → List MemberTurn → List BufferEntry
 IsStageOf None turns own stage = stage ≡ Idle
 IsStageOf (Some r) turns own stage = IsStagePart r.part turns own r.start stage
 
--- A channel, with the port of its buffer. Where it writes a run, or broke off, the head of its file is one for that run.
+-- A channel, with the port of its buffer. Where it writes a run, or broke off, the head of its file is one for that
+-- run.
 pub record ChannelKept (IsHeadOf : ChannelRun → FileHead → Type 0) (seen : Seen) (c : Channel) (port : Access) : Type 0 where
   pub head : FileHead
   pub stands : ChannelStands c.spec c.client c.stage head port.own port.got seen
   pub headed : (opened : ChannelRun) → channel_run c.stage ≡ Some opened → IsHeadOf opened head
 
--- Two channels have two clients, where they read one buffer, and files of two names, where names are told, and under two
--- numbers.
+-- Two channels have two clients, where they read one buffer, and files of two names, where names are told, and under
+-- two numbers.
 pub record SlotsApart (seen : Seen) (c d : Channel) : Type 0 where
   pub clients : c.spec.buffer ≡ d.spec.buffer → (m n : ℕ) → c.client ≡ Some m → d.client ≡ Some n → m ≢ n
   pub names : (r s : ChannelRun) → channel_run c.stage ≡ Some r → channel_run d.stage ≡ Some s → IsTrue seen.tells →
@@ -140,8 +146,8 @@ pub record PortKept (turns : List MemberTurn) (own : List BufferEntry) : Type 0 
   pub told : EachCall (IsEndTold turns) own
   pub once : AreEngineTurns turns → (start m n : ℕ) → MarksEnd own start m → MarksEnd own start n → m ≡ n
 
--- A run of a channel that was stopped, whose state was told: its file has what was read, or a first part of it, and is not that
--- of a run that another channel has now, where names are told.
+-- A run of a channel that was stopped, whose state was told: its file has what was read, or a first part of it, and is
+-- not that of a run that another channel has now, where names are told.
 pub record LeftRun (turns : List MemberTurn) (slots : List (Option Channel)) (seen : Seen) (c : Channel) (port : Access) (stop : MemberTurn) (state : ChannelState) : Type 0 where
   pub run : BegunRun
   pub head : FileHead
@@ -151,7 +157,8 @@ pub record LeftRun (turns : List MemberTurn) (slots : List (Option Channel)) (se
   pub ended : IsEndedSo port.own stop.order.start run.ended
   pub told : (state ≡ IsBroken) ⊎ (state ≡ state_ended run.ended stop.dump)
   pub left : HasLeftRead state c.spec head run stop.order.time stop.dump port.own port.got seen
-  pub apart : (n : ℕ) → (d : Channel) → (opened : ChannelRun) → slot_at slots n ≡ Some d → channel_run d.stage ≡ Some opened →
+  pub apart : (n : ℕ) → (d : Channel) → (opened : ChannelRun) → slot_at slots n ≡ Some d →
+      channel_run d.stage ≡ Some opened →
       IsTrue seen.tells → file_name_by c.spec.pattern run.opened.run ≢ file_name_by d.spec.pattern opened.run
 
 -- the stop turn was answered, and these states were told
@@ -170,9 +177,11 @@ pub record ToldSo (turns : List MemberTurn) (slots : List (Option Channel)) (see
 pub record SlotsStand (IsHeadOf : ChannelRun → FileHead → Type 0) (turns : List MemberTurn) (slots : List (Option Channel)) (ports : List Access) (seen : Seen) : Type 0 where
   pub many : length slots ≤ channel_limit
   pub numbered : (n : ℕ) → (c : Channel) → slot_at slots n ≡ Some c → c.spec.number ≡ n
-  pub channels : (n : ℕ) → (c : Channel) → (a : Access) → slot_at slots n ≡ Some c → slice_get ports c.spec.buffer ≡ Some a →
+  pub channels : (n : ℕ) → (c : Channel) → (a : Access) → slot_at slots n ≡ Some c →
+      slice_get ports c.spec.buffer ≡ Some a →
       ChannelKept IsHeadOf seen c a
-  pub apart : (n m : ℕ) → (c d : Channel) → n ≢ m → slot_at slots n ≡ Some c → slot_at slots m ≡ Some d → SlotsApart seen c d
+  pub apart : (n m : ℕ) → (c d : Channel) → n ≢ m → slot_at slots n ≡ Some c → slot_at slots m ≡ Some d →
+      SlotsApart seen c d
   pub calls : (buffer : ℕ) → (a : Access) → slice_get ports buffer ≡ Some a → PortKept turns a.own
   pub left : AreEngineTurns turns → (stop : MemberTurn) → (states : List ChannelState) → TellsStates turns stop states →
       (n : ℕ) → (c : Channel) → (a : Access) → slot_at slots n ≡ Some c → slice_get ports c.spec.buffer ≡ Some a →
@@ -196,7 +205,8 @@ HasAcceptedStart turns start = (begin : MemberTurn) × IsAcceptedStart turns sta
 abbrev pub IsPartTold : RunPart → List MemberTurn → (start : ℕ) → (stop_dump : Option (List ℕ)) → Type 0
 IsPartTold Refused turns start stop_dump = NoneOpen turns × HasStart turns start
 IsPartTold Started turns start stop_dump = NoneOpen turns × HasAcceptedStart turns start
-IsPartTold (Stopping time) turns start stop_dump = IsStopWaiting turns start time stop_dump × HasAcceptedStart turns start
+IsPartTold (Stopping time) turns start stop_dump =
+    IsStopWaiting turns start time stop_dump × HasAcceptedStart turns start
 
 abbrev pub IsRunTold : Option LoggedRun → List MemberTurn → (stop_dump : Option (List ℕ)) → Type 0
 IsRunTold None turns stop_dump = NoneOpen turns
@@ -208,11 +218,13 @@ IsInStarted (Some r) start = (r.start ≡ start) × (r.part ≡ Started)
 
 -- while the run is on whose start the logger accepted last, it has that run, and no stop of it
 abbrev pub HasCurrentRun : Option LoggedRun → List MemberTurn → Type 0
-HasCurrentRun run turns = (start : ℕ) → (begin : MemberTurn) → current_run turns ≡ Some start → IsAcceptedStart turns start begin → IsInStarted run start
+HasCurrentRun run turns = (start : ℕ) → (begin : MemberTurn) → current_run turns ≡ Some start →
+    IsAcceptedStart turns start begin → IsInStarted run start
 
 -- each answered stop of a run whose start was accepted told states
 abbrev pub StopsTellStates : List MemberTurn → Type 0
-StopsTellStates turns = (begin stop : MemberTurn) → (answer : Answer) → IsAcceptedStart turns stop.order.start begin → HasTurn turns stop →
+StopsTellStates turns = (begin stop : MemberTurn) → (answer : Answer) → IsAcceptedStart turns stop.order.start begin →
+    HasTurn turns stop →
     stop.transition ≡ Stop → stop.answer ≡ Some answer → (states : List ChannelState) × (answer ≡ Yes (Channels states))
 
 -- the head of a run's file is that of its accepted start
@@ -223,15 +235,18 @@ IsHeadTold turns opened head = HasHead turns opened.start head
 pub record LoggerStands (run : Option LoggedRun) (stop_dump : Option (List ℕ)) (slots : List (Option Channel)) (ports : List Access) (turns : List MemberTurn) (seen : Seen) : Type 0 where
   pub standing : SlotsStand (IsHeadTold turns) turns slots ports seen
   pub served : (n : ℕ) → (c : Channel) → slot_at slots n ≡ Some c → c.spec.buffer < length ports
-  pub stages : (n : ℕ) → (c : Channel) → (a : Access) → slot_at slots n ≡ Some c → slice_get ports c.spec.buffer ≡ Some a →
+  pub stages : (n : ℕ) → (c : Channel) → (a : Access) → slot_at slots n ≡ Some c →
+      slice_get ports c.spec.buffer ≡ Some a →
       IsStageOf run turns a.own c.stage
-  pub starts : (start : MemberTurn) → (answer : Answer) → HasTurn turns start → start.transition ≡ Start → start.answer ≡ Some answer → IsStartAnswer answer
+  pub starts : (start : MemberTurn) → (answer : Answer) → HasTurn turns start → start.transition ≡ Start →
+      start.answer ≡ Some answer → IsStartAnswer answer
   pub stops : AreEngineTurns turns → StopsTellStates turns
   pub told : IsRunTold run turns stop_dump
   pub current : AreEngineTurns turns → HasCurrentRun run turns
 
 -- It keeps the logger's contract, whatever numbers stand for clients that are not attached yet.
 abbrev pub LoggerKeeps : Type 0
-LoggerKeeps = (run : Option LoggedRun) → (stop_dump : Option (List ℕ)) → (slots : List (Option Channel)) → (ports : List Access) →
+LoggerKeeps = (run : Option LoggedRun) → (stop_dump : Option (List ℕ)) → (slots : List (Option Channel)) →
+    (ports : List Access) →
     (turns : List MemberTurn) → (seen : Seen) → (absent : ℕ → ℕ) → LoggerStands run stop_dump slots ports turns seen →
     KeepsLogger (logger_channels absent slots) (logger_ports ports) turns seen

@@ -24,7 +24,8 @@ pub record LoggerMoment : Type 0 where
   pub ports : List Access
   pub files : RunFiles
 
-abbrev pub moment_of : List (Option Channel) → List Access → Seen → (faults clashes : ℕ) → (first : Option (List ℕ)) → LoggerMoment
+abbrev pub moment_of : List (Option Channel) → List Access → Seen → (faults clashes : ℕ) → (first : Option (List ℕ)) →
+    LoggerMoment
 moment_of slots ports seen faults clashes first = record {
   slots = slots;
   ports = ports;
@@ -60,7 +61,14 @@ pub record StepsChannel (Step : ChannelStep → Type 0) (number : ℕ) (before :
   pub at_port : slice_get a.ports before.spec.buffer ≡ Some port
   pub slots : b.slots ≡ slice_set a.slots number (Some after)
   pub ports : b.ports ≡ slice_set a.ports before.spec.buffer later_port
-  pub step : Step (record { before = before; after = after; port = port; later_port = later_port; files = a.files; later_files = b.files })
+  pub step : Step (record {
+    before = before;
+    after = after;
+    port = port;
+    later_port = later_port;
+    files = a.files;
+    later_files = b.files;
+  })
 
 abbrev pub StepsSlot : (Step : ChannelStep → Type 0) → (number : ℕ) → Option Channel → (a b : LoggerMoment) → Type 0
 StepsSlot Step number None a b = b ≡ a
@@ -84,7 +92,8 @@ pub record CallsBuffer (entry : BufferEntry) (buffer : ℕ) (a b : LoggerMoment)
 
 -- the channel, where it reads the buffer of this number, once its stage has changed so
 abbrev pub noted_channel : (note : ChannelStage → ChannelStage) → (buffer : ℕ) → Channel → Channel
-noted_channel note buffer channel = if channel.spec.buffer == buffer then record channel { stage = note channel.stage } else channel
+noted_channel note buffer channel =
+    if channel.spec.buffer == buffer then record channel { stage = note channel.stage } else channel
 
 -- One call on the port of the buffer of this number, which each channel that reads it notes.
 pub record MarksBuffer (entry : BufferEntry) (note : ChannelStage → ChannelStage) (buffer : ℕ) (a b : LoggerMoment) : Type 0 where
@@ -124,7 +133,8 @@ HaveEntries count ports = (buffer : ℕ) → (a : Access) → slice_get ports bu
 -- at most so many calls more are noted on each port
 pub record UseEntries (count : ℕ) (before after : List Access) : Type 0 where
   pub many : length after ≡ length before
-  pub each : (buffer : ℕ) → (a b : Access) → slice_get before buffer ≡ Some a → slice_get after buffer ≡ Some b → a.entries ≤ b.entries + count
+  pub each : (buffer : ℕ) → (a b : Access) → slice_get before buffer ≡ Some a → slice_get after buffer ≡ Some b →
+      a.entries ≤ b.entries + count
 
 -- there is room to note one call more on the port of this buffer
 abbrev pub HasEntry : (buffer : ℕ) → List Access → Type 0
@@ -142,5 +152,7 @@ IsSameAccess a b = (b.buffer ≡ a.buffer) × (b.caller ≡ a.caller) × (b.size
 
 -- The ports lead to the same buffers, and are the same callers'.
 pub record AreSamePorts (before after : List Access) : Type 0 where
-  pub there : (buffer : ℕ) → (b : Access) → slice_get after buffer ≡ Some b → (a : Access) × (slice_get before buffer ≡ Some a)
-  pub same : (buffer : ℕ) → (a b : Access) → slice_get before buffer ≡ Some a → slice_get after buffer ≡ Some b → IsSameAccess a b
+  pub there : (buffer : ℕ) → (b : Access) → slice_get after buffer ≡ Some b →
+      (a : Access) × (slice_get before buffer ≡ Some a)
+  pub same : (buffer : ℕ) → (a b : Access) → slice_get before buffer ≡ Some a → slice_get after buffer ≡ Some b →
+      IsSameAccess a b

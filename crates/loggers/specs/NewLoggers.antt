@@ -11,7 +11,8 @@ use Rattle.loggers.specs.Moments.{channel_limit}
 -- the numbers of the channels are below their limit, and differ
 pub record HaveNumbers (specs : List ChannelSpec) : Type 0 where
   pub below : (i : ℕ) → (s : ChannelSpec) → slice_get specs i ≡ Some s → s.number < channel_limit
-  pub differ : (i j : ℕ) → (s t : ChannelSpec) → slice_get specs i ≡ Some s → slice_get specs j ≡ Some t → i ≢ j → s.number ≢ t.number
+  pub differ : (i j : ℕ) → (s t : ChannelSpec) → slice_get specs i ≡ Some s → slice_get specs j ≡ Some t → i ≢ j →
+      s.number ≢ t.number
 
 -- a channel that has no client and writes no run, with room for an event of so many bytes
 abbrev pub new_channel : ChannelSpec → (room : ℕ) → Channel
@@ -29,7 +30,8 @@ pub record IsNewChannel (specs : List ChannelSpec) (rooms : List ℕ) (place : �
 pub record HasNewChannels (specs : List ChannelSpec) (rooms : List ℕ) (slots : List (Option Channel)) : Type 0 where
   pub many : length slots ≡ channel_limit
   pub each : (place : ℕ) → (c : Channel) → IsNewChannel specs rooms place c → slot_at slots c.spec.number ≡ Some c
-  pub only : (n : ℕ) → (c : Channel) → slot_at slots n ≡ Some c → (c.spec.number ≡ n) × ((place : ℕ) × IsNewChannel specs rooms place c)
+  pub only : (n : ℕ) → (c : Channel) → slot_at slots n ≡ Some c →
+      (c.spec.number ≡ n) × ((place : ℕ) × IsNewChannel specs rooms place c)
 
 -- no call was made on any of these ports
 abbrev pub AreUnused : List Access → Type 0

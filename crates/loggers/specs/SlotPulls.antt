@@ -11,7 +11,8 @@ use Rattle.loggers.specs.ChannelSteps.{PullsChannel}
 
 -- the channel of this number, if there is one, has room for each event that the port of its buffer may give
 abbrev pub HasEventRoom : (number : ℕ) → List (Option Channel) → List Access → Type 0
-HasEventRoom number slots ports = (c : Channel) → (a : Access) → slot_at slots number ≡ Some c → slice_get ports c.spec.buffer ≡ Some a →
+HasEventRoom number slots ports = (c : Channel) → (a : Access) → slot_at slots number ≡ Some c →
+    slice_get ports c.spec.buffer ≡ Some a →
     min event_limit (a.size - 24) ≤ c.event.room
 
 abbrev pub PullsSlot : Option Channel → (number : ℕ) → Pulled → (a b : LoggerMoment) → Type 0

@@ -23,7 +23,8 @@ use Rattle.loggers.specs.ChannelSteps.{OpensChannel, AbortsChannel}
 
 -- The run is begun in the buffer of this number, and its channels read on from there.
 abbrev pub BeginsBuffer : (start buffer : ℕ) → (a b : LoggerMoment) → Type 0
-BeginsBuffer start buffer a b = (place : ℕ) × MarksBuffer (Begin start (Ok place)) (λ stage. stage_begun stage place) buffer a b
+BeginsBuffer start buffer a b =
+    (place : ℕ) × MarksBuffer (Begin start (Ok place)) (λ stage. stage_begun stage place) buffer a b
 
 -- The buffer of this number refuses to begin the run.
 abbrev pub RefusesBegin : (start buffer : ℕ) → (a b : LoggerMoment) → Type 0
@@ -31,7 +32,9 @@ RefusesBegin start buffer a b = (why : MarkRefusal) × CallsBuffer (Begin start 
 
 -- The run is to be ended in the buffer of this number, and its channels note the reply.
 abbrev pub EndsBuffer : (start buffer : ℕ) → (a b : LoggerMoment) → Type 0
-EndsBuffer start buffer a b = (reply : Result ℕ MarkRefusal) × MarksBuffer (End start reply) (λ stage. stage_ended stage (place_marked reply)) buffer a b
+EndsBuffer start buffer a b =
+    (reply : Result ℕ MarkRefusal) ×
+    MarksBuffer (End start reply) (λ stage. stage_ended stage (place_marked reply)) buffer a b
 
 -- The run is paused in the buffer of this number, or that is refused.
 abbrev pub PausesBuffer : (start buffer : ℕ) → (a b : LoggerMoment) → Type 0
@@ -43,7 +46,8 @@ ResumesBuffer start buffer a b = (reply : Result ℕ MarkRefusal) × CallsBuffer
 
 -- Turns.
 
--- A turn with its answer; the run that the logger has, and the dump of its stop, before it and behind it; and the moments.
+-- A turn with its answer; the run that the logger has, and the dump of its stop, before it and behind it; and the
+-- moments.
 pub record LoggerTurn : Type 0 where
   pub transition : Transition
   pub order : Order
@@ -206,7 +210,8 @@ abbrev pub TakesStop : (is_of_run : Bool) → LoggerTurn → Type 0
 TakesStop true t = StopsLogger t
 TakesStop false t = LeavesLogger t (Yes Plain)
 
-abbrev pub TakesMark : (Mark : (start buffer : ℕ) → (a b : LoggerMoment) → Type 0) → (is_of_run : Bool) → LoggerTurn → Type 0
+abbrev pub TakesMark : (Mark : (start buffer : ℕ) → (a b : LoggerMoment) → Type 0) → (is_of_run : Bool) → LoggerTurn →
+    Type 0
 TakesMark Mark true t = MarksAll Mark t
 TakesMark Mark false t = LeavesLogger t (Yes Plain)
 
@@ -221,7 +226,7 @@ TakesTurnBy Pause t = TakesMark PausesBuffer (is_started t.run t.order.start) t
 TakesTurnBy Resume t = TakesMark ResumesBuffer (is_started t.run t.order.start) t
 TakesTurnBy StartAbort t = TakesAbort (is_of_start t.run t.order.start) t
 
--- What a turn does. A stop, a pause or a resume of another run than the one that was started, and a start-abort of another
--- start than the latest, do nothing.
+-- What a turn does. A stop, a pause or a resume of another run than the one that was started, and a start-abort of
+-- another start than the latest, do nothing.
 abbrev pub TakesTurn : LoggerTurn → Type 0
 TakesTurn t = TakesTurnBy t.transition t

@@ -5,8 +5,8 @@ ghost use Rattle.loggers.specs.LoggerStands.{LoggerKeeps};
 
 use mid_logger::laws as channel_laws;
 
-/// What a logger keeps between its calls has the logger's contract: each channel that told to have ended has written its run, and
-/// each that told to be broken a part of it.
+/// What a logger keeps between its calls has the logger's contract: each channel that told to have ended has
+/// written its run, and each that told to be broken a part of it.
 pub fn logger_keeps()
     ensures { LoggerKeeps }
 {}

@@ -29,8 +29,8 @@ use std::alloc::Global;
 use std::sync::Wait;
 use transitions::{Answer, Tally};
 
-/// The logger: it takes part in runs by its turns, and its channels write the events of each run into run files. Only `new`
-/// takes memory.
+/// The logger: it takes part in runs by its turns, and its channels write the events of each run into run files.
+/// Only `new` takes memory.
 #[derive(Drop)]
 pub struct Logger {
     /// Its channels, each at its number.
@@ -134,14 +134,14 @@ impl Logger {
 
     /// Takes a turn. Between two turns the answer to the first was given.
     ///
-    /// At a start each channel, in order of number, makes its file, writes the begin record with the dump, and asks for its
-    /// events; then the run is begun in every buffer. The first refusal of these is the answer, before which the files are
-    /// closed and removed and the requests cancelled. A pause and a resume are marked in every buffer. At a stop the run is
-    /// ended in every buffer; the answer is None, and `finish` gives it later. At a start-abort the run is ended where it is
-    /// begun, and each channel calls it off.
+    /// At a start each channel, in order of number, makes its file, writes the begin record with the dump, and asks
+    /// for its events; then the run is begun in every buffer. The first refusal of these is the answer, before
+    /// which the files are closed and removed and the requests cancelled. A pause and a resume are marked in every
+    /// buffer. At a stop the run is ended in every buffer; the answer is None, and `finish` gives it later. At a
+    /// start-abort the run is ended where it is begun, and each channel calls it off.
     ///
-    /// A start is refused as NotReady while a run is on. A stop, a pause or a resume of another run than the one whose start was
-    /// accepted last, and a start-abort of another start than the last, change nothing.
+    /// A start is refused as NotReady while a run is on. A stop, a pause or a resume of another run than the one
+    /// whose start was accepted last, and a start-abort of another start than the last, change nothing.
     pub fn on_turn<R: Wait, F: Files, P: BufferPort>(
         &mut self,
         rt: &R,
@@ -380,20 +380,21 @@ impl Logger {
         requires entries { HaveEntries 49 (map P.access ports.old) }
         requires idle { IsIdleOutside self.old.run self.old.channels }
         requires begun { buffers_begun self.old.run ≤ length ports.old }
-        ensures takes { (dump : Option (List ℕ)) → TakesMark PausesBuffer (is_started self.old.run order.now.start) (record {
-          transition = Pause;
-          order = order.now;
-          dump = dump;
-          answer = Some result;
-          run = self.old.run;
-          later_run = self.new.run;
-          stop_dump = self.old.stop_dump;
-          later_stop_dump = self.new.stop_dump;
-          before = moment_of self.old.channels (map P.access ports.old) (F.seen files.old)
-              (F.faults files.old) (F.clashes files.old) (F.first files.old);
-          after = moment_of self.new.channels (map P.access ports.new) (F.seen files.new)
-              (F.faults files.new) (F.clashes files.new) (F.first files.new);
-        }) }
+        ensures takes { (dump : Option (List ℕ)) →
+            TakesMark PausesBuffer (is_started self.old.run order.now.start) (record {
+              transition = Pause;
+              order = order.now;
+              dump = dump;
+              answer = Some result;
+              run = self.old.run;
+              later_run = self.new.run;
+              stop_dump = self.old.stop_dump;
+              later_stop_dump = self.new.stop_dump;
+              before = moment_of self.old.channels (map P.access ports.old) (F.seen files.old)
+                  (F.faults files.old) (F.clashes files.old) (F.first files.old);
+              after = moment_of self.new.channels (map P.access ports.new) (F.seen files.new)
+                  (F.faults files.new) (F.clashes files.new) (F.first files.new);
+            }) }
         ensures ready { IsLoggerReady self.new.channels (map P.access ports.new) (F.seen files.new) }
         ensures idle { IsIdleOutside self.new.run self.new.channels }
         ensures begun { buffers_begun self.new.run ≤ length ports.new }
@@ -419,20 +420,21 @@ impl Logger {
         requires entries { HaveEntries 49 (map P.access ports.old) }
         requires idle { IsIdleOutside self.old.run self.old.channels }
         requires begun { buffers_begun self.old.run ≤ length ports.old }
-        ensures takes { (dump : Option (List ℕ)) → TakesMark ResumesBuffer (is_started self.old.run order.now.start) (record {
-          transition = Resume;
-          order = order.now;
-          dump = dump;
-          answer = Some result;
-          run = self.old.run;
-          later_run = self.new.run;
-          stop_dump = self.old.stop_dump;
-          later_stop_dump = self.new.stop_dump;
-          before = moment_of self.old.channels (map P.access ports.old) (F.seen files.old)
-              (F.faults files.old) (F.clashes files.old) (F.first files.old);
-          after = moment_of self.new.channels (map P.access ports.new) (F.seen files.new)
-              (F.faults files.new) (F.clashes files.new) (F.first files.new);
-        }) }
+        ensures takes { (dump : Option (List ℕ)) →
+            TakesMark ResumesBuffer (is_started self.old.run order.now.start) (record {
+              transition = Resume;
+              order = order.now;
+              dump = dump;
+              answer = Some result;
+              run = self.old.run;
+              later_run = self.new.run;
+              stop_dump = self.old.stop_dump;
+              later_stop_dump = self.new.stop_dump;
+              before = moment_of self.old.channels (map P.access ports.old) (F.seen files.old)
+                  (F.faults files.old) (F.clashes files.old) (F.first files.old);
+              after = moment_of self.new.channels (map P.access ports.new) (F.seen files.new)
+                  (F.faults files.new) (F.clashes files.new) (F.first files.new);
+            }) }
         ensures ready { IsLoggerReady self.new.channels (map P.access ports.new) (F.seen files.new) }
         ensures idle { IsIdleOutside self.new.run self.new.channels }
         ensures begun { buffers_begun self.new.run ≤ length ports.new }
@@ -527,8 +529,9 @@ impl Logger {
         pull_at(&mut self.channels, rt, files, ports, channel as usize)
     }
 
-    /// The answer to the stop that waits: it ends the file of each channel, in order of number, and tells what became of them.
-    /// None exactly where no stop waits, or the client of some channel that did not break off has yet to read its run.
+    /// The answer to the stop that waits: it ends the file of each channel, in order of number, and tells what
+    /// became of them. None exactly where no stop waits, or the client of some channel that did not break off has
+    /// yet to read its run.
     pub fn finish<F: Files>(&mut self, files: &mut F) -> Option<Answer>
         requires many { length self.old.channels ≤ 16 }
         requires files { HaveFilesOpen self.old.channels (F.seen files.old) }

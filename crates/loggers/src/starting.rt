@@ -72,8 +72,8 @@ pub fn abort_all<R: Wait, F: Files, P: BufferPort>(
     }
 }
 
-/// Opens the run on each channel, and begins it in every buffer. At the first refusal each channel calls it off. Answers in how
-/// many buffers it is begun.
+/// Opens the run on each channel, and begins it in every buffer. At the first refusal each channel calls it off.
+/// Answers in how many buffers it is begun.
 pub fn start_run<R: Wait, F: Files, P: BufferPort>(
     slots: &mut Slots,
     rt: &R,

@@ -55,8 +55,8 @@ fn open_slot<R: Wait, F: Files, P: BufferPort>(
     channel.open(rt, files, port, order, dump)
 }
 
-/// Opens the run on the channel of this number, where there is one. At a refusal no file of it is left, unless the removing
-/// failed.
+/// Opens the run on the channel of this number, where there is one. At a refusal no file of it is left, unless the
+/// removing failed.
 pub fn open_at<R: Wait, F: Files, P: BufferPort>(
     slots: &mut Slots,
     rt: &R,

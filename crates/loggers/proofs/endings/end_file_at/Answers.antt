@@ -1,4 +1,4 @@
-use Rattle.std.proofs.Common.{◌≡◌, None, map, sym, ◌∙◌, arith}
+use Rattle.std.proofs.Common.{◌≡◌, None, sym, arith}
 use Rattle.buffer_core.specs.Slots.{slot_at}
 use Rattle.loggers.proofs.ReadySteps.{ended_at}
 use Rattle.loggers.proofs.endings.end_file_at.Goals as goal

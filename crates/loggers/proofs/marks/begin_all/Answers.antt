@@ -1,8 +1,5 @@
-use Rattle.std.proofs.Common.{◌≡◌, ◌+◌, ℕ, length, map, refl, arith}
+use Rattle.std.proofs.Common.{◌≡◌, ◌+◌, length, map, refl, arith}
 use Rattle.std.proofs.lemmas.List.{length-map}
-use Rattle.daq_io.specs.Seen.{Seen}
-use Rattle.buffer_core.specs.declared.entry.BufferEntry.TheVariants.{Begin}
-use Rattle.loggers.specs.Moments.{RunFiles}
 use Rattle.loggers.proofs.InTurns.{turn_more, below_none, below_more, below_all, entry_left}
 use Rattle.loggers.proofs.ReadySteps.{begins_ready, refuses_ready, files_with}
 use Rattle.loggers.proofs.marks.begin_all.Goals as goal

@@ -1,4 +1,4 @@
-use Rattle.std.proofs.Common.{◌≡◌, ◌+◌, length, map, refl, arith}
+use Rattle.std.proofs.Common.{◌≡◌, map, refl, arith}
 use Rattle.std.proofs.lemmas.List.{length-map}
 use Rattle.loggers.proofs.InTurns.{turn_more, below_none, below_more, below_all, entry_left}
 use Rattle.loggers.proofs.ReadySteps.{ends_ready, files_with}

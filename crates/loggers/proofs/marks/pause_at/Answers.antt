@@ -1,4 +1,3 @@
-use Rattle.std.proofs.Common.{◌≡◌, Some, map}
 use Rattle.loggers.proofs.StepEntries.{lent_at, lent_port, called_at, uses_entry}
 use Rattle.loggers.proofs.marks.pause_at.Goals as goal
 

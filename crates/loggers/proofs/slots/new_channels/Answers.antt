@@ -1,4 +1,4 @@
-use Rattle.std.proofs.Common.{◌≡◌, ◌<◌, ◌-◌, ◌+◌, ◌∷◌, ◌++◌, [], length, take, sym, ◌∙◌, arith, lit<}
+use Rattle.std.proofs.Common.{◌≡◌, ◌-◌, ◌+◌, ◌∷◌, ◌++◌, [], length, take, sym, ◌∙◌, arith, lit<}
 use Rattle.loggers.proofs.NewSlots.{number_fits, put_more}
 use Rattle.loggers.proofs.slots.new_channels.Goals as goal
 

@@ -1,6 +1,4 @@
-use Rattle.std.proofs.Common.{◌<◌, ◌≤◌, ◌+◌, ◌*◌, ◌≡◌, ℕ, length, map, refl, sym, subst, ◌∙◌, arith}
-use Rattle.std.specs.Prelude.{List}
-use Rattle.buffer_core.specs.Ports.{Access}
+use Rattle.std.proofs.Common.{◌+◌, ◌*◌, ◌≡◌, ℕ, length, map, refl, sym, subst, ◌∙◌, arith}
 use Rattle.loggers.specs.Moments.{UseEntries}
 use Rattle.loggers.proofs.InTurns.{turn_more, uses_none, uses_more, uses_at_most, entries_left}
 use Rattle.loggers.proofs.starting.open_all.Goals as goal

@@ -1,4 +1,4 @@
-use Rattle.std.proofs.Common.{length, map, arith}
+use Rattle.std.proofs.Common.{arith}
 use Rattle.std.proofs.lemmas.List.{length-map}
 use Rattle.loggers.proofs.InTurns.{uses_more, entries_left}
 use Rattle.loggers.proofs.ReadySteps.{files_with}

@@ -1,4 +1,3 @@
-use Rattle.std.proofs.Common.{map}
 use Rattle.mid_logger.specs.ChannelTurns.{asking_run}
 use Rattle.loggers.specs.ChannelSteps.{AbortsChannel}
 use Rattle.loggers.proofs.StepEntries.{lent_at, lent_port, stepped, slot_steps, uses_one_port, cancels_entries}

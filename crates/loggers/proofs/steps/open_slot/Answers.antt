@@ -1,4 +1,3 @@
-use Rattle.std.proofs.Common.{map}
 use Rattle.loggers.proofs.StepEntries.{lent_at, lent_port, slot_opens, slot_refuses, uses_one_port, by_entries}
 use Rattle.loggers.proofs.steps.open_slot.Goals as goal
 

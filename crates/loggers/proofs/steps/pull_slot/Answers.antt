@@ -1,4 +1,3 @@
-use Rattle.std.proofs.Common.{map}
 use Rattle.mid_logger.specs.Channels.{reading_run}
 use Rattle.loggers.specs.ChannelSteps.{PullsChannel}
 use Rattle.loggers.proofs.StepEntries.{lent_at, lent_port, stepped, slot_pulls, uses_one_port, pulls_entries}

@@ -1,4 +1,4 @@
-use Rattle.std.proofs.Common.{◌≡◌, Some, map, ap, arith, refl}
+use Rattle.std.proofs.Common.{Some, map, ap, arith, refl}
 use Rattle.transitions.specs.declared.answers.Answer.{Answer}
 use Rattle.loggers.specs.Turning.{buffers_begun, is_of_start}
 use Rattle.loggers.proofs.InTurns.{turns_as_many, entries_left}

@@ -1,4 +1,4 @@
-use Rattle.std.proofs.Common.{◌≡◌, Some, length, map, ap, sym, refl}
+use Rattle.std.proofs.Common.{Some, ap, sym, refl}
 use Rattle.std.proofs.lemmas.List.{length-map}
 use Rattle.transitions.specs.declared.answers.Answer.{Answer}
 use Rattle.loggers.proofs.InTurns.{turns_as_many}
