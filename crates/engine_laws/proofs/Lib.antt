@@ -5,3 +5,4 @@ pub mod StateTold
 pub mod Begun
 pub mod Tallied
 pub mod Completed
+pub mod MainCalls

@@ -1,6 +1,6 @@
 ghost use Rattle.std.specs.Prelude.{◌≡◌, ◌≤◌, ◌+◌, ◌++◌, ◌↔◌, IsOk, IfOk, OnOk, IsSome, IfSome, length};
 ghost use Rattle.daq_types.specs.Names.{IsFileName};
-ghost use Rattle.mid_logger.specs.Patterns.{IsFirstPercent, IsPatternText, HasParts, pattern_text, file_name_by};
+ghost use Rattle.mid_logger.specs.Patterns.{IsFirstPercent, IsPattern, IsPatternText, HasParts, pattern_text, file_name_by};
 ghost use Rattle.daq_types.specs.FileDigits.{five_digits};
 
 use arrayvec::ArrayVec;
@@ -105,13 +105,33 @@ impl Pattern {
         ensures exact { IsOk result ↔ IsPatternText text.now }
         ensures text { IfOk result (λ pattern. text.now ≡ pattern_text pattern) }
     {
-        let Some((front, back)) = parts_of(text.as_bytes()) else {
+        Pattern::from_bytes(text.as_bytes())
+    }
+
+    /// The pattern with these bytes, exactly where they are the text of one.
+    pub fn from_bytes(text: &[u8]) -> Result<Pattern, BadPattern>
+        ensures exact { IsOk result ↔ IsPatternText text.now }
+        ensures text { IfOk result (λ pattern. text.now ≡ pattern_text pattern) }
+        ensures pattern { IfOk result (λ pattern. IsPattern pattern) }
+    {
+        let Some((front, back)) = parts_of(text) else {
             return Err(BadPattern);
         };
         Ok(Pattern {
             front: held(front),
             back: held(back),
         })
+    }
+
+    /// The pattern with these bytes in front of the run number, and these behind it.
+    pub fn with_parts(front: &[u8], back: &[u8]) -> Pattern
+        requires { IsPattern (record { front = front.now; back = back.now }) }
+        ensures { result ≡ record { front = front.now; back = back.now } }
+    {
+        Pattern {
+            front: held(front),
+            back: held(back),
+        }
     }
 
     /// The name of the file in the run of this number.

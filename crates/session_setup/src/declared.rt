@@ -1,0 +1,25 @@
+use daq_types::Name;
+
+/// A buffer of a session.
+#[derive(Clone, Copy, Debug)]
+pub struct BufferDeclared {
+    /// Its name.
+    pub name: Name,
+    /// Its size in bytes, a multiple of 8 from 256 to 268,435,456.
+    pub size: u32,
+}
+
+/// A front-end of a session, which generates its events.
+#[derive(Clone, Copy, Debug)]
+pub struct FrontDeclared {
+    /// Its name.
+    pub name: Name,
+    /// The id of its events, 1 to 32,767.
+    pub id: u16,
+    /// The trigger mask of its events.
+    pub mask: u16,
+    /// The number of the buffer that it sends into.
+    pub buffer: u32,
+    /// The most events of a run that it can send.
+    pub limit: u32,
+}

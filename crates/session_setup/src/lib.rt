@@ -1,0 +1,13 @@
+//! What a script declares before the first start of its session: buffers, front-ends and the channels of the logger.
+#![tactic(auto)]
+
+mod checks;
+mod declarations;
+mod declared;
+mod refusals;
+#[cfg(test)]
+mod tests;
+
+pub use declarations::Declarations;
+pub use declared::{BufferDeclared, FrontDeclared};
+pub use refusals::SetupRefusal;
