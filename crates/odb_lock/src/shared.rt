@@ -77,7 +77,8 @@ impl<D: Database> SharedOdb<D> {
     fn enter(&self, pass: &mut OdbPass<D>, held: Held<LockedDatabase<D>>, call: &CallMade<'_>)
         requires own { IsOf (odb_lock_of self.now) pass.old }
         requires step { (before : _) × (held_by pass.old ≡ Some before)
-            × StepsDatabase before (number_of pass.old) (noted_call call.now) held.value.value.database }
+            × StepsDatabase before (number_of pass.old) (noted_call call.now)
+            held.value.value.database }
         ensures entered { Enters (odb_lock_of self.now) (noted_call call.now) pass.old pass.new }
         ensures legal { IsLegalDatabase (first_database self.now) (seen_by pass.new) }
     {

@@ -6,9 +6,9 @@ use Rattle.daq_types.specs.Callers.{entries_by}
 use Rattle.daq_types.proofs.CallersLaws.{entries_by-append, entries_by-own}
 use Rattle.odb_tree.specs.declared.entry.DatabaseEntry.{DatabaseEntry}
 use Rattle.odb_watch.specs.declared.entry.WatchEntry.{WatchEntry}
-use Rattle.odb_watch.specs.declared.entry.WatchEntry.TheVariants.{Call, Watch, Notes, Unwatch, Save, Load}
+use Rattle.odb_watch.specs.declared.entry.WatchEntry.TheVariants.{Call}
 use Rattle.odb_watch.specs.Steps.{IsLegalDatabase}
-use Rattle.odb_port.specs.DatabasePorts.{DatabaseAccess, CalledDatabase, AddsEntry, AddsEntries, AddsCall, AddsCalls, IsSamePort, own_calls, calls_by, row_calls, as_watched, local_access}
+use Rattle.odb_port.specs.DatabasePorts.{DatabaseAccess, CalledDatabase, AddsEntry, AddsEntries, AddsCall, AddsCalls, IsSamePort, own_calls, own_watched, rows_call, rows_calls, calls_by, row_calls, as_watched, local_access}
 
 -- the database and the caller stay
 pub adds_same : (a b : DatabaseAccess) (entries : List WatchEntry) → AddsEntries a b entries → IsSamePort a b
@@ -19,20 +19,20 @@ adds_same a b (entry ∷ entries) adds = let rest = adds_same adds.0 b entries a
   undisturbed = rest.undisturbed ∙ adds.1.same.undisturbed;
 }
 
-own_one : (a b : DatabaseAccess) (entry : WatchEntry) → AddsEntry a b entry → own_calls b ≡ own_calls a ++ entry ∷ []
+own_one : (a b : DatabaseAccess) (entry : WatchEntry) → AddsEntry a b entry → own_watched b ≡ own_watched a ++ entry ∷ []
 own_one a b entry add =
     ap (λ (by : ℕ). entries_by by b.seen) add.same.caller
     ∙ ap (λ (h : List (ℕ × WatchEntry)). entries_by a.caller h) add.seen
     ∙ entries_by-own a.caller (a.seen ++ add.between) entry
-    ∙ ap (λ (own : List WatchEntry). own ++ entry ∷ []) (entries_by-append a.caller a.seen add.between ∙ ap (λ (own : List WatchEntry). own_calls a ++ own) add.foreign ∙ append-nil (own_calls a))
+    ∙ ap (λ (own : List WatchEntry). own ++ entry ∷ []) (entries_by-append a.caller a.seen add.between ∙ ap (λ (own : List WatchEntry). own_watched a ++ own) add.foreign ∙ append-nil (own_watched a))
 
 -- the caller's own calls are these more
-pub adds_own_calls : (a b : DatabaseAccess) (entries : List WatchEntry) → AddsEntries a b entries → own_calls b ≡ own_calls a ++ entries
-adds_own_calls a b [] same = ap own_calls same ∙ sym (append-nil (own_calls a))
+pub adds_own_calls : (a b : DatabaseAccess) (entries : List WatchEntry) → AddsEntries a b entries → own_watched b ≡ own_watched a ++ entries
+adds_own_calls a b [] same = ap own_watched same ∙ sym (append-nil (own_watched a))
 adds_own_calls a b (entry ∷ entries) adds =
     adds_own_calls adds.0 b entries adds.2
     ∙ ap (λ (own : List WatchEntry). own ++ entries) (own_one a adds.0 entry adds.1)
-    ∙ append_assoc (own_calls a) (entry ∷ []) entries
+    ∙ append_assoc (own_watched a) (entry ∷ []) entries
 
 -- what was seen begins what is seen now
 pub adds_seen : (a b : DatabaseAccess) (entries : List WatchEntry) → AddsEntries a b entries → (more : List (ℕ × WatchEntry)) × (b.seen ≡ a.seen ++ more)
@@ -65,8 +65,24 @@ adds_are a b (entry ∷ calls) adds = (adds.0, adds.1, adds_are adds.0 b calls a
 pub calls_same : (a b : DatabaseAccess) (calls : List DatabaseEntry) → AddsCalls a b calls → IsSamePort a b
 calls_same a b calls adds = adds_same a b (row_calls calls) (adds_are a b calls adds)
 
-pub calls_own : (a b : DatabaseAccess) (calls : List DatabaseEntry) → AddsCalls a b calls → own_calls b ≡ own_calls a ++ row_calls calls
-calls_own a b calls adds = adds_own_calls a b (row_calls calls) (adds_are a b calls adds)
+pub calls_watched : (a b : DatabaseAccess) (calls : List DatabaseEntry) → AddsCalls a b calls → own_watched b ≡ own_watched a ++ row_calls calls
+calls_watched a b calls adds = adds_own_calls a b (row_calls calls) (adds_are a b calls adds)
+
+rows_append : (some more : List WatchEntry) → rows_calls (some ++ more) ≡ rows_calls some ++ rows_calls more
+rows_append [] more = refl
+rows_append (entry ∷ some) more =
+    ap (λ (l : List DatabaseEntry). rows_call entry ++ l) (rows_append some more)
+    ∙ sym (append_assoc (rows_call entry) (rows_calls some) (rows_calls more))
+
+rows_back : (calls : List DatabaseEntry) → rows_calls (row_calls calls) ≡ calls
+rows_back [] = refl
+rows_back (entry ∷ calls) = ap (λ (l : List DatabaseEntry). entry ∷ l) (rows_back calls)
+
+pub calls_own : (a b : DatabaseAccess) (calls : List DatabaseEntry) → AddsCalls a b calls → own_calls b ≡ own_calls a ++ calls
+calls_own a b calls adds =
+    ap rows_calls (calls_watched a b calls adds)
+    ∙ rows_append (own_watched a) (row_calls calls)
+    ∙ ap (λ (l : List DatabaseEntry). own_calls a ++ l) (rows_back calls)
 
 as_many : (calls : List DatabaseEntry) → length (row_calls calls) ≡ length calls
 as_many [] = refl
@@ -110,20 +126,12 @@ adds_no_other a b entries other alone adds differs =
 
 -- The journal of a database of one thread.
 
--- the calls on the rows
-abbrev rows_call : ℕ × WatchEntry → List (ℕ × DatabaseEntry)
-rows_call (caller, Call entry) = (caller, entry) ∷ []
-rows_call (caller, Watch row reply) = []
-rows_call (caller, Notes watch reply) = []
-rows_call (caller, Unwatch watch reply) = []
-rows_call (caller, Save reply) = []
-rows_call (caller, Load text reply) = []
+-- those on the rows, with their callers
+abbrev rows_history : List (ℕ × WatchEntry) → List (ℕ × DatabaseEntry)
+rows_history [] = []
+rows_history (e ∷ es) = map (λ (entry : DatabaseEntry). (e.0, entry)) (rows_call e.1) ++ rows_history es
 
-abbrev rows_calls : List (ℕ × WatchEntry) → List (ℕ × DatabaseEntry)
-rows_calls [] = []
-rows_calls (e ∷ es) = rows_call e ++ rows_calls es
-
-told_back : (history : List (ℕ × DatabaseEntry)) → rows_calls (as_watched history) ≡ history
+told_back : (history : List (ℕ × DatabaseEntry)) → rows_history (as_watched history) ≡ history
 told_back [] = refl
 told_back (e ∷ history) = ap (λ (h : List (ℕ × DatabaseEntry)). e ∷ h) (told_back history)
 
@@ -141,4 +149,4 @@ local_noted d e calls adds =
     all
     ∙ ap (λ (h : List (ℕ × WatchEntry)). as_watched d.history ++ h) (called_so d.caller calls)
     ∙ sym (map-append (λ (x : ℕ × DatabaseEntry). (x.0, Call x.1)) d.history (calls_by d.caller calls)) in
-    sym (told_back e.history) ∙ ap rows_calls so ∙ told_back (d.history ++ calls_by d.caller calls)
+    sym (told_back e.history) ∙ ap rows_history so ∙ told_back (d.history ++ calls_by d.caller calls)

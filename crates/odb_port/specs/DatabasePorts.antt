@@ -7,7 +7,7 @@ use Rattle.odb_tree.specs.declared.refusals.OdbRefusal.TheVariants.{NoMemory as 
 use Rattle.odb_tree.specs.Rows.{Rows}
 use Rattle.odb_tree.specs.Noting.{Watched}
 use Rattle.odb_watch.specs.declared.entry.WatchEntry.{WatchEntry}
-use Rattle.odb_watch.specs.declared.entry.WatchEntry.TheVariants.{Call}
+use Rattle.odb_watch.specs.declared.entry.WatchEntry.TheVariants.{Call, Watch, Notes, Unwatch, Save, Load}
 use Rattle.odb_watch.specs.Steps.{IsLegalDatabase, unwatched}
 use Rattle.odb_journal.specs.Noted.{Noted, unanswered}
 
@@ -28,9 +28,26 @@ pub record DatabaseAccess : Type 0 where
   pub undisturbed : Bool
   pub room : ℕ
 
--- the caller's own calls with their replies, in order
-abbrev pub own_calls : DatabaseAccess → List WatchEntry
-own_calls a = entries_by a.caller a.seen
+-- the calls on the rows among these calls, which are those of `Database`
+abbrev pub rows_call : WatchEntry → List DatabaseEntry
+rows_call (Call entry) = entry ∷ []
+rows_call (Watch row reply) = []
+rows_call (Notes watch reply) = []
+rows_call (Unwatch watch reply) = []
+rows_call (Save reply) = []
+rows_call (Load text reply) = []
+
+abbrev pub rows_calls : List WatchEntry → List DatabaseEntry
+rows_calls [] = []
+rows_calls (entry ∷ entries) = rows_call entry ++ rows_calls entries
+
+-- all of the caller's own calls with their replies, in order
+abbrev pub own_watched : DatabaseAccess → List WatchEntry
+own_watched a = entries_by a.caller a.seen
+
+-- and those on the rows
+abbrev pub own_calls : DatabaseAccess → List DatabaseEntry
+own_calls a = rows_calls (own_watched a)
 
 -- The same caller's access to the same database.
 pub record IsSamePort (a b : DatabaseAccess) : Type 0 where

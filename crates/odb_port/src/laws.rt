@@ -4,7 +4,7 @@ ghost use Rattle.daq_types.specs.Callers.{entries_by};
 ghost use Rattle.odb_tree.specs.declared.entry.DatabaseEntry.{DatabaseEntry};
 ghost use Rattle.odb_watch.specs.declared.entry.WatchEntry.{WatchEntry};
 ghost use Rattle.odb_watch.specs.Steps.{IsLegalDatabase};
-ghost use Rattle.odb_port.specs.DatabasePorts.{DatabaseAccess, CalledDatabase, AddsCalls, AddsEntries, IsSamePort, own_calls, calls_by, row_calls, local_access};
+ghost use Rattle.odb_port.specs.DatabasePorts.{DatabaseAccess, CalledDatabase, AddsCalls, AddsEntries, IsSamePort, own_calls, own_watched, calls_by, row_calls, local_access};
 
 /// The database and the caller stay, and the caller's own calls are the new ones more. What it had seen begins what it has
 /// seen then, and stays legal. Each call takes the room of one at most.
@@ -12,7 +12,7 @@ pub fn entries_add_up()
     ensures same { (a b : DatabaseAccess) (entries : List WatchEntry) → AddsEntries a b entries
         → IsSamePort a b }
     ensures own { (a b : DatabaseAccess) (entries : List WatchEntry) → AddsEntries a b entries
-        → own_calls b ≡ own_calls a ++ entries }
+        → own_watched b ≡ own_watched a ++ entries }
     ensures begins { (a b : DatabaseAccess) (entries : List WatchEntry) → AddsEntries a b entries
         → (more : List (ℕ × WatchEntry)) × (b.seen ≡ a.seen ++ more) }
     ensures legal { (a b : DatabaseAccess) (entries : List WatchEntry) → AddsEntries a b entries
@@ -27,8 +27,10 @@ pub fn calls_add_up()
         → AddsEntries a b (row_calls calls) }
     ensures same { (a b : DatabaseAccess) (calls : List DatabaseEntry) → AddsCalls a b calls
         → IsSamePort a b }
+    ensures watched { (a b : DatabaseAccess) (calls : List DatabaseEntry) → AddsCalls a b calls
+        → own_watched b ≡ own_watched a ++ row_calls calls }
     ensures own { (a b : DatabaseAccess) (calls : List DatabaseEntry) → AddsCalls a b calls
-        → own_calls b ≡ own_calls a ++ row_calls calls }
+        → own_calls b ≡ own_calls a ++ calls }
     ensures room { (a b : DatabaseAccess) (calls : List DatabaseEntry) → AddsCalls a b calls
         → a.room ≤ b.room + length calls }
 {}
