@@ -3,3 +3,4 @@ pub mod WatchSlots
 pub mod Due
 pub mod StepLemmas
 mod Few
+pub mod Standing
