@@ -1,6 +1,6 @@
 -- How the counting of a run goes on with one call more.
 use Rattle.std.specs.Prelude.{◌≡◌, ℕ, ◌==◌, Some, Bool, true, false, if◌then◌else◌, List, [], ◌∷◌, ◌++◌, map, Result, Ok, refl, ⊤}
-use Rattle.std.proofs.Common.{ap, sym, subst, ◌∙◌, inl, inr, append_assoc}
+use Rattle.std.proofs.Common.{ap, sym, subst, ◌∙◌, inl, inr, append_assoc, ne_eqb, eq-eqb}
 use Rattle.std.proofs.lemmas.Bool.Decides.{eqb_tells}
 use Rattle.std.proofs.lemmas.List.{append-nil}
 use Rattle.daq_types.specs.declared.events.Event.{Event}
@@ -16,19 +16,21 @@ use Rattle.member_model.proofs.ReadLaws.{AreGivenBy-push, KeepsAsking-push, call
 use Rattle.analyzers.specs.declared.analyzer_run.EventRequest.{EventRequest}
 use Rattle.analyzers.specs.declared.analyzer_run.AnalyzerRun.{AnalyzerRun}
 use Rattle.analyzers.specs.AnalyzerPulls.{CountsOwn, CountsReply}
-use Rattle.analyzers.specs.CountedRuns.{CountRequest, event_of_start, events_of_start, IsCounted, IsWhollyCounted}
+use Rattle.member_model.specs.GotRuns.{events_of_start}
+use Rattle.member_model.proofs.GotRunLaws.{events_of_start-append}
+use Rattle.analyzers.specs.CountedRuns.{CountRequest, IsCounted, IsWhollyCounted}
 use Rattle.analyzers.specs.AnalyzerKept.{AsksForNone, count_request}
 use Rattle.analyzers.proofs.OwnCallSteps.{none_left, calls_after-append, given_by_reply}
 
--- Lists
+-- One event
 
-events_of_start-append : (client start : ℕ) (xs ys : List GotEvent) → events_of_start client start (xs ++ ys) ≡ events_of_start client start xs ++ events_of_start client start ys
-events_of_start-append client start [] ys = refl
-events_of_start-append client start (x ∷ xs) ys =
-    ap (λ (es : List Event). event_of_start client start x ++ es) (events_of_start-append client start xs ys)
-    ∙ sym (append_assoc (event_of_start client start x) (events_of_start client start xs) (events_of_start client start ys))
+eqb_swaps : (a b : ℕ) → (a == b) ≡ (b == a)
+eqb_swaps a b = elim (eqb_tells a b) as (λ w. (a == b) ≡ (b == a)) [
+  | inl is ↦ is.0 ∙ sym (eq-eqb b a (sym is.1))
+  | inr differs ↦ differs.0 ∙ sym (ne_eqb b a (λ e. differs.1 (sym e)))
+]
 
-one_event : (client start place s : ℕ) (e : Event) (b : Bool) → (start == s) ≡ b → events_of_start client start (given_by_reply client (Got place s) e) ≡ (if b then e ∷ [] else [])
+one_event : (client start place s : ℕ) (e : Event) (b : Bool) → (s == start) ≡ b → events_of_start client start (given_by_reply client (Got place s) e) ≡ (if b then e ∷ [] else [])
 one_event client start place s e b is = elim (eqb_tells client client) as (λ w. events_of_start client start (given_by_reply client (Got place s) e) ≡ (if b then e ∷ [] else [])) [
   | inl same ↦ rw (same.0, is) (append-nil (if b then e ∷ [] else []))
   | inr other ↦ absurd (other.1 refl)
@@ -82,18 +84,19 @@ cancelled_asks_none own got q calls events reply counted = λ n.
     subst (λ (es : List BufferEntry). asks es q.client n ≡ false) (sym (calls_after-push [] own cancel ∙ ap (λ (es : List BufferEntry). cancel ∷ es) whole))
     (none_left before calls q.client q.wanted.id q.wanted.mask q.wanted.kind q.number n reply (counted.asked.alone n) counted.asks_on)
 
--- the receive that drains the client
-pub wholly_counted : (own : List BufferEntry) (got : List GotEvent) (q : CountRequest) (events : List Event) (accepted : ℕ) (reading draining : List BufferEntry) (room : ℕ) (reply : Received) → HasDrained accepted reply
-    → IsCounted own got q (reading ++ Accepted accepted ∷ (draining ++ Receive q.client room reply ∷ [])) events → IsWhollyCounted own got q events
-wholly_counted own got q events accepted reading draining room reply drains counted = record {
+-- the receive that drains the client, and the cancelling of its request
+pub wholly_counted : (own : List BufferEntry) (got : List GotEvent) (q : CountRequest) (events : List Event) (accepted : ℕ) (reading draining : List BufferEntry) (room : ℕ) (reply : Received) (cancelled : Result ⊤ RequestRefusal) → HasDrained accepted reply
+    → IsCounted own got q (reading ++ Accepted accepted ∷ (draining ++ Receive q.client room reply ∷ [])) events → IsWhollyCounted (own ++ Cancel q.client q.number cancelled ∷ []) got q events
+wholly_counted own got q events accepted reading draining room reply cancelled drains counted = record {
   accepted = accepted;
   reading = reading;
   draining = draining;
   room = room;
   reply = reply;
+  cancelled = cancelled;
   own_by = own;
   later = [];
-  own_is = sym (append-nil own);
+  own_is = refl;
   got_by = got;
   got_later = [];
   got_is = sym (append-nil got);
@@ -109,9 +112,10 @@ wholly_push own got q events more gs has = record {
   draining = has.draining;
   room = has.room;
   reply = has.reply;
+  cancelled = has.cancelled;
   own_by = has.own_by;
   later = has.later ++ more;
-  own_is = ap (λ (l : List BufferEntry). l ++ more) has.own_is ∙ append_assoc has.own_by has.later more;
+  own_is = ap (λ (l : List BufferEntry). l ++ more) has.own_is ∙ append_assoc has.own_by (Cancel q.client q.number has.cancelled ∷ has.later) more;
   got_by = has.got_by;
   got_later = has.got_later ++ gs;
   got_is = ap (λ (l : List GotEvent). l ++ gs) has.got_is ∙ append_assoc has.got_by has.got_later gs;
@@ -151,7 +155,7 @@ own_given r counted e events more false counts is report = same_given r counted 
 pub given_counted : (r counted : AnalyzerRun) (reply : Received) (e : Event) (events : List Event) → CountsReply reply r counted e → r.report ≡ report_of events
     → CountsGiven r counted (events ++ events_of_start r.client r.start (given_by_reply r.client reply e))
 given_counted r counted (Got place s) e events counts report =
-    own_given r counted e events (events_of_start r.client r.start (given_by_reply r.client (Got place s) e)) (r.start == s) counts (one_event r.client r.start place s e (r.start == s) refl) report
+    own_given r counted e events (events_of_start r.client r.start (given_by_reply r.client (Got place s) e)) (r.start == s) counts (one_event r.client r.start place s e (r.start == s) (eqb_swaps s r.start)) report
 given_counted r counted (Empty gate last) e events counts report = same_given r counted events [] counts refl report
 given_counted r counted NoClient e events counts report = same_given r counted events [] counts refl report
 given_counted r counted (SmallBuf need) e events counts report = same_given r counted events [] counts refl report

@@ -4,3 +4,4 @@ pub mod CountSteps
 pub mod ReportSteps
 pub mod TurnSteps
 pub mod PullSteps
+pub mod TellSteps

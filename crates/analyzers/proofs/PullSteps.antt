@@ -2,7 +2,6 @@
 use Rattle.std.specs.Prelude.{◌≡◌, ◌≢◌, ℕ, Bool, true, false, List, [], ◌∷◌, ◌++◌, Option, Some, None, refl}
 use Rattle.std.proofs.Common.{ap, sym, subst, ◌∙◌, inl, inr, append_assoc}
 use Rattle.std.proofs.lemmas.Bool.{leb-true}
-use Rattle.std.proofs.lemmas.List.{append-nil}
 use Rattle.daq_types.specs.declared.events.Event.{Event}
 use Rattle.daq_types.specs.declared.runs.Order.{Order}
 use Rattle.daq_types.specs.declared.runs.Transition.TheVariants.{Start, Stop}
@@ -25,10 +24,11 @@ use Rattle.analyzers.specs.declared.analyzer_run.AnalyzerStage.TheVariants.{Coun
 use Rattle.analyzers.specs.Analyzers.{AnalyzerAt, run_at, CancelsRun}
 use Rattle.analyzers.specs.AnalyzerTurns.{analyzer_turn, report_in, report_answer, run_reported}
 use Rattle.analyzers.specs.AnalyzerPulls.{ReceivesFor, EndsReading, CountsOnce, CountsIn, PullsBy, drains_by, ends_by}
-use Rattle.analyzers.specs.CountedRuns.{CountRequest, IsCounted, IsWhollyCounted, events_of_start}
+use Rattle.member_model.specs.GotRuns.{events_of_start}
+use Rattle.analyzers.specs.CountedRuns.{CountRequest, IsCounted, IsWhollyCounted}
 use Rattle.analyzers.specs.AnalyzerKept.{KeepsReaderCalls, HasOwnClient, AsksForNone, IsReportOfRun, ReportsHold, IsStopOpen, StageCounts, CountsRun, AnalyzerStands, count_request}
 use Rattle.analyzers.proofs.OwnCallSteps.{reader_push, client_stays, given_by_reply, got_after_is, given_named}
-use Rattle.analyzers.proofs.CountSteps.{CountsGiven, given_counted, count_push, cancelled_asks_none, wholly_counted, wholly_push}
+use Rattle.analyzers.proofs.CountSteps.{CountsGiven, given_counted, count_push, cancelled_asks_none, wholly_counted}
 use Rattle.analyzers.proofs.ReportSteps.{reports_calls, report_turns}
 use Rattle.analyzers.proofs.TurnSteps.{StandsBy, run_client, reports_quiet}
 
@@ -92,9 +92,6 @@ reads_on stage wanted client r counted own got turns calls is at counts = record
   };
 }
 
-wholly_quiet : (own : List BufferEntry) (got : List GotEvent) (q : CountRequest) (events : List Event) (e : BufferEntry) → IsWhollyCounted own got q events → IsWhollyCounted (own ++ e ∷ []) got q events
-wholly_quiet own got q events e has = subst (λ (l : List GotEvent). IsWhollyCounted (own ++ e ∷ []) l q events) (append-nil got) (wholly_push own got q events (e ∷ []) [] has)
-
 -- the client was drained, and its request cancelled
 reads_no_more : (wanted : EventRequest) (client : Option ℕ) (r counted : AnalyzerRun) (a b : Access) (turns : List MemberTurn) (room accepted : ℕ) (reply : Received) (reading draining : List BufferEntry) → IsStopOpen r.start turns → HasDrained accepted reply
     → ReceivedFor wanted client r counted a.own a.got turns (reading ++ Accepted accepted ∷ (draining ++ Receive r.client room reply ∷ [])) → CancelsRun counted a b
@@ -104,7 +101,7 @@ reads_no_more wanted client r counted a b turns room accepted reply reading drai
     let cancel : BufferEntry = Cancel r.client r.request cancels.0 in
     let cancel_is : Cancel counted.client counted.request cancels.0 ≡ cancel = rw (at.run_is.client, at.run_is.request) refl in
     let own_is : b.own ≡ a.own ++ cancel ∷ [] = cancels.1.own ∙ ap (λ (e : BufferEntry). a.own ++ e ∷ []) cancel_is in
-    let whole = wholly_quiet a.own a.got q at.events cancel (wholly_counted a.own a.got q at.events accepted reading draining room reply drains at.counts) in
+    let whole : IsWhollyCounted (a.own ++ cancel ∷ []) a.got q at.events = wholly_counted a.own a.got q at.events accepted reading draining room reply cancels.0 drains at.counts in
     let none : AsksForNone (Some r.client) (a.own ++ cancel ∷ []) =
     cancelled_asks_none a.own a.got q (reading ++ Accepted accepted ∷ (draining ++ Receive r.client room reply ∷ [])) at.events cancels.0 at.counts in
     let now : AnalyzerStands wanted client (Some (run_at Drained counted)) (a.own ++ cancel ∷ []) a.got turns = record {
@@ -193,12 +190,12 @@ across before t earlier start u other of =
     let old : HasTurnOf earlier Start start u = HasTurnOf-earlier of other in
     record { stands = inr old.stands; is = old.is; of = old.of }
 
-reported : (wanted : EventRequest) (client : Option ℕ) (r : AnalyzerRun) (own : List BufferEntry) (got : List GotEvent) (order : Order) (earlier : List MemberTurn) (events : List Event) → order.start ≡ r.start
-    → AsksForNone (Some r.client) own → IsWhollyCounted own got (count_request wanted r.client r.request r.start) events → r.report ≡ report_of events → AnalyzerStands wanted client (Some r) own got (analyzer_turn Stop order None ∷ earlier)
-    → AnalyzerStands wanted client None own got (analyzer_turn Stop order (Some (Yes (Report r.report))) ∷ earlier)
-reported wanted client r own got order earlier events same none whole report stands =
-    let before : MemberTurn = analyzer_turn Stop order None in
-    let t : MemberTurn = analyzer_turn Stop order (Some (Yes (Report r.report))) in
+reported : (dump : Option (List ℕ)) (wanted : EventRequest) (client : Option ℕ) (r : AnalyzerRun) (own : List BufferEntry) (got : List GotEvent) (order : Order) (earlier : List MemberTurn) (events : List Event) → order.start ≡ r.start
+    → AsksForNone (Some r.client) own → IsWhollyCounted own got (count_request wanted r.client r.request r.start) events → r.report ≡ report_of events → AnalyzerStands wanted client (Some r) own got (analyzer_turn dump Stop order None ∷ earlier)
+    → AnalyzerStands wanted client None own got (analyzer_turn dump Stop order (Some (Yes (Report r.report))) ∷ earlier)
+reported dump wanted client r own got order earlier events same none whole report stands =
+    let before : MemberTurn = analyzer_turn dump Stop order None in
+    let t : MemberTurn = analyzer_turn dump Stop order (Some (Yes (Report r.report))) in
     let on : CountsRun wanted client r own got (before ∷ earlier) = stands.counts in
     let other : before.transition ≢ Start = λ (e : Stop ≡ Start). cc (e) in
     let mine : IsReportOfRun wanted own got (t ∷ earlier) r.start r.report = record {
@@ -236,7 +233,7 @@ finish_stage (Draining accepted) wanted client r own got turns events counts rep
 finish_stage Drained wanted client r own got turns events counts report stands =
     let stop : IsStopOpen r.start turns = counts.0 in
     subst (λ (ts : List MemberTurn). AnalyzerStands wanted client None own got (latest_answered ts (Some (Yes (Report r.report))))) (sym stop.latest)
-    (reported wanted client r own got stop.order stop.earlier events stop.of counts.1 counts.2 report (subst (λ (ts : List MemberTurn). AnalyzerStands wanted client (Some r) own got ts) stop.latest stands))
+    (reported stop.dump wanted client r own got stop.order stop.earlier events stop.of counts.1 counts.2 report (subst (λ (ts : List MemberTurn). AnalyzerStands wanted client (Some r) own got ts) stop.latest stands))
 
 -- what holds before a finish holds behind it, with the answer of the stop that waited
 pub finish_kept : (wanted : EventRequest) (client : Option ℕ) (run : Option AnalyzerRun) (own : List BufferEntry) (got : List GotEvent) (turns : List MemberTurn) → AnalyzerStands wanted client run own got turns

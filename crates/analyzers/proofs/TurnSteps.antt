@@ -107,12 +107,12 @@ client_kept wanted None None a b turns gets stands =
 
 -- The request is made.
 
-request_kept : (reply : Result ℕ RequestRefusal) (wanted : EventRequest) (order : Order) (blank : Totals) (client : ℕ) (run : Option AnalyzerRun) (answer : Answer) (own : List BufferEntry) (got : List GotEvent) (turns : List MemberTurn)
+request_kept : (dump : Option (List ℕ)) (reply : Result ℕ RequestRefusal) (wanted : EventRequest) (order : Order) (blank : Totals) (client : ℕ) (run : Option AnalyzerRun) (answer : Answer) (own : List BufferEntry) (got : List GotEvent) (turns : List MemberTurn)
     → NoneOpen turns → blank ≡ report_of [] → BeginsBy reply order.start client blank run answer → AnalyzerStands wanted (Some client) None own got turns
-    → AnalyzerStands wanted (Some client) run (own ++ Request client wanted.id wanted.mask wanted.kind reply ∷ []) got (analyzer_turn Start order (Some answer) ∷ turns)
-request_kept (Ok number) wanted order blank client run answer own got turns none is_blank begins stands =
+    → AnalyzerStands wanted (Some client) run (own ++ Request client wanted.id wanted.mask wanted.kind reply ∷ []) got (analyzer_turn dump Start order (Some answer) ∷ turns)
+request_kept dump (Ok number) wanted order blank client run answer own got turns none is_blank begins stands =
     let request : BufferEntry = Request client wanted.id wanted.mask wanted.kind (Ok number) in
-    let t : MemberTurn = analyzer_turn Start order (Some (Yes Plain)) in
+    let t : MemberTurn = analyzer_turn dump Start order (Some (Yes Plain)) in
     let now : AnalyzerStands wanted (Some client) (Some (begun_count order.start client number blank)) (own ++ request ∷ []) got (t ∷ turns) = record {
       calls = reader_push own request stands.calls tt stands.own_client;
       own_client = client_stays own request client stands.own_client;
@@ -128,9 +128,9 @@ request_kept (Ok number) wanted order blank client run answer own got turns none
       };
     } in
     rw (begins.0, begins.1) now
-request_kept (Err why) wanted order blank client run answer own got turns none is_blank begins stands =
+request_kept dump (Err why) wanted order blank client run answer own got turns none is_blank begins stands =
     let request : BufferEntry = Request client wanted.id wanted.mask wanted.kind (Err why) in
-    let t : MemberTurn = analyzer_turn Start order (Some (No BufferRefused)) in
+    let t : MemberTurn = analyzer_turn dump Start order (Some (No BufferRefused)) in
     let now : AnalyzerStands wanted (Some client) None (own ++ request ∷ []) got (t ∷ turns) = record {
       calls = reader_push own request stands.calls tt stands.own_client;
       own_client = client_stays own request client stands.own_client;
@@ -139,13 +139,13 @@ request_kept (Err why) wanted order blank client run answer own got turns none i
     } in
     rw (begins.0, begins.1) now
 
-begin_kept : (wanted : EventRequest) (order : Order) (blank : Totals) (client : Option ℕ) (run : Option AnalyzerRun) (answer : Answer) (a b : Access) (turns : List MemberTurn) → NoneOpen turns → blank ≡ report_of [] → RequestsRun wanted order.start blank client run answer a b
-    → StandsBy wanted client None a turns → StandsBy wanted client run b (analyzer_turn Start order (Some answer) ∷ turns)
-begin_kept wanted order blank None run answer a b turns none is_blank requests stands =
+begin_kept : (dump : Option (List ℕ)) (wanted : EventRequest) (order : Order) (blank : Totals) (client : Option ℕ) (run : Option AnalyzerRun) (answer : Answer) (a b : Access) (turns : List MemberTurn) → NoneOpen turns → blank ≡ report_of [] → RequestsRun wanted order.start blank client run answer a b
+    → StandsBy wanted client None a turns → StandsBy wanted client run b (analyzer_turn dump Start order (Some answer) ∷ turns)
+begin_kept dump wanted order blank None run answer a b turns none is_blank requests stands =
     rw (requests.0, requests.1, requests.2)
-    (plain_more wanted None None a.own a.got turns (analyzer_turn Start order (Some (No BufferRefused))) none tt (λ report tells. cc (tells)) stands)
-begin_kept wanted order blank (Some client) run answer a b turns none is_blank requests stands =
-    rw (requests.1.own, requests.1.got_is) (request_kept requests.0 wanted order blank client run answer a.own a.got turns none is_blank requests.2 stands)
+    (plain_more wanted None None a.own a.got turns (analyzer_turn dump Start order (Some (No BufferRefused))) none tt (λ report tells. cc (tells)) stands)
+begin_kept dump wanted order blank (Some client) run answer a b turns none is_blank requests stands =
+    rw (requests.1.own, requests.1.got_is) (request_kept dump requests.0 wanted order blank client run answer a.own a.got turns none is_blank requests.2 stands)
 
 -- Turns that change nothing.
 
@@ -159,23 +159,23 @@ stays_kept wanted a b turns t stays none other given is stands =
     answers (Some x) e = tt
     answers None e = absurd (cc (e))
 
-start_kept : (wanted : EventRequest) (order : Order) (blank : Option Totals) (a b : AnalyzerAt) (answer : Answer) (turns : List MemberTurn) → IfSome blank (λ (report : Totals). report ≡ report_of []) → NoneOpen turns → StartsBy blank wanted order.start a b answer
-    → StandsBy wanted a.client a.run a.port turns → StandsBy wanted b.client b.run b.port (analyzer_turn Start order (Some answer) ∷ turns)
-start_kept wanted order None a b answer turns is_blank none starts stands =
-    rw starts.0 (stays_kept wanted a b turns (analyzer_turn Start order (Some (No NotReady))) starts.1 none (λ report tells. cc (tells)) (No NotReady) refl stands)
-start_kept wanted order (Some blank) a b answer turns is_blank none starts stands =
-    begin_kept wanted order blank b.client b.run answer starts.attached b.port turns none is_blank starts.request
+start_kept : (dump : Option (List ℕ)) (wanted : EventRequest) (order : Order) (blank : Option Totals) (a b : AnalyzerAt) (answer : Answer) (turns : List MemberTurn) → IfSome blank (λ (report : Totals). report ≡ report_of []) → NoneOpen turns → StartsBy blank wanted order.start a b answer
+    → StandsBy wanted a.client a.run a.port turns → StandsBy wanted b.client b.run b.port (analyzer_turn dump Start order (Some answer) ∷ turns)
+start_kept dump wanted order None a b answer turns is_blank none starts stands =
+    rw starts.0 (stays_kept wanted a b turns (analyzer_turn dump Start order (Some (No NotReady))) starts.1 none (λ report tells. cc (tells)) (No NotReady) refl stands)
+start_kept dump wanted order (Some blank) a b answer turns is_blank none starts stands =
+    begin_kept dump wanted order blank b.client b.run answer starts.attached b.port turns none is_blank starts.request
     (client_kept wanted a.client b.client starts.dropped starts.attached turns starts.client
     (drop_kept wanted a.client a.run a.port starts.dropped turns none starts.drops stands))
 
 -- A stop.
 
-stop_stage : (stage : AnalyzerStage) (wanted : EventRequest) (client : Option ℕ) (r later : AnalyzerRun) (order : Order) (a b : Access) (turns : List MemberTurn) (events : List Event) → r.start ≡ order.start → NoneOpen turns
-    → StageCounts stage a.own a.got turns (count_request wanted r.client r.request r.start) events → r.report ≡ report_of events → StopsRun stage r later a b → StandsBy wanted client (Some r) a turns → StandsBy wanted client (Some later) b (analyzer_turn Stop order None ∷ turns)
-stop_stage Counting wanted client r later order a b turns events same none counts report stops stands =
+stop_stage : (dump : Option (List ℕ)) (stage : AnalyzerStage) (wanted : EventRequest) (client : Option ℕ) (r later : AnalyzerRun) (order : Order) (a b : Access) (turns : List MemberTurn) (events : List Event) → r.start ≡ order.start → NoneOpen turns
+    → StageCounts stage a.own a.got turns (count_request wanted r.client r.request r.start) events → r.report ≡ report_of events → StopsRun stage r later a b → StandsBy wanted client (Some r) a turns → StandsBy wanted client (Some later) b (analyzer_turn dump Stop order None ∷ turns)
+stop_stage dump Counting wanted client r later order a b turns events same none counts report stops stands =
     let on : CountsRun wanted client r a.own a.got turns = stands.counts in
     let call : BufferEntry = Accepted stops.0 in
-    let t : MemberTurn = analyzer_turn Stop order None in
+    let t : MemberTurn = analyzer_turn dump Stop order None in
     let q : CountRequest = count_request wanted r.client r.request r.start in
     let gave : HasOwnClient (Some r.client) a.own = run_client wanted client r a.own a.got turns stands in
     let now : AnalyzerStands wanted client (Some (run_at (Draining stops.0) r)) (a.own ++ call ∷ []) a.got (t ∷ turns) = record {
@@ -189,45 +189,45 @@ stop_stage Counting wanted client r later order a b turns events same none count
         accepted = on.accepted;
         events = events;
         report_is = report;
-        stage_is = (record { order = order; earlier = turns; of = sym same; latest = refl }, (counts.1.0, [], count_quiet a.own a.got q counts.1.0 events call counts.1.1 tt refl));
+        stage_is = (record { order = order; dump = dump; earlier = turns; of = sym same; latest = refl }, (counts.1.0, [], count_quiet a.own a.got q counts.1.0 events call counts.1.1 tt refl));
       };
     } in
     rw (stops.2, stops.1.own, stops.1.got_is) now
-stop_stage (Draining accepted) wanted client r later order a b turns events same none counts report stops stands = absurd (none_stops r.start turns none counts.0)
-stop_stage Drained wanted client r later order a b turns events same none counts report stops stands = absurd (none_stops r.start turns none counts.0)
+stop_stage dump (Draining accepted) wanted client r later order a b turns events same none counts report stops stands = absurd (none_stops r.start turns none counts.0)
+stop_stage dump Drained wanted client r later order a b turns events same none counts report stops stands = absurd (none_stops r.start turns none counts.0)
 
-stop_own : (is_own : Bool) (wanted : EventRequest) (client : Option ℕ) (r : AnalyzerRun) (order : Order) (port : Access) (b : AnalyzerAt) (answer : Option Answer) (turns : List MemberTurn) → (is_own ≡ true → r.start ≡ order.start) → NoneOpen turns
-    → StopsOwn is_own r (record { client = client; run = Some r; port = port }) b answer → StandsBy wanted client (Some r) port turns → StandsBy wanted b.client b.run b.port (analyzer_turn Stop order answer ∷ turns)
-stop_own true wanted client r order port b answer turns same none stops stands =
+stop_own : (dump : Option (List ℕ)) (is_own : Bool) (wanted : EventRequest) (client : Option ℕ) (r : AnalyzerRun) (order : Order) (port : Access) (b : AnalyzerAt) (answer : Option Answer) (turns : List MemberTurn) → (is_own ≡ true → r.start ≡ order.start) → NoneOpen turns
+    → StopsOwn is_own r (record { client = client; run = Some r; port = port }) b answer → StandsBy wanted client (Some r) port turns → StandsBy wanted b.client b.run b.port (analyzer_turn dump Stop order answer ∷ turns)
+stop_own dump true wanted client r order port b answer turns same none stops stands =
     let on : CountsRun wanted client r port.own port.got turns = stands.counts in
     rw (stops.answer_is, stops.client, stops.run)
-    (stop_stage r.stage wanted client r stops.later order port b.port turns on.events (same refl) none on.stage_is on.report_is stops.stops stands)
-stop_own false wanted client r order port b answer turns same none stops stands =
+    (stop_stage dump r.stage wanted client r stops.later order port b.port turns on.events (same refl) none on.stage_is on.report_is stops.stops stands)
+stop_own dump false wanted client r order port b answer turns same none stops stands =
     rw stops.0
-    (stays_kept wanted (record { client = client; run = Some r; port = port }) b turns (analyzer_turn Stop order (Some (Yes Plain))) stops.1 none (λ report tells. cc (tells)) (Yes Plain) refl stands)
+    (stays_kept wanted (record { client = client; run = Some r; port = port }) b turns (analyzer_turn dump Stop order (Some (Yes Plain))) stops.1 none (λ report tells. cc (tells)) (Yes Plain) refl stands)
 
-stop_kept : (wanted : EventRequest) (client : Option ℕ) (run : Option AnalyzerRun) (order : Order) (port : Access) (b : AnalyzerAt) (answer : Option Answer) (turns : List MemberTurn) → NoneOpen turns
-    → AnswersStop run order.start (record { client = client; run = run; port = port }) b answer → StandsBy wanted client run port turns → StandsBy wanted b.client b.run b.port (analyzer_turn Stop order answer ∷ turns)
-stop_kept wanted client None order port b answer turns none stops stands =
+stop_kept : (dump : Option (List ℕ)) (wanted : EventRequest) (client : Option ℕ) (run : Option AnalyzerRun) (order : Order) (port : Access) (b : AnalyzerAt) (answer : Option Answer) (turns : List MemberTurn) → NoneOpen turns
+    → AnswersStop run order.start (record { client = client; run = run; port = port }) b answer → StandsBy wanted client run port turns → StandsBy wanted b.client b.run b.port (analyzer_turn dump Stop order answer ∷ turns)
+stop_kept dump wanted client None order port b answer turns none stops stands =
     rw stops.0
-    (stays_kept wanted (record { client = client; run = None; port = port }) b turns (analyzer_turn Stop order (Some (Yes Plain))) stops.1 none (λ report tells. cc (tells)) (Yes Plain) refl stands)
-stop_kept wanted client (Some r) order port b answer turns none stops stands =
-    stop_own (r.start == order.start) wanted client r order port b answer turns (λ e. eqb-true r.start order.start e) none stops stands
+    (stays_kept wanted (record { client = client; run = None; port = port }) b turns (analyzer_turn dump Stop order (Some (Yes Plain))) stops.1 none (λ report tells. cc (tells)) (Yes Plain) refl stands)
+stop_kept dump wanted client (Some r) order port b answer turns none stops stands =
+    stop_own dump (r.start == order.start) wanted client r order port b answer turns (λ e. eqb-true r.start order.start e) none stops stands
 
 -- what holds before a turn holds behind it, with its answer
-pub turn_kept : (transition : Transition) (wanted : EventRequest) (order : Order) (blank : Option Totals) (client : Option ℕ) (run : Option AnalyzerRun) (port : Access) (b : AnalyzerAt) (answer : Option Answer) (turns : List MemberTurn)
+pub turn_kept : (dump : Option (List ℕ)) (transition : Transition) (wanted : EventRequest) (order : Order) (blank : Option Totals) (client : Option ℕ) (run : Option AnalyzerRun) (port : Access) (b : AnalyzerAt) (answer : Option Answer) (turns : List MemberTurn)
     → IfSome blank (λ (report : Totals). report ≡ report_of []) → NoneOpen turns → TurnsBy transition wanted order blank (record { client = client; run = run; port = port }) b answer
-    → StandsBy wanted client run port turns → StandsBy wanted b.client b.run b.port (analyzer_turn transition order answer ∷ turns)
-turn_kept Start wanted order blank client run port b answer turns is_blank none by stands =
-    rw by.1 (start_kept wanted order blank (record { client = client; run = run; port = port }) b by.0 turns is_blank none by.2 stands)
-turn_kept Stop wanted order blank client run port b answer turns is_blank none by stands = stop_kept wanted client run order port b answer turns none by stands
-turn_kept Pause wanted order blank client run port b answer turns is_blank none by stands =
+    → StandsBy wanted client run port turns → StandsBy wanted b.client b.run b.port (analyzer_turn dump transition order answer ∷ turns)
+turn_kept dump Start wanted order blank client run port b answer turns is_blank none by stands =
+    rw by.1 (start_kept dump wanted order blank (record { client = client; run = run; port = port }) b by.0 turns is_blank none by.2 stands)
+turn_kept dump Stop wanted order blank client run port b answer turns is_blank none by stands = stop_kept dump wanted client run order port b answer turns none by stands
+turn_kept dump Pause wanted order blank client run port b answer turns is_blank none by stands =
     rw by.0
-    (stays_kept wanted (record { client = client; run = run; port = port }) b turns (analyzer_turn Pause order (Some (Yes Plain))) by.1 none (λ report tells. cc (tells)) (Yes Plain) refl stands)
-turn_kept Resume wanted order blank client run port b answer turns is_blank none by stands =
+    (stays_kept wanted (record { client = client; run = run; port = port }) b turns (analyzer_turn dump Pause order (Some (Yes Plain))) by.1 none (λ report tells. cc (tells)) (Yes Plain) refl stands)
+turn_kept dump Resume wanted order blank client run port b answer turns is_blank none by stands =
     rw by.0
-    (stays_kept wanted (record { client = client; run = run; port = port }) b turns (analyzer_turn Resume order (Some (Yes Plain))) by.1 none (λ report tells. cc (tells)) (Yes Plain) refl stands)
-turn_kept StartAbort wanted order blank client run port b answer turns is_blank none by stands =
+    (stays_kept wanted (record { client = client; run = run; port = port }) b turns (analyzer_turn dump Resume order (Some (Yes Plain))) by.1 none (λ report tells. cc (tells)) (Yes Plain) refl stands)
+turn_kept dump StartAbort wanted order blank client run port b answer turns is_blank none by stands =
     let dropped : StandsBy wanted client None b.port turns = drop_kept wanted client run port b.port turns none by.3 stands in
     rw (by.0, by.1, by.2)
-    (plain_more wanted client None b.port.own b.port.got turns (analyzer_turn StartAbort order (Some (Yes Plain))) none tt (λ report tells. cc (tells)) dropped)
+    (plain_more wanted client None b.port.own b.port.got turns (analyzer_turn dump StartAbort order (Some (Yes Plain))) none tt (λ report tells. cc (tells)) dropped)

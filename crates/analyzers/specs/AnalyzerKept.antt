@@ -7,11 +7,13 @@ use Rattle.buffer_core.specs.declared.entry.BufferEntry.{BufferEntry}
 use Rattle.buffer_core.specs.declared.entry.BufferEntry.TheVariants.{Attach, Request, Cancel, Receive, Accepted}
 use Rattle.buffer_core.specs.Ports.{GotEvent}
 use Rattle.event_report.specs.Reports.{Totals, report_of}
+use Rattle.transitions.specs.declared.answers.Answer.{Answer}
 use Rattle.transitions.specs.declared.answers.Answer.TheVariants.{Yes}
 use Rattle.transitions.specs.declared.answers.Tally.TheVariants.{Plain, Report}
-use Rattle.member_model.specs.Turns.{MemberTurn, HasTurn, HasTurnOf, NoneOpen}
+use Rattle.member_model.specs.Turns.{MemberTurn, HasTurn, HasTurnOf, IsAcceptedStart, NoneOpen, current_run, AreEngineTurns}
 use Rattle.member_model.specs.SentCalls.{EachCall}
 use Rattle.member_model.specs.OwnCalls.{calls_after, gave_number, AreOwnCalls, asks}
+use Rattle.member_model.specs.LoggerKept.{IsStartAnswer}
 use Rattle.analyzers.specs.declared.analyzer_run.EventRequest.{EventRequest}
 use Rattle.analyzers.specs.declared.analyzer_run.AnalyzerRun.{AnalyzerRun}
 use Rattle.analyzers.specs.declared.analyzer_run.AnalyzerStage.{AnalyzerStage}
@@ -67,9 +69,10 @@ ReportsHold wanted own got turns = (t : MemberTurn) → (report : Totals) → Ha
 -- the latest turn is a stop of this run that is not answered
 pub record IsStopOpen (start : ℕ) (turns : List MemberTurn) : Type 0 where
   pub order : Order
+  pub dump : Option (List ℕ)
   pub earlier : List MemberTurn
   pub of : order.start ≡ start
-  pub latest : turns ≡ analyzer_turn Stop order None ∷ earlier
+  pub latest : turns ≡ analyzer_turn dump Stop order None ∷ earlier
 
 -- these are the events that were counted in this stage
 abbrev pub StageCounts : AnalyzerStage → List BufferEntry → List GotEvent → List MemberTurn → CountRequest → List Event → Type 0
@@ -98,3 +101,38 @@ pub record AnalyzerStands (wanted : EventRequest) (client : Option ℕ) (run : O
   pub own_client : HasOwnClient client own
   pub reports : ReportsHold wanted own got turns
   pub counts : RunCounts wanted client run own got turns
+
+-- Turns.
+
+-- each start that was answered was accepted plainly, or refused
+abbrev pub StartsPlain : List MemberTurn → Type 0
+StartsPlain turns = (start : MemberTurn) → (answer : Answer) → HasTurn turns start → start.transition ≡ Start →
+    start.answer ≡ Some answer → IsStartAnswer answer
+
+-- each answered stop of a run whose start was accepted was answered with a report
+abbrev pub StopsReported : List MemberTurn → Type 0
+StopsReported turns = (start : ℕ) → (begin stop : MemberTurn) → (answer : Answer) → IsAcceptedStart turns start begin →
+    HasTurnOf turns Stop start stop → stop.answer ≡ Some answer → (report : Totals) × (answer ≡ Yes (Report report))
+
+-- the analyzer counts the run with this number
+abbrev pub CountsStart : Option AnalyzerRun → (start : ℕ) → Type 0
+CountsStart None start = ⊥
+CountsStart (Some r) start = r.start ≡ start
+
+-- while the run is on whose start it accepted last, it counts that run
+abbrev pub CountsCurrent : Option AnalyzerRun → List MemberTurn → Type 0
+CountsCurrent run turns = (start : ℕ) → (begin : MemberTurn) → current_run turns ≡ Some start → IsAcceptedStart turns start begin → CountsStart run start
+
+-- What an analyzer in this run or in none has told at its turns.
+pub record AnalyzerTells (run : Option AnalyzerRun) (turns : List MemberTurn) : Type 0 where
+  pub starts : StartsPlain turns
+  pub stops : AreEngineTurns turns → StopsReported turns
+  pub current : AreEngineTurns turns → CountsCurrent run turns
+
+-- What holds at every moment: on its port the analyzer sends nothing and makes no mark, and names only clients that an attach of
+-- its own gave; each report that it told is that of a run whose start it accepted; and it told one at each stop of such a run.
+pub record KeepsAnalyzer (wanted : EventRequest) (own : List BufferEntry) (got : List GotEvent) (turns : List MemberTurn) : Type 0 where
+  pub calls : KeepsReaderCalls own
+  pub reports : ReportsHold wanted own got turns
+  pub starts : StartsPlain turns
+  pub stops : AreEngineTurns turns → StopsReported turns

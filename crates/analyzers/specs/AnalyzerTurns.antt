@@ -19,9 +19,9 @@ use Rattle.analyzers.specs.declared.analyzer_run.AnalyzerStage.{AnalyzerStage}
 use Rattle.analyzers.specs.declared.analyzer_run.AnalyzerStage.TheVariants.{Counting, Draining, Drained}
 use Rattle.analyzers.specs.Analyzers.{AnalyzerAt, run_at, CancelsRun}
 
--- the turn that the analyzer was given, which has no dump
-abbrev pub analyzer_turn : Transition → Order → Option Answer → MemberTurn
-analyzer_turn transition order answer = record { transition = transition; order = order; dump = None; answer = answer }
+-- the turn that the analyzer was given; a dump that came with it is passed over
+abbrev pub analyzer_turn : (dump : Option (List ℕ)) → Transition → Order → Option Answer → MemberTurn
+analyzer_turn dump transition order answer = record { transition = transition; order = order; dump = dump; answer = answer }
 
 -- the name under which an analyzer attaches its client
 abbrev pub analyzer_name : List ℕ

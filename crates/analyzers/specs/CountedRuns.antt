@@ -1,12 +1,14 @@
 -- A client whose events of one run are counted, by its one request, until it is drained behind the run's stop. What was got
 -- is read off the calls and the events that they gave; nothing is asked of the buffer.
-use Rattle.std.specs.Prelude.{◌≡◌, ℕ, ◌==◌, ◌&&◌, false, if◌then◌else◌, List, [], ◌∷◌, ◌++◌, Ok}
+use Rattle.std.specs.Prelude.{◌≡◌, ℕ, false, List, [], ◌∷◌, ◌++◌, Result, Ok, ⊤}
 use Rattle.daq_types.specs.declared.events.Event.{Event}
 use Rattle.buffer_core.specs.declared.replies.Received.{Received}
+use Rattle.buffer_core.specs.declared.replies.RequestRefusal.{RequestRefusal}
 use Rattle.buffer_core.specs.declared.entry.BufferEntry.{BufferEntry}
-use Rattle.buffer_core.specs.declared.entry.BufferEntry.TheVariants.{Request, Receive, Accepted}
+use Rattle.buffer_core.specs.declared.entry.BufferEntry.TheVariants.{Request, Cancel, Receive, Accepted}
 use Rattle.buffer_core.specs.Ports.{GotEvent}
 use Rattle.member_model.specs.OwnCalls.{calls_after, asks, KeepsAsking, HasDrained, AreGivenBy}
+use Rattle.member_model.specs.GotRuns.{events_of_start}
 use Rattle.analyzers.specs.declared.analyzer_run.EventRequest.{EventRequest}
 
 -- the request by which a run is counted: what is wanted, the client, the request's number, and the run's start number
@@ -15,15 +17,6 @@ pub record CountRequest : Type 0 where
   pub client : ℕ
   pub number : ℕ
   pub start : ℕ
-
--- the event, where it is the client's and was sent with this start number
-abbrev pub event_of_start : (client start : ℕ) → GotEvent → List Event
-event_of_start client start g = if (g.client == client) && (start == g.start) then g.event ∷ [] else []
-
--- the events with this start number that the client got, in order
-abbrev pub events_of_start : (client start : ℕ) → List GotEvent → List Event
-events_of_start client start [] = []
-events_of_start client start (g ∷ gs) = event_of_start client start g ++ events_of_start client start gs
 
 -- the client's request was made when it had no other, and these are the calls since
 pub record AskedBy (own : List BufferEntry) (q : CountRequest) (calls : List BufferEntry) : Type 0 where
@@ -43,18 +36,24 @@ pub record IsCounted (own : List BufferEntry) (got : List GotEvent) (q : CountRe
   pub events_are : events ≡ events_of_start q.client q.start given
 
 -- Then the buffer told how many events it had taken, and a receive was replied that the client has read all of them: these
--- are the events of the run that it got from its request on until then. Any calls may follow.
+-- are the events of the run that it got from its request on until then. The next call cancelled the request, with any reply;
+-- any calls may follow.
 pub record IsWhollyCounted (own : List BufferEntry) (got : List GotEvent) (q : CountRequest) (events : List Event) : Type 0 where
   pub accepted : ℕ
   pub reading : List BufferEntry
   pub draining : List BufferEntry
   pub room : ℕ
   pub reply : Received
+  pub cancelled : Result ⊤ RequestRefusal
   pub own_by : List BufferEntry
   pub later : List BufferEntry
-  pub own_is : own ≡ own_by ++ later
+  pub own_is : own ≡ own_by ++ Cancel q.client q.number cancelled ∷ later
   pub got_by : List GotEvent
   pub got_later : List GotEvent
   pub got_is : got ≡ got_by ++ got_later
   pub counted : IsCounted own_by got_by q (reading ++ Accepted accepted ∷ (draining ++ Receive q.client room reply ∷ [])) events
   pub drains : HasDrained accepted reply
+
+-- the calls by which the run was counted: those since the request, up to the receive that drained the client
+abbrev pub counted_calls : {own : List BufferEntry} {got : List GotEvent} {q : CountRequest} {events : List Event} → IsWhollyCounted own got q events → List BufferEntry
+counted_calls {own} {got} {q} {events} w = w.reading ++ Accepted w.accepted ∷ (w.draining ++ Receive q.client w.room w.reply ∷ [])

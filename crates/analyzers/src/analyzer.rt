@@ -1,4 +1,4 @@
-ghost use Rattle.std.specs.Prelude.{◌≡◌, ◌==◌, ◌≤◌, ◌+◌, ◌-◌, ◌^◌, [], ◌∷◌, List, Some, None, IfOk, IfSome, codes, length, min};
+ghost use Rattle.std.specs.Prelude.{◌≡◌, ◌==◌, ◌≤◌, ◌+◌, ◌-◌, ◌^◌, [], ◌∷◌, List, ℕ, Option, Some, None, IfOk, IfSome, codes, length, min};
 ghost use Rattle.buffer_core.specs.declared.entry.BufferEntry.{BufferEntry};
 ghost use Rattle.buffer_core.specs.Ports.{GotEvent};
 ghost use Rattle.daq_model.specs.Events.{event_limit};
@@ -10,7 +10,7 @@ ghost use Rattle.analyzers.specs.declared.analyzer_run.AnalyzerStage.TheVariants
 ghost use Rattle.analyzers.specs.Analyzers.{AnalyzerState, CancelsRun, IsWithinGot, run_at};
 ghost use Rattle.analyzers.specs.AnalyzerTurns.{CancelsIn, DropsRun, GetsClient, StartsBy, AnswersStop, StopsRun, TurnsBy, RequestsRun, analyzer_turn, report_answer, run_reported};
 ghost use Rattle.analyzers.specs.AnalyzerPulls.{CountsOwn, CountsReply, EndsReading, PullsBy, ReceivesFor, drains_by, got_bytes, pull_answer, was_drained};
-ghost use Rattle.analyzers.specs.AnalyzerKept.{AnalyzerStands};
+ghost use Rattle.analyzers.specs.AnalyzerKept.{AnalyzerStands, AnalyzerTells};
 
 use crate::analyzer_pull::AnalyzerPull;
 use crate::analyzer_run::{AnalyzerRun, AnalyzerStage, EventRequest};
@@ -191,6 +191,7 @@ impl Analyzer {
         }) }
         ensures stands { IfOk result (λ analyzer. AnalyzerStands analyzer.wanted analyzer.client
             analyzer.run [] [] []) }
+        ensures tells { IfOk result (λ analyzer. AnalyzerTells analyzer.run []) }
     {
         let event = EventBuf::new(alloc, room)?;
         Ok(Analyzer {
@@ -386,12 +387,16 @@ impl Analyzer {
         ensures size { (P.access port.new).size ≡ (P.access port.old).size }
         ensures counted { IsWithinGot self.old.run (P.access port.old).got →
             IsWithinGot self.new.run (P.access port.new).got }
-        ensures keeps { (earlier : List MemberTurn) → NoneOpen earlier →
+        ensures keeps { (dump : Option (List ℕ)) → (earlier : List MemberTurn) → NoneOpen earlier →
             AnalyzerStands self.old.wanted self.old.client self.old.run
             (P.access port.old).own (P.access port.old).got earlier →
             AnalyzerStands self.new.wanted self.new.client self.new.run
             (P.access port.new).own (P.access port.new).got
-            (analyzer_turn transition order.now result ∷ earlier) }
+            (analyzer_turn dump transition order.now result ∷ earlier) }
+        ensures tells { (dump : Option (List ℕ)) → (earlier : List MemberTurn) →
+            AnalyzerTells self.old.run earlier →
+            AnalyzerTells self.new.run
+            (analyzer_turn dump transition order.now result ∷ earlier) }
     {
         self.take_turn(rt, port, transition, order, blank)
     }
@@ -472,6 +477,8 @@ impl Analyzer {
             (P.access port.old).own (P.access port.old).got turns →
             AnalyzerStands self.new.wanted self.new.client self.new.run
             (P.access port.new).own (P.access port.new).got turns }
+        ensures tells { (turns : List MemberTurn) →
+            AnalyzerTells self.old.run turns → AnalyzerTells self.new.run turns }
     {
         self.pull_once(rt, port)
     }
@@ -485,6 +492,10 @@ impl Analyzer {
             AnalyzerStands self.old.wanted self.old.client self.old.run own got turns →
             AnalyzerStands self.new.wanted self.new.client self.new.run own got
             (latest_answered turns result) }
+        ensures tells { (own : List BufferEntry) → (got : List GotEvent) → (turns : List MemberTurn) →
+            AnalyzerStands self.old.wanted self.old.client self.old.run own got turns →
+            AnalyzerTells self.old.run turns →
+            AnalyzerTells self.new.run (latest_answered turns result) }
     {
         let run = self.run.take()?;
         if !is_drained(run.stage) {

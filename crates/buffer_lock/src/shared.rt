@@ -82,9 +82,9 @@ impl<B: EventBuffer> SharedBuffer<B> {
         ensures own { IsOf (lock_of self.now) pass.new }
         ensures number { number_of pass.new ≡ number_of pass.old }
         ensures seen { seen_by pass.new ≡ seen_by pass.old }
-        ensures held { held_by pass.new ≡ Some (B.window result.value.buffer) }
+        ensures held { held_by pass.new ≡ Some (B.window result.value.value.buffer) }
         ensures found { IsPrefix (found_by pass.old) (found_by pass.new) }
-        ensures window { IsWindow (B.window result.value.buffer) }
+        ensures window { IsWindow (B.window result.value.value.buffer) }
     {
         let held = self.turns.take(rt, pass);
         held.value.buffer.accepted();
@@ -99,9 +99,9 @@ impl<B: EventBuffer> SharedBuffer<B> {
         ensures number { number_of pass.new ≡ number_of pass.old }
         ensures seen { seen_by pass.new ≡ seen_by pass.old }
         ensures held { IfOk result (λ held. held_by pass.new
-            ≡ Some (B.window held.value.buffer)) }
+            ≡ Some (B.window held.value.value.buffer)) }
         ensures same { OnOk result (found_by pass.new ≡ found_by pass.old) }
-        ensures window { IfOk result (λ held. IsWindow (B.window held.value.buffer)) }
+        ensures window { IfOk result (λ held. IsWindow (B.window held.value.value.buffer)) }
         ensures taken { IfErr result (λ taken. FindsTaken (lock_of self.now) taken.holder
             pass.old pass.new) }
     {
@@ -120,12 +120,12 @@ impl<B: EventBuffer> SharedBuffer<B> {
         requires own { IsOf (lock_of self.now) pass.old }
         requires step { (before : _) × (held_by pass.old ≡ Some before)
             × StepsWindow before (number_of pass.old) (C.entry call.now)
-            (B.window held.value.buffer) }
+            (B.window held.value.value.buffer) }
         ensures entered { Enters (lock_of self.now) (C.entry call.now) pass.old pass.new }
         ensures opens { IsWindow (B.window (first_buffer self.now)) }
         ensures found { found_by pass.new ≡ found_by pass.old }
         ensures legal { IsLegal (B.window (first_buffer self.now)) (seen_by pass.new) }
-        ensures window { B.window held.value.buffer
+        ensures window { B.window held.value.value.buffer
             ≡ replay (B.window (first_buffer self.now)) (seen_by pass.new) }
     {
         self.turns.put(pass, held, call);
@@ -259,8 +259,8 @@ impl<B: EventBuffer> SharedBuffer<B> {
         body: &[u8],
     ) -> Result<u64, SendRefusal>
         requires own { IsOf (lock_of self.now) pass.old }
-        requires held { held_by pass.old ≡ Some (B.window held.value.buffer) }
-        requires window { IsWindow (B.window held.value.buffer) }
+        requires held { held_by pass.old ≡ Some (B.window held.value.value.buffer) }
+        requires window { IsWindow (B.window held.value.value.buffer) }
         ensures entered { Enters (lock_of self.now) (Send header.now.data_size
             (event_of header.now body.now) result) pass.old pass.new }
         ensures found { found_by pass.new ≡ found_by pass.old }
@@ -337,8 +337,8 @@ impl<B: EventBuffer> SharedBuffer<B> {
         body: &[u8],
     ) -> Result<u64, SendRefusal>
         requires own { IsOf (lock_of self.now) pass.old }
-        requires held { held_by pass.old ≡ Some (B.window held.value.buffer) }
-        requires window { IsWindow (B.window held.value.buffer) }
+        requires held { held_by pass.old ≡ Some (B.window held.value.value.buffer) }
+        requires window { IsWindow (B.window held.value.value.buffer) }
         ensures entered { Enters (lock_of self.now) (SendInRun start header.now.data_size
             (event_of header.now body.now) result) pass.old pass.new }
         ensures found { found_by pass.new ≡ found_by pass.old }
@@ -419,8 +419,8 @@ impl<B: EventBuffer> SharedBuffer<B> {
         into: &mut EventBuf,
     ) -> Received
         requires own { IsOf (lock_of self.now) pass.old }
-        requires held { held_by pass.old ≡ Some (B.window held.value.buffer) }
-        requires window { IsWindow (B.window held.value.buffer) }
+        requires held { held_by pass.old ≡ Some (B.window held.value.value.buffer) }
+        requires window { IsWindow (B.window held.value.value.buffer) }
         ensures entered { Enters (lock_of self.now) (Receive client into.old.room result)
             pass.old pass.new }
         ensures found { found_by pass.new ≡ found_by pass.old }

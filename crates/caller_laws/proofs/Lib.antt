@@ -10,6 +10,7 @@ pub mod RunsCut
 pub mod Sending
 pub mod SentThere
 pub mod RunsSeen
+pub mod RunsSince
 pub mod GoingOn
 pub mod PortParts
 pub mod Sampled

@@ -24,7 +24,8 @@ use Rattle.buffer_core.specs.Ports.{GotEvent, name_of, names_given}
 use Rattle.member_model.specs.OwnCalls.{gave_number, KeepsAsking, is_place_within}
 use Rattle.caller_laws.specs.BufferLaws.{BufferLaws}
 use Rattle.caller_laws.specs.OneCaller.{HaveRunSends}
-use Rattle.caller_laws.specs.SeenRuns.{events_with_start, SeesRun}
+use Rattle.member_model.specs.GotRuns.{events_of_start}
+use Rattle.caller_laws.specs.SeenRuns.{SeesRun}
 use Rattle.caller_laws.specs.CallerLaws.{SeenEvents}
 use Rattle.caller_laws.proofs.Pasts.{past_of-push}
 use Rattle.caller_laws.proofs.OwnPlaces.{place_if, named_places, places_named, all_weaker}
@@ -36,7 +37,7 @@ use Rattle.caller_laws.proofs.Sending.{all_at, segment_there, SentInRun, sent_in
 
 -- Events by their start number.
 
-abbrev has_start : (start : ℕ) → Option Sent → Bool
+abbrev pub has_start : (start : ℕ) → Option Sent → Bool
 has_start start None = false
 has_start start (Some x) = x.start == start
 
@@ -52,14 +53,14 @@ one_seen ss c start g is =
     ∙ ap (λ (d : Bool). events_of ss (if d then g.place ∷ [] else [])) (sym tells))
     (λ h. refl)
 
-all_seen : (ss : List Sent) (c start : ℕ) (gs : List GotEvent) → AllByRecursion (λ (g : GotEvent). slice_get ss g.place ≡ Some (record { event = g.event; start = g.start })) gs
-    → events_with_start c start gs ≡ events_of ss (filter (λ (p : ℕ). has_start start (slice_get ss p)) (named_places c (map name_of gs)))
+pub all_seen : (ss : List Sent) (c start : ℕ) (gs : List GotEvent) → AllByRecursion (λ (g : GotEvent). slice_get ss g.place ≡ Some (record { event = g.event; start = g.start })) gs
+    → events_of_start c start gs ≡ events_of ss (filter (λ (p : ℕ). has_start start (slice_get ss p)) (named_places c (map name_of gs)))
 all_seen ss c start [] all = refl
 all_seen ss c start (g ∷ gs) all =
     let test : ℕ → Bool = λ p. has_start start (slice_get ss p) in
     let here : List ℕ = place_if (g.client == c) g.place in
     let rest : List ℕ = named_places c (map name_of gs) in
-    ap (λ (es : List Event). es ++ events_with_start c start gs) (one_seen ss c start g all.0)
+    ap (λ (es : List Event). es ++ events_of_start c start gs) (one_seen ss c start g all.0)
     ∙ (ap (λ (es : List Event). events_of ss (filter test here) ++ es) (all_seen ss c start gs all.1)
     ∙ (sym (events_of-append ss (filter test here) (filter test rest)) ∙ ap (events_of ss) (sym (filter-append test here rest))))
 
@@ -88,7 +89,7 @@ get_some [] i less = absurd (omega (arith, less))
 get_some (y ∷ ys) zero less = (y, refl)
 get_some (y ∷ ys) (suc i) less = get_some ys i (omega (arith, less))
 
-get_first : {X : Type 0} (xs ys : List X) (i : ℕ) → i < length xs → slice_get (xs ++ ys) i ≡ slice_get xs i
+pub get_first : {X : Type 0} (xs ys : List X) (i : ℕ) → i < length xs → slice_get (xs ++ ys) i ≡ slice_get xs i
 get_first [] ys i less = absurd (omega (arith, less))
 get_first (x ∷ xs) ys zero less = refl
 get_first (x ∷ xs) ys (suc i) less = get_first xs ys i (omega (arith, less))
@@ -208,16 +209,20 @@ seen_places laws size h start ended before later client id mask (Some from) lega
     refl
 
 -- The marks and the request of a run that was seen.
-record SeenAt (size : ℕ) (h : List (ℕ × BufferEntry)) (by client id mask start ended : ℕ) (before : List (ℕ × BufferEntry)) : Type 0 where
+pub record SeenAt (size : ℕ) (h : List (ℕ × BufferEntry)) (by client id mask start ended : ℕ) (before : List (ℕ × BufferEntry)) : Type 0 where
   pub later : List (ℕ × BufferEntry)
   pub whole : h ≡ before ++ later
   pub gave : gave_number (entries_by by (past_of h)) client ≡ true
   pub begin : Option ℕ
   pub segment_is : segment h start ≡ events_between begin (Some ended) (sent (past_of h))
   pub within : ended ≤ count_at (past_of h)
+  pub ends : List (ℕ × BufferEntry)
+  pub rest : List (ℕ × BufferEntry)
+  pub whole_ends : h ≡ ends ++ rest
+  pub ended_ends : ended_at (past_of ends) start ≡ Some ended
   pub reads : (from : ℕ) → count_at (past_of before) ≤ from → ReadsAll h client id mask from ended
 
-seen_at : (laws : BufferLaws) (size : ℕ) (h : List (ℕ × BufferEntry)) (by client id mask start ended : ℕ) → Facts size h → (s : SeesRun h by client id mask start ended) → SeenAt size h by client id mask start ended s.before
+pub seen_at : (laws : BufferLaws) (size : ℕ) (h : List (ℕ × BufferEntry)) (by client id mask start ended : ℕ) → Facts size h → (s : SeesRun h by client id mask start ended) → SeenAt size h by client id mask start ended s.before
 seen_at laws size h by client id mask start ended f s =
     let call : ℕ × BufferEntry = (by, Request client id mask All (Ok s.number)) in
     let end : ℕ × BufferEntry = (s.by, End start (Ok ended)) in
@@ -254,6 +259,10 @@ seen_at laws size h by client id mask start ended f s =
       begin = begun_at (past_of ends) start;
       segment_is = seen_segment laws size h ends rest start ended (begun_at (past_of ends) start) f.legal whole_ends ended_ends refl small_ends;
       within = omega (arith, small_ends, subst (λ (x : List (ℕ × BufferEntry)). count_at (past_of ends) ≤ count_at (past_of x)) (sym whole_ends) (count_front ends rest));
+      ends = ends;
+      rest = rest;
+      whole_ends = whole_ends;
+      ended_ends = ended_ends;
       reads = λ from less. reads_from size h front s.after s.before behind by client id mask s.number from ended whole f front_split at_front less keeps has_read;
     }
 

@@ -73,6 +73,7 @@ read_with e =
         draining = Receive 0 0 (Empty Shut 1) ∷ [];
         asked = record { before = Attach [] (Ok 0) ∷ []; whole = refl; alone = λ n. refl };
         asks_on = tt;
+        no_begin = tt;
         reads_on = (tt, tt);
         no_end = (tt, tt);
         drains_on = (tt, tt);
@@ -117,6 +118,7 @@ drained_read =
         draining = Receive 0 0 (Empty Shut 1) ∷ [];
         asked = record { before = Attach [] (Ok 0) ∷ []; whole = refl; alone = λ n. refl };
         asks_on = tt;
+        no_begin = tt;
         reads_on = tt;
         no_end = tt;
         drains_on = (tt, tt);

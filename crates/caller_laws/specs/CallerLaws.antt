@@ -1,11 +1,13 @@
 -- What the calls of one caller tell of the history of all callers: statements of the laws.
 use Rattle.std.specs.Prelude.{◌≡◌, ℕ, List, [], ◌∷◌, ◌++◌, slice_get, Contains, Some, Ok, ◌⊎◌}
+use Rattle.std.specs.List.{AllByRecursion}
 use mathlib.Core.List.{IsPrefix}
 use Rattle.daq_types.specs.Callers.{entries_by}
 use Rattle.daq_types.specs.declared.events.Event.{Event}
+use Rattle.daq_types.specs.declared.runs.Kind.TheVariants.{All}
 use Rattle.daq_model.specs.RunFile.{begun_file, run_file}
 use Rattle.buffer_core.specs.declared.entry.BufferEntry.{BufferEntry}
-use Rattle.buffer_core.specs.declared.entry.BufferEntry.TheVariants.{SendInRun}
+use Rattle.buffer_core.specs.declared.entry.BufferEntry.TheVariants.{Request, SendInRun}
 use Rattle.buffer_core.specs.Window.{Sent, opening}
 use Rattle.buffer_core.specs.Histories.{History, IsLegal}
 use Rattle.buffer_core.specs.Runs.{segment}
@@ -15,10 +17,11 @@ use Rattle.local_port.specs.Ported.{Ported, IsPorted, access_of}
 use Rattle.member_model.specs.SentCalls.{own_sent, IsSendInRun, EachCall}
 use Rattle.member_model.specs.OwnCalls.{calls_after, IsOwnCall, AreOwnCalls, SendsNone, AreGivenBy}
 use Rattle.member_model.specs.ReadRuns.{HasReadRun}
-use Rattle.caller_laws.specs.OneCaller.{IsCallersPart, HaveOwnClients, SendsInRuns, HaveRunSends, events_in}
+use Rattle.caller_laws.specs.OneCaller.{WasSentAt, IsCallersPart, HaveOwnClients, SendsInRuns, HaveRunSends, events_in}
 use Rattle.member_model.specs.CutRuns.{HasCutRun}
 use Rattle.caller_laws.specs.SentRuns.{places_sent, events_at_places}
-use Rattle.caller_laws.specs.SeenRuns.{events_with_start, SeesRun}
+use Rattle.member_model.specs.GotRuns.{events_of_start}
+use Rattle.caller_laws.specs.SeenRuns.{SeesRun}
 
 -- A client that has read a run got, of the places between the run's marks, just those of the events that it asked for.
 abbrev pub ReadPlaces : Type 0
@@ -59,7 +62,17 @@ SeenEvents = (size : ℕ) → (history : History) → (caller : ℕ) → (own : 
     AreGivenBy own got →
     (client id mask start ended : ℕ) →
     SeesRun history caller client id mask start ended →
-    events_with_start client start got ≡ events_in (wanted id mask (segment history start))
+    events_of_start client start got ≡ events_in (wanted id mask (segment history start))
+
+-- And just these are the events with that number that its calls gave since that request. The history may have gone on since.
+abbrev pub SeenSince : Type 0
+SeenSince = (size : ℕ) → (history later : History) → (caller : ℕ) → (got given : List GotEvent) →
+    IsLegal (opening size) (history ++ later) → HaveOwnClients (history ++ later) → HaveRunSends (history ++ later) →
+    AreGivenBy (entries_by caller (history ++ later)) got → AllByRecursion (WasSentAt (history ++ later)) got →
+    (client id mask start ended : ℕ) → (sees : SeesRun history caller client id mask start ended) → (calls : List BufferEntry) →
+    entries_by caller history ≡ entries_by caller sees.before ++ Request client id mask All (Ok sees.number) ∷ calls →
+    AreGivenBy calls given → AllByRecursion (WasSentAt (history ++ later)) given →
+    events_of_start client start given ≡ events_in (wanted id mask (segment (history ++ later) start))
 
 -- the event was sent in the run, at this place, by one of these calls
 pub record IsSendOf (own : List BufferEntry) (start place : ℕ) (event : Event) : Type 0 where

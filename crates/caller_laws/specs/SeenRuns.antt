@@ -1,21 +1,14 @@
 -- A run that another caller begins and ends, as a client that reads it sees it: by the start number of the events that it got.
-use Rattle.std.specs.Prelude.{◌≡◌, ◌≢◌, ℕ, ◌==◌, ◌&&◌, if◌then◌else◌, false, List, [], ◌∷◌, ◌++◌, Ok}
+use Rattle.std.specs.Prelude.{◌≡◌, ◌≢◌, ℕ, false, List, [], ◌∷◌, ◌++◌, Ok}
 use Rattle.std.specs.List.{AllByRecursion}
 use Rattle.daq_types.specs.Callers.{entries_by}
-use Rattle.daq_types.specs.declared.events.Event.{Event}
 use Rattle.daq_types.specs.declared.runs.Kind.TheVariants.{All}
 use Rattle.buffer_core.specs.declared.gate.RunGate.{RunGate}
 use Rattle.buffer_core.specs.declared.replies.Received.TheVariants.{Empty}
 use Rattle.buffer_core.specs.declared.entry.BufferEntry.{BufferEntry}
 use Rattle.buffer_core.specs.declared.entry.BufferEntry.TheVariants.{Request, Receive, End}
 use Rattle.buffer_core.specs.Points.{sent, past_of}
-use Rattle.buffer_core.specs.Ports.{GotEvent}
 use Rattle.member_model.specs.OwnCalls.{calls_after, asks, KeepsAsking}
-
--- the events with this start number that the client got, in order
-abbrev pub events_with_start : (client start : ℕ) → List GotEvent → List Event
-events_with_start client start [] = []
-events_with_start client start (g ∷ gs) = (if (g.client == client) && (g.start == start) then g.event ∷ [] else []) ++ events_with_start client start gs
 
 -- Before the first event with this start number the caller made its client's request for all events of this id and mask, the
 -- only one that was not cancelled; the run was ended; and then a receive of the client found nothing, before another request

@@ -13,7 +13,8 @@ use Rattle.buffer_core.specs.Readers.{wanted}
 use Rattle.buffer_core.specs.Samples.{sample_event}
 use Rattle.member_model.specs.OwnCalls.{AreGivenBy}
 use Rattle.caller_laws.specs.OneCaller.{WasSentAt, HaveOwnClients, HaveRunSends, events_in}
-use Rattle.caller_laws.specs.SeenRuns.{events_with_start, SeesRun}
+use Rattle.member_model.specs.GotRuns.{events_of_start}
+use Rattle.caller_laws.specs.SeenRuns.{SeesRun}
 use Rattle.caller_laws.specs.CallerSamples.{RunSample, with_run, with_own_run, reading_history, reading_calls}
 
 -- what the law asks
@@ -38,7 +39,7 @@ MeetsSeen SeenThrough s = SeesRun s.history 1 0 any any 1 1
 
 -- what the law says of it
 abbrev pub IsSeenRight : RunSample → Type 0
-IsSeenRight s = events_with_start 0 1 s.got ≡ events_in (wanted any any (segment s.history 1))
+IsSeenRight s = events_of_start 0 1 s.got ≡ events_in (wanted any any (segment s.history 1))
 
 -- all but this premise are met, and the events are wrong
 pub record FailsToSee (premise : SeenPremise) (s : RunSample) : Type 0 where

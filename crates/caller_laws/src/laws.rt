@@ -7,7 +7,7 @@ ghost use Rattle.buffer_core.specs.Histories.{IsLegal};
 ghost use Rattle.caller_laws.specs.OneCaller.{HaveRunSends, IsCallersPart};
 ghost use Rattle.caller_laws.specs.CallerSamples.{ReadPremise, LegalHistory, OwnClients, CallersEntries, SentEvents, RunIsRead, MeetsPremise, IsReadRight, FailsWithout, IsUnsent, read_whole, found_nothing, got_by_other, call_left_out, other_event_told, not_drained, sent_in_none, sent_in_other, asked_level};
 ghost use Rattle.caller_laws.specs.SeenSamples.{SeenPremise, SeenLegal, SeenClients, SeenSends, SeenEntries, SeenPlaces, SeenGiven, SeenThrough, MeetsSeen, IsSeenRight, FailsToSee, got_of_none, event_not_told};
-ghost use Rattle.caller_laws.specs.CallerLaws.{ReadPlaces, ReadEvents, CutEvents, CutFile, SeenEvents, SentByCaller, SendIsAmong, SendStands, SendsStandInOrder, PartGoesOn, ReadGoesOn, CutGoesOn, OwnGoOn, PortTells, SenderHasOwn, SenderSendsInRuns, SilentSendsInRuns, MembersFit};
+ghost use Rattle.caller_laws.specs.CallerLaws.{ReadPlaces, ReadEvents, CutEvents, CutFile, SeenEvents, SeenSince, SentByCaller, SendIsAmong, SendStands, SendsStandInOrder, PartGoesOn, ReadGoesOn, CutGoesOn, OwnGoOn, PortTells, SenderHasOwn, SenderSendsInRuns, SilentSendsInRuns, MembersFit};
 
 use buffer_core::laws;
 
@@ -58,6 +58,13 @@ pub fn cut_file()
 /// events between the marks that it asked for, where no caller sends but in runs.
 pub fn sees_events()
     ensures { SeenEvents }
+{
+    of_buffers();
+}
+
+/// And just these events it got from the request on by which it saw the run through.
+pub fn sees_since()
+    ensures { SeenSince }
 {
     of_buffers();
 }

@@ -91,7 +91,7 @@ dump_is d dump e = ap (λ (o : Option (List ℕ)). unwrap_or o []) e
 
 -- A channel that ended.
 
-pub files_hold_runs : EngineFacts → CallerFacts → FilesHoldRuns
+pub files_hold_runs : EngineFacts → CallerFacts → (s : Session) → MembersKeep s → FilesHoldRuns s
 files_hold_runs laws callers s keep r run index channel at told dump has =
     let l : LoggerRun s r channel Ended = logger_run laws s keep r run channel Ended told in
     let b : ℕ = channel.buffer in
@@ -117,7 +117,7 @@ files_hold_runs laws callers s keep r run index channel at told dump has =
 
 -- A channel that broke off.
 
-pub files_hold_parts : EngineFacts → CallerFacts → FilesHoldParts
+pub files_hold_parts : EngineFacts → CallerFacts → (s : Session) → MembersKeep s → FilesHoldParts s
 files_hold_parts laws callers s keep r run index channel at told ended marks dump last_dump has has_last =
     let l : LoggerRun s r channel Broken = logger_run laws s keep r run channel Broken told in
     let b : ℕ = channel.buffer in
@@ -154,7 +154,7 @@ files_hold_parts laws callers s keep r run index channel at told ended marks dum
 
 -- What the logger told.
 
-plain_start : (answer : Answer) (tally : Tally) → answer ≡ Yes tally → IsStartAnswer answer → answer ≡ Yes Plain
+pub plain_start : (answer : Answer) (tally : Tally) → answer ≡ Yes tally → IsStartAnswer answer → answer ≡ Yes Plain
 plain_start answer tally is plain = is ∙ ap (λ (t : Tally). Yes t) (subst IsStartAnswer is plain)
 
 told_channels : (tally : Tally) (turn_answer : Option Answer) (answer : Answer) (states : List ChannelState) → tally ≡ tally_of answer → turn_answer ≡ Some answer → turn_answer ≡ Some (Yes (Channels states)) → tally ≡ Channels states
@@ -163,7 +163,7 @@ told_channels tally turn_answer answer states is answered told =
     let same : answer ≡ Yes (Channels states) = cc (both) in
     is ∙ ap tally_of same
 
-pub channels_told : EngineFacts → ChannelsTold
+pub channels_told : EngineFacts → (s : Session) → MembersKeep s → ChannelsTold s
 channels_told laws s keep r run index channel at =
     let turns : List MemberTurn = turns_of s s.logger in
     let own : List BufferEntry = buffer_calls s channel.buffer s.logger in

@@ -1,4 +1,10 @@
 pub mod SessionTurns
 pub mod SentTogether
+pub mod SetTogether
 pub mod FilesTogether
+pub mod SeenBy
+pub mod ReportsTogether
 pub mod Sampled
+pub mod NeededSessions
+pub mod CountedSampled
+pub mod PausedSampled

@@ -5,6 +5,7 @@ use Rattle.std.proofs.Common.{ap, sym, ◌∙◌, subst, arith, inl, inr, ne_eqb
 use Rattle.std.proofs.lemmas.Bool.{eqb-true, eqb-false}
 use Rattle.std.proofs.lemmas.List.Elements.{All-nil, All-cons}
 use Rattle.daq_types.specs.Callers.{entries_by}
+use Rattle.daq_types.specs.declared.events.Event.{Event}
 use Rattle.daq_types.specs.declared.runs.ChannelState.{ChannelState}
 use Rattle.daq_types.specs.declared.runs.ChannelState.TheVariants.{Ended, Broken}
 use Rattle.daq_types.specs.declared.runs.FrontEnded.{FrontEnded}
@@ -34,18 +35,20 @@ use Rattle.transitions.specs.EngineCalls.{order_for}
 use Rattle.transitions.specs.EngineHistories.{EngineHistory, IsLegalEngine, IsSheet}
 use Rattle.transitions.specs.EngineSamples.{at_all}
 use Rattle.member_model.specs.Turns.{MemberTurn, HasTurn, HasTurnOf}
-use Rattle.member_model.specs.SentCalls.{EachCall}
+use Rattle.member_model.specs.Moments.{HasMoment}
+use Rattle.member_model.specs.SentCalls.{SendsNotIn, EachCall}
 use Rattle.member_model.specs.OwnCalls.{calls_after, AreOwnCalls, SendsNone}
 use Rattle.run_states.specs.Sequences.{sequence_for}
 use Rattle.member_model.specs.ReadRuns.{HasReadRun}
 use Rattle.member_model.specs.LoggerKept.{LoggerChannel, LoggerPort, HasWritten, TellsState, IsStartAnswer, IsStateSo, KeepsLogger}
-use Rattle.front_ends.specs.FrontKept.{IsMade, IsFrontTally, KeepsFront}
+use Rattle.front_ends.specs.FrontKept.{IsMade, IsFrontTally, KeepsFront, KeepsMoments}
 use Rattle.caller_laws.specs.OneCaller.{WasSentAt}
 use Rattle.caller_laws.specs.CallerSamples.{reading_history, reading_calls, with_own_run, got_first}
 use Rattle.engine_laws.specs.BegunTurns.{IsRegisteredIn}
-use Rattle.composition.specs.Sessions.{SessionFront, HasFront, IsFrontCaller, turns_of, buffer_calls, IsRegistered, MembersKeep}
+use Rattle.composition.specs.SentSets.{AreTurnSets}
+use Rattle.composition.specs.Sessions.{SessionFront, SessionAnalyzer, HasFront, HasAnalyzer, IsMemberCaller, turns_of, buffer_calls, database_calls, IsRegistered, MembersKeep}
 use Rattle.composition.specs.SessionRuns.{IsStoppedRun, ToldState}
-use Rattle.composition.specs.SessionSamples.{first_sheet, last_sheet, sample_engine, sample_history, sample_got, sample_front, sample_channel, sample_files, sample_session, sample_run}
+use Rattle.composition.specs.SessionSamples.{first_sheet, last_sheet, sample_engine, sample_history, sample_got, sample_name, sample_front, sample_channel, sample_files, sample_session, sample_run}
 
 -- The histories are legal.
 
@@ -58,10 +61,10 @@ short_byte byte bytes e =
     let same : byte ∷ [] ≡ bytes = cc (e) in
     omega (arith, sym (ap (λ (xs : List ℕ). length xs) same))
 
-first_fair : IsSheet first_sheet
+pub first_fair : IsSheet first_sheet
 first_fair = record { short = short_byte 7; blank = tt }
 
-last_fair : IsSheet last_sheet
+pub last_fair : IsSheet last_sheet
 last_fair = record { short = short_byte 8; blank = tt }
 
 engine_is_legal : IsLegalEngine engine_opening sample_engine
@@ -71,16 +74,16 @@ engine_is_legal =
 
 -- The front-end.
 
-abbrev front_start : MemberTurn
+abbrev pub front_start : MemberTurn
 front_start = record { transition = Start; order = order_for first_sheet 1 Stopped; dump = None; answer = Some (Yes Plain) }
 
-abbrev front_stop : MemberTurn
+abbrev pub front_stop : MemberTurn
 front_stop = record { transition = Stop; order = order_for last_sheet 1 Running; dump = None; answer = Some (Yes (Front 1 Quota)) }
 
-abbrev front_turns : List MemberTurn
+abbrev pub front_turns : List MemberTurn
 front_turns = front_stop ∷ front_start ∷ []
 
-abbrev front_calls : List BufferEntry
+abbrev pub front_calls : List BufferEntry
 front_calls = SendInRun 1 0 sample_event (Ok 0) ∷ []
 
 start_stands : HasTurnOf front_turns Start 1 front_start
@@ -98,7 +101,7 @@ front_made start =
 stop_tally_is : IsFrontTally front_calls front_turns (order_for last_sheet 1 Running) 1 Quota
 stop_tally_is = record { number = refl; ended_so = (front_start, start_stands, refl) }
 
-front_keeps : KeepsFront (λ order. true) (λ order number. sample_event) front_calls front_turns
+pub front_keeps : KeepsFront (λ order. true) (λ order number. sample_event) front_calls front_turns
 front_keeps = record {
   only_sends = (tt, tt);
   starts = starts;
@@ -132,28 +135,42 @@ front_keeps = record {
     tally_right t sent ended (inr (inl same)) is told = absurd (let e : Start ≡ Stop = ap (λ (v : MemberTurn). v.transition) same ∙ is in cc (e))
     tally_right t sent ended (inr (inr none)) is told = absurd none
 
+-- its moments
+
+pub front_moments : KeepsMoments front_calls front_turns (1 ∷ 0 ∷ [])
+front_moments = record { are = (omega arith, (omega arith, tt)); ends = λ are t moment has is answer. ends t moment has is }
+  where
+    ends : (t : MemberTurn) (moment : ℕ) → HasMoment front_turns (1 ∷ 0 ∷ []) t moment → t.transition ≡ Stop → EachCall (SendsNotIn t.order.start) (drop moment front_calls)
+    ends t moment (inl here) is = subst (λ (n : ℕ). EachCall (SendsNotIn t.order.start) (drop n front_calls)) here.1 tt
+    ends t moment (inr (inl here)) is = absurd (let e : Start ≡ Stop = ap (λ (v : MemberTurn). v.transition) here.0 ∙ is in cc (e))
+    ends t moment (inr (inr none)) is = absurd none
+
+pub front_set : AreTurnSets sample_name front_calls front_turns (1 ∷ 0 ∷ []) (database_calls sample_session 1)
+front_set = inl (record { reply = Ok 8; is = refl }, (record { reply = Ok 8; is = refl }, tt))
+
 -- The logger.
 
-abbrev logger_start : MemberTurn
+abbrev pub logger_start : MemberTurn
 logger_start = record { transition = Start; order = order_for first_sheet 1 Stopped; dump = Some (7 ∷ []); answer = Some (Yes Plain) }
 
-abbrev logger_stop : MemberTurn
+abbrev pub logger_stop : MemberTurn
 logger_stop = record { transition = Stop; order = order_for last_sheet 1 Running; dump = Some (8 ∷ []); answer = Some (Yes (Channels (Ended ∷ []))) }
 
-abbrev logger_turns : List MemberTurn
+abbrev pub logger_turns : List MemberTurn
 logger_turns = logger_stop ∷ logger_start ∷ []
 
 abbrev logger_port : (buffer : ℕ) → LoggerPort
 logger_port buffer = record { own = buffer_calls sample_session buffer 0; got = sample_got buffer }
 
-run_read : HasReadRun reading_calls (got_first sample_event ∷ []) 0 any any 0 1 0 1 (sample_event ∷ [])
-run_read = record {
+-- whatever event it is that the client was told
+pub run_read_of : (event : Event) → HasReadRun reading_calls (got_first event ∷ []) 0 any any 0 1 0 1 (event ∷ [])
+run_read_of event = record {
   drained = with_own_run (Receive 0 0 (Got 0 1) ∷ End 1 (Ok 1) ∷ []);
   room = 0;
   reply = Empty Shut 1;
   later = [];
   own_is = refl;
-  got_by = got_first sample_event ∷ [];
+  got_by = got_first event ∷ [];
   got_later = [];
   got_is = refl;
   reads = record {
@@ -162,11 +179,12 @@ run_read = record {
     draining = Receive 0 0 (Empty Shut 1) ∷ [];
     asked = record { before = Attach [] (Ok 0) ∷ []; whole = refl; alone = λ n. refl };
     asks_on = tt;
+    no_begin = tt;
     reads_on = (tt, tt);
     no_end = (tt, tt);
     drains_on = (tt, tt);
     earlier = [];
-    given_running = got_first sample_event ∷ [];
+    given_running = got_first event ∷ [];
     given_draining = [];
     got_is = refl;
     gives_running = record { named_so = refl };
@@ -176,7 +194,7 @@ run_read = record {
   drains = tt;
 }
 
-sample_fine : IsFileEvent sample_event
+pub sample_fine : IsFileEvent sample_event
 sample_fine = record { begins_none = λ e. omega (arith, e); ends_none = λ e. omega (arith, e); small = omega arith }
 
 run_written : HasWritten (logger_port 0) logger_turns sample_files sample_channel logger_stop
@@ -189,21 +207,21 @@ run_written = record {
   begun = 0;
   ended = 1;
   events = sample_event ∷ [];
-  reads = run_read;
+  reads = run_read_of sample_event;
   fine = All-cons IsFileEvent sample_event [] sample_fine (All-nil IsFileEvent);
   stored = record { holds = λ tells. refl };
 }
 
-only_channel : (index : ℕ) (channel : LoggerChannel) → slice_get (sample_channel ∷ []) index ≡ Some channel → sample_channel ≡ channel
+pub only_channel : (index : ℕ) (channel : LoggerChannel) → slice_get (sample_channel ∷ []) index ≡ Some channel → sample_channel ≡ channel
 only_channel zero channel e = cc (e)
 only_channel (suc n) channel e = absurd (cc (e))
 
-stop_is : (t : MemberTurn) → HasTurn logger_turns t → t.transition ≡ Stop → logger_stop ≡ t
+pub stop_is : (t : MemberTurn) → HasTurn logger_turns t → t.transition ≡ Stop → logger_stop ≡ t
 stop_is t (inl same) is = same
 stop_is t (inr (inl same)) is = absurd (let e : Start ≡ Stop = ap (λ (v : MemberTurn). v.transition) same ∙ is in cc (e))
 stop_is t (inr (inr none)) is = absurd none
 
-never_broken : (stop : MemberTurn) → TellsState logger_turns stop sample_channel Broken → ⊥
+pub never_broken : (stop : MemberTurn) → TellsState logger_turns stop sample_channel Broken → ⊥
 never_broken stop tells =
     let answer : Some (Yes (Channels (Ended ∷ []))) ≡ Some (Yes (Channels tells.states)) = ap (λ (v : MemberTurn). v.answer) (stop_is stop tells.stands tells.is) ∙ tells.answered in
     let states : Ended ∷ [] ≡ tells.states = cc (answer) in
@@ -217,7 +235,7 @@ ended_told = (
   ((λ (e : Some (8 ∷ []) ≡ None). cc (e)), (1, record { before = with_own_run (Receive 0 0 (Got 0 1) ∷ []); after = Receive 0 0 (Empty Shut 1) ∷ []; is = refl })),
 )
 
-logger_is_kept : KeepsLogger (sample_channel ∷ []) logger_port logger_turns sample_files
+pub logger_is_kept : KeepsLogger (sample_channel ∷ []) logger_port logger_turns sample_files
 logger_is_kept = record {
   sends_none = sends_none;
   own_calls = own_calls;
@@ -249,21 +267,21 @@ logger_is_kept = record {
 
 -- All together.
 
-none_of_others : (caller : ℕ) → 1 ≢ caller → 2 ≢ caller → entries_by caller reading_history ≡ []
+pub none_of_others : (caller : ℕ) → 1 ≢ caller → 2 ≢ caller → entries_by caller reading_history ≡ []
 none_of_others caller logger front = rw (ne_eqb 1 caller logger, ne_eqb 2 caller front) refl
 
-sample_callers : (buffer caller : ℕ) → (entries_by caller (sample_history buffer) ≡ []) ⊎ ((caller ≡ 1) ⊎ IsFrontCaller sample_session buffer caller)
+sample_callers : (buffer caller : ℕ) → (entries_by caller (sample_history buffer) ≡ []) ⊎ IsMemberCaller sample_session buffer caller
 sample_callers (suc n) caller = inl refl
 sample_callers zero caller =
-    split (1 == caller) (λ b. (1 == caller) ≡ b → (entries_by caller reading_history ≡ []) ⊎ ((caller ≡ 1) ⊎ IsFrontCaller sample_session 0 caller))
+    split (1 == caller) (λ b. (1 == caller) ≡ b → (entries_by caller reading_history ≡ []) ⊎ IsMemberCaller sample_session 0 caller)
     (λ h e. inr (inl (sym (eqb-true 1 caller e))))
-    (λ h e. split (2 == caller) (λ b. (2 == caller) ≡ b → (entries_by caller reading_history ≡ []) ⊎ ((caller ≡ 1) ⊎ IsFrontCaller sample_session 0 caller))
-    (λ h' e'. inr (inr (record { front = sample_front; stands = (0, refl); buffer_is = refl; caller_is = eqb-true 2 caller e' })))
+    (λ h e. split (2 == caller) (λ b. (2 == caller) ≡ b → (entries_by caller reading_history ≡ []) ⊎ IsMemberCaller sample_session 0 caller)
+    (λ h' e'. inr (inr (inl (record { front = sample_front; stands = (0, refl); buffer_is = refl; caller_is = eqb-true 2 caller e' }))))
     (λ h' e'. inl (none_of_others caller (eqb-false 1 caller e) (eqb-false 2 caller e')))
     refl)
     refl
 
-only_front : (f : SessionFront) → HasFront sample_session f → sample_front ≡ f
+pub only_front : (f : SessionFront) → HasFront sample_session f → sample_front ≡ f
 only_front f (zero, e) = cc (e)
 only_front f (suc n, e) = absurd (cc (e))
 
@@ -315,6 +333,10 @@ front_before t sequence (x ∷ y ∷ ys) later caller begun sheet start called e
       called = called;
     }
 
+pub no_analyzer : (a : SessionAnalyzer) → HasAnalyzer sample_session a → ⊥
+no_analyzer a (zero, e) = absurd (cc (e))
+no_analyzer a (suc n, e) = absurd (cc (e))
+
 pub sample_keeps : MembersKeep sample_session
 sample_keeps = record {
   buffers_legal = legal;
@@ -322,10 +344,15 @@ sample_keeps = record {
   own_clients = (tt, (tt, (tt, (refl, (refl, (refl, (refl, (tt, (tt, (refl, (refl, (refl, (refl, (tt, tt))))))))))))));
   callers = sample_callers;
   fronts_keep = λ f has. subst (λ (x : SessionFront). KeepsFront x.takes x.makes (buffer_calls sample_session x.buffer x.client) (turns_of sample_session x.client)) (only_front f has) front_keeps;
+  fronts_moments = λ f has. subst (λ (x : SessionFront). KeepsMoments (buffer_calls sample_session x.buffer x.client) (turns_of sample_session x.client) x.moments) (only_front f has) front_moments;
+  fronts_set = λ f has. subst (λ (x : SessionFront). AreTurnSets x.name (buffer_calls sample_session x.buffer x.client) (turns_of sample_session x.client) x.moments (database_calls sample_session x.client)) (only_front f has) front_set;
   logger_keeps = logger_is_kept;
   logger_got = got_so;
+  analyzers_keep = λ a has. absurd (no_analyzer a has);
+  analyzers_got = λ a has. absurd (no_analyzer a has);
   fronts_registered = λ f has. subst (λ (x : SessionFront). IsRegistered sample_session x.client Start × IsRegistered sample_session x.client Stop) (only_front f has)
       ((λ earlier later caller begun sheet start e. front_before Start 2 earlier later caller begun sheet start refl e), (λ earlier later caller begun sheet start e. front_before Stop 2 earlier later caller begun sheet start refl e));
+  analyzers_registered = λ a has. absurd (no_analyzer a has);
   logger_registered = (
     (λ earlier later caller begun sheet start e. logger_before Start 1 earlier later caller begun sheet start refl e),
     (λ earlier later caller begun sheet start e. logger_before Stop 1 earlier later caller begun sheet start refl e),

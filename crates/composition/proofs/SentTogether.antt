@@ -10,7 +10,7 @@ use Rattle.daq_types.specs.declared.runs.StartOutcome.TheVariants.{Completed}
 use Rattle.daq_types.specs.declared.runs.Transition.TheVariants.{Start, Stop}
 use Rattle.daq_types.specs.declared.runs.Why.TheVariants.{NotReady}
 use Rattle.buffer_core.specs.declared.entry.BufferEntry.{BufferEntry}
-use Rattle.buffer_core.specs.declared.entry.BufferEntry.TheVariants.{SendInRun}
+use Rattle.buffer_core.specs.declared.entry.BufferEntry.TheVariants.{Send, SendInRun}
 use Rattle.buffer_core.specs.Histories.{History}
 use Rattle.transitions.specs.declared.answers.Answer.{Answer}
 use Rattle.transitions.specs.declared.answers.Answer.TheVariants.{Yes, No}
@@ -23,6 +23,7 @@ use Rattle.member_model.specs.Turns.{MemberTurn, IsAcceptedStart, HasTurnOf, Are
 use Rattle.member_model.specs.SentCalls.{own_sent, EachCall, WasSpent}
 use Rattle.member_model.specs.OwnCalls.{SendsNone}
 use Rattle.front_ends.specs.FrontKept.{made_events, EndedSo, IsFrontTally, KeepsFront}
+use Rattle.analyzers.specs.AnalyzerKept.{IsReaderCall}
 use Rattle.caller_laws.specs.OneCaller.{HaveRunSends}
 use Rattle.caller_laws.specs.CallerLaws.{IsSendOf, SendsStandInOrder, SentByCaller, SendsOrReads, MembersFit}
 use Rattle.engine_laws.specs.BegunTurns.{HasTally}
@@ -33,7 +34,7 @@ use Rattle.composition.proofs.SessionTurns.{EngineFacts, are_turns, start_turn, 
 
 -- What a front-end told at the stop.
 
-yes_front : (answer : Answer) (sent : ℕ) (ended : FrontEnded) → Front sent ended ≡ tally_of answer → answer ≡ Yes (Front sent ended)
+pub yes_front : (answer : Answer) (sent : ℕ) (ended : FrontEnded) → Front sent ended ≡ tally_of answer → answer ≡ Yes (Front sent ended)
 yes_front (Yes tally) sent ended e = ap (λ (t : Tally). Yes t) (sym e)
 yes_front (No why) sent ended e = absurd (cc (e))
 
@@ -56,7 +57,7 @@ ended_in laws s keep r run f sent EndedPaused t so = record {
 }
 ended_in laws s keep r run f sent (EndedSpent total) t so = subst (λ (n : ℕ). WasSpent (buffer_calls s f.buffer f.client) n total) (number_of Stop r.last r.start t.turn t.of_begin) so
 
-pub fronts_sent : EngineFacts → FrontsSent
+pub fronts_sent : EngineFacts → (s : Session) → MembersKeep s → FrontsSent s
 fronts_sent laws s keep r run f has sent ended tells =
     let own : List BufferEntry = buffer_calls s f.buffer f.client in
     let turns : List MemberTurn = turns_of s f.client in
@@ -80,7 +81,7 @@ fronts_sent laws s keep r run f has sent ended tells =
       ended_so = ended_in laws s keep r run f sent ended t tally.ended_so;
     }
 
-pub fronts_stand : EngineFacts → SendsStandInOrder → FrontsStand
+pub fronts_stand : EngineFacts → SendsStandInOrder → (s : Session) → MembersKeep s → FrontsStand s
 fronts_stand laws stand s keep r run f has sent ended tells =
     sym (stand (s.size f.buffer) (s.history f.buffer) (keep.buffers_legal f.buffer) (caller_of_client f.client) r.start) ∙ (fronts_sent laws s keep r run f has sent ended tells).events
 
@@ -96,7 +97,7 @@ retold r client index tally sent ended at is = (index, at ∙ ap (λ (x : Tally)
 told_as : (tally : Tally) (answer : Answer) (sent : ℕ) (ended : FrontEnded) → tally ≡ tally_of answer → answer ≡ Yes (Front sent ended) → tally ≡ Front sent ended
 told_as tally answer sent ended is answered = is ∙ ap tally_of answered
 
-pub fronts_tell : EngineFacts → FrontsTell
+pub fronts_tell : EngineFacts → (s : Session) → MembersKeep s → FrontsTell s
 fronts_tell laws s keep r run f has =
     let turns : List MemberTurn = turns_of s f.client in
     let keeps : KeepsFront f.takes f.makes (buffer_calls s f.buffer f.client) turns = keep.fronts_keep f has in
@@ -124,20 +125,36 @@ each_at : (P : BufferEntry → Type 0) (before after : List BufferEntry) (e : Bu
 each_at P [] after e each = each.0
 each_at P (b ∷ before) after e each = each_at P before after e each.1
 
+reader_silent : (e : BufferEntry) → IsReaderCall e → SendsNone e
+reader_silent (Send stated event reply) reads = absurd reads
+reader_silent (SendInRun start stated event reply) reads = absurd reads
+reader_silent e reads = tt
+
+readers_silent : (own : List BufferEntry) → EachCall IsReaderCall own → EachCall SendsNone own
+readers_silent [] each = tt
+readers_silent (e ∷ own) each = (reader_silent e each.0, readers_silent own each.1)
+
 pub each_reads_or_sends : (s : Session) → MembersKeep s → (buffer caller : ℕ) → SendsOrReads (entries_by caller (s.history buffer))
 each_reads_or_sends s keep buffer caller = elim (keep.callers buffer caller) as (λ w. SendsOrReads (entries_by caller (s.history buffer))) [
   | inl none ↦ subst SendsOrReads (sym none) (inl tt)
   | inr member ↦ elim member as (λ w. SendsOrReads (entries_by caller (s.history buffer))) [
     | inl logger ↦
         subst (λ (by : ℕ). SendsOrReads (entries_by by (s.history buffer))) (sym logger) (inr (keep.logger_keeps.sends_none buffer, keep.logger_keeps.own_calls buffer))
-    | inr front ↦
-        let keeps = keep.fronts_keep front.front front.stands in
-        subst (λ (by : ℕ). SendsOrReads (entries_by by (s.history buffer))) front.caller_is
-        (subst (λ (b : ℕ). SendsOrReads (entries_by (caller_of_client front.front.client) (s.history b))) front.buffer_is (inl keeps.only_sends))
+    | inr other ↦ elim other as (λ w. SendsOrReads (entries_by caller (s.history buffer))) [
+      | inl front ↦
+          let keeps = keep.fronts_keep front.front front.stands in
+          subst (λ (by : ℕ). SendsOrReads (entries_by by (s.history buffer))) front.caller_is
+          (subst (λ (b : ℕ). SendsOrReads (entries_by (caller_of_client front.front.client) (s.history b))) front.buffer_is (inl keeps.only_sends))
+      | inr analyzer ↦
+          let keeps = keep.analyzers_keep analyzer.analyzer analyzer.stands in
+          subst (λ (by : ℕ). SendsOrReads (entries_by by (s.history buffer))) analyzer.caller_is
+          (subst (λ (b : ℕ). SendsOrReads (entries_by (caller_of_client analyzer.analyzer.client) (s.history b))) analyzer.buffer_is
+          (inr (readers_silent (buffer_calls s analyzer.analyzer.buffer analyzer.analyzer.client) keeps.calls.only_reads, keeps.calls.own_calls)))
+    ]
   ]
 ]
 
-pub only_fronts_sent : SentByCaller → MembersFit → OnlyFrontsSent
+pub only_fronts_sent : SentByCaller → MembersFit → (s : Session) → MembersKeep s → OnlyFrontsSent s
 only_fronts_sent sent fit s keep buffer start index place x at =
     let h : History = s.history buffer in
     let runs : HaveRunSends h = (fit h (each_reads_or_sends s keep buffer)).1 in
@@ -148,11 +165,19 @@ only_fronts_sent sent fit s keep buffer start index place x at =
         | inl logger ↦
             let calls : entries_by (caller_of_client s.logger) h ≡ it.1.before ++ SendInRun start it.1.stated x.event (Ok place) ∷ it.1.after = ap (λ (by : ℕ). entries_by by h) (sym logger) ∙ it.1.stands in
             absurd (each_at SendsNone it.1.before it.1.after (SendInRun start it.1.stated x.event (Ok place)) (subst (EachCall SendsNone) calls (keep.logger_keeps.sends_none buffer)))
-        | inr front ↦ record {
-          front = front.front;
-          stands = front.stands;
-          buffer_is = front.buffer_is;
-          send = subst (λ (by : ℕ). IsSendOf (entries_by by h) start place x.event) (sym front.caller_is) it.1;
-        }
+        | inr other ↦ elim other as (λ w. IsOfFront s buffer start place x.event) [
+          | inl front ↦ record {
+            front = front.front;
+            stands = front.stands;
+            buffer_is = front.buffer_is;
+            send = subst (λ (by : ℕ). IsSendOf (entries_by by h) start place x.event) (sym front.caller_is) it.1;
+          }
+          | inr analyzer ↦
+              let own : ℕ → ℕ → List BufferEntry = λ b by. entries_by by (s.history b) in
+              let reads : EachCall IsReaderCall (own buffer it.0) =
+              subst (λ (by : ℕ). EachCall IsReaderCall (own buffer by)) analyzer.caller_is
+              (subst (λ (b : ℕ). EachCall IsReaderCall (own b (caller_of_client analyzer.analyzer.client))) analyzer.buffer_is (keep.analyzers_keep analyzer.analyzer analyzer.stands).calls.only_reads) in
+              absurd (each_at IsReaderCall it.1.before it.1.after (SendInRun start it.1.stated x.event (Ok place)) (subst (EachCall IsReaderCall) it.1.stands reads))
+        ]
       ]
     ]

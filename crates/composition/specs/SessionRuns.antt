@@ -1,6 +1,7 @@
 -- A run of a session, and what is so of it.
 use mathlib.Core.List.{IsPrefix}
 use Rattle.std.specs.Prelude.{◌≡◌, ℕ, List, ◌∷◌, ◌++◌, All, slice_get, Some, Ok}
+use Rattle.daq_types.specs.Callers.{caller_of_client, entries_by}
 use Rattle.daq_types.specs.declared.events.Event.{Event}
 use Rattle.daq_types.specs.declared.runs.ChannelState.{ChannelState}
 use Rattle.daq_types.specs.declared.runs.FrontEnded.{FrontEnded}
@@ -12,21 +13,27 @@ use Rattle.daq_types.specs.declared.runs.Transition.TheVariants.{Start, Stop}
 use Rattle.daq_model.specs.RunFile.{run_file, IsFileEvent}
 use Rattle.daq_io.specs.Seen.{IsStored}
 use Rattle.buffer_core.specs.Runs.{segment}
+use Rattle.event_report.specs.Reports.{Totals}
 use Rattle.buffer_core.specs.Readers.{among, places_got, places_of, wanted}
 use Rattle.transitions.specs.declared.sheet.Sheet.{Sheet}
 use Rattle.transitions.specs.declared.answers.ClientTally.{ClientTally}
-use Rattle.transitions.specs.declared.answers.Tally.TheVariants.{Front, Channels}
+use Rattle.transitions.specs.declared.answers.Tally.TheVariants.{Front, Channels, Report}
 use Rattle.transitions.specs.declared.entry.EngineEntry.TheVariants.{Begin}
 use Rattle.transitions.specs.EngineCalls.{order_for}
 use Rattle.transitions.specs.EnginePoints.{engine_past, state_at}
 use Rattle.transitions.specs.EngineHistories.{EngineHistory}
+use Rattle.member_model.specs.Turns.{MemberTurn}
+use Rattle.member_model.specs.Moments.{HasMoment}
 use Rattle.member_model.specs.SentCalls.{own_sent, WasSpent}
 use Rattle.member_model.specs.LoggerKept.{LoggerChannel}
 use Rattle.front_ends.specs.FrontKept.{made_events}
 use Rattle.caller_laws.specs.OneCaller.{events_in}
+use Rattle.analyzers.specs.AnalyzerKept.{IsReportOfRun}
+use Rattle.caller_laws.specs.SeenRuns.{SeesRun}
 use Rattle.caller_laws.specs.CallerLaws.{IsSendOf}
 use Rattle.engine_laws.specs.BegunTurns.{HasTransition}
-use Rattle.composition.specs.Sessions.{Session, SessionFront, HasFront, buffer_calls}
+use Rattle.composition.specs.SentSets.{sent_by_moment}
+use Rattle.composition.specs.Sessions.{Session, SessionFront, SessionAnalyzer, HasFront, turns_of, buffer_calls}
 
 -- A run: its start number, the sheets that its start and its stop were begun with, and the tallies in their Dones.
 pub record SessionRun : Type 0 where
@@ -73,6 +80,15 @@ pub record FrontSent (s : Session) (r : SessionRun) (f : SessionFront) (sent : �
   pub events : own_sent (buffer_calls s f.buffer f.client) r.start ≡ made_events f.makes (run_order r) sent
   pub ended_so : EndedIn s r f sent ended
 
+-- Behind its answer to the stop of the run the front-end had sent so many events in it, which is what it set at that turn.
+pub record SetAtStop (s : Session) (r : SessionRun) (f : SessionFront) (sent : ℕ) : Type 0 where
+  pub turn : MemberTurn
+  pub moment : ℕ
+  pub has : HasMoment (turns_of s f.client) f.moments turn moment
+  pub is : turn.transition ≡ Stop
+  pub of : turn.order.start ≡ r.start
+  pub number : sent_by_moment (buffer_calls s f.buffer f.client) turn.order.start moment ≡ sent
+
 -- a front-end of the buffer sent the event in the run with this start number, at this place
 pub record IsOfFront (s : Session) (buffer start place : ℕ) (event : Event) : Type 0 where
   pub front : SessionFront
@@ -108,3 +124,25 @@ pub record HoldsFilePart (s : Session) (r : SessionRun) (channel : LoggerChannel
   pub bytes : List ℕ
   pub stored : IsStored s.files (channel.name r.first.run) bytes
   pub part : IsPrefix bytes (run_file r.first.run r.first.time dump (channel_events s r channel) r.last.time last_dump)
+
+-- Analyzers.
+
+-- in the Done of the stop the analyzer's client told this report
+abbrev pub TellsTotals : SessionRun → (client : ℕ) → Totals → Type 0
+TellsTotals r client report = (index : ℕ) × (slice_get r.last_tallies index ≡ Some (record { client = client; tally = Report report }))
+
+-- the report is that of the events of the run that the analyzer's client got, from one request until it was drained
+abbrev pub ReportsRun : Session → SessionRun → SessionAnalyzer → Totals → Type 0
+ReportsRun s r a report = IsReportOfRun a.wanted (buffer_calls s a.buffer a.client) a.got (turns_of s a.client) r.start report
+
+-- the events of the run that the analyzer asks for: those between the marks in its buffer, in order
+abbrev pub analyzer_events : Session → SessionRun → SessionAnalyzer → List Event
+analyzer_events s r a = events_in (wanted a.wanted.id a.wanted.mask (segment (s.history a.buffer) r.start))
+
+-- The analyzer saw the run through, by the request by which it counted the run: that request for all events stands in the
+-- buffer's history before the first event with the run's start number; and while it lived, a receive of the client behind the
+-- end of the run found nothing.
+pub record SawThrough (s : Session) (r : SessionRun) (a : SessionAnalyzer) (report : Totals) (told : ReportsRun s r a report) : Type 0 where
+  pub ended : ℕ
+  pub sees : SeesRun (s.history a.buffer) (caller_of_client a.client) told.client a.wanted.id a.wanted.mask r.start ended
+  pub by_request : entries_by (caller_of_client a.client) sees.before ≡ told.counted.counted.asked.before

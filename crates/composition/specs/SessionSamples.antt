@@ -1,5 +1,5 @@
 -- A session that meets all that the laws ask: a front-end that sends one event, a logger of one channel, and a run.
-use Rattle.std.specs.Prelude.{ℕ, zero, suc, true, false, List, [], ◌∷◌, Some, None, Ok}
+use Rattle.std.specs.Prelude.{ℕ, zero, suc, codes, true, false, List, [], ◌∷◌, Some, None, Ok}
 use Rattle.daq_types.specs.declared.runs.ChannelState.TheVariants.{Ended}
 use Rattle.daq_types.specs.declared.runs.FrontEnded.TheVariants.{Quota}
 use Rattle.daq_types.specs.declared.runs.RunState.TheVariants.{Stopped, Running}
@@ -11,6 +11,10 @@ use Rattle.buffer_core.specs.Window.{any}
 use Rattle.buffer_core.specs.Histories.{History}
 use Rattle.buffer_core.specs.Ports.{GotEvent}
 use Rattle.buffer_core.specs.Samples.{sample_event}
+use Rattle.odb_value.specs.declared.items.Item.TheVariants.{UInt64}
+use Rattle.odb_tree.specs.declared.entry.DatabaseEntry.{DatabaseEntry}
+use Rattle.odb_tree.specs.declared.entry.DatabaseEntry.TheVariants.{Set}
+use Rattle.odb_runinfo.specs.RunKeys.{sent_path}
 use Rattle.transitions.specs.declared.sheet.Sheet.{Sheet}
 use Rattle.transitions.specs.declared.answers.Answer.TheVariants.{Yes}
 use Rattle.transitions.specs.declared.answers.Tally.TheVariants.{Plain, Front, Channels}
@@ -60,8 +64,16 @@ abbrev pub sample_got : (buffer : ℕ) → List GotEvent
 sample_got zero = got_first sample_event ∷ []
 sample_got (suc n) = []
 
+-- its name, "F"
+abbrev pub sample_name : List ℕ
+sample_name = codes "F"
+
+-- it sets 0 at its start, and 1 at its stop
+abbrev pub sample_database : List (ℕ × DatabaseEntry)
+sample_database = (2, Set (sent_path sample_name) 0 (UInt64 0) (Ok 8)) ∷ (2, Set (sent_path sample_name) 0 (UInt64 1) (Ok 8)) ∷ []
+
 abbrev pub sample_front : SessionFront
-sample_front = record { client = 1; buffer = 0; takes = λ order. true; makes = λ order number. sample_event }
+sample_front = record { name = sample_name; client = 1; buffer = 0; takes = λ order. true; makes = λ order number. sample_event; moments = 1 ∷ 0 ∷ [] }
 
 abbrev pub sample_channel : LoggerChannel
 sample_channel = record { number = 0; name = λ run. []; buffer = 0; client = 0; id = any; mask = any }
@@ -82,10 +94,12 @@ sample_session = record {
   size = λ buffer. 48;
   history = sample_history;
   engine = sample_engine;
+  database = sample_database;
   fronts = sample_front ∷ [];
   logger = 0;
   channels = sample_channel ∷ [];
   got = sample_got;
+  analyzers = [];
   files = sample_files;
 }
 

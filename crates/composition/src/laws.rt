@@ -1,26 +1,43 @@
 //! Laws of a session's members together: each function does nothing, and its contract is the law.
 
-ghost use Rattle.composition.specs.CompositionLaws.{FrontsTell, FrontsSent, FrontsStand, OnlyFrontsSent, ChannelsTold, FilesHoldRuns, FilesHoldParts};
+ghost use Rattle.composition.specs.CompositionLaws.{FrontsTell, FrontsSent, FrontsStand, FrontsSet, StopsSet, OnlyFrontsSent, ChannelsTold, FilesHoldRuns, FilesHoldParts, ReportsTold, ReportsSo, ReportsWhole};
 ghost use Rattle.daq_types.specs.declared.runs.ChannelState.TheVariants.{Ended};
-ghost use Rattle.composition.specs.Sessions.{MembersKeep};
-ghost use Rattle.composition.specs.SessionRuns.{IsStoppedRun, ToldState};
+ghost use Rattle.composition.specs.Sessions.{Session, MembersKeep};
+ghost use Rattle.composition.specs.SessionRuns.{IsStoppedRun, ToldState, ReportsRun, SawThrough};
 ghost use Rattle.composition.specs.SessionSamples.{sample_session, sample_run, sample_channel};
+ghost use Rattle.composition.specs.PausedSamples.{paused_session, pausing_run, paused_channel};
+ghost use Rattle.composition.specs.CountedSamples.{counted_session, counted_run, counted_analyzer, counted_report};
+ghost use Rattle.buffer_core.specs.Samples.{sample_event, longer_event};
+ghost use Rattle.composition.specs.NeededSamples.{SessionPremise, LegalBuffers, LegalEngine, OwnNames, MemberCalls, KeptFronts, FrontMoments, FrontNumbers, KeptLogger, LoggerEvents, KeptAnalyzers, AnalyzerEvents, FrontsThere, AnalyzersThere, LoggerThere, OneDump, MeetsSession, FailsSession, unmarked_session, made_up, spoken_for, unknown_sender, other_made, early_session, nothing_set, nothing_stored, other_told, front_for_analyzer, unknown_front, unknown_analyzer, unknown_logger, no_dump};
 
 use caller_laws::laws as callers;
 use engine_laws::laws as turns;
 use transitions::laws as engine;
 
 /// In a run that was not refused and was stopped each front-end told in the Done of the stop what it sent, and that is what
-/// it sent: the first events of its equipment, in order. They all stand between the marks of the run. Each event between the marks of a run was sent in that run by a
-/// front-end of that buffer.
+/// it sent: the first events of its equipment, in order. They all stand between the marks of the run. Each event between the
+/// marks of a run was sent in that run by a front-end of that buffer.
 pub fn fronts()
-    ensures tell { FrontsTell }
-    ensures sent { FrontsSent }
-    ensures stand { FrontsStand }
-    ensures only { OnlyFrontsSent }
+    ensures tell { (s : Session) → MembersKeep s → FrontsTell s }
+    ensures sent { (s : Session) → MembersKeep s → FrontsSent s }
+    ensures stand { (s : Session) → MembersKeep s → FrontsStand s }
+    ensures only { (s : Session) → MembersKeep s → OnlyFrontsSent s }
 {
     callers::sent_by();
     callers::fits_members();
+    turns::gives_turns();
+    turns::turns_begun();
+    turns::tallies_answered();
+    turns::called_told();
+    engine::start_numbers_rise();
+}
+
+/// Each front-end set in the database, in its own key alone, 0 at each start, and at each pause and each stop how many events
+/// it had sent in the run by then. At the stop of a run that was not refused that is what it told in the Done.
+pub fn sets()
+    ensures set { (s : Session) → MembersKeep s → FrontsSet s }
+    ensures stop { (s : Session) → MembersKeep s → StopsSet s }
+{
     turns::gives_turns();
     turns::turns_begun();
     turns::tallies_answered();
@@ -33,9 +50,9 @@ pub fn fronts()
 /// The file of each channel that the logger told to have ended is the run file of all events between the marks of the run
 /// that the channel asks for, with the dumps of the two sheets; the file of one that was told to be broken begins so.
 pub fn files()
-    ensures told { ChannelsTold }
-    ensures hold { FilesHoldRuns }
-    ensures parts { FilesHoldParts }
+    ensures told { (s : Session) → MembersKeep s → ChannelsTold s }
+    ensures hold { (s : Session) → MembersKeep s → FilesHoldRuns s }
+    ensures parts { (s : Session) → MembersKeep s → FilesHoldParts s }
 {
     callers::reads_places();
     callers::reads_events();
@@ -49,9 +66,65 @@ pub fn files()
     engine::start_numbers_rise();
 }
 
+/// In a run that was not refused and was stopped each analyzer told in the Done of the stop the report of the events of the run
+/// that its client got. Where it saw the run through, these are all events between the marks of the run that it asks for.
+pub fn reports()
+    ensures told { (s : Session) → MembersKeep s → ReportsTold s }
+    ensures so { (s : Session) → MembersKeep s → ReportsSo s }
+    ensures whole { (s : Session) → MembersKeep s → ReportsWhole s }
+{
+    callers::sees_since();
+    callers::fits_members();
+    turns::gives_turns();
+    turns::turns_begun();
+    turns::tallies_answered();
+    turns::called_told();
+    engine::start_numbers_rise();
+}
+
 /// What these laws ask is met by a session with a run, a front-end that sends an event, and a channel that ended.
 pub fn is_met()
     ensures session { MembersKeep sample_session }
     ensures run { IsStoppedRun sample_session sample_run }
     ensures channel { ToldState sample_session sample_run sample_channel Ended }
+{}
+
+/// The sample session meets all that these laws ask; and there are sessions each of which meets all but one of these things, and
+/// for which one of the laws is false.
+pub fn needs_each_premise()
+    ensures met { (premise : SessionPremise) → MeetsSession premise sample_session }
+    ensures buffers { FailsSession LegalBuffers unmarked_session FrontsStand }
+    ensures engine { FailsSession LegalEngine made_up FilesHoldRuns }
+    ensures names { FailsSession OwnNames spoken_for FilesHoldRuns }
+    ensures members { FailsSession MemberCalls unknown_sender OnlyFrontsSent }
+    ensures fronts { FailsSession KeptFronts other_made FrontsSent }
+    ensures moments { FailsSession FrontMoments early_session StopsSet }
+    ensures sets { FailsSession FrontNumbers nothing_set FrontsSet }
+    ensures logger { FailsSession KeptLogger nothing_stored FilesHoldRuns }
+    ensures events { FailsSession LoggerEvents other_told FilesHoldRuns }
+    ensures analyzers { FailsSession KeptAnalyzers front_for_analyzer ReportsTold }
+    ensures counted { FailsSession AnalyzerEvents (counted_session longer_event) ReportsWhole }
+    ensures fronts_there { FailsSession FrontsThere unknown_front FrontsTell }
+    ensures analyzers_there { FailsSession AnalyzersThere unknown_analyzer ReportsTold }
+    ensures logger_there { FailsSession LoggerThere unknown_logger ChannelsTold }
+    ensures dump { FailsSession OneDump no_dump ChannelsTold }
+{}
+
+/// So does a session with two front-ends, two buffers with a channel each, a run that is paused and then stopped, and a start that
+/// a front-end refuses.
+pub fn is_met_paused()
+    ensures session { MembersKeep paused_session }
+    ensures run { IsStoppedRun paused_session pausing_run }
+    ensures first { ToldState paused_session pausing_run (paused_channel 0) Ended }
+    ensures second { ToldState paused_session pausing_run (paused_channel 1) Ended }
+{}
+
+/// So does a session with an analyzer, which sees its run through.
+pub fn is_met_counted()
+    ensures session { MembersKeep (counted_session sample_event) }
+    ensures run { IsStoppedRun (counted_session sample_event) (counted_run sample_event) }
+    ensures through { (told : ReportsRun (counted_session sample_event) (counted_run sample_event)
+        (counted_analyzer sample_event) (counted_report sample_event)) ×
+        SawThrough (counted_session sample_event) (counted_run sample_event)
+        (counted_analyzer sample_event) (counted_report sample_event) told }
 {}

@@ -122,7 +122,7 @@ keeps_more takes makes own turns t keeps right starts tells = record {
 
 waiting_more : (stop : Option Order) (start : ℕ) (turns : List MemberTurn) (t : MemberTurn) → IsWaiting stop start turns → NoneOpen turns → HasAnswer t.answer → IsWaiting stop start (t ∷ turns)
 waiting_more None start turns t waits none answered = answered
-waiting_more (Some order) start turns t waits none answered = absurd (subst (λ (ts : List MemberTurn). NoneOpen ts) waits.2 none)
+waiting_more (Some order) start turns t waits none answered = absurd (subst (λ (ts : List MemberTurn). NoneOpen ts) waits.3 none)
 
 -- the new turn is no answered stop of this run
 abbrev pub LeavesRun : MemberTurn → (start : ℕ) → Type 0

@@ -54,10 +54,10 @@ plain_more takes makes own turns (Some r) t none stands answer leaves plain star
   current = current;
 }
 
-begin_kept : (takes : Order → Bool) (makes : Order → ℕ → Event) (own : List BufferEntry) (turns : List MemberTurn) (run : Option FrontRun) (order : Order) → true ≡ takes order → FrontStands takes makes run own turns
-    → FrontStands takes makes (Some (begun_run order)) own (front_turn Start order (Some (Yes Plain)) ∷ turns)
-begin_kept takes makes own turns run order takes_part stands =
-    let t : MemberTurn = front_turn Start order (Some (Yes Plain)) in
+begin_kept : (dump : Option (List ℕ)) (takes : Order → Bool) (makes : Order → ℕ → Event) (own : List BufferEntry) (turns : List MemberTurn) (run : Option FrontRun) (order : Order) → true ≡ takes order → FrontStands takes makes run own turns
+    → FrontStands takes makes (Some (begun_run order)) own (front_turn dump Start order (Some (Yes Plain)) ∷ turns)
+begin_kept dump takes makes own turns run order takes_part stands =
+    let t : MemberTurn = front_turn dump Start order (Some (Yes Plain)) in
     record {
       keeps = keeps_more takes makes own turns t stands.keeps (λ are sent ended is tells. absurd (cc (is)))
           (λ is. ap (λ (b : Bool). Some (if b then Yes Plain else No NotReady)) takes_part)
@@ -80,20 +80,20 @@ begin_kept takes makes own turns run order takes_part stands =
     }
 
 -- a start that was refused is not the accepted start of its number
-refused_current : (run : Option FrontRun) (turns : List MemberTurn) (order : Order) → AreEngineTurns (front_turn Start order (Some (No NotReady)) ∷ turns) → IsInCurrent run (front_turn Start order (Some (No NotReady)) ∷ turns)
-refused_current run turns order are start begin on accepted =
+refused_current : (dump : Option (List ℕ)) (run : Option FrontRun) (turns : List MemberTurn) (order : Order) → AreEngineTurns (front_turn dump Start order (Some (No NotReady)) ∷ turns) → IsInCurrent run (front_turn dump Start order (Some (No NotReady)) ∷ turns)
+refused_current dump run turns order are start begin on accepted =
     let number : order.start ≡ start = cc (on) in
     elim accepted.is_start.stands as (λ w. IsInRun run start) [
       | inl same ↦ absurd (let e : Some (No NotReady) ≡ Some (Yes Plain) = ap (λ (v : MemberTurn). v.answer) same ∙ accepted.accepted in cc (e))
       | inr before ↦ absurd (are.0.1 begin before (accepted.is_start.of ∙ sym number))
     ]
 
-stop_kept : (takes : Order → Bool) (makes : Order → ℕ → Event) (own : List BufferEntry) (turns : List MemberTurn) (r : FrontRun) (order : Order) (same over : Bool) → (same ≡ true → r.order.start ≡ order.start) → (same ≡ false → r.order.start ≢ order.start)
+stop_kept : (dump : Option (List ℕ)) (takes : Order → Bool) (makes : Order → ℕ → Event) (own : List BufferEntry) (turns : List MemberTurn) (r : FrontRun) (order : Order) (same over : Bool) → (same ≡ true → r.order.start ≡ order.start) → (same ≡ false → r.order.start ≢ order.start)
     → (over ≡ true → is_over r order ≡ true) → NoneOpen turns → FrontStands takes makes (Some r) own turns
     → FrontStands takes makes (if same then (if over then None else Some (stopping_run order r)) else Some r) own
-    (front_turn Stop order (if same then (if over then Some (Yes (front_tally r order.from)) else None) else Some (Yes Plain)) ∷ turns)
-stop_kept takes makes own turns r order true true is other over none stands =
-    let t : MemberTurn = front_turn Stop order (Some (Yes (front_tally r order.from))) in
+    (front_turn dump Stop order (if same then (if over then Some (Yes (front_tally r order.from)) else None) else Some (Yes Plain)) ∷ turns)
+stop_kept dump takes makes own turns r order true true is other over none stands =
+    let t : MemberTurn = front_turn dump Stop order (Some (Yes (front_tally r order.from))) in
     record {
       keeps = keeps_more takes makes own turns t stands.keeps
           (λ are sent ended stop tells.
@@ -110,8 +110,8 @@ stop_kept takes makes own turns r order true true is other over none stands =
       run_stands = tt;
       current = λ are. current_none None (t ∷ turns) refl;
     }
-stop_kept takes makes own turns r order true false is other over none stands =
-    let t : MemberTurn = front_turn Stop order None in
+stop_kept dump takes makes own turns r order true false is other over none stands =
+    let t : MemberTurn = front_turn dump Stop order None in
     let on : TakesPart makes own turns r = stands.run_stands in
     record {
       keeps = keeps_more takes makes own turns t stands.keeps (λ are sent ended stop tells. absurd (cc (tells)))
@@ -124,14 +124,14 @@ stop_kept takes makes own turns r order true false is other over none stands =
         order_is = on.order_is;
         within = on.within;
         spent_so = on.spent_so;
-        waiting = (sym (is refl), turns, refl);
+        waiting = (sym (is refl), dump, turns, refl);
         sent_is = λ are. on.sent_is are.1;
         fresh = λ are. fresh_more turns t r.order.start (on.fresh are.1) (λ stop answer. absurd answer);
       };
       current = λ are. current_none (Some (stopping_run order r)) (t ∷ turns) refl;
     }
-stop_kept takes makes own turns r order false over is other ends none stands =
-    let t : MemberTurn = front_turn Stop order (Some (Yes Plain)) in
+stop_kept dump takes makes own turns r order false over is other ends none stands =
+    let t : MemberTurn = front_turn dump Stop order (Some (Yes Plain)) in
     plain_more takes makes own turns (Some r) t none stands tt
     (λ start q run stop answer. let e : r ≡ q = cc (run) in
     subst (λ (v : FrontRun). order.start ≢ v.order.start) e (λ (back : order.start ≡ r.order.start). other refl (sym back)))
@@ -158,30 +158,30 @@ paused_kept takes makes own turns r paused stands = record {
 }
 
 -- what holds before a turn holds behind it, with its answer
-pub turn_kept : (takes : Order → Bool) (makes : Order → ℕ → Event) (part : Bool) (run : Option FrontRun) (own : List BufferEntry) (turns : List MemberTurn) (transition : Transition) (order : Order) → part ≡ takes order → NoneOpen turns → FrontStands takes makes run own turns
-    → FrontStands takes makes (run_after part run transition order) own (front_turn transition order (front_answer part run transition order) ∷ turns)
-turn_kept takes makes true run own turns Start order is none stands = begin_kept takes makes own turns run order is stands
-turn_kept takes makes false run own turns Start order is none stands =
-    plain_more takes makes own turns run (front_turn Start order (Some (No NotReady))) none stands tt (λ start r is stop answer. absurd (cc (stop))) (λ sent ended tells. cc (tells))
+pub turn_kept : (dump : Option (List ℕ)) (takes : Order → Bool) (makes : Order → ℕ → Event) (part : Bool) (run : Option FrontRun) (own : List BufferEntry) (turns : List MemberTurn) (transition : Transition) (order : Order) → part ≡ takes order → NoneOpen turns → FrontStands takes makes run own turns
+    → FrontStands takes makes (run_after part run transition order) own (front_turn dump transition order (front_answer part run transition order) ∷ turns)
+turn_kept dump takes makes true run own turns Start order is none stands = begin_kept dump takes makes own turns run order is stands
+turn_kept dump takes makes false run own turns Start order is none stands =
+    plain_more takes makes own turns run (front_turn dump Start order (Some (No NotReady))) none stands tt (λ start r is stop answer. absurd (cc (stop))) (λ sent ended tells. cc (tells))
     (λ starts. ap (λ (b : Bool). Some (if b then Yes Plain else No NotReady)) is)
     (λ are stop begin answer accepted told. absurd (cc (stop)))
-    (refused_current run turns order)
-turn_kept takes makes part None own turns Stop order is none stands =
-    let t : MemberTurn = front_turn Stop order (Some (Yes Plain)) in
+    (refused_current dump run turns order)
+turn_kept dump takes makes part None own turns Stop order is none stands =
+    let t : MemberTurn = front_turn dump Stop order (Some (Yes Plain)) in
     plain_more takes makes own turns None t none stands tt (λ start r is stop answer. absurd (cc (is))) (λ sent ended tells. cc (tells))
     (λ starts. absurd (cc (starts)))
     (λ are stop begin answer accepted told. absurd (stop_in_run None turns order.start begin (stands.current are.1) are.0 accepted))
     (λ are. current_none None (t ∷ turns) refl)
-turn_kept takes makes part (Some r) own turns Stop order is none stands =
-    stop_kept takes makes own turns r order (is_stop_of r order) (is_over r order) (λ e. eqb-true r.order.start order.start e) (λ e. eqb-false r.order.start order.start e) (λ e. e) none stands
-turn_kept takes makes part None own turns Pause order is none stands = quiet_kept takes makes own turns None (front_turn Pause order (Some (Yes Plain))) none stands refl (λ e. cc (e)) (λ e. cc (e)) refl
-turn_kept takes makes part (Some r) own turns Pause order is none stands =
-    paused_kept takes makes own (front_turn Pause order (Some (Yes Plain)) ∷ turns) r true (quiet_kept takes makes own turns (Some r) (front_turn Pause order (Some (Yes Plain))) none stands refl (λ e. cc (e)) (λ e. cc (e)) refl)
-turn_kept takes makes part None own turns Resume order is none stands = quiet_kept takes makes own turns None (front_turn Resume order (Some (Yes Plain))) none stands refl (λ e. cc (e)) (λ e. cc (e)) refl
-turn_kept takes makes part (Some r) own turns Resume order is none stands =
-    paused_kept takes makes own (front_turn Resume order (Some (Yes Plain)) ∷ turns) r false (quiet_kept takes makes own turns (Some r) (front_turn Resume order (Some (Yes Plain))) none stands refl (λ e. cc (e)) (λ e. cc (e)) refl)
-turn_kept takes makes part run own turns StartAbort order is none stands =
-    let t : MemberTurn = front_turn StartAbort order (Some (Yes Plain)) in
+turn_kept dump takes makes part (Some r) own turns Stop order is none stands =
+    stop_kept dump takes makes own turns r order (is_stop_of r order) (is_over r order) (λ e. eqb-true r.order.start order.start e) (λ e. eqb-false r.order.start order.start e) (λ e. e) none stands
+turn_kept dump takes makes part None own turns Pause order is none stands = quiet_kept takes makes own turns None (front_turn dump Pause order (Some (Yes Plain))) none stands refl (λ e. cc (e)) (λ e. cc (e)) refl
+turn_kept dump takes makes part (Some r) own turns Pause order is none stands =
+    paused_kept takes makes own (front_turn dump Pause order (Some (Yes Plain)) ∷ turns) r true (quiet_kept takes makes own turns (Some r) (front_turn dump Pause order (Some (Yes Plain))) none stands refl (λ e. cc (e)) (λ e. cc (e)) refl)
+turn_kept dump takes makes part None own turns Resume order is none stands = quiet_kept takes makes own turns None (front_turn dump Resume order (Some (Yes Plain))) none stands refl (λ e. cc (e)) (λ e. cc (e)) refl
+turn_kept dump takes makes part (Some r) own turns Resume order is none stands =
+    paused_kept takes makes own (front_turn dump Resume order (Some (Yes Plain)) ∷ turns) r false (quiet_kept takes makes own turns (Some r) (front_turn dump Resume order (Some (Yes Plain))) none stands refl (λ e. cc (e)) (λ e. cc (e)) refl)
+turn_kept dump takes makes part run own turns StartAbort order is none stands =
+    let t : MemberTurn = front_turn dump StartAbort order (Some (Yes Plain)) in
     record {
       keeps = keeps_more takes makes own turns t stands.keeps (λ are sent ended stop tells. absurd (cc (stop)))
           (λ starts. absurd (cc (starts)))
@@ -212,11 +212,11 @@ done_is_over : (a b : Bool) → a ≡ true → (a || b) ≡ true
 done_is_over true b e = refl
 done_is_over false b e = absurd (cc (e))
 
-closed_kept : (takes : Order → Bool) (makes : Order → ℕ → Event) (r : FrontRun) (own : List BufferEntry) (earlier : List MemberTurn) (order : Order) → order.start ≡ r.order.start → is_done r ≡ true
-    → FrontStands takes makes (Some r) own (front_turn Stop order None ∷ earlier) → FrontStands takes makes None own (front_turn Stop order (Some (Yes (front_tally r order.from))) ∷ earlier)
-closed_kept takes makes r own earlier order same done stands =
-    let before : MemberTurn = front_turn Stop order None in
-    let t : MemberTurn = front_turn Stop order (Some (Yes (front_tally r order.from))) in
+closed_kept : (dump : Option (List ℕ)) (takes : Order → Bool) (makes : Order → ℕ → Event) (r : FrontRun) (own : List BufferEntry) (earlier : List MemberTurn) (order : Order) → order.start ≡ r.order.start → is_done r ≡ true
+    → FrontStands takes makes (Some r) own (front_turn dump Stop order None ∷ earlier) → FrontStands takes makes None own (front_turn dump Stop order (Some (Yes (front_tally r order.from))) ∷ earlier)
+closed_kept dump takes makes r own earlier order same done stands =
+    let before : MemberTurn = front_turn dump Stop order None in
+    let t : MemberTurn = front_turn dump Stop order (Some (Yes (front_tally r order.from))) in
     let ended_as : FrontEnded = front_ended r.spent (is_from_pause order.from) in
     let other : before.transition ≢ Start = λ (e : Stop ≡ Start). cc (e) in
     record {
@@ -269,8 +269,8 @@ finish_with_kept : (takes : Order → Bool) (makes : Order → ℕ → Event) (r
 finish_with_kept takes makes r None done own turns ends waits stands = stands
 finish_with_kept takes makes r (Some order) false own turns ends waits stands = stands
 finish_with_kept takes makes r (Some order) true own turns ends waits stands =
-    subst (λ (ts : List MemberTurn). FrontStands takes makes None own (latest_answered ts (Some (Yes (front_tally r order.from))))) (sym waits.2)
-    (closed_kept takes makes r own waits.1 order waits.0 (ends refl) (subst (λ (ts : List MemberTurn). FrontStands takes makes (Some r) own ts) waits.2 stands))
+    subst (λ (ts : List MemberTurn). FrontStands takes makes None own (latest_answered ts (Some (Yes (front_tally r order.from))))) (sym waits.3)
+    (closed_kept waits.1 takes makes r own waits.2 order waits.0 (ends refl) (subst (λ (ts : List MemberTurn). FrontStands takes makes (Some r) own ts) waits.3 stands))
 
 -- what holds before a finish holds behind it, with the answer of the stop that waited
 pub finish_kept : (takes : Order → Bool) (makes : Order → ℕ → Event) (run : Option FrontRun) (own : List BufferEntry) (turns : List MemberTurn) → FrontStands takes makes run own turns

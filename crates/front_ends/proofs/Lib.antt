@@ -2,3 +2,4 @@ pub mod FrontGrows
 pub mod FrontTurns
 pub mod FrontSteps
 pub mod FrontSends
+pub mod FrontMoments

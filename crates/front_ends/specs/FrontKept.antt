@@ -1,5 +1,5 @@
 -- What a front-end keeps of its calls on a buffer and of its turns, whatever the buffer replies.
-use Rattle.std.specs.Prelude.{◌≡◌, ◌≢◌, ℕ, zero, suc, ◌≤◌, ◌<◌, Bool, if◌then◌else◌, List, [], ◌∷◌, ◌++◌, length, Option, Some, None, ⊤, ◌⊎◌}
+use Rattle.std.specs.Prelude.{◌≡◌, ◌≢◌, ℕ, zero, suc, ◌≤◌, ◌<◌, Bool, if◌then◌else◌, List, [], ◌∷◌, ◌++◌, length, drop, Option, Some, None, ⊤, ◌⊎◌}
 use Rattle.daq_types.specs.declared.events.Event.{Event}
 use Rattle.daq_types.specs.declared.runs.Order.{Order}
 use Rattle.daq_types.specs.declared.runs.RunState.TheVariants.{Paused}
@@ -13,7 +13,8 @@ use Rattle.transitions.specs.declared.answers.Answer.{Answer}
 use Rattle.transitions.specs.declared.answers.Answer.TheVariants.{Yes, No}
 use Rattle.transitions.specs.declared.answers.Tally.TheVariants.{Plain, Front}
 use Rattle.member_model.specs.Turns.{MemberTurn, HasTurn, HasTurnOf, IsAcceptedStart, HasAnswer, NoneOpen, current_run, AreEngineTurns}
-use Rattle.member_model.specs.SentCalls.{own_sent, IsSendInRun, EachCall, WasSpent}
+use Rattle.member_model.specs.Moments.{AreMoments, HasMoment}
+use Rattle.member_model.specs.SentCalls.{own_sent, IsSendInRun, SendsNotIn, EachCall, WasSpent}
 use Rattle.front_ends.specs.declared.front_run.FrontRun.{FrontRun}
 use Rattle.front_ends.specs.Fronts.{front_turn}
 
@@ -87,10 +88,21 @@ pub record KeepsFront (takes : Order → Bool) (makes : Order → ℕ → Event)
   pub stops : AreEngineTurns turns → StopsTold turns
   pub tallies : AreEngineTurns turns → TalliesHold own turns
 
+-- behind the answer to a stop no event is sent in its run, nor is one tried to be
+abbrev pub StopsEndSends : List BufferEntry → List MemberTurn → (moments : List ℕ) → Type 0
+StopsEndSends own turns moments = (t : MemberTurn) → (moment : ℕ) → HasMoment turns moments t moment →
+    t.transition ≡ Stop → HasAnswer t.answer → EachCall (SendsNotIn t.order.start) (drop moment own)
+
+-- What holds at every moment of the moments of its turns.
+pub record KeepsMoments (own : List BufferEntry) (turns : List MemberTurn) (moments : List ℕ) : Type 0 where
+  pub are : AreMoments turns moments (length own)
+  pub ends : AreEngineTurns turns → StopsEndSends own turns moments
+
 -- the latest turn is a stop that is not answered, if one waits
 abbrev pub IsWaiting : (stop : Option Order) → (start : ℕ) → List MemberTurn → Type 0
 IsWaiting None start turns = NoneOpen turns
-IsWaiting (Some order) start turns = (order.start ≡ start) × (earlier : List MemberTurn) × (turns ≡ front_turn Stop order None ∷ earlier)
+IsWaiting (Some order) start turns =
+    (order.start ≡ start) × (dump : Option (List ℕ)) × (earlier : List MemberTurn) × (turns ≡ front_turn dump Stop order None ∷ earlier)
 
 abbrev pub IsSpentSo : List BufferEntry → (start : ℕ) → (spent : Option ℕ) → Type 0
 IsSpentSo own start None = ⊤

@@ -1,5 +1,5 @@
 -- A front-end as its calls see it: what each turn is answered, what a step sends, and the run after it.
-use Rattle.std.specs.Prelude.{◌≡◌, ℕ, suc, ◌==◌, ◌≤◌, Bool, true, false, ◌&&◌, ◌||◌, not, nat_le, is_some, if◌then◌else◌, length, Option, Some, None, Result, Ok, Err, ⊤}
+use Rattle.std.specs.Prelude.{◌≡◌, ℕ, suc, ◌==◌, ◌≤◌, Bool, true, false, ◌&&◌, ◌||◌, not, nat_le, is_some, if◌then◌else◌, List, length, Option, Some, None, Result, Ok, Err, ⊤}
 use Rattle.std.specs.Option.{option_map}
 use Rattle.daq_types.specs.declared.events.Event.{Event}
 use Rattle.daq_types.specs.declared.runs.Order.{Order}
@@ -41,6 +41,11 @@ is_done r = nat_le r.order.quota r.sent || is_some r.spent
 abbrev pub is_at_work : Option FrontRun → Bool
 is_at_work None = false
 is_at_work (Some r) = not r.paused && not (is_done r)
+
+-- how many events were sent in the run with this start number, where it is the front-end's
+abbrev pub events_sent : Option FrontRun → (start : ℕ) → ℕ
+events_sent None start = 0
+events_sent (Some r) start = if r.order.start == start then r.sent else 0
 
 -- Turns.
 
@@ -122,9 +127,9 @@ abbrev pub run_finished : Option FrontRun → Option Answer → Option FrontRun
 run_finished run None = run
 run_finished run (Some answer) = None
 
--- the turn that the front-end was given, which has no dump
-abbrev pub front_turn : Transition → Order → Option Answer → MemberTurn
-front_turn transition order answer = record { transition = transition; order = order; dump = None; answer = answer }
+-- the turn that the front-end was given; a dump that came with it is passed over
+abbrev pub front_turn : (dump : Option (List ℕ)) → Transition → Order → Option Answer → MemberTurn
+front_turn dump transition order answer = record { transition = transition; order = order; dump = dump; answer = answer }
 
 -- Steps.
 

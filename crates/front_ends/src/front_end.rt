@@ -1,16 +1,18 @@
-ghost use Rattle.std.specs.Prelude.{◌≡◌, ◌<◌, ◌≤◌, ◌↔◌, suc, List, [], ◌∷◌, length, Some, None, IfOk, true, false};
+ghost use Rattle.std.specs.Prelude.{◌≡◌, ◌<◌, ◌≤◌, ◌↔◌, ℕ, suc, List, [], ◌∷◌, length, Option, Some, None, IfOk, true, false};
 ghost use Rattle.std.specs.Option.{option_map};
 ghost use Rattle.daq_types.specs.declared.events.Event.{Event};
 ghost use Rattle.buffer_core.specs.declared.entry.BufferEntry.TheVariants.{SendInRun};
 ghost use Rattle.buffer_core.specs.Ports.{Calls};
 ghost use Rattle.buffer_core.specs.declared.entry.BufferEntry.{BufferEntry};
-ghost use Rattle.member_model.specs.Turns.{MemberTurn, NoneOpen, latest_answered};
+ghost use Rattle.member_model.specs.Turns.{MemberTurn, NoneOpen, IsOfRun, AreEngineTurns, latest_answered};
+ghost use Rattle.member_model.specs.Moments.{moments_answered};
+ghost use Rattle.member_model.specs.SentCalls.{own_sent};
 ghost use Rattle.front_ends.specs.declared.front_step.FrontStep.TheVariants.{NoWork};
 ghost use Rattle.transitions.specs.declared.answers.Answer.TheVariants.{Yes};
 ghost use Rattle.transitions.specs.declared.answers.Tally.TheVariants.{Plain};
-ghost use Rattle.front_ends.specs.Fronts.{is_done, is_over, front_tally, begun_run, paused_run, stopping_run, stop_answer, stopped_run, IsStepOf, HasStep, run_sent, front_answer, run_after, finish_answer, run_finished, is_at_work, SendsNext, front_turn};
+ghost use Rattle.front_ends.specs.Fronts.{is_done, is_over, front_tally, begun_run, paused_run, stopping_run, stop_answer, stopped_run, IsStepOf, HasStep, run_sent, front_answer, run_after, finish_answer, run_finished, is_at_work, events_sent, SendsNext, front_turn};
 ghost use Rattle.front_ends.specs.FrontIds.{event_room};
-ghost use Rattle.front_ends.specs.FrontKept.{FrontStands};
+ghost use Rattle.front_ends.specs.FrontKept.{IsInRun, FrontStands, KeepsMoments};
 
 use crate::equipment::{EVENT_BYTES, Equipment};
 use crate::front_run::FrontRun;
@@ -171,6 +173,16 @@ fn run_behind_turn(
     }
 }
 
+/// How many events of this run were sent, where it has this start number.
+fn sent_of(run: Option<FrontRun>, start: u32) -> u64
+    ensures { result ≡ events_sent run start }
+{
+    match run {
+        Some(run) if run.order.start == start => run.sent as u64,
+        _ => 0,
+    }
+}
+
 /// What a send came to.
 fn step_of(reply: Result<u64, SendRefusal>) -> FrontStep
     requires { HasStep reply }
@@ -211,6 +223,7 @@ impl<E: Equipment> FrontEnd<E> {
         requires { E.fit equipment }
         ensures made { IfOk result (λ front. front ≡ record { equipment = equipment; run = None }) }
         ensures stands { IfOk result (λ front. FrontStands (E.takes equipment) (E.makes equipment) front.run [] []) }
+        ensures moments { KeepsMoments [] [] [] }
     {
         let event = EventBuf::new(alloc, EVENT_BYTES)?;
         Ok(FrontEnd {
@@ -230,12 +243,17 @@ impl<E: Equipment> FrontEnd<E> {
           run = run_after
               (E.takes self.old.equipment order.now) self.old.run transition order.now;
         } }
-        ensures keeps { (own : List BufferEntry) → (turns : List MemberTurn) →
-            NoneOpen turns →
+        ensures keeps { (own : List BufferEntry) → (dump : Option (List ℕ)) →
+            (turns : List MemberTurn) → NoneOpen turns →
             FrontStands (E.takes self.old.equipment) (E.makes self.old.equipment)
             self.old.run own turns →
             FrontStands (E.takes self.new.equipment) (E.makes self.new.equipment)
-            self.new.run own (front_turn transition order.now result ∷ turns) }
+            self.new.run own (front_turn dump transition order.now result ∷ turns) }
+        ensures moments { (own : List BufferEntry) → (dump : Option (List ℕ)) →
+            (turns : List MemberTurn) → (moments : List ℕ) →
+            KeepsMoments own turns moments →
+            KeepsMoments own (front_turn dump transition order.now result ∷ turns)
+            (length own ∷ moments) }
     {
         let takes = self.equipment.check(order);
         let answer = answer_of_turn(takes, self.run, transition, order);
@@ -262,6 +280,11 @@ impl<E: Equipment> FrontEnd<E> {
             self.old.run (P.access port.old).own turns →
             FrontStands (E.takes self.new.equipment) (E.makes self.new.equipment)
             self.new.run (P.access port.new).own turns }
+        ensures moments { (turns : List MemberTurn) → (moments : List ℕ) →
+            FrontStands (E.takes self.old.equipment) (E.makes self.old.equipment)
+            self.old.run (P.access port.old).own turns →
+            KeepsMoments (P.access port.old).own turns moments →
+            KeepsMoments (P.access port.new).own turns moments }
     {
         let Some(run) = self.run else {
             return FrontStep::NoWork;
@@ -299,6 +322,24 @@ impl<E: Equipment> FrontEnd<E> {
         port.send_in_run(rt, run.order.start, &header, self.event.body())
     }
 
+    /// How many events were sent in the run with this start number; 0 where the front-end does not take part in it. That is
+    /// the number of its accepted sends in that run, while it takes part in it, and before it was called for its start.
+    pub fn sent_in(&self, start: u32) -> u64
+        ensures number { result ≡ events_sent self.now.run start }
+        ensures in_run { (own : List BufferEntry) → (turns : List MemberTurn) →
+            FrontStands (E.takes self.now.equipment) (E.makes self.now.equipment)
+            self.now.run own turns →
+            AreEngineTurns turns → IsInRun self.now.run start →
+            length (own_sent own start) ≡ result }
+        ensures of_run { (own : List BufferEntry) → (turns : List MemberTurn) →
+            FrontStands (E.takes self.now.equipment) (E.makes self.now.equipment)
+            self.now.run own turns →
+            AreEngineTurns turns → IsOfRun start turns →
+            length (own_sent own start) ≡ result }
+    {
+        sent_of(self.run, start)
+    }
+
     /// The answer to the stop that waits, once the quota was sent or the buffer was spent. None exactly where no stop waits,
     /// or there is more to send.
     pub fn finish(&mut self) -> Option<Answer>
@@ -309,6 +350,10 @@ impl<E: Equipment> FrontEnd<E> {
             self.old.run own turns →
             FrontStands (E.takes self.new.equipment) (E.makes self.new.equipment)
             self.new.run own (latest_answered turns result) }
+        ensures moments { (own : List BufferEntry) → (turns : List MemberTurn) → (moments : List ℕ) →
+            KeepsMoments own turns moments →
+            KeepsMoments own (latest_answered turns result)
+            (moments_answered moments result (length own)) }
     {
         let run = self.run?;
         let stop = run.stop?;

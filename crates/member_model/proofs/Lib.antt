@@ -1,3 +1,5 @@
 pub mod ReadLaws
 pub mod SentLaws
 pub mod TurnLaws
+pub mod MomentLaws
+pub mod GotRunLaws

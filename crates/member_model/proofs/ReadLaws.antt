@@ -10,7 +10,7 @@ use Rattle.buffer_core.specs.declared.entry.BufferEntry.TheVariants.{Request, Re
 use Rattle.buffer_core.specs.Ports.{GotEvent, name_of, name_given, names_given}
 use Rattle.member_model.specs.OwnCalls.{calls_after, asks, LeavesAsking, KeepsAsking, HasDrained, AreGivenBy, is_place_within, event_at, events_at}
 use Rattle.member_model.proofs.SentLaws.{EachCall-push}
-use Rattle.member_model.specs.ReadRuns.{EndsNot, AskedOnce, IsAsking, IsReading, IsDraining, HasReadRun}
+use Rattle.member_model.specs.ReadRuns.{EndsNot, BeginsNot, AskedOnce, IsAsking, IsAskingFor, IsReading, IsDraining, HasReadRun}
 
 -- Lists
 
@@ -52,27 +52,33 @@ AskedOnce-calls : (own : List BufferEntry) (client id mask number : ℕ) (calls 
 AskedOnce-calls own client id mask number calls same e asked = subst (λ (es : List BufferEntry). AskedOnce own client id mask number es) e asked
 
 -- a request that is made when the client has none
-pub asking_made : (own : List BufferEntry) (client id mask number : ℕ) → ((n : ℕ) → asks (calls_after [] own) client n ≡ false) → IsAsking (own ++ Request client id mask All (Ok number) ∷ []) client id mask number
-asking_made own client id mask number alone = record {
+pub asking_made : (own : List BufferEntry) (client id mask number start : ℕ) → ((n : ℕ) → asks (calls_after [] own) client n ≡ false) → IsAskingFor (own ++ Request client id mask All (Ok number) ∷ []) client id mask number start
+asking_made own client id mask number start alone = record {
   calls = [];
   asked = record { before = own; whole = refl; alone = alone };
   asks_on = tt;
+  no_begin = tt;
 }
 
-pub asking_push : (own : List BufferEntry) (client id mask number : ℕ) (e : BufferEntry) → IsAsking own client id mask number → LeavesAsking client e → IsAsking (own ++ e ∷ []) client id mask number
-asking_push own client id mask number e asking leaves = record {
+pub asking_push : (own : List BufferEntry) (client id mask number start : ℕ) (e : BufferEntry) → IsAskingFor own client id mask number start → LeavesAsking client e → BeginsNot start e → IsAskingFor (own ++ e ∷ []) client id mask number start
+asking_push own client id mask number start e asking leaves begins = record {
   calls = asking.calls ++ e ∷ [];
   asked = AskedOnce-push own client id mask number asking.calls e asking.asked;
   asks_on = KeepsAsking-push client asking.calls e asking.asks_on leaves;
+  no_begin = EachCall-push (BeginsNot start) asking.calls e asking.no_begin begins;
 }
 
+pub asking_for : (own : List BufferEntry) (client id mask number start : ℕ) → IsAskingFor own client id mask number start → IsAsking own client id mask number
+asking_for own client id mask number start asking = record { calls = asking.calls; asked = asking.asked; asks_on = asking.asks_on }
+
 -- the run is begun
-pub reading_begun : (own : List BufferEntry) (got : List GotEvent) (client id mask number start begun : ℕ) → IsAsking own client id mask number → IsReading (own ++ Begin start (Ok begun) ∷ []) got client id mask number start begun []
+pub reading_begun : (own : List BufferEntry) (got : List GotEvent) (client id mask number start begun : ℕ) → IsAskingFor own client id mask number start → IsReading (own ++ Begin start (Ok begun) ∷ []) got client id mask number start begun []
 reading_begun own got client id mask number start begun asking = record {
   asking = asking.calls;
   running = [];
   asked = AskedOnce-push own client id mask number asking.calls (Begin start (Ok begun)) asking.asked;
   asks_on = asking.asks_on;
+  no_begin = asking.no_begin;
   reads_on = tt;
   no_end = tt;
   earlier = got;
@@ -92,6 +98,7 @@ reading_push own got client id mask number start begun events e gs reads leaves 
       (append_assoc reads.asking (Begin start (Ok begun) ∷ reads.running) (e ∷ []))
       (AskedOnce-push own client id mask number (reads.asking ++ Begin start (Ok begun) ∷ reads.running) e reads.asked);
   asks_on = reads.asks_on;
+  no_begin = reads.no_begin;
   reads_on = KeepsAsking-push client reads.running e reads.reads_on leaves;
   no_end = EachCall-push (EndsNot start) reads.running e reads.no_end ends;
   earlier = reads.earlier;
@@ -113,6 +120,7 @@ draining_begun own got client id mask number start begun ended events reads = re
       (append_assoc reads.asking (Begin start (Ok begun) ∷ reads.running) (End start (Ok ended) ∷ []))
       (AskedOnce-push own client id mask number (reads.asking ++ Begin start (Ok begun) ∷ reads.running) (End start (Ok ended)) reads.asked);
   asks_on = reads.asks_on;
+  no_begin = reads.no_begin;
   reads_on = reads.reads_on;
   no_end = reads.no_end;
   drains_on = tt;
@@ -140,6 +148,7 @@ draining_push own got client id mask number start begun ended events e gs drains
           ∙ ap (λ (l : List BufferEntry). front ++ Begin start (Ok begun) ∷ l) (append_assoc drains.running (End start (Ok ended) ∷ drains.draining) (e ∷ [])))
           (AskedOnce-push own client id mask number (front ++ Begin start (Ok begun) ∷ behind) e drains.asked);
       asks_on = drains.asks_on;
+      no_begin = drains.no_begin;
       reads_on = drains.reads_on;
       no_end = drains.no_end;
       drains_on = KeepsAsking-push client drains.draining e drains.drains_on leaves;

@@ -27,13 +27,26 @@ abbrev pub EndsNot : (start : ℕ) → BufferEntry → Type 0
 EndsNot start (End s (Ok place)) = s ≢ start
 EndsNot start entry = ⊤
 
--- Then the run with this start number was begun at this place, and no call has ended it since; these are the events that the
+-- the call does not begin the run with this start number
+abbrev pub BeginsNot : (start : ℕ) → BufferEntry → Type 0
+BeginsNot start (Begin s (Ok place)) = s ≢ start
+BeginsNot start entry = ⊤
+
+-- the request was made, and is not yet cancelled; and no call since has begun the run with this start number
+pub record IsAskingFor (own : List BufferEntry) (client id mask number start : ℕ) : Type 0 where
+  pub calls : List BufferEntry
+  pub asked : AskedOnce own client id mask number calls
+  pub asks_on : KeepsAsking client calls
+  pub no_begin : EachCall (BeginsNot start) calls
+
+-- Then the run with this start number was first begun at this place, and no call has ended it since; these are the events that the
 -- client got since, from that place on.
 pub record IsReading (own : List BufferEntry) (got : List GotEvent) (client id mask number start begun : ℕ) (events : List Event) : Type 0 where
   pub asking : List BufferEntry
   pub running : List BufferEntry
   pub asked : AskedOnce own client id mask number (asking ++ Begin start (Ok begun) ∷ running)
   pub asks_on : KeepsAsking client asking
+  pub no_begin : EachCall (BeginsNot start) asking
   pub reads_on : KeepsAsking client running
   pub no_end : EachCall (EndsNot start) running
   pub earlier : List GotEvent
@@ -49,6 +62,7 @@ pub record IsDraining (own : List BufferEntry) (got : List GotEvent) (client id 
   pub draining : List BufferEntry
   pub asked : AskedOnce own client id mask number (asking ++ Begin start (Ok begun) ∷ (running ++ End start (Ok ended) ∷ draining))
   pub asks_on : KeepsAsking client asking
+  pub no_begin : EachCall (BeginsNot start) asking
   pub reads_on : KeepsAsking client running
   pub no_end : EachCall (EndsNot start) running
   pub drains_on : KeepsAsking client draining

@@ -1,5 +1,5 @@
 -- What a caller's own calls on a buffer tell of the events that it sent in runs. The calls are in order.
-use Rattle.std.specs.Prelude.{◌≡◌, ℕ, ◌==◌, if◌then◌else◌, List, [], ◌∷◌, ◌++◌, Ok, Err, ⊤, ◌⊎◌}
+use Rattle.std.specs.Prelude.{◌≡◌, ◌≢◌, ℕ, ◌==◌, if◌then◌else◌, List, [], ◌∷◌, ◌++◌, Ok, Err, ⊤, ◌⊎◌}
 use Rattle.daq_types.specs.declared.events.Event.{Event}
 use Rattle.buffer_core.specs.declared.replies.SendRefusal.TheVariants.{Spent}
 use Rattle.buffer_core.specs.declared.entry.BufferEntry.{BufferEntry}
@@ -19,6 +19,11 @@ own_sent (e ∷ es) start = sent_by_call e start ++ own_sent es start
 abbrev pub IsSendInRun : BufferEntry → Type 0
 IsSendInRun (SendInRun start stated e reply) = ⊤
 IsSendInRun entry = ⊥
+
+-- the call is no send in the run with this start number, whatever it was replied
+abbrev pub SendsNotIn : (start : ℕ) → BufferEntry → Type 0
+SendsNotIn start (SendInRun s stated e reply) = s ≢ start
+SendsNotIn start entry = ⊤
 
 -- each of these calls is so
 abbrev pub EachCall : (BufferEntry → Type 0) → List BufferEntry → Type 0

@@ -12,6 +12,7 @@ use Rattle.buffer_core.specs.declared.entry.BufferEntry.{BufferEntry}
 use Rattle.buffer_core.specs.declared.entry.BufferEntry.TheVariants.{Cancel}
 use Rattle.buffer_core.specs.Ports.{Access, GotEvent}
 use Rattle.member_model.specs.ReadRuns.{IsAsking}
+use Rattle.member_model.proofs.ReadLaws.{asking_for}
 use Rattle.mid_logger.specs.declared.channel_spec.ChannelSpec.{ChannelSpec}
 use Rattle.mid_logger.specs.declared.stage.BegunRun.{BegunRun}
 use Rattle.mid_logger.specs.declared.stage.ChannelRun.{ChannelRun}
@@ -44,7 +45,7 @@ idle_with spec client stage head a b seen later same nothing stands =
 pub called_off : (spec : ChannelSpec) (client : Option ℕ) (stage : ChannelStage) (head : FileHead) (a b : Access) (seen later : Seen) → CancelsStanding (asking_run stage) a b → ChannelStands spec client stage head a.own a.got seen
     → ChannelStands spec client Idle head b.own b.got later
 called_off spec client Idle head a b seen later cancels stands = idle_with spec client Idle head a b seen later cancels stands.at stands
-called_off spec client (Asking opened) head a b seen later cancels stands = cancelled spec client (Asking opened) opened head a b seen later stands.at.of stands.at.asking cancels stands
+called_off spec client (Asking opened) head a b seen later cancels stands = cancelled spec client (Asking opened) opened head a b seen later stands.at.of (asking_for a.own opened.client spec.id spec.mask opened.request opened.start stands.at.asking) cancels stands
 called_off spec client (Writing opened begun) head a b seen later cancels stands =
     cancelled spec client (Writing opened begun) opened head a b seen later stands.at.of (asks_still None a.own a.got opened.client spec.id spec.mask opened.request opened.start begun stands.at.events stands.at.reads) cancels stands
 called_off spec client (Draining run) head a b seen later cancels stands =

@@ -11,3 +11,4 @@ pub mod EndSteps
 pub mod BesideSteps
 pub mod OpenBeside
 pub mod LeftSteps
+pub mod Keeping

@@ -105,7 +105,7 @@ other_name pattern seen r s x is there gone =
     cc (never)
 
 -- where names are told, there is a file of the run
-file_there : (other : ChannelSpec) (client : Option ℕ) (stage : ChannelStage) (head : FileHead) (own : List BufferEntry) (got : List GotEvent) (seen : Seen) → ChannelStands other client stage head own got seen
+pub file_there : (other : ChannelSpec) (client : Option ℕ) (stage : ChannelStage) (head : FileHead) (own : List BufferEntry) (got : List GotEvent) (seen : Seen) → ChannelStands other client stage head own got seen
     → (s : ChannelRun) → channel_run stage ≡ Some s → IsTrue seen.tells → seen.at (file_name_by other.pattern s.run) ≡ None → ⊥
 file_there other client Idle head own got seen stands s is told gone = absurd (cc (is))
 file_there other client (Asking opened) head own got seen stands s is told gone = other_name other.pattern seen opened s _ is (stands.at.holds.file.holds told) gone

@@ -178,7 +178,7 @@ asking_kept spec order file a b before head seen starts none holds stands =
     let now : ChannelStands spec (Some starts.client) (Asking opened) head (middle.own ++ request ∷ []) middle.got seen = record {
       port = own_push middle.own request idle.port tt idle.own_client;
       own_client = own_client_push (Some starts.client) middle.own request idle.own_client;
-      at = record { of = refl; asking = asking_made middle.own starts.client spec.id spec.mask starts.request idle.at; holds = holds };
+      at = record { of = refl; asking = asking_made middle.own starts.client spec.id spec.mask starts.request order.start idle.at; holds = holds };
     } in
     rw (starts.stage, starts.client_is, calls.own, calls.got_is) now
 

@@ -7,10 +7,10 @@ use Rattle.daq_types.specs.declared.events.Event.{Event}
 use Rattle.daq_io.specs.Seen.{Seen, InUse, IsWritten, IsStored}
 use Rattle.buffer_core.specs.declared.replies.Received.TheVariants.{Got}
 use Rattle.buffer_core.specs.declared.entry.BufferEntry.{BufferEntry}
-use Rattle.buffer_core.specs.declared.entry.BufferEntry.TheVariants.{Receive, End}
+use Rattle.buffer_core.specs.declared.entry.BufferEntry.TheVariants.{Receive, Begin, End}
 use Rattle.buffer_core.specs.Ports.{GotEvent, name_of, name_given}
 use Rattle.member_model.specs.OwnCalls.{calls_after, IsOwnCall, SendsNone, LeavesAsking, is_place_within, events_at}
-use Rattle.member_model.specs.ReadRuns.{EndsNot, IsReading, IsDraining}
+use Rattle.member_model.specs.ReadRuns.{EndsNot, BeginsNot, IsReading, IsDraining}
 use Rattle.member_model.specs.CutRuns.{HasReadOn, MarksEnd, HasCutRun}
 use Rattle.member_model.proofs.ReadLaws.{asking_push, reading_push, draining_push, run_push}
 use Rattle.mid_logger.specs.declared.channel_spec.ChannelSpec.{ChannelSpec}
@@ -56,16 +56,22 @@ given_other client e gs leaves named test = none_named gs named client test
 pub goes_beside : (client : ℕ) (e : BufferEntry) (gs : List GotEvent) → LeavesClient (Some client) e → name_given e ≡ map name_of gs → GoesBeside client e gs
 goes_beside client e gs leaves named = record { leaves = leaves_asking client e leaves; named = named; none = given_other client e gs leaves named }
 
--- a call that is no end
-abbrev pub IsNoEnd : BufferEntry → Type 0
-IsNoEnd (End start reply) = ⊥
-IsNoEnd e = ⊤
+-- a call that neither begins nor ends a run
+abbrev pub MarksNoRun : BufferEntry → Type 0
+MarksNoRun (Begin start reply) = ⊥
+MarksNoRun (End start reply) = ⊥
+MarksNoRun e = ⊤
 
-ends_not : (start : ℕ) (e : BufferEntry) → IsNoEnd e → EndsNot start e
+begins_not : (start : ℕ) (e : BufferEntry) → MarksNoRun e → BeginsNot start e
+begins_not start (Begin s reply) none = absurd none
+begins_not start e none = tt
+
+ends_not : (start : ℕ) (e : BufferEntry) → MarksNoRun e → EndsNot start e
 ends_not start (End s reply) none = absurd none
 ends_not start e none = tt
 
-pub leaves_run : (stage : ChannelStage) (e : BufferEntry) → IsNoEnd e → LeavesRunOn stage e
+pub leaves_run : (stage : ChannelStage) (e : BufferEntry) → MarksNoRun e → LeavesRunOn stage e
+leaves_run (Asking opened) e none = begins_not opened.start e none
 leaves_run (Writing opened begun) e none = ends_not opened.start e none
 leaves_run (Draining run) e none = ends_not run.opened.start e none
 leaves_run stage e none = tt
@@ -151,7 +157,7 @@ stage_beside : (spec : ChannelSpec) (client : Option ℕ) (stage : ChannelStage)
 stage_beside spec client Idle head own got seen e gs leaves ends named at = asks_beside client own e at leaves
 stage_beside spec client (Asking opened) head own got seen e gs leaves ends named at = record {
   of = at.of;
-  asking = asking_push own opened.client spec.id spec.mask opened.request e at.asking (beside_of client opened.client e gs at.of leaves named).leaves;
+  asking = asking_push own opened.client spec.id spec.mask opened.request opened.start e at.asking (beside_of client opened.client e gs at.of leaves named).leaves ends;
   holds = at.holds;
 }
 stage_beside spec client (Writing opened begun) head own got seen e gs leaves ends named at = reading_beside spec client (run_begun opened begun) head own got seen e gs leaves ends named at

@@ -8,12 +8,12 @@ use Rattle.buffer_core.specs.declared.entry.BufferEntry.{BufferEntry}
 use Rattle.buffer_core.specs.declared.entry.BufferEntry.TheVariants.{Receive}
 use Rattle.buffer_core.specs.Ports.{Access, GotEvent, name_of, name_given}
 use Rattle.member_model.specs.OwnCalls.{calls_after, IsOwnCall, SendsNone, LeavesAsking}
-use Rattle.member_model.specs.ReadRuns.{EndsNot}
+use Rattle.member_model.specs.ReadRuns.{EndsNot, BeginsNot}
 use Rattle.mid_logger.specs.declared.channel_spec.ChannelSpec.{ChannelSpec}
 use Rattle.mid_logger.specs.declared.stage.BegunRun.{BegunRun}
 use Rattle.mid_logger.specs.declared.stage.ChannelRun.{ChannelRun}
 use Rattle.mid_logger.specs.declared.stage.ChannelStage.{ChannelStage}
-use Rattle.mid_logger.specs.declared.stage.ChannelStage.TheVariants.{Idle, Writing, Draining}
+use Rattle.mid_logger.specs.declared.stage.ChannelStage.TheVariants.{Idle, Asking, Writing, Draining}
 use Rattle.mid_logger.specs.Patterns.{file_name_by}
 use Rattle.mid_logger.specs.Channels.{FileHead, ChannelStands, IsOpenFile, channel_run, written_run}
 use Rattle.mid_logger.specs.Pulls.{PullOf, Pulls}
@@ -26,8 +26,9 @@ LeavesClient None entry = ⊤
 LeavesClient (Some client) (Receive c room reply) = c ≢ client
 LeavesClient (Some client) entry = LeavesAsking client entry
 
--- the call does not end the run that the channel's client reads
+-- the call does not begin the run that the channel's client waits for, nor end that which it reads
 abbrev pub LeavesRunOn : ChannelStage → BufferEntry → Type 0
+LeavesRunOn (Asking opened) entry = BeginsNot opened.start entry
 LeavesRunOn (Writing opened begun) entry = EndsNot opened.start entry
 LeavesRunOn (Draining run) entry = EndsNot run.opened.start entry
 LeavesRunOn stage entry = ⊤
@@ -51,8 +52,8 @@ LeavesRunFile spec (Some opened) written old new = LeavesFile old new (file_name
 abbrev pub LeavesChannelFile : ChannelSpec → ChannelStage → (old new : Seen) → Type 0
 LeavesChannelFile spec stage old new = LeavesRunFile spec (channel_run stage) (written_run stage) old new
 
--- A call of the logger on the channel's buffer that leaves the channel's client, does not end the run that it reads, and
--- gives these events, leaves what the channel keeps.
+-- A call of the logger on the channel's buffer that leaves the channel's client, neither begins nor ends its run, and gives
+-- these events, leaves what the channel keeps.
 abbrev pub CallsBeside : Type 0
 CallsBeside = (spec : ChannelSpec) → (client : Option ℕ) → (stage : ChannelStage) → (head : FileHead) →
     (own : List BufferEntry) → (got : List GotEvent) → (seen : Seen) → (entry : BufferEntry) → (given : List GotEvent) →

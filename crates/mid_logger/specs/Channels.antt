@@ -12,7 +12,7 @@ use Rattle.buffer_core.specs.declared.replies.MarkRefusal.{MarkRefusal}
 use Rattle.buffer_core.specs.Ports.{Access, GotEvent, Calls}
 use Rattle.member_model.specs.SentCalls.{EachCall}
 use Rattle.member_model.specs.OwnCalls.{calls_after, gave_number, AreOwnCalls, SendsNone, asks, is_place_within}
-use Rattle.member_model.specs.ReadRuns.{IsAsking, IsReading, IsDraining, HasReadRun}
+use Rattle.member_model.specs.ReadRuns.{IsAskingFor, IsReading, IsDraining, HasReadRun}
 use Rattle.member_model.specs.CutRuns.{HasReadOn, HasCutRun}
 use Rattle.mid_logger.specs.declared.channel_spec.ChannelSpec.{ChannelSpec}
 use Rattle.mid_logger.specs.declared.stage.ChannelRun.{ChannelRun}
@@ -52,7 +52,7 @@ pub record FileHolds (spec : ChannelSpec) (head : FileHead) (seen : Seen) (opene
 -- the run is not begun yet
 pub record AskingAt (spec : ChannelSpec) (client : Option ℕ) (opened : ChannelRun) (head : FileHead) (own : List BufferEntry) (seen : Seen) : Type 0 where
   pub of : client ≡ Some opened.client
-  pub asking : IsAsking own opened.client spec.id spec.mask opened.request
+  pub asking : IsAskingFor own opened.client spec.id spec.mask opened.request opened.start
   pub holds : FileHolds spec head seen opened []
 
 -- the place is one of the run: from its begin on, and below its end, where that is marked

@@ -5,3 +5,4 @@ pub mod RecordFiles
 pub mod ChannelTurns
 pub mod ChannelEnds
 pub mod Beside
+pub mod Keeping

@@ -1,5 +1,6 @@
 //! What leaves a channel as it stands: each function does nothing, and its contract is the law.
 
+ghost use Rattle.mid_logger.specs.Keeping.{PullsKeep, PullsChange, AbortsKeep, AbortsChange, ClosesKeep, ClosesChange, OpensKeep, OpensChange, FilesThere, BegunKeeps, EndedKeeps};
 ghost use Rattle.mid_logger.specs.Beside.{AbortsBeside, CallsBeside, ClosesBeside, FilesBeside, LeftBeside, OpensBeside, PullsBeside};
 
 /// A call on the channel's buffer that names another client, and does not end the run that the channel's client reads,
@@ -36,4 +37,35 @@ pub fn opens_beside()
 /// What stands of a run whose file was ended stands behind any calls more, and behind changes of other files.
 pub fn left_beside()
     ensures { LeftBeside }
+{}
+
+/// What a channel keeps before a pull it keeps behind it; and at most the file of its run changed.
+pub fn pulls_kept()
+    ensures keep { PullsKeep }
+    ensures change { PullsChange }
+{}
+
+/// What a channel keeps before its run is called off it keeps behind that; and at most the file of its run changed.
+pub fn aborts_kept()
+    ensures keep { AbortsKeep }
+    ensures change { AbortsChange }
+{}
+
+/// What a channel keeps before its file is ended it keeps behind that, and the file is left so; and at most that file changed.
+pub fn closes_kept()
+    ensures keep { ClosesKeep }
+    ensures change { ClosesChange }
+{}
+
+/// What a channel keeps before a run is opened, or refused, it keeps behind that; and at most a new file came into being.
+pub fn opens_kept()
+    ensures keep { OpensKeep }
+    ensures change { OpensChange }
+    ensures there { FilesThere }
+{}
+
+/// What a channel keeps before its run is begun or ended in its buffer it keeps behind that.
+pub fn marks_kept()
+    ensures begun { BegunKeeps }
+    ensures ended { EndedKeeps }
 {}

@@ -70,7 +70,7 @@ pub placed_there : (before front : List Row) (r : Row) (back : List Row) → Are
 placed_there before [] r back h = subst (λ (l : List Row). IsPlaced l r.path) (sym (append-nil before)) h.0
 placed_there before (x ∷ xs) r back h = subst (λ (l : List Row). IsPlaced l r.path) (append_assoc before (x ∷ []) xs) (placed_there (before ++ x ∷ []) xs r back h.1)
 
-placed_in : (rows front : List Row) (r : Row) (back : List Row) → rows ≡ front ++ r ∷ back → ArePlaced [] rows → IsPlaced rows r.path
+pub placed_in : (rows front : List Row) (r : Row) (back : List Row) → rows ≡ front ++ r ∷ back → ArePlaced [] rows → IsPlaced rows r.path
 placed_in rows front r back e h =
     let k : IsPlaced front r.path = placed_there [] front r back (subst (ArePlaced []) e h) in record {
       parent = k.parent;
@@ -81,7 +81,7 @@ placed_in rows front r back e h =
 
 -- Nothing is in the way to a directory.
 
-or_nothing : (a b : Option OdbRefusal) → a ≡ None → b ≡ None → option_or a b ≡ None
+pub or_nothing : (a b : Option OdbRefusal) → a ≡ None → b ≡ None → option_or a b ≡ None
 or_nothing None b h k = k
 or_nothing (Some x) b h k = absurd (cc)
 
@@ -123,7 +123,7 @@ clear_to (suc most) missing rows p placed apart (inr h) short =
 
 -- What stands in a directory.
 
-parent_is : (p : List (List ℕ)) (name : List ℕ) → parent_of (p ++ name ∷ []) ≡ p
+pub parent_is : (p : List (List ℕ)) (name : List ℕ) → parent_of (p ++ name ∷ []) ≡ p
 parent_is p name =
     ap (λ (n : ℕ). take n (p ++ name ∷ [])) {x = length (p ++ name ∷ []) - 1} {y = length p} (omega (arith, length-append p (name ∷ []))) ∙ take_front p (name ∷ [])
   where

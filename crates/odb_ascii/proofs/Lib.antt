@@ -9,3 +9,14 @@ pub mod Written
 pub mod Loads
 pub mod Replies
 pub mod OneReading
+pub mod OneFault
+pub mod DumpLines
+pub mod DumpReads
+pub mod DumpPaths
+pub mod DumpKeys
+pub mod DumpWalk
+pub mod DumpPlain
+pub mod DumpFollows
+pub mod WalkAgain
+pub mod Remade
+pub mod DumpLoads

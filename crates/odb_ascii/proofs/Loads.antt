@@ -31,7 +31,7 @@ passed_push : (lines : List (List ℕ)) (line : List ℕ) → ArePassed lines �
 passed_push [] line h k = (k, tt)
 passed_push (l ∷ ls) line h k = (h.0, passed_push ls line h.1 k)
 
-spells_passed : (number : ℕ) (dir lines : List (List ℕ)) (steps : List TextStep) (line : List ℕ) → SpellsSteps number dir lines steps → IsPassed line
+pub spells_passed : (number : ℕ) (dir lines : List (List ℕ)) (steps : List TextStep) (line : List ℕ) → SpellsSteps number dir lines steps → IsPassed line
     → SpellsSteps number dir (lines ++ line ∷ []) steps
 spells_passed number dir lines [] line h k = passed_push lines line h k
 spells_passed number dir lines (step ∷ steps) line h k =
@@ -48,10 +48,10 @@ spells_passed number dir lines (step ∷ steps) line h k =
 
 -- one step more
 
-abbrev one_step : ℕ → Act → TextStep
+abbrev pub one_step : ℕ → Act → TextStep
 one_step n act = record { line = n; act = act }
 
-spells_step : (number : ℕ) (dir lines : List (List ℕ)) (steps : List TextStep) (own : List (List ℕ)) (act : Act) → SpellsSteps number dir lines steps
+pub spells_step : (number : ℕ) (dir lines : List (List ℕ)) (steps : List TextStep) (own : List (List ℕ)) (act : Act) → SpellsSteps number dir lines steps
     → SpellsAct (dirs_after dir steps) own act → SpellsSteps number dir (lines ++ own) (steps ++ one_step (number + length lines) act ∷ [])
 spells_step number dir lines [] own act h k = (lines, own, [], ap (λ (l : List (List ℕ)). lines ++ l) (sym (append-nil own)), h, refl, k, tt)
 spells_step number dir lines (step ∷ steps) own act h k =
@@ -71,7 +71,7 @@ spells_step number dir lines (step ∷ steps) own act h k =
 
 -- what steps do
 
-dirs_push : (dir : List (List ℕ)) (steps : List TextStep) (step : TextStep) → dirs_after dir (steps ++ step ∷ []) ≡ dir_after (dirs_after dir steps) step.act
+pub dirs_push : (dir : List (List ℕ)) (steps : List TextStep) (step : TextStep) → dirs_after dir (steps ++ step ∷ []) ≡ dir_after (dirs_after dir steps) step.act
 dirs_push dir [] step = refl
 dirs_push dir (s ∷ ss) step = dirs_push (dir_after dir s.act) ss step
 

@@ -46,7 +46,7 @@ alone_once false type text x y h k =
     ap (λ (n : ℕ). record { size = n; item = x.item }) (let e : x.size ≡ y.size = h.1 ∙ sym k.1 in e)
     ∙ ap (λ (i : Item). record { size = y.size; item = i }) (same_ok x.item y.item text type h.0 k.0)
 
-array_once : (rest : List ℕ) (n m : ℕ) → IsArray rest n → IsArray rest m → n ≡ m
+pub array_once : (rest : List ℕ) (n m : ℕ) → IsArray rest n → IsArray rest m → n ≡ m
 array_once rest n m h k =
     let same = bracketed_once (behind is_blank rest) h.digits h.more k.digits k.more h.bracketed.spelled (digits_no h.digits h.bracketed.numeral.1) k.bracketed in
     h.count ∙ ap (digits_value 10) same.0 ∙ sym k.count
@@ -127,7 +127,7 @@ blanks_have_no_sign : (a x : List ℕ) → AreBlanks (a ++ 61 ∷ x) → ⊥
 blanks_have_no_sign [] x h = absurd (let e : false ≡ true = h.0 in cc)
 blanks_have_no_sign (b ∷ a) x h = blanks_have_no_sign a x h.1
 
-key_not_passed : (line name : List ℕ) (type : Tid) (rest : List ℕ) → IsKeyLine line name type rest → IsPassed line → ⊥
+pub key_not_passed : (line name : List ℕ) (type : Tid) (rest : List ℕ) → IsKeyLine line name type rest → IsPassed line → ⊥
 key_not_passed line name type rest k h = ⊎_elim (λ (bs : AreBlanks line). blanks_have_no_sign k.before k.after (subst AreBlanks k.spelled bs)) (comment line refl) h
   where
     comment : (l : List ℕ) → line ≡ l → IsComment line → ⊥
@@ -136,7 +136,7 @@ key_not_passed line name type rest k h = ⊎_elim (λ (bs : AreBlanks line). bla
         let first : b ≡ 59 = subst IsComment e c in
         key_begins line name type rest 59 bs k (e ∙ ap (λ (x : ℕ). x ∷ bs) first) refl refl (λ size. refl)
 
-dir_not_key : (line : List ℕ) (p : List (List ℕ)) (name : List ℕ) (type : Tid) (rest : List ℕ) → IsDirLine line p → IsKeyLine line name type rest → ⊥
+pub dir_not_key : (line : List ℕ) (p : List (List ℕ)) (name : List ℕ) (type : Tid) (rest : List ℕ) → IsDirLine line p → IsKeyLine line name type rest → ⊥
 dir_not_key line p name type rest d k = key_begins line name type rest 91 (d.text ++ 93 ∷ d.blanks) k d.spelled refl refl (λ size. refl)
 
 dir_not_passed : (line : List ℕ) (p : List (List ℕ)) → IsDirLine line p → IsPassed line → ⊥
@@ -154,11 +154,11 @@ pub record SameBlock (own other rest left : List (List ℕ)) (act that : Act) : 
   pub rest_is : rest ≡ left
   pub act_is : act ≡ that
 
-record HeadOf (own : List (List ℕ)) : Type 0 where
-  head : List ℕ
-  more : List (List ℕ)
-  is : own ≡ head ∷ more
-  read : IsPassed head → ⊥
+pub record HeadOf (own : List (List ℕ)) : Type 0 where
+  pub head : List ℕ
+  pub more : List (List ℕ)
+  pub is : own ≡ head ∷ more
+  pub read : IsPassed head → ⊥
 
 kept_head : (dir own : List (List ℕ)) (name : List ℕ) (type : Tid) (xs : List SizedItem) → IsKeptKey dir own name type xs → HeadOf own
 kept_head dir [] name type xs h = absurd h
@@ -182,7 +182,7 @@ skipped_head dir (l ∷ ls) items h =
           (λ (a : (rest : List ℕ) × IsSkippedHead dir l rest × IsArray rest items × (length ls ≡ items) × AllByRecursion BeginsBracketed ls). key_not_passed l a.1.name a.1.type a.0 a.1.key.key) h;
     }
 
-head_of : (dir own : List (List ℕ)) (act : Act) → SpellsAct dir own act → HeadOf own
+pub head_of : (dir own : List (List ℕ)) (act : Act) → SpellsAct dir own act → HeadOf own
 head_of dir own (Make p) h = record { head = h.0; more = []; is = h.1; read = dir_not_passed h.0 p h.2 }
 head_of dir own (Write p v) h = kept_head dir own h.0 h.1 h.2 h.3
 head_of dir own (Skip items) h = skipped_head dir own items h
@@ -218,7 +218,7 @@ array_both dir l ls ms rest left name that type kind n m xs ys h k hn kn hi ki e
       xs_are = items_once kind 0 ms xs ys (subst (λ (z : List (List ℕ)). AreItemLines kind 0 z xs) parts.front (subst (λ (t : Tid). AreItemLines t 0 ls xs) same.type_is hi)) ki;
     }
 
-no_both : (dir : List (List ℕ)) (l : List ℕ) (name that : List ℕ) (type kind : Tid) (x : SizedItem) (n : ℕ) → IsSingleKey dir l name type x → IsArrayHead dir l that kind n → ⊥
+pub no_both : (dir : List (List ℕ)) (l : List ℕ) (name that : List ℕ) (type kind : Tid) (x : SizedItem) (n : ℕ) → IsSingleKey dir l name type x → IsArrayHead dir l that kind n → ⊥
 no_both dir l name that type kind x n h k =
     let same = key_once l name that type kind h.rest k.rest h.key.key k.key.key in
     not_both k.rest h.text n (subst (λ (r : List ℕ). IsSingle r h.text) same.rest_is h.single) k.array
@@ -249,7 +249,7 @@ pub record SameSkipped (own other rest left : List (List ℕ)) (items count : �
   pub rest_is : rest ≡ left
   pub items_are : items ≡ count
 
-skipped_same : (dir : List (List ℕ)) (l rest more : List ℕ) → IsSkippedHead dir l rest → IsSkippedHead dir l more → rest ≡ more
+pub skipped_same : (dir : List (List ℕ)) (l rest more : List ℕ) → IsSkippedHead dir l rest → IsSkippedHead dir l more → rest ≡ more
 skipped_same dir l rest more h k = (key_once l h.name k.name h.type k.type rest more h.key.key k.key.key).rest_is
 
 skipped_once : (dir : List (List ℕ)) (l : List ℕ) (ls ms rest left : List (List ℕ)) (items count : ℕ) → IsSkippedKey dir (l ∷ ls) items → IsSkippedKey dir (l ∷ ms) count → ls ++ rest ≡ ms ++ left
@@ -275,10 +275,10 @@ skipped_once dir l ls ms rest left items count h k e =
 
 -- the types of the heads
 
-kept_type : (dir : List (List ℕ)) (l : List ℕ) (ls : List (List ℕ)) (name : List ℕ) (type : Tid) (xs : List SizedItem) → IsKeptKey dir (l ∷ ls) name type xs → (rest : List ℕ) × IsKeyLine l name type rest × (is_kept type ≡ true)
+pub kept_type : (dir : List (List ℕ)) (l : List ℕ) (ls : List (List ℕ)) (name : List ℕ) (type : Tid) (xs : List SizedItem) → IsKeptKey dir (l ∷ ls) name type xs → (rest : List ℕ) × IsKeyLine l name type rest × (is_kept type ≡ true)
 kept_type dir l ls name type xs h = elim h [ inl s ↦ (s.1.rest, s.1.key.key, s.1.kept) | inr a ↦ (a.1.rest, a.1.key.key, a.1.kept) ]
 
-skipped_type : (dir : List (List ℕ)) (l : List ℕ) (ls : List (List ℕ)) (items : ℕ) → IsSkippedKey dir (l ∷ ls) items → (rest : List ℕ) × IsSkippedHead dir l rest
+pub skipped_type : (dir : List (List ℕ)) (l : List ℕ) (ls : List (List ℕ)) (items : ℕ) → IsSkippedKey dir (l ∷ ls) items → (rest : List ℕ) × IsSkippedHead dir l rest
 skipped_type dir l ls items h = elim h [ inl s ↦ (s.0, s.2) | inr a ↦ (a.0, a.1) ]
 
 kept_or_skipped : (dir : List (List ℕ)) (l : List ℕ) (ls ms : List (List ℕ)) (name : List ℕ) (type : Tid) (xs : List SizedItem) (items : ℕ) → IsKeptKey dir (l ∷ ls) name type xs → IsSkippedKey dir (l ∷ ms) items → ⊥
@@ -294,10 +294,10 @@ dir_or_kept dir l ms p name type xs h k = let a = kept_type dir l ms name type x
 dir_or_skipped : (dir : List (List ℕ)) (l : List ℕ) (ms : List (List ℕ)) (p : List (List ℕ)) (items : ℕ) → IsDirLine l p → IsSkippedKey dir (l ∷ ms) items → ⊥
 dir_or_skipped dir l ms p items h k = let b = skipped_type dir l ms items k in dir_not_key l p b.1.name b.1.type b.0 h b.1.key.key
 
-one_line : (l line : List ℕ) (ls : List (List ℕ)) → l ∷ ls ≡ line ∷ [] → (l ≡ line) × (ls ≡ [])
+pub one_line : (l line : List ℕ) (ls : List (List ℕ)) → l ∷ ls ≡ line ∷ [] → (l ≡ line) × (ls ≡ [])
 one_line l line ls e = (cc, cc)
 
-acts_once : (dir : List (List ℕ)) (l : List ℕ) (ls ms rest left : List (List ℕ)) (act that : Act) → SpellsAct dir (l ∷ ls) act → SpellsAct dir (l ∷ ms) that → ls ++ rest ≡ ms ++ left
+pub acts_once : (dir : List (List ℕ)) (l : List ℕ) (ls ms rest left : List (List ℕ)) (act that : Act) → SpellsAct dir (l ∷ ls) act → SpellsAct dir (l ∷ ms) that → ls ++ rest ≡ ms ++ left
     → SameBlock (l ∷ ls) (l ∷ ms) rest left act that
 acts_once dir l ls ms rest left (Make p) (Make q) h k e =
     let a = one_line l h.0 ls h.1 in
@@ -325,7 +325,7 @@ acts_once dir l ls ms rest left (Skip n) (Write q w) h k e = absurd (kept_or_ski
 acts_once dir l ls ms rest left (Skip n) (Skip m) h k e =
     let same = skipped_once dir l ls ms rest left n m h k e in record { own_is = same.own_is; rest_is = same.rest_is; act_is = ap (λ (z : ℕ). Skip z) same.items_are }
 
-same_cons : (l m : List ℕ) (xs ys : List (List ℕ)) → l ∷ xs ≡ m ∷ ys → (l ≡ m) × (xs ≡ ys)
+pub same_cons : (l m : List ℕ) (xs ys : List (List ℕ)) → l ∷ xs ≡ m ∷ ys → (l ≡ m) × (xs ≡ ys)
 same_cons l m xs ys e = (cc, cc)
 
 heads_once : (dir own other rest left : List (List ℕ)) (act that : Act) → SpellsAct dir own act → SpellsAct dir other that → own ++ rest ≡ other ++ left → HeadOf own → HeadOf other → SameBlock own other rest left act that
@@ -342,11 +342,11 @@ pub record SameFirst (passed others own other rest left : List (List ℕ)) (act 
   pub passed_are : passed ≡ others
   pub block : SameBlock own other rest left act that
 
-not_passed_head : (line : List ℕ) (own rest others : List (List ℕ)) → HeadOf own → own ++ rest ≡ line ∷ others → IsPassed line → ⊥
+pub not_passed_head : (line : List ℕ) (own rest others : List (List ℕ)) → HeadOf own → own ++ rest ≡ line ∷ others → IsPassed line → ⊥
 not_passed_head line own rest others a e h =
     let s = same_cons a.head line (a.more ++ rest) others (sym (ap (λ (z : List (List ℕ)). z ++ rest) a.is) ∙ e) in a.read (subst IsPassed (sym s.0) h)
 
-first_once : (dir passed others own other rest left : List (List ℕ)) (act that : Act) → ArePassed passed → ArePassed others → SpellsAct dir own act → SpellsAct dir other that
+pub first_once : (dir passed others own other rest left : List (List ℕ)) (act that : Act) → ArePassed passed → ArePassed others → SpellsAct dir own act → SpellsAct dir other that
     → passed ++ (own ++ rest) ≡ others ++ (other ++ left) → SameFirst passed others own other rest left act that
 first_once dir [] [] own other rest left act that p q h k e = record { passed_are = refl; block = heads_once dir own other rest left act that h k e (head_of dir own act h) (head_of dir other that k) }
 first_once dir [] (y ∷ ys) own other rest left act that p q h k e = absurd (not_passed_head y own rest (ys ++ (other ++ left)) (head_of dir own act h) e q.0)
@@ -356,7 +356,7 @@ first_once dir (x ∷ xs) (y ∷ ys) own other rest left act that p q h k e =
     let r = first_once dir xs ys own other rest left act that p.1 q.1 h k s.1 in
     record { passed_are = ap (λ (z : List ℕ). z ∷ xs) s.0 ∙ ap (λ (zs : List (List ℕ)). y ∷ zs) r.passed_are; block = r.block }
 
-none_left : (dir lines passed own rest : List (List ℕ)) (act : Act) → ArePassed lines → lines ≡ passed ++ (own ++ rest) → SpellsAct dir own act → ⊥
+pub none_left : (dir lines passed own rest : List (List ℕ)) (act : Act) → ArePassed lines → lines ≡ passed ++ (own ++ rest) → SpellsAct dir own act → ⊥
 none_left dir [] [] own rest act h e k = (let a = head_of dir own act k in let d : [] ≡ a.head ∷ (a.more ++ rest) = e ∙ ap (λ (z : List (List ℕ)). z ++ rest) a.is in absurd (cc))
 none_left dir [] (x ∷ xs) own rest act h e k = absurd (cc)
 none_left dir (l ∷ ls) [] own rest act h e k = not_passed_head l own rest ls (head_of dir own act k) (sym e) h.0

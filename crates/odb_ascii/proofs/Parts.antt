@@ -26,7 +26,7 @@ abbrev pub AllOfKind : (keys : Bool) → List Row → Type 0
 AllOfKind keys [] = Unit {0}
 AllOfKind keys (r ∷ rs) = (is_kind keys r ≡ true) × AllOfKind keys rs
 
-listed_stand : (s : Rows) (p : List (List ℕ)) (keys : Bool) (front back : List Row) → s.rows ≡ front ++ back → IsTree s → AreShort depth_limit s.rows → IsDir s.rows p
+pub listed_stand : (s : Rows) (p : List (List ℕ)) (keys : Bool) (front back : List Row) → s.rows ≡ front ++ back → IsTree s → AreShort depth_limit s.rows → IsDir s.rows p
     → AllStand s p (filter (is_listed keys p) back)
 listed_stand s p keys front [] e tree short dir = tt
 listed_stand s p keys front (r ∷ rs) e tree short dir =
@@ -36,7 +36,7 @@ listed_stand s p keys front (r ∷ rs) e tree short dir =
     cases true h rest = (row_stands s p front r rs e tree short dir (and_right (is_kind keys r) (is_child p r.path) h), rest)
     cases false h rest = rest
 
-listed_kind : (keys : Bool) (p : List (List ℕ)) (rows : List Row) → AllOfKind keys (filter (is_listed keys p) rows)
+pub listed_kind : (keys : Bool) (p : List (List ℕ)) (rows : List Row) → AllOfKind keys (filter (is_listed keys p) rows)
 listed_kind keys p [] = tt
 listed_kind keys p (r ∷ rs) = cases (is_listed keys p r) refl (listed_kind keys p rs)
   where
@@ -44,7 +44,7 @@ listed_kind keys p (r ∷ rs) = cases (is_listed keys p r) refl (listed_kind key
     cases true h rest = (and_left (is_kind keys r) (is_child p r.path) h, rest)
     cases false h rest = rest
 
-no_key : (t : Bool) → not t ≡ true → t ≡ false
+pub no_key : (t : Bool) → not t ≡ true → t ≡ false
 no_key true h = absurd (cc)
 no_key false h = refl
 

@@ -39,7 +39,7 @@ use Rattle.odb_ascii.proofs.Beginnings.{begins_nothing, not_both, kept_is_not_sk
 
 -- the sizes of items
 
-wider : (low high : ℕ) (item : Item) → low ≤ high → IsShorter low item → IsShorter high item
+pub wider : (low high : ℕ) (item : Item) → low ≤ high → IsShorter low item → IsShorter high item
 wider low high (UInt8 n) h k = tt
 wider low high (Int8 z) h k = tt
 wider low high (Char b) h k = tt
@@ -150,7 +150,7 @@ same_value type xs items size e d =
     ap (λ (l : List Item). record { tid = type; size = size_for (is_string type) type size; items = l }) e
     ∙ ap (λ (n : ℕ). record { tid = type; size = size_for (is_string type) type n; items = map (λ (x : SizedItem). x.item) xs }) d
 
-no_many : (n : ℕ) → n ≤ items_limit → many_fault n ≡ None
+pub no_many : (n : ℕ) → n ≤ items_limit → many_fault n ≡ None
 no_many n h = ap (λ (t : Bool). cond t (Some (Limit Items)) None) (le-ltb items_limit n h)
 
 no_wide : (n : ℕ) → n ≤ size_limit → wide_fault n ≡ None

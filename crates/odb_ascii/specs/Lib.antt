@@ -5,3 +5,4 @@ pub mod Grammar
 pub mod TextFaults
 pub mod Blocks
 pub mod Loads
+pub mod DumpSteps

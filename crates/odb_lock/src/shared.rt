@@ -72,7 +72,7 @@ impl<D: Database> SharedOdb<D> {
     fn enter(&self, pass: &mut OdbPass<D>, held: Held<LockedDatabase<D>>, call: &CallMade<'_>)
         requires own { IsOf (odb_lock_of self.now) pass.old }
         requires step { (before : _) × (held_by pass.old ≡ Some before)
-            × StepsRows before (number_of pass.old) (noted_call call.now) (D.rows held.value.database) }
+            × StepsRows before (number_of pass.old) (noted_call call.now) (D.rows held.value.value.database) }
         ensures entered { Enters (odb_lock_of self.now) (noted_call call.now) pass.old pass.new }
         ensures legal { IsLegal (D.rows (first_database self.now)) (seen_by pass.new) }
     {

@@ -244,6 +244,10 @@ dir_short s p short (inr has) =
     at [] d back h = h.0
     at (x ∷ xs) d back h = at xs d back h.1
 
+-- what the walk meets directly below a directory: its keys, and then its directories
+pub in_directory : (s : Rows) (p : List (List ℕ)) → IsTree s → AreShort depth_limit s.rows → IsDir s.rows p → directly_below p (walk s) ≡ keys_in s.rows p ++ dirs_in s.rows p
+in_directory s p tree short there = in_walk s p tree short there (dir_short s p short there)
+
 pub listed_in_walk : (s : Rows) (p : List (List ℕ)) → IsTree s → AreShort depth_limit s.rows → dir_fault s.rows p ≡ None → children_of s.rows p ≡ map child_of (directly_below p (walk s))
 listed_in_walk s p tree short clear =
     let found = is_found s p clear in

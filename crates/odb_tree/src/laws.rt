@@ -3,7 +3,7 @@ ghost use Rattle.std.specs.Prelude.{◌≡◌, ◌≢◌, ℕ, suc, None, List, 
 ghost use Rattle.odb_path.specs.Paths.{is_front, depth_limit};
 ghost use Rattle.odb_tree.specs.declared.rows.Row.{Row};
 ghost use Rattle.odb_tree.specs.declared.children.Child.{Child};
-ghost use Rattle.odb_tree.specs.Trees.{IsTree, with_rows};
+ghost use Rattle.odb_tree.specs.Trees.{IsTree, IsDir, with_rows};
 ghost use Rattle.odb_tree.specs.declared.entry.DatabaseEntry.{DatabaseEntry};
 ghost use Rattle.odb_tree.specs.declared.entry.DatabaseEntry.TheVariants.{Create, SetAll, ListDir};
 ghost use Rattle.odb_tree.specs.declared.rows.NewKey.{NewKey};
@@ -117,4 +117,10 @@ pub fn list_follows_walk()
     ensures { (s : Rows) (p : List (List ℕ)) (children : List Child) → IsDatabase s
         → IsReply s (ListDir p (Ok children)) → children
         ≡ map child_of (directly_below p (walk s)) }
+{}
+
+/// Directly below a directory the walk meets its keys and then its directories, each kind in order of making.
+pub fn walk_of_directory()
+    ensures { (s : Rows) (p : List (List ℕ)) → IsDatabase s → IsDir s.rows p
+        → directly_below p (walk s) ≡ keys_in s.rows p ++ dirs_in s.rows p }
 {}

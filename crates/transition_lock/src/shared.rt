@@ -78,7 +78,7 @@ impl SharedEngine {
     fn enter(&self, pass: &mut EnginePass, held: Held<LockedEngine>, call: &CallMade<'_>)
         requires own { IsOf (engine_lock_of self.now) pass.old }
         requires step { (before : _) × (held_by pass.old ≡ Some before)
-            × StepsEngine before (number_of pass.old) (engine_entry_of call.now) held.value.engine }
+            × StepsEngine before (number_of pass.old) (engine_entry_of call.now) held.value.value.engine }
         ensures entered { Enters (engine_lock_of self.now) (engine_entry_of call.now)
             pass.old pass.new }
         ensures legal { IsLegalEngine (first_engine self.now) (seen_by pass.new) }

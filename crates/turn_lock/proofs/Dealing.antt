@@ -1,5 +1,5 @@
 -- What holds while the passes of a new lock are dealt.
-use Rattle.std.proofs.Common.{◌≡◌, ℕ, ◌+◌, List, [], ◌∷◌, ◌++◌, length, map, length-append, sym, ap, ◌∙◌, arith, add-one, Option}
+use Rattle.std.proofs.Common.{◌≡◌, ℕ, ◌+◌, List, [], ◌∷◌, ◌++◌, length, map, length-append, sym, ap, ◌∙◌, arith, add-one, Option, Box, Global}
 use Rattle.std.specs.Prelude.{All}
 use Rattle.std.proofs.lemmas.List.{map-append}
 use Rattle.std.proofs.lemmas.List.Elements.{All-push}
@@ -13,7 +13,7 @@ use Rattle.turn_lock.specs.Roster.{numbers_below, IsFresh}
 
 module _ {M D E : Type 0} {g : _} where
   -- the passes below this number are dealt; those but 0 stand in the list
-  pub record Deals (lock : Turns M D E) (zero_seat : Seat (Option M) (View D E)) (items : List (Pass M D E g)) (number : ℕ) : Type 0 where
+  pub record Deals (lock : Turns M D E) (zero_seat : Seat (Option (Box M Global)) (View D E)) (items : List (Pass M D E g)) (number : ℕ) : Type 0 where
     pub seat : zero_seat.table_id ≡ lock.table.shared.table_id
     pub view : zero_seat.me ≡ (dealt_view (g.state (first_value lock)) (passes_of lock) number, [])
     pub own : All (IsOf lock) items
@@ -21,7 +21,7 @@ module _ {M D E : Type 0} {g : _} where
     pub count : length items + 1 ≡ number
     pub numbers : 0 ∷ map number_of items ≡ numbers_below number
 
-  pub Deals-push : (lock : Turns M D E) (zero_seat next_seat : Seat (Option M) (View D E)) (items : List (Pass M D E g)) (pass : Pass M D E g) (n : ℕ) → Deals lock zero_seat items n
+  pub Deals-push : (lock : Turns M D E) (zero_seat next_seat : Seat (Option (Box M Global)) (View D E)) (items : List (Pass M D E g)) (pass : Pass M D E g) (n : ℕ) → Deals lock zero_seat items n
       → next_seat.table_id ≡ zero_seat.table_id → next_seat.me ≡ (dealt_view (g.state (first_value lock)) (passes_of lock) (n + 1), []) → IsOf lock pass → number_of pass ≡ n → IsFresh pass → Deals lock next_seat (items ++ pass ∷ []) (n + 1)
   Deals-push lock zero_seat next_seat items pass n d table view own number fresh = record {
     seat = table ∙ d.seat;

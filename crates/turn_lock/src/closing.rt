@@ -116,7 +116,7 @@ impl<M: Machine> Turns<M> {
         let value = closed.take(0);
         closed.free();
         let Some(value) = value else { unreachable!() };
-        value
+        Box::into_inner(value)
     }
 
     /// Ends the lock, to which all its passes are given back. Where one is missing, all comes back.

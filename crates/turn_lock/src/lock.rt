@@ -30,7 +30,13 @@ const TRIES: u32 = 64;
 /// A lock round a value of type `M`, at which its passes take turns.
 #[derive(Drop)]
 pub struct Turns<M: Machine> {
-    pub(crate) table: Table<Option<M>, View<M::State, M::Entry>, LockKey<M>, LockRule<M>, Global>,
+    pub(crate) table: Table<
+        Option<Box<M>>,
+        View<M::State, M::Entry>,
+        LockKey<M>,
+        LockRule<M>,
+        Global,
+    >,
     pub(crate) count: u32,
     ghost some: { 0 < count },
     ghost few: { count ≤ 256 },
@@ -44,7 +50,7 @@ pub struct Turns<M: Machine> {
 pub struct Pass<M: Machine> {
     pub(crate) number: u32,
     pub(crate) count: u32,
-    pub(crate) seat: Seat<Option<M>, View<M::State, M::Entry>>,
+    pub(crate) seat: Seat<Option<Box<M>>, View<M::State, M::Entry>>,
     ghost in_range: { number < count },
     ghost is: { seat.me.0.number ≡ Some number },
     ghost carries: { seat.me.1 ≡ carried seat.me.0.kept },
@@ -54,15 +60,16 @@ pub struct Pass<M: Machine> {
 /// What a pass had seen of the history when the note was made.
 #[derive(Drop)]
 pub struct Note<M: Machine> {
-    pub(crate) seat: Seat<Option<M>, View<M::State, M::Entry>>,
+    pub(crate) seat: Seat<Option<Box<M>>, View<M::State, M::Entry>>,
     ghost bare: { seat.me.1 ≡ [] },
     ghost unnumbered: { seat.me.0.number ≡ None },
     ghost idle: { seat.me.0.kept ≡ None },
 }
 
-/// The value, while a pass holds the turn. It has to be put back: it cannot be dropped, nor taken apart outside.
+/// The value, while a pass holds the turn. It has to be put back: it cannot be dropped, nor taken apart outside. The value
+/// stays where it is on the heap, so a turn moves a pointer, however large the value is.
 pub struct Held<M> {
-    pub value: M,
+    pub value: Box<M>,
     owed: Owed,
 }
 
@@ -101,7 +108,7 @@ impl<M: Machine> Turns<M> {
         ensures own { IsOf self.now pass.new }
         ensures number { number_of pass.new ≡ number_of pass.old }
         ensures seen { seen_by pass.new ≡ seen_by pass.old }
-        ensures held { IfOk result (λ held. held_by pass.new ≡ Some (M.state held.value)) }
+        ensures held { IfOk result (λ held. held_by pass.new ≡ Some (M.state held.value.value)) }
         ensures found { OnOk result (found_by pass.new ≡ found_by pass.old) }
 
         ensures taken { IfErr result (λ taken. FindsTaken self.now taken.holder
@@ -135,7 +142,7 @@ impl<M: Machine> Turns<M> {
         ensures number { number_of pass.new ≡ number_of pass.old }
         ensures seen { seen_by pass.new ≡ seen_by pass.old }
         ensures found { IsPrefix (found_by pass.old) (found_by pass.new) }
-        ensures held { IfSome result (λ held. held_by pass.new ≡ Some (M.state held.value)) }
+        ensures held { IfSome result (λ held. held_by pass.new ≡ Some (M.state held.value.value)) }
         ensures idle { IfNone result (held_by pass.new ≡ None) }
     {
         for _ in 0..TRIES {
@@ -155,7 +162,7 @@ impl<M: Machine> Turns<M> {
         ensures own { IsOf self.now pass.new }
         ensures number { number_of pass.new ≡ number_of pass.old }
         ensures seen { seen_by pass.new ≡ seen_by pass.old }
-        ensures held { held_by pass.new ≡ Some (M.state result.value) }
+        ensures held { held_by pass.new ≡ Some (M.state result.value.value) }
         ensures found { IsPrefix (found_by pass.old) (found_by pass.new) }
     {
         for _ in rt.forever() {
@@ -200,7 +207,7 @@ impl<M: Machine> Turns<M> {
     fn lay_back<C: Call<M>>(&self, pass: &mut Pass<M>, held: Held<M>, call: &C)
         requires own { IsOf self.now pass.old }
         requires step { (before : _) × (held_by pass.old ≡ Some before)
-            × M.step before (number_of pass.old) (C.entry call.now) (M.state held.value) }
+            × M.step before (number_of pass.old) (C.entry call.now) (M.state held.value.value) }
 
         ensures own { IsOf self.now pass.new }
         ensures number { number_of pass.new ≡ number_of pass.old }
@@ -211,12 +218,12 @@ impl<M: Machine> Turns<M> {
         ensures mine { own_entries pass.new ≡ own_entries pass.old ++ C.entry call.now ∷ [] }
         ensures led { (before : _) × (held_by pass.old ≡ Some before)
             × EndsInStep M.step (M.state (first_value self.now)) before (number_of pass.old)
-            (C.entry call.now) (M.state held.value) (seen_by pass.new) }
+            (C.entry call.now) (M.state held.value.value) (seen_by pass.new) }
         ensures legal { Leads M.step (M.state (first_value self.now)) (seen_by pass.new)
-            (M.state held.value) }
+            (M.state held.value.value) }
     {
         let Held { value, owed: Owed } = held;
-        self.count::<Brand, C>(pass, &value, call);
+        self.count::<Brand, C>(pass, value.as_ref(), call);
         let empty = self
             .table
             .shared
@@ -229,7 +236,7 @@ impl<M: Machine> Turns<M> {
     pub fn put<C: Call<M>>(&self, pass: &mut Pass<M>, held: Held<M>, call: &C)
         requires own { IsOf self.now pass.old }
         requires step { (before : _) × (held_by pass.old ≡ Some before)
-            × M.step before (number_of pass.old) (C.entry call.now) (M.state held.value) }
+            × M.step before (number_of pass.old) (C.entry call.now) (M.state held.value.value) }
 
         ensures entered { Enters self.now (C.entry call.now) pass.old pass.new }
         ensures found { found_by pass.new ≡ found_by pass.old }
@@ -237,9 +244,9 @@ impl<M: Machine> Turns<M> {
         // All that came before it leads to what was held, and the entry leads from there to what is laid back.
         ensures led { (before : _) × (held_by pass.old ≡ Some before)
             × EndsInStep M.step (M.state (first_value self.now)) before (number_of pass.old)
-            (C.entry call.now) (M.state held.value) (seen_by pass.new) }
+            (C.entry call.now) (M.state held.value.value) (seen_by pass.new) }
         ensures legal { Leads M.step (M.state (first_value self.now)) (seen_by pass.new)
-            (M.state held.value) }
+            (M.state held.value.value) }
     {
         self.lay_back(pass, held, call);
     }
@@ -276,7 +283,11 @@ impl<M: Machine> Turns<M> {
     }
 
     /// Joins a seat into the pass. Where the seat has a number, the pass is number 0 and keeps that number's entries.
-    pub(crate) fn join(&self, pass: &mut Pass<M>, other: Seat<Option<M>, View<M::State, M::Entry>>)
+    pub(crate) fn join(
+        &self,
+        pass: &mut Pass<M>,
+        other: Seat<Option<Box<M>>, View<M::State, M::Entry>>,
+    )
         requires own { IsOf self.now pass.old }
         requires table { other.table_id ≡ self.now.table.shared.table_id }
         requires idle { (other.me.0.kept ≡ None) × (other.me.1 ≡ []) }

@@ -16,7 +16,11 @@ impl<M: Machine> Turns<M> {
     ghost use Rattle.turn_lock.specs.Roster.{numbers_below, IsFresh};
 
     /// Splits the pass with the next number from number 0.
-    fn split(&self, zero: &mut Seat<Option<M>, View<M::State, M::Entry>>, number: u32) -> Pass<M>
+    fn split(
+        &self,
+        zero: &mut Seat<Option<Box<M>>, View<M::State, M::Entry>>,
+        number: u32,
+    ) -> Pass<M>
         requires seat { zero.old.table_id ≡ self.now.table.shared.table_id }
         requires view { zero.old.me ≡ (
           dealt_view (M.state (first_value self.now))
@@ -44,7 +48,11 @@ impl<M: Machine> Turns<M> {
     }
 
     /// Splits all numbers but 0, in order, and puts the passes behind one another.
-    fn deal(&self, zero: &mut Seat<Option<M>, View<M::State, M::Entry>>, items: &mut Vec<Pass<M>>)
+    fn deal(
+        &self,
+        zero: &mut Seat<Option<Box<M>>, View<M::State, M::Entry>>,
+        items: &mut Vec<Pass<M>>,
+    )
         requires seat { zero.old.table_id ≡ self.now.table.shared.table_id }
         requires view { zero.old.me ≡ (
           dealt_view (M.state (first_value self.now))
@@ -97,7 +105,8 @@ impl<M: Machine + Drop> Turns<M> {
         };
         let mut items = Vec::with_capacity(alloc, passes as usize)?;
         let mut slots = Vec::with_capacity(alloc, 1)?;
-        let Ok(()) = slots.push(Some(value)) else {
+        let boxed = Box::new(alloc, value)?;
+        let Ok(()) = slots.push(Some(boxed)) else {
             unreachable!()
         };
         let Ok((table, mut zero)) = Table::new(alloc, &[FREE, 0], slots, &key) else {

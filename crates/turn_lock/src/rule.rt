@@ -41,11 +41,11 @@ pub struct LockRule<M> {
     machine: PhantomData<M>,
 }
 
-impl<M: Machine> TableRule<Option<M>, View<M::State, M::Entry>, LockKey<M>> for LockRule<M> {
+impl<M: Machine> TableRule<Option<Box<M>>, View<M::State, M::Entry>, LockKey<M>> for LockRule<M> {
     ghost use Rattle.turn_lock.specs.Views.{first_view};
     ghost use Rattle.turn_lock.specs.Protocol.{IsLock};
 
-    ghost holds = { λ key. IsLock M.state M.step (M.state key.first.value) key.passes };
+    ghost holds = { λ key. IsLock (λ boxed. M.state boxed.value) M.step (M.state key.first.value) key.passes };
 
     ghost first = { λ key. first_view (M.state key.first.value) key.passes };
 }

@@ -12,8 +12,8 @@ pub(crate) struct TakesTurn<M> {
     machine: PhantomData<M>,
 }
 
-impl<M: Machine> Play<Option<M>, View<M::State, M::Entry>> for TakesTurn<M> {
-    ghost then = { takes_turn M.state };
+impl<M: Machine> Play<Option<Box<M>>, View<M::State, M::Entry>> for TakesTurn<M> {
+    ghost then = { takes_turn (λ boxed. M.state boxed.value) };
 }
 
 // What a count step appends, and the data that will be laid back, for the proof alone. A call at `Brand` picks them.
@@ -34,7 +34,7 @@ pub(crate) struct Counts<M, W> {
     machine: PhantomData<(M, W)>,
 }
 
-impl<M: Machine, W: Says<M::State, M::Entry>> Play<Option<M>, View<M::State, M::Entry>>
+impl<M: Machine, W: Says<M::State, M::Entry>> Play<Option<Box<M>>, View<M::State, M::Entry>>
     for Counts<M, W> {
     ghost then = { counts M.step W.entry W.after };
 }

@@ -5,6 +5,7 @@ use Rattle.member_model.specs.Turns.{latest_answered}
 use Rattle.front_ends.specs.Fronts.{finish_answer, run_finished}
 use Rattle.front_ends.specs.FrontKept.{FrontStands}
 use Rattle.front_ends.proofs.FrontTurns.{finish_kept}
+use Rattle.front_ends.proofs.FrontMoments.{finish_moments}
 use Rattle.front_ends.proofs.front_end.FrontEnd.finish.Goals as goal
 
 pub returns-clause-keeps : goal.returns-clause-keeps
@@ -12,3 +13,6 @@ returns-clause-keeps g c = λ own turns stands.
     let told : finish_answer c.self.inside.run ≡ Some c.told_of.result = search rules in
     subst (λ (a : Option Answer). FrontStands (g.E.Equipment.takes c.self.inside.equipment) (g.E.Equipment.makes c.self.inside.equipment) (run_finished c.self.inside.run a) own (latest_answered turns a)) told
     (finish_kept (g.E.Equipment.takes c.self.inside.equipment) (g.E.Equipment.makes c.self.inside.equipment) c.self.inside.run own turns (rw (← c.self.view_is) at stands))
+
+pub returns-clause-moments : goal.returns-clause-moments
+returns-clause-moments g c = λ own turns moments keeps. finish_moments own turns moments (Some c.told_of.result) keeps

@@ -1,8 +1,12 @@
 use Rattle.front_ends.proofs.FrontTurns.{turn_kept}
+use Rattle.front_ends.proofs.FrontMoments.{turn_moments}
 use Rattle.front_ends.proofs.front_end.FrontEnd.on_turn.Goals as goal
 
 pub returns-clause-keeps : goal.returns-clause-keeps
-returns-clause-keeps g c = λ own turns none stands.
+returns-clause-keeps g c = λ own dump turns none stands.
     rw (c.run_behind_turn-self-inside.ensures, c.answer_of_turn-answer.ensures)
-    (turn_kept (g.E.Equipment.takes c.self.inside.equipment) (g.E.Equipment.makes c.self.inside.equipment) c.check-takes.result c.self.inside.run own turns c.args.transition c.args.order.now c.check-takes.ensures none
+    (turn_kept dump (g.E.Equipment.takes c.self.inside.equipment) (g.E.Equipment.makes c.self.inside.equipment) c.check-takes.result c.self.inside.run own turns c.args.transition c.args.order.now c.check-takes.ensures none
     (rw (← c.self.view_is) at stands))
+
+pub returns-clause-moments : goal.returns-clause-moments
+returns-clause-moments g c = λ own dump turns moments keeps. turn_moments own turns moments keeps

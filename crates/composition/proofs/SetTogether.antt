@@ -1,0 +1,43 @@
+-- What front-ends set in the database, by the engine's history and the buffers'.
+use Rattle.std.specs.Prelude.{◌≡◌, ℕ, List, length, drop, Some, refl}
+use Rattle.std.proofs.Common.{ap, sym, ◌∙◌, subst}
+use Rattle.daq_types.specs.declared.events.Event.{Event}
+use Rattle.daq_types.specs.declared.runs.Transition.TheVariants.{Stop}
+use Rattle.buffer_core.specs.declared.entry.BufferEntry.{BufferEntry}
+use Rattle.transitions.specs.declared.answers.Answer.{Answer}
+use Rattle.transitions.specs.declared.answers.Answer.TheVariants.{Yes}
+use Rattle.transitions.specs.declared.answers.Tally.TheVariants.{Front}
+use Rattle.member_model.specs.Turns.{MemberTurn, HasAnswer, AreEngineTurns}
+use Rattle.member_model.specs.Moments.{HasMoment}
+use Rattle.member_model.specs.SentCalls.{SendsNotIn, EachCall}
+use Rattle.member_model.proofs.MomentLaws.{moment_of, all_sent_by}
+use Rattle.front_ends.specs.FrontKept.{IsFrontTally, KeepsFront, KeepsMoments}
+use Rattle.composition.specs.Sessions.{Session, MembersKeep, turns_of, buffer_calls}
+use Rattle.composition.specs.CompositionLaws.{FrontsSet, StopsSet}
+use Rattle.composition.proofs.SessionTurns.{EngineFacts, are_turns, StopTally, number_of, stop_tally}
+use Rattle.composition.proofs.SentTogether.{yes_front}
+
+pub fronts_set : (s : Session) → MembersKeep s → FrontsSet s
+fronts_set s keep f has = keep.fronts_set f has
+
+pub stops_set : EngineFacts → (s : Session) → MembersKeep s → StopsSet s
+stops_set laws s keep r run f has sent ended tells =
+    let own : List BufferEntry = buffer_calls s f.buffer f.client in
+    let turns : List MemberTurn = turns_of s f.client in
+    let keeps : KeepsFront f.takes f.makes own turns = keep.fronts_keep f has in
+    let moments : KeepsMoments own turns f.moments = keep.fronts_moments f has in
+    let are : AreEngineTurns turns = are_turns laws s keep f.client in
+    let t : StopTally s r run f.client (Front sent ended) = stop_tally laws s keep r run f.client tells.0 (Front sent ended) tells.1 in
+    let stops : t.turn.transition ≡ Stop = t.completed refl in
+    let answered : t.turn.answer ≡ Some (Yes (Front sent ended)) = t.answered ∙ ap (λ (a : Answer). Some a) (yes_front t.answer sent ended t.tally_is) in
+    let tally : IsFrontTally own turns t.turn.order sent ended = keeps.tallies are t.turn sent ended t.stands stops answered in
+    let at : (moment : ℕ) × HasMoment turns f.moments t.turn moment = moment_of turns f.moments (length own) t.turn moments.are t.stands in
+    let ends : EachCall (SendsNotIn t.turn.order.start) (drop at.0 own) = moments.ends are t.turn at.0 at.1 stops (subst HasAnswer (sym answered) tt) in
+    record {
+      turn = t.turn;
+      moment = at.0;
+      has = at.1;
+      is = stops;
+      of = number_of Stop r.last r.start t.turn t.of_begin;
+      number = ap (λ (es : List Event). length es) (all_sent_by own t.turn.order.start at.0 ends) ∙ tally.number;
+    }

@@ -1,0 +1,98 @@
+-- A session with an analyzer: it meets all that the laws of sessions ask, where the analyzer got the event that was sent.
+use Rattle.std.specs.Prelude.{ℕ, zero, suc, true, false, List, [], ◌∷◌, Some, None, Ok}
+use Rattle.daq_types.specs.declared.events.Event.{Event}
+use Rattle.daq_types.specs.declared.runs.FrontEnded.TheVariants.{Quota}
+use Rattle.daq_types.specs.declared.runs.Kind.TheVariants.{All}
+use Rattle.daq_types.specs.declared.runs.RunState.TheVariants.{Stopped, Running}
+use Rattle.daq_types.specs.declared.runs.StartOutcome.TheVariants.{Completed}
+use Rattle.daq_types.specs.declared.runs.Transition.TheVariants.{Start, Stop}
+use Rattle.buffer_core.specs.declared.gate.RunGate.TheVariants.{Shut}
+use Rattle.buffer_core.specs.declared.replies.Received.TheVariants.{Got, Empty}
+use Rattle.buffer_core.specs.declared.entry.BufferEntry.TheVariants.{Attach, Request, Cancel, SendInRun, Receive, Accepted, Begin as BufferBegin, End as BufferEnd}
+use Rattle.buffer_core.specs.Window.{any}
+use Rattle.buffer_core.specs.Histories.{History}
+use Rattle.buffer_core.specs.Samples.{sample_event}
+use Rattle.event_report.specs.Reports.{Totals, report_of}
+use Rattle.transitions.specs.declared.sheet.Sheet.{Sheet}
+use Rattle.transitions.specs.declared.answers.Answer.TheVariants.{Yes}
+use Rattle.transitions.specs.declared.answers.Tally.TheVariants.{Plain, Front, Channels, Report}
+use Rattle.transitions.specs.declared.answers.ClientTally.{ClientTally}
+use Rattle.transitions.specs.declared.replies.Polled.TheVariants.{Turn}
+use Rattle.transitions.specs.declared.replies.Progress.TheVariants.{Done}
+use Rattle.transitions.specs.declared.entry.EngineEntry.TheVariants.{Register, Begin, Poll, Answer, Check}
+use Rattle.transitions.specs.EngineCalls.{order_for}
+use Rattle.transitions.specs.EngineHistories.{EngineHistory}
+use Rattle.transitions.specs.EngineSamples.{at_all, plain}
+use Rattle.caller_laws.specs.CallerSamples.{got_first}
+use Rattle.composition.specs.Sessions.{Session, SessionAnalyzer}
+use Rattle.composition.specs.SessionRuns.{SessionRun}
+use Rattle.composition.specs.SessionSamples.{last_sheet, sample_database, sample_front, sample_files}
+
+-- what the start is begun with: there is a blank report for the analyzer
+abbrev pub counted_sheet : Sheet
+counted_sheet = record { run = 1; time = 1000; quota = 1; dump = Some (7 ∷ []); blanks = report_of [] ∷ [] }
+
+-- The logger is client 0 and has no channel, the front-end is client 1, and the analyzer is client 2. It got this event.
+
+abbrev pub counted_report : (told : Event) → Totals
+counted_report told = report_of (told ∷ [])
+
+abbrev pub plain_by_three : List ClientTally
+plain_by_three = plain 0 ∷ plain 1 ∷ plain 2 ∷ []
+
+abbrev pub counted_tallies : (told : Event) → List ClientTally
+counted_tallies told =
+    record { client = 0; tally = Channels [] } ∷ record { client = 1; tally = Front 1 Quota }
+    ∷ record { client = 2; tally = Report (counted_report told) } ∷ []
+
+abbrev pub counted_engine : (told : Event) → EngineHistory
+counted_engine told =
+    (0, Register [] (at_all 1) true false (Ok 0)) ∷ (0, Register [] (at_all 2) false false (Ok 1))
+    ∷ (0, Register [] (at_all 3) false true (Ok 2)) ∷ (0, Begin Start counted_sheet (Ok 1))
+    ∷ (1, Poll 0 (Turn Start (order_for counted_sheet 1 Stopped) (Some (7 ∷ [])) None)) ∷ (1, Answer 0 (Yes Plain) (Ok tt))
+    ∷ (2, Poll 1 (Turn Start (order_for counted_sheet 1 Stopped) None None)) ∷ (2, Answer 1 (Yes Plain) (Ok tt))
+    ∷ (3, Poll 2 (Turn Start (order_for counted_sheet 1 Stopped) None (Some (report_of [])))) ∷ (3, Answer 2 (Yes Plain) (Ok tt))
+    ∷ (0, Check (Done Completed) plain_by_three) ∷ (0, Begin Stop last_sheet (Ok 1))
+    ∷ (1, Poll 0 (Turn Stop (order_for last_sheet 1 Running) (Some (8 ∷ [])) None)) ∷ (1, Answer 0 (Yes (Channels [])) (Ok tt))
+    ∷ (2, Poll 1 (Turn Stop (order_for last_sheet 1 Running) None None)) ∷ (2, Answer 1 (Yes (Front 1 Quota)) (Ok tt))
+    ∷ (3, Poll 2 (Turn Stop (order_for last_sheet 1 Running) None None)) ∷ (3, Answer 2 (Yes (Report (counted_report told))) (Ok tt))
+    ∷ (0, Check (Done Completed) (counted_tallies told)) ∷ []
+
+-- the one buffer, in which the front-end's event is sent, and the analyzer gets what stands at its place
+abbrev pub counted_history : (buffer : ℕ) → History
+counted_history zero =
+    (3, Attach [] (Ok 0)) ∷ (3, Request 0 any any All (Ok 0)) ∷ (1, BufferBegin 1 (Ok 0))
+    ∷ (2, SendInRun 1 0 sample_event (Ok 0)) ∷ (3, Receive 0 0 (Got 0 1)) ∷ (1, BufferEnd 1 (Ok 1))
+    ∷ (3, Accepted 1) ∷ (3, Receive 0 0 (Empty Shut 1)) ∷ (3, Cancel 0 0 (Ok tt)) ∷ []
+counted_history (suc n) = []
+
+abbrev pub counted_analyzer : (told : Event) → SessionAnalyzer
+counted_analyzer told = record {
+  client = 2;
+  buffer = 0;
+  wanted = record { id = any; mask = any; kind = All };
+  got = got_first told ∷ [];
+}
+
+abbrev pub counted_session : (told : Event) → Session
+counted_session told = record {
+  size = λ buffer. 48;
+  history = counted_history;
+  engine = counted_engine told;
+  database = sample_database;
+  fronts = sample_front ∷ [];
+  logger = 0;
+  channels = [];
+  got = λ buffer. [];
+  analyzers = counted_analyzer told ∷ [];
+  files = sample_files;
+}
+
+abbrev pub counted_run : (told : Event) → SessionRun
+counted_run told = record {
+  start = 1;
+  first = counted_sheet;
+  last = last_sheet;
+  first_tallies = plain_by_three;
+  last_tallies = counted_tallies told;
+}

@@ -1,0 +1,38 @@
+-- What a front-end sets in the database: how many events it had sent in a run, at its turns.
+use Rattle.std.specs.Prelude.{◌≡◌, ℕ, List, [], ◌∷◌, ◌++◌, length, take, map, None, ◌⊎◌}
+use Rattle.daq_types.specs.declared.runs.Transition.{Transition}
+use Rattle.daq_types.specs.declared.runs.Transition.TheVariants.{Start, Stop, Pause, Resume, StartAbort}
+use Rattle.buffer_core.specs.declared.entry.BufferEntry.{BufferEntry}
+use Rattle.odb_tree.specs.declared.entry.DatabaseEntry.{DatabaseEntry}
+use Rattle.odb_runinfo.specs.RunSets.{AreSets, sent_set}
+use Rattle.member_model.specs.Turns.{MemberTurn}
+use Rattle.member_model.specs.SentCalls.{own_sent}
+
+-- how many events were sent in the run with this start number by this moment of the calls on the buffer
+abbrev pub sent_by_moment : List BufferEntry → (start moment : ℕ) → ℕ
+sent_by_moment own start moment = length (own_sent (take moment own) start)
+
+-- what is set at a turn of this transition: 0 at a start; at a pause and at a stop the number sent; nothing at a resume and
+-- at a start-abort
+abbrev pub numbers_at : Transition → (sent : ℕ) → List ℕ
+numbers_at Start sent = 0 ∷ []
+numbers_at Stop sent = sent ∷ []
+numbers_at Pause sent = sent ∷ []
+numbers_at Resume sent = []
+numbers_at StartAbort sent = []
+
+-- what is set at these turns with these moments, the earliest first
+abbrev pub numbers_set : List BufferEntry → List MemberTurn → (moments : List ℕ) → List ℕ
+numbers_set own [] moments = []
+numbers_set own (t ∷ turns) [] = []
+numbers_set own (t ∷ turns) (moment ∷ moments) =
+    numbers_set own turns moments ++ numbers_at t.transition (sent_by_moment own t.order.start moment)
+
+-- The calls on the database of the front-end with this name are the sets of these numbers in its own key, in order, whatever
+-- they were replied; those of a latest turn that has no answer may still be to come.
+abbrev pub AreTurnSets : (name : List ℕ) → List BufferEntry → List MemberTurn → (moments : List ℕ) → List DatabaseEntry → Type 0
+AreTurnSets name own [] moments calls = calls ≡ []
+AreTurnSets name own (t ∷ turns) [] calls = ⊥
+AreTurnSets name own (t ∷ turns) (moment ∷ moments) calls =
+    AreSets (map (sent_set name) (numbers_set own (t ∷ turns) (moment ∷ moments))) calls
+    ⊎ ((t.answer ≡ None) × AreSets (map (sent_set name) (numbers_set own turns moments)) calls)

@@ -1,0 +1,2 @@
+pub mod FileReplies
+pub mod WholeFiles

@@ -1,0 +1,67 @@
+//! Files in memory that are written and read back, and the reply where a call fails or a name clashes.
+use crate::{FileRead, FileReply, read_file, write_file};
+use daq_io::Files;
+use daq_mem::{FileFail, FileOp, MemFiles};
+use daq_types::{FileName, NoMemory};
+use std::alloc::Global;
+use std::test::Fail;
+
+/// The name of the file.
+fn dump_name() -> FileName {
+    match FileName::new("a.odb") {
+        Ok(name) => name,
+        Err(_) => unreachable!(),
+    }
+}
+
+/// Whether the file of this name is read with this reply, and where it is, with these bytes.
+fn reads<E: Files>(
+    alloc: Global,
+    files: &mut E,
+    wanted: FileReply,
+    bytes: &[u8],
+) -> Result<bool, NoMemory> {
+    let read = read_file(alloc, files, &dump_name())?;
+    let same = match &read {
+        FileRead::Whole { text } => text.as_slice() == bytes,
+        FileRead::Missing | FileRead::Fault | FileRead::TooLong => true,
+    };
+    Ok(same && read.reply() == wanted)
+}
+
+#[test]
+fn written_and_read_back(rt: HostRuntime) -> Result<(), Fail> {
+    let alloc = rt.alloc();
+    let mut files = MemFiles::new(alloc, 2, 1000, Vec::new(alloc))?;
+    let name = dump_name();
+    assert!(rt;
+        reads(alloc, &mut files, FileReply::Clash, b"")?,
+        "no file is there"
+    );
+    assert_eq!(rt; write_file(&mut files, &name, b"[/A]\n\n"), FileReply::Done);
+    assert!(rt; files.is_closed(&name));
+    assert!(rt; reads(alloc, &mut files, FileReply::Done, b"[/A]\n\n")?);
+    assert_eq!(rt; write_file(&mut files, &name, b"x"), FileReply::Clash);
+    assert!(rt; reads(alloc, &mut files, FileReply::Done, b"[/A]\n\n")?);
+    Ok(())
+}
+
+#[test]
+fn each_call_fails_once(rt: HostRuntime) -> Result<(), Fail> {
+    let alloc = rt.alloc();
+    for (op, written, read) in [
+        (FileOp::Create, FileReply::Fault, FileReply::Clash),
+        (FileOp::Append, FileReply::Fault, FileReply::Done),
+        (FileOp::Close, FileReply::Fault, FileReply::Done),
+        (FileOp::OpenRead, FileReply::Done, FileReply::Fault),
+        (FileOp::Read, FileReply::Done, FileReply::Fault),
+    ] {
+        let fails = vec![in alloc; FileFail { op, call: 0 }]?;
+        let mut files = MemFiles::new(alloc, 2, 1000, fails)?;
+        let reply = write_file(&mut files, &dump_name(), b"text");
+        let got = read_file(alloc, &mut files, &dump_name())?.reply();
+        assert_eq!(rt; reply, written);
+        assert_eq!(rt; got, read);
+    }
+    Ok(())
+}
