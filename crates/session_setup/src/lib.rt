@@ -4,6 +4,7 @@
 mod checks;
 mod declarations;
 mod declared;
+pub mod laws;
 mod refusals;
 #[cfg(test)]
 mod tests;
