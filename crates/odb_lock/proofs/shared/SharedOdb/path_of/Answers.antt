@@ -7,5 +7,5 @@ pub enter-requires-clause-step : goal.enter-requires-clause-step
 enter-requires-clause-step g c = (
   c.take-held.result.value.value.database,
   c.take-held.ensures.held,
-  record { may = λ (shapes : false ≡ true). absurd (cc); sound = tt; step = look_step c.take-held.result.value.value.database (PathOf c.args.row c.path_of-reply.result) c.path_of-reply.ensures refl refl },
+  record { may = λ (shapes : false ≡ true). absurd (cc); sound = tt; step = look_step c.take-held.result.value.value.database (PathOf c.args.row c.path_of-reply.result) (rw c.deref.ensures at c.path_of-reply.ensures) refl refl },
 )
