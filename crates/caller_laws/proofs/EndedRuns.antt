@@ -1,6 +1,6 @@
 -- A run that a caller began and then called to end was ended.
-use Rattle.std.specs.Prelude.{◌≡◌, ◌≢◌, ℕ, ◌==◌, Bool, true, false, List, [], ◌∷◌, ◌++◌, Result, Ok, Err, refl, ⊤, ◌⊎◌}
-use Rattle.std.proofs.Common.{ap, sym, ◌∙◌, subst, inl, inr, append_assoc, eq-eqb}
+use Rattle.std.specs.Prelude.{◌≡◌, ℕ, ◌==◌, Bool, true, false, List, [], ◌∷◌, ◌++◌, Result, Ok, Err, refl, ◌⊎◌}
+use Rattle.std.proofs.Common.{ap, sym, ◌∙◌, subst, inl, inr, eq-eqb}
 use Rattle.std.proofs.lemmas.Bool.{eqb-true, eqb-false}
 use Rattle.daq_types.specs.Callers.{entries_by}
 use Rattle.daq_types.proofs.CallersLaws.{entries_by-append}
@@ -17,7 +17,6 @@ use Rattle.buffer_core.specs.Histories.{IsLegal, replay}
 use Rattle.member_model.specs.SentCalls.{IsSendInRun, EachCall}
 use Rattle.member_model.specs.CutRuns.{MarksEnd}
 use Rattle.member_model.specs.EndedRuns.{EndsBegun, MakesNoMark}
-use Rattle.caller_laws.specs.OneCaller.{MarksAlone}
 use Rattle.caller_laws.specs.CallerLaws.{BegunIsEnded, SenderMakesNoMark}
 use Rattle.caller_laws.proofs.Pasts.{StandsIn, stands, entries_more}
 

@@ -1,5 +1,4 @@
-use Rattle.std.specs.Prelude.{◌≡◌, ◌≢◌}
-use Rattle.daq_types.specs.declared.runs.Transition.{Transition}
+use Rattle.std.specs.Prelude.{◌≢◌}
 use Rattle.daq_types.specs.declared.runs.Transition.TheVariants.{Start, Stop}
 use Rattle.composition.proofs.laws.stops.Goals as goal
 
