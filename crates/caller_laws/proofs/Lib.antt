@@ -3,6 +3,7 @@ pub mod Owners
 pub mod OwnPlaces
 pub mod GotEvents
 pub mod Marked
+pub mod EndedRuns
 pub mod Reading
 pub mod RunsRead
 pub mod FirstParts

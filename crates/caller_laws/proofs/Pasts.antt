@@ -123,7 +123,7 @@ pub record SplitsAt (h : List (ℕ × BufferEntry)) (by : ℕ) (xs ys : List Buf
   pub own_before : entries_by by before ≡ xs
   pub own_after : entries_by by after ≡ ys
 
-entries_more : (by : ℕ) (x : ℕ × BufferEntry) (xs : List (ℕ × BufferEntry)) → x.0 ≡ by → entries_by by (x ∷ xs) ≡ x.1 ∷ entries_by by xs
+pub entries_more : (by : ℕ) (x : ℕ × BufferEntry) (xs : List (ℕ × BufferEntry)) → x.0 ≡ by → entries_by by (x ∷ xs) ≡ x.1 ∷ entries_by by xs
 entries_more by x xs same = own_cases by x xs (λ es. es ≡ x.1 ∷ entries_by by xs) (λ h. refl) (λ other. absurd (other same))
 
 entries_same : (by : ℕ) (x : ℕ × BufferEntry) (xs : List (ℕ × BufferEntry)) → x.0 ≢ by → entries_by by (x ∷ xs) ≡ entries_by by xs

@@ -17,8 +17,9 @@ use Rattle.local_port.specs.Ported.{Ported, IsPorted, access_of}
 use Rattle.member_model.specs.SentCalls.{own_sent, IsSendInRun, EachCall}
 use Rattle.member_model.specs.OwnCalls.{calls_after, IsOwnCall, AreOwnCalls, SendsNone, AreGivenBy}
 use Rattle.member_model.specs.ReadRuns.{HasReadRun}
-use Rattle.caller_laws.specs.OneCaller.{WasSentAt, IsCallersPart, HaveOwnClients, SendsInRuns, HaveRunSends, events_in}
-use Rattle.member_model.specs.CutRuns.{HasCutRun}
+use Rattle.caller_laws.specs.OneCaller.{WasSentAt, IsCallersPart, HaveOwnClients, SendsInRuns, HaveRunSends, MarksAlone, events_in}
+use Rattle.member_model.specs.CutRuns.{MarksEnd, HasCutRun}
+use Rattle.member_model.specs.EndedRuns.{EndsBegun, MakesNoMark}
 use Rattle.caller_laws.specs.SentRuns.{places_sent, events_at_places}
 use Rattle.member_model.specs.GotRuns.{events_of_start}
 use Rattle.caller_laws.specs.SeenRuns.{SeesRun}
@@ -155,3 +156,13 @@ SendsOrReads own = EachCall IsSendInRun own ⊎ (EachCall SendsNone own × AreOw
 abbrev pub MembersFit : Type 0
 MembersFit = (history : History) → ((caller : ℕ) → SendsOrReads (entries_by caller history)) →
     HaveOwnClients history × HaveRunSends history
+
+-- Where one caller alone makes marks, a run that it began and then called to end was ended by it.
+abbrev pub BegunIsEnded : Type 0
+BegunIsEnded = (size : ℕ) → (history : History) → (caller start : ℕ) → IsLegal (opening size) history →
+    MarksAlone history caller → EndsBegun (entries_by caller history) start →
+    (ended : ℕ) × MarksEnd (entries_by caller history) start ended
+
+-- Who only sends in runs makes no mark.
+abbrev pub SenderMakesNoMark : Type 0
+SenderMakesNoMark = (own : List BufferEntry) → EachCall IsSendInRun own → EachCall MakesNoMark own

@@ -1,5 +1,5 @@
 -- The calls of one caller in the history of all callers, and what they gave.
-use Rattle.std.specs.Prelude.{◌≡◌, ℕ, List, [], map, slice_get, Some, ⊤}
+use Rattle.std.specs.Prelude.{◌≡◌, ◌≢◌, ℕ, List, [], map, slice_get, Some, ⊤}
 use Rattle.std.specs.List.{AllByRecursion}
 use Rattle.daq_types.specs.Callers.{entries_by}
 use Rattle.daq_types.specs.declared.events.Event.{Event}
@@ -10,6 +10,7 @@ use Rattle.buffer_core.specs.Points.{sent, past_of}
 use Rattle.buffer_core.specs.Ports.{GotEvent}
 use Rattle.member_model.specs.SentCalls.{EachCall}
 use Rattle.member_model.specs.OwnCalls.{calls_after, AreOwnCalls}
+use Rattle.member_model.specs.EndedRuns.{MakesNoMark}
 
 -- the event was sent at its place, with its start number
 abbrev pub WasSentAt : (history : List (ℕ × BufferEntry)) → GotEvent → Type 0
@@ -37,3 +38,7 @@ HaveRunSends h = (caller : ℕ) → EachCall SendsInRuns (entries_by caller h)
 -- the events themselves, without their places
 abbrev pub events_in : (events : List (ℕ × Sent)) → List Event
 events_in events = map (λ e. e.1.event) events
+
+-- no other caller of the history makes marks of runs
+abbrev pub MarksAlone : (history : List (ℕ × BufferEntry)) → (caller : ℕ) → Type 0
+MarksAlone h caller = (other : ℕ) → other ≢ caller → EachCall MakesNoMark (entries_by other h)

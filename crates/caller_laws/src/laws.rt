@@ -7,7 +7,7 @@ ghost use Rattle.buffer_core.specs.Histories.{IsLegal};
 ghost use Rattle.caller_laws.specs.OneCaller.{HaveRunSends, IsCallersPart};
 ghost use Rattle.caller_laws.specs.CallerSamples.{ReadPremise, LegalHistory, OwnClients, CallersEntries, SentEvents, RunIsRead, MeetsPremise, IsReadRight, FailsWithout, IsUnsent, read_whole, found_nothing, got_by_other, call_left_out, other_event_told, not_drained, sent_in_none, sent_in_other, asked_level};
 ghost use Rattle.caller_laws.specs.SeenSamples.{SeenPremise, SeenLegal, SeenClients, SeenSends, SeenEntries, SeenPlaces, SeenGiven, SeenThrough, MeetsSeen, IsSeenRight, FailsToSee, got_of_none, event_not_told};
-ghost use Rattle.caller_laws.specs.CallerLaws.{ReadPlaces, ReadEvents, CutEvents, CutFile, SeenEvents, SeenSince, SentByCaller, SendIsAmong, SendStands, SendsStandInOrder, PartGoesOn, ReadGoesOn, CutGoesOn, OwnGoOn, PortTells, SenderHasOwn, SenderSendsInRuns, SilentSendsInRuns, MembersFit};
+ghost use Rattle.caller_laws.specs.CallerLaws.{ReadPlaces, ReadEvents, CutEvents, CutFile, SeenEvents, SeenSince, SentByCaller, SendIsAmong, SendStands, SendsStandInOrder, PartGoesOn, ReadGoesOn, CutGoesOn, OwnGoOn, PortTells, SenderHasOwn, SenderSendsInRuns, SilentSendsInRuns, MembersFit, BegunIsEnded, SenderMakesNoMark};
 
 use buffer_core::laws;
 
@@ -100,6 +100,13 @@ pub fn goes_on()
 {
     of_buffers();
 }
+
+/// Where one caller alone makes marks of runs in a buffer, a run that it began and then called to end was ended by it,
+/// whatever that call was replied. Who only sends in runs makes no mark.
+pub fn ends_runs()
+    ensures ended { BegunIsEnded }
+    ensures senders { SenderMakesNoMark }
+{}
 
 /// What a port tells its caller is the caller's part of the history.
 pub fn port_tells()

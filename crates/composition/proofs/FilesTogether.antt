@@ -1,16 +1,17 @@
 -- What the run files have, by the engine's history and the buffers'.
 use mathlib.Core.List.{IsPrefix}
-use Rattle.std.specs.Prelude.{◌≡◌, ℕ, List, [], All, unwrap_or, Option, Some, refl}
+use Rattle.std.specs.Prelude.{◌≡◌, ℕ, List, [], ◌∷◌, All, slice_get, unwrap_or, Option, Some, refl}
 use Rattle.std.proofs.Common.{ap, sym, ◌∙◌, subst, inl, inr}
-use Rattle.daq_types.specs.Callers.{caller_of_client}
+use Rattle.daq_types.specs.Callers.{caller_of_client, entries_by}
 use Rattle.daq_types.specs.declared.events.Event.{Event}
 use Rattle.daq_types.specs.declared.runs.ChannelState.{ChannelState}
-use Rattle.daq_types.specs.declared.runs.ChannelState.TheVariants.{Ended, Broken}
+use Rattle.daq_types.specs.declared.runs.ChannelState.TheVariants.{Idle, Writing, Broken, Ended, NoEnd, NoMark}
 use Rattle.daq_types.specs.declared.runs.Order.{Order}
 use Rattle.daq_types.specs.declared.runs.Transition.TheVariants.{Start, Stop}
 use Rattle.daq_model.specs.RunFile.{begun_file, run_file, IsFileEvent}
 use Rattle.daq_io.specs.Seen.{IsStored}
 use Rattle.buffer_core.specs.declared.entry.BufferEntry.{BufferEntry}
+use Rattle.buffer_core.specs.declared.entry.BufferEntry.TheVariants.{Begin, Pause, Resume, End}
 use Rattle.buffer_core.specs.Histories.{History}
 use Rattle.transitions.specs.declared.answers.Answer.{Answer}
 use Rattle.transitions.specs.declared.answers.Answer.TheVariants.{Yes, No}
@@ -19,14 +20,17 @@ use Rattle.transitions.specs.declared.answers.Tally.TheVariants.{Plain, Channels
 use Rattle.transitions.specs.EnginePoints.{tally_of}
 use Rattle.member_model.specs.Turns.{MemberTurn, HasTurnOf, IsAcceptedStart, HasAnswer}
 use Rattle.member_model.specs.ReadRuns.{HasReadRun}
+use Rattle.member_model.specs.SentCalls.{EachCall}
 use Rattle.member_model.specs.CutRuns.{MarksEnd, HasCutRun}
+use Rattle.member_model.specs.EndedRuns.{EndsBegun, MakesNoMark}
 use Rattle.member_model.specs.LoggerKept.{LoggerChannel, HasWritten, HasWrittenPart, TellsState, IsStartAnswer, IsStateSo}
-use Rattle.caller_laws.specs.OneCaller.{IsCallersPart, HaveOwnClients}
-use Rattle.caller_laws.specs.CallerLaws.{ReadPlaces, ReadEvents, CutEvents, CutFile, MembersFit}
+use Rattle.analyzers.specs.AnalyzerKept.{IsReaderCall}
+use Rattle.caller_laws.specs.OneCaller.{IsCallersPart, HaveOwnClients, MarksAlone}
+use Rattle.caller_laws.specs.CallerLaws.{ReadPlaces, ReadEvents, CutEvents, CutFile, MembersFit, BegunIsEnded, SenderMakesNoMark}
 use Rattle.engine_laws.specs.BegunTurns.{HasTally}
 use Rattle.composition.specs.Sessions.{Session, turns_of, buffer_calls, MembersKeep}
 use Rattle.composition.specs.SessionRuns.{SessionRun, IsStoppedRun, run_order, ToldState, channel_events}
-use Rattle.composition.specs.CompositionLaws.{ChannelsTold, FilesHoldRuns, FilesHoldParts}
+use Rattle.composition.specs.CompositionLaws.{ChannelsTold, FilesHoldRuns, FilesHoldParts, RunsAreEnded, NoEndRefused}
 use Rattle.composition.proofs.SessionTurns.{EngineFacts, are_turns, start_turn, one_start, StopTally, number_of, stop_tally, HasStartTally, start_tally, last_tally}
 use Rattle.composition.proofs.SentTogether.{each_reads_or_sends}
 
@@ -37,6 +41,8 @@ pub record CallerFacts : Type 0 where
   pub cut : CutEvents
   pub file : CutFile
   pub fits : MembersFit
+  pub ends : BegunIsEnded
+  pub senders : SenderMakesNoMark
 
 yes_channels : (answer : Answer) (states : List ChannelState) → Channels states ≡ tally_of answer → answer ≡ Yes (Channels states)
 yes_channels (Yes tally) states e = ap (λ (t : Tally). Yes t) (sym e)
@@ -115,15 +121,150 @@ files_hold_runs laws callers s keep r run index channel at told dump has =
       got = callers.places (s.size b) h (caller_of_client s.logger) own (s.got b) (keep.buffers_legal b) (own_clients callers s keep b) (logger_part s keep b) channel.client channel.id channel.mask w.number r.start w.begun w.ended w.events reads;
     }
 
+-- What the logger told.
+
+pub plain_start : (answer : Answer) (tally : Tally) → answer ≡ Yes tally → IsStartAnswer answer → answer ≡ Yes Plain
+plain_start answer tally is plain = is ∙ ap (λ (t : Tally). Yes t) (subst IsStartAnswer is plain)
+
+told_channels : (tally : Tally) (turn_answer : Option Answer) (answer : Answer) (states : List ChannelState) → tally ≡ tally_of answer → turn_answer ≡ Some answer → turn_answer ≡ Some (Yes (Channels states)) → tally ≡ Channels states
+told_channels tally turn_answer answer states is answered told =
+    let both : Some answer ≡ Some (Yes (Channels states)) = sym answered ∙ told in
+    let same : answer ≡ Yes (Channels states) = cc (both) in
+    is ∙ ap tally_of same
+
+-- the logger accepted the start of the run
+accepted_start : EngineFacts → (s : Session) → MembersKeep s → (r : SessionRun) → IsStoppedRun s r → (turn : MemberTurn) × IsAcceptedStart (turns_of s s.logger) r.start turn
+accepted_start laws s keep r run =
+    let begin : HasStartTally s r run s.logger = start_tally laws s keep r run s.logger keep.logger_registered.0 in
+    let t0 = begin.told in
+    let starts : t0.turn.transition ≡ Start = t0.completed refl in
+    let plain : t0.answer ≡ Yes Plain = plain_start t0.answer begin.tally (t0.accepted starts) (keep.logger_keeps.starts t0.turn t0.answer t0.stands starts t0.answered) in (
+      t0.turn,
+      record {
+        is_start = record { stands = t0.stands; is = starts; of = number_of Start r.first r.start t0.turn t0.of_begin };
+        accepted = t0.answered ∙ ap (λ (a : Answer). Some a) plain;
+      },
+    )
+
+pub channels_told : EngineFacts → (s : Session) → MembersKeep s → ChannelsTold s
+channels_told laws s keep r run index channel at =
+    let turns : List MemberTurn = turns_of s s.logger in
+    let own : List BufferEntry = buffer_calls s channel.buffer s.logger in
+    let begin : (turn : MemberTurn) × IsAcceptedStart turns r.start turn = accepted_start laws s keep r run in
+    let last : HasTally s.logger r.last_tallies = last_tally laws s keep r run s.logger keep.logger_registered.1 in
+    let t1 : StopTally s r run s.logger last.1 = stop_tally laws s keep r run s.logger last.0 last.1 last.2 in
+    let number : t1.turn.order.start ≡ r.start = number_of Stop r.last r.start t1.turn t1.of_begin in
+    let told = keep.logger_keeps.stops (are_turns laws s keep s.logger) begin.0 t1.turn (subst (λ (n : ℕ). IsAcceptedStart turns n begin.0) (sym number) begin.1)
+    t1.stands (t1.completed refl) (subst HasAnswer (sym t1.answered) tt) index channel at in
+    let tally : last.1 ≡ Channels told.1.states = told_channels last.1 t1.turn.answer t1.answer told.1.states t1.tally_is t1.answered told.1.answered in (
+      told.0,
+      record {
+        index = last.0;
+        states = told.1.states;
+        told = last.2 ∙ ap (λ (x : Tally). Some (record { client = s.logger; tally = x })) tally;
+        state_is = told.1.told;
+      },
+      subst (λ (d : Option (List ℕ)). IsStateSo own r.start d told.0) (t1.dump keep.one_dump (t1.completed refl)) (subst (λ (n : ℕ). IsStateSo own n t1.turn.dump told.0) number told.2),
+    )
+
+-- One state was told of a channel.
+
+one_answer : (answer : Option Answer) (states others : List ChannelState) → answer ≡ Some (Yes (Channels states)) → answer ≡ Some (Yes (Channels others)) → states ≡ others
+one_answer answer states others one other =
+    let both : Some (Yes (Channels states)) ≡ Some (Yes (Channels others)) = sym one ∙ other in
+    cc (both)
+
+one_state : (turns : List MemberTurn) (stop : MemberTurn) (channel : LoggerChannel) (state other : ChannelState) → TellsState turns stop channel state → TellsState turns stop channel other → state ≡ other
+one_state turns stop channel state other t u =
+    let states : t.states ≡ u.states = one_answer stop.answer t.states u.states t.answered u.answered in
+    let both : Some state ≡ Some other = sym t.told ∙ (ap (λ (l : List ChannelState). slice_get l channel.number) states ∙ u.told) in
+    cc (both)
+
+-- and it is so by the logger's calls
+state_so : EngineFacts → (s : Session) → MembersKeep s → (r : SessionRun) → IsStoppedRun s r → (index : ℕ) (channel : LoggerChannel) → slice_get s.channels index ≡ Some channel → (state : ChannelState)
+    → LoggerRun s r channel state → IsStateSo (buffer_calls s channel.buffer s.logger) r.start r.last.dump state
+state_so laws s keep r run index channel at state l =
+    let turns : List MemberTurn = turns_of s s.logger in
+    let own : List BufferEntry = buffer_calls s channel.buffer s.logger in
+    let begin : (turn : MemberTurn) × IsAcceptedStart turns r.start turn = accepted_start laws s keep r run in
+    let told = keep.logger_keeps.stops (are_turns laws s keep s.logger) begin.0 l.stop (subst (λ (n : ℕ). IsAcceptedStart turns n begin.0) (sym l.number) begin.1)
+    l.tells.stands l.tells.is (subst HasAnswer (sym l.tells.answered) tt) index channel at in
+    let same : told.0 ≡ state = one_state turns l.stop channel told.0 state told.1 l.tells in
+    subst (λ (st : ChannelState). IsStateSo own r.start r.last.dump st) same
+    (subst (λ (d : Option (List ℕ)). IsStateSo own r.start d told.0) l.dump (subst (λ (n : ℕ). IsStateSo own n l.stop.dump told.0) l.number told.2))
+
+-- The logger alone makes marks.
+
+reader_no_mark : (e : BufferEntry) → IsReaderCall e → MakesNoMark e
+reader_no_mark (Begin start reply) reads = reads
+reader_no_mark (Pause start reply) reads = reads
+reader_no_mark (Resume start reply) reads = reads
+reader_no_mark (End start reply) reads = reads
+reader_no_mark e reads = tt
+
+reader_makes_no_mark : (own : List BufferEntry) → EachCall IsReaderCall own → EachCall MakesNoMark own
+reader_makes_no_mark [] each = tt
+reader_makes_no_mark (e ∷ own) each = (reader_no_mark e each.0, reader_makes_no_mark own each.1)
+
+abbrev NoneMade : Session → (buffer by : ℕ) → Type 0
+NoneMade s buffer by = EachCall MakesNoMark (entries_by by (s.history buffer))
+
+logger_marks_alone : SenderMakesNoMark → (s : Session) → MembersKeep s → (buffer : ℕ) → MarksAlone (s.history buffer) (caller_of_client s.logger)
+logger_marks_alone senders s keep buffer other differs =
+    elim (keep.callers buffer other) as (λ w. NoneMade s buffer other) [
+      | inl none ↦ subst (EachCall MakesNoMark) (sym none) tt
+      | inr member ↦ elim member as (λ w. NoneMade s buffer other) [
+        | inl logger ↦ absurd (differs logger)
+        | inr rest ↦ elim rest as (λ w. NoneMade s buffer other) [
+          | inl front ↦
+              subst (λ (by : ℕ). NoneMade s buffer by) front.caller_is
+              (subst (λ (b : ℕ). NoneMade s b (caller_of_client front.front.client)) front.buffer_is
+              (senders (buffer_calls s front.front.buffer front.front.client) (keep.fronts_keep front.front front.stands).only_sends))
+          | inr analyzer ↦
+              subst (λ (by : ℕ). NoneMade s buffer by) analyzer.caller_is
+              (subst (λ (b : ℕ). NoneMade s b (caller_of_client analyzer.analyzer.client)) analyzer.buffer_is
+              (reader_makes_no_mark (buffer_calls s analyzer.analyzer.buffer analyzer.analyzer.client) (keep.analyzers_keep analyzer.analyzer analyzer.stands).calls.only_reads))
+        ]
+      ]
+    ]
+
+pub logger_ends : CallerFacts → (s : Session) → MembersKeep s → (buffer start : ℕ) → EndsBegun (buffer_calls s buffer s.logger) start → (ended : ℕ) × MarksEnd (buffer_calls s buffer s.logger) start ended
+logger_ends callers s keep buffer start begun =
+    callers.ends (s.size buffer) (s.history buffer) (caller_of_client s.logger) start (keep.buffers_legal buffer) (logger_marks_alone callers.senders s keep buffer) begun
+
+-- in whatever state a channel was told to be, the run was ended
+state_ends : (own : List BufferEntry) (start : ℕ) (dump : Option (List ℕ)) (state : ChannelState) → (EndsBegun own start → (ended : ℕ) × MarksEnd own start ended) → IsStateSo own start dump state → (ended : ℕ) × MarksEnd own start ended
+state_ends own start dump Idle ends so = absurd so
+state_ends own start dump Writing ends so = absurd so
+state_ends own start dump Broken ends so = ends so
+state_ends own start dump Ended ends so = so.1
+state_ends own start dump NoEnd ends so = so.1
+state_ends own start dump NoMark ends so = ends so.0
+
+pub runs_are_ended : EngineFacts → CallerFacts → (s : Session) → MembersKeep s → RunsAreEnded s
+runs_are_ended laws callers s keep r run index channel at =
+    let told = channels_told laws s keep r run index channel at in
+    state_ends (buffer_calls s channel.buffer s.logger) r.start r.last.dump told.0 (logger_ends callers s keep channel.buffer r.start) told.2
+
+pub no_end_refused : EngineFacts → CallerFacts → (s : Session) → MembersKeep s → NoEndRefused s
+no_end_refused laws callers s keep r run index channel at told =
+    let l : LoggerRun s r channel NoMark = logger_run laws s keep r run channel NoMark told in
+    let so : IsStateSo (buffer_calls s channel.buffer s.logger) r.start r.last.dump NoMark = state_so laws s keep r run index channel at NoMark l in
+    let marks : (ended : ℕ) × MarksEnd (buffer_calls s channel.buffer s.logger) r.start ended = logger_ends callers s keep channel.buffer r.start so.0 in
+    so.2 marks.0 marks.1
+
 -- A channel that broke off.
 
 pub files_hold_parts : EngineFacts → CallerFacts → (s : Session) → MembersKeep s → FilesHoldParts s
-files_hold_parts laws callers s keep r run index channel at told ended marks dump last_dump has has_last =
+files_hold_parts laws callers s keep r run index channel at told dump last_dump has has_last =
     let l : LoggerRun s r channel Broken = logger_run laws s keep r run channel Broken told in
     let b : ℕ = channel.buffer in
     let h : History = s.history b in
     let own : List BufferEntry = buffer_calls s b s.logger in
-    let marks_stop : MarksEnd own l.stop.order.start ended = subst (λ (n : ℕ). MarksEnd own n ended) (sym l.number) marks in
+    let so : EndsBegun own r.start = state_so laws s keep r run index channel at Broken l in
+    let found : (ended : ℕ) × MarksEnd own r.start ended = logger_ends callers s keep b r.start so in
+    let ended : ℕ = found.0 in
+    let marks_stop : MarksEnd own l.stop.order.start ended = subst (λ (n : ℕ). MarksEnd own n ended) (sym l.number) found.1 in
     let w : HasWrittenPart (record { own = own; got = s.got b }) (turns_of s s.logger) s.files channel l.stop ended last_dump =
     keep.logger_keeps.broken (are_turns laws s keep s.logger) l.stop index channel at l.tells ended marks_stop last_dump (l.dump ∙ has_last) in
     let first = l.first w.start w.is_start.is_start in
@@ -151,42 +292,3 @@ files_hold_parts laws callers s keep r run index channel at told ended marks dum
             (subst (λ (o : Order). IsPrefix w.bytes (run_file o.run o.time (unwrap_or w.start.dump []) w.events l.stop.order.time last_dump)) first.0 whole.1)))
       ];
     }
-
--- What the logger told.
-
-pub plain_start : (answer : Answer) (tally : Tally) → answer ≡ Yes tally → IsStartAnswer answer → answer ≡ Yes Plain
-plain_start answer tally is plain = is ∙ ap (λ (t : Tally). Yes t) (subst IsStartAnswer is plain)
-
-told_channels : (tally : Tally) (turn_answer : Option Answer) (answer : Answer) (states : List ChannelState) → tally ≡ tally_of answer → turn_answer ≡ Some answer → turn_answer ≡ Some (Yes (Channels states)) → tally ≡ Channels states
-told_channels tally turn_answer answer states is answered told =
-    let both : Some answer ≡ Some (Yes (Channels states)) = sym answered ∙ told in
-    let same : answer ≡ Yes (Channels states) = cc (both) in
-    is ∙ ap tally_of same
-
-pub channels_told : EngineFacts → (s : Session) → MembersKeep s → ChannelsTold s
-channels_told laws s keep r run index channel at =
-    let turns : List MemberTurn = turns_of s s.logger in
-    let own : List BufferEntry = buffer_calls s channel.buffer s.logger in
-    let begin : HasStartTally s r run s.logger = start_tally laws s keep r run s.logger keep.logger_registered.0 in
-    let t0 = begin.told in
-    let starts : t0.turn.transition ≡ Start = t0.completed refl in
-    let plain : t0.answer ≡ Yes Plain = plain_start t0.answer begin.tally (t0.accepted starts) (keep.logger_keeps.starts t0.turn t0.answer t0.stands starts t0.answered) in
-    let accepted : IsAcceptedStart turns r.start t0.turn = record {
-      is_start = record { stands = t0.stands; is = starts; of = number_of Start r.first r.start t0.turn t0.of_begin };
-      accepted = t0.answered ∙ ap (λ (a : Answer). Some a) plain;
-    } in
-    let last : HasTally s.logger r.last_tallies = last_tally laws s keep r run s.logger keep.logger_registered.1 in
-    let t1 : StopTally s r run s.logger last.1 = stop_tally laws s keep r run s.logger last.0 last.1 last.2 in
-    let number : t1.turn.order.start ≡ r.start = number_of Stop r.last r.start t1.turn t1.of_begin in
-    let told = keep.logger_keeps.stops (are_turns laws s keep s.logger) t0.turn t1.turn (subst (λ (n : ℕ). IsAcceptedStart turns n t0.turn) (sym number) accepted)
-    t1.stands (t1.completed refl) (subst HasAnswer (sym t1.answered) tt) index channel at in
-    let tally : last.1 ≡ Channels told.1.states = told_channels last.1 t1.turn.answer t1.answer told.1.states t1.tally_is t1.answered told.1.answered in (
-      told.0,
-      record {
-        index = last.0;
-        states = told.1.states;
-        told = last.2 ∙ ap (λ (x : Tally). Some (record { client = s.logger; tally = x })) tally;
-        state_is = told.1.told;
-      },
-      subst (λ (d : Option (List ℕ)). IsStateSo own r.start d told.0) (t1.dump keep.one_dump (t1.completed refl)) (subst (λ (n : ℕ). IsStateSo own n t1.turn.dump told.0) number told.2),
-    )

@@ -2,8 +2,14 @@
 -- keep their contracts.
 use Rattle.std.specs.Prelude.{◌≡◌, ℕ, List, slice_get, Some}
 use Rattle.daq_types.specs.declared.runs.ChannelState.{ChannelState}
-use Rattle.daq_types.specs.declared.runs.ChannelState.TheVariants.{Ended, Broken}
+use Rattle.daq_types.specs.declared.runs.ChannelState.TheVariants.{Ended, Broken, NoMark}
 use Rattle.daq_types.specs.declared.runs.FrontEnded.{FrontEnded}
+use Rattle.daq_types.specs.declared.runs.StartOutcome.{StartOutcome}
+use Rattle.daq_types.specs.declared.runs.StartOutcome.TheVariants.{Completed}
+use Rattle.daq_types.specs.declared.runs.Transition.TheVariants.{Stop}
+use Rattle.transitions.specs.declared.sheet.Sheet.{Sheet}
+use Rattle.transitions.specs.declared.answers.ClientTally.{ClientTally}
+use Rattle.engine_laws.specs.BegunTurns.{HasTransition}
 use Rattle.buffer_core.specs.declared.entry.BufferEntry.{BufferEntry}
 use Rattle.buffer_core.specs.Window.{Sent}
 use Rattle.event_report.specs.Reports.{Totals, report_of}
@@ -68,14 +74,23 @@ FilesHoldRuns s = (r : SessionRun) → IsStoppedRun s r →
     (index : ℕ) → (channel : LoggerChannel) → slice_get s.channels index ≡ Some channel → ToldState s r channel Ended →
     (dump : List ℕ) → r.first.dump ≡ Some dump → HoldsRunFile s r channel dump
 
--- The file of a channel that was told to be broken begins that run file, where the end of the run was accepted and the stop
--- had a dump.
+-- The file of a channel that was told to be broken begins that run file, where both sheets had a dump.
 abbrev pub FilesHoldParts : Session → Type 0
 FilesHoldParts s = (r : SessionRun) → IsStoppedRun s r →
     (index : ℕ) → (channel : LoggerChannel) → slice_get s.channels index ≡ Some channel → ToldState s r channel Broken →
-    (ended : ℕ) → MarksEnd (buffer_calls s channel.buffer s.logger) r.start ended →
     (dump last_dump : List ℕ) → r.first.dump ≡ Some dump → r.last.dump ≡ Some last_dump →
     HoldsFilePart s r channel dump last_dump
+
+-- The logger ended the run in the buffer of each channel.
+abbrev pub RunsAreEnded : Session → Type 0
+RunsAreEnded s = (r : SessionRun) → IsStoppedRun s r →
+    (index : ℕ) → (channel : LoggerChannel) → slice_get s.channels index ≡ Some channel →
+    (ended : ℕ) × MarksEnd (buffer_calls s channel.buffer s.logger) r.start ended
+
+-- So it told of no channel that the end of the run was refused there.
+abbrev pub NoEndRefused : Session → Type 0
+NoEndRefused s = (r : SessionRun) → IsStoppedRun s r →
+    (index : ℕ) → (channel : LoggerChannel) → slice_get s.channels index ≡ Some channel → ToldState s r channel NoMark → ⊥
 
 -- Each analyzer has told in the Done of the stop a report of the run.
 abbrev pub ReportsTold : Session → Type 0
@@ -94,3 +109,26 @@ abbrev pub ReportsWhole : Session → Type 0
 ReportsWhole s = (r : SessionRun) →
     (a : SessionAnalyzer) → HasAnalyzer s a → (report : Totals) → (told : ReportsRun s r a report) →
     SawThrough s r a report told → report ≡ report_of (analyzer_events s r a)
+
+-- Only a start is refused: the Done of a stop says Completed.
+abbrev pub StopsComplete : Session → Type 0
+StopsComplete s = (sheet : Sheet) → (start : ℕ) → (outcome : StartOutcome) → (tallies : List ClientTally) →
+    HasTransition s.engine Stop sheet start outcome tallies → outcome ≡ Completed
+
+-- All that these laws say of a session.
+pub record IsComposed (s : Session) : Type 0 where
+  pub stops_complete : StopsComplete s
+  pub fronts_tell : FrontsTell s
+  pub fronts_sent : FrontsSent s
+  pub fronts_stand : FrontsStand s
+  pub only_fronts : OnlyFrontsSent s
+  pub fronts_set : FrontsSet s
+  pub stops_set : StopsSet s
+  pub channels_told : ChannelsTold s
+  pub runs_ended : RunsAreEnded s
+  pub no_end_refused : NoEndRefused s
+  pub files_hold : FilesHoldRuns s
+  pub parts_hold : FilesHoldParts s
+  pub reports_told : ReportsTold s
+  pub reports_so : ReportsSo s
+  pub reports_whole : ReportsWhole s

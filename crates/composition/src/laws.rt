@@ -1,6 +1,6 @@
 //! Laws of a session's members together: each function does nothing, and its contract is the law.
 
-ghost use Rattle.composition.specs.CompositionLaws.{FrontsTell, FrontsSent, FrontsStand, FrontsSet, StopsSet, OnlyFrontsSent, ChannelsTold, FilesHoldRuns, FilesHoldParts, ReportsTold, ReportsSo, ReportsWhole};
+ghost use Rattle.composition.specs.CompositionLaws.{FrontsTell, FrontsSent, FrontsStand, FrontsSet, StopsSet, OnlyFrontsSent, ChannelsTold, RunsAreEnded, NoEndRefused, FilesHoldRuns, FilesHoldParts, ReportsTold, ReportsSo, ReportsWhole, StopsComplete, IsComposed};
 ghost use Rattle.daq_types.specs.declared.runs.ChannelState.TheVariants.{Ended};
 ghost use Rattle.composition.specs.Sessions.{Session, MembersKeep};
 ghost use Rattle.composition.specs.SessionRuns.{IsStoppedRun, ToldState, ReportsRun, SawThrough};
@@ -46,11 +46,14 @@ pub fn sets()
 }
 
 /// In a run that was not refused and was stopped the logger told in the Done of the stop what became of each channel: that it
-/// ended or broke off, that the end of its run was refused, or that the stop had no dump.
+/// ended or broke off, or that the stop had no dump. It ended the run in the buffer of each channel: never was that refused.
 /// The file of each channel that the logger told to have ended is the run file of all events between the marks of the run
-/// that the channel asks for, with the dumps of the two sheets; the file of one that was told to be broken begins so.
+/// that the channel asks for, with the dumps of the two sheets; the file of one that was told to be broken begins so, where the
+/// sheets have dumps.
 pub fn files()
     ensures told { (s : Session) → MembersKeep s → ChannelsTold s }
+    ensures ended { (s : Session) → MembersKeep s → RunsAreEnded s }
+    ensures unrefused { (s : Session) → MembersKeep s → NoEndRefused s }
     ensures hold { (s : Session) → MembersKeep s → FilesHoldRuns s }
     ensures parts { (s : Session) → MembersKeep s → FilesHoldParts s }
 {
@@ -59,6 +62,7 @@ pub fn files()
     callers::cut_short();
     callers::cut_file();
     callers::fits_members();
+    callers::ends_runs();
     turns::gives_turns();
     turns::turns_begun();
     turns::tallies_answered();
@@ -80,6 +84,24 @@ pub fn reports()
     turns::tallies_answered();
     turns::called_told();
     engine::start_numbers_rise();
+}
+
+/// Only a start is refused: the Done of a stop says that it was completed.
+pub fn stops()
+    ensures { (s : Session) → MembersKeep s → StopsComplete s }
+{
+    turns::tallies_answered();
+}
+
+/// All of these laws: what the histories of a session's objects and its run files tell where each member keeps its contract.
+pub fn composed()
+    ensures { (s : Session) → MembersKeep s → IsComposed s }
+{
+    stops();
+    fronts();
+    sets();
+    files();
+    reports();
 }
 
 /// What these laws ask is met by a session with a run, a front-end that sends an event, and a channel that ended.

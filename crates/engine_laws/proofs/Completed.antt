@@ -1,36 +1,31 @@
 -- Each client that is called has its tally in the Done of a transition that was not refused.
-use Rattle.std.specs.Prelude.{◌≡◌, ◌≢◌, ℕ, zero, suc, ◌==◌, ◌&&◌, Bool, true, false, if◌then◌else◌, List, [], ◌∷◌, ◌++◌, drop, length, slice_get, Option, Some, None, Ok, Err, refl, ⊤, ◌⊎◌}
+use Rattle.std.specs.Prelude.{◌≡◌, ℕ, zero, suc, true, false, if◌then◌else◌, List, [], ◌∷◌, ◌++◌, drop, length, slice_get, Some, None, Ok, Err, refl, ◌⊎◌}
 use Rattle.std.proofs.Common.{ap, sym, ◌∙◌, subst, inl, inr}
 use Rattle.std.proofs.lemmas.Bool.{eqb-true}
-use Rattle.daq_types.specs.declared.runs.Order.{Order}
-use Rattle.daq_types.specs.declared.runs.StartOutcome.{StartOutcome}
-use Rattle.daq_types.specs.declared.runs.StartOutcome.TheVariants.{Completed, Refused}
+use Rattle.daq_types.specs.declared.runs.StartOutcome.TheVariants.{Completed}
 use Rattle.daq_types.specs.declared.runs.Transition.{Transition}
-use Rattle.daq_types.specs.declared.runs.Transition.TheVariants.{Start}
 use Rattle.buffer_core.specs.SlotLaws.{split}
 use Rattle.transitions.specs.declared.client.Registered.{Registered}
 use Rattle.transitions.specs.declared.called.Called.{Called}
-use Rattle.transitions.specs.declared.sheet.Sheet.{Sheet}
 use Rattle.transitions.specs.declared.answers.Answer.{Answer as ClientAnswer}
 use Rattle.transitions.specs.declared.answers.Answer.TheVariants.{Yes, No}
 use Rattle.transitions.specs.declared.answers.Tally.{Tally}
 use Rattle.transitions.specs.declared.answers.Tally.TheVariants.{Plain}
 use Rattle.transitions.specs.declared.answers.ClientTally.{ClientTally}
-use Rattle.transitions.specs.declared.engine.Refusal.{Refusal}
 use Rattle.transitions.specs.declared.replies.Polled.TheVariants.{Turn, Idle, Closed as PollClosed, NoClient}
 use Rattle.transitions.specs.declared.replies.Progress.{Progress}
 use Rattle.transitions.specs.declared.replies.Progress.TheVariants.{Going, Done, None as NoneGoing}
 use Rattle.transitions.specs.declared.entry.EngineEntry.{EngineEntry}
 use Rattle.transitions.specs.declared.entry.EngineEntry.TheVariants.{Register, Begin, Poll, Answer, Check, Close}
 use Rattle.transitions.specs.Called.{called_list}
-use Rattle.transitions.specs.CalledOrder.{IsCalledIn, IsRegisteredFor, IsCalledList}
+use Rattle.transitions.specs.CalledOrder.{IsCalledIn, IsRegisteredFor}
 use Rattle.transitions.specs.Engines.{Underway, EngineState, engine_opening}
-use Rattle.transitions.specs.EngineCalls.{turn_of, is_start, is_next, outcome_of, begun, polled_by, told, refused_by, answered_by, after_poll_by, after_answer_in, tallies_in, IsEngineReply, engine_after}
+use Rattle.transitions.specs.EngineCalls.{turn_of, is_start, is_next, begun, polled_by, told, refused_by, answered_by, tallies_in, IsEngineReply, engine_after}
 use Rattle.transitions.specs.EngineHistories.{EngineHistory, IsLegalEngine, engine_replay}
 use Rattle.transitions.specs.Marks.{is_mark, HasNoMark}
-use Rattle.engine_laws.specs.BegunTurns.{HasTransition, IsRegisteredIn, HasTally}
+use Rattle.engine_laws.specs.BegunTurns.{IsRegisteredIn, HasTally}
 use Rattle.engine_laws.specs.EngineLaws.{CalledAreTold}
-use Rattle.engine_laws.proofs.Replies.{Begins, begins, GivesTurn, gives_turn, Owes, owes, Finishes, finishes}
+use Rattle.engine_laws.proofs.Replies.{GivesTurn, gives_turn, Owes, owes, Finishes, finishes}
 use Rattle.engine_laws.proofs.TurnLists.{IsIn}
 use Rattle.engine_laws.proofs.Gave.{CalledLists}
 use Rattle.engine_laws.proofs.StateTold.{replay_apart}

@@ -56,6 +56,12 @@ DonesHaveBegins = (before after : EngineHistory) → (caller : ℕ) → (outcome
     (has : HasTransition (before ++ (caller, Check (Done outcome) tallies) ∷ after) transition sheet start outcome tallies) ×
     (before ≡ has.earlier ++ (has.opener, Begin transition sheet (Ok start)) ∷ has.between)
 
+-- Only a start is refused: the Done of any other transition says Completed.
+abbrev pub OthersComplete : Type 0
+OthersComplete = (history : EngineHistory) → IsLegalEngine engine_opening history →
+    (transition : Transition) → (sheet : Sheet) → (start : ℕ) → (outcome : StartOutcome) → (tallies : List ClientTally) →
+    HasTransition history transition sheet start outcome tallies → transition ≢ Start → outcome ≡ Completed
+
 -- Each tally of a client in a Done is what its caller answered to the client's turn of that transition.
 abbrev pub TalliesAreAnswers : Type 0
 TalliesAreAnswers = (by client : ℕ) → (history : EngineHistory) →

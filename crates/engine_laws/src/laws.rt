@@ -1,6 +1,6 @@
 //! Laws of the turns of one client of an engine: each function does nothing, and its contract is the law.
 
-ghost use Rattle.engine_laws.specs.EngineLaws.{GivesEngineTurns, TurnsWereBegun, StartsFromStopped, StopsFromRun, DonesHaveBegins, TalliesAreAnswers, CalledAreTold, MainHasTransition};
+ghost use Rattle.engine_laws.specs.EngineLaws.{GivesEngineTurns, TurnsWereBegun, StartsFromStopped, StopsFromRun, DonesHaveBegins, OthersComplete, TalliesAreAnswers, CalledAreTold, MainHasTransition};
 
 use transitions::laws;
 
@@ -24,9 +24,10 @@ pub fn turns_begun()
 }
 
 /// Each Done belongs to the begin before it, and each tally of a client in it is what its caller answered to the client's turn
-/// of that transition; the turn of the one client that wants the dump has it.
+/// of that transition; the turn of the one client that wants the dump has it. Only the Done of a start tells a refusal.
 pub fn tallies_answered()
     ensures begins { DonesHaveBegins }
+    ensures completed { OthersComplete }
     ensures tallies { TalliesAreAnswers }
 {
     laws::called_in_order();

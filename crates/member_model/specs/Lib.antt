@@ -6,4 +6,5 @@ pub mod OwnCalls
 pub mod GotRuns
 pub mod ReadRuns
 pub mod CutRuns
+pub mod EndedRuns
 pub mod LoggerKept

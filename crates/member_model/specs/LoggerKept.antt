@@ -17,6 +17,7 @@ use Rattle.member_model.specs.SentCalls.{EachCall}
 use Rattle.member_model.specs.OwnCalls.{calls_after, AreOwnCalls, SendsNone}
 use Rattle.member_model.specs.ReadRuns.{HasReadRun}
 use Rattle.member_model.specs.CutRuns.{MarksEnd, RefusesEnd, HasCutRun}
+use Rattle.member_model.specs.EndedRuns.{EndsBegun}
 
 -- a channel of the logger: its number among them; the name of its file in the run of each number; the number of its buffer;
 -- its client there, once it has one; and the id and the mask of the events that it asks for
@@ -78,16 +79,18 @@ abbrev pub IsStartAnswer : Answer → Type 0
 IsStartAnswer (Yes tally) = tally ≡ Plain
 IsStartAnswer (No why) = ⊤
 
--- What was told of a channel at a stop of the run with this start number, with this dump, is so by these calls. NoMark: the
--- end of the run was refused, and never accepted. Ended and NoEnd: it was accepted, and the stop had a dump, or none. A
--- channel may have broken off in any case. None is told to be idle or writing.
+-- What was told of a channel at a stop of the run with this start number, with this dump, is so by these calls. Ended and
+-- NoEnd: the end of the run was accepted, and the stop had a dump, or none. NoMark: the run was begun, its end was refused,
+-- and it was never accepted. Broken: the run was begun, and then called to end; the channel may have broken off in any case.
+-- None is told to be idle or writing.
 abbrev pub IsStateSo : (own : List BufferEntry) → (start : ℕ) → (dump : Option (List ℕ)) → ChannelState → Type 0
 IsStateSo own start dump Idle = ⊥
 IsStateSo own start dump Writing = ⊥
-IsStateSo own start dump Broken = ⊤
+IsStateSo own start dump Broken = EndsBegun own start
 IsStateSo own start dump Ended = (dump ≢ None) × ((ended : ℕ) × MarksEnd own start ended)
 IsStateSo own start dump NoEnd = (dump ≡ None) × ((ended : ℕ) × MarksEnd own start ended)
-IsStateSo own start dump NoMark = RefusesEnd own start × ((ended : ℕ) → MarksEnd own start ended → ⊥)
+IsStateSo own start dump NoMark =
+    EndsBegun own start × RefusesEnd own start × ((ended : ℕ) → MarksEnd own start ended → ⊥)
 
 -- each answered stop of a run whose start was accepted tells a state of each channel, and that is so
 abbrev pub StopsTellChannels : List LoggerChannel → (ports : (buffer : ℕ) → LoggerPort) → List MemberTurn → Type 0

@@ -1,5 +1,5 @@
 use Rattle.composition.proofs.SessionTurns.{EngineFacts}
-use Rattle.composition.proofs.FilesTogether.{CallerFacts, channels_told, files_hold_runs, files_hold_parts}
+use Rattle.composition.proofs.FilesTogether.{CallerFacts, channels_told, files_hold_runs, files_hold_parts, runs_are_ended, no_end_refused}
 use Rattle.composition.proofs.laws.files.Goals as goal
 
 pub returns : goal.returns
@@ -18,5 +18,13 @@ returns c =
       cut = c.cut_short.ensures;
       file = c.cut_file.ensures;
       fits = c.fits_members.ensures.all;
+      ends = c.ends_runs.ensures.ended;
+      senders = c.ends_runs.ensures.senders;
     } in
-    record { told = channels_told laws; hold = files_hold_runs laws callers; parts = files_hold_parts laws callers }
+    record {
+      told = channels_told laws;
+      ended = runs_are_ended laws callers;
+      unrefused = no_end_refused laws callers;
+      hold = files_hold_runs laws callers;
+      parts = files_hold_parts laws callers;
+    }
