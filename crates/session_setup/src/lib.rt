@@ -10,5 +10,5 @@ mod refusals;
 mod tests;
 
 pub use declarations::Declarations;
-pub use declared::{BufferDeclared, FrontDeclared};
+pub use declared::{BufferDeclared, DeclaredLists, FrontDeclared};
 pub use refusals::SetupRefusal;
