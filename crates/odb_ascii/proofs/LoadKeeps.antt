@@ -1,5 +1,5 @@
 -- The steps of a text, none of which is refused, keep a database.
-use Rattle.std.proofs.Common.{◌≡◌, ℕ, zero, suc, ◌+◌, ◌<◌, ◌≤◌, max, Bool, true, false, cond, List, [], ◌∷◌, ◌++◌, length, map, Option, Some, None, Result, Ok, Err, refl, sym, ap, ◌∙◌, subst, arith, inl, inr}
+use Rattle.std.proofs.Common.{◌≡◌, ℕ, ◌+◌, ◌<◌, ◌≤◌, Bool, true, false, cond, List, [], ◌∷◌, ◌++◌, length, map, Option, Some, None, Ok, refl, sym, ap, ◌∙◌, subst, arith, inl, inr}
 use Rattle.std.specs.Prelude.{nat_lt}
 use Rattle.std.specs.Option.{option_or}
 use Rattle.std.specs.List.{AllByRecursion}
@@ -20,15 +20,15 @@ use Rattle.odb_tree.specs.declared.refusals.OdbRefusal.{OdbRefusal}
 use Rattle.odb_tree.specs.declared.refusals.OdbRefusal.TheVariants.{Limit}
 use Rattle.odb_tree.specs.declared.refusals.What.TheVariants.{Items, Size}
 use Rattle.odb_tree.specs.Rows.{Rows}
-use Rattle.odb_tree.specs.Calls.{create_fault, after_create, set_all_fault, after_set_all}
+use Rattle.odb_tree.specs.Calls.{create_fault, set_all_fault, after_set_all}
 use Rattle.odb_tree.specs.Databases.{IsDatabase}
 use Rattle.odb_tree.proofs.Sound.{database_created, database_set_all}
 use Rattle.odb_lines.specs.ItemLines.{is_string, IsFrontNumber, IsItemLine, IsAloneText}
 use Rattle.odb_lines.specs.LineForms.{behind_blank}
 use Rattle.odb_ascii.specs.declared.acts.Act.{Act}
 use Rattle.odb_ascii.specs.declared.acts.Act.TheVariants.{Make, Write, Skip}
-use Rattle.odb_ascii.specs.TextSteps.{TextStep, make_fault_by, after_make_by, many_fault, wide_fault, own_limit, rows_fault, act_fault, after_act, or_refused, run_steps, dir_after}
-use Rattle.odb_ascii.specs.Grammar.{SizedItem, AreItemLines, size_given, size_for, held_with, IsKeyIn, IsSingleKey, IsArrayHead, IsKeptKey, SpellsAct, SpellsSteps}
+use Rattle.odb_ascii.specs.TextSteps.{TextStep, after_make_by, many_fault, wide_fault, act_fault, after_act, or_refused, run_steps, dir_after}
+use Rattle.odb_ascii.specs.Grammar.{SizedItem, AreItemLines, size_given, size_for, held_with, IsSingleKey, IsArrayHead, IsKeptKey, SpellsAct, SpellsSteps}
 use Rattle.odb_ascii.proofs.Written.{key_is_value}
 use Rattle.odb_ascii.proofs.ReadSound.{path_sound, item_sound}
 

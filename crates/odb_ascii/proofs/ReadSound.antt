@@ -1,5 +1,5 @@
 -- What is read from a line is sound: the path of a directory is a path, and an item is one of its type.
-use Rattle.std.proofs.Common.{◌≡◌, ℕ, zero, suc, ◌+◌, ◌-◌, ◌^◌, ◌<◌, ◌≤◌, ◌==◌, Bool, true, false, not, cond, List, [], ◌∷◌, length, Option, Some, None, Result, Ok, Err, refl, sym, ap, ◌∙◌, subst, arith}
+use Rattle.std.proofs.Common.{◌≡◌, ℕ, zero, suc, ◌+◌, ◌-◌, ◌^◌, ◌<◌, ◌≤◌, ◌==◌, Bool, true, false, not, cond, List, [], ◌∷◌, length, Option, Some, None, Result, Ok, Err, refl, sym, subst, arith}
 use Rattle.std.specs.Prelude.{ℤ, pos, negsuc, IsTrue, nat_lt, nat_le, slice_index, ◌||◌}
 use lib.Signed.{mag}
 use Rattle.std.specs.Option.{option_or}
@@ -20,7 +20,7 @@ use Rattle.odb_value.specs.declared.refusals.ItemRefusal.{ItemRefusal}
 use Rattle.odb_value.specs.declared.refusals.ItemRefusal.TheVariants.{BadText, OutOfRange}
 use Rattle.odb_value.specs.ItemBytes.{is_printable, is_char_byte, is_text_byte, IsText}
 use Rattle.odb_value.specs.Items.{IsItem}
-use Rattle.odb_value.specs.Forms.{signed_form, truth_form}
+use Rattle.odb_value.specs.Forms.{signed_form}
 use Rattle.odb_value.specs.ItemTexts.{text_limit, number_up_to, unsigned_read, is_within, number_within, signed_read, truth_read, char_read, text_found, text_read, item_read}
 
 -- tests that stand in the way
