@@ -1,12 +1,12 @@
 -- The calls of each caller, as calls are noted.
 use Rattle.std.proofs.Common.{◌≡◌, ℕ, ◌≤◌, inl, inr, List, [], ◌∷◌, ◌++◌, refl, ap, sym, subst, ◌∙◌, append_assoc, arith}
-use Rattle.std.specs.Prelude.{IsTrue, ◌⊎◌}
+use Rattle.std.specs.Prelude.{◌⊎◌}
 use Rattle.std.proofs.lemmas.List.{append-nil}
 use Rattle.std.proofs.lemmas.List.Elements.{All-nil, All-cons, All-append}
 use Rattle.daq_types.specs.Callers.{entries_by}
 use Rattle.daq_types.proofs.CallersLaws.{entries_by-append}
 use Rattle.odb_tree.specs.declared.entry.DatabaseEntry.{DatabaseEntry}
-use Rattle.odb_port.specs.DatabasePorts.{DatabaseAccess, AddsCall, AddsCalls, CalledDatabase, calls_by, local_access}
+use Rattle.odb_port.specs.DatabasePorts.{AddsCall, AddsCalls, CalledDatabase, calls_by, local_access}
 use Rattle.odb_runinfo.specs.RunSets.{Assignment, AreSets, SetsNumbers, start_sets, refused_sets, sent_set}
 use Rattle.odb_runinfo.proofs.SetCalls.{sets_behind}
 use Rattle.session_console.specs.FrontNames.{front_name}
@@ -15,10 +15,10 @@ use Rattle.daq_session.specs.RunTransitions.{CallsMore, HoldsTransition}
 
 -- on one thread a caller's calls are all that is new
 abbrev pub StandAlone : Type 0
-StandAlone = (a b : DatabaseAccess) (calls : List DatabaseEntry) → IsTrue a.undisturbed → AddsCalls a b calls → b.seen ≡ a.seen ++ calls_by a.caller calls
+StandAlone = (d e : CalledDatabase) (calls : List DatabaseEntry) → AddsCalls (local_access d) (local_access e) calls → e.history ≡ d.history ++ calls_by d.caller calls
 
 pub calls_noted : StandAlone → (d e : CalledDatabase) (caller : ℕ) (calls : List DatabaseEntry) → d.caller ≡ caller → AddsCalls (local_access d) (local_access e) calls → e.history ≡ d.history ++ calls_by caller calls
-calls_noted alone d e caller calls is adds = alone (local_access d) (local_access e) calls refl adds ∙ ap (λ (by : ℕ). d.history ++ calls_by by calls) is
+calls_noted alone d e caller calls is adds = alone d e calls adds ∙ ap (λ (by : ℕ). d.history ++ calls_by by calls) is
 
 pub call_noted : StandAlone → (d e : CalledDatabase) (caller : ℕ) (entry : DatabaseEntry) → d.caller ≡ caller → AddsCall (local_access d) (local_access e) entry → e.history ≡ d.history ++ (caller, entry) ∷ []
 call_noted alone d e caller entry is add = calls_noted alone d e caller (entry ∷ []) is (local_access e, add, refl)

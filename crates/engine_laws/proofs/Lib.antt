@@ -6,3 +6,4 @@ pub mod StopsCompleted
 pub mod Begun
 pub mod Tallied
 pub mod Completed
+pub mod MainCalls

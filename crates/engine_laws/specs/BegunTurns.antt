@@ -1,7 +1,7 @@
 -- Where the turns of a client come from, and where its answers go.
 use Rattle.run_states.specs.declared.sequences.Sequences.{Sequences}
 use Rattle.run_states.specs.Sequences.{sequence_for}
-use Rattle.std.specs.Prelude.{Bool, slice_get, ◌≡◌, ℕ, true, List, ◌∷◌, ◌++◌, ◌⊎◌, ◌↔◌, Some, Ok, ⊤}
+use Rattle.std.specs.Prelude.{Bool, slice_get, ◌≡◌, ℕ, true, false, List, [], ◌∷◌, ◌++◌, ◌⊎◌, ◌↔◌, Some, Ok, ⊤}
 use Rattle.std.specs.List.{AllByRecursion}
 use Rattle.daq_types.specs.declared.runs.RunState.{RunState}
 use Rattle.daq_types.specs.declared.runs.Transition.{Transition}
@@ -20,7 +20,7 @@ use Rattle.transitions.specs.declared.entry.EngineEntry.TheVariants.{Register, B
 use Rattle.transitions.specs.EngineCalls.{order_for}
 use Rattle.transitions.specs.EngineHistories.{EngineHistory}
 use Rattle.transitions.specs.EnginePoints.{engine_past, state_at, tally_of}
-use Rattle.transitions.specs.Marks.{HasNoMark}
+use Rattle.transitions.specs.Marks.{is_mark, HasNoMark}
 use Rattle.member_model.specs.Turns.{MemberTurn, HasTurn}
 
 -- The turn is one of a transition that was begun from this state with this sheet and this start number: it is of this
@@ -92,3 +92,8 @@ pub record IsTallyOfTurn (history : EngineHistory) (client : ℕ) (turns : List 
   pub accepted : turn.transition ≡ Start → answer ≡ Yes tally
   pub completed : outcome ≡ Completed → turn.transition ≡ transition
   pub dump : OneWantsDump client history → turn.transition ≡ transition → turn.dump ≡ sheet.dump
+
+-- none of these calls begins a transition or tells its end
+abbrev pub AreUnmarked : List EngineEntry → Type 0
+AreUnmarked [] = ⊤
+AreUnmarked (e ∷ es) = (is_mark e ≡ false) × AreUnmarked es

@@ -1,6 +1,6 @@
 -- What the history of an engine tells of the turns of one client: statements of the laws.
 use Rattle.std.specs.Prelude.{◌≡◌, ◌≢◌, ℕ, List, ◌∷◌, ◌++◌, slice_get, Some, Ok}
-use Rattle.daq_types.specs.Callers.{entries_by}
+use Rattle.daq_types.specs.Callers.{entries_by, main_caller}
 use Rattle.daq_types.specs.declared.runs.RunState.TheVariants.{Stopped}
 use Rattle.daq_types.specs.declared.runs.Transition.{Transition}
 use Rattle.daq_types.specs.declared.runs.Transition.TheVariants.{Start, Stop}
@@ -9,6 +9,7 @@ use Rattle.transitions.specs.declared.sheet.Sheet.{Sheet}
 use Rattle.transitions.specs.declared.answers.Tally.{Tally}
 use Rattle.transitions.specs.declared.answers.ClientTally.{ClientTally}
 use Rattle.transitions.specs.declared.replies.Progress.TheVariants.{Done}
+use Rattle.transitions.specs.declared.entry.EngineEntry.{EngineEntry}
 use Rattle.transitions.specs.declared.entry.EngineEntry.TheVariants.{Begin, Check}
 use Rattle.transitions.specs.Engines.{engine_opening}
 use Rattle.transitions.specs.EnginePoints.{engine_past, state_at}
@@ -17,7 +18,7 @@ use Rattle.transitions.specs.GivenTurns.{SpeaksFor}
 use Rattle.member_model.specs.Turns.{MemberTurn, HasTurn, AreEngineTurns}
 use Rattle.member_model.specs.TurnCalls.{member_turns}
 use Rattle.daq_types.specs.declared.runs.StartOutcome.TheVariants.{Completed}
-use Rattle.engine_laws.specs.BegunTurns.{WasBegun, HasTransition, IsRegisteredIn, HasTally, IsTallyOfTurn}
+use Rattle.engine_laws.specs.BegunTurns.{WasBegun, HasTransition, IsRegisteredIn, HasTally, IsTallyOfTurn, AreUnmarked}
 
 -- The turns that the caller of a client reads off its own calls are turns as an engine gives them, where this caller alone
 -- polls and answers for the client.
@@ -77,3 +78,14 @@ CalledAreTold = (client : ℕ) → (history : EngineHistory) → IsLegalEngine e
     (transition : Transition) → (sheet : Sheet) → (start : ℕ) → (tallies : List ClientTally) →
     (has : HasTransition history transition sheet start Completed tallies) → IsRegisteredIn has.earlier client transition →
     HasTally client tallies
+
+-- Where the main thread's own calls have a begin and behind it a Done, and none between that begins or ends a transition,
+-- this transition stands in the history; and its own calls before the begin there are those before it here.
+abbrev pub MainHasTransition : Type 0
+MainHasTransition = (history : EngineHistory) → (before between after : List EngineEntry) →
+    (transition : Transition) → (sheet : Sheet) → (start : ℕ) → (outcome : StartOutcome) → (tallies : List ClientTally) →
+    IsLegalEngine engine_opening history →
+    entries_by main_caller history
+    ≡ before ++ Begin transition sheet (Ok start) ∷ (between ++ Check (Done outcome) tallies ∷ after) →
+    AreUnmarked between →
+    (has : HasTransition history transition sheet start outcome tallies) × (entries_by main_caller has.earlier ≡ before)

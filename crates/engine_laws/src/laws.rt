@@ -1,6 +1,6 @@
 //! Laws of the turns of one client of an engine: each function does nothing, and its contract is the law.
 
-ghost use Rattle.engine_laws.specs.EngineLaws.{GivesEngineTurns, TurnsWereBegun, StartsFromStopped, StopsFromRun, DonesHaveBegins, OthersComplete, TalliesAreAnswers, CalledAreTold};
+ghost use Rattle.engine_laws.specs.EngineLaws.{GivesEngineTurns, TurnsWereBegun, StartsFromStopped, StopsFromRun, DonesHaveBegins, OthersComplete, TalliesAreAnswers, CalledAreTold, MainHasTransition};
 
 use transitions::laws;
 
@@ -41,3 +41,9 @@ pub fn called_told()
 {
     laws::called_in_order();
 }
+
+/// A transition that the main thread's own calls tell stands in the history of all callers, with the same own calls before
+/// it.
+pub fn main_has_transition()
+    ensures { MainHasTransition }
+{}

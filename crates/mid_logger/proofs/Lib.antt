@@ -12,3 +12,4 @@ pub mod BesideSteps
 pub mod OpenBeside
 pub mod LeftSteps
 pub mod Keeping
+pub mod OnePattern

@@ -43,14 +43,16 @@ PullsKeep = (p : PullOf) → (room : ℕ) → (spec : ChannelSpec) → (client :
     ChannelStands spec client p.later_stage head p.later_port.own p.later_port.got p.later_files
 
 abbrev pub PullsChange : Type 0
-PullsChange = (p : PullOf) → (room : ℕ) → (spec : ChannelSpec) → Pulls p room → IsOpenFile p.files spec (written_run p.stage) →
+PullsChange = (p : PullOf) → (room : ℕ) → (spec : ChannelSpec) → Pulls p room →
+    IsOpenFile p.files spec (written_run p.stage) →
     ChangesFile spec (channel_run p.stage) (written_run p.stage) p.files p.later_files
     × KeepsRun p.stage p.later_stage × IsOpenFile p.later_files spec (written_run p.later_stage)
 
 -- Calling off.
 
 abbrev pub AbortsKeep : Type 0
-AbortsKeep = (spec : ChannelSpec) → (client : Option ℕ) → (stage : ChannelStage) → (head : FileHead) → (a b : Access) → (seen later : Seen) →
+AbortsKeep = (spec : ChannelSpec) → (client : Option ℕ) → (stage : ChannelStage) → (head : FileHead) → (a b : Access) →
+    (seen later : Seen) →
     CancelsStanding (asking_run stage) a b → ChannelStands spec client stage head a.own a.got seen →
     ChannelStands spec client Idle head b.own b.got later
 
@@ -62,7 +64,8 @@ AbortsChange = (spec : ChannelSpec) → (stage : ChannelStage) → (old new : Se
 -- Ending a file.
 
 abbrev pub ClosesKeep : Type 0
-ClosesKeep = (spec : ChannelSpec) → (client : Option ℕ) → (stage : ChannelStage) → (state : ChannelState) → (time : ℕ) → (dump : Option (List ℕ)) →
+ClosesKeep = (spec : ChannelSpec) → (client : Option ℕ) → (stage : ChannelStage) → (state : ChannelState) →
+    (time : ℕ) → (dump : Option (List ℕ)) →
     (head : FileHead) → (own : List BufferEntry) → (got : List GotEvent) → (old new : Seen) → (faults later : ℕ) →
     ClosesFile (drained_run stage) stage state time dump old new faults later →
     ChannelStands spec client stage head own got old →
@@ -70,7 +73,8 @@ ClosesKeep = (spec : ChannelSpec) → (client : Option ℕ) → (stage : Channel
     × HasLeft (drained_run stage) (broken_run stage) state spec head time dump own got new
 
 abbrev pub ClosesChange : Type 0
-ClosesChange = (spec : ChannelSpec) → (stage : ChannelStage) → (state : ChannelState) → (time : ℕ) → (dump : Option (List ℕ)) →
+ClosesChange = (spec : ChannelSpec) → (stage : ChannelStage) → (state : ChannelState) → (time : ℕ) →
+    (dump : Option (List ℕ)) →
     (old new : Seen) → (faults later : ℕ) → ClosesFile (drained_run stage) stage state time dump old new faults later →
     IsOpenFile old spec (written_run stage) → ChangesFile spec (channel_run stage) (written_run stage) old new
 
@@ -81,27 +85,31 @@ abbrev pub order_head : Order → (dump : List ℕ) → FileHead
 order_head order dump = record { run = order.run; time = order.time; dump = dump }
 
 abbrev pub OpensKeep : Type 0
-OpensKeep = (spec : ChannelSpec) → (order : Order) → (dump : List ℕ) → (r : Result ⊤ Why) → (a b : ChannelAt) → (head : FileHead) →
+OpensKeep = (spec : ChannelSpec) → (order : Order) → (dump : List ℕ) → (r : Result ⊤ Why) → (a b : ChannelAt) →
+    (head : FileHead) →
     OpensBy r spec order dump a b → a.stage ≡ Idle → length dump ≤ record_limit → b.port.taken_back ≡ [] →
     ChannelStands spec a.client a.stage head a.port.own a.port.got a.files →
     OnOk r (ChannelStands spec b.client b.stage (order_head order dump) b.port.own b.port.got b.files)
     × OnErr r (ChannelStands spec b.client b.stage head b.port.own b.port.got b.files)
 
--- At most the file of this name changed, of which there was none, where names are told; or no file did. Each number that was in
--- use for writing stays.
+-- At most the file of this name changed, of which there was none, where names are told; or no file did. Each number
+-- that was in use for writing stays.
 pub record OpensFile (name : List ℕ) (old new : Seen) : Type 0 where
   pub touches : Touches old new name
   pub fresh : IsGone old name ⊎ ((other : List ℕ) → new.at other ≡ old.at other)
   pub numbers : (number : ℕ) → IsTrue (old.writes number) → KeepsNumber old new number
 
 abbrev pub OpensChange : Type 0
-OpensChange = (spec : ChannelSpec) → (order : Order) → (dump : List ℕ) → (r : Result ⊤ Why) → (a b : ChannelAt) → OpensBy r spec order dump a b →
+OpensChange = (spec : ChannelSpec) → (order : Order) → (dump : List ℕ) → (r : Result ⊤ Why) → (a b : ChannelAt) →
+    OpensBy r spec order dump a b →
     OpensFile (file_name_by spec.pattern order.run) a.files b.files
 
 -- Where names are told, there is a file of the run that a channel writes, or broke off.
 abbrev pub FilesThere : Type 0
-FilesThere = (spec : ChannelSpec) → (client : Option ℕ) → (stage : ChannelStage) → (head : FileHead) → (own : List BufferEntry) → (got : List GotEvent) →
-    (seen : Seen) → ChannelStands spec client stage head own got seen → (opened : ChannelRun) → channel_run stage ≡ Some opened →
+FilesThere = (spec : ChannelSpec) → (client : Option ℕ) → (stage : ChannelStage) → (head : FileHead) →
+    (own : List BufferEntry) → (got : List GotEvent) →
+    (seen : Seen) → ChannelStands spec client stage head own got seen → (opened : ChannelRun) →
+    channel_run stage ≡ Some opened →
     IsTrue seen.tells → seen.at (file_name_by spec.pattern opened.run) ≡ None → ⊥
 
 -- Marks.
@@ -113,7 +121,10 @@ BegunKeeps = (spec : ChannelSpec) → (client : Option ℕ) → (opened : Channe
     ChannelStands spec client (Writing opened begun) head (own ++ Begin opened.start (Ok begun) ∷ []) got seen
 
 abbrev pub EndedKeeps : Type 0
-EndedKeeps = (spec : ChannelSpec) → (client : Option ℕ) → (stage : ChannelStage) → (opened : ChannelRun) → (reply : Result ℕ MarkRefusal) → (head : FileHead) →
-    (own : List BufferEntry) → (got : List GotEvent) → (seen : Seen) → channel_run stage ≡ Some opened → EndsOnce stage reply →
+EndedKeeps = (spec : ChannelSpec) → (client : Option ℕ) → (stage : ChannelStage) → (opened : ChannelRun) →
+    (reply : Result ℕ MarkRefusal) → (head : FileHead) →
+    (own : List BufferEntry) → (got : List GotEvent) → (seen : Seen) → channel_run stage ≡ Some opened →
+    EndsOnce stage reply →
     ChannelStands spec client stage head own got seen →
-    ChannelStands spec client (stage_ended stage (place_marked reply)) head (own ++ End opened.start reply ∷ []) got seen
+    ChannelStands spec client (stage_ended stage (place_marked reply)) head
+    (own ++ End opened.start reply ∷ []) got seen

@@ -1,6 +1,5 @@
 -- Patterns for the names of run files.
-use Rattle.std.specs.Prelude.{◌≡◌, ◌≢◌, ℕ, ◌-◌, ◌<◌, ◌≤◌, List, ◌++◌, length, replicate, codes, slice_index}
-use Rattle.std.specs.Fmt.{decimal}
+use Rattle.std.specs.Prelude.{◌≡◌, ◌≢◌, ℕ, ◌<◌, ◌≤◌, List, ◌++◌, length, replicate, codes, slice_index}
 use Rattle.daq_types.specs.Names.{IsFileName}
 use Rattle.daq_types.specs.FileDigits.{five_digits}
 

@@ -523,6 +523,8 @@ impl ArenaTree {
 impl Database for ArenaTree {
     ghost rows = { λ s. s };
 
+    ghost watches = { λ _. [] };
+
     fn create(&mut self, alloc: Global, path: &Path, kind: NewKey) -> Result<u32, OdbRefusal> {
         let _ = &self.root;
         let names = path.names();

@@ -20,3 +20,5 @@ pub mod DumpFollows
 pub mod WalkAgain
 pub mod Remade
 pub mod DumpLoads
+pub mod ReadSound
+pub mod LoadKeeps

@@ -4,7 +4,10 @@ use Rattle.std.specs.List.{AllByRecursion}
 use Rattle.std.proofs.lemmas.List.{append-nil, append_assoc, length-append, length_push}
 use Rattle.std.proofs.lemmas.List.Sums.{sum_by_push}
 use Rattle.odb_tree.specs.declared.refusals.OdbRefusal.{OdbRefusal}
+use Rattle.odb_tree.specs.declared.notes.Watch.{Watch}
 use Rattle.odb_tree.specs.Rows.{Rows}
+use Rattle.odb_tree.specs.Noting.{Change, Watched, all_noted}
+use Rattle.odb_tree.proofs.Noted.{none_noted, all_noted_append}
 use Rattle.odb_lines.specs.LineForms.{IsPassed}
 use Rattle.odb_ascii.specs.declared.acts.Act.{Act}
 use Rattle.odb_ascii.specs.declared.acts.Act.TheVariants.{Make, Write, Skip}
@@ -20,10 +23,10 @@ use Rattle.odb_ascii.specs.Dumps.{dump_limit}
 use Rattle.odb_ascii.specs.declared.faults.BlockFault.{BlockFault}
 use Rattle.odb_ascii.specs.declared.faults.BlockFault.TheVariants.{Bad, Refused, NoMemory as no_memory}
 use Rattle.odb_ascii.specs.Blocks.{IsBlock, IsBadAt, IsBlockFault}
-use Rattle.odb_ascii.specs.TextSteps.{TextStep, run_steps, or_refused, act_fault, rows_fault, after_act, written, skipped, keys_written, keys_skipped, dir_after, dirs_after}
+use Rattle.odb_ascii.specs.TextSteps.{TextStep, run_steps, or_refused, act_fault, rows_fault, after_act, watched_act, changes_of_act, changes_in_steps, written, skipped, keys_written, keys_skipped, dir_after, dirs_after}
 use Rattle.odb_ascii.specs.Grammar.{SizedItem, AreItemLines, SpellsAct, SpellsSteps, ArePassed}
 use Rattle.odb_ascii.specs.TextFaults.{IsBegunArray, IsBegunSkipped, LeavesGrammar, IsRefused, FaultPlace, IsTextFault}
-use Rattle.odb_ascii.specs.Loads.{IsLoaded, IsLoadedTo, counts_with, Place, IsPassedOver, DoesStep, AdvancesText, RefusesFirst, IsTextFaultAt, place_at, IsRoomy, IsNear, broken_at, refused_at}
+use Rattle.odb_ascii.specs.Loads.{IsLoaded, watched_as, IsLoadedTo, counts_with, Place, IsPassedOver, DoesStep, AdvancesText, RefusesFirst, IsTextFaultAt, place_at, IsRoomy, IsNear, broken_at, refused_at}
 
 -- one line more is passed over
 
@@ -88,25 +91,38 @@ runs_push (x ∷ xs) s now step h k = cases (act_fault s x.act) (λ e. runs_push
     cases None go e = go e
     cases (Some why) go e = absurd (cc)
 
+pub runs_on : (line : ℕ) (o : Option OdbRefusal) (r : Result Rows (ℕ × OdbRefusal)) (now : Rows) → or_refused line o r ≡ Ok now → (o ≡ None) × (r ≡ Ok now)
+runs_on line None r now e = (refl, e)
+runs_on line (Some why) r now e = absurd (cc)
+
+changes_push : (steps : List TextStep) (s now : Rows) (step : TextStep) → run_steps steps s ≡ Ok now → changes_in_steps s (steps ++ step ∷ []) ≡ changes_in_steps s steps ++ changes_of_act now step.act
+changes_push [] s now step h =
+    let same : s ≡ now = cc in append-nil (changes_of_act s step.act) ∙ ap (λ (r : Rows). changes_of_act r step.act) same
+changes_push (x ∷ xs) s now step h =
+    let r = runs_on x.line (act_fault s x.act) (run_steps xs (after_act s x.act)) now h in
+    ap (λ (l : List Change). changes_of_act s x.act ++ l) (changes_push xs (after_act s x.act) now step r.1)
+    ∙ sym (append_assoc (changes_of_act s x.act) (changes_in_steps (after_act s x.act) xs) (changes_of_act now step.act))
+
 -- the whole of it
 
-pub nothing_loaded : (s : Rows) (all dir : List (List ℕ)) → dir ≡ [] → IsLoadedTo s all (record { rest = all; line = 1; dir = dir; loaded = record { keys = 0; skipped = 0 } }) s
+pub nothing_loaded : (s : Watched) (all dir : List (List ℕ)) → dir ≡ [] → IsLoadedTo s all (record { rest = all; line = 1; dir = dir; loaded = record { keys = 0; skipped = 0 } }) s
 nothing_loaded s all dir e = record {
   front = [];
   whole = refl;
-  so_far = record { steps = []; reads = tt; ran = refl; keys = refl; skipped = refl };
+  so_far = record { steps = []; reads = tt; ran = refl; noted = sym (none_noted s.slots); keys = refl; skipped = refl };
   dir_is = e;
   line_is = refl;
 }
 
-after_pass : (s : Rows) (lines : List (List ℕ)) (old new : Place) (before after : Rows) → IsLoadedTo s lines old before → IsPassedOver old new before after → IsLoadedTo s lines new after
+after_pass : (s : Watched) (lines : List (List ℕ)) (old new : Place) (before after : Watched) → IsLoadedTo s lines old before → IsPassedOver old new before after → IsLoadedTo s lines new after
 after_pass s lines old new before after h p = record {
   front = h.front ++ p.own ∷ [];
   whole = h.whole ∙ ap (λ (l : List (List ℕ)). h.front ++ l) p.whole ∙ sym (append_assoc h.front (p.own ∷ []) new.rest);
   so_far = record {
     steps = h.so_far.steps;
     reads = spells_passed 1 [] h.front h.so_far.steps p.own h.so_far.reads p.passed;
-    ran = h.so_far.ran ∙ ap (λ (r : Rows). Ok r) (sym p.same_rows);
+    ran = h.so_far.ran ∙ ap (λ (w : Watched). Ok w.rows) (sym p.same_state);
+    noted = ap (λ (w : Watched). w.slots) p.same_state ∙ h.so_far.noted;
     keys = ap (λ (l : Loaded). l.keys) p.same_count ∙ h.so_far.keys;
     skipped = ap (λ (l : Loaded). l.skipped) p.same_count ∙ h.so_far.skipped;
   };
@@ -114,7 +130,7 @@ after_pass s lines old new before after h p = record {
   line_is = omega (arith, p.next, h.line_is, length_push h.front p.own);
 }
 
-after_step : (s : Rows) (lines : List (List ℕ)) (old new : Place) (before after : Rows) → IsLoadedTo s lines old before → DoesStep old new before after → IsLoadedTo s lines new after
+after_step : (s : Watched) (lines : List (List ℕ)) (old new : Place) (before after : Watched) → IsLoadedTo s lines old before → DoesStep old new before after → IsLoadedTo s lines new after
 after_step s lines old new before after h p =
     let step : TextStep = one_step (1 + length h.front) p.act in
     record {
@@ -123,7 +139,11 @@ after_step s lines old new before after h p =
       so_far = record {
         steps = h.so_far.steps ++ step ∷ [];
         reads = spells_step 1 [] h.front h.so_far.steps p.own p.act h.so_far.reads (subst (λ (d : List (List ℕ)). SpellsAct d p.own p.act) h.dir_is p.spells);
-        ran = runs_push h.so_far.steps s before step h.so_far.ran p.fine ∙ ap (λ (r : Rows). Ok r) (sym p.new_rows);
+        ran = runs_push h.so_far.steps s.rows before.rows step h.so_far.ran p.fine ∙ ap (λ (w : Watched). Ok w.rows) (sym p.new_state);
+        noted = ap (λ (w : Watched). w.slots) p.new_state
+            ∙ ap (λ (l : List (Option Watch)). all_noted (changes_of_act before.rows p.act) l) h.so_far.noted
+            ∙ sym (all_noted_append s.slots (changes_in_steps s.rows h.so_far.steps) (changes_of_act before.rows p.act))
+            ∙ ap (λ (l : List Change). all_noted l s.slots) (sym (changes_push h.so_far.steps s.rows before.rows step h.so_far.ran));
         keys = ap (λ (l : Loaded). l.keys) p.one_more ∙ ap (λ (n : ℕ). n + written p.act) h.so_far.keys ∙ sym (sum_by_push (λ (x : TextStep). written x.act) h.so_far.steps step);
         skipped = ap (λ (l : Loaded). l.skipped) p.one_more ∙ ap (λ (n : ℕ). n + skipped p.act) h.so_far.skipped ∙ sym (sum_by_push (λ (x : TextStep). skipped x.act) h.so_far.steps step);
       };
@@ -131,14 +151,21 @@ after_step s lines old new before after h p =
       line_is = omega (arith, p.next, h.line_is, length-append h.front p.own);
     }
 
-pub loaded_on : (s : Rows) (lines : List (List ℕ)) (old new : Place) (before after : Rows) → IsLoadedTo s lines old before → AdvancesText old new before after → IsLoadedTo s lines new after
+pub loaded_on : (s : Watched) (lines : List (List ℕ)) (old new : Place) (before after : Watched) → IsLoadedTo s lines old before → AdvancesText old new before after → IsLoadedTo s lines new after
 loaded_on s lines old new before after h a = ⊎_elim (after_pass s lines old new before after h) (after_step s lines old new before after h) a
 
-pub loaded_whole : (s : Rows) (lines : List (List ℕ)) (at : Place) (now : Rows) → IsLoadedTo s lines at now → at.rest ≡ [] → IsLoaded s lines at.loaded now
+pub loaded_whole : (s : Watched) (lines : List (List ℕ)) (at : Place) (now : Watched) → IsLoadedTo s lines at now → at.rest ≡ [] → IsLoaded s lines at.loaded now
 loaded_whole s lines at now h none =
     subst (λ (l : List (List ℕ)). IsLoaded s l at.loaded now) (sym (h.whole ∙ ap (λ (l : List (List ℕ)). h.front ++ l) none ∙ append-nil h.front)) h.so_far
 
-pub fault_found : (s : Rows) (lines : List (List ℕ)) (at : Place) (now : Rows) (why : LoadRefusal) → IsLoadedTo s lines at now → IsTextFaultAt at now why → IsTextFault s lines why
+-- the text's database was a copy with the same rows and watches
+pub loaded_from : (rows copied after : Rows) (slots noted fresh : List (Option Watch)) (own : List (List ℕ)) (loaded : Loaded) → copied ≡ rows → noted ≡ slots
+    → IsLoaded (watched_as copied noted) own loaded (watched_as after fresh) → IsLoaded (watched_as rows slots) own loaded (watched_as after fresh)
+loaded_from rows copied after slots noted fresh own loaded same_rows same_slots h =
+    subst (λ (l : List (Option Watch)). IsLoaded (watched_as rows l) own loaded (watched_as after fresh)) same_slots
+    (subst (λ (r : Rows). IsLoaded (watched_as r noted) own loaded (watched_as after fresh)) same_rows h)
+
+pub fault_found : (s : Watched) (lines : List (List ℕ)) (at : Place) (now : Watched) (why : LoadRefusal) → IsLoadedTo s lines at now → IsTextFaultAt at now.rows why → IsTextFault s.rows lines why
 fault_found s lines at now (BadLine n) h f =
     let b = f.1 in (
       record {
@@ -148,7 +175,7 @@ fault_found s lines at now (BadLine n) h f =
         whole = h.whole ∙ ap (λ (l : List (List ℕ)). h.front ++ l) b.whole;
         steps = h.so_far.steps;
         reads = h.so_far.reads;
-        now = now;
+        now = now.rows;
         ran = h.so_far.ran;
       },
       omega (arith, f.2, h.line_is, b.place),
@@ -163,11 +190,11 @@ fault_found s lines at now (KeyRefused n why) h f =
         whole = h.whole ∙ ap (λ (l : List (List ℕ)). h.front ++ l) r.whole;
         steps = h.so_far.steps;
         reads = h.so_far.reads;
-        now = now;
+        now = now.rows;
         ran = h.so_far.ran;
       },
       omega (arith, f.1, h.line_is),
-      subst (λ (d : List (List ℕ)). IsRefused now d r.opened why) h.dir_is r.refused,
+      subst (λ (d : List (List ℕ)). IsRefused now.rows d r.opened why) h.dir_is r.refused,
     )
 fault_found s lines at now NoMemory h f = tt
 
@@ -226,10 +253,10 @@ one_key (Make p) = omega arith
 one_key (Write p v) = omega arith
 one_key (Skip items) = omega arith
 
-pub done_step : (bytes left : List ℕ) (line next : ℕ) (dir new_dir : List (List ℕ)) (loaded counts : Loaded) (before after : Rows) (ls : List (List ℕ)) (act : Act) (count : ℕ) → lines bytes ≡ ls
-    → IsBlock dir ls act (lines left) count → rows_fault before act ≡ None → after ≡ after_act before act → next ≡ line + count → new_dir ≡ dir_after dir act → counts ≡ counts_with loaded act
-    → AdvancesText (place_at bytes line dir loaded) (place_at left next new_dir counts) before after
-done_step bytes left line next dir new_dir loaded counts before after ls act count e b f r n d k = inr (record {
+pub done_step : (bytes left : List ℕ) (line next : ℕ) (dir new_dir : List (List ℕ)) (loaded counts : Loaded) (before after : Rows) (slots fresh : List (Option Watch)) (ls : List (List ℕ)) (act : Act) (count : ℕ)
+    → lines bytes ≡ ls → IsBlock dir ls act (lines left) count → rows_fault before act ≡ None → after ≡ after_act before act → fresh ≡ all_noted (changes_of_act before act) slots → next ≡ line + count → new_dir ≡ dir_after dir act → counts ≡ counts_with loaded act
+    → AdvancesText (place_at bytes line dir loaded) (place_at left next new_dir counts) (watched_as before slots) (watched_as after fresh)
+done_step bytes left line next dir new_dir loaded counts before after slots fresh ls act count e b f r w n d k = inr (record {
   own = b.own;
   act = act;
   whole = e ∙ b.whole;
@@ -238,7 +265,7 @@ done_step bytes left line next dir new_dir loaded counts before after ls act cou
   next = n ∙ ap (λ (m : ℕ). line + m) b.counted;
   new_dir = d;
   one_more = k;
-  new_rows = r;
+  new_state = ap (λ (x : Rows). watched_as x fresh) r ∙ ap (λ (l : List (Option Watch)). watched_as (after_act before act) l) w;
 })
 
 pub room_left : (line next left behind before : ℕ) (loaded counts : Loaded) (dir ls rest : List (List ℕ)) (act : Act) (count : ℕ) → IsRoomy line before loaded → IsBlock dir ls act rest count

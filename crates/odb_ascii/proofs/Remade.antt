@@ -1,5 +1,5 @@
 -- A row that may be made next is made by the step that a dump has for it: nothing refuses it, and the row alone comes.
-use Rattle.std.proofs.Common.{◌≡◌, ℕ, zero, suc, ◌+◌, ◌-◌, ◌<◌, ◌≤◌, Bool, true, false, cond, eqb, List, [], ◌∷◌, ◌++◌, length, drop, Option, Some, None, inl, inr, refl, sym, ap, ◌∙◌, subst, arith, append_assoc, append-nil, length-append, ne_eqb}
+use Rattle.std.proofs.Common.{◌≡◌, ℕ, zero, suc, ◌+◌, ◌-◌, ◌≤◌, Bool, false, cond, eqb, List, [], ◌∷◌, ◌++◌, length, drop, Option, Some, None, inl, inr, refl, sym, ap, ◌∙◌, arith, append_assoc, append-nil, length-append, ne_eqb}
 use Rattle.std.specs.Prelude.{◌^◌, IfSome}
 use Rattle.std.specs.Option.{option_or, option_map, is_some}
 use Rattle.std.proofs.lemmas.Bool.{le-ltb}
@@ -9,7 +9,6 @@ use Rattle.odb_tree.specs.declared.rows.Row.{Row}
 use Rattle.odb_tree.specs.declared.rows.NewKey.TheVariants.{Dir}
 use Rattle.odb_tree.specs.declared.refusals.OdbRefusal.{OdbRefusal}
 use Rattle.odb_tree.specs.declared.refusals.OdbRefusal.TheVariants.{Exists, Limit}
-use Rattle.odb_tree.specs.declared.refusals.What.{What}
 use Rattle.odb_tree.specs.declared.refusals.What.TheVariants.{Keys, Items, Size, Total, Rows as RowNumbers}
 use Rattle.odb_tree.specs.Rows.{Rows, row_at, bytes_of_row, total_of}
 use Rattle.odb_tree.specs.Limits.{rows_limit, total_limit, limit_fault, number_fault, total_fault, IsWithin}

@@ -1,14 +1,16 @@
 -- A database text is loaded, step by step.
-use Rattle.std.specs.Prelude.{◌≡◌, ℕ, ◌+◌, ◌<◌, ◌≤◌, ◌^◌, List, [], ◌∷◌, ◌++◌, length, None, Ok, ◌⊎◌}
+use Rattle.std.specs.Prelude.{◌≡◌, ℕ, ◌+◌, ◌<◌, ◌≤◌, ◌^◌, List, [], ◌∷◌, ◌++◌, length, Option, None, Ok, ◌⊎◌}
 use Rattle.std.specs.Str.Lines.{lines}
 use Rattle.odb_tree.specs.declared.refusals.OdbRefusal.{OdbRefusal}
+use Rattle.odb_tree.specs.declared.notes.Watch.{Watch}
 use Rattle.odb_tree.specs.Rows.{Rows}
+use Rattle.odb_tree.specs.Noting.{Watched, all_noted}
 use Rattle.odb_lines.specs.LineForms.{IsPassed}
 use Rattle.odb_ascii.specs.declared.acts.Act.{Act}
 use Rattle.odb_ascii.specs.declared.acts.Loaded.{Loaded}
 use Rattle.odb_ascii.specs.declared.acts.LoadRefusal.{LoadRefusal}
 use Rattle.odb_ascii.specs.declared.acts.LoadRefusal.TheVariants.{BadLine, KeyRefused, NoMemory}
-use Rattle.odb_ascii.specs.TextSteps.{TextStep, run_steps, act_fault, after_act, written, skipped, keys_written, keys_skipped, dir_after, dirs_after}
+use Rattle.odb_ascii.specs.TextSteps.{TextStep, run_steps, act_fault, watched_act, changes_in_steps, written, skipped, keys_written, keys_skipped, dir_after, dirs_after}
 use Rattle.odb_ascii.specs.Grammar.{SpellsAct, SpellsSteps}
 use Rattle.odb_ascii.specs.TextFaults.{IsRefused}
 use Rattle.odb_tree.specs.declared.refusals.OdbRefusal.TheVariants.{NoKey, Exists, NotDir, NotValue, TypeMismatch, BadIndex, Limit, NotKept, NoMemory as none_left}
@@ -17,14 +19,19 @@ use Rattle.odb_ascii.specs.declared.faults.BlockFault.TheVariants.{Bad, Refused,
 use Rattle.odb_ascii.specs.Dumps.{dump_limit}
 use Rattle.odb_ascii.specs.Blocks.{IsBadAt}
 
--- The lines are those of some steps, none of which is refused from these rows; they lead to those rows. So many keys are
--- written, and so many are skipped.
-pub record IsLoaded (s : Rows) (own : List (List ℕ)) (loaded : Loaded) (after : Rows) : Type 0 where
+-- The lines are those of some steps, none of which is refused from these rows; they lead to those rows, and each watch has
+-- noted the changes of each step in turn. So many keys are written, and so many are skipped.
+pub record IsLoaded (s : Watched) (own : List (List ℕ)) (loaded : Loaded) (after : Watched) : Type 0 where
   pub steps : List TextStep
   pub reads : SpellsSteps 1 [] own steps
-  pub ran : run_steps steps s ≡ Ok after
+  pub ran : run_steps steps s.rows ≡ Ok after.rows
+  pub noted : after.slots ≡ all_noted (changes_in_steps s.rows steps) s.slots
   pub keys : loaded.keys ≡ keys_written steps
   pub skipped : loaded.skipped ≡ keys_skipped steps
+
+-- these rows, and these watches beside them
+abbrev pub watched_as : Rows → List (Option Watch) → Watched
+watched_as rows slots = record { rows = rows; slots = slots }
 
 -- Where a text is read: the lines left, the number of the first of them, the directory of its keys, and the counts.
 pub record Place : Type 0 where
@@ -34,7 +41,7 @@ pub record Place : Type 0 where
   pub loaded : Loaded
 
 -- The lines before this place are loaded.
-pub record IsLoadedTo (s : Rows) (all : List (List ℕ)) (at : Place) (now : Rows) : Type 0 where
+pub record IsLoadedTo (s : Watched) (all : List (List ℕ)) (at : Place) (now : Watched) : Type 0 where
   pub front : List (List ℕ)
   pub whole : all ≡ front ++ at.rest
   pub so_far : IsLoaded s front at.loaded now
@@ -46,28 +53,28 @@ abbrev pub counts_with : Loaded → Act → Loaded
 counts_with loaded act = record { keys = loaded.keys + written act; skipped = loaded.skipped + skipped act }
 
 -- A line is passed over.
-pub record IsPassedOver (old new : Place) (before after : Rows) : Type 0 where
+pub record IsPassedOver (old new : Place) (before after : Watched) : Type 0 where
   pub own : List ℕ
   pub whole : old.rest ≡ own ∷ new.rest
   pub passed : IsPassed own
   pub next : new.line ≡ old.line + 1
   pub same_dir : new.dir ≡ old.dir
   pub same_count : new.loaded ≡ old.loaded
-  pub same_rows : after ≡ before
+  pub same_state : after ≡ before
 
 -- A step is done, which is not refused.
-pub record DoesStep (old new : Place) (before after : Rows) : Type 0 where
+pub record DoesStep (old new : Place) (before after : Watched) : Type 0 where
   pub own : List (List ℕ)
   pub act : Act
   pub whole : old.rest ≡ own ++ new.rest
   pub spells : SpellsAct old.dir own act
-  pub fine : act_fault before act ≡ None
+  pub fine : act_fault before.rows act ≡ None
   pub next : new.line ≡ old.line + length own
   pub new_dir : new.dir ≡ dir_after old.dir act
   pub one_more : new.loaded ≡ counts_with old.loaded act
-  pub new_rows : after ≡ after_act before act
+  pub new_state : after ≡ watched_act before act
 
-abbrev pub AdvancesText : (old new : Place) (before after : Rows) → Type 0
+abbrev pub AdvancesText : (old new : Place) (before after : Watched) → Type 0
 AdvancesText old new before after = IsPassedOver old new before after ⊎ DoesStep old new before after
 
 -- the first lines left are refused

@@ -1,5 +1,5 @@
 -- What a database text asks for, and what that does to the rows.
-use Rattle.std.specs.Prelude.{◌≡◌, ℕ, Bool, true, false, nat_lt, if◌then◌else◌, List, [], ◌∷◌, length, sum_by, Option, Some, None, Result, Ok, Err}
+use Rattle.std.specs.Prelude.{◌≡◌, ℕ, Bool, true, false, nat_lt, if◌then◌else◌, List, [], ◌∷◌, ◌++◌, length, sum_by, Option, Some, None, Result, Ok, Err}
 use Rattle.std.specs.Option.{option_or}
 use Rattle.odb_value.specs.Values.{HeldValue, size_limit, items_limit}
 use Rattle.odb_tree.specs.declared.rows.Row.{Row}
@@ -9,7 +9,9 @@ use Rattle.odb_tree.specs.declared.refusals.OdbRefusal.TheVariants.{NoKey, Exist
 use Rattle.odb_tree.specs.declared.refusals.What.TheVariants.{Items, Size}
 use Rattle.odb_tree.specs.Rows.{Rows}
 use Rattle.odb_tree.specs.Lookups.{seek_key}
-use Rattle.odb_tree.specs.Calls.{create_fault, after_create, set_all_fault, after_set_all}
+use Rattle.odb_tree.specs.Calls.{create_fault, after_create, set_all_fault, after_set_all, set_all_reply}
+use Rattle.odb_tree.specs.declared.entry.DatabaseEntry.TheVariants.{SetAll}
+use Rattle.odb_tree.specs.Noting.{Change, Watched, changes_of, all_noted}
 use Rattle.odb_ascii.specs.declared.acts.Act.{Act}
 use Rattle.odb_ascii.specs.declared.acts.Act.TheVariants.{Make, Write, Skip}
 
@@ -80,6 +82,16 @@ after_act s (Make p) = after_make s p
 after_act s (Write p v) = after_set_all s p v
 after_act s (Skip items) = s
 
+-- the changes that a step makes: writing a key is one `set_all`
+abbrev pub changes_of_act : Rows → Act → List Change
+changes_of_act s (Make p) = []
+changes_of_act s (Write p v) = changes_of s (SetAll p v (set_all_reply s p v))
+changes_of_act s (Skip items) = []
+
+-- a watched database after a step
+abbrev pub watched_act : Watched → Act → Watched
+watched_act s act = record { rows = after_act s.rows act; slots = all_noted (changes_of_act s.rows act) s.slots }
+
 -- All steps.
 
 abbrev pub or_refused : (line : ℕ) → Option OdbRefusal → Result Rows (ℕ × OdbRefusal) → Result Rows (ℕ × OdbRefusal)
@@ -90,6 +102,11 @@ or_refused line (Some why) rest = Err (line, why)
 abbrev pub run_steps : List TextStep → Rows → Result Rows (ℕ × OdbRefusal)
 run_steps [] s = Ok s
 run_steps (step ∷ steps) s = or_refused step.line (act_fault s step.act) (run_steps steps (after_act s step.act))
+
+-- the changes that these steps make, none of which is refused
+abbrev pub changes_in_steps : Rows → List TextStep → List Change
+changes_in_steps s [] = []
+changes_in_steps s (step ∷ steps) = changes_of_act s step.act ++ changes_in_steps (after_act s step.act) steps
 
 -- how many keys are written, and how many are skipped
 abbrev pub written : Act → ℕ

@@ -22,6 +22,13 @@ pub fn dump_follows_walk()
     ensures { (s : Rows) → IsDatabase s → DumpFollowsWalk s }
 {}
 
+/// A text that is loaded into a database leaves a database.
+pub fn loading_keeps_a_database()
+    ensures { (s : Rows) (after : Rows) (text : List (List ℕ)) (steps : List TextStep)
+        → IsDatabase s → SpellsSteps 1 [] text steps → run_steps steps s ≡ Ok after
+        → IsDatabase after }
+{}
+
 /// A dump loads again: its lines ask for steps, and whatever steps they ask for lead from a new database to the same
 /// paths and values in the order of the walk; none of them is refused, and none skips a key.
 pub fn loads_again()

@@ -4,10 +4,12 @@ ghost use Rattle.odb_tree.specs.Lookups.{seek_key};
 ghost use Rattle.odb_tree.specs.declared.refusals.OdbRefusal.TheVariants.{NoMemory as no_memory};
 ghost use Rattle.odb_lines.specs.LineForms.{IsPassed};
 ghost use Rattle.odb_ascii.specs.Dumps.{dump_limit};
-ghost use Rattle.odb_ascii.specs.TextSteps.{is_exists, there_already, make_fault, after_make, rows_fault, after_act, dir_after, written, skipped};
+ghost use Rattle.odb_tree.specs.Noting.{all_noted};
+ghost use Rattle.odb_ascii.specs.declared.acts.Act.TheVariants.{Make, Write};
+ghost use Rattle.odb_ascii.specs.TextSteps.{is_exists, there_already, make_fault, after_make, rows_fault, after_act, changes_of_act, dir_after, written, skipped};
 ghost use Rattle.odb_tree.specs.Calls.{set_all_fault, after_set_all};
 ghost use Rattle.odb_ascii.specs.TextFaults.{IsTextFault};
-ghost use Rattle.odb_ascii.specs.Loads.{IsLoaded, AdvancesText, IsTextFaultAt, counts_with, place_at, IsRoomy, IsNear, broken_at, refused_at};
+ghost use Rattle.odb_ascii.specs.Loads.{IsLoaded, watched_as, AdvancesText, IsTextFaultAt, counts_with, place_at, IsRoomy, IsNear, broken_at, refused_at};
 
 use crate::acts::{Act, LoadRefusal, Loaded};
 use crate::blocks::{Block, read_block};
@@ -64,6 +66,8 @@ fn is_dir_there<D: Database>(alloc: Global, database: &D, path: &Path) -> Result
 fn make_dir<D: Database>(alloc: Global, database: &mut D, path: &Path) -> Result<(), OdbRefusal>
     ensures fine { OnOk result (make_fault (D.rows database.old) path.now ≡ None) }
     ensures made { OnOk result (D.rows database.new ≡ after_make (D.rows database.old) path.now) }
+    ensures noted { OnOk result (D.watches database.new
+        ≡ all_noted (changes_of_act (D.rows database.old) (Make path.now)) (D.watches database.old)) }
     ensures refused { IfErr result (λ why. why ≢ no_memory
         → make_fault (D.rows database.old) path.now ≡ Some why) }
 {
@@ -89,6 +93,9 @@ fn write_key<D: Database>(
     ensures fine { OnOk result (set_all_fault (D.rows database.old) path.now value.now ≡ None) }
     ensures written { OnOk result (D.rows database.new
         ≡ after_set_all (D.rows database.old) path.now value.now) }
+    ensures noted { OnOk result (D.watches database.new
+        ≡ all_noted (changes_of_act (D.rows database.old) (Write path.now value.now))
+        (D.watches database.old)) }
     ensures refused { IfErr result (λ why. why ≢ no_memory
         → set_all_fault (D.rows database.old) path.now value.now ≡ Some why) }
 {
@@ -102,6 +109,8 @@ fn write_key<D: Database>(
 fn do_act<D: Database>(alloc: Global, database: &mut D, act: &Act) -> Result<(), OdbRefusal>
     ensures fine { OnOk result (rows_fault (D.rows database.old) act.now ≡ None) }
     ensures done { OnOk result (D.rows database.new ≡ after_act (D.rows database.old) act.now) }
+    ensures noted { OnOk result (D.watches database.new
+        ≡ all_noted (changes_of_act (D.rows database.old) act.now) (D.watches database.old)) }
     ensures refused { IfErr result (λ why. why ≢ no_memory
         → rows_fault (D.rows database.old) act.now ≡ Some why) }
 {
@@ -204,8 +213,9 @@ fn do_block<'a, D: Database>(
     requires read { IsPassed line.now → ⊥ }
     requires room { IsRoomy at.old.line (length at.old.rest.now) at.old.loaded }
     ensures on { OnOk result (AdvancesText (place_at at.old.rest.now at.old.line at.old.dir at.old.loaded)
-        (place_at at.new.rest.now at.new.line at.new.dir at.new.loaded) (D.rows database.old)
-        (D.rows database.new)) }
+        (place_at at.new.rest.now at.new.line at.new.dir at.new.loaded)
+        (watched_as (D.rows database.old) (D.watches database.old))
+        (watched_as (D.rows database.new) (D.watches database.new))) }
     ensures room { OnOk result (IsRoomy at.new.line (length at.new.rest.now) at.new.loaded) }
     ensures shorter { OnOk result (length at.new.rest.now < length at.old.rest.now) }
     ensures fault { IfErr result (IsTextFaultAt (place_at at.old.rest.now at.old.line at.old.dir
@@ -235,8 +245,9 @@ fn read_on<'a, D: Database>(
     requires less { length behind.now < length at.old.rest.now }
     requires room { IsRoomy at.old.line (length at.old.rest.now) at.old.loaded }
     ensures on { OnOk result (AdvancesText (place_at at.old.rest.now at.old.line at.old.dir at.old.loaded)
-        (place_at at.new.rest.now at.new.line at.new.dir at.new.loaded) (D.rows database.old)
-        (D.rows database.new)) }
+        (place_at at.new.rest.now at.new.line at.new.dir at.new.loaded)
+        (watched_as (D.rows database.old) (D.watches database.old))
+        (watched_as (D.rows database.new) (D.watches database.new))) }
     ensures room { OnOk result (IsRoomy at.new.line (length at.new.rest.now) at.new.loaded) }
     ensures shorter { OnOk result (length at.new.rest.now < length at.old.rest.now) }
     ensures fault { IfErr result (IsTextFaultAt (place_at at.old.rest.now at.old.line at.old.dir
@@ -257,8 +268,9 @@ fn load_into<D: Database>(
     text: &[u8],
 ) -> Result<Loaded, LoadRefusal>
     requires { length text.now ≤ dump_limit }
-    ensures loaded { IfOk result (λ loaded. IsLoaded (D.rows database.old) (lines text.now) loaded
-        (D.rows database.new)) }
+    ensures loaded { IfOk result (λ loaded. IsLoaded
+        (watched_as (D.rows database.old) (D.watches database.old)) (lines text.now) loaded
+        (watched_as (D.rows database.new) (D.watches database.new))) }
     ensures fault { IfErr result (IsTextFault (D.rows database.old) (lines text.now)) }
 {
     let mut at = Cursor {
@@ -278,18 +290,22 @@ fn load_into<D: Database>(
 
 /// Loads a text of at most 268,435,456 bytes: makes the directories and writes the keys that it asks for, in its order,
 /// and skips keys of four types of which the database keeps no values. The lines of a text that is loaded are those of
-/// steps none of which is refused. Else a line at fault is told: the lines before it are those of steps none of which is
-/// refused, and there the text leaves the grammar, or what it asks for is refused; the database is as it was.
+/// steps none of which is refused, and watches of the database note each key that is written, item by item. Else a line
+/// at fault is told: the lines before it are those of steps none of which is refused, and there the text leaves the
+/// grammar, or what it asks for is refused; the database and its watches are as they were.
+#[tactic(auto, using(crate::proofs::Loads::loaded_from))]
 pub fn load<D: Database>(
     alloc: Global,
     database: &mut D,
     text: &[u8],
 ) -> Result<Loaded, LoadRefusal>
     requires { length text.now ≤ dump_limit }
-    ensures loaded { IfOk result (λ loaded. IsLoaded (D.rows database.old) (lines text.now) loaded
-        (D.rows database.new)) }
+    ensures loaded { IfOk result (λ loaded. IsLoaded
+        (watched_as (D.rows database.old) (D.watches database.old)) (lines text.now) loaded
+        (watched_as (D.rows database.new) (D.watches database.new))) }
     ensures fault { IfErr result (IsTextFault (D.rows database.old) (lines text.now)) }
     ensures kept { OnErr result (D.rows database.new ≡ D.rows database.old) }
+    ensures unnoted { OnErr result (D.watches database.new ≡ D.watches database.old) }
 {
     let mut copy = database.copy(alloc)?;
     let loaded = load_into(alloc, &mut copy, text)?;

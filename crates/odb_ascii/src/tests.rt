@@ -48,13 +48,7 @@ fn run_that_begins(rt: HostRuntime) -> Result<(), Fail> {
         ("/Runinfo/Stop time binary", Tid::UInt32, &["0"]),
         ("/Equipment/FE/Events sent", Tid::UInt64, &["0"]),
     ];
-    check(
-        &rt,
-        rt.alloc(),
-        &keys,
-        "[/Runinfo]\nState = INT32 : 1\nRun number = INT32 : 1\nStart time binary = UINT32 : 1000\n\
-         Stop time binary = UINT32 : 0\n\n[/Equipment]\n\n[/Equipment/FE]\nEvents sent = UINT64 : 0\n\n",
-    )
+    check(&rt, rt.alloc(), &keys, BEGUN)
 }
 
 #[test]
@@ -215,6 +209,34 @@ fn keys_refused(rt: HostRuntime) {
             "{text}"
         );
     }
+}
+
+/// The dump of a new session: 114 bytes.
+const NEW: &str =
+    "[/Runinfo]\nState = INT32 : 1\nRun number = INT32 : 0\nStart time binary = UINT32 : 0\n\
+    Stop time binary = UINT32 : 0\n\n";
+
+/// The dump of a run that begins: 173 bytes.
+const BEGUN: &str =
+    "[/Runinfo]\nState = INT32 : 1\nRun number = INT32 : 1\nStart time binary = UINT32 : 1000\n\
+    Stop time binary = UINT32 : 0\n\n[/Equipment]\n\n[/Equipment/FE]\nEvents sent = UINT64 : 0\n\n";
+
+/// The dump of that run at its end, with one event: 176 bytes.
+const ENDED: &str =
+    "[/Runinfo]\nState = INT32 : 3\nRun number = INT32 : 1\nStart time binary = UINT32 : 1000\n\
+    Stop time binary = UINT32 : 1010\n\n[/Equipment]\n\n[/Equipment/FE]\nEvents sent = UINT64 : 1\n\n";
+
+#[test]
+fn dumps_load_again(rt: HostRuntime) -> Result<(), Fail> {
+    for (text, len, keys) in [(NEW, 114, 4), (BEGUN, 173, 5), (ENDED, 176, 5)] {
+        let mut database = PlainTree::new(rt.alloc());
+        let loaded = load(rt.alloc(), &mut database, text.as_bytes())?;
+        assert_eq!(rt; loaded, Loaded { keys, skipped: 0 });
+        let dump = save(rt.alloc(), &database)?;
+        assert_eq!(rt; dump.as_slice(), text.as_bytes());
+        assert_eq!(rt; text.len(), len);
+    }
+    Ok(())
 }
 
 #[test]

@@ -1,3 +1,3 @@
-pub mod DatabaseSteps
 pub mod Entries
 pub mod SharedOdbs
+pub mod SharedAccesses

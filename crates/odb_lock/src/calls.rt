@@ -1,7 +1,9 @@
-use daq_types::NoMemory;
+use daq_types::{Bytes, NoMemory};
+use odb_ascii::{LoadRefusal, Loaded};
 use odb_path::Path;
-use odb_tree::{Children, NewKey, OdbRefusal};
+use odb_tree::{Children, NewKey, Notes, OdbRefusal};
 use odb_value::{Item, Value};
+use odb_watch::{NoWatch, WatchRefusal};
 
 /// A call on the database with its reply. What takes memory is lent.
 #[derive(Drop)]
@@ -46,5 +48,26 @@ pub(crate) enum CallMade<'a> {
     PathOf {
         row: u32,
         reply: &'a Result<Option<Path>, NoMemory>,
+    },
+    Watch {
+        row: u32,
+        reply: Result<u32, WatchRefusal>,
+    },
+    /// The notes are those that were moved out.
+    Notes {
+        watch: u32,
+        notes: &'a Notes,
+        reply: Result<u64, NoWatch>,
+    },
+    Unwatch {
+        watch: u32,
+        reply: Result<(), NoWatch>,
+    },
+    Save {
+        reply: &'a Result<Bytes, NoMemory>,
+    },
+    Load {
+        text: &'a [u8],
+        reply: Result<Loaded, LoadRefusal>,
     },
 }

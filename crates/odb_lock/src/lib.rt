@@ -1,11 +1,13 @@
-//! One online database for many threads: a database under the counting lock.
+//! One online database for many threads: a watched database under the counting lock, and ports to it.
 #![tactic(auto)]
 
+mod access;
 mod calls;
 mod locked;
 mod shared;
 
-pub use locked::{LockedDatabase, RowsSeen};
+pub use access::SharedAccess;
+pub use locked::{LockedDatabase, WatchedSeen};
 pub use shared::{OdbClosed, OdbPass, OdbPasses, SharedOdb};
 
 #[cfg(test)]

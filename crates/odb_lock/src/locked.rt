@@ -1,38 +1,42 @@
-// A database as the counting lock sees it.
+// A watched database as the counting lock sees it.
 use crate::calls::CallMade;
-use odb_tree::{Database, DatabaseEntry};
+use odb_tree::Database;
+use odb_watch::{WatchEntry, Watches};
 use std::marker::Model;
 use turn_lock::{Call, Machine};
 
-/// A database under the lock. Its data are the rows, and its entries the calls with their replies.
+/// A watched database under the lock. Its data are the rows and the watches, and its entries the calls with their
+/// replies.
 #[derive(Drop)]
 pub struct LockedDatabase<D: Database> {
-    pub database: D,
+    pub database: Watches<D>,
 }
 
-/// The rows of a database, for contracts alone: no value of this type is made.
-pub struct RowsSeen {
+/// The rows and the watches of a database, for contracts alone: no value of this type is made.
+pub struct WatchedSeen {
     nothing: (),
 }
 
-impl Model for RowsSeen {
-    ghost use Rattle.odb_tree.specs.Rows.{Rows, no_rows};
+impl Model for WatchedSeen {
+    ghost use Rattle.odb_tree.specs.Rows.{no_rows};
+    ghost use Rattle.odb_tree.specs.Noting.{Watched};
+    ghost use Rattle.odb_watch.specs.Steps.{unwatched};
 
-    ghost Value = { Rows };
+    ghost Value = { Watched };
 
-    ghost view = { λ _. no_rows };
+    ghost view = { λ _. unwatched no_rows };
 }
 
 impl<D: Database> Machine for LockedDatabase<D> {
-    type State = RowsSeen;
+    type State = WatchedSeen;
 
-    type Entry = DatabaseEntry;
+    type Entry = WatchEntry;
 
-    ghost use Rattle.odb_lock.specs.DatabaseSteps.{StepsRows};
+    ghost use Rattle.odb_watch.specs.Steps.{StepsDatabase};
 
-    ghost state = { λ locked. D.rows locked.database };
+    ghost state = { λ locked. locked.database };
 
-    ghost step = { StepsRows };
+    ghost step = { StepsDatabase };
 }
 
 impl<'a, D: Database> Call<LockedDatabase<D>> for CallMade<'a> {

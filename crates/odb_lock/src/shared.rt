@@ -1,5 +1,5 @@
 // A database that threads share.
-ghost use Rattle.std.specs.Prelude.{◌≡◌, ◌≢◌, ◌<◌, ◌≤◌, ℕ, [], Option, Some, None, length, All, IfOk, IfErr, Err};
+ghost use Rattle.std.specs.Prelude.{◌≡◌, ◌≢◌, ◌<◌, ◌≤◌, ℕ, [], Option, Some, None, length, All, IfOk, IfErr, OnErr, Err};
 ghost use mathlib.Core.List.{IsPrefix};
 ghost use Rattle.daq_types.specs.declared.types.Tid.{Tid};
 ghost use Rattle.daq_types.specs.Callers.{entries_by, main_caller};
@@ -7,7 +7,9 @@ ghost use Rattle.odb_value.specs.Items.{tid_of};
 ghost use Rattle.odb_tree.specs.declared.refusals.OdbRefusal.TheVariants.{NoMemory as no_memory};
 ghost use Rattle.odb_tree.specs.declared.entry.DatabaseEntry.TheVariants.{Create, Set, SetAll, Get, Find, ListDir, Delete, Resize, PathOf};
 ghost use Rattle.odb_tree.specs.Databases.{IsDatabase};
-ghost use Rattle.odb_tree.specs.Histories.{IsLegal, replay};
+ghost use Rattle.odb_ascii.specs.Dumps.{dump_limit};
+ghost use Rattle.odb_watch.specs.declared.entry.WatchEntry.TheVariants.{Call as call_of, Watch as begin_of, Notes as notes_of, Unwatch as end_of, Save as save_of, Load as load_of};
+ghost use Rattle.odb_watch.specs.Steps.{StepsDatabase, LeadsDatabase, IsLegalDatabase, unwatched, moved_out};
 ghost use Rattle.turn_lock.specs.Passes.{passes_of, number_of, seen_by, held_by, found_by, IsOf};
 ghost use Rattle.turn_lock.specs.History.{IsPartOf, entries_below};
 ghost use Rattle.turn_lock.specs.Closing.{AreComplete, IsLeastMissing, opened_with, history_of};
@@ -16,10 +18,12 @@ ghost use Rattle.turn_lock.specs.Entered.{Enters};
 
 use crate::calls::CallMade;
 use crate::locked::LockedDatabase;
-use daq_types::NoMemory;
+use daq_types::{Bytes, NoMemory};
+use odb_ascii::{LoadRefusal, Loaded, load, save};
 use odb_path::Path;
-use odb_tree::{Children, Database, NewKey, OdbRefusal};
+use odb_tree::{Children, Database, NewKey, Notes, OdbRefusal};
 use odb_value::{Item, Value};
+use odb_watch::{NoWatch, WatchRefusal, Watches};
 use std::alloc::Global;
 use std::sync::Wait;
 use turn_lock::{Closed, Held, MissingPass, Pass, Passes, Turns};
@@ -33,9 +37,9 @@ pub type OdbPasses<D> = Passes<LockedDatabase<D>>;
 /// A shared database that has ended: the database, and for contracts the whole history of its calls.
 pub type OdbClosed<D> = Closed<LockedDatabase<D>>;
 
-/// A database that threads share, each with a pass. A call takes the turn, waits for it where it must, makes the call of
-/// `Database` of that name, and appends the call with its reply to the one history. The calls that may make, remove or
-/// resize a row are the main thread's.
+/// A watched database that threads share, each with a pass. A call takes the turn, waits for it where it must, makes the
+/// call of that name of `Database`, `Watches` or `odb_ascii`, and appends the call with its reply to the one history. The
+/// calls that may make, remove or resize a row are the main thread's.
 #[derive(Drop)]
 pub struct SharedOdb<D: Database> {
     turns: Turns<LockedDatabase<D>>,
@@ -43,11 +47,11 @@ pub struct SharedOdb<D: Database> {
 
 impl<D: Database> SharedOdb<D> {
     ghost use Rattle.odb_lock.specs.SharedOdbs.{odb_lock_of, first_database};
-    ghost use Rattle.odb_lock.specs.DatabaseSteps.{StepsRows};
     ghost use Rattle.odb_lock.specs.Entries.{noted_call};
 
-    /// Shares the database among this many passes, 1 to 256, which are numbered from 0 on. The lock's memory is taken here,
-    /// and by no other call. Where there is none the database is dropped.
+    /// Shares the database, with no watch, among this many passes, 1 to 256, which are numbered from 0 on. The lock's
+    /// memory is taken here, and by no other call. Where there is none the database is dropped.
+    #[tactic(auto, using(crate::proofs::SharedLaws::opens_unwatched))]
     pub fn new(
         alloc: Global,
         database: D,
@@ -55,8 +59,8 @@ impl<D: Database> SharedOdb<D> {
     ) -> Result<(SharedOdb<D>, OdbPasses<D>), NoMemory>
         requires some { 0 < passes }
         requires few { passes ≤ 256 }
-        ensures first { IfOk result (λ made. first_database made.0 ≡ database) }
-        ensures database { IfOk result (λ made. IsDatabase (D.rows (first_database made.0))) }
+        ensures first { IfOk result (λ made. first_database made.0 ≡ unwatched (D.rows database)) }
+        ensures database { IfOk result (λ made. IsDatabase (first_database made.0).rows) }
         ensures count { IfOk result (λ made. passes_of (odb_lock_of made.0) ≡ passes) }
         ensures own { IfOk result (λ made. ArePassesOf (odb_lock_of made.0) made.1) }
         ensures numbers { IfOk result (λ made. numbers_of made.1 ≡ numbers_below passes) }
@@ -64,6 +68,7 @@ impl<D: Database> SharedOdb<D> {
     {
         // The look-up tells that the rows are those of a database.
         let _ = database.find(&Path::root(alloc));
+        let database = Watches::new(alloc, database);
         let (turns, passes) = Turns::new(alloc, LockedDatabase { database }, passes)?;
         Ok((SharedOdb { turns }, passes))
     }
@@ -72,14 +77,16 @@ impl<D: Database> SharedOdb<D> {
     fn enter(&self, pass: &mut OdbPass<D>, held: Held<LockedDatabase<D>>, call: &CallMade<'_>)
         requires own { IsOf (odb_lock_of self.now) pass.old }
         requires step { (before : _) × (held_by pass.old ≡ Some before)
-            × StepsRows before (number_of pass.old) (noted_call call.now) (D.rows held.value.value.database) }
+            × StepsDatabase before (number_of pass.old) (noted_call call.now)
+            held.value.value.database }
         ensures entered { Enters (odb_lock_of self.now) (noted_call call.now) pass.old pass.new }
-        ensures legal { IsLegal (D.rows (first_database self.now)) (seen_by pass.new) }
+        ensures legal { IsLegalDatabase (first_database self.now) (seen_by pass.new) }
     {
         self.turns.put(pass, held, call);
     }
 
     /// As `Database::create`, by the main thread.
+    #[tactic(auto, using(crate::proofs::SharedLaws::call_step))]
     pub fn create<R: Wait>(
         &self,
         rt: &R,
@@ -91,8 +98,9 @@ impl<D: Database> SharedOdb<D> {
         requires main { number_of pass.old ≡ main_caller }
         requires own { IsOf (odb_lock_of self.now) pass.old }
         requires idle { held_by pass.old ≡ None }
-        ensures entered { Enters (odb_lock_of self.now) (Create path.now kind result) pass.old pass.new }
-        ensures legal { IsLegal (D.rows (first_database self.now)) (seen_by pass.new) }
+        ensures entered { Enters (odb_lock_of self.now) (call_of (Create path.now kind result)) pass.old
+            pass.new }
+        ensures legal { IsLegalDatabase (first_database self.now) (seen_by pass.new) }
     {
         let _ = path.names();
         let mut held = self.turns.take(rt, pass);
@@ -102,6 +110,7 @@ impl<D: Database> SharedOdb<D> {
     }
 
     /// As `Database::set`.
+    #[tactic(auto, using(crate::proofs::SharedLaws::call_step))]
     pub fn set<R: Wait>(
         &self,
         rt: &R,
@@ -113,8 +122,9 @@ impl<D: Database> SharedOdb<D> {
     ) -> Result<u32, OdbRefusal>
         requires own { IsOf (odb_lock_of self.now) pass.old }
         requires idle { held_by pass.old ≡ None }
-        ensures entered { Enters (odb_lock_of self.now) (Set path.now index item.now result) pass.old pass.new }
-        ensures legal { IsLegal (D.rows (first_database self.now)) (seen_by pass.new) }
+        ensures entered { Enters (odb_lock_of self.now) (call_of (Set path.now index item.now result)) pass.old
+            pass.new }
+        ensures legal { IsLegalDatabase (first_database self.now) (seen_by pass.new) }
         ensures memory { result ≡ Err no_memory → tid_of item.now ≡ Tid.Text }
     {
         let _ = path.names();
@@ -135,6 +145,7 @@ impl<D: Database> SharedOdb<D> {
     }
 
     /// As `Database::set_all`, by the main thread.
+    #[tactic(auto, using(crate::proofs::SharedLaws::call_step))]
     pub fn set_all<R: Wait>(
         &self,
         rt: &R,
@@ -146,8 +157,9 @@ impl<D: Database> SharedOdb<D> {
         requires main { number_of pass.old ≡ main_caller }
         requires own { IsOf (odb_lock_of self.now) pass.old }
         requires idle { held_by pass.old ≡ None }
-        ensures entered { Enters (odb_lock_of self.now) (SetAll path.now value.now result) pass.old pass.new }
-        ensures legal { IsLegal (D.rows (first_database self.now)) (seen_by pass.new) }
+        ensures entered { Enters (odb_lock_of self.now) (call_of (SetAll path.now value.now result)) pass.old
+            pass.new }
+        ensures legal { IsLegalDatabase (first_database self.now) (seen_by pass.new) }
     {
         let _ = path.names();
         let _ = value.tid();
@@ -167,8 +179,9 @@ impl<D: Database> SharedOdb<D> {
     ) -> Result<Value, OdbRefusal>
         requires own { IsOf (odb_lock_of self.now) pass.old }
         requires idle { held_by pass.old ≡ None }
-        ensures entered { Enters (odb_lock_of self.now) (Get path.now result) pass.old pass.new }
-        ensures legal { IsLegal (D.rows (first_database self.now)) (seen_by pass.new) }
+        ensures entered { Enters (odb_lock_of self.now) (call_of (Get path.now result)) pass.old
+            pass.new }
+        ensures legal { IsLegalDatabase (first_database self.now) (seen_by pass.new) }
     {
         let _ = path.names();
         let held = self.turns.take(rt, pass);
@@ -193,8 +206,9 @@ impl<D: Database> SharedOdb<D> {
     ) -> Result<u32, OdbRefusal>
         requires own { IsOf (odb_lock_of self.now) pass.old }
         requires idle { held_by pass.old ≡ None }
-        ensures entered { Enters (odb_lock_of self.now) (Find path.now result) pass.old pass.new }
-        ensures legal { IsLegal (D.rows (first_database self.now)) (seen_by pass.new) }
+        ensures entered { Enters (odb_lock_of self.now) (call_of (Find path.now result)) pass.old
+            pass.new }
+        ensures legal { IsLegalDatabase (first_database self.now) (seen_by pass.new) }
         ensures memory { result ≢ Err no_memory }
     {
         let _ = path.names();
@@ -214,8 +228,9 @@ impl<D: Database> SharedOdb<D> {
     ) -> Result<Children, OdbRefusal>
         requires own { IsOf (odb_lock_of self.now) pass.old }
         requires idle { held_by pass.old ≡ None }
-        ensures entered { Enters (odb_lock_of self.now) (ListDir path.now result) pass.old pass.new }
-        ensures legal { IsLegal (D.rows (first_database self.now)) (seen_by pass.new) }
+        ensures entered { Enters (odb_lock_of self.now) (call_of (ListDir path.now result)) pass.old
+            pass.new }
+        ensures legal { IsLegalDatabase (first_database self.now) (seen_by pass.new) }
     {
         let _ = path.names();
         let held = self.turns.take(rt, pass);
@@ -241,8 +256,9 @@ impl<D: Database> SharedOdb<D> {
         requires main { number_of pass.old ≡ main_caller }
         requires own { IsOf (odb_lock_of self.now) pass.old }
         requires idle { held_by pass.old ≡ None }
-        ensures entered { Enters (odb_lock_of self.now) (Delete path.now result) pass.old pass.new }
-        ensures legal { IsLegal (D.rows (first_database self.now)) (seen_by pass.new) }
+        ensures entered { Enters (odb_lock_of self.now) (call_of (Delete path.now result)) pass.old
+            pass.new }
+        ensures legal { IsLegalDatabase (first_database self.now) (seen_by pass.new) }
         ensures memory { result ≢ Err no_memory }
     {
         let _ = path.names();
@@ -253,6 +269,7 @@ impl<D: Database> SharedOdb<D> {
     }
 
     /// As `Database::resize`, by the main thread.
+    #[tactic(auto, using(crate::proofs::SharedLaws::call_step))]
     pub fn resize<R: Wait>(
         &self,
         rt: &R,
@@ -264,8 +281,9 @@ impl<D: Database> SharedOdb<D> {
         requires main { number_of pass.old ≡ main_caller }
         requires own { IsOf (odb_lock_of self.now) pass.old }
         requires idle { held_by pass.old ≡ None }
-        ensures entered { Enters (odb_lock_of self.now) (Resize path.now len result) pass.old pass.new }
-        ensures legal { IsLegal (D.rows (first_database self.now)) (seen_by pass.new) }
+        ensures entered { Enters (odb_lock_of self.now) (call_of (Resize path.now len result)) pass.old
+            pass.new }
+        ensures legal { IsLegalDatabase (first_database self.now) (seen_by pass.new) }
     {
         let _ = path.names();
         let mut held = self.turns.take(rt, pass);
@@ -284,12 +302,116 @@ impl<D: Database> SharedOdb<D> {
     ) -> Result<Option<Path>, NoMemory>
         requires own { IsOf (odb_lock_of self.now) pass.old }
         requires idle { held_by pass.old ≡ None }
-        ensures entered { Enters (odb_lock_of self.now) (PathOf row result) pass.old pass.new }
-        ensures legal { IsLegal (D.rows (first_database self.now)) (seen_by pass.new) }
+        ensures entered { Enters (odb_lock_of self.now) (call_of (PathOf row result)) pass.old
+            pass.new }
+        ensures legal { IsLegalDatabase (first_database self.now) (seen_by pass.new) }
     {
         let held = self.turns.take(rt, pass);
         let reply = held.value.database.path_of(alloc, row);
         self.enter(pass, held, &CallMade::PathOf { row, reply: &reply });
+        reply
+    }
+
+    /// As `Watches::watch`.
+    pub fn watch<R: Wait>(
+        &self,
+        rt: &R,
+        pass: &mut OdbPass<D>,
+        alloc: Global,
+        row: u32,
+    ) -> Result<u32, WatchRefusal>
+        requires own { IsOf (odb_lock_of self.now) pass.old }
+        requires idle { held_by pass.old ≡ None }
+        ensures entered { Enters (odb_lock_of self.now) (begin_of row result) pass.old pass.new }
+        ensures legal { IsLegalDatabase (first_database self.now) (seen_by pass.new) }
+    {
+        let mut held = self.turns.take(rt, pass);
+        let reply = held.value.database.watch(alloc, row);
+        self.enter(pass, held, &CallMade::Watch { row, reply });
+        reply
+    }
+
+    /// As `Watches::notes`. Takes no memory.
+    pub fn notes<R: Wait>(
+        &self,
+        rt: &R,
+        pass: &mut OdbPass<D>,
+        watch: u32,
+        into: &mut Notes,
+    ) -> Result<u64, NoWatch>
+        requires own { IsOf (odb_lock_of self.now) pass.old }
+        requires idle { held_by pass.old ≡ None }
+        ensures entered { Enters (odb_lock_of self.now) (notes_of watch (moved_out into.new result))
+            pass.old pass.new }
+        ensures legal { IsLegalDatabase (first_database self.now) (seen_by pass.new) }
+        ensures kept { OnErr result (into.new ≡ into.old) }
+    {
+        let mut held = self.turns.take(rt, pass);
+        let reply = held.value.database.notes(watch, into);
+        self.enter(
+            pass,
+            held,
+            &CallMade::Notes {
+                watch,
+                notes: into,
+                reply,
+            },
+        );
+        reply
+    }
+
+    /// As `Watches::unwatch`. Takes no memory.
+    pub fn unwatch<R: Wait>(&self, rt: &R, pass: &mut OdbPass<D>, watch: u32) -> Result<(), NoWatch>
+        requires own { IsOf (odb_lock_of self.now) pass.old }
+        requires idle { held_by pass.old ≡ None }
+        ensures entered { Enters (odb_lock_of self.now) (end_of watch result) pass.old pass.new }
+        ensures legal { IsLegalDatabase (first_database self.now) (seen_by pass.new) }
+    {
+        let mut held = self.turns.take(rt, pass);
+        let reply = held.value.database.unwatch(watch);
+        self.enter(pass, held, &CallMade::Unwatch { watch, reply });
+        reply
+    }
+
+    /// As `odb_ascii::save`.
+    #[tactic(auto, using(crate::proofs::SharedLaws::save_step))]
+    pub fn save<R: Wait>(
+        &self,
+        rt: &R,
+        pass: &mut OdbPass<D>,
+        alloc: Global,
+    ) -> Result<Bytes, NoMemory>
+        requires own { IsOf (odb_lock_of self.now) pass.old }
+        requires idle { held_by pass.old ≡ None }
+        ensures entered { Enters (odb_lock_of self.now) (save_of result) pass.old pass.new }
+        ensures legal { IsLegalDatabase (first_database self.now) (seen_by pass.new) }
+        ensures small { IfOk result (λ text. length text ≤ dump_limit) }
+    {
+        let held = self.turns.take(rt, pass);
+        let reply = save(alloc, &held.value.database);
+        self.enter(pass, held, &CallMade::Save { reply: &reply });
+        reply
+    }
+
+    /// As `odb_ascii::load`, by the main thread.
+    #[tactic(auto, using(crate::proofs::SharedLaws::load_step))]
+    pub fn load<R: Wait>(
+        &self,
+        rt: &R,
+        pass: &mut OdbPass<D>,
+        alloc: Global,
+        text: &[u8],
+    ) -> Result<Loaded, LoadRefusal>
+        requires main { number_of pass.old ≡ main_caller }
+        requires own { IsOf (odb_lock_of self.now) pass.old }
+        requires idle { held_by pass.old ≡ None }
+        requires small { length text.now ≤ dump_limit }
+        ensures entered { Enters (odb_lock_of self.now) (load_of text.now result) pass.old pass.new }
+        ensures legal { IsLegalDatabase (first_database self.now) (seen_by pass.new) }
+    {
+        let mut held = self.turns.take(rt, pass);
+        let reply = load(alloc, &mut held.value.database, text);
+        self.enter(pass, held, &CallMade::Load { text, reply });
         reply
     }
 
@@ -301,14 +423,12 @@ impl<D: Database> SharedOdb<D> {
         requires own { ArePassesOf (odb_lock_of self) passes }
         requires idle { AreIdle passes }
 
-        // Each reply in the history is the one that the database gave at that point, from the one that was shared on, and
-        // the database is what it was left as.
+        // Each call in the history is legal at its point, from the database that was shared on, and they lead to the
+        // database as it was left.
         ensures opened { IfOk result (λ closed. (opened_with closed).database
             ≡ first_database self) }
-        ensures legal { IfOk result (λ closed. IsLegal (D.rows (opened_with closed).database)
-            (history_of closed)) }
-        ensures replayed { IfOk result (λ closed. D.rows closed.value.database
-            ≡ replay (D.rows (opened_with closed).database) (history_of closed)) }
+        ensures leads { IfOk result (λ closed. LeadsDatabase (opened_with closed).database
+            (history_of closed) closed.value.database) }
 
         // What each pass has seen is a beginning of it, and the entries with a pass's number are its own.
         ensures parts { IfOk result (λ closed. All (λ pass. IsPartOf (history_of closed)

@@ -1,14 +1,20 @@
 //! Each call once, by the main thread and by another.
 ghost use Rattle.std.specs.Prelude.{◌≡◌, [], ◌∷◌};
+ghost use Rattle.daq_types.specs.Callers.{main_caller};
 ghost use Rattle.turn_lock.specs.Passes.{number_of, IsOf};
 ghost use Rattle.turn_lock.specs.Roster.{items_of, numbers_of, ArePassesOf, AreFresh, IsFresh};
 ghost use Rattle.odb_lock.specs.SharedOdbs.{odb_lock_of};
 
-use crate::{OdbPass, OdbPasses, SharedOdb};
-use daq_types::Tid;
+use crate::{OdbPass, OdbPasses, SharedAccess, SharedOdb};
+use daq_types::{NoMemory, Tid};
+use odb_ascii::Loaded;
 use odb_path::Path;
-use odb_tree::{Database, NewKey, PlainTree};
+use odb_port::{DatabasePort, WatchPort};
+use odb_tree::{Database, NewKey, Note, Notes, PlainTree};
 use odb_value::Item;
+use odb_watch::NoWatch;
+use std::alloc::Global;
+use std::sync::Wait;
 use std::test::Fail;
 
 impl SharedOdb<PlainTree> {
@@ -80,5 +86,64 @@ fn another_caller_reads_and_sets(rt: HostRuntime) -> Result<(), Fail> {
     assert_eq!(rt; children.as_slice().len(), 1);
     let named = shared.path_of(&rt, &mut other, alloc, 2)?;
     assert!(rt; named.is_some(), "the row has a path");
+    Ok(())
+}
+
+#[test]
+fn a_watch_sees_what_is_loaded(rt: HostRuntime) -> Result<(), Fail> {
+    let alloc = rt.alloc();
+    let (shared, mut passes) = SharedOdb::new(alloc, PlainTree::new(alloc), 2)?;
+    let (mut main, mut other) = shared.two_passes(&mut passes);
+    assert_eq!(rt; shared.watch(&rt, &mut other, alloc, 0), Ok(0));
+    let text = b"[/A]\nb = UINT8[2] :\n[0] 7\n[1] 8\n\n";
+    let loaded = Loaded {
+        keys: 1,
+        skipped: 0,
+    };
+    assert_eq!(rt; shared.load(&rt, &mut main, alloc, text), Ok(loaded));
+    let mut notes = Notes::new(alloc)?;
+    assert_eq!(rt; shared.notes(&rt, &mut other, 0, &mut notes), Ok(0));
+    assert_eq!(rt;
+        notes.as_slice(),
+        &[Note { row: 2, index: 0 }, Note { row: 2, index: 1 }]
+    );
+    let dump = shared.save(&rt, &mut other, alloc)?;
+    assert_eq!(rt; dump.as_slice(), text);
+    assert_eq!(rt; shared.unwatch(&rt, &mut other, 0), Ok(()));
+    assert_eq!(rt; shared.notes(&rt, &mut other, 0, &mut notes), Err(NoWatch));
+    Ok(())
+}
+
+/// Loads a text by the main thread's port, sets an item by another, and counts what the other's watch noted of both.
+fn noted_by_port<R: Wait, P: WatchPort>(
+    rt: &R,
+    alloc: Global,
+    main: &mut P,
+    other: &mut P,
+) -> Result<usize, NoMemory>
+    requires main { (P.access main.old).caller ≡ main_caller }
+{
+    let path = Path::read(alloc, b"/A/b").map_err(|_| NoMemory)?;
+    let mut notes = Notes::new(alloc)?;
+    let watch = other.watch(rt, alloc, 0).map_err(|_| NoMemory)?;
+    let _ = main.load(rt, alloc, b"[/A]\nb = UINT8[2] :\n[0] 7\n[1] 8\n\n");
+    let _ = other.set_lent(rt, alloc, &path, 1, &Item::UInt8(9));
+    let _ = other.notes(rt, watch, &mut notes);
+    let _ = other.unwatch(rt, watch);
+    Ok(notes.len())
+}
+
+#[test]
+fn ports_lead_to_one_database(rt: HostRuntime) -> Result<(), Fail> {
+    let alloc = rt.alloc();
+    let (shared, mut passes) = SharedOdb::new(alloc, PlainTree::new(alloc), 2)?;
+    let (main, other) = shared.two_passes(&mut passes);
+    let mut main = SharedAccess::new(&shared, main);
+    let mut other = SharedAccess::new(&shared, other);
+    assert_eq!(rt; noted_by_port(&rt, alloc, &mut main, &mut other), Ok(3));
+    let dump = main.save(&rt, alloc)?;
+    assert_eq!(rt; dump.as_slice(), b"[/A]\nb = UINT8[2] :\n[0] 7\n[1] 9\n\n");
+    assert_eq!(rt; main.find(&rt, Path::read(alloc, b"/A/b")?), Ok(2));
+    assert_eq!(rt; other.into_pass().number(), 1);
     Ok(())
 }

@@ -5,14 +5,16 @@ use Rattle.odb_tree.specs.declared.entry.DatabaseEntry.{DatabaseEntry}
 use Rattle.odb_tree.specs.declared.refusals.OdbRefusal.{OdbRefusal}
 use Rattle.odb_tree.specs.declared.refusals.OdbRefusal.TheVariants.{NoMemory as no_memory}
 use Rattle.odb_tree.specs.Rows.{Rows}
-use Rattle.odb_tree.specs.Databases.{IsDatabase}
-use Rattle.odb_tree.specs.Histories.{IsLegal}
+use Rattle.odb_tree.specs.Noting.{Watched}
+use Rattle.odb_watch.specs.declared.entry.WatchEntry.{WatchEntry}
+use Rattle.odb_watch.specs.declared.entry.WatchEntry.TheVariants.{Call, Watch, Notes, Unwatch, Save, Load}
+use Rattle.odb_watch.specs.Steps.{IsLegalDatabase, unwatched}
 use Rattle.odb_journal.specs.Noted.{Noted, unanswered}
 
--- Which database a port leads to: the rows with which it opened to its ports, how many ports it may have, and numbers by
--- which it is told from other databases; none where it has one port.
+-- Which database a port leads to: the rows and the watches with which it opened to its ports, how many ports it may have, and
+-- numbers by which it is told from other databases; none where it has one port.
 pub record DatabaseIdentity : Type 0 where
-  pub opened : Rows
+  pub opened : Watched
   pub ports : ℕ
   pub numbers : List ℕ
 
@@ -22,13 +24,30 @@ pub record DatabaseIdentity : Type 0 where
 pub record DatabaseAccess : Type 0 where
   pub database : DatabaseIdentity
   pub caller : ℕ
-  pub seen : List (ℕ × DatabaseEntry)
+  pub seen : List (ℕ × WatchEntry)
   pub undisturbed : Bool
   pub room : ℕ
 
--- the caller's own calls with their replies, in order
+-- the calls on the rows among these calls, which are those of `Database`
+abbrev pub rows_call : WatchEntry → List DatabaseEntry
+rows_call (Call entry) = entry ∷ []
+rows_call (Watch row reply) = []
+rows_call (Notes watch reply) = []
+rows_call (Unwatch watch reply) = []
+rows_call (Save reply) = []
+rows_call (Load text reply) = []
+
+abbrev pub rows_calls : List WatchEntry → List DatabaseEntry
+rows_calls [] = []
+rows_calls (entry ∷ entries) = rows_call entry ++ rows_calls entries
+
+-- all of the caller's own calls with their replies, in order
+abbrev pub own_watched : DatabaseAccess → List WatchEntry
+own_watched a = entries_by a.caller a.seen
+
+-- and those on the rows
 abbrev pub own_calls : DatabaseAccess → List DatabaseEntry
-own_calls a = entries_by a.caller a.seen
+own_calls a = rows_calls (own_watched a)
 
 -- The same caller's access to the same database.
 pub record IsSamePort (a b : DatabaseAccess) : Type 0 where
@@ -38,20 +57,35 @@ pub record IsSamePort (a b : DatabaseAccess) : Type 0 where
 
 -- One call more of the caller. What it has seen now begins with what it had seen, goes on with calls of others alone, and
 -- ends with this call; and all that is a legal history of the database.
-pub record AddsCall (a b : DatabaseAccess) (entry : DatabaseEntry) : Type 0 where
+pub record AddsEntry (a b : DatabaseAccess) (entry : WatchEntry) : Type 0 where
   pub same : IsSamePort a b
-  pub between : List (ℕ × DatabaseEntry)
+  pub between : List (ℕ × WatchEntry)
   pub seen : b.seen ≡ (a.seen ++ between) ++ (a.caller, entry) ∷ []
   pub foreign : entries_by a.caller between ≡ []
   pub none : IsTrue a.undisturbed → between ≡ []
-  pub opened : IsDatabase b.database.opened
-  pub legal : IsLegal b.database.opened b.seen
+  pub legal : IsLegalDatabase b.database.opened b.seen
   pub room : a.room ≤ b.room + 1
 
 -- These calls more of the caller, one after the other; where there are none, nothing changed.
+abbrev pub AddsEntries : (a b : DatabaseAccess) → List WatchEntry → Type 0
+AddsEntries a b [] = b ≡ a
+AddsEntries a b (entry ∷ entries) = (between : DatabaseAccess) × AddsEntry a between entry × AddsEntries between b entries
+
+-- The same of calls on the rows, which are those of `Database`.
+
+abbrev pub AddsCall : (a b : DatabaseAccess) → DatabaseEntry → Type 0
+AddsCall a b entry = AddsEntry a b (Call entry)
+
 abbrev pub AddsCalls : (a b : DatabaseAccess) → List DatabaseEntry → Type 0
 AddsCalls a b [] = b ≡ a
 AddsCalls a b (entry ∷ calls) = (between : DatabaseAccess) × AddsCall a between entry × AddsCalls between b calls
+
+-- these calls as calls on a watched database
+abbrev pub row_calls : List DatabaseEntry → List WatchEntry
+row_calls calls = map (λ (entry : DatabaseEntry). Call entry) calls
+
+abbrev pub as_watched : List (ℕ × DatabaseEntry) → List (ℕ × WatchEntry)
+as_watched history = map (λ (e : ℕ × DatabaseEntry). (e.0, Call e.1)) history
 
 -- these calls, each with this caller
 abbrev pub calls_by : (caller : ℕ) → List DatabaseEntry → List (ℕ × DatabaseEntry)
@@ -101,12 +135,13 @@ pub record KeepsDatabase (a b : CalledDatabase) : Type 0 where
   pub caller : b.caller ≡ a.caller
   pub room : a.room ≤ b.room
 
--- the access to it by that caller, which has seen the whole journal; nobody else calls while one of its calls is made
+-- the access to it by that caller, which has seen the whole journal; nobody else calls while one of its calls is made, and
+-- nobody watches
 abbrev pub local_access : CalledDatabase → DatabaseAccess
 local_access d = record {
-  database = record { opened = d.start; ports = 1; numbers = [] };
+  database = record { opened = unwatched d.start; ports = 1; numbers = [] };
   caller = d.caller;
-  seen = d.history;
+  seen = as_watched d.history;
   undisturbed = true;
   room = d.room;
 }

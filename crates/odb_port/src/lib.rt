@@ -5,9 +5,11 @@
 pub mod laws;
 mod local;
 mod port;
+mod watching;
 
 pub use local::LocalAccess;
 pub use port::DatabasePort;
+pub use watching::WatchPort;
 
 #[cfg(test)]
 mod tests;

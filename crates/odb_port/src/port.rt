@@ -15,7 +15,8 @@ use std::sync::Wait;
 
 /// One caller's access to an online database, by the calls of `Database`. Each is one call of the caller in the one history
 /// of that database, with its reply, and there has to be room to note it: what the caller has seen of that history, its own
-/// calls among it, is legal after each call. The calls that may make, remove or resize a row are the main thread's.
+/// calls among it, is legal after each call, as the history of a watched database is. The calls that may make, remove or
+/// resize a row are the main thread's.
 pub trait DatabasePort {
     ghost use Rattle.odb_port.specs.DatabasePorts.{DatabaseAccess};
 

@@ -14,3 +14,4 @@ pub mod Sound
 pub mod Lasting
 pub mod Listed
 pub mod WalkLaws
+pub mod Noted

@@ -6,6 +6,7 @@ pub mod WayInside
 pub mod Changes
 pub mod PlainInside
 pub mod Calls
+pub mod Noting
 pub mod Walks
 pub mod WalkLaws
 pub mod Trees

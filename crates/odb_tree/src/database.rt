@@ -5,6 +5,7 @@ ghost use Rattle.odb_tree.specs.declared.refusals.OdbRefusal.TheVariants.{NoMemo
 ghost use Rattle.odb_tree.specs.Databases.{IsDatabase};
 ghost use Rattle.odb_tree.specs.declared.entry.DatabaseEntry.TheVariants.{Create, Set, SetAll, Get, Find, ListDir, Delete, Resize, PathOf};
 ghost use Rattle.odb_tree.specs.Calls.{IsReply, rows_after, is_row_below};
+ghost use Rattle.odb_tree.specs.Noting.{changes_of, all_noted};
 
 use crate::children::Children;
 use crate::refusals::OdbRefusal;
@@ -17,15 +18,24 @@ use std::alloc::Global;
 /// An online database, seen as a list of rows. Each call replies what `IsReply` says of the rows before it, and leaves
 /// `rows_after` of them. Want of memory is the one answer that no clause ties to the rows; it leaves them as they were.
 /// The rows are always those of a database, which `find` and `list` tell.
+///
+/// A database may keep watches beside its rows. Each call that writes an item leaves all of them with a note of it,
+/// which `changes_of` tells, and no other call touches them. A database that has none has none after each call.
 pub trait Database: Drop {
+    ghost use Rattle.std.specs.Prelude.{List, Option};
     ghost use Rattle.odb_tree.specs.Rows.{Rows};
+    ghost use Rattle.odb_tree.specs.declared.notes.Watch.{Watch as a_watch};
 
     ghost rows: { Self → Rows };
+
+    ghost watches: { Self → List (Option a_watch) };
 
     /// Makes a key or a directory, and the missing directories of its path, and answers the number of its row.
     fn create(&mut self, alloc: Global, path: &Path, kind: NewKey) -> Result<u32, OdbRefusal>
         ensures reply { IsReply (rows self.old) (Create path.now kind result) }
-        ensures after { rows self.new ≡ rows_after (rows self.old) (Create path.now kind result) };
+        ensures after { rows self.new ≡ rows_after (rows self.old) (Create path.now kind result) }
+        ensures notes { watches self.new ≡ all_noted (changes_of (rows self.old)
+            (Create path.now kind result)) (watches self.old) };
 
     /// Writes one item of a key, and answers the number of its row. A text as long as the item size or longer raises
     /// that to its length plus 1. Takes memory for a text alone.
@@ -39,13 +49,17 @@ pub trait Database: Drop {
         ensures reply { IsReply (rows self.old) (Set path.now index item.now result) }
         ensures memory { result ≡ Err no_memory → tid_of item.now ≡ Tid.Text }
         ensures after { rows self.new ≡ rows_after (rows self.old)
-            (Set path.now index item.now result) };
+            (Set path.now index item.now result) }
+        ensures notes { watches self.new ≡ all_noted (changes_of (rows self.old)
+            (Set path.now index item.now result)) (watches self.old) };
 
     /// Replaces the value of a key by one of the same type, or makes the key with it, and answers the number of its row.
     fn set_all(&mut self, alloc: Global, path: &Path, value: &Value) -> Result<u32, OdbRefusal>
         ensures reply { IsReply (rows self.old) (SetAll path.now value.now result) }
         ensures after { rows self.new ≡ rows_after (rows self.old)
-            (SetAll path.now value.now result) };
+            (SetAll path.now value.now result) }
+        ensures notes { watches self.new ≡ all_noted (changes_of (rows self.old)
+            (SetAll path.now value.now result)) (watches self.old) };
 
     /// The value of a key.
     fn get(&self, alloc: Global, path: &Path) -> Result<Value, OdbRefusal>
@@ -66,12 +80,15 @@ pub trait Database: Drop {
     fn delete(&mut self, path: &Path) -> Result<u32, OdbRefusal>
         ensures reply { IsReply (rows self.old) (Delete path.now result) }
         ensures memory { result ≢ Err no_memory }
-        ensures after { rows self.new ≡ rows_after (rows self.old) (Delete path.now result) };
+        ensures after { rows self.new ≡ rows_after (rows self.old) (Delete path.now result) }
+        ensures notes { watches self.new ≡ watches self.old };
 
     /// Gives a key so many items: cuts at the end, or adds items of a new key. Answers the number of its row.
     fn resize(&mut self, alloc: Global, path: &Path, len: u32) -> Result<u32, OdbRefusal>
         ensures reply { IsReply (rows self.old) (Resize path.now len result) }
-        ensures after { rows self.new ≡ rows_after (rows self.old) (Resize path.now len result) };
+        ensures after { rows self.new ≡ rows_after (rows self.old) (Resize path.now len result) }
+        ensures notes { watches self.new ≡ all_noted (changes_of (rows self.old)
+            (Resize path.now len result)) (watches self.old) };
 
     /// The path of the row with this number, and of the root for 0; None exactly where there is none.
     fn path_of(&self, alloc: Global, row: u32) -> Result<Option<Path>, NoMemory>
@@ -82,9 +99,10 @@ pub trait Database: Drop {
     fn is_below(&self, row: u32, above: u32) -> bool
         ensures { result ≡ is_row_below (rows self.now) row above };
 
-    /// A database with the same rows, of the same numbers.
+    /// A database with the same rows, of the same numbers, and the same watches.
     fn copy(&self, alloc: Global) -> Result<Self, NoMemory>
     where
         Self: Sized,
-        ensures { IfOk result (λ copy. rows copy ≡ rows self.now) };
+        ensures rows { IfOk result (λ copy. rows copy ≡ rows self.now) }
+        ensures watches { IfOk result (λ copy. watches copy ≡ watches self.now) };
 }

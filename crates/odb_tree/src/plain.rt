@@ -1,4 +1,4 @@
-ghost use Rattle.std.specs.Prelude.{◌≡◌, ◌≤◌, ◌<◌, ◌^◌, ◌+◌, ◌-◌, length, None, IfOk, OnOk, OnErr, Option};
+ghost use Rattle.std.specs.Prelude.{◌≡◌, ◌≤◌, ◌<◌, ◌^◌, ◌+◌, ◌-◌, [], length, None, IfOk, OnOk, OnErr, Option};
 ghost use Rattle.std.specs.Option.{option_map};
 ghost use Rattle.odb_path.specs.Paths.{depth_limit};
 ghost use Rattle.odb_value.specs.Values.{HeldValue};
@@ -182,6 +182,8 @@ impl PlainTree {
 
 impl Database for PlainTree {
     ghost rows = { λ s. s };
+
+    ghost watches = { λ _. [] };
 
     fn create(&mut self, alloc: Global, path: &Path, kind: NewKey) -> Result<u32, OdbRefusal> {
         let _ = &self.rows;

@@ -1,20 +1,27 @@
 -- What a watch keeps is what its history says.
-use Rattle.std.proofs.Common.{◌≡◌, ℕ, zero, suc, ◌+◌, ◌-◌, ◌^◌, ◌<◌, ◌≤◌, ◌==◌, Bool, true, false, cond, ltb, List, [], ◌∷◌, ◌++◌, length, map, take, drop, get_or, slice_set, Option, Some, None, Result, Ok, Err, ◌⊎◌, inl, inr, refl, sym, ap, ◌∙◌, subst, arith, append_assoc, append-nil, length-append}
+use Rattle.std.proofs.Common.{◌≡◌, ℕ, zero, suc, ◌+◌, ◌-◌, ◌^◌, ◌<◌, ◌≤◌, ◌==◌, Bool, true, false, cond, ltb, List, [], ◌∷◌, ◌++◌, length, map, take, slice_set, Option, Some, None, Result, Ok, Err, refl, sym, ap, ◌∙◌, subst, arith, append_assoc, append-nil, length-append}
 use Rattle.std.specs.Option.{option_map}
 use Rattle.std.specs.List.{AllByRecursion}
+use Rattle.std.specs.Str.Lines.{lines}
 use Rattle.std.proofs.lemmas.Bool.Decides.{nat_tests}
+use Rattle.odb_tree.specs.declared.notes.Note.{Note}
+use Rattle.odb_tree.specs.declared.notes.Watch.{Watch as a_watch}
+use Rattle.odb_tree.specs.declared.entry.DatabaseEntry.{DatabaseEntry}
 use Rattle.odb_tree.specs.Rows.{Rows}
-use Rattle.odb_watch.specs.declared.notes.Note.{Note}
-use Rattle.odb_watch.specs.declared.notes.Watch.{Watch as a_watch}
+use Rattle.odb_tree.specs.Noting.{Change, Watched, changes_of, with_note, note_of, is_of, with_change, noted_all, all_noted, notes_limit, counted, watched_call}
+use Rattle.odb_tree.proofs.Noted.{noted_append}
+use Rattle.odb_ascii.specs.declared.acts.LoadRefusal.{LoadRefusal}
+use Rattle.odb_ascii.specs.declared.acts.Loaded.{Loaded}
+use Rattle.odb_ascii.specs.TextSteps.{changes_in_steps}
+use Rattle.odb_ascii.specs.Loads.{IsLoaded}
 use Rattle.odb_watch.specs.declared.notes.NoWatch.{NoWatch}
 use Rattle.odb_watch.specs.declared.notes.WatchRefusal.{WatchRefusal}
 use Rattle.odb_watch.specs.declared.entry.WatchEntry.{WatchEntry}
-use Rattle.odb_watch.specs.declared.entry.WatchEntry.TheVariants.{Call, Watch, Notes, Unwatch}
-use Rattle.odb_watch.specs.Changes.{Change, changes_of}
-use Rattle.odb_watch.specs.Keeping.{with_note, note_of, is_of, with_change, noted_all, notes_limit, counted}
-use Rattle.odb_watch.specs.Slots.{Watched, all_noted, slot, with_slot, free_watch, new_watch, emptied, emptied_slot}
-use Rattle.odb_watch.specs.History.{changes_by, rows_by, rows_through, changes_in, GivesKept, GivesWatched, AreWatchReplies, watched_after, watched_through, unwatched, begins, row_by, watched_row, notes_for, AreDue}
-use Rattle.odb_watch.proofs.NotesKept.{note_keeps_row, none_noted}
+use Rattle.odb_watch.specs.declared.entry.WatchEntry.TheVariants.{Call, Watch, Notes, Unwatch, Save, Load}
+use Rattle.odb_watch.specs.Slots.{slot, with_slot, free_watch, GivesWatch, after_watch, new_watch, emptied, emptied_slot, after_unwatch}
+use Rattle.odb_watch.specs.Steps.{with_watches, GivesKept, emptied_at, StepsWatched, StepsDatabase, LeadsDatabase, unwatched}
+use Rattle.odb_watch.specs.History.{EntryWrites, EntriesWrite, begins, row_by, watched_row, notes_for, AreDue, calls_made}
+use Rattle.odb_watch.proofs.NotesKept.{note_keeps_row}
 
 -- Notes of changes, all together.
 
@@ -24,10 +31,6 @@ row_kept k c = elim (is_of k.row c) as (λ (t : Bool). (cond t (with_note k (not
 rows_kept : (k : a_watch) (cs : List Change) → (noted_all k cs).row ≡ k.row
 rows_kept k [] = refl
 rows_kept k (c ∷ cs) = rows_kept (with_change k c) cs ∙ row_kept k c
-
-noted_append : (k : a_watch) (cs ds : List Change) → noted_all k (cs ++ ds) ≡ noted_all (noted_all k cs) ds
-noted_append k [] ds = refl
-noted_append k (c ∷ cs) ds = noted_append (with_change k c) cs ds
 
 -- what was told: the first notes, and how many others
 record IsTold (k now : a_watch) (ns : List Note) : Type 0 where
@@ -82,15 +85,14 @@ told k (c ∷ cs) h l = cases (is_of k.row c) refl (told k cs h l) (λ m h2 l2. 
 
 -- Entries one behind the other.
 
-rows_push : (s : Rows) (h more : List WatchEntry) → rows_through s (h ++ more) ≡ rows_through (rows_through s h) more
-rows_push s [] more = refl
-rows_push s (e ∷ h) more = rows_push (rows_by s e) h more
+writes_push : (rows : Rows) (h : List WatchEntry) (mid : Rows) (cs : List Change) (e : WatchEntry) (after : Rows) (ds : List Change) → EntriesWrite rows h mid cs → EntryWrites mid e after ds
+    → EntriesWrite rows (h ++ e ∷ []) after (cs ++ ds)
+writes_push rows [] mid cs e after ds w k =
+    (after, ds, [], subst (λ (r : Rows). EntryWrites r e after ds) w.0 k, (refl, refl), ap (λ (l : List Change). l ++ ds) w.1 ∙ sym (append-nil ds))
+writes_push rows (x ∷ xs) mid cs e after ds w k =
+    (w.0, w.1, w.2 ++ ds, w.3, writes_push w.0 xs mid w.2 e after ds w.4 k, ap (λ (l : List Change). l ++ ds) w.5 ∙ append_assoc w.1 w.2 ds)
 
-changes_push : (s : Rows) (h : List WatchEntry) (e : WatchEntry) → changes_in s (h ++ e ∷ []) ≡ changes_in s h ++ changes_by (rows_through s h) e
-changes_push s [] e = append-nil (changes_by s e)
-changes_push s (x ∷ h) e = ap (λ (l : List Change). changes_by s x ++ l) (changes_push (rows_by s x) h e) ∙ sym (append_assoc (changes_by s x) (changes_in (rows_by s x) h) (changes_by (rows_through (rows_by s x) h) e))
-
-row_push : (w row : ℕ) (h : List WatchEntry) (e : WatchEntry) → watched_row w row (h ++ e ∷ []) ≡ row_by w (watched_row w row h) e
+row_push : (w : ℕ) (row : Option ℕ) (h : List WatchEntry) (e : WatchEntry) → watched_row w row (h ++ e ∷ []) ≡ row_by w (watched_row w row h) e
 row_push w row [] e = refl
 row_push w row (x ∷ h) e = row_push w (row_by w row x) h e
 
@@ -144,28 +146,43 @@ set_other (x ∷ xs) (suc v) (suc w) k n = set_other xs v w k (λ e. n (ap (λ (
 
 -- The notes kept in a slot are those of the entries since the watch began or was last read.
 
-record IsKept (rows : Rows) (h : List WatchEntry) (w : ℕ) (k : a_watch) : Type 0 where
+record IsKept (rows : Rows) (h : List WatchEntry) (now : Rows) (w : ℕ) (k : a_watch) : Type 0 where
   before : List WatchEntry
   opening : WatchEntry
   since : List WatchEntry
   whole : h ≡ before ++ opening ∷ since
   anew : begins w opening ≡ true
   last : AllByRecursion (λ e. begins w e ≡ false) since
-  row : k.row ≡ watched_row w 0 h
-  kept : k ≡ noted_all (new_watch k.row) (changes_in (rows_through rows (before ++ opening ∷ [])) since)
+  lives : watched_row w None h ≡ Some k.row
+  mid : Rows
+  earlier : List Change
+  to_mid : EntriesWrite rows (before ++ opening ∷ []) mid earlier
+  changes : List Change
+  to_now : EntriesWrite mid since now changes
+  kept : k ≡ noted_all (new_watch k.row) changes
 
-AreKept : Rows → List WatchEntry → List (Option a_watch) → Type 0
-AreKept rows h slots = (w : ℕ) (k : a_watch) → slot slots w ≡ Some k → IsKept rows h w k
+-- after some entries: what they wrote, and what each living watch keeps
+record IsAfter (rows : Rows) (h : List WatchEntry) (s : Watched) : Type 0 where
+  changes : List Change
+  wrote : EntriesWrite rows h s.rows changes
+  keeps : (w : ℕ) (k : a_watch) → slot s.slots w ≡ Some k → IsKept rows h s.rows w k
 
-fresh : (rows : Rows) (h : List WatchEntry) (e : WatchEntry) (w row : ℕ) (k : a_watch) → begins w e ≡ true → k ≡ new_watch row → row ≡ watched_row w 0 (h ++ e ∷ []) → IsKept rows (h ++ e ∷ []) w k
-fresh rows h e w row k b is at = record {
+-- a watch that begins anew with an entry, which writes nothing
+fresh : (rows : Rows) (h : List WatchEntry) (now : Rows) (earlier : List Change) (e : WatchEntry) (w row : ℕ) (k : a_watch) → EntriesWrite rows h now earlier → EntryWrites now e now []
+    → begins w e ≡ true → k ≡ new_watch row → watched_row w None (h ++ e ∷ []) ≡ Some row → IsKept rows (h ++ e ∷ []) now w k
+fresh rows h now earlier e w row k wrote writes b is at = record {
   before = h;
   opening = e;
   since = [];
   whole = refl;
   anew = b;
   last = tt;
-  row = ap (λ (x : a_watch). x.row) is ∙ at;
+  lives = at ∙ ap (λ (x : a_watch). Some x.row) (sym is);
+  mid = now;
+  earlier = earlier ++ [];
+  to_mid = writes_push rows h now earlier e now [] wrote writes;
+  changes = [];
+  to_now = (refl, refl);
   kept = is ∙ ap new_watch (sym (ap (λ (x : a_watch). x.row) is));
 }
 
@@ -173,35 +190,55 @@ mapped_some : (f : a_watch → a_watch) (o : Option a_watch) (k : a_watch) → o
 mapped_some f None k h = absurd (cc)
 mapped_some f (Some old) k h = (old, refl, cc)
 
--- an entry that does not begin anew: the watch notes its changes
-goes_on : (rows : Rows) (h : List WatchEntry) (e : WatchEntry) (w : ℕ) (old k : a_watch) → IsKept rows h w old → begins w e ≡ false → ((x : ℕ) → row_by w x e ≡ x)
-    → k ≡ noted_all old (changes_by (rows_through rows h) e) → IsKept rows (h ++ e ∷ []) w k
-goes_on rows h e w old k i b r is =
-    let first : Rows = rows_through rows (i.before ++ i.opening ∷ []) in
-    let at : rows_through first i.since ≡ rows_through rows h =
-    sym (rows_push rows (i.before ++ i.opening ∷ []) i.since) ∙ ap (rows_through rows) (append_assoc i.before (i.opening ∷ []) i.since ∙ sym i.whole) in
-    let same : k.row ≡ old.row = ap (λ (x : a_watch). x.row) is ∙ rows_kept old (changes_by (rows_through rows h) e) in record {
+-- an entry that does not begin anew: the watch notes what it writes
+goes_on : (rows : Rows) (h : List WatchEntry) (now : Rows) (e : WatchEntry) (after : Rows) (ds : List Change) (w : ℕ) (old k : a_watch) → IsKept rows h now w old → EntryWrites now e after ds
+    → begins w e ≡ false → ((x : Option ℕ) → row_by w x e ≡ x) → k ≡ noted_all old ds → IsKept rows (h ++ e ∷ []) after w k
+goes_on rows h now e after ds w old k i writes b r is =
+    let same : k.row ≡ old.row = ap (λ (x : a_watch). x.row) is ∙ rows_kept old ds in record {
       before = i.before;
       opening = i.opening;
       since = i.since ++ e ∷ [];
       whole = ap (λ (l : List WatchEntry). l ++ e ∷ []) i.whole ∙ append_assoc i.before (i.opening ∷ i.since) (e ∷ []);
       anew = i.anew;
       last = all_push (λ x. begins w x ≡ false) i.since e i.last b;
-      row = same ∙ (i.row ∙ (sym (r (watched_row w 0 h)) ∙ sym (row_push w 0 h e)));
+      lives = row_push w None h e ∙ r (watched_row w None h) ∙ i.lives ∙ ap (λ (n : ℕ). Some n) (sym same);
+      mid = i.mid;
+      earlier = i.earlier;
+      to_mid = i.to_mid;
+      changes = i.changes ++ ds;
+      to_now = writes_push i.mid i.since now i.changes e after ds i.to_now writes;
       kept = is
-          ∙ (ap (λ (x : a_watch). noted_all x (changes_by (rows_through rows h) e)) i.kept
-          ∙ (sym (noted_append (new_watch old.row) (changes_in first i.since) (changes_by (rows_through rows h) e))
-          ∙ (ap (λ (s : Rows). noted_all (new_watch old.row) (changes_in first i.since ++ changes_by s e)) (sym at)
-          ∙ (ap (noted_all (new_watch old.row)) (sym (changes_push first i.since e))
-          ∙ ap (λ (n : ℕ). noted_all (new_watch n) (changes_in first (i.since ++ e ∷ []))) (sym same)))));
+          ∙ ap (λ (x : a_watch). noted_all x ds) i.kept
+          ∙ sym (noted_append (new_watch old.row) i.changes ds)
+          ∙ ap (λ (n : ℕ). noted_all (new_watch n) (i.changes ++ ds)) (sym same);
     }
 
--- what stays: no changes, and this slot is as it was
-stays : (rows : Rows) (h : List WatchEntry) (e : WatchEntry) (w : ℕ) (slots : List (Option a_watch)) (now : Option a_watch) (k : a_watch) → AreKept rows h slots → changes_by (rows_through rows h) e ≡ []
-    → begins w e ≡ false → ((x : ℕ) → row_by w x e ≡ x) → now ≡ slot slots w → now ≡ Some k → IsKept rows (h ++ e ∷ []) w k
-unfolding AreKept
-stays rows h e w slots now k i none b r same is =
-    goes_on rows h e w k k (i w k (sym same ∙ is)) b r (ap (noted_all k) (sym none))
+-- an entry that writes nothing, and leaves this slot
+stays : (rows : Rows) (h : List WatchEntry) (s : Watched) (e : WatchEntry) (w : ℕ) (slot_now : Option a_watch) (k : a_watch) → IsAfter rows h s → EntryWrites s.rows e s.rows []
+    → begins w e ≡ false → ((x : Option ℕ) → row_by w x e ≡ x) → slot_now ≡ slot s.slots w → slot_now ≡ Some k → IsKept rows (h ++ e ∷ []) s.rows w k
+stays rows h s e w slot_now k i writes b r same is = goes_on rows h s.rows e s.rows [] w k k (i.keeps w k (sym same ∙ is)) writes b r refl
+
+-- an entry whose changes all watches note
+noted_on : (rows : Rows) (h : List WatchEntry) (s : Watched) (e : WatchEntry) (after : Watched) (ds : List Change) → IsAfter rows h s → EntryWrites s.rows e after.rows ds
+    → after.slots ≡ all_noted ds s.slots → ((w : ℕ) → begins w e ≡ false) → ((w : ℕ) (x : Option ℕ) → row_by w x e ≡ x) → IsAfter rows (h ++ e ∷ []) after
+noted_on rows h s e after ds i writes noted b r = record {
+  changes = i.changes ++ ds;
+  wrote = writes_push rows h s.rows i.changes e after.rows ds i.wrote writes;
+  keeps = λ (w : ℕ) (k : a_watch) (is : slot after.slots w ≡ Some k).
+      let f : a_watch → a_watch = λ (x : a_watch). noted_all x ds in
+      let here : option_map f (slot s.slots w) ≡ Some k = sym (slot_mapped (option_map f) s.slots w refl) ∙ ap (λ (l : List (Option a_watch)). slot l w) (sym noted) ∙ is in
+      let m = mapped_some f (slot s.slots w) k here in
+      goes_on rows h s.rows e after.rows ds w m.0 k (i.keeps w m.0 m.1) writes (b w) (r w) m.2;
+}
+
+-- an entry that leaves all as it was
+left_on : (rows : Rows) (h : List WatchEntry) (s : Watched) (e : WatchEntry) → IsAfter rows h s → EntryWrites s.rows e s.rows [] → ((w : ℕ) → begins w e ≡ false)
+    → ((w : ℕ) (x : Option ℕ) → row_by w x e ≡ x) → IsAfter rows (h ++ e ∷ []) s
+left_on rows h s e i writes b r = record {
+  changes = i.changes ++ [];
+  wrote = writes_push rows h s.rows i.changes e s.rows [] i.wrote writes;
+  keeps = λ (w : ℕ) (k : a_watch) (is : slot s.slots w ≡ Some k). stays rows h s e w (slot s.slots w) k i writes (b w) (r w) refl is;
+}
 
 differ : (v w : ℕ) → (v == w) ≡ false → v ≡ w → ⊥
 differ v w h e = absurd (grind (arith, nat_tests, h, e))
@@ -212,98 +249,143 @@ agree v w h = grind (arith, nat_tests, h)
 unequal : (a b : Option a_watch) (k : a_watch) → a ≡ None → a ≡ Some k → ⊥
 unequal a b k h e = cc
 
-step : (rows : Rows) (h : List WatchEntry) (s : Watched) (e : WatchEntry) → s.rows ≡ rows_through rows h → AreKept rows h s.slots → GivesWatched s e → AreKept rows (h ++ e ∷ []) (watched_after s e).slots
-unfolding AreKept
-step rows h s (Call entry) at i given = λ w k is.
-    let f : a_watch → a_watch = λ (x : a_watch). noted_all x (changes_of s.rows entry) in
-    let m : (old : a_watch) × (slot s.slots w ≡ Some old) × (k ≡ f old) = mapped_some f (slot s.slots w) k (sym (slot_mapped (option_map f) s.slots w refl) ∙ is) in
-    goes_on rows h (Call entry) w m.0 k (i w m.0 m.1) refl (λ x. refl) (m.2 ∙ ap (λ (r : Rows). noted_all m.0 (changes_of r entry)) at)
-step rows h s (Watch row (Ok v)) at i given = λ w k is.
-    let within : v ≤ length s.slots = omega (arith, given.0, free_within s.slots) in
-    let plain : slot (with_slot s.slots v (Some (new_watch row))) w ≡ Some k = ap (λ (l : List (Option a_watch)). slot (with_slot l v (Some (new_watch row))) w) (sym (none_noted s.slots)) ∙ is in
-    cases w k within plain (v == w) refl
-  where
-    cases : (w : ℕ) (k : a_watch) → v ≤ length s.slots → slot (with_slot s.slots v (Some (new_watch row))) w ≡ Some k → (t : Bool) → (v == w) ≡ t → IsKept rows (h ++ Watch row (Ok v) ∷ []) w k
-    cases w k within plain true t =
-        let e : v ≡ w = agree v w t in
-        let now : slot (with_slot s.slots v (Some (new_watch row))) w ≡ Some (new_watch row) =
-        ap (slot (with_slot s.slots v (Some (new_watch row)))) (sym e) ∙ with_same s.slots v (Some (new_watch row)) within in
-        fresh rows h (Watch row (Ok v)) w row k t (let both : Some k ≡ Some (new_watch row) = sym plain ∙ now in cc)
-        (sym (row_push w 0 h (Watch row (Ok v)) ∙ ap (λ (b : Bool). cond b row (watched_row w 0 h)) t))
-    cases w k within plain false t =
-        stays rows h (Watch row (Ok v)) w s.slots (slot (with_slot s.slots v (Some (new_watch row))) w) k i refl t (λ x. ap (λ (b : Bool). cond b row x) t)
-        (with_other s.slots v w (Some (new_watch row)) within (differ v w t)) plain
-step rows h s (Watch row (Err refusal)) at i given = λ w k is.
-    stays rows h (Watch row (Err refusal)) w s.slots (slot s.slots w) k i refl refl (λ x. refl) refl (ap (λ (l : List (Option a_watch)). slot l w) (sym (none_noted s.slots)) ∙ is)
-step rows h s (Notes v (Ok reply)) at i given = λ w k is.
-    let plain : slot (slice_set s.slots v (emptied_slot (slot s.slots v))) w ≡ Some k =
-    ap (λ (l : List (Option a_watch)). slot (slice_set l v (emptied_slot (slot l v))) w) (sym (none_noted s.slots)) ∙ is in
-    cases w k plain (v == w) refl (slot s.slots v) refl given
-  where
-    cases : (w : ℕ) (k : a_watch) → slot (slice_set s.slots v (emptied_slot (slot s.slots v))) w ≡ Some k → (t : Bool) → (v == w) ≡ t → (o : Option a_watch) → slot s.slots v ≡ o → GivesKept o (Ok reply)
-        → IsKept rows (h ++ Notes v (Ok reply) ∷ []) w k
-    cases w k plain t f None e g = absurd g
-    cases w k plain true f (Some old) e g =
-        let q : v ≡ w = agree v w f in
-        let now : slot (slice_set s.slots v (emptied_slot (slot s.slots v))) w ≡ Some (emptied old) =
-        ap (slot (slice_set s.slots v (emptied_slot (slot s.slots v)))) (sym q) ∙ (set_same s.slots v (emptied_slot (slot s.slots v)) old e ∙ ap emptied_slot e) in
-        fresh rows h (Notes v (Ok reply)) w old.row k f (let both : Some k ≡ Some (emptied old) = sym plain ∙ now in cc)
-        ((i w old (ap (slot s.slots) (sym q) ∙ e)).row ∙ sym (row_push w 0 h (Notes v (Ok reply))))
-    cases w k plain false f (Some old) e g =
-        stays rows h (Notes v (Ok reply)) w s.slots (slot (slice_set s.slots v (emptied_slot (slot s.slots v))) w) k i refl f (λ x. refl)
-        (set_other s.slots v w (emptied_slot (slot s.slots v)) (differ v w f)) plain
-step rows h s (Notes v (Err none)) at i given = λ w k is.
-    stays rows h (Notes v (Err none)) w s.slots (slot s.slots w) k i refl refl (λ x. refl) refl (ap (λ (l : List (Option a_watch)). slot l w) (sym (none_noted s.slots)) ∙ is)
-step rows h s (Unwatch v (Ok done)) at i given = λ w k is.
-    let plain : slot (slice_set s.slots v None) w ≡ Some k = ap (λ (l : List (Option a_watch)). slot (slice_set l v None) w) (sym (none_noted s.slots)) ∙ is in
-    cases w k plain (v == w) refl
-  where
-    cases : (w : ℕ) (k : a_watch) → slot (slice_set s.slots v None) w ≡ Some k → (t : Bool) → (v == w) ≡ t → IsKept rows (h ++ Unwatch v (Ok done) ∷ []) w k
-    cases w k plain true t =
-        absurd (unequal (slot (slice_set s.slots v None) w) None k (ap (slot (slice_set s.slots v None)) (sym (agree v w t)) ∙ set_none s.slots v) plain)
-    cases w k plain false t =
-        stays rows h (Unwatch v (Ok done)) w s.slots (slot (slice_set s.slots v None) w) k i refl refl (λ x. refl) (set_other s.slots v w None (differ v w t)) plain
-step rows h s (Unwatch v (Err none)) at i given = λ w k is.
-    stays rows h (Unwatch v (Err none)) w s.slots (slot s.slots w) k i refl refl (λ x. refl) refl (ap (λ (l : List (Option a_watch)). slot l w) (sym (none_noted s.slots)) ∙ is)
+same_some : (a b : a_watch) (o : Option a_watch) → o ≡ Some a → o ≡ Some b → a ≡ b
+same_some a b o h k = (let e : Some a ≡ Some b = sym h ∙ k in cc)
+
+-- `watch`
+
+watch_keeps : (rows : Rows) (h : List WatchEntry) (s : Watched) (row v : ℕ) → IsAfter rows h s → v ≤ length s.slots → (w : ℕ) (k : a_watch) → (t : Bool) → (v == w) ≡ t
+    → slot (with_slot s.slots v (Some (new_watch row))) w ≡ Some k → IsKept rows (h ++ Watch row (Ok v) ∷ []) s.rows w k
+watch_keeps rows h s row v i within w k true t is =
+    let e : v ≡ w = agree v w t in
+    let now : slot (with_slot s.slots v (Some (new_watch row))) w ≡ Some (new_watch row) =
+    ap (slot (with_slot s.slots v (Some (new_watch row)))) (sym e) ∙ with_same s.slots v (Some (new_watch row)) within in
+    fresh rows h s.rows i.changes (Watch row (Ok v)) w row k i.wrote (refl, refl) t (same_some k (new_watch row) (slot (with_slot s.slots v (Some (new_watch row))) w) is now)
+    (row_push w None h (Watch row (Ok v)) ∙ ap (λ (b : Bool). cond b (Some row) (watched_row w None h)) t)
+watch_keeps rows h s row v i within w k false t is =
+    stays rows h s (Watch row (Ok v)) w (slot (with_slot s.slots v (Some (new_watch row))) w) k i (refl, refl) t (λ (x : Option ℕ). ap (λ (b : Bool). cond b (Some row) x) t)
+    (with_other s.slots v w (Some (new_watch row)) within (differ v w t)) is
+
+watch_on : (rows : Rows) (h : List WatchEntry) (s : Watched) (row : ℕ) (reply : Result ℕ WatchRefusal) → IsAfter rows h s → GivesWatch s.slots reply
+    → IsAfter rows (h ++ Watch row reply ∷ []) (with_watches s (after_watch s.slots row reply))
+watch_on rows h s row (Ok v) i given = record {
+  changes = i.changes ++ [];
+  wrote = writes_push rows h s.rows i.changes (Watch row (Ok v)) s.rows [] i.wrote (refl, refl);
+  keeps = λ (w : ℕ) (k : a_watch) (is : slot (with_slot s.slots v (Some (new_watch row))) w ≡ Some k).
+      watch_keeps rows h s row v i (omega (arith, given.0, free_within s.slots)) w k (v == w) refl is;
+}
+watch_on rows h s row (Err refusal) i given = left_on rows h s (Watch row (Err refusal)) i (refl, refl) (λ w. refl) (λ w x. refl)
+
+-- `notes`
+
+notes_keep : (rows : Rows) (h : List WatchEntry) (s : Watched) (v : ℕ) (reply : List Note × ℕ) → IsAfter rows h s → (o : Option a_watch) → slot s.slots v ≡ o → GivesKept o (Ok reply)
+    → (w : ℕ) (k : a_watch) → (t : Bool) → (v == w) ≡ t → slot (slice_set s.slots v (emptied_slot (slot s.slots v))) w ≡ Some k → IsKept rows (h ++ Notes v (Ok reply) ∷ []) s.rows w k
+notes_keep rows h s v reply i None e g w k t f is = absurd g
+notes_keep rows h s v reply i (Some old) e g w k true f is =
+    let q : v ≡ w = agree v w f in
+    let now : slot (slice_set s.slots v (emptied_slot (slot s.slots v))) w ≡ Some (emptied old) =
+    ap (slot (slice_set s.slots v (emptied_slot (slot s.slots v)))) (sym q) ∙ (set_same s.slots v (emptied_slot (slot s.slots v)) old e ∙ ap emptied_slot e) in
+    fresh rows h s.rows i.changes (Notes v (Ok reply)) w old.row k i.wrote (refl, refl) f (same_some k (emptied old) (slot (slice_set s.slots v (emptied_slot (slot s.slots v))) w) is now)
+    (row_push w None h (Notes v (Ok reply)) ∙ (i.keeps w old (ap (slot s.slots) (sym q) ∙ e)).lives)
+notes_keep rows h s v reply i (Some old) e g w k false f is =
+    stays rows h s (Notes v (Ok reply)) w (slot (slice_set s.slots v (emptied_slot (slot s.slots v))) w) k i (refl, refl) f (λ (x : Option ℕ). refl)
+    (set_other s.slots v w (emptied_slot (slot s.slots v)) (differ v w f)) is
+
+notes_on : (rows : Rows) (h : List WatchEntry) (s : Watched) (v : ℕ) (reply : Result (List Note × ℕ) NoWatch) → IsAfter rows h s → GivesKept (slot s.slots v) reply
+    → IsAfter rows (h ++ Notes v reply ∷ []) (with_watches s (emptied_at s.slots v reply))
+notes_on rows h s v (Ok reply) i given = record {
+  changes = i.changes ++ [];
+  wrote = writes_push rows h s.rows i.changes (Notes v (Ok reply)) s.rows [] i.wrote (refl, refl);
+  keeps = λ (w : ℕ) (k : a_watch) (is : slot (slice_set s.slots v (emptied_slot (slot s.slots v))) w ≡ Some k).
+      notes_keep rows h s v reply i (slot s.slots v) refl given w k (v == w) refl is;
+}
+notes_on rows h s v (Err none) i given = left_on rows h s (Notes v (Err none)) i (refl, refl) (λ w. refl) (λ w x. refl)
+
+-- `unwatch`
+
+unwatch_keeps : (rows : Rows) (h : List WatchEntry) (s : Watched) (v : ℕ) (done : Unit {0}) → IsAfter rows h s → (w : ℕ) (k : a_watch) → (t : Bool) → (v == w) ≡ t
+    → slot (slice_set s.slots v None) w ≡ Some k → IsKept rows (h ++ Unwatch v (Ok done) ∷ []) s.rows w k
+unwatch_keeps rows h s v done i w k true t is =
+    absurd (unequal (slot (slice_set s.slots v None) w) None k (ap (slot (slice_set s.slots v None)) (sym (agree v w t)) ∙ set_none s.slots v) is)
+unwatch_keeps rows h s v done i w k false t is =
+    stays rows h s (Unwatch v (Ok done)) w (slot (slice_set s.slots v None) w) k i (refl, refl) refl (λ (x : Option ℕ). ap (λ (b : Bool). cond b None x) t)
+    (set_other s.slots v w None (differ v w t)) is
+
+unwatch_on : (rows : Rows) (h : List WatchEntry) (s : Watched) (v : ℕ) (reply : Result (Unit {0}) NoWatch) → IsAfter rows h s
+    → IsAfter rows (h ++ Unwatch v reply ∷ []) (with_watches s (after_unwatch s.slots v reply))
+unwatch_on rows h s v (Ok done) i = record {
+  changes = i.changes ++ [];
+  wrote = writes_push rows h s.rows i.changes (Unwatch v (Ok done)) s.rows [] i.wrote (refl, refl);
+  keeps = λ (w : ℕ) (k : a_watch) (is : slot (slice_set s.slots v None) w ≡ Some k). unwatch_keeps rows h s v done i w k (v == w) refl is;
+}
+unwatch_on rows h s v (Err none) i = left_on rows h s (Unwatch v (Err none)) i (refl, refl) (λ w. refl) (λ w x. refl)
+
+-- any entry
+
+moved : (rows : Rows) (h : List WatchEntry) (s now : Watched) → now ≡ s → IsAfter rows h s → IsAfter rows h now
+moved rows h s now same i = subst (λ (x : Watched). IsAfter rows h x) (sym same) i
+
+step : (rows : Rows) (h : List WatchEntry) (s : Watched) (e : WatchEntry) (after : Watched) → IsAfter rows h s → StepsWatched s e after → IsAfter rows (h ++ e ∷ []) after
+step rows h s (Call entry) after i given =
+    moved rows (h ++ Call entry ∷ []) (watched_call s entry) after given.1
+    (noted_on rows h s (Call entry) (watched_call s entry) (changes_of s.rows entry) i (refl, refl) refl (λ w. refl) (λ w x. refl))
+step rows h s (Watch row reply) after i given =
+    moved rows (h ++ Watch row reply ∷ []) (with_watches s (after_watch s.slots row reply)) after given.1 (watch_on rows h s row reply i given.0)
+step rows h s (Notes v reply) after i given =
+    moved rows (h ++ Notes v reply ∷ []) (with_watches s (emptied_at s.slots v reply)) after given.1 (notes_on rows h s v reply i given.0)
+step rows h s (Unwatch v reply) after i given =
+    moved rows (h ++ Unwatch v reply ∷ []) (with_watches s (after_unwatch s.slots v reply)) after given.1 (unwatch_on rows h s v reply i)
+step rows h s (Save reply) after i given =
+    moved rows (h ++ Save reply ∷ []) s after given.1 (left_on rows h s (Save reply) i (refl, refl) (λ w. refl) (λ w x. refl))
+step rows h s (Load text (Ok loaded)) after i given =
+    noted_on rows h s (Load text (Ok loaded)) after (changes_in_steps s.rows given.steps) i (given.steps, given.reads, given.ran, refl) given.noted (λ w. refl) (λ w x. refl)
+step rows h s (Load text (Err why)) after i given =
+    moved rows (h ++ Load text (Err why) ∷ []) s after given.1 (left_on rows h s (Load text (Err why)) i (refl, refl) (λ w. refl) (λ w x. refl))
 
 -- The reply of `notes`, over any history.
 
 ok_is : (x y : List Note × ℕ) → (let a : Result (List Note × ℕ) NoWatch = Ok x in a ≡ Ok y) → x ≡ y
 ok_is x y h = cc
 
-due : (rows : Rows) (h : List WatchEntry) (w : ℕ) (notes : List Note) (lost : ℕ) (o : Option a_watch) → ((k : a_watch) → o ≡ Some k → IsKept rows h w k) → GivesKept o (Ok (notes, lost)) → AreDue rows h w notes lost
-due rows h w notes lost None i g = absurd g
-due rows h w notes lost (Some k) i g =
+due : (rows : Rows) (h : List WatchEntry) (now : Rows) (w : ℕ) (notes : List Note) (lost : ℕ) (o : Option a_watch) → ((k : a_watch) → o ≡ Some k → IsKept rows h now w k)
+    → GivesKept o (Ok (notes, lost)) → AreDue rows h w notes lost
+due rows h now w notes lost None i g = absurd g
+due rows h now w notes lost (Some k) i g =
     let q = i k refl in
-    let cs : List Change = changes_in (rows_through rows (q.before ++ q.opening ∷ [])) q.since in
-    let t = told (new_watch k.row) cs (omega arith) (omega arith) in
+    let t = told (new_watch k.row) q.changes (omega arith) (omega arith) in
     let same : (let p : List Note × ℕ = (notes, lost) in p ≡ (k.notes, k.lost)) = ok_is (notes, lost) (k.notes, k.lost) g in
     let notes_are : notes ≡ k.notes = ap (λ (p : List Note × ℕ). p.0) same in
     let lost_is : lost ≡ k.lost = ap (λ (p : List Note × ℕ). p.1) same in record {
+      row = k.row;
+      lives = q.lives;
       before = q.before;
       opening = q.opening;
       since = q.since;
       whole = q.whole;
       anew = q.anew;
       last = q.last;
-      first = notes_are ∙ (ap (λ (x : a_watch). x.notes) q.kept ∙ (t.notes ∙ ap (λ (r : ℕ). take notes_limit (notes_for r cs)) q.row));
+      then_rows = q.mid;
+      earlier = q.earlier;
+      to_then = q.to_mid;
+      now_rows = now;
+      changes = q.changes;
+      to_now = q.to_now;
+      first = notes_are ∙ (ap (λ (x : a_watch). x.notes) q.kept ∙ t.notes);
       others = lost_is ∙ (ap (λ (x : a_watch). x.lost) q.kept ∙ (t.lost
-          ∙ (ap counted {x = 0 + (0 + length (notes_for k.row cs) - notes_limit)} {y = length (notes_for k.row cs) - notes_limit} (omega arith)
-          ∙ ap (λ (r : ℕ). counted (length (notes_for r cs) - notes_limit)) q.row)));
+          ∙ ap counted {x = 0 + (0 + length (notes_for k.row q.changes) - notes_limit)} {y = length (notes_for k.row q.changes) - notes_limit} (omega arith)));
     }
 
-onward : (rows : Rows) (done more : List WatchEntry) (s : Watched) (w : ℕ) (notes : List Note) (lost : ℕ) → s.rows ≡ rows_through rows done → AreKept rows done s.slots
-    → AreWatchReplies s (more ++ Notes w (Ok (notes, lost)) ∷ []) → AreDue rows (done ++ more) w notes lost
-unfolding AreKept
-onward rows done [] s w notes lost at i given =
-    subst (λ (l : List WatchEntry). AreDue rows l w notes lost) (sym (append-nil done)) (due rows done w notes lost (slot s.slots w) (λ k e. i w k e) given.0)
-onward rows done (e ∷ more) s w notes lost at i given =
-    subst (λ (l : List WatchEntry). AreDue rows l w notes lost) (append_assoc done (e ∷ []) more)
-    (onward rows (done ++ e ∷ []) more (watched_after s e) w notes lost (ap (λ (r : Rows). rows_by r e) at ∙ sym (rows_push rows done (e ∷ []))) (step rows done s e at i given.0) given.1)
+onward : (rows : Rows) (done : List WatchEntry) (more : List (ℕ × WatchEntry)) (s last : Watched) (caller w : ℕ) (notes : List Note) (lost : ℕ) → IsAfter rows done s
+    → LeadsDatabase s (more ++ (caller, Notes w (Ok (notes, lost))) ∷ []) last → AreDue rows (done ++ calls_made more) w notes lost
+onward rows done [] s last caller w notes lost i leads =
+    subst (λ (l : List WatchEntry). AreDue rows l w notes lost) (sym (append-nil done)) (due rows done s.rows w notes lost (slot s.slots w) (i.keeps w) leads.1.step.0)
+onward rows done (e ∷ more) s last caller w notes lost i leads =
+    subst (λ (l : List WatchEntry). AreDue rows l w notes lost) (append_assoc done (e.1 ∷ []) (calls_made more))
+    (onward rows (done ++ e.1 ∷ []) more leads.0 last caller w notes lost (step rows done s e.1 leads.0 i leads.1.step) leads.2)
 
-nothing_kept : (rows : Rows) → AreKept rows [] []
-unfolding AreKept
-nothing_kept rows = λ w k e. absurd (cc)
+nothing_kept : (rows : Rows) → IsAfter rows [] (unwatched rows)
+nothing_kept rows = record { changes = []; wrote = (refl, refl); keeps = λ (w : ℕ) (k : a_watch) (is : slot [] w ≡ Some k). (let e : None ≡ Some k = is in absurd (cc)) }
 
-pub notes_are_due : (rows : Rows) (h : List WatchEntry) (w : ℕ) (notes : List Note) (lost : ℕ) → AreWatchReplies (unwatched rows) (h ++ Notes w (Ok (notes, lost)) ∷ []) → AreDue rows h w notes lost
-notes_are_due rows h w notes lost given = onward rows [] h (unwatched rows) w notes lost refl (nothing_kept rows) given
+pub notes_are_due : (rows : Rows) (h : List (ℕ × WatchEntry)) (caller w : ℕ) (notes : List Note) (lost : ℕ) (last : Watched)
+    → LeadsDatabase (unwatched rows) (h ++ (caller, Notes w (Ok (notes, lost))) ∷ []) last → AreDue rows (calls_made h) w notes lost
+notes_are_due rows h caller w notes lost last leads = onward rows [] h (unwatched rows) last caller w notes lost (nothing_kept rows) leads

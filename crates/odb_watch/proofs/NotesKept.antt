@@ -3,12 +3,12 @@ use Rattle.std.proofs.Common.{◌≡◌, ℕ, zero, suc, ◌+◌, ◌-◌, ◌<�
 use Rattle.std.specs.Option.{option_map}
 use Rattle.odb_tree.specs.declared.refusals.OdbRefusal.{OdbRefusal}
 use Rattle.odb_tree.specs.Rows.{Rows}
+use Rattle.odb_tree.proofs.Noted.{none_noted}
 use Rattle.odb_tree.specs.Calls.{is_row_below}
-use Rattle.odb_watch.specs.declared.notes.Note.{Note}
-use Rattle.odb_watch.specs.declared.notes.Watch.{Watch}
-use Rattle.odb_watch.specs.Changes.{Change, changes_from, changes_for}
-use Rattle.odb_watch.specs.Slots.{all_noted}
-use Rattle.odb_watch.specs.Keeping.{with_note, with_notes, note_of, is_of, with_change, noted_all, notes_limit, counted}
+use Rattle.odb_tree.specs.declared.notes.Note.{Note}
+use Rattle.odb_tree.specs.declared.notes.Watch.{Watch}
+use Rattle.odb_tree.specs.Noting.{Change, changes_from, changes_for, all_noted, with_note, note_of, is_of, with_change, noted_all, notes_limit, counted}
+use Rattle.odb_watch.specs.Keeping.{with_notes}
 
 pub note_keeps_row : (k : Watch) (note : Note) → (with_note k note).row ≡ k.row
 note_keeps_row k note = cases (ltb (length k.notes) notes_limit)
@@ -38,11 +38,6 @@ notes_more k row first (suc count) =
 
 pub notes_next : (k : Watch) (row first count : ℕ) → with_notes k row first (count + 1) ≡ with_note (with_notes k row first count) (record { row = row; index = first + count })
 notes_next k row first count = ap (with_notes k row first) {x = count + 1} {y = suc count} (omega arith) ∙ notes_more k row first count
-
-pub none_noted : (xs : List (Option Watch)) → all_noted [] xs ≡ xs
-none_noted [] = refl
-none_noted (None ∷ xs) = ap (λ (l : List (Option Watch)). None ∷ l) (none_noted xs)
-none_noted (Some k ∷ xs) = ap (λ (l : List (Option Watch)). Some k ∷ l) (none_noted xs)
 
 -- Some of a list are changed, from the front on.
 

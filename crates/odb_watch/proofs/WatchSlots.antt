@@ -1,6 +1,6 @@
 -- The watches by their numbers.
 use Rattle.std.proofs.Common.{◌≡◌, ℕ, zero, suc, ◌+◌, ◌-◌, ◌<◌, ◌≤◌, Bool, true, false, cond, List, [], ◌∷◌, ◌++◌, length, map, take, drop, get_or, slice_set, slice_index_or, Option, Some, None, refl, sym, ap, ◌∙◌, subst, arith}
-use Rattle.odb_watch.specs.declared.notes.Watch.{Watch}
+use Rattle.odb_tree.specs.declared.notes.Watch.{Watch}
 use Rattle.odb_watch.specs.Slots.{slot, with_slot, free_watch}
 
 pub with_slot-inside : (xs : List (Option Watch)) (w : ℕ) (k : Option Watch) → w < length xs → with_slot xs w k ≡ slice_set xs w k

@@ -1,4 +1,4 @@
-pub mod Changes
 pub mod Keeping
 pub mod Slots
+pub mod Steps
 pub mod History

@@ -1,23 +1,14 @@
 -- The watches of a database by their numbers, and the calls on them.
-use Rattle.std.specs.Prelude.{◌≡◌, ℕ, zero, suc, ◌+◌, nat_lt, if◌then◌else◌, Bool, true, false, List, [], ◌∷◌, ◌++◌, length, map, slice_set, slice_index_or, Option, Some, None, Result, Ok, Err, IsErr}
+use Rattle.std.specs.Prelude.{◌≡◌, ℕ, zero, suc, ◌+◌, nat_lt, if◌then◌else◌, Bool, true, false, List, [], ◌∷◌, ◌++◌, ◌≤◌, length, map, slice_set, slice_index_or, Option, Some, None, Result, Ok, Err, IsErr}
 use Rattle.std.specs.Option.{option_map, is_some}
+use Rattle.std.specs.List.{AllByRecursion}
+use Rattle.odb_tree.specs.Noting.{notes_limit}
 use Rattle.odb_tree.specs.Rows.{Rows}
-use Rattle.odb_watch.specs.declared.notes.Note.{Note}
-use Rattle.odb_watch.specs.declared.notes.Watch.{Watch}
+use Rattle.odb_tree.specs.declared.notes.Note.{Note}
+use Rattle.odb_tree.specs.declared.notes.Watch.{Watch}
 use Rattle.odb_watch.specs.declared.notes.NoWatch.{NoWatch}
 use Rattle.odb_watch.specs.declared.notes.WatchRefusal.{WatchRefusal}
 use Rattle.odb_watch.specs.declared.notes.WatchRefusal.TheVariants.{NoWatchSlot, NoMemory}
-use Rattle.odb_watch.specs.Changes.{Change}
-use Rattle.odb_watch.specs.Keeping.{noted_all}
-
--- a watched database: its rows, and for each number the watch that has it, if any
-pub record Watched : Type 0 where
-  pub rows : Rows
-  pub slots : List (Option Watch)
-
--- each watch notes these changes
-abbrev pub all_noted : List Change → List (Option Watch) → List (Option Watch)
-all_noted cs slots = map (option_map (λ (k : Watch). noted_all k cs)) slots
 
 -- the watch of this number
 abbrev pub slot : List (Option Watch) → (w : ℕ) → Option Watch
@@ -41,6 +32,16 @@ watches_limit = 64
 
 abbrev pub new_watch : (row : ℕ) → Watch
 new_watch row = record { row = row; notes = []; lost = 0 }
+
+-- a watch keeps no more notes than it may
+abbrev pub HasFewNotes : Option Watch → Type 0
+HasFewNotes None = Unit {0}
+HasFewNotes (Some k) = length k.notes ≤ notes_limit
+
+-- no more watches than may live, each with no more notes than it may keep
+pub record AreFew (slots : List (Option Watch)) : Type 0 where
+  pub few : length slots ≤ watches_limit
+  pub short : AllByRecursion HasFewNotes slots
 
 -- `watch` answers the least free number, or that all are taken; or memory was wanting
 abbrev pub GivesWatch : List (Option Watch) → Result ℕ WatchRefusal → Type 0

@@ -1,7 +1,7 @@
 ghost use Rattle.std.specs.Prelude.{◌≡◌, IfOk};
 
-use crate::notes::{Note, Notes, Watch};
 use daq_types::NoMemory;
+use odb_tree::{Note, Notes, Watch};
 use std::alloc::Global;
 
 /// The same notes once more.

@@ -1,5 +1,7 @@
-use crate::notes::{NoWatch, Notes, WatchRefusal};
-use odb_tree::DatabaseEntry;
+use crate::notes::{NoWatch, WatchRefusal};
+use daq_types::{Bytes, NoMemory};
+use odb_ascii::{LoadRefusal, Loaded};
+use odb_tree::{DatabaseEntry, Notes};
 
 /// A call on a watched database, with its arguments and its reply.
 #[derive(Drop)]
@@ -20,5 +22,13 @@ pub enum WatchEntry {
     Unwatch {
         watch: u32,
         reply: Result<(), NoWatch>,
+    },
+    /// The reply has the text of the database.
+    Save {
+        reply: Result<Bytes, NoMemory>,
+    },
+    Load {
+        text: Bytes,
+        reply: Result<Loaded, LoadRefusal>,
     },
 }

@@ -1,12 +1,10 @@
 ghost use Rattle.std.specs.Prelude.{◌≡◌, ◌+◌, ◌≤◌, ◌^◌};
 ghost use Rattle.std.specs.Option.{option_map};
-ghost use Rattle.odb_watch.specs.declared.notes.Watch.{Watch as a_watch};
-ghost use Rattle.odb_watch.specs.Changes.{changes_from, changes_for};
-ghost use Rattle.odb_watch.specs.Keeping.{with_note, with_notes, noted_all};
-ghost use Rattle.odb_watch.specs.Slots.{all_noted};
+ghost use Rattle.odb_tree.specs.declared.notes.Watch.{Watch as a_watch};
+ghost use Rattle.odb_tree.specs.Noting.{changes_from, changes_for, with_note, noted_all, all_noted};
+ghost use Rattle.odb_watch.specs.Keeping.{with_notes};
 
-use crate::notes::{Note, Watch};
-use odb_tree::{Database, OdbRefusal};
+use odb_tree::{Database, Note, OdbRefusal, Watch};
 
 /// How many notes a watch keeps.
 const NOTES: usize = 256;

@@ -1,16 +1,44 @@
-//! The law of notes: the function does nothing, and its contract is the law.
+//! Laws of the histories of a watched database: each function does nothing, and its contract is the law.
 
-ghost use Rattle.std.specs.Prelude.{ℕ, List, [], ◌∷◌, ◌++◌, Ok};
+ghost use Rattle.std.specs.Prelude.{◌≡◌, ◌≤◌, ℕ, List, [], ◌∷◌, ◌++◌, length, Ok};
+ghost use Rattle.odb_tree.specs.declared.notes.Note.{Note as a_note};
 ghost use Rattle.odb_tree.specs.Rows.{Rows};
-ghost use Rattle.odb_watch.specs.declared.notes.Note.{Note as a_note};
+ghost use Rattle.odb_tree.specs.Noting.{Watched};
+ghost use Rattle.odb_tree.specs.Databases.{IsDatabase};
+ghost use Rattle.odb_ascii.specs.Dumps.{dump_text, dump_limit};
 ghost use Rattle.odb_watch.specs.declared.entry.WatchEntry.{WatchEntry};
-ghost use Rattle.odb_watch.specs.declared.entry.WatchEntry.TheVariants.{Notes as notes_of};
-ghost use Rattle.odb_watch.specs.History.{AreWatchReplies, AreDue, unwatched};
+ghost use Rattle.odb_watch.specs.declared.entry.WatchEntry.TheVariants.{Notes as notes_of, Save as save_of};
+ghost use Rattle.odb_watch.specs.Slots.{AreFew};
+ghost use Rattle.odb_watch.specs.Steps.{LeadsDatabase, unwatched};
+ghost use Rattle.odb_watch.specs.History.{AreDue, calls_made};
 
-/// In every history of a watched database, from no watch on, what `notes` answers is what the calls before it say: the
-/// first 256 changes of the row and of what lay below it since the watch began or was last read, and how many others.
+/// In every legal history of a watched database, from any rows and no watch on, of whatever callers and calls, with dumps
+/// and texts that are loaded: what `notes` answers is what the calls before it say. These are the first 256 changes of
+/// the row and of what lay below it since the watch began or was last read, and how many others.
 pub fn notes_are_due()
-    ensures { (rows : Rows) (h : List WatchEntry) (w : ℕ) (notes : List a_note) (lost : ℕ)
-        → AreWatchReplies (unwatched rows) (h ++ notes_of w (Ok (notes, lost)) ∷ [])
-        → AreDue rows h w notes lost }
+    ensures { (rows : Rows) (h : List (ℕ × WatchEntry)) (caller : ℕ) (w : ℕ) (notes : List a_note)
+        (lost : ℕ) (last : Watched)
+        → LeadsDatabase (unwatched rows) (h ++ (caller, notes_of w (Ok (notes, lost))) ∷ []) last
+        → AreDue rows (calls_made h) w notes lost }
+{}
+
+/// In every state that a legal history leads to, from any rows and no watch on, at most 64 watches live, and each keeps at
+/// most 256 notes.
+pub fn watches_are_few()
+    ensures { (rows : Rows) (h : List (ℕ × WatchEntry)) (last : Watched)
+        → LeadsDatabase (unwatched rows) h last → AreFew last.slots }
+{}
+
+/// From a database on, every legal history of a watched database leads to a database, texts that are loaded not excepted;
+/// a dump that `save` answers in it is that of the rows at its point, and has at most 268,435,456 bytes.
+pub fn watched_databases_stay()
+    ensures stays { (first : Watched) (h : List (ℕ × WatchEntry)) (last : Watched)
+        → IsDatabase first.rows → LeadsDatabase first h last → IsDatabase last.rows }
+    ensures saved { (first : Watched) (h : List (ℕ × WatchEntry)) (caller : ℕ) (text : List ℕ)
+        (last : Watched) → LeadsDatabase first (h ++ (caller, save_of (Ok text)) ∷ []) last
+        → text ≡ dump_text last.rows }
+    ensures small { (first : Watched) (h : List (ℕ × WatchEntry)) (caller : ℕ) (text : List ℕ)
+        (last : Watched) → IsDatabase first.rows
+        → LeadsDatabase first (h ++ (caller, save_of (Ok text)) ∷ []) last
+        → length text ≤ dump_limit }
 {}

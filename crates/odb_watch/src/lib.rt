@@ -10,5 +10,5 @@ mod slots;
 mod watched;
 
 pub use entry::WatchEntry;
-pub use notes::{NoWatch, Note, Notes, Watch, WatchRefusal};
+pub use notes::{NoWatch, WatchRefusal};
 pub use watched::Watches;

@@ -1,7 +1,8 @@
-ghost use Rattle.std.specs.Prelude.{◌≡◌, ◌≤◌, length};
+ghost use Rattle.std.specs.Prelude.{◌≡◌, ◌≤◌, length, OnErr};
 ghost use Rattle.odb_watch.specs.Slots.{free_watch, GivesUnwatch, GivesWatch, GivesNotes, GivesTaken, after_watch, after_notes, after_unwatch, emptied_slot};
 
-use crate::notes::{NoWatch, Note, Notes, Watch, WatchRefusal};
+use crate::notes::{NoWatch, WatchRefusal};
+use odb_tree::{Note, Notes, Watch};
 use std::alloc::Global;
 use std::mem::swap;
 
@@ -47,6 +48,7 @@ pub fn begin(alloc: Global, slots: &mut Vec<Option<Watch>>, row: u32) -> Result<
 /// Moves the notes of the watch in a slot out, and answers how many were lost.
 fn take_from(slot: &mut Option<Watch>, into: &mut Notes) -> Result<u64, NoWatch>
     ensures reply { GivesTaken slot.old into.old into.new result }
+    ensures kept { OnErr result (into.new ≡ into.old) }
     ensures slot { slot.new ≡ emptied_slot slot.old }
 {
     match slot {
@@ -68,6 +70,7 @@ pub fn take_notes(
     into: &mut Notes,
 ) -> Result<u64, NoWatch>
     ensures reply { GivesNotes slots.old.items watch into.old into.new result }
+    ensures kept { OnErr result (into.new ≡ into.old) }
     ensures slots { slots.new.items ≡ after_notes slots.old.items watch result }
 {
     let place = watch as usize;

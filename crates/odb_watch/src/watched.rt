@@ -1,20 +1,21 @@
-ghost use Rattle.std.specs.Prelude.{◌≡◌, ◌≢◌, [], length, map, Err, IfOk, OnOk};
+ghost use Rattle.std.specs.Prelude.{◌≡◌, ◌≢◌, [], length, map, Err, IfOk, OnErr, OnOk};
 ghost use Rattle.daq_types.specs.declared.types.Tid.{Tid};
 ghost use Rattle.odb_value.specs.Items.{tid_of};
 ghost use Rattle.odb_tree.specs.declared.refusals.OdbRefusal.TheVariants.{NoMemory as no_memory};
 ghost use Rattle.odb_tree.specs.declared.entry.DatabaseEntry.TheVariants.{Create, Set, SetAll, Get, Find, ListDir, Delete, Resize, PathOf};
 ghost use Rattle.odb_tree.specs.Databases.{IsDatabase};
 ghost use Rattle.odb_tree.specs.Calls.{IsReply, rows_after, is_row_below};
-ghost use Rattle.odb_watch.specs.Changes.{changes_of};
-ghost use Rattle.odb_watch.specs.Slots.{all_noted, GivesWatch, GivesNotes, after_watch, after_notes, after_unwatch, GivesUnwatch};
+ghost use Rattle.odb_tree.specs.Noting.{changes_of, all_noted};
+ghost use Rattle.odb_watch.specs.declared.entry.WatchEntry.TheVariants.{Watch as begin_of, Notes as notes_of, Unwatch as end_of};
+ghost use Rattle.odb_watch.specs.Steps.{StepsWatched, moved_out};
 
 use crate::copying::copy_slots;
 use crate::keeping::note_reply;
-use crate::notes::{NoWatch, Notes, Watch, WatchRefusal};
+use crate::notes::{NoWatch, WatchRefusal};
 use crate::slots::{begin, end, take_notes};
 use daq_types::NoMemory;
 use odb_path::Path;
-use odb_tree::{Children, Database, NewKey, OdbRefusal};
+use odb_tree::{Children, Database, NewKey, Notes, OdbRefusal, Watch};
 use odb_value::{Item, Value};
 use std::alloc::Global;
 use std::marker::Model;
@@ -28,7 +29,7 @@ pub struct Watches<D: Database> {
 }
 
 impl<D: Database> Model for Watches<D> {
-    ghost use Rattle.odb_watch.specs.Slots.{Watched};
+    ghost use Rattle.odb_tree.specs.Noting.{Watched};
 
     ghost Value = { Watched };
 
@@ -48,29 +49,27 @@ impl<D: Database> Watches<D> {
     }
 
     /// Begins to watch a row, 0 for the root, and what is below it. Answers the least number that no living watch has.
+    #[tactic(auto, using(crate::proofs::StepLemmas::watch_step))]
     pub fn watch(&mut self, alloc: Global, row: u32) -> Result<u32, WatchRefusal>
-        ensures reply { GivesWatch self.old.slots result }
-        ensures slots { self.new.slots ≡ after_watch self.old.slots row result }
-        ensures rows { self.new.rows ≡ self.old.rows }
+        ensures { StepsWatched self.old (begin_of row result) self.new }
     {
         begin(alloc, &mut self.slots, row)
     }
 
     /// Moves out all notes that a watch has kept, in the place of those that `into` has, and answers how many were lost
     /// since the last call. Takes no memory.
+    #[tactic(auto, using(crate::proofs::StepLemmas::notes_step))]
     pub fn notes(&mut self, watch: u32, into: &mut Notes) -> Result<u64, NoWatch>
-        ensures reply { GivesNotes self.old.slots watch into.old into.new result }
-        ensures slots { self.new.slots ≡ after_notes self.old.slots watch result }
-        ensures rows { self.new.rows ≡ self.old.rows }
+        ensures step { StepsWatched self.old (notes_of watch (moved_out into.new result)) self.new }
+        ensures kept { OnErr result (into.new ≡ into.old) }
     {
         take_notes(&mut self.slots, watch, into)
     }
 
     /// Ends a watch. Takes no memory.
+    #[tactic(auto, using(crate::proofs::StepLemmas::unwatch_step))]
     pub fn unwatch(&mut self, watch: u32) -> Result<(), NoWatch>
-        ensures reply { GivesUnwatch self.old.slots watch result }
-        ensures slots { self.new.slots ≡ after_unwatch self.old.slots watch result }
-        ensures rows { self.new.rows ≡ self.old.rows }
+        ensures { StepsWatched self.old (end_of watch result) self.new }
     {
         end(&mut self.slots, watch)
     }
@@ -85,6 +84,8 @@ impl<D: Database> Watches<D> {
 
 impl<D: Database> Database for Watches<D> {
     ghost rows = { λ w. w.rows };
+
+    ghost watches = { λ w. w.slots };
 
     fn create(&mut self, alloc: Global, path: &Path, kind: NewKey) -> Result<u32, OdbRefusal>
         ensures reply { IsReply self.old.rows (Create path.now kind result) }

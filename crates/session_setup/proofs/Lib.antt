@@ -1,3 +1,4 @@
 pub mod Taken
 pub mod Sounds
 pub mod Sizes
+pub mod ReadOnce

@@ -4,7 +4,7 @@ ghost use Rattle.session_setup.specs.Refusals.{IsNameRead, name_refusal, ok_unle
 ghost use Rattle.session_setup.specs.SetupLines.{buffers_with, is_taken_name, buffer_refusal, with_buffer, equip_refusal, with_front, IsPatternRead, channel_refusal, with_channel, number_of_buffer, or_default, default_front, default_channel, opened_with_defaults};
 
 use crate::checks;
-use crate::declared::{BufferDeclared, FrontDeclared};
+use crate::declared::{BufferDeclared, DeclaredLists, FrontDeclared};
 use crate::refusals::{SetupRefusal, first_refusal, refused_if};
 use daq_types::{BoundedList, Name, NameRefusal, NoMemory};
 use mid_logger::{ChannelSpec, Pattern};
@@ -122,6 +122,26 @@ impl Declarations {
         ensures sound { AreSound self.now }
     {
         self.channels.as_slice()
+    }
+
+    /// The three lists, for themselves, each in its room.
+    pub fn into_lists(self) -> DeclaredLists
+        ensures buffers { result.buffers ≡ self.buffers }
+        ensures fronts { result.fronts ≡ self.fronts }
+        ensures channels { result.channels ≡ self.channels }
+        ensures sound { AreSound self }
+    {
+        let Declarations {
+            opened: _,
+            buffers,
+            fronts,
+            channels,
+        } = self;
+        DeclaredLists {
+            buffers,
+            fronts,
+            channels,
+        }
     }
 
     /// Whether the session was opened.

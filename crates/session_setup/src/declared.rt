@@ -1,4 +1,5 @@
-use daq_types::Name;
+use daq_types::{BoundedList, Name};
+use mid_logger::ChannelSpec;
 
 /// A buffer of a session.
 #[derive(Clone, Copy, Debug)]
@@ -22,4 +23,15 @@ pub struct FrontDeclared {
     pub buffer: u32,
     /// The most events of a run that it can send.
     pub limit: u32,
+}
+
+/// The lists of a session's declarations, each in its order and in room for as many as there may be.
+#[derive(Debug, Drop)]
+pub struct DeclaredLists {
+    /// The buffers. A buffer's number is its place.
+    pub buffers: BoundedList<BufferDeclared, 8>,
+    /// The front-ends.
+    pub fronts: BoundedList<FrontDeclared, 32>,
+    /// The channels of the logger.
+    pub channels: BoundedList<ChannelSpec, 16>,
 }

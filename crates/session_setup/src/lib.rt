@@ -4,10 +4,11 @@
 mod checks;
 mod declarations;
 mod declared;
+pub mod laws;
 mod refusals;
 #[cfg(test)]
 mod tests;
 
 pub use declarations::Declarations;
-pub use declared::{BufferDeclared, FrontDeclared};
+pub use declared::{BufferDeclared, DeclaredLists, FrontDeclared};
 pub use refusals::SetupRefusal;

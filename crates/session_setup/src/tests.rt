@@ -176,4 +176,9 @@ fn a_session_has_a_front_end_and_a_channel(rt: HostRuntime) {
         session.fronts().len() == 1 && session.channels().len() == 1,
         "one of each"
     );
+    let lists = session.into_lists();
+    assert!(rt;
+        lists.buffers.len() == 1 && lists.fronts.len() == 1 && lists.channels.len() == 1,
+        "the lists for themselves"
+    );
 }

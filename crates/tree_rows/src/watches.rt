@@ -2,9 +2,9 @@
 use daq_types::Tid;
 use odb_arena::ArenaTree;
 use odb_path::Path;
-use odb_tree::{Database, NewKey, PlainTree};
+use odb_tree::{Database, NewKey, Note, Notes, PlainTree};
 use odb_value::Item;
-use odb_watch::{NoWatch, Note, Notes, WatchRefusal, Watches};
+use odb_watch::{NoWatch, WatchRefusal, Watches};
 use std::alloc::Global;
 use std::process::Abort;
 use std::test::Fail;

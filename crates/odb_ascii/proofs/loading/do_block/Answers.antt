@@ -28,9 +28,10 @@ returns-in-Ok-do_act-clause-on g c =
     let at = c.args.at.now in
     let new = c.pass.new.self in
     done_step at.rest.now new.rest.now at.line new.line at.dir new.dir at.loaded new.loaded (g.D.Database.rows c.args.database.now) (g.D.Database.rows c.do_act.new.database)
+    (g.D.Database.watches c.args.database.now) (g.D.Database.watches c.do_act.new.database)
     (c.args.line.now ∷ lines c.args.behind.now) c.in-Ok.block.act c.in-Ok.block.lines c.requires.first
     (block_rest at.dir (c.args.line.now ∷ lines c.args.behind.now) c.in-Ok.block.act c.in-Ok.block.rest.now new.rest.now c.in-Ok.block.lines (sym c.pass.ensures.rest) c.in-Ok.ensures.block)
-    c.in-Ok-do_act.ensures.fine c.in-Ok-do_act.ensures.done c.pass.ensures.line c.pass.ensures.dir c.pass.ensures.loaded
+    c.in-Ok-do_act.ensures.fine c.in-Ok-do_act.ensures.done c.in-Ok-do_act.ensures.noted c.pass.ensures.line c.pass.ensures.dir c.pass.ensures.loaded
 
 pub returns-in-Ok-do_act-clause-room : goal.returns-in-Ok-do_act-clause-room
 returns-in-Ok-do_act-clause-room g c =

@@ -1,20 +1,20 @@
 use Rattle.std.proofs.Common.{◌≡◌, ℕ, List, [], length, arith, rules}
 use Rattle.std.proofs.lemmas.Result.{err_from_is_err_and}
 use Rattle.std.specs.Str.Lines.{lines}
-use Rattle.odb_ascii.specs.Loads.{place_at}
+use Rattle.odb_ascii.specs.Loads.{watched_as, place_at}
 use Rattle.odb_ascii.proofs.Loads.{nothing_loaded, loaded_on, loaded_whole, fault_found}
 use Rattle.odb_ascii.proofs.loading.load_into.Goals as goal
 
 pub loop-line-init : goal.loop-line-init
 loop-line-init g c =
-    (nothing_loaded (g.D.Database.rows c.args.database.now) (lines c.args.text.now) c.root.result c.root.ensures, record { lines_fit = omega arith; counts_fit = omega arith })
+    (nothing_loaded (watched_as (g.D.Database.rows c.args.database.now) (g.D.Database.watches c.args.database.now)) (lines c.args.text.now) c.root.result c.root.ensures, record { lines_fit = omega arith; counts_fit = omega arith })
 
 pub loop-line-preserved : goal.loop-line-preserved
 loop-line-preserved g c =
     let old = c.loop-line.at in
     let new = c.read_on.new.at in (
-      loaded_on (g.D.Database.rows c.args.database.now) (lines c.args.text.now) (place_at old.rest.now old.line old.dir old.loaded) (place_at new.rest.now new.line new.dir new.loaded)
-          (g.D.Database.rows c.loop-line.database) (g.D.Database.rows c.read_on.new.database) c.loop-line.invariant.0 c.in_ok-read_on.ensures.on,
+      loaded_on (watched_as (g.D.Database.rows c.args.database.now) (g.D.Database.watches c.args.database.now)) (lines c.args.text.now) (place_at old.rest.now old.line old.dir old.loaded) (place_at new.rest.now new.line new.dir new.loaded)
+          (watched_as (g.D.Database.rows c.loop-line.database) (g.D.Database.watches c.loop-line.database)) (watched_as (g.D.Database.rows c.read_on.new.database) (g.D.Database.watches c.read_on.new.database)) c.loop-line.invariant.0 c.in_ok-read_on.ensures.on,
       c.in_ok-read_on.ensures.room,
     )
 
@@ -22,11 +22,11 @@ pub returns-in_err-read_on-clause-fault : goal.returns-in_err-read_on-clause-fau
 returns-in_err-read_on-clause-fault g c =
     let p = err_from_is_err_and c.from_residual.result c.from_residual.ensures.1 in
     let old = c.loop-line.at in
-    rw (p.1, p.2) (fault_found (g.D.Database.rows c.args.database.now) (lines c.args.text.now) (place_at old.rest.now old.line old.dir old.loaded) (g.D.Database.rows c.loop-line.database)
+    rw (p.1, p.2) (fault_found (watched_as (g.D.Database.rows c.args.database.now) (g.D.Database.watches c.args.database.now)) (lines c.args.text.now) (place_at old.rest.now old.line old.dir old.loaded) (watched_as (g.D.Database.rows c.loop-line.database) (g.D.Database.watches c.loop-line.database))
     c.in_err-read_on.field-0.0 c.loop-line.invariant.0 c.in_err-read_on.ensures.fault)
 
 pub returns-clause-loaded : goal.returns-clause-loaded
 returns-clause-loaded g c =
     let old = c.loop-line.at in
     let e : lines old.rest.now ≡ [] = search rules in
-    loaded_whole (g.D.Database.rows c.args.database.now) (lines c.args.text.now) (place_at old.rest.now old.line old.dir old.loaded) (g.D.Database.rows c.loop-line.database) c.loop-line.invariant.0 e
+    loaded_whole (watched_as (g.D.Database.rows c.args.database.now) (g.D.Database.watches c.args.database.now)) (lines c.args.text.now) (place_at old.rest.now old.line old.dir old.loaded) (watched_as (g.D.Database.rows c.loop-line.database) (g.D.Database.watches c.loop-line.database)) c.loop-line.invariant.0 e

@@ -14,7 +14,7 @@ returns-then-is_passed-clause-on g c =
       next = refl;
       same_dir = refl;
       same_count = refl;
-      same_rows = refl;
+      same_state = refl;
     })
 
 pub returns-then-is_passed-clause-room : goal.returns-then-is_passed-clause-room

@@ -1,5 +1,5 @@
-use Rattle.odb_port.proofs.CallLaws.{adds_same, adds_own_calls, adds_seen, adds_legal, adds_room}
+use Rattle.odb_port.proofs.CallLaws.{adds_are, calls_same, calls_watched, calls_own, calls_room}
 use Rattle.odb_port.proofs.laws.calls_add_up.Goals as goal
 
 pub returns : goal.returns
-returns c = record { same = adds_same; own = adds_own_calls; begins = adds_seen; legal = adds_legal; room = adds_room }
+returns c = record { are = adds_are; same = calls_same; watched = calls_watched; own = calls_own; room = calls_room }

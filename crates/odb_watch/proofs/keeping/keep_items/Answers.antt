@@ -1,7 +1,7 @@
 use Rattle.std.proofs.Common.{◌≡◌, ◌+◌, sym, ap, ◌∙◌}
-use Rattle.odb_watch.specs.declared.notes.Note.{Note}
-use Rattle.odb_watch.specs.declared.notes.Watch.{Watch}
-use Rattle.odb_watch.specs.Keeping.{with_note}
+use Rattle.odb_tree.specs.declared.notes.Note.{Note}
+use Rattle.odb_tree.specs.declared.notes.Watch.{Watch}
+use Rattle.odb_tree.specs.Noting.{with_note}
 use Rattle.odb_watch.proofs.NotesKept.{notes_next}
 use Rattle.odb_watch.proofs.keeping.keep_items.Goals as goal
 

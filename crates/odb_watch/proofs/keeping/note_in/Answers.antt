@@ -1,9 +1,8 @@
 use Rattle.std.proofs.Common.{◌≡◌, Option, Some, sym, ap, ◌∙◌}
 use Rattle.std.specs.Option.{option_map}
 use Rattle.odb_tree.specs.Rows.{Rows}
-use Rattle.odb_watch.specs.declared.notes.Watch.{Watch}
-use Rattle.odb_watch.specs.Changes.{changes_from}
-use Rattle.odb_watch.specs.Keeping.{noted_all}
+use Rattle.odb_tree.specs.declared.notes.Watch.{Watch}
+use Rattle.odb_tree.specs.Noting.{changes_from, noted_all}
 use Rattle.odb_watch.proofs.NotesKept.{notes_apart, notes_kept}
 use Rattle.odb_watch.proofs.keeping.note_in.Goals as goal
 

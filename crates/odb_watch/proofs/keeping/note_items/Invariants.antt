@@ -1,8 +1,7 @@
 use Rattle.std.proofs.Common.{◌≡◌, ◌++◌, map, take, drop}
 use Rattle.std.specs.Option.{option_map}
-use Rattle.odb_watch.specs.declared.notes.Watch.{Watch}
-use Rattle.odb_watch.specs.Changes.{changes_from}
-use Rattle.odb_watch.specs.Keeping.{noted_all}
+use Rattle.odb_tree.specs.declared.notes.Watch.{Watch}
+use Rattle.odb_tree.specs.Noting.{changes_from, noted_all}
 use Rattle.odb_watch.proofs.keeping.note_items.Given as goal
 
 abbrev pub invariant-loop-i : goal.invariant-loop-i

@@ -1,6 +1,6 @@
 use Rattle.std.proofs.Common.{◌≡◌, List, [], ◌∷◌, ◌++◌, slice_set, Option, Some, sym, ap, ◌∙◌, arith}
-use Rattle.odb_watch.specs.declared.notes.Note.{Note}
-use Rattle.odb_watch.specs.declared.notes.Watch.{Watch}
+use Rattle.odb_tree.specs.declared.notes.Note.{Note}
+use Rattle.odb_tree.specs.declared.notes.Watch.{Watch}
 use Rattle.odb_watch.specs.Slots.{new_watch}
 use Rattle.odb_watch.proofs.WatchSlots.{with_slot-inside, with_slot-behind}
 use Rattle.odb_watch.proofs.slots.begin.Goals as goal

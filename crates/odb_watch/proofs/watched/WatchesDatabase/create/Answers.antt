@@ -1,9 +1,8 @@
 use Rattle.std.proofs.Common.{◌≡◌, sym, ap, ◌∙◌}
 use Rattle.odb_tree.specs.declared.rows.NewKey.{NewKey}
 use Rattle.odb_tree.specs.declared.entry.DatabaseEntry.TheVariants.{Create}
-use Rattle.odb_watch.specs.Changes.{changes_of}
-use Rattle.odb_watch.specs.Slots.{Watched, all_noted}
-use Rattle.odb_watch.proofs.NotesKept.{none_noted}
+use Rattle.odb_tree.specs.Noting.{changes_of, Watched, all_noted}
+use Rattle.odb_tree.proofs.Noted.{none_noted}
 use Rattle.odb_watch.proofs.watched.WatchesDatabase.create.Goals as goal
 
 pub returns-in-Dir-clause-notes : goal.returns-in-Dir-clause-notes

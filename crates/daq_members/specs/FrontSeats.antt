@@ -1,0 +1,63 @@
+-- A front-end in a session, with its own port to its buffer and its own access to the database.
+use Rattle.std.specs.Prelude.{◌≡◌, ℕ, ◌≤◌, Bool, List, Option}
+use Rattle.daq_types.specs.Callers.{caller_of_client}
+use Rattle.daq_types.specs.declared.events.Event.{Event}
+use Rattle.daq_types.specs.declared.runs.Order.{Order}
+use Rattle.buffer_core.specs.Ports.{Access}
+use Rattle.odb_port.specs.DatabasePorts.{DatabaseAccess, IsSamePort, own_calls}
+use Rattle.transitions.specs.declared.entry.EngineEntry.{EngineEntry}
+use Rattle.transition_lock.specs.declared.shared.SharedEngine.{SharedEngine}
+use Rattle.front_ends.specs.declared.front_run.FrontRun.{FrontRun}
+use Rattle.daq_members.specs.declared.turned.Turned.{Turned}
+use Rattle.daq_members.specs.FrontTaken.{FrontTaken, IsSameBufferPort, FrontMemberStands}
+
+-- A front-end in a session: the engine that it asks, its client number, its name, its equipment, and its run; its calls on the
+-- engine; and its access to its buffer and to the database.
+pub record FrontSeen (E : Type 0) : Type 0 where
+  pub engine : SharedEngine
+  pub client : ℕ
+  pub name : List ℕ
+  pub equipment : E
+  pub run : Option FrontRun
+  pub calls : List EngineEntry
+  pub port : Access
+  pub database : DatabaseAccess
+
+-- The port and the access are the client's own, an event fits into the buffer, and the front-end keeps its contract over its
+-- own calls on engine, buffer and database.
+pub record IsSeated {E : Type 0} (takes : E → Order → Bool) (makes : E → Order → ℕ → Event) (front : FrontSeen E) : Type 0 where
+  pub caller : front.port.caller ≡ caller_of_client front.client
+  pub database_caller : front.database.caller ≡ caller_of_client front.client
+  pub size : 104 ≤ front.port.size
+  pub stands : FrontMemberStands front.client front.name (takes front.equipment) (makes front.equipment) front.run
+      front.calls front.port.own (own_calls front.database)
+
+module _ {E : Type 0} (takes : E → Order → Bool) (makes : E → Order → ℕ → Event) where
+  -- a turn of the front-end, by what is seen of it before and behind
+  abbrev pub front_taken : (before after : FrontSeen E) → Turned → FrontTaken
+  front_taken before after turned = record {
+    client = before.client;
+    name = before.name;
+    takes = takes before.equipment;
+    makes = makes before.equipment;
+    run = before.run;
+    later_run = after.run;
+    calls = before.calls;
+    later_calls = after.calls;
+    port = before.port;
+    later_port = after.port;
+    database = before.database;
+    later_database = after.database;
+    turned = turned;
+  }
+
+  -- The same front-end with the same equipment: it asks the same engine by the same client number, and leads to the same buffer
+  -- and the same database.
+  pub record IsSameFront (before after : FrontSeen E) : Type 0 where
+    pub engine : after.engine ≡ before.engine
+    pub client : after.client ≡ before.client
+    pub name : after.name ≡ before.name
+    pub takes_as : takes after.equipment ≡ takes before.equipment
+    pub makes_as : makes after.equipment ≡ makes before.equipment
+    pub port : IsSameBufferPort before.port after.port
+    pub database : IsSamePort before.database after.database

@@ -1,0 +1,6 @@
+pub mod OwnTurns
+pub mod SentSets
+pub mod FrontTaken
+pub mod Endless
+pub mod FrontSeats
+pub mod Crews

@@ -1,0 +1,98 @@
+// A front-end in a session, with what it calls.
+ghost use Rattle.std.specs.Prelude.{◌≡◌, ◌≤◌, []};
+ghost use Rattle.daq_types.specs.Callers.{caller_of_client};
+ghost use Rattle.odb_port.specs.DatabasePorts.{own_calls};
+ghost use Rattle.turn_lock.specs.Passes.{own_entries};
+ghost use Rattle.daq_members.specs.FrontTaken.{TakesFront, FrontMemberStands};
+
+use crate::endless::{EndlessAccess, EndlessPort};
+use crate::front_member::FrontMember;
+use crate::turned::Turned;
+use daq_io::Gate;
+use front_ends::Equipment;
+use std::marker::Model;
+use std::sync::Wait;
+
+/// A front-end in a session, with its own port to its buffer and its own access to the database.
+#[derive(Drop)]
+pub struct FrontSeat<'a, E: Equipment, P: EndlessPort, D: EndlessAccess> {
+    member: FrontMember<'a, E>,
+    port: P,
+    database: D,
+}
+
+impl<'a, E: Equipment, P: EndlessPort, D: EndlessAccess> Model for FrontSeat<'a, E, P, D> {
+    ghost use Rattle.turn_lock.specs.Passes.{own_entries};
+    ghost use Rattle.daq_members.specs.FrontSeats.{FrontSeen, IsSeated};
+
+    ghost Value = { FrontSeen E };
+
+    ghost view = { λ s. record {
+      engine = s.member.seat.engine.now;
+      client = s.member.seat.client;
+      name = s.member.name;
+      equipment = s.member.front.equipment;
+      run = s.member.front.run;
+      calls = own_entries s.member.seat.pass;
+      port = P.access s.port;
+      database = D.access s.database;
+    } };
+
+    ghost invariant = { λ s. IsSeated E.takes E.makes (record {
+      engine = s.member.seat.engine.now;
+      client = s.member.seat.client;
+      name = s.member.name;
+      equipment = s.member.front.equipment;
+      run = s.member.front.run;
+      calls = own_entries s.member.seat.pass;
+      port = P.access s.port;
+      database = D.access s.database;
+    }) };
+}
+
+impl<'a, E: Equipment, P: EndlessPort, D: EndlessAccess> FrontSeat<'a, E, P, D> {
+    ghost use Rattle.daq_members.specs.FrontSeats.{IsSeated, IsSameFront, front_taken};
+
+    /// A front-end that has made no call yet, with its own port to its buffer and its own access to the database.
+    pub fn new(member: FrontMember<'a, E>, port: P, database: D) -> FrontSeat<'a, E, P, D>
+        requires stands { FrontMemberStands member.seat.client member.name
+            (E.takes member.front.equipment) (E.makes member.front.equipment)
+            member.front.run (own_entries member.seat.pass) (P.access port).own
+            (own_calls (D.access database)) }
+        requires caller { (P.access port).caller ≡ caller_of_client member.seat.client }
+        requires database_caller { (D.access database).caller
+            ≡ caller_of_client member.seat.client }
+        requires size { 104 ≤ (P.access port).size }
+        ensures engine { result.engine ≡ member.entry.seat.engine.now }
+        ensures client { result.client ≡ member.entry.seat.client }
+        ensures name { result.name ≡ member.entry.name }
+        ensures equipment { result.equipment ≡ member.entry.front.equipment }
+        ensures run { result.run ≡ member.entry.front.run }
+        ensures calls { result.calls ≡ own_entries member.entry.seat.pass }
+        ensures port { result.port ≡ P.access port }
+        ensures database { result.database ≡ D.access database }
+    {
+        FrontSeat {
+            member,
+            port,
+            database,
+        }
+    }
+
+    /// One turn, as `FrontMember::turn`, on the own port and the own access.
+    pub fn turn<R: Wait, G: Gate>(&mut self, rt: &R, gate: &G) -> Turned
+        ensures takes { TakesFront (front_taken E.takes E.makes self.old self.new result) }
+        ensures same { IsSameFront E.takes E.makes self.old self.new }
+    {
+        self.member
+            .turn(rt, &mut self.port, &mut self.database, gate)
+    }
+
+    /// The front-end's client number. It keeps its contract at every moment.
+    pub fn client(&self) -> u32
+        ensures number { result ≡ self.now.client }
+        ensures seated { IsSeated E.takes E.makes self.now }
+    {
+        self.member.seat.client
+    }
+}

@@ -1,0 +1,95 @@
+-- What a new logger keeps.
+use Rattle.std.specs.Prelude.{◌≡◌, ℕ, List, [], ◌∷◌, ◌++◌, slice_get, Option, Some, None, Ok}
+use Rattle.std.proofs.Common.{ap, sym, subst, ◌∙◌, arith}
+use Rattle.daq_io.specs.Seen.{Seen}
+use Rattle.buffer_core.specs.declared.entry.BufferEntry.{BufferEntry}
+use Rattle.buffer_core.specs.declared.entry.BufferEntry.TheVariants.{End}
+use Rattle.buffer_core.specs.Ports.{Access}
+use Rattle.buffer_core.specs.Slots.{slot_at}
+use Rattle.member_model.specs.CutRuns.{MarksEnd}
+use Rattle.mid_logger.specs.declared.channel.Channel.{Channel}
+use Rattle.mid_logger.specs.declared.channel_spec.ChannelSpec.{ChannelSpec}
+use Rattle.mid_logger.specs.declared.stage.ChannelStage.{ChannelStage}
+use Rattle.mid_logger.specs.declared.stage.ChannelStage.TheVariants.{Idle}
+use Rattle.mid_logger.specs.Channels.{FileHead, ChannelStands, channel_run, written_run}
+use Rattle.loggers.specs.Moments.{IsLoggerReady}
+use Rattle.loggers.specs.NewLoggers.{IsNewChannel, HasNewChannels, AreUnused, HavePorts}
+use Rattle.loggers.specs.LoggerStands.{IsHeadTold, PortKept, SlotsStand, LoggerStands}
+
+-- a channel of a new logger is idle and has no client
+record IsFresh (specs : List ChannelSpec) (c : Channel) : Type 0 where
+  client : c.client ≡ None
+  stage : c.stage ≡ Idle
+  place : ℕ
+  there : slice_get specs place ≡ Some c.spec
+
+fresh : (specs : List ChannelSpec) (rooms : List ℕ) (place : ℕ) (c : Channel) → IsNewChannel specs rooms place c → IsFresh specs c
+fresh specs rooms place c new = record {
+  client = ap (λ (x : Channel). x.client) new.is;
+  stage = ap (λ (x : Channel). x.stage) new.is;
+  place = place;
+  there = new.has_spec ∙ ap Some (sym (ap (λ (x : Channel). x.spec) new.is));
+}
+
+fresh_at : (specs : List ChannelSpec) (rooms : List ℕ) (slots : List (Option Channel)) (n : ℕ) (c : Channel) → HasNewChannels specs rooms slots → slot_at slots n ≡ Some c → IsFresh specs c
+fresh_at specs rooms slots n c new stood = fresh specs rooms (new.only n c stood).1.0 c (new.only n c stood).1.1
+
+fresh_stands : (specs : List ChannelSpec) (c : Channel) (head : FileHead) (seen : Seen) → IsFresh specs c → ChannelStands c.spec c.client c.stage head [] [] seen
+fresh_stands specs c head seen f =
+    let now : ChannelStands c.spec None Idle head [] [] seen = record { port = record { sends_none = tt; own_calls = tt }; own_client = tt; at = tt } in
+    rw (f.client, f.stage) now
+
+no_mark : (start place : ℕ) → MarksEnd [] start place → ⊥
+no_mark start place marks = in_none marks.before marks.is
+  where
+    in_none : (before : List BufferEntry) → [] ≡ before ++ End start (Ok place) ∷ marks.after → ⊥
+    in_none [] is = cc (is)
+    in_none (x ∷ xs) is = cc (is)
+
+new_slots : (specs : List ChannelSpec) (rooms : List ℕ) (slots : List (Option Channel)) (ports : List Access) (seen : Seen) → HasNewChannels specs rooms slots → AreUnused ports → SlotsStand (IsHeadTold []) [] slots ports seen
+new_slots specs rooms slots ports seen new unused = record {
+  many = omega (arith, new.many);
+  numbered = λ n c stood. (new.only n c stood).0;
+  channels = λ n c a stood at.
+      let f : IsFresh specs c = fresh_at specs rooms slots n c new stood in
+      let head : FileHead = record { run = 0; time = 0; dump = [] } in
+      let unused_here = unused c.spec.buffer a at in
+      record {
+        head = head;
+        stands = rw (unused_here.0, unused_here.1) (fresh_stands specs c head seen f);
+        headed = λ opened is. absurd (let never : None ≡ Some opened = sym (ap (λ (s : ChannelStage). channel_run s) f.stage) ∙ is in cc (never));
+      };
+  apart = λ n m c d differ first second.
+      let f : IsFresh specs c = fresh_at specs rooms slots n c new first in
+      record {
+        clients = λ same i j is other_is. absurd (let never : None ≡ Some i = sym f.client ∙ is in cc (never));
+        names = λ r s is other_is told. absurd (let never : None ≡ Some r = sym (ap (λ (x : ChannelStage). channel_run x) f.stage) ∙ is in cc (never));
+        numbers = λ r s is other_is. absurd (let never : None ≡ Some r = sym (ap (λ (x : ChannelStage). written_run x) f.stage) ∙ is in cc (never));
+      };
+  calls = λ buffer a at.
+      let none : PortKept [] [] = record { calls = record { sends_none = tt; own_calls = tt }; told = tt; once = λ are start m n first. absurd (no_mark start m first) } in
+      subst (λ (l : List BufferEntry). PortKept [] l) (sym (unused buffer a at).0) none;
+  left = λ are stop states tells. absurd tells.stands;
+}
+
+-- what a new logger keeps, with ports on which no call was made
+pub new_stands : (specs : List ChannelSpec) (rooms : List ℕ) (slots : List (Option Channel)) (ports : List Access) (seen : Seen) → HasNewChannels specs rooms slots → HavePorts specs ports → AreUnused ports → LoggerStands None None slots ports [] seen
+new_stands specs rooms slots ports seen new have unused = record {
+  standing = new_slots specs rooms slots ports seen new unused;
+  served = λ n c stood. let f : IsFresh specs c = fresh_at specs rooms slots n c new stood in have f.place c.spec f.there;
+  stages = λ n c a stood at. (fresh_at specs rooms slots n c new stood).stage;
+  starts = λ start answer has is told. absurd has;
+  stops = λ are begin stop answer accepted has is told. absurd has;
+  told = tt;
+  current = λ are start begin on accepted. absurd (cc (on));
+}
+
+pub new_ready : (specs : List ChannelSpec) (rooms : List ℕ) (slots : List (Option Channel)) (ports : List Access) (seen : Seen) → HasNewChannels specs rooms slots → HavePorts specs ports → IsLoggerReady slots ports seen
+new_ready specs rooms slots ports seen new have = record {
+  many = omega (arith, new.many);
+  served = λ n c stood. let f : IsFresh specs c = fresh_at specs rooms slots n c new stood in have f.place c.spec f.there;
+  files = record {
+    files = λ n c stood. rw (fresh_at specs rooms slots n c new stood).stage tt;
+    numbers = λ n m c d differ first second r s is other_is. absurd (let never : None ≡ Some r = sym (ap (λ (x : ChannelStage). written_run x) (fresh_at specs rooms slots n c new first).stage) ∙ is in cc (never));
+  };
+}

@@ -1,0 +1,93 @@
+-- What the channels and the ports keep behind one turn more, and for other heads of files.
+use Rattle.std.specs.Prelude.{◌≡◌, ℕ, List, [], ◌∷◌, Option, Some, None}
+use Rattle.std.proofs.Common.{ap, sym, ◌∙◌, inl, inr}
+use Rattle.daq_types.specs.declared.runs.ChannelState.{ChannelState}
+use Rattle.daq_io.specs.Seen.{Seen}
+use Rattle.buffer_core.specs.declared.entry.BufferEntry.{BufferEntry}
+use Rattle.buffer_core.specs.declared.entry.BufferEntry.TheVariants.{End}
+use Rattle.buffer_core.specs.Ports.{Access}
+use Rattle.buffer_core.specs.Slots.{slot_at}
+use Rattle.transitions.specs.declared.answers.Answer.TheVariants.{Yes}
+use Rattle.transitions.specs.declared.answers.Tally.TheVariants.{Channels}
+use Rattle.member_model.specs.Turns.{MemberTurn}
+use Rattle.member_model.specs.SentCalls.{EachCall}
+use Rattle.mid_logger.specs.declared.channel.Channel.{Channel}
+use Rattle.mid_logger.specs.declared.stage.ChannelRun.{ChannelRun}
+use Rattle.mid_logger.specs.declared.stage.ChannelStage.{ChannelStage}
+use Rattle.mid_logger.specs.Channels.{FileHead, channel_run}
+use Rattle.loggers.specs.Moments.{AreIdle}
+use Rattle.loggers.specs.LoggerStands.{HasHead, IsEndTold, IsHeadTold, ChannelKept, PortKept, LeftRun, ToldSo, SlotsStand}
+use Rattle.loggers.proofs.TurnsKnown.{accepted_more}
+
+pub each_map : (P Q : BufferEntry → Type 0) (es : List BufferEntry) → ((e : BufferEntry) → P e → Q e) → EachCall P es → EachCall Q es
+each_map P Q [] f each = tt
+each_map P Q (e ∷ es) f each = (f e each.0, each_map P Q es f each.1)
+
+pub head_more : (t : MemberTurn) (turns : List MemberTurn) (start : ℕ) (head : FileHead) → HasHead turns start head → HasHead (t ∷ turns) start head
+head_more t turns start head has = record { turn = has.turn; is_start = accepted_more t turns start has.turn has.is_start; run = has.run; time = has.time; dump = has.dump }
+
+end_more : (t : MemberTurn) (turns : List MemberTurn) (e : BufferEntry) → IsEndTold turns e → IsEndTold (t ∷ turns) e
+end_more t turns (End start reply) told = record { turn = told.turn; stands = inr told.stands; ends = told.ends; of = told.of }
+end_more t turns e told = tt
+
+left_more : (t : MemberTurn) (turns : List MemberTurn) (slots : List (Option Channel)) (seen : Seen) (c : Channel) (a : Access) (stop : MemberTurn) (state : ChannelState) → LeftRun turns slots seen c a stop state → LeftRun (t ∷ turns) slots seen c a stop state
+left_more t turns slots seen c a stop state l = record {
+  run = l.run;
+  head = l.head;
+  of = l.of;
+  client = l.client;
+  headed = head_more t turns stop.order.start l.head l.headed;
+  ended = l.ended;
+  told = l.told;
+  left = l.left;
+  apart = l.apart;
+}
+
+-- the turn tells no states of channels
+abbrev pub TellsNone : MemberTurn → Type 0
+TellsNone t = (states : List ChannelState) → t.answer ≡ Some (Yes (Channels states)) → ⊥
+
+-- what stands stands behind one turn more that tells no states
+pub turn_more : (H : ChannelRun → FileHead → Type 0) (t : MemberTurn) (turns : List MemberTurn) (slots : List (Option Channel)) (ports : List Access) (seen : Seen) → TellsNone t → SlotsStand H turns slots ports seen → SlotsStand H (t ∷ turns) slots ports seen
+turn_more H t turns slots ports seen quiet stands = record {
+  many = stands.many;
+  numbered = stands.numbered;
+  channels = stands.channels;
+  apart = stands.apart;
+  calls = λ buffer a at.
+      let kept : PortKept turns a.own = stands.calls buffer a at in
+      record { calls = kept.calls; told = each_map (IsEndTold turns) (IsEndTold (t ∷ turns)) a.own (end_more t turns) kept.told; once = λ are. kept.once are.1 };
+  left = λ are stop states tells n c a stood at. elim tells.stands as (λ w. ToldSo (t ∷ turns) slots seen n c a stop states) [
+    | inl same ↦ absurd (quiet states (ap (λ (u : MemberTurn). u.answer) same ∙ tells.answered))
+    | inr old ↦
+        let so : ToldSo turns slots seen n c a stop states = stands.left are.1 stop states (record { stands = old; is = tells.is; answered = tells.answered }) n c a stood at in
+        record { state = so.state; told = so.told; left = left_more t turns slots seen c a stop so.state so.left }
+  ];
+}
+
+-- what stands with these heads stands with those, where each head of a channel's run is one of those too
+pub heads_as : (H J : ChannelRun → FileHead → Type 0) (turns : List MemberTurn) (slots : List (Option Channel)) (ports : List Access) (seen : Seen)
+    → ((n : ℕ) (c : Channel) → slot_at slots n ≡ Some c → (opened : ChannelRun) (head : FileHead) → channel_run c.stage ≡ Some opened → H opened head → J opened head) → SlotsStand H turns slots ports seen → SlotsStand J turns slots ports seen
+heads_as H J turns slots ports seen as_those stands = record {
+  many = stands.many;
+  numbered = stands.numbered;
+  channels = λ n c a stood at.
+      let kept : ChannelKept H seen c a = stands.channels n c a stood at in
+      record { head = kept.head; stands = kept.stands; headed = λ opened is. as_those n c stood opened kept.head is (kept.headed opened is) };
+  apart = stands.apart;
+  calls = stands.calls;
+  left = stands.left;
+}
+
+-- where every channel is idle, no head is asked for
+pub heads_idle : (H J : ChannelRun → FileHead → Type 0) (turns : List MemberTurn) (slots : List (Option Channel)) (ports : List Access) (seen : Seen) → AreIdle slots → SlotsStand H turns slots ports seen → SlotsStand J turns slots ports seen
+heads_idle H J turns slots ports seen idle stands =
+    heads_as H J turns slots ports seen
+    (λ n c stood opened head is has. absurd (let never : None ≡ Some opened = sym (ap (λ (s : ChannelStage). channel_run s) (idle n c stood)) ∙ is in cc (never))) stands
+
+pub heads_told : (t : MemberTurn) (turns : List MemberTurn) (slots : List (Option Channel)) (ports : List Access) (seen : Seen) → SlotsStand (IsHeadTold turns) turns slots ports seen → SlotsStand (IsHeadTold (t ∷ turns)) turns slots ports seen
+heads_told t turns slots ports seen stands = heads_as (IsHeadTold turns) (IsHeadTold (t ∷ turns)) turns slots ports seen (λ n c stood opened head is has. head_more t turns opened.start head has) stands
+
+-- behind a turn more that tells no states, with its heads
+pub told_more : (t : MemberTurn) (turns : List MemberTurn) (slots : List (Option Channel)) (ports : List Access) (seen : Seen) → TellsNone t → SlotsStand (IsHeadTold turns) turns slots ports seen → SlotsStand (IsHeadTold (t ∷ turns)) (t ∷ turns) slots ports seen
+told_more t turns slots ports seen quiet stands = turn_more (IsHeadTold (t ∷ turns)) t turns slots ports seen quiet (heads_told t turns slots ports seen stands)

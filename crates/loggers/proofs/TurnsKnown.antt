@@ -1,0 +1,282 @@
+-- What a logger knows of its turns, behind one turn more.
+use Rattle.std.specs.Prelude.{◌≡◌, ◌≢◌, ℕ, true, false, List, [], ◌∷◌, Option, Some, None, refl}
+use Rattle.std.proofs.Common.{ap, sym, subst, ◌∙◌, inl, inr, eq-eqb}
+use Rattle.std.proofs.lemmas.Bool.{eqb-true}
+use Rattle.daq_types.specs.declared.runs.ChannelState.{ChannelState}
+use Rattle.daq_types.specs.declared.runs.Order.{Order}
+use Rattle.daq_types.specs.declared.runs.Transition.{Transition}
+use Rattle.daq_types.specs.declared.runs.Transition.TheVariants.{Start, Stop, Pause, Resume, StartAbort}
+use Rattle.daq_types.specs.declared.runs.Why.{Why}
+use Rattle.transitions.specs.declared.answers.Answer.{Answer}
+use Rattle.transitions.specs.declared.answers.Answer.TheVariants.{Yes, No}
+use Rattle.transitions.specs.declared.answers.Tally.TheVariants.{Plain, Channels}
+use Rattle.member_model.specs.Turns.{MemberTurn, HasTurn, IsAcceptedStart, HasAnswer, NoneOpen, current_run, IsNextTurn, IsOfRun, IsNewStart, AreEngineTurns}
+use Rattle.member_model.specs.LoggerKept.{IsStartAnswer}
+use Rattle.member_model.proofs.TurnLaws.{HasTurnOf-more, HasTurnOf-earlier}
+use Rattle.loggers.specs.declared.logged_run.LoggedRun.{LoggedRun}
+use Rattle.loggers.specs.declared.logged_run.RunPart.{RunPart}
+use Rattle.loggers.specs.declared.logged_run.RunPart.TheVariants.{Refused, Started, Stopping}
+use Rattle.loggers.specs.Turning.{is_started}
+use Rattle.loggers.specs.LoggerStands.{logger_turn, HasEndTurn, HasStart, IsPartTold, IsRunTold, IsInStarted, HasCurrentRun, StopsTellStates}
+
+pub record TurnsKnown (run : Option LoggedRun) (stop_dump : Option (List ℕ)) (turns : List MemberTurn) : Type 0 where
+  pub starts : (start : MemberTurn) → (answer : Answer) → HasTurn turns start → start.transition ≡ Start → start.answer ≡ Some answer → IsStartAnswer answer
+  pub stops : AreEngineTurns turns → StopsTellStates turns
+  pub told : IsRunTold run turns stop_dump
+  pub current : AreEngineTurns turns → HasCurrentRun run turns
+
+-- The run that is on.
+
+-- the turn, with this transition in the place of its own, which it equals
+as_is : (P : MemberTurn → Type 0) (t : MemberTurn) (transition : Transition) → t.transition ≡ transition → P (record t { transition = transition }) → P t
+as_is P t transition is holds = subst (λ (x : Transition). P (record t { transition = x })) (sym is) holds
+
+ends_by : (transition : Transition) (t : MemberTurn) (ts : List MemberTurn) (start : ℕ) → t.transition ≡ transition → IsNextTurn transition t.order.start ts → (current_run ts ≡ Some start → HasEndTurn ts start → ⊥)
+    → current_run (record t { transition = transition } ∷ ts) ≡ Some start → HasEndTurn (t ∷ ts) start → ⊥
+ends_by Start t ts start is next rest on has =
+    let number : t.order.start ≡ start = cc (on) in
+    elim has.stands as (λ w. ⊥) [
+      | inl same ↦ elim has.ends as (λ w. ⊥) [
+        | inl stop ↦ let e : t.transition ≡ has.turn.transition = ap (λ (u : MemberTurn). u.transition) same in cc (e, is, stop)
+        | inr abort ↦ let e : t.transition ≡ has.turn.transition = ap (λ (u : MemberTurn). u.transition) same in cc (e, is, abort)
+      ]
+      | inr before ↦ next.1 has.turn before (has.of ∙ sym number)
+    ]
+ends_by Stop t ts start is next rest on has = absurd (cc (on))
+ends_by StartAbort t ts start is next rest on has = absurd (cc (on))
+ends_by Pause t ts start is next rest on has = elim has.stands as (λ w. ⊥) [
+  | inl same ↦ elim has.ends as (λ w. ⊥) [
+    | inl stop ↦ let e : t.transition ≡ has.turn.transition = ap (λ (u : MemberTurn). u.transition) same in cc (e, is, stop)
+    | inr abort ↦ let e : t.transition ≡ has.turn.transition = ap (λ (u : MemberTurn). u.transition) same in cc (e, is, abort)
+  ]
+  | inr before ↦ rest on (record { turn = has.turn; stands = before; ends = has.ends; of = has.of })
+]
+ends_by Resume t ts start is next rest on has = elim has.stands as (λ w. ⊥) [
+  | inl same ↦ elim has.ends as (λ w. ⊥) [
+    | inl stop ↦ let e : t.transition ≡ has.turn.transition = ap (λ (u : MemberTurn). u.transition) same in cc (e, is, stop)
+    | inr abort ↦ let e : t.transition ≡ has.turn.transition = ap (λ (u : MemberTurn). u.transition) same in cc (e, is, abort)
+  ]
+  | inr before ↦ rest on (record { turn = has.turn; stands = before; ends = has.ends; of = has.of })
+]
+
+-- while a run is on, no turn has ended it
+pub no_end_turn : (turns : List MemberTurn) (start : ℕ) → AreEngineTurns turns → current_run turns ≡ Some start → HasEndTurn turns start → ⊥
+no_end_turn [] start are on has = absurd has.stands
+no_end_turn (t ∷ ts) start are on has = ends_by t.transition t ts start refl are.0 (no_end_turn ts start are.1) on has
+
+-- a run of which there is a start is on, where another turn of it may come
+pub of_current : (turns : List MemberTurn) (start : ℕ) → HasStart turns start → IsOfRun start turns → current_run turns ≡ Some start
+of_current turns start begin of_run = elim of_run as (λ w. current_run turns ≡ Some start) [
+  | inl on ↦ on
+  | inr none ↦ absurd (none begin.0 begin.1.stands begin.1.is begin.1.of)
+]
+
+pub accepted_more : (t : MemberTurn) (turns : List MemberTurn) (start : ℕ) (begin : MemberTurn) → IsAcceptedStart turns start begin → IsAcceptedStart (t ∷ turns) start begin
+accepted_more t turns start begin accepted = record { is_start = HasTurnOf-more t accepted.is_start; accepted = accepted.accepted }
+
+accepted_earlier : (t : MemberTurn) (turns : List MemberTurn) (start : ℕ) (begin : MemberTurn) → t.transition ≢ Start → IsAcceptedStart (t ∷ turns) start begin → IsAcceptedStart turns start begin
+accepted_earlier t turns start begin other accepted = record { is_start = HasTurnOf-earlier accepted.is_start other; accepted = accepted.accepted }
+
+-- The run of the logger.
+
+in_started : (run : Option LoggedRun) (start : ℕ) → IsInStarted run start → is_started run start ≡ true
+in_started None start is = absurd is
+in_started (Some r) start is = subst (λ (p : RunPart). is_started (Some (record r { part = p })) start ≡ true) (sym is.1) (eq-eqb r.start start is.0)
+
+started_part : (part : RunPart) (r : LoggedRun) (start : ℕ) → r.part ≡ part → is_started (Some (record r { part = part })) start ≡ true → IsInStarted (Some r) start
+started_part Refused r start is on = absurd (cc (on))
+started_part Started r start is on = (eqb-true r.start start on, is)
+started_part (Stopping time) r start is on = absurd (cc (on))
+
+-- a run that goes on
+pub started_run : (run : Option LoggedRun) (start : ℕ) → is_started run start ≡ true → (r : LoggedRun) × (run ≡ Some r) × IsInStarted (Some r) start
+started_run None start on = absurd (cc (on))
+started_run (Some r) start on = (r, refl, started_part r.part r start refl on)
+
+-- Behind a turn that is answered, the same run.
+
+part_left : (part : RunPart) (turns : List MemberTurn) (start : ℕ) (stop_dump : Option (List ℕ)) (t : MemberTurn) → HasAnswer t.answer → NoneOpen turns → IsPartTold part turns start stop_dump → IsPartTold part (t ∷ turns) start stop_dump
+part_left Refused turns start stop_dump t answered none told = (answered, (told.1.0, HasTurnOf-more t told.1.1))
+part_left Started turns start stop_dump t answered none told = (answered, (told.1.0, accepted_more t turns start told.1.0 told.1.1))
+part_left (Stopping time) turns start stop_dump t answered none told = absurd (subst (λ (l : List MemberTurn). NoneOpen l) told.0.latest none)
+
+run_left : (run : Option LoggedRun) (turns : List MemberTurn) (stop_dump : Option (List ℕ)) (t : MemberTurn) → HasAnswer t.answer → NoneOpen turns → IsRunTold run turns stop_dump → IsRunTold run (t ∷ turns) stop_dump
+run_left None turns stop_dump t answered none told = answered
+run_left (Some r) turns stop_dump t answered none told = part_left r.part turns r.start stop_dump t answered none told
+
+-- Starts and stops.
+
+starts_more : (t : MemberTurn) (turns : List MemberTurn) → (t.transition ≡ Start → (answer : Answer) → t.answer ≡ Some answer → IsStartAnswer answer)
+    → ((start : MemberTurn) (answer : Answer) → HasTurn turns start → start.transition ≡ Start → start.answer ≡ Some answer → IsStartAnswer answer)
+    → (start : MemberTurn) (answer : Answer) → HasTurn (t ∷ turns) start → start.transition ≡ Start → start.answer ≡ Some answer → IsStartAnswer answer
+starts_more t turns here before start answer has is told = elim has as (λ w. IsStartAnswer answer) [
+  | inl same ↦ here (ap (λ (u : MemberTurn). u.transition) same ∙ is) answer (ap (λ (u : MemberTurn). u.answer) same ∙ told)
+  | inr old ↦ before start answer old is told
+]
+
+-- a start that comes now is none of an earlier turn
+not_now : (t : MemberTurn) (turns : List MemberTurn) (u begin : MemberTurn) → AreEngineTurns (t ∷ turns) → HasTurn turns u → IsAcceptedStart (t ∷ turns) u.order.start begin → IsAcceptedStart turns u.order.start begin
+not_now t turns u begin are has accepted = elim accepted.is_start.stands as (λ w. IsAcceptedStart turns u.order.start begin) [
+  | inl same ↦
+      let is : t.transition ≡ Start = ap (λ (v : MemberTurn). v.transition) same ∙ accepted.is_start.is in
+      let new : IsNewStart t.order.start turns = subst (λ (x : Transition). IsNextTurn x t.order.start turns) is are.0 in
+      absurd (new.1 u has (sym accepted.is_start.of ∙ sym (ap (λ (v : MemberTurn). v.order.start) same)))
+  | inr before ↦ record { is_start = record { stands = before; is = accepted.is_start.is; of = accepted.is_start.of }; accepted = accepted.accepted }
+]
+
+stops_more : (t : MemberTurn) (turns : List MemberTurn) → AreEngineTurns (t ∷ turns)
+    → (t.transition ≡ Stop → (begin : MemberTurn) → IsAcceptedStart (t ∷ turns) t.order.start begin → (answer : Answer) → t.answer ≡ Some answer → (states : List ChannelState) × (answer ≡ Yes (Channels states)))
+    → StopsTellStates turns → StopsTellStates (t ∷ turns)
+stops_more t turns are here before begin stop answer accepted has is told = elim has as (λ w. (states : List ChannelState) × (answer ≡ Yes (Channels states))) [
+  | inl same ↦
+      let now : IsAcceptedStart (t ∷ turns) t.order.start begin = subst (λ (n : ℕ). IsAcceptedStart (t ∷ turns) n begin) (sym (ap (λ (v : MemberTurn). v.order.start) same)) accepted in
+      here (ap (λ (u : MemberTurn). u.transition) same ∙ is) begin now answer (ap (λ (u : MemberTurn). u.answer) same ∙ told)
+  | inr old ↦ before begin stop answer (not_now t turns stop begin are old accepted) old is told
+]
+
+current_none : (run : Option LoggedRun) (turns : List MemberTurn) → current_run turns ≡ None → HasCurrentRun run turns
+current_none run turns none start begin on accepted = absurd (let e : None ≡ Some start = sym none ∙ on in cc (e))
+
+current_more : (run : Option LoggedRun) (t : MemberTurn) (turns : List MemberTurn) → t.transition ≢ Start → current_run (t ∷ turns) ≡ current_run turns → HasCurrentRun run turns → HasCurrentRun run (t ∷ turns)
+current_more run t turns other same current start begin on accepted = current start begin (sym same ∙ on) (accepted_earlier t turns start begin other accepted)
+
+-- an accepted start whose run may be stopped now is that of the logger's run
+stop_in_run : (run : Option LoggedRun) (t : MemberTurn) (turns : List MemberTurn) (begin : MemberTurn) → t.transition ≢ Start → HasCurrentRun run turns → IsOfRun t.order.start turns → IsAcceptedStart (t ∷ turns) t.order.start begin → is_started run t.order.start ≡ true
+stop_in_run run t turns begin other current of_run accepted =
+    let before : IsAcceptedStart turns t.order.start begin = accepted_earlier t turns t.order.start begin other accepted in
+    in_started run t.order.start (current t.order.start begin (of_current turns t.order.start (begin, before.is_start) of_run) before)
+
+-- Each turn.
+
+-- a start that is refused
+pub refused_known : (run later : Option LoggedRun) (stop_dump later_dump : Option (List ℕ)) (turns : List MemberTurn) (order : Order) (dump : Option (List ℕ)) (why : Why) → TurnsKnown run stop_dump turns
+    → IsRunTold later (logger_turn Start order dump (Some (No why)) ∷ turns) later_dump → TurnsKnown later later_dump (logger_turn Start order dump (Some (No why)) ∷ turns)
+refused_known run later stop_dump later_dump turns order dump why known told =
+    let t : MemberTurn = logger_turn Start order dump (Some (No why)) in
+    record {
+      starts = starts_more t turns (λ is answer e. let same : No why ≡ answer = cc (e) in subst (λ (a : Answer). IsStartAnswer a) same tt) known.starts;
+      stops = λ are. stops_more t turns are (λ is. absurd (cc (is))) (known.stops are.1);
+      told = told;
+      current = λ are start begin on accepted.
+          let number : order.start ≡ start = cc (on) in
+          elim accepted.is_start.stands as (λ w. IsInStarted later start) [
+            | inl same ↦ absurd (let e : Some (No why) ≡ Some (Yes Plain) = ap (λ (v : MemberTurn). v.answer) same ∙ accepted.accepted in cc (e))
+            | inr before ↦ absurd (are.0.1 begin before (accepted.is_start.of ∙ sym number))
+          ];
+    }
+
+-- a start that is refused at once leaves the run
+pub left_refused : (run : Option LoggedRun) (stop_dump : Option (List ℕ)) (turns : List MemberTurn) (order : Order) (dump : Option (List ℕ)) (why : Why) → NoneOpen turns → TurnsKnown run stop_dump turns → TurnsKnown run stop_dump (logger_turn Start order dump (Some (No why)) ∷ turns)
+left_refused run stop_dump turns order dump why none known =
+    refused_known run run stop_dump stop_dump turns order dump why known (run_left run turns stop_dump (logger_turn Start order dump (Some (No why))) tt none known.told)
+
+pub start_refused : (run : Option LoggedRun) (stop_dump : Option (List ℕ)) (begun : ℕ) (turns : List MemberTurn) (order : Order) (dump : Option (List ℕ)) (why : Why) → TurnsKnown run stop_dump turns
+    → TurnsKnown (Some (record { start = order.start; begun = begun; part = Refused })) None (logger_turn Start order dump (Some (No why)) ∷ turns)
+start_refused run stop_dump begun turns order dump why known =
+    let t : MemberTurn = logger_turn Start order dump (Some (No why)) in
+    refused_known run (Some (record { start = order.start; begun = begun; part = Refused })) stop_dump None turns order dump why known (tt, (t, record { stands = inl refl; is = refl; of = refl }))
+
+-- the start turn itself
+pub start_accepted : (turns : List MemberTurn) (order : Order) (dump : Option (List ℕ)) → IsAcceptedStart (logger_turn Start order dump (Some (Yes Plain)) ∷ turns) order.start (logger_turn Start order dump (Some (Yes Plain)))
+start_accepted turns order dump = record { is_start = record { stands = inl refl; is = refl; of = refl }; accepted = refl }
+
+pub start_known : (run : Option LoggedRun) (stop_dump : Option (List ℕ)) (begun : ℕ) (turns : List MemberTurn) (order : Order) (dump : Option (List ℕ)) → TurnsKnown run stop_dump turns
+    → TurnsKnown (Some (record { start = order.start; begun = begun; part = Started })) None (logger_turn Start order dump (Some (Yes Plain)) ∷ turns)
+start_known run stop_dump begun turns order dump known =
+    let t : MemberTurn = logger_turn Start order dump (Some (Yes Plain)) in
+    record {
+      starts = starts_more t turns (λ is answer e. let same : Yes Plain ≡ answer = cc (e) in subst (λ (a : Answer). IsStartAnswer a) same refl) known.starts;
+      stops = λ are. stops_more t turns are (λ is. absurd (cc (is))) (known.stops are.1);
+      told = (tt, (t, start_accepted turns order dump));
+      current = λ are start begin on accepted. (let number : order.start ≡ start = cc (on) in number, refl);
+    }
+
+-- a stop that waits
+pub stop_known : (r : LoggedRun) (stop_dump : Option (List ℕ)) (turns : List MemberTurn) (order : Order) (dump : Option (List ℕ)) → IsInStarted (Some r) order.start → TurnsKnown (Some r) stop_dump turns
+    → TurnsKnown (Some (record { start = order.start; begun = 0; part = Stopping order.time })) dump (logger_turn Stop order dump None ∷ turns)
+stop_known r stop_dump turns order dump on known =
+    let t : MemberTurn = logger_turn Stop order dump None in
+    let told : IsPartTold Started turns r.start stop_dump = subst (λ (p : RunPart). IsPartTold p turns r.start stop_dump) on.1 known.told in
+    let accepted : IsAcceptedStart turns order.start told.1.0 = subst (λ (n : ℕ). IsAcceptedStart turns n told.1.0) on.0 told.1.1 in
+    record {
+      starts = starts_more t turns (λ is. absurd (cc (is))) known.starts;
+      stops = λ are. stops_more t turns are (λ is begin now answer e. absurd (cc (e))) (known.stops are.1);
+      told = (record { order = order; earlier = turns; latest = refl; of = refl; at = refl }, (told.1.0, accepted_more t turns order.start told.1.0 accepted));
+      current = λ are. current_none (Some (record { start = order.start; begun = 0; part = Stopping order.time })) (t ∷ turns) refl;
+    }
+
+-- a turn that is answered plainly and leaves the run
+pub left_stop : (run : Option LoggedRun) (stop_dump : Option (List ℕ)) (turns : List MemberTurn) (order : Order) (dump : Option (List ℕ)) → NoneOpen turns → is_started run order.start ≡ false → TurnsKnown run stop_dump turns
+    → TurnsKnown run stop_dump (logger_turn Stop order dump (Some (Yes Plain)) ∷ turns)
+left_stop run stop_dump turns order dump none off known =
+    let t : MemberTurn = logger_turn Stop order dump (Some (Yes Plain)) in
+    record {
+      starts = starts_more t turns (λ is. absurd (cc (is))) known.starts;
+      stops = λ are. stops_more t turns are
+          (λ is begin now answer e. absurd (let on : is_started run order.start ≡ true = stop_in_run run t turns begin (λ s. cc (s)) (known.current are.1) are.0 now in cc (on, off))) (known.stops are.1);
+      told = run_left run turns stop_dump t tt none known.told;
+      current = λ are. current_none run (t ∷ turns) refl;
+    }
+
+pub left_pause : (run : Option LoggedRun) (stop_dump : Option (List ℕ)) (turns : List MemberTurn) (order : Order) (dump : Option (List ℕ)) → NoneOpen turns → TurnsKnown run stop_dump turns → TurnsKnown run stop_dump (logger_turn Pause order dump (Some (Yes Plain)) ∷ turns)
+left_pause run stop_dump turns order dump none known =
+    let t : MemberTurn = logger_turn Pause order dump (Some (Yes Plain)) in
+    record {
+      starts = starts_more t turns (λ is. absurd (cc (is))) known.starts;
+      stops = λ are. stops_more t turns are (λ is. absurd (cc (is))) (known.stops are.1);
+      told = run_left run turns stop_dump t tt none known.told;
+      current = λ are. current_more run t turns (λ s. cc (s)) refl (known.current are.1);
+    }
+
+pub left_resume : (run : Option LoggedRun) (stop_dump : Option (List ℕ)) (turns : List MemberTurn) (order : Order) (dump : Option (List ℕ)) → NoneOpen turns → TurnsKnown run stop_dump turns → TurnsKnown run stop_dump (logger_turn Resume order dump (Some (Yes Plain)) ∷ turns)
+left_resume run stop_dump turns order dump none known =
+    let t : MemberTurn = logger_turn Resume order dump (Some (Yes Plain)) in
+    record {
+      starts = starts_more t turns (λ is. absurd (cc (is))) known.starts;
+      stops = λ are. stops_more t turns are (λ is. absurd (cc (is))) (known.stops are.1);
+      told = run_left run turns stop_dump t tt none known.told;
+      current = λ are. current_more run t turns (λ s. cc (s)) refl (known.current are.1);
+    }
+
+abort_known : (run later : Option LoggedRun) (stop_dump later_dump : Option (List ℕ)) (turns : List MemberTurn) (order : Order) (dump : Option (List ℕ)) → TurnsKnown run stop_dump turns → IsRunTold later (logger_turn StartAbort order dump (Some (Yes Plain)) ∷ turns) later_dump
+    → TurnsKnown later later_dump (logger_turn StartAbort order dump (Some (Yes Plain)) ∷ turns)
+abort_known run later stop_dump later_dump turns order dump known told =
+    let t : MemberTurn = logger_turn StartAbort order dump (Some (Yes Plain)) in
+    record {
+      starts = starts_more t turns (λ is. absurd (cc (is))) known.starts;
+      stops = λ are. stops_more t turns are (λ is. absurd (cc (is))) (known.stops are.1);
+      told = told;
+      current = λ are. current_none later (t ∷ turns) refl;
+    }
+
+pub left_abort : (run : Option LoggedRun) (stop_dump : Option (List ℕ)) (turns : List MemberTurn) (order : Order) (dump : Option (List ℕ)) → NoneOpen turns → TurnsKnown run stop_dump turns → TurnsKnown run stop_dump (logger_turn StartAbort order dump (Some (Yes Plain)) ∷ turns)
+left_abort run stop_dump turns order dump none known = abort_known run run stop_dump stop_dump turns order dump known (run_left run turns stop_dump (logger_turn StartAbort order dump (Some (Yes Plain))) tt none known.told)
+
+-- the run is called off
+pub off_known : (run : Option LoggedRun) (stop_dump : Option (List ℕ)) (turns : List MemberTurn) (order : Order) (dump : Option (List ℕ)) → TurnsKnown run stop_dump turns → TurnsKnown None None (logger_turn StartAbort order dump (Some (Yes Plain)) ∷ turns)
+off_known run stop_dump turns order dump known = abort_known run None stop_dump None turns order dump known tt
+
+-- The stop that waited is answered.
+
+-- the turns, once the stop that waits has this answer
+abbrev pub stop_answered : Order → (dump : Option (List ℕ)) → List ChannelState → List MemberTurn → List MemberTurn
+stop_answered order dump states earlier = logger_turn Stop order dump (Some (Yes (Channels states))) ∷ earlier
+
+-- a start among the turns, of which only the answer to the latest stop differs
+pub across : (order : Order) (dump : Option (List ℕ)) (first second : Option Answer) (earlier : List MemberTurn) (start : ℕ) (begin : MemberTurn) → IsAcceptedStart (logger_turn Stop order dump first ∷ earlier) start begin → IsAcceptedStart (logger_turn Stop order dump second ∷ earlier) start begin
+across order dump first second earlier start begin accepted =
+    accepted_more (logger_turn Stop order dump second) earlier start begin (accepted_earlier (logger_turn Stop order dump first) earlier start begin (λ s. cc (s)) accepted)
+
+pub finish_known : (run : Option LoggedRun) (stop_dump dump : Option (List ℕ)) (states : List ChannelState) (order : Order) (earlier : List MemberTurn) → TurnsKnown run stop_dump (logger_turn Stop order dump None ∷ earlier) → TurnsKnown None None (stop_answered order dump states earlier)
+finish_known run stop_dump dump states order earlier known =
+    let before : MemberTurn = logger_turn Stop order dump None in
+    let t : MemberTurn = logger_turn Stop order dump (Some (Yes (Channels states))) in
+    record {
+      starts = starts_more t earlier (λ is. absurd (cc (is))) (λ start answer has is told. known.starts start answer (inr has) is told);
+      stops = λ are begin stop answer accepted has is told. elim has as (λ w. (s : List ChannelState) × (answer ≡ Yes (Channels s))) [
+        | inl same ↦ (states, let e : Some (Yes (Channels states)) ≡ Some answer = ap (λ (u : MemberTurn). u.answer) same ∙ told in cc (e))
+        | inr old ↦ known.stops are begin stop answer (across order dump (Some (Yes (Channels states))) None earlier stop.order.start begin accepted) (inr old) is told
+      ];
+      told = tt;
+      current = λ are. current_none None (t ∷ earlier) refl;
+    }

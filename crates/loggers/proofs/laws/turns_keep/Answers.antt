@@ -1,0 +1,18 @@
+use Rattle.loggers.proofs.TurnedLogger.{turn_stands}
+use Rattle.loggers.proofs.laws.turns_keep.Goals as goal
+
+pub returns : goal.returns
+returns c = turn_stands (record {
+  left = c.left_beside.ensures;
+  calls = c.calls_beside.ensures;
+  files = c.files_beside.ensures;
+  opens_beside = c.opens_beside.ensures;
+  aborts_beside = c.aborts_beside.ensures;
+  opens_keep = c.opens_kept.ensures.keep;
+  opens_change = c.opens_kept.ensures.change;
+  file_there = c.opens_kept.ensures.there;
+  aborts_keep = c.aborts_kept.ensures.keep;
+  aborts_change = c.aborts_kept.ensures.change;
+  begun = c.marks_kept.ensures.begun;
+  ended = c.marks_kept.ensures.ended;
+})

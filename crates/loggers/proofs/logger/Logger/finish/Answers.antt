@@ -1,0 +1,25 @@
+use Rattle.loggers.proofs.EndedReady.{ended_room}
+use Rattle.loggers.specs.Finishing.{LoggerFinish}
+use Rattle.loggers.proofs.logger.Logger.finish.Goals as goal
+
+pub returns : goal.returns
+returns g c =
+    let f : LoggerFinish = record {
+      run = c.args.self.now.run;
+      later_run = c.end_run.new.self.run;
+      stop_dump = c.args.self.now.stop_dump;
+      later_stop_dump = c.end_run.new.self.stop_dump;
+      slots = c.args.self.now.channels;
+      later_slots = c.end_run.new.self.channels;
+      files = record { seen = g.F.Files.seen c.args.files.now; faults = g.F.Files.faults c.args.files.now; clashes = g.F.Files.clashes c.args.files.now; first = g.F.Files.first c.args.files.now };
+      later_files = record { seen = g.F.Files.seen c.end_run.new.files; faults = g.F.Files.faults c.end_run.new.files; clashes = g.F.Files.clashes c.end_run.new.files; first = g.F.Files.first c.end_run.new.files };
+      answer = c.end_run.result;
+    } in
+    record {
+      finishes = c.end_run.ensures.finishes;
+      ready = c.end_run.ensures.ready;
+      idle = c.end_run.ensures.idle;
+      begun = c.end_run.ensures.begun;
+      room = λ ports room. ended_room f ports c.end_run.ensures.finishes room;
+      keeps = λ ports turns stands. c.finishes_keep.ensures f ports turns c.end_run.ensures.finishes c.requires.files stands;
+    }

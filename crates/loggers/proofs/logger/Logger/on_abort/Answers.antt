@@ -1,0 +1,25 @@
+use Rattle.std.proofs.Common.{Some, map, ap, arith, refl}
+use Rattle.transitions.specs.declared.answers.Answer.{Answer}
+use Rattle.loggers.specs.Turning.{buffers_begun, is_of_start}
+use Rattle.loggers.proofs.InTurns.{turns_as_many, entries_left}
+use Rattle.loggers.proofs.TurnParts.{abort_taken, found_of, found_is}
+use Rattle.loggers.proofs.logger.Logger.on_abort.Goals as goal
+
+pub abort_all-requires-clause-entries : goal.abort_all-requires-clause-entries
+abort_all-requires-clause-entries g c = entries_left 1 16 49 _ _ c.requires.entries (omega arith) c.end_first.ensures.entries
+
+pub returns-clause-takes : goal.returns-clause-takes
+returns-clause-takes g c = λ dump.
+    abort_taken _ _ (found_of (is_of_start c.args.self.now.run c.args.order.now.start) (buffers_begun c.args.self.now.run) c.in-Some.begun c.in-Some.ensures) (record {
+      answer_is = ap (λ (a : Answer). Some a) c.plain-2.ensures;
+      ended = record {
+        slots = c.end_first.new.slots;
+        ports = map g.P.BufferPort.access c.end_first.new.ports;
+        files = record { seen = g.F.Files.seen c.args.files.now; faults = g.F.Files.faults c.args.files.now; clashes = g.F.Files.clashes c.args.files.now; first = g.F.Files.first c.args.files.now };
+      };
+      ends = turns_as_many _ _ _ _ _ (found_is (is_of_start c.args.self.now.run c.args.order.now.start) (buffers_begun c.args.self.now.run) c.in-Some.begun c.in-Some.ensures)
+          (c.end_first.ensures.ends (record { seen = g.F.Files.seen c.args.files.now; faults = g.F.Files.faults c.args.files.now; clashes = g.F.Files.clashes c.args.files.now; first = g.F.Files.first c.args.files.now }));
+      aborts = c.abort_all.ensures.aborts;
+      run = refl;
+      stop_dump = refl;
+    })

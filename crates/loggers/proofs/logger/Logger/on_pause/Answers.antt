@@ -1,0 +1,16 @@
+use Rattle.std.proofs.Common.{Some, ap, sym, refl}
+use Rattle.std.proofs.lemmas.List.{length-map}
+use Rattle.transitions.specs.declared.answers.Answer.{Answer}
+use Rattle.loggers.proofs.InTurns.{turns_as_many}
+use Rattle.loggers.proofs.TurnParts.{mark_taken}
+use Rattle.loggers.proofs.logger.Logger.on_pause.Goals as goal
+
+pub returns-clause-takes : goal.returns-clause-takes
+returns-clause-takes g c = λ dump.
+    mark_taken _ _ _ c.if-not-goes_on.ensures (record {
+      answer_is = ap (λ (a : Answer). Some a) c.plain-2.ensures;
+      marks = turns_as_many _ _ _ _ _ (sym (length-map c.args.ports.now g.P.BufferPort.access))
+          (c.pause_all.ensures.pauses c.args.self.now.channels (record { seen = g.F.Files.seen c.args.files.now; faults = g.F.Files.faults c.args.files.now; clashes = g.F.Files.clashes c.args.files.now; first = g.F.Files.first c.args.files.now }));
+      run = refl;
+      stop_dump = refl;
+    })

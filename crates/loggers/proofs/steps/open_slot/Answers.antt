@@ -1,0 +1,50 @@
+use Rattle.loggers.proofs.StepEntries.{lent_at, lent_port, slot_opens, slot_refuses, uses_one_port, by_entries}
+use Rattle.loggers.proofs.steps.open_slot.Goals as goal
+
+pub open-requires-clause-entries : goal.open-requires-clause-entries
+open-requires-clause-entries g c =
+    c.requires.entries c.in-Some.channel.spec.buffer (g.P.BufferPort.access c.in-Some-get_mut.port.now)
+    (lent_port g.P.BufferPort.access c.args.ports.now c.in-Some.channel.spec.buffer c.in-Some-get_mut.port.now
+    (lent_at c.args.ports.now c.in-Some.channel.spec.buffer c.in-Some-get_mut.port.now (c.requires.served c.in-Some.channel c.in-Some.is) c.in-Some-get_mut.ensures.entry.1))
+
+pub returns-clause-opens : goal.returns-clause-opens
+returns-clause-opens g c =
+    slot_opens g.P.BufferPort.access c.args.order.now c.args.dump.now c.open.result c.args.slot.now c.in-Some.channel c.open.new.self c.args.ports.now c.in-Some-get_mut.port.now c.open.new.port
+    (record { seen = g.F.Files.seen c.args.files.now; faults = g.F.Files.faults c.args.files.now; clashes = g.F.Files.clashes c.args.files.now; first = g.F.Files.first c.args.files.now })
+    (record { seen = g.F.Files.seen c.open.new.files; faults = g.F.Files.faults c.open.new.files; clashes = g.F.Files.clashes c.open.new.files; first = g.F.Files.first c.open.new.files })
+    c.in-Some.is
+    (lent_at c.args.ports.now c.in-Some.channel.spec.buffer c.in-Some-get_mut.port.now (c.requires.served c.in-Some.channel c.in-Some.is) c.in-Some-get_mut.ensures.entry.1)
+    (record {
+      spec = c.open.ensures.spec;
+      event = c.open.ensures.event;
+      opens = c.open.ensures.opens;
+      exists = c.open.ensures.exists;
+      failed = c.open.ensures.failed;
+      faults = c.open.ensures.faults;
+      clashes = c.open.ensures.clashes;
+      first = c.open.ensures.first;
+    })
+
+pub returns-clause-refuses : goal.returns-clause-refuses
+returns-clause-refuses g c =
+    slot_refuses g.P.BufferPort.access c.args.order.now c.args.dump.now c.open.result c.args.slot.now c.in-Some.channel c.open.new.self c.args.ports.now c.in-Some-get_mut.port.now c.open.new.port
+    (record { seen = g.F.Files.seen c.args.files.now; faults = g.F.Files.faults c.args.files.now; clashes = g.F.Files.clashes c.args.files.now; first = g.F.Files.first c.args.files.now })
+    (record { seen = g.F.Files.seen c.open.new.files; faults = g.F.Files.faults c.open.new.files; clashes = g.F.Files.clashes c.open.new.files; first = g.F.Files.first c.open.new.files })
+    c.in-Some.is
+    (lent_at c.args.ports.now c.in-Some.channel.spec.buffer c.in-Some-get_mut.port.now (c.requires.served c.in-Some.channel c.in-Some.is) c.in-Some-get_mut.ensures.entry.1)
+    (record {
+      spec = c.open.ensures.spec;
+      event = c.open.ensures.event;
+      opens = c.open.ensures.opens;
+      exists = c.open.ensures.exists;
+      failed = c.open.ensures.failed;
+      faults = c.open.ensures.faults;
+      clashes = c.open.ensures.clashes;
+      first = c.open.ensures.first;
+    })
+
+pub returns-clause-entries : goal.returns-clause-entries
+returns-clause-entries g c =
+    uses_one_port g.P.BufferPort.access c.args.ports.now c.in-Some.channel.spec.buffer 2 c.in-Some-get_mut.port.now c.open.new.port
+    (lent_at c.args.ports.now c.in-Some.channel.spec.buffer c.in-Some-get_mut.port.now (c.requires.served c.in-Some.channel c.in-Some.is) c.in-Some-get_mut.ensures.entry.1)
+    (by_entries c.in-Some.channel.spec c.args.order.now c.args.dump.now c.open.result _ _ c.open.ensures.opens)

@@ -1,0 +1,102 @@
+-- How a logger ends the files of a run that was stopped, and what it answers then.
+use Rattle.std.specs.Prelude.{◌≡◌, ℕ, Bool, true, false, List, length, replicate, slice_set, Option, Some, None}
+use Rattle.std.specs.List.{list_all}
+use Rattle.daq_types.specs.declared.runs.ChannelState.{ChannelState}
+use Rattle.daq_types.specs.declared.runs.ChannelState.TheVariants.{Idle as IsIdle}
+use Rattle.transitions.specs.declared.answers.Answer.{Answer}
+use Rattle.transitions.specs.declared.answers.Answer.TheVariants.{Yes}
+use Rattle.transitions.specs.declared.answers.Tally.TheVariants.{Channels}
+use Rattle.buffer_core.specs.Slots.{slot_at}
+use Rattle.mid_logger.specs.declared.channel.Channel.{Channel}
+use Rattle.mid_logger.specs.declared.stage.ChannelStage.{ChannelStage}
+use Rattle.mid_logger.specs.declared.stage.ChannelStage.TheVariants.{Drained, Broken}
+use Rattle.loggers.specs.declared.logged_run.LoggedRun.{LoggedRun}
+use Rattle.loggers.specs.declared.logged_run.RunPart.{RunPart}
+use Rattle.loggers.specs.declared.logged_run.RunPart.TheVariants.{Stopping}
+use Rattle.loggers.specs.Moments.{RunFiles, InTurn, channel_limit}
+use Rattle.loggers.specs.ChannelSteps.{EndsChannel}
+
+-- the channel's client has read the run, or the channel broke off
+abbrev pub is_settled_stage : ChannelStage → Bool
+is_settled_stage (Drained run) = true
+is_settled_stage (Broken run) = true
+is_settled_stage stage = false
+
+abbrev pub is_settled_slot : Option Channel → Bool
+is_settled_slot None = true
+is_settled_slot (Some c) = is_settled_stage c.stage
+
+-- the time of the stop that is not answered, if there is one
+abbrev pub waiting_stop : Option LoggedRun → Option ℕ
+waiting_stop None = None
+waiting_stop (Some r) = stop_time r.part
+  where
+    stop_time : RunPart → Option ℕ
+    stop_time (Stopping time) = Some time
+    stop_time part = None
+
+-- The channels, the files, and the states that are told, between two steps of an ending.
+pub record EndingMoment : Type 0 where
+  pub slots : List (Option Channel)
+  pub files : RunFiles
+  pub states : List ChannelState
+
+-- The file of this channel, which has this number, is ended, and its state is told at its number.
+pub record EndsNumbered (time : ℕ) (dump : Option (List ℕ)) (number : ℕ) (before : Channel) (a b : EndingMoment) : Type 0 where
+  pub after : Channel
+  pub state : ChannelState
+  pub slots : b.slots ≡ slice_set a.slots number (Some after)
+  pub states : b.states ≡ slice_set a.states number state
+  pub ends : EndsChannel time dump state before after a.files b.files
+
+abbrev pub EndsSlot : (time : ℕ) → (dump : Option (List ℕ)) → (number : ℕ) → Option Channel → (a b : EndingMoment) →
+    Type 0
+EndsSlot time dump number None a b = b ≡ a
+EndsSlot time dump number (Some before) a b = EndsNumbered time dump number before a b
+
+abbrev pub EndsSlotAt : (time : ℕ) → (dump : Option (List ℕ)) → (number : ℕ) → (a b : EndingMoment) → Type 0
+EndsSlotAt time dump number a b = EndsSlot time dump number (slot_at a.slots number) a b
+
+-- A call to finish: the run, the dump of its stop, the channels and the files, before it and behind it, and the answer.
+pub record LoggerFinish : Type 0 where
+  pub run : Option LoggedRun
+  pub later_run : Option LoggedRun
+  pub stop_dump : Option (List ℕ)
+  pub later_stop_dump : Option (List ℕ)
+  pub slots : List (Option Channel)
+  pub later_slots : List (Option Channel)
+  pub files : RunFiles
+  pub later_files : RunFiles
+  pub answer : Option Answer
+
+-- there is no answer yet, and nothing is done
+pub record LeavesWaiting (f : LoggerFinish) : Type 0 where
+  pub answer_is : f.answer ≡ None
+  pub run : f.later_run ≡ f.run
+  pub stop_dump : f.later_stop_dump ≡ f.stop_dump
+  pub slots : f.later_slots ≡ f.slots
+  pub files : f.later_files ≡ f.files
+
+-- the states before the first file is ended
+abbrev pub states_idle : List ChannelState
+states_idle = replicate channel_limit IsIdle
+
+-- The file of each channel, in order of number, is ended at the time of the stop with its dump; the answer tells the
+-- states.
+pub record EndsFiles (f : LoggerFinish) (time : ℕ) : Type 0 where
+  pub states : List ChannelState
+  pub answer_is : f.answer ≡ Some (Yes (Channels states))
+  pub ends : InTurn (λ number. EndsSlotAt time f.stop_dump number) (length f.slots)
+      (record { slots = f.slots; files = f.files; states = states_idle })
+      (record { slots = f.later_slots; files = f.later_files; states = states })
+  pub run : f.later_run ≡ None
+  pub stop_dump : f.later_stop_dump ≡ None
+
+abbrev pub FinishesBy : (settled : Bool) → (stop : Option ℕ) → LoggerFinish → Type 0
+FinishesBy settled None f = LeavesWaiting f
+FinishesBy false (Some time) f = LeavesWaiting f
+FinishesBy true (Some time) f = EndsFiles f time
+
+-- The answer to the stop that waits is given once each channel has read the run or broke off.
+abbrev pub FinishesLogger : LoggerFinish → Type 0
+FinishesLogger f = FinishesBy (list_all is_settled_slot f.slots) (waiting_stop f.run) f

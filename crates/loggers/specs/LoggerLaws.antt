@@ -1,0 +1,28 @@
+-- What each call keeps of what a logger keeps between its calls.
+use Rattle.std.specs.Prelude.{◌≤◌, List, [], ◌∷◌, length, unwrap_or}
+use Rattle.daq_model.specs.Events.{record_limit}
+use Rattle.buffer_core.specs.Ports.{Access}
+use Rattle.member_model.specs.Turns.{MemberTurn, NoneOpen, latest_answered}
+use Rattle.loggers.specs.Moments.{HaveFilesOpen, IsLoggerReady}
+use Rattle.loggers.specs.Turning.{LoggerTurn, TakesTurn, IsIdleOutside}
+use Rattle.loggers.specs.Finishing.{LoggerFinish, FinishesLogger}
+use Rattle.loggers.specs.NewLoggers.{NoneTakenBack}
+use Rattle.loggers.specs.LoggerStands.{logger_turn, LoggerStands}
+
+-- Behind a turn that comes once the latest was answered the logger stands with that turn and its answer, where no
+-- client of it is known to be detached by another.
+abbrev pub TurnsKeep : Type 0
+TurnsKeep = (t : LoggerTurn) → (turns : List MemberTurn) → TakesTurn t → length (unwrap_or t.dump []) ≤ record_limit →
+    IsLoggerReady t.before.slots t.before.ports t.before.files.seen →
+    IsLoggerReady t.after.slots t.after.ports t.after.files.seen →
+    IsIdleOutside t.run t.before.slots → IsIdleOutside t.later_run t.after.slots →
+    NoneOpen turns → NoneTakenBack t.after.ports →
+    LoggerStands t.run t.stop_dump t.before.slots t.before.ports turns t.before.files.seen →
+    LoggerStands t.later_run t.later_stop_dump t.after.slots t.after.ports
+    (logger_turn t.transition t.order t.dump t.answer ∷ turns) t.after.files.seen
+
+-- Behind a call to finish it stands with the answer to the stop that waits, if there is one.
+abbrev pub FinishesKeep : Type 0
+FinishesKeep = (f : LoggerFinish) → (ports : List Access) → (turns : List MemberTurn) → FinishesLogger f →
+    HaveFilesOpen f.slots f.files.seen → LoggerStands f.run f.stop_dump f.slots ports turns f.files.seen →
+    LoggerStands f.later_run f.later_stop_dump f.later_slots ports (latest_answered turns f.answer) f.later_files.seen

@@ -1,0 +1,252 @@
+-- What a logger keeps of its calls on buffers, its turns and the run files, between its calls.
+use Rattle.std.specs.Prelude.{◌≡◌, ◌≢◌, ◌≤◌, ◌<◌, ℕ, IsTrue, List, [], ◌∷◌, length, slice_get, unwrap_or, Option, Some, None, ⊤, ◌⊎◌}
+use Rattle.daq_types.specs.declared.runs.Order.{Order}
+use Rattle.daq_types.specs.declared.runs.ChannelState.{ChannelState}
+use Rattle.daq_types.specs.declared.runs.ChannelState.TheVariants.{Broken as IsBroken}
+use Rattle.daq_types.specs.declared.runs.Transition.{Transition}
+use Rattle.daq_types.specs.declared.runs.Transition.TheVariants.{Start, Stop, StartAbort}
+use Rattle.daq_io.specs.Seen.{Seen}
+use Rattle.buffer_core.specs.declared.entry.BufferEntry.{BufferEntry}
+use Rattle.buffer_core.specs.declared.entry.BufferEntry.TheVariants.{End}
+use Rattle.buffer_core.specs.Ports.{Access}
+use Rattle.buffer_core.specs.Slots.{slot_at}
+use Rattle.transitions.specs.declared.answers.Answer.{Answer}
+use Rattle.transitions.specs.declared.answers.Answer.TheVariants.{Yes}
+use Rattle.transitions.specs.declared.answers.Tally.TheVariants.{Channels}
+use Rattle.member_model.specs.Turns.{MemberTurn, HasTurn, HasTurnOf, IsAcceptedStart, NoneOpen, current_run, AreEngineTurns}
+use Rattle.member_model.specs.SentCalls.{EachCall}
+use Rattle.member_model.specs.CutRuns.{MarksEnd, RefusesEnd}
+use Rattle.member_model.specs.LoggerKept.{LoggerChannel, LoggerPort, IsStartAnswer, KeepsLogger}
+use Rattle.mid_logger.specs.declared.channel.Channel.{Channel}
+use Rattle.mid_logger.specs.declared.stage.BegunRun.{BegunRun}
+use Rattle.mid_logger.specs.declared.stage.ChannelRun.{ChannelRun}
+use Rattle.mid_logger.specs.declared.stage.ChannelStage.{ChannelStage}
+use Rattle.mid_logger.specs.declared.stage.ChannelStage.TheVariants.{Idle, Writing, Draining, Drained, Broken}
+use Rattle.mid_logger.specs.Patterns.{file_name_by}
+use Rattle.mid_logger.specs.Channels.{FileHead, KeepsOwnCalls, ChannelStands, channel_run, written_run}
+use Rattle.mid_logger.specs.ChannelEnds.{HasLeftRead, state_ended}
+use Rattle.loggers.specs.declared.logged_run.LoggedRun.{LoggedRun}
+use Rattle.loggers.specs.declared.logged_run.RunPart.{RunPart}
+use Rattle.loggers.specs.declared.logged_run.RunPart.TheVariants.{Refused, Started, Stopping}
+use Rattle.loggers.specs.Moments.{HaveNumbersApart, channel_limit}
+
+-- The logger as its contract sees it.
+
+-- a turn with its answer, as a member's turns are listed
+abbrev pub logger_turn : Transition → Order → (dump : Option (List ℕ)) → Option Answer → MemberTurn
+logger_turn transition order dump answer = record {
+  transition = transition;
+  order = order;
+  dump = dump;
+  answer = answer;
+}
+
+-- A channel of the logger. While it has no client, this number stands for it.
+abbrev pub logger_channel : (absent : ℕ) → Channel → LoggerChannel
+logger_channel absent c = record {
+  number = c.spec.number;
+  name = λ run. file_name_by c.spec.pattern run;
+  buffer = c.spec.buffer;
+  client = unwrap_or c.client absent;
+  id = c.spec.id;
+  mask = c.spec.mask;
+}
+
+-- the channels of the logger, in order of number
+abbrev pub logger_channels : (absent : ℕ → ℕ) → List (Option Channel) → List LoggerChannel
+logger_channels absent [] = []
+logger_channels absent (None ∷ slots) = logger_channels absent slots
+logger_channels absent (Some c ∷ slots) = logger_channel (absent c.spec.number) c ∷ logger_channels absent slots
+
+abbrev pub logger_port : Option Access → LoggerPort
+logger_port None = record { own = []; got = [] }
+logger_port (Some a) = record { own = a.own; got = a.got }
+
+-- the logger's calls on each buffer, and what it got there
+abbrev pub logger_ports : List Access → (buffer : ℕ) → LoggerPort
+logger_ports ports buffer = logger_port (slice_get ports buffer)
+
+-- What it keeps besides.
+
+-- The begin record of the file is that of the accepted start with this number.
+pub record HasHead (turns : List MemberTurn) (start : ℕ) (head : FileHead) : Type 0 where
+  pub turn : MemberTurn
+  pub is_start : IsAcceptedStart turns start turn
+  pub run : head.run ≡ turn.order.run
+  pub time : head.time ≡ turn.order.time
+  pub dump : head.dump ≡ unwrap_or turn.dump []
+
+-- what the end of the run with this start number was replied: a place; or it was refused, and was never accepted
+abbrev pub IsEndedSo : List BufferEntry → (start : ℕ) → (ended : Option ℕ) → Type 0
+IsEndedSo own start (Some place) = MarksEnd own start place
+IsEndedSo own start None = RefusesEnd own start × ((place : ℕ) → MarksEnd own start place → ⊥)
+
+-- a run with this start number that is not to be ended yet
+pub record IsUnended (start : ℕ) (run : BegunRun) : Type 0 where
+  pub of : run.opened.start ≡ start
+  pub on : run.ended ≡ None
+
+-- a run with this start number whose end was replied so
+pub record IsEndedRun (turns : List MemberTurn) (own : List BufferEntry) (start : ℕ) (run : BegunRun) : Type 0 where
+  pub of : run.opened.start ≡ start
+  pub so : AreEngineTurns turns → IsEndedSo own start run.ended
+
+-- The stage of a channel while its run goes on, and while its stop is not answered.
+abbrev pub IsStartedStage : (start : ℕ) → ChannelStage → Type 0
+IsStartedStage start (Writing opened begun) = opened.start ≡ start
+IsStartedStage start (Broken run) = IsUnended start run
+IsStartedStage start stage = ⊥
+
+abbrev pub IsStoppingStage : List MemberTurn → List BufferEntry → (start : ℕ) → ChannelStage → Type 0
+IsStoppingStage turns own start (Draining run) = IsEndedRun turns own start run
+IsStoppingStage turns own start (Drained run) = IsEndedRun turns own start run
+IsStoppingStage turns own start (Broken run) = IsEndedRun turns own start run
+IsStoppingStage turns own start stage = ⊥
+
+abbrev pub IsStagePart : RunPart → List MemberTurn → List BufferEntry → (start : ℕ) → ChannelStage → Type 0
+IsStagePart Refused turns own start stage = stage ≡ Idle
+IsStagePart Started turns own start stage = IsStartedStage start stage
+IsStagePart (Stopping time) turns own start stage = IsStoppingStage turns own start stage
+
+-- the channel's stage in the run that the logger has
+abbrev pub IsStageOf : Option LoggedRun → List MemberTurn → List BufferEntry → ChannelStage → Type 0
+IsStageOf None turns own stage = stage ≡ Idle
+IsStageOf (Some r) turns own stage = IsStagePart r.part turns own r.start stage
+
+-- A channel, with the port of its buffer. Where it writes a run, or broke off, the head of its file is one for that
+-- run.
+pub record ChannelKept (IsHeadOf : ChannelRun → FileHead → Type 0) (seen : Seen) (c : Channel) (port : Access) : Type 0 where
+  pub head : FileHead
+  pub stands : ChannelStands c.spec c.client c.stage head port.own port.got seen
+  pub headed : (opened : ChannelRun) → channel_run c.stage ≡ Some opened → IsHeadOf opened head
+
+-- Two channels have two clients, where they read one buffer, and files of two names, where names are told, and under
+-- two numbers.
+pub record SlotsApart (seen : Seen) (c d : Channel) : Type 0 where
+  pub clients : c.spec.buffer ≡ d.spec.buffer → (m n : ℕ) → c.client ≡ Some m → d.client ≡ Some n → m ≢ n
+  pub names : (r s : ChannelRun) → channel_run c.stage ≡ Some r → channel_run d.stage ≡ Some s → IsTrue seen.tells →
+      file_name_by c.spec.pattern r.run ≢ file_name_by d.spec.pattern s.run
+  pub numbers : HaveNumbersApart (written_run c.stage) (written_run d.stage)
+
+-- a stop or a start-abort with this number is among these turns
+pub record HasEndTurn (turns : List MemberTurn) (start : ℕ) : Type 0 where
+  pub turn : MemberTurn
+  pub stands : HasTurn turns turn
+  pub ends : (turn.transition ≡ Stop) ⊎ (turn.transition ≡ StartAbort)
+  pub of : turn.order.start ≡ start
+
+-- a run is ended in a buffer only at a stop or a start-abort of it
+abbrev pub IsEndTold : List MemberTurn → BufferEntry → Type 0
+IsEndTold turns (End start reply) = HasEndTurn turns start
+IsEndTold turns entry = ⊤
+
+-- What the logger keeps of its calls on a buffer: the end of a run was accepted at one place at most.
+pub record PortKept (turns : List MemberTurn) (own : List BufferEntry) : Type 0 where
+  pub calls : KeepsOwnCalls own
+  pub told : EachCall (IsEndTold turns) own
+  pub once : AreEngineTurns turns → (start m n : ℕ) → MarksEnd own start m → MarksEnd own start n → m ≡ n
+
+-- A run of a channel that was stopped, whose state was told: its file has what was read, or a first part of it, and is
+-- not that of a run that another channel has now, where names are told.
+pub record LeftRun (turns : List MemberTurn) (slots : List (Option Channel)) (seen : Seen) (c : Channel) (port : Access) (stop : MemberTurn) (state : ChannelState) : Type 0 where
+  pub run : BegunRun
+  pub head : FileHead
+  pub of : run.opened.start ≡ stop.order.start
+  pub client : c.client ≡ Some run.opened.client
+  pub headed : HasHead turns stop.order.start head
+  pub ended : IsEndedSo port.own stop.order.start run.ended
+  pub told : (state ≡ IsBroken) ⊎ (state ≡ state_ended run.ended stop.dump)
+  pub left : HasLeftRead state c.spec head run stop.order.time stop.dump port.own port.got seen
+  pub apart : (n : ℕ) → (d : Channel) → (opened : ChannelRun) → slot_at slots n ≡ Some d →
+      channel_run d.stage ≡ Some opened →
+      IsTrue seen.tells → file_name_by c.spec.pattern run.opened.run ≢ file_name_by d.spec.pattern opened.run
+
+-- the stop turn was answered, and these states were told
+pub record TellsStates (turns : List MemberTurn) (stop : MemberTurn) (states : List ChannelState) : Type 0 where
+  pub stands : HasTurn turns stop
+  pub is : stop.transition ≡ Stop
+  pub answered : stop.answer ≡ Some (Yes (Channels states))
+
+-- What stands of a channel at a stop that was answered: its state was told, and its run was left so.
+pub record ToldSo (turns : List MemberTurn) (slots : List (Option Channel)) (seen : Seen) (number : ℕ) (c : Channel) (port : Access) (stop : MemberTurn) (states : List ChannelState) : Type 0 where
+  pub state : ChannelState
+  pub told : slice_get states number ≡ Some state
+  pub left : LeftRun turns slots seen c port stop state
+
+-- What the channels and the ports keep, whatever run the logger has.
+pub record SlotsStand (IsHeadOf : ChannelRun → FileHead → Type 0) (turns : List MemberTurn) (slots : List (Option Channel)) (ports : List Access) (seen : Seen) : Type 0 where
+  pub many : length slots ≤ channel_limit
+  pub numbered : (n : ℕ) → (c : Channel) → slot_at slots n ≡ Some c → c.spec.number ≡ n
+  pub channels : (n : ℕ) → (c : Channel) → (a : Access) → slot_at slots n ≡ Some c →
+      slice_get ports c.spec.buffer ≡ Some a →
+      ChannelKept IsHeadOf seen c a
+  pub apart : (n m : ℕ) → (c d : Channel) → n ≢ m → slot_at slots n ≡ Some c → slot_at slots m ≡ Some d →
+      SlotsApart seen c d
+  pub calls : (buffer : ℕ) → (a : Access) → slice_get ports buffer ≡ Some a → PortKept turns a.own
+  pub left : AreEngineTurns turns → (stop : MemberTurn) → (states : List ChannelState) → TellsStates turns stop states →
+      (n : ℕ) → (c : Channel) → (a : Access) → slot_at slots n ≡ Some c → slice_get ports c.spec.buffer ≡ Some a →
+      ToldSo turns slots seen n c a stop states
+
+-- the latest turn is a stop of this run, at this time and with this dump, that is not answered
+pub record IsStopWaiting (turns : List MemberTurn) (start time : ℕ) (dump : Option (List ℕ)) : Type 0 where
+  pub order : Order
+  pub earlier : List MemberTurn
+  pub latest : turns ≡ logger_turn Stop order dump None ∷ earlier
+  pub of : order.start ≡ start
+  pub at : order.time ≡ time
+
+abbrev pub HasStart : List MemberTurn → (start : ℕ) → Type 0
+HasStart turns start = (begin : MemberTurn) × HasTurnOf turns Start start begin
+
+abbrev pub HasAcceptedStart : List MemberTurn → (start : ℕ) → Type 0
+HasAcceptedStart turns start = (begin : MemberTurn) × IsAcceptedStart turns start begin
+
+-- the run that the logger has, by its turns
+abbrev pub IsPartTold : RunPart → List MemberTurn → (start : ℕ) → (stop_dump : Option (List ℕ)) → Type 0
+IsPartTold Refused turns start stop_dump = NoneOpen turns × HasStart turns start
+IsPartTold Started turns start stop_dump = NoneOpen turns × HasAcceptedStart turns start
+IsPartTold (Stopping time) turns start stop_dump =
+    IsStopWaiting turns start time stop_dump × HasAcceptedStart turns start
+
+abbrev pub IsRunTold : Option LoggedRun → List MemberTurn → (stop_dump : Option (List ℕ)) → Type 0
+IsRunTold None turns stop_dump = NoneOpen turns
+IsRunTold (Some r) turns stop_dump = IsPartTold r.part turns r.start stop_dump
+
+abbrev pub IsInStarted : Option LoggedRun → (start : ℕ) → Type 0
+IsInStarted None start = ⊥
+IsInStarted (Some r) start = (r.start ≡ start) × (r.part ≡ Started)
+
+-- while the run is on whose start the logger accepted last, it has that run, and no stop of it
+abbrev pub HasCurrentRun : Option LoggedRun → List MemberTurn → Type 0
+HasCurrentRun run turns = (start : ℕ) → (begin : MemberTurn) → current_run turns ≡ Some start →
+    IsAcceptedStart turns start begin → IsInStarted run start
+
+-- each answered stop of a run whose start was accepted told states
+abbrev pub StopsTellStates : List MemberTurn → Type 0
+StopsTellStates turns = (begin stop : MemberTurn) → (answer : Answer) → IsAcceptedStart turns stop.order.start begin →
+    HasTurn turns stop →
+    stop.transition ≡ Stop → stop.answer ≡ Some answer → (states : List ChannelState) × (answer ≡ Yes (Channels states))
+
+-- the head of a run's file is that of its accepted start
+abbrev pub IsHeadTold : List MemberTurn → ChannelRun → FileHead → Type 0
+IsHeadTold turns opened head = HasHead turns opened.start head
+
+-- A logger between its calls, with its ports, its turns and the run files.
+pub record LoggerStands (run : Option LoggedRun) (stop_dump : Option (List ℕ)) (slots : List (Option Channel)) (ports : List Access) (turns : List MemberTurn) (seen : Seen) : Type 0 where
+  pub standing : SlotsStand (IsHeadTold turns) turns slots ports seen
+  pub served : (n : ℕ) → (c : Channel) → slot_at slots n ≡ Some c → c.spec.buffer < length ports
+  pub stages : (n : ℕ) → (c : Channel) → (a : Access) → slot_at slots n ≡ Some c →
+      slice_get ports c.spec.buffer ≡ Some a →
+      IsStageOf run turns a.own c.stage
+  pub starts : (start : MemberTurn) → (answer : Answer) → HasTurn turns start → start.transition ≡ Start →
+      start.answer ≡ Some answer → IsStartAnswer answer
+  pub stops : AreEngineTurns turns → StopsTellStates turns
+  pub told : IsRunTold run turns stop_dump
+  pub current : AreEngineTurns turns → HasCurrentRun run turns
+
+-- It keeps the logger's contract, whatever numbers stand for clients that are not attached yet.
+abbrev pub LoggerKeeps : Type 0
+LoggerKeeps = (run : Option LoggedRun) → (stop_dump : Option (List ℕ)) → (slots : List (Option Channel)) →
+    (ports : List Access) →
+    (turns : List MemberTurn) → (seen : Seen) → (absent : ℕ → ℕ) → LoggerStands run stop_dump slots ports turns seen →
+    KeepsLogger (logger_channels absent slots) (logger_ports ports) turns seen

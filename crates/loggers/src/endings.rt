@@ -1,0 +1,145 @@
+//! How the files of a run that was stopped are ended.
+
+ghost use Rattle.std.specs.Prelude.{◌≡◌, ◌<◌, ◌≤◌, List, Option, Some, length, slice_set, IfSome};
+ghost use Rattle.daq_model.specs.Events.{record_limit};
+ghost use Rattle.buffer_core.specs.Slots.{slot_at};
+ghost use Rattle.mid_logger.specs.declared.channel.Channel.{Channel as a_channel};
+ghost use Rattle.mid_logger.specs.Channels.{IsOpenFile, written_run};
+ghost use Rattle.loggers.specs.Moments.{InTurn, HaveFilesOpen};
+ghost use Rattle.loggers.specs.Finishing.{EndsSlot, EndsSlotAt, states_idle, waiting_stop};
+
+use crate::logged_run::{LoggedRun, RunPart};
+use crate::slots::Slots;
+use daq_io::Files;
+use daq_types::{Bytes, ChannelState};
+use mid_logger::{Channel, laws as channel_laws};
+
+/// The states of the channels, each at its number.
+pub type States = [ChannelState; 16];
+
+/// The time of the stop that is not answered, if there is one.
+pub fn stop_time(run: Option<LoggedRun>) -> Option<u32>
+    ensures { result ≡ waiting_stop run }
+{
+    match run?.part {
+        RunPart::Stopping { time } => Some(time),
+        RunPart::Refused | RunPart::Started => None,
+    }
+}
+
+/// Ends the file of this channel, where there is one, and tells its state at its number.
+fn end_slot<F: Files>(
+    slot: &mut Option<Channel>,
+    files: &mut F,
+    states: &mut States,
+    number: usize,
+    time: u32,
+    dump: &Option<Bytes>,
+)
+    requires number { number < 16 }
+    requires file { (c : a_channel) → slot.old ≡ Some c →
+        IsOpenFile (F.seen files.old) c.spec (written_run c.stage) }
+    requires small { IfSome dump.now (λ bytes. length bytes ≤ record_limit) }
+    ensures ends { (slots : List (Option a_channel)) → slot_at slots number ≡ slot.old →
+        EndsSlot time dump.now number slot.old (record {
+          slots = slots;
+          files = record {
+            seen = F.seen files.old;
+            faults = F.faults files.old;
+            clashes = F.clashes files.old;
+            first = F.first files.old;
+          };
+          states = states.old;
+        }) (record {
+          slots = slice_set slots number slot.new;
+          files = record {
+            seen = F.seen files.new;
+            faults = F.faults files.new;
+            clashes = F.clashes files.new;
+            first = F.first files.new;
+          };
+          states = states.new;
+        }) }
+{
+    if let Some(channel) = slot {
+        states[number] = channel.close(files, time, dump);
+    }
+}
+
+/// Ends the file of the channel of this number, where there is one, and tells its state.
+fn end_file_at<F: Files>(
+    slots: &mut Slots,
+    files: &mut F,
+    states: &mut States,
+    number: usize,
+    time: u32,
+    dump: &Option<Bytes>,
+)
+    requires number { number < 16 }
+    requires files { HaveFilesOpen slots.old (F.seen files.old) }
+    requires small { IfSome dump.now (λ bytes. length bytes ≤ record_limit) }
+    ensures ends { EndsSlotAt time dump.now number (record {
+      slots = slots.old;
+      files = record {
+        seen = F.seen files.old;
+        faults = F.faults files.old;
+        clashes = F.clashes files.old;
+        first = F.first files.old;
+      };
+      states = states.old;
+    }) (record {
+      slots = slots.new;
+      files = record {
+        seen = F.seen files.new;
+        faults = F.faults files.new;
+        clashes = F.clashes files.new;
+        first = F.first files.new;
+      };
+      states = states.new;
+    }) }
+    ensures files { HaveFilesOpen slots.new (F.seen files.new) }
+    ensures many { length slots.new ≡ length slots.old }
+{
+    channel_laws::closes_kept();
+    if let Some(slot) = slots.get_mut(number) {
+        end_slot(slot, files, states, number, time, dump);
+    }
+}
+
+/// Ends the file of each channel, in order of number, and answers the states.
+pub fn end_files<F: Files>(
+    slots: &mut Slots,
+    files: &mut F,
+    time: u32,
+    dump: &Option<Bytes>,
+) -> States
+    requires many { length slots.old ≤ 16 }
+    requires files { HaveFilesOpen slots.old (F.seen files.old) }
+    requires small { IfSome dump.now (λ bytes. length bytes ≤ record_limit) }
+    ensures ends { InTurn (λ number. EndsSlotAt time dump.now number) (length slots.old) (record {
+      slots = slots.old;
+      files = record {
+        seen = F.seen files.old;
+        faults = F.faults files.old;
+        clashes = F.clashes files.old;
+        first = F.first files.old;
+      };
+      states = states_idle;
+    }) (record {
+      slots = slots.new;
+      files = record {
+        seen = F.seen files.new;
+        faults = F.faults files.new;
+        clashes = F.clashes files.new;
+        first = F.first files.new;
+      };
+      states = result;
+    }) }
+    ensures files { HaveFilesOpen slots.new (F.seen files.new) }
+{
+    let mut states = [ChannelState::Idle; 16];
+    for number in 0..slots.len() {
+        end_file_at(slots, files, &mut states, number, time, dump);
+    }
+    states
+}

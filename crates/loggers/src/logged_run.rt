@@ -1,0 +1,20 @@
+/// How far the run is that a logger was last told to start.
+#[derive(Clone, Copy, Debug, PartialEq, Eq)]
+pub enum RunPart {
+    /// Its start was refused.
+    Refused,
+    /// Its start was accepted, and no stop of it has come.
+    Started,
+    /// A stop of it has come, at this time, and is not answered.
+    Stopping { time: u32 },
+}
+
+/// The run that a logger was last told to start, until that is over.
+#[derive(Clone, Copy, Debug, PartialEq, Eq)]
+pub struct LoggedRun {
+    /// The start number.
+    pub start: u32,
+    /// How many buffers, from the first on, the logger has begun it in and not ended it.
+    pub begun: usize,
+    pub part: RunPart,
+}

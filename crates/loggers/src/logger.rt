@@ -1,0 +1,628 @@
+ghost use Rattle.std.specs.Prelude.{◌≡◌, ◌≤◌, ◌<◌, ℕ, List, [], ◌∷◌, if◌then◌else◌, length, map, unwrap_or, Option, Some, None, IfOk, IfSome};
+ghost use Rattle.daq_model.specs.Events.{record_limit};
+ghost use Rattle.daq_io.specs.Seen.{Seen};
+ghost use Rattle.buffer_core.specs.Ports.{Access};
+ghost use Rattle.buffer_core.specs.Slots.{some_slot};
+ghost use Rattle.member_model.specs.Turns.{MemberTurn, NoneOpen, latest_answered};
+ghost use Rattle.daq_types.specs.declared.runs.Transition.TheVariants.{Start, Stop, Pause, Resume, StartAbort};
+ghost use Rattle.transitions.specs.declared.answers.Answer.TheVariants.{Yes};
+ghost use Rattle.transitions.specs.declared.answers.Tally.TheVariants.{Plain};
+ghost use Rattle.loggers.specs.Moments.{moment_of, IsLoggerReady, HaveFilesOpen, HaveEntries, UseEntries, AreIdle, AreSamePorts};
+ghost use Rattle.loggers.specs.Turning.{TakesTurn, TakesStart, TakesStop, TakesMark, TakesAbort, StartsLogger, PausesBuffer, ResumesBuffer, is_run_on, is_started, is_of_start, buffers_begun, IsIdleOutside, start_answer, start_part};
+ghost use Rattle.loggers.specs.Finishing.{FinishesLogger};
+ghost use Rattle.loggers.specs.SlotPulls.{HasEventRoom, PullsNumbered};
+ghost use Rattle.loggers.specs.NewLoggers.{HaveNumbers, HasNewChannels, HavePorts, AreUnused, NoneTakenBack};
+ghost use Rattle.loggers.specs.LoggerStands.{LoggerStands, logger_turn};
+
+use crate::endings::{end_files, stop_time};
+use crate::laws as logger_laws;
+use crate::logged_run::{LoggedRun, RunPart};
+use crate::marks::{end_first, pause_all, resume_all};
+use crate::slots::{ChannelSpecs, Ports, Slots, any_failed, are_settled, new_channels};
+use crate::starting::{abort_all, start_run};
+use crate::steps::pull_at;
+use buffer_core::BufferPort;
+use daq_io::Files;
+use daq_types::{Bytes, NoMemory, Order, Transition, Why};
+use mid_logger::{Pulled, laws as channel_laws};
+use std::alloc::Global;
+use std::sync::Wait;
+use transitions::{Answer, Tally};
+
+/// The logger: it takes part in runs by its turns, and its channels write the events of each run into run files.
+/// Only `new` takes memory.
+#[derive(Drop)]
+pub struct Logger {
+    /// Its channels, each at its number.
+    pub channels: Slots,
+    /// The run that it was last told to start, until that is over.
+    pub run: Option<LoggedRun>,
+    /// The dump of the stop that is not answered.
+    pub stop_dump: Option<Bytes>,
+}
+
+/// Whether a run is on: its start was accepted, and its stop is not answered.
+fn has_run(run: Option<LoggedRun>) -> bool
+    ensures { result ≡ is_run_on run }
+{
+    match run {
+        None => false,
+        Some(run) => run.part != RunPart::Refused,
+    }
+}
+
+/// Whether the start with this number was accepted, and no stop of it has come.
+fn goes_on(run: Option<LoggedRun>, start: u32) -> bool
+    ensures { result ≡ is_started run start }
+{
+    match run {
+        None => false,
+        Some(run) => run.part == RunPart::Started && run.start == start,
+    }
+}
+
+/// In how many buffers the start with this number is begun; None where the logger was not last told to start that.
+fn begun_in(run: Option<LoggedRun>, start: u32) -> Option<usize>
+    ensures { result ≡ (if is_of_start run start then Some (buffers_begun run) else None) }
+{
+    let run = run?;
+    if run.start != start {
+        return None;
+    }
+    Some(run.begun)
+}
+
+/// The bytes of a dump; none without one.
+fn bytes_of(dump: &Option<Bytes>) -> &[u8]
+    ensures { result.now ≡ unwrap_or dump.now [] }
+{
+    match dump {
+        Some(bytes) => bytes.as_slice(),
+        None => &[],
+    }
+}
+
+/// What a turn is answered that needs no more.
+fn plain() -> Answer
+    ensures { result ≡ Yes Plain }
+{
+    Answer::Yes(Tally::Plain)
+}
+
+/// What a start is answered.
+fn answer_of_start(started: Result<(), Why>) -> Answer
+    ensures { result ≡ start_answer started }
+{
+    match started {
+        Ok(()) => plain(),
+        Err(why) => Answer::No(why),
+    }
+}
+
+/// How far a run is behind this result of its start.
+fn part_of_start(started: Result<(), Why>) -> RunPart
+    ensures { result ≡ start_part started }
+{
+    match started {
+        Ok(()) => RunPart::Started,
+        Err(_) => RunPart::Refused,
+    }
+}
+
+impl Logger {
+    /// A logger with a channel for each spec, and for each channel room for an event of so many bytes of data.
+    pub fn new(alloc: Global, specs: ChannelSpecs, rooms: &[u32]) -> Result<Logger, NoMemory>
+        requires rooms { length rooms.now ≡ length specs }
+        requires numbers { HaveNumbers specs }
+        ensures made { IfOk result (λ logger. HasNewChannels specs rooms.now logger.channels) }
+        ensures run { IfOk result (λ logger. logger.run ≡ None) }
+        ensures stop_dump { IfOk result (λ logger. logger.stop_dump ≡ None) }
+        ensures idle { IfOk result (λ logger. AreIdle logger.channels) }
+        ensures ready { IfOk result (λ logger. (ports : List Access) → (seen : Seen) →
+            HavePorts specs ports → IsLoggerReady logger.channels ports seen) }
+        ensures stands { IfOk result (λ logger. (ports : List Access) → (seen : Seen) →
+            HavePorts specs ports → AreUnused ports →
+            LoggerStands logger.run logger.stop_dump logger.channels ports [] seen) }
+    {
+        let channels = new_channels(alloc, specs, rooms)?;
+        Ok(Logger {
+            channels,
+            run: None,
+            stop_dump: None,
+        })
+    }
+
+    /// Takes a turn. Between two turns the answer to the first was given.
+    ///
+    /// At a start each channel, in order of number, makes its file, writes the begin record with the dump, and asks
+    /// for its events; then the run is begun in every buffer. The first refusal of these is the answer, before
+    /// which the files are closed and removed and the requests cancelled. A pause and a resume are marked in every
+    /// buffer. At a stop the run is ended in every buffer; the answer is None, and `finish` gives it later. At a
+    /// start-abort the run is ended where it is begun, and each channel calls it off.
+    ///
+    /// A start is refused as NotReady while a run is on. A stop, a pause or a resume of another run than the one
+    /// whose start was accepted last, and a start-abort of another start than the last, change nothing.
+    pub fn on_turn<R: Wait, F: Files, P: BufferPort>(
+        &mut self,
+        rt: &R,
+        files: &mut F,
+        ports: &mut Ports<P>,
+        transition: Transition,
+        order: &Order,
+        dump: Option<Bytes>,
+    ) -> Option<Answer>
+        requires ready { IsLoggerReady self.old.channels (map P.access ports.old) (F.seen files.old) }
+        requires entries { HaveEntries 49 (map P.access ports.old) }
+        requires idle { IsIdleOutside self.old.run self.old.channels }
+        requires begun { buffers_begun self.old.run ≤ length ports.old }
+        requires small { IfSome dump (λ bytes. length bytes ≤ record_limit) }
+        ensures takes { TakesTurn (record {
+          transition = transition;
+          order = order.now;
+          dump = dump;
+          answer = result;
+          run = self.old.run;
+          later_run = self.new.run;
+          stop_dump = self.old.stop_dump;
+          later_stop_dump = self.new.stop_dump;
+          before = moment_of self.old.channels (map P.access ports.old) (F.seen files.old)
+              (F.faults files.old) (F.clashes files.old) (F.first files.old);
+          after = moment_of self.new.channels (map P.access ports.new) (F.seen files.new)
+              (F.faults files.new) (F.clashes files.new) (F.first files.new);
+        }) }
+        ensures ready { IsLoggerReady self.new.channels (map P.access ports.new) (F.seen files.new) }
+        ensures idle { IsIdleOutside self.new.run self.new.channels }
+        ensures begun { buffers_begun self.new.run ≤ length ports.new }
+        ensures small { IfSome self.old.stop_dump (λ bytes. length bytes ≤ record_limit) →
+            IfSome self.new.stop_dump (λ bytes. length bytes ≤ record_limit) }
+        ensures same { AreSamePorts (map P.access ports.old) (map P.access ports.new) }
+        ensures room { ((number : ℕ) → HasEventRoom number self.old.channels (map P.access ports.old)) →
+            (number : ℕ) → HasEventRoom number self.new.channels (map P.access ports.new) }
+        ensures keeps { (turns : List MemberTurn) → NoneOpen turns →
+            NoneTakenBack (map P.access ports.new) →
+            LoggerStands self.old.run self.old.stop_dump self.old.channels
+            (map P.access ports.old) turns (F.seen files.old) →
+            LoggerStands self.new.run self.new.stop_dump self.new.channels
+            (map P.access ports.new) (logger_turn transition order.now dump result ∷ turns)
+            (F.seen files.new) }
+    {
+        logger_laws::turns_keep();
+        self.take_turn(rt, files, ports, transition, order, dump)
+    }
+
+    /// Takes a turn: what is done, and what is answered.
+    fn take_turn<R: Wait, F: Files, P: BufferPort>(
+        &mut self,
+        rt: &R,
+        files: &mut F,
+        ports: &mut Ports<P>,
+        transition: Transition,
+        order: &Order,
+        dump: Option<Bytes>,
+    ) -> Option<Answer>
+        requires ready { IsLoggerReady self.old.channels (map P.access ports.old) (F.seen files.old) }
+        requires entries { HaveEntries 49 (map P.access ports.old) }
+        requires idle { IsIdleOutside self.old.run self.old.channels }
+        requires begun { buffers_begun self.old.run ≤ length ports.old }
+        requires small { IfSome dump (λ bytes. length bytes ≤ record_limit) }
+        ensures takes { TakesTurn (record {
+          transition = transition;
+          order = order.now;
+          dump = dump;
+          answer = result;
+          run = self.old.run;
+          later_run = self.new.run;
+          stop_dump = self.old.stop_dump;
+          later_stop_dump = self.new.stop_dump;
+          before = moment_of self.old.channels (map P.access ports.old) (F.seen files.old)
+              (F.faults files.old) (F.clashes files.old) (F.first files.old);
+          after = moment_of self.new.channels (map P.access ports.new) (F.seen files.new)
+              (F.faults files.new) (F.clashes files.new) (F.first files.new);
+        }) }
+        ensures ready { IsLoggerReady self.new.channels (map P.access ports.new) (F.seen files.new) }
+        ensures idle { IsIdleOutside self.new.run self.new.channels }
+        ensures begun { buffers_begun self.new.run ≤ length ports.new }
+        ensures small { IfSome self.old.stop_dump (λ bytes. length bytes ≤ record_limit) →
+            IfSome self.new.stop_dump (λ bytes. length bytes ≤ record_limit) }
+    {
+        match transition {
+            Transition::Start => Some(self.on_start(rt, files, ports, order, &dump)),
+            Transition::Stop => self.on_stop(rt, files, ports, order, dump),
+            Transition::Pause => Some(self.on_pause(rt, files, ports, order)),
+            Transition::Resume => Some(self.on_resume(rt, files, ports, order)),
+            Transition::StartAbort => Some(self.on_abort(rt, files, ports, order)),
+        }
+    }
+
+    /// Takes a start turn.
+    fn on_start<R: Wait, F: Files, P: BufferPort>(
+        &mut self,
+        rt: &R,
+        files: &mut F,
+        ports: &mut Ports<P>,
+        order: &Order,
+        dump: &Option<Bytes>,
+    ) -> Answer
+        requires ready { IsLoggerReady self.old.channels (map P.access ports.old) (F.seen files.old) }
+        requires entries { HaveEntries 49 (map P.access ports.old) }
+        requires idle { IsIdleOutside self.old.run self.old.channels }
+        requires begun { buffers_begun self.old.run ≤ length ports.old }
+        requires small { IfSome dump.now (λ bytes. length bytes ≤ record_limit) }
+        ensures takes { TakesStart (is_run_on self.old.run) (record {
+          transition = Start;
+          order = order.now;
+          dump = dump.now;
+          answer = Some result;
+          run = self.old.run;
+          later_run = self.new.run;
+          stop_dump = self.old.stop_dump;
+          later_stop_dump = self.new.stop_dump;
+          before = moment_of self.old.channels (map P.access ports.old) (F.seen files.old)
+              (F.faults files.old) (F.clashes files.old) (F.first files.old);
+          after = moment_of self.new.channels (map P.access ports.new) (F.seen files.new)
+              (F.faults files.new) (F.clashes files.new) (F.first files.new);
+        }) }
+        ensures ready { IsLoggerReady self.new.channels (map P.access ports.new) (F.seen files.new) }
+        ensures idle { IsIdleOutside self.new.run self.new.channels }
+        ensures begun { buffers_begun self.new.run ≤ length ports.new }
+    {
+        if has_run(self.run) {
+            return Answer::No(Why::NotReady);
+        }
+        self.start(rt, files, ports, order, dump)
+    }
+
+    /// Starts the run, where none is on.
+    fn start<R: Wait, F: Files, P: BufferPort>(
+        &mut self,
+        rt: &R,
+        files: &mut F,
+        ports: &mut Ports<P>,
+        order: &Order,
+        dump: &Option<Bytes>,
+    ) -> Answer
+        requires ready { IsLoggerReady self.old.channels (map P.access ports.old) (F.seen files.old) }
+        requires entries { HaveEntries 49 (map P.access ports.old) }
+        requires idle { AreIdle self.old.channels }
+        requires small { IfSome dump.now (λ bytes. length bytes ≤ record_limit) }
+        ensures starts { StartsLogger (record {
+          transition = Start;
+          order = order.now;
+          dump = dump.now;
+          answer = Some result;
+          run = self.old.run;
+          later_run = self.new.run;
+          stop_dump = self.old.stop_dump;
+          later_stop_dump = self.new.stop_dump;
+          before = moment_of self.old.channels (map P.access ports.old) (F.seen files.old)
+              (F.faults files.old) (F.clashes files.old) (F.first files.old);
+          after = moment_of self.new.channels (map P.access ports.new) (F.seen files.new)
+              (F.faults files.new) (F.clashes files.new) (F.first files.new);
+        }) }
+        ensures ready { IsLoggerReady self.new.channels (map P.access ports.new) (F.seen files.new) }
+        ensures idle { IsIdleOutside self.new.run self.new.channels }
+        ensures begun { buffers_begun self.new.run ≤ length ports.new }
+    {
+        let (begun, result) = start_run(
+            &mut self.channels,
+            rt,
+            files,
+            ports,
+            order,
+            bytes_of(dump),
+        );
+        self.run = Some(LoggedRun {
+            start: order.start,
+            begun,
+            part: part_of_start(result),
+        });
+        self.stop_dump = None;
+        answer_of_start(result)
+    }
+
+    /// Takes a stop turn.
+    fn on_stop<R: Wait, F: Files, P: BufferPort>(
+        &mut self,
+        rt: &R,
+        files: &mut F,
+        ports: &mut Ports<P>,
+        order: &Order,
+        dump: Option<Bytes>,
+    ) -> Option<Answer>
+        requires ready { IsLoggerReady self.old.channels (map P.access ports.old) (F.seen files.old) }
+        requires entries { HaveEntries 49 (map P.access ports.old) }
+        requires idle { IsIdleOutside self.old.run self.old.channels }
+        requires begun { buffers_begun self.old.run ≤ length ports.old }
+        ensures takes { TakesStop (is_started self.old.run order.now.start) (record {
+          transition = Stop;
+          order = order.now;
+          dump = dump;
+          answer = result;
+          run = self.old.run;
+          later_run = self.new.run;
+          stop_dump = self.old.stop_dump;
+          later_stop_dump = self.new.stop_dump;
+          before = moment_of self.old.channels (map P.access ports.old) (F.seen files.old)
+              (F.faults files.old) (F.clashes files.old) (F.first files.old);
+          after = moment_of self.new.channels (map P.access ports.new) (F.seen files.new)
+              (F.faults files.new) (F.clashes files.new) (F.first files.new);
+        }) }
+        ensures ready { IsLoggerReady self.new.channels (map P.access ports.new) (F.seen files.new) }
+        ensures idle { IsIdleOutside self.new.run self.new.channels }
+        ensures begun { buffers_begun self.new.run ≤ length ports.new }
+        ensures dump { self.new.stop_dump ≡ (if is_started self.old.run order.now.start then dump
+            else self.old.stop_dump) }
+        ensures files { files.new ≡ files.old }
+    {
+        if !goes_on(self.run, order.start) {
+            return Some(plain());
+        }
+        let count = ports.len();
+        end_first(&mut self.channels, rt, ports, count, order.start);
+        self.run = Some(LoggedRun {
+            start: order.start,
+            begun: 0,
+            part: RunPart::Stopping { time: order.time },
+        });
+        self.stop_dump = dump;
+        None
+    }
+
+    /// Takes a pause turn.
+    fn on_pause<R: Wait, F: Files, P: BufferPort>(
+        &mut self,
+        rt: &R,
+        files: &mut F,
+        ports: &mut Ports<P>,
+        order: &Order,
+    ) -> Answer
+        requires ready { IsLoggerReady self.old.channels (map P.access ports.old) (F.seen files.old) }
+        requires entries { HaveEntries 49 (map P.access ports.old) }
+        requires idle { IsIdleOutside self.old.run self.old.channels }
+        requires begun { buffers_begun self.old.run ≤ length ports.old }
+        ensures takes { (dump : Option (List ℕ)) →
+            TakesMark PausesBuffer (is_started self.old.run order.now.start) (record {
+              transition = Pause;
+              order = order.now;
+              dump = dump;
+              answer = Some result;
+              run = self.old.run;
+              later_run = self.new.run;
+              stop_dump = self.old.stop_dump;
+              later_stop_dump = self.new.stop_dump;
+              before = moment_of self.old.channels (map P.access ports.old) (F.seen files.old)
+                  (F.faults files.old) (F.clashes files.old) (F.first files.old);
+              after = moment_of self.new.channels (map P.access ports.new) (F.seen files.new)
+                  (F.faults files.new) (F.clashes files.new) (F.first files.new);
+            }) }
+        ensures ready { IsLoggerReady self.new.channels (map P.access ports.new) (F.seen files.new) }
+        ensures idle { IsIdleOutside self.new.run self.new.channels }
+        ensures begun { buffers_begun self.new.run ≤ length ports.new }
+        ensures same { self.new ≡ self.old }
+        ensures files { files.new ≡ files.old }
+    {
+        if !goes_on(self.run, order.start) {
+            return plain();
+        }
+        pause_all(rt, ports, order.start);
+        plain()
+    }
+
+    /// Takes a resume turn.
+    fn on_resume<R: Wait, F: Files, P: BufferPort>(
+        &mut self,
+        rt: &R,
+        files: &mut F,
+        ports: &mut Ports<P>,
+        order: &Order,
+    ) -> Answer
+        requires ready { IsLoggerReady self.old.channels (map P.access ports.old) (F.seen files.old) }
+        requires entries { HaveEntries 49 (map P.access ports.old) }
+        requires idle { IsIdleOutside self.old.run self.old.channels }
+        requires begun { buffers_begun self.old.run ≤ length ports.old }
+        ensures takes { (dump : Option (List ℕ)) →
+            TakesMark ResumesBuffer (is_started self.old.run order.now.start) (record {
+              transition = Resume;
+              order = order.now;
+              dump = dump;
+              answer = Some result;
+              run = self.old.run;
+              later_run = self.new.run;
+              stop_dump = self.old.stop_dump;
+              later_stop_dump = self.new.stop_dump;
+              before = moment_of self.old.channels (map P.access ports.old) (F.seen files.old)
+                  (F.faults files.old) (F.clashes files.old) (F.first files.old);
+              after = moment_of self.new.channels (map P.access ports.new) (F.seen files.new)
+                  (F.faults files.new) (F.clashes files.new) (F.first files.new);
+            }) }
+        ensures ready { IsLoggerReady self.new.channels (map P.access ports.new) (F.seen files.new) }
+        ensures idle { IsIdleOutside self.new.run self.new.channels }
+        ensures begun { buffers_begun self.new.run ≤ length ports.new }
+        ensures same { self.new ≡ self.old }
+        ensures files { files.new ≡ files.old }
+    {
+        if !goes_on(self.run, order.start) {
+            return plain();
+        }
+        resume_all(rt, ports, order.start);
+        plain()
+    }
+
+    /// Takes a start-abort turn.
+    fn on_abort<R: Wait, F: Files, P: BufferPort>(
+        &mut self,
+        rt: &R,
+        files: &mut F,
+        ports: &mut Ports<P>,
+        order: &Order,
+    ) -> Answer
+        requires ready { IsLoggerReady self.old.channels (map P.access ports.old) (F.seen files.old) }
+        requires entries { HaveEntries 49 (map P.access ports.old) }
+        requires idle { IsIdleOutside self.old.run self.old.channels }
+        requires begun { buffers_begun self.old.run ≤ length ports.old }
+        ensures takes { (dump : Option (List ℕ)) → TakesAbort (is_of_start self.old.run order.now.start) (record {
+          transition = StartAbort;
+          order = order.now;
+          dump = dump;
+          answer = Some result;
+          run = self.old.run;
+          later_run = self.new.run;
+          stop_dump = self.old.stop_dump;
+          later_stop_dump = self.new.stop_dump;
+          before = moment_of self.old.channels (map P.access ports.old) (F.seen files.old)
+              (F.faults files.old) (F.clashes files.old) (F.first files.old);
+          after = moment_of self.new.channels (map P.access ports.new) (F.seen files.new)
+              (F.faults files.new) (F.clashes files.new) (F.first files.new);
+        }) }
+        ensures ready { IsLoggerReady self.new.channels (map P.access ports.new) (F.seen files.new) }
+        ensures idle { IsIdleOutside self.new.run self.new.channels }
+        ensures begun { buffers_begun self.new.run ≤ length ports.new }
+        ensures small { IfSome self.old.stop_dump (λ bytes. length bytes ≤ record_limit) →
+            IfSome self.new.stop_dump (λ bytes. length bytes ≤ record_limit) }
+    {
+        let Some(begun) = begun_in(self.run, order.start) else {
+            return plain();
+        };
+        end_first(&mut self.channels, rt, ports, begun, order.start);
+        abort_all(&mut self.channels, rt, files, ports);
+        self.run = None;
+        self.stop_dump = None;
+        plain()
+    }
+
+    /// Pulls once on the channel of this number: one receive, of which the event is written where it is one of the run.
+    /// NoChannel exactly where there is no such channel.
+    pub fn pull<R: Wait, F: Files, P: BufferPort>(
+        &mut self,
+        rt: &R,
+        files: &mut F,
+        ports: &mut Ports<P>,
+        channel: u32,
+    ) -> Pulled
+        requires ready { IsLoggerReady self.old.channels (map P.access ports.old) (F.seen files.old) }
+        requires entries { HaveEntries 2 (map P.access ports.old) }
+        requires idle { IsIdleOutside self.old.run self.old.channels }
+        requires room { HasEventRoom channel self.old.channels (map P.access ports.old) }
+        ensures pulls { PullsNumbered channel result
+            (moment_of self.old.channels (map P.access ports.old) (F.seen files.old)
+            (F.faults files.old) (F.clashes files.old) (F.first files.old))
+            (moment_of self.new.channels (map P.access ports.new) (F.seen files.new)
+            (F.faults files.new) (F.clashes files.new) (F.first files.new)) }
+        ensures run { self.new.run ≡ self.old.run }
+        ensures stop_dump { self.new.stop_dump ≡ self.old.stop_dump }
+        ensures ready { IsLoggerReady self.new.channels (map P.access ports.new) (F.seen files.new) }
+        ensures idle { IsIdleOutside self.new.run self.new.channels }
+        ensures uses { UseEntries 2 (map P.access ports.old) (map P.access ports.new) }
+        ensures same { AreSamePorts (map P.access ports.old) (map P.access ports.new) }
+        ensures room { ((number : ℕ) → HasEventRoom number self.old.channels (map P.access ports.old)) →
+            (number : ℕ) → HasEventRoom number self.new.channels (map P.access ports.new) }
+        ensures keeps { (turns : List MemberTurn) →
+            LoggerStands self.old.run self.old.stop_dump self.old.channels
+            (map P.access ports.old) turns (F.seen files.old) →
+            LoggerStands self.new.run self.new.stop_dump self.new.channels
+            (map P.access ports.new) turns (F.seen files.new) }
+    {
+        channel_laws::left_beside();
+        channel_laws::pulls_kept();
+        channel_laws::pulls_beside();
+        channel_laws::files_beside();
+        pull_at(&mut self.channels, rt, files, ports, channel as usize)
+    }
+
+    /// The answer to the stop that waits: it ends the file of each channel, in order of number, and tells what
+    /// became of them. None exactly where no stop waits, or the client of some channel that did not break off has
+    /// yet to read its run.
+    pub fn finish<F: Files>(&mut self, files: &mut F) -> Option<Answer>
+        requires many { length self.old.channels ≤ 16 }
+        requires files { HaveFilesOpen self.old.channels (F.seen files.old) }
+        requires idle { IsIdleOutside self.old.run self.old.channels }
+        requires small { IfSome self.old.stop_dump (λ bytes. length bytes ≤ record_limit) }
+        ensures finishes { FinishesLogger (record {
+          run = self.old.run;
+          later_run = self.new.run;
+          stop_dump = self.old.stop_dump;
+          later_stop_dump = self.new.stop_dump;
+          slots = self.old.channels;
+          later_slots = self.new.channels;
+          files = record {
+            seen = F.seen files.old;
+            faults = F.faults files.old;
+            clashes = F.clashes files.old;
+            first = F.first files.old;
+          };
+          later_files = record {
+            seen = F.seen files.new;
+            faults = F.faults files.new;
+            clashes = F.clashes files.new;
+            first = F.first files.new;
+          };
+          answer = result;
+        }) }
+        ensures ready { (ports : List Access) →
+            IsLoggerReady self.old.channels ports (F.seen files.old) →
+            IsLoggerReady self.new.channels ports (F.seen files.new) }
+        ensures idle { IsIdleOutside self.new.run self.new.channels }
+        ensures begun { buffers_begun self.new.run ≤ buffers_begun self.old.run }
+        ensures room { (ports : List Access) →
+            ((number : ℕ) → HasEventRoom number self.old.channels ports) →
+            (number : ℕ) → HasEventRoom number self.new.channels ports }
+        ensures keeps { (ports : List Access) → (turns : List MemberTurn) →
+            LoggerStands self.old.run self.old.stop_dump self.old.channels ports turns
+            (F.seen files.old) →
+            LoggerStands self.new.run self.new.stop_dump self.new.channels ports
+            (latest_answered turns result) (F.seen files.new) }
+    {
+        logger_laws::finishes_keep();
+        self.end_run(files)
+    }
+
+    /// Ends the files of the run whose stop waits, where every channel is settled.
+    fn end_run<F: Files>(&mut self, files: &mut F) -> Option<Answer>
+        requires many { length self.old.channels ≤ 16 }
+        requires files { HaveFilesOpen self.old.channels (F.seen files.old) }
+        requires idle { IsIdleOutside self.old.run self.old.channels }
+        requires small { IfSome self.old.stop_dump (λ bytes. length bytes ≤ record_limit) }
+        ensures finishes { FinishesLogger (record {
+          run = self.old.run;
+          later_run = self.new.run;
+          stop_dump = self.old.stop_dump;
+          later_stop_dump = self.new.stop_dump;
+          slots = self.old.channels;
+          later_slots = self.new.channels;
+          files = record {
+            seen = F.seen files.old;
+            faults = F.faults files.old;
+            clashes = F.clashes files.old;
+            first = F.first files.old;
+          };
+          later_files = record {
+            seen = F.seen files.new;
+            faults = F.faults files.new;
+            clashes = F.clashes files.new;
+            first = F.first files.new;
+          };
+          answer = result;
+        }) }
+        ensures ready { (ports : List Access) →
+            IsLoggerReady self.old.channels ports (F.seen files.old) →
+            IsLoggerReady self.new.channels ports (F.seen files.new) }
+        ensures idle { IsIdleOutside self.new.run self.new.channels }
+        ensures begun { buffers_begun self.new.run ≤ buffers_begun self.old.run }
+    {
+        let time = stop_time(self.run)?;
+        if !are_settled(&self.channels) {
+            return None;
+        }
+        let states = end_files(&mut self.channels, files, time, &self.stop_dump);
+        self.run = None;
+        self.stop_dump = None;
+        Some(Answer::Yes(Tally::Channels(states)))
+    }
+
+    /// Whether a call on the files failed in a call of this logger.
+    pub fn failed(&self) -> bool
+        ensures { result ≡ some_slot (λ c. c.failed) self.now.channels }
+    {
+        any_failed(&self.channels)
+    }
+}

@@ -1,0 +1,206 @@
+//! What one channel does, by its number: it opens a run, calls one off, or pulls.
+
+ghost use Rattle.std.specs.Prelude.{◌≡◌, ◌≤◌, ◌<◌, ◌-◌, ℕ, List, Option, length, map, min, slice_get, slice_set, OnOk, IfErr, Some, Ok, Err};
+ghost use Rattle.daq_model.specs.Events.{record_limit, event_limit};
+ghost use Rattle.buffer_core.specs.Ports.{Access};
+ghost use Rattle.buffer_core.specs.Slots.{slot_at};
+ghost use Rattle.mid_logger.specs.declared.channel.Channel.{Channel as a_channel};
+ghost use Rattle.mid_logger.specs.declared.stage.ChannelStage.TheVariants.{Idle};
+ghost use Rattle.mid_logger.specs.Channels.{IsOpenFile, written_run};
+ghost use Rattle.loggers.specs.Moments.{moment_of, StepsAt, StepsSlot, StepsChannel, IsLoggerReady, HaveEntries, UseEntries, LeavesOthers};
+ghost use Rattle.loggers.specs.ChannelSteps.{OpensChannel, AbortsChannel};
+ghost use Rattle.loggers.specs.SlotPulls.{HasEventRoom, PullsSlot, PullsNumbered};
+
+use crate::slots::{Ports, Slots};
+use buffer_core::BufferPort;
+use daq_io::Files;
+use daq_types::{Order, Why};
+use mid_logger::{Channel, Pulled, laws as channel_laws};
+use std::sync::Wait;
+
+/// Opens the run on this channel, where there is one.
+fn open_slot<R: Wait, F: Files, P: BufferPort>(
+    slot: &mut Option<Channel>,
+    rt: &R,
+    files: &mut F,
+    ports: &mut Ports<P>,
+    order: &Order,
+    dump: &[u8],
+) -> Result<(), Why>
+    requires served { (c : a_channel) → slot.old ≡ Some c → c.spec.buffer < length ports.old }
+    requires entries { HaveEntries 2 (map P.access ports.old) }
+    requires idle { (c : a_channel) → slot.old ≡ Some c → c.stage ≡ Idle }
+    requires small { length dump.now ≤ record_limit }
+    ensures opens { OnOk result ((slots : List (Option a_channel)) → (number : ℕ) → slot_at slots number ≡ slot.old →
+        StepsSlot (OpensChannel order.now dump.now (Ok tt)) number slot.old
+        (moment_of slots (map P.access ports.old) (F.seen files.old) (F.faults files.old)
+        (F.clashes files.old) (F.first files.old))
+        (moment_of (slice_set slots number slot.new) (map P.access ports.new) (F.seen files.new)
+        (F.faults files.new) (F.clashes files.new) (F.first files.new))) }
+    ensures refuses { IfErr result (λ why. (c : a_channel) × (slot.old ≡ Some c) × ((slots : List (Option a_channel)) →
+        (number : ℕ) → slot_at slots number ≡ slot.old →
+        StepsChannel (OpensChannel order.now dump.now (Err why)) number c
+        (moment_of slots (map P.access ports.old) (F.seen files.old) (F.faults files.old)
+        (F.clashes files.old) (F.first files.old))
+        (moment_of (slice_set slots number slot.new) (map P.access ports.new) (F.seen files.new)
+        (F.faults files.new) (F.clashes files.new) (F.first files.new)))) }
+    ensures entries { UseEntries 2 (map P.access ports.old) (map P.access ports.new) }
+{
+    let Some(channel) = slot else {
+        return Ok(());
+    };
+    let Some(port) = ports.get_mut(channel.spec.buffer as usize) else {
+        unreachable!()
+    };
+    channel.open(rt, files, port, order, dump)
+}
+
+/// Opens the run on the channel of this number, where there is one. At a refusal no file of it is left, unless the
+/// removing failed.
+pub fn open_at<R: Wait, F: Files, P: BufferPort>(
+    slots: &mut Slots,
+    rt: &R,
+    files: &mut F,
+    ports: &mut Ports<P>,
+    number: usize,
+    order: &Order,
+    dump: &[u8],
+) -> Result<(), Why>
+    requires ready { IsLoggerReady slots.old (map P.access ports.old) (F.seen files.old) }
+    requires entries { HaveEntries 2 (map P.access ports.old) }
+    requires idle { (c : a_channel) → slot_at slots.old number ≡ Some c → c.stage ≡ Idle }
+    requires small { length dump.now ≤ record_limit }
+    ensures opens { OnOk result (StepsAt (OpensChannel order.now dump.now (Ok tt)) number
+        (moment_of slots.old (map P.access ports.old) (F.seen files.old) (F.faults files.old)
+        (F.clashes files.old) (F.first files.old))
+        (moment_of slots.new (map P.access ports.new) (F.seen files.new) (F.faults files.new)
+        (F.clashes files.new) (F.first files.new))) }
+    ensures refuses { IfErr result (λ why. (c : a_channel) × (slot_at slots.old number ≡ Some c)
+        × StepsChannel (OpensChannel order.now dump.now (Err why)) number c
+        (moment_of slots.old (map P.access ports.old) (F.seen files.old) (F.faults files.old)
+        (F.clashes files.old) (F.first files.old))
+        (moment_of slots.new (map P.access ports.new) (F.seen files.new) (F.faults files.new)
+        (F.clashes files.new) (F.first files.new))) }
+    ensures ready { IsLoggerReady slots.new (map P.access ports.new) (F.seen files.new) }
+    ensures entries { UseEntries 2 (map P.access ports.old) (map P.access ports.new) }
+    ensures others { LeavesOthers number slots.old slots.new }
+{
+    channel_laws::opens_kept();
+    match slots.get_mut(number) {
+        None => Ok(()),
+        Some(slot) => open_slot(slot, rt, files, ports, order, dump),
+    }
+}
+
+/// Calls off the run of this channel, where there is one.
+fn abort_slot<R: Wait, F: Files, P: BufferPort>(
+    slot: &mut Option<Channel>,
+    rt: &R,
+    files: &mut F,
+    ports: &mut Ports<P>,
+)
+    requires served { (c : a_channel) → slot.old ≡ Some c → c.spec.buffer < length ports.old }
+    requires entries { HaveEntries 1 (map P.access ports.old) }
+    requires file { (c : a_channel) → slot.old ≡ Some c →
+        IsOpenFile (F.seen files.old) c.spec (written_run c.stage) }
+    ensures aborts { (slots : List (Option a_channel)) → (number : ℕ) → slot_at slots number ≡ slot.old →
+        StepsSlot AbortsChannel number slot.old
+        (moment_of slots (map P.access ports.old) (F.seen files.old) (F.faults files.old)
+        (F.clashes files.old) (F.first files.old))
+        (moment_of (slice_set slots number slot.new) (map P.access ports.new) (F.seen files.new)
+        (F.faults files.new) (F.clashes files.new) (F.first files.new)) }
+    ensures idle { (c : a_channel) → slot.new ≡ Some c → c.stage ≡ Idle }
+    ensures entries { UseEntries 1 (map P.access ports.old) (map P.access ports.new) }
+{
+    let Some(channel) = slot else {
+        return;
+    };
+    let Some(port) = ports.get_mut(channel.spec.buffer as usize) else {
+        unreachable!()
+    };
+    channel.abort(rt, files, port);
+}
+
+/// Calls off the run of the channel of this number, where there is one.
+pub fn abort_at<R: Wait, F: Files, P: BufferPort>(
+    slots: &mut Slots,
+    rt: &R,
+    files: &mut F,
+    ports: &mut Ports<P>,
+    number: usize,
+)
+    requires ready { IsLoggerReady slots.old (map P.access ports.old) (F.seen files.old) }
+    requires entries { HaveEntries 1 (map P.access ports.old) }
+    ensures aborts { StepsAt AbortsChannel number
+        (moment_of slots.old (map P.access ports.old) (F.seen files.old) (F.faults files.old)
+        (F.clashes files.old) (F.first files.old))
+        (moment_of slots.new (map P.access ports.new) (F.seen files.new) (F.faults files.new)
+        (F.clashes files.new) (F.first files.new)) }
+    ensures idle { (c : a_channel) → slot_at slots.new number ≡ Some c → c.stage ≡ Idle }
+    ensures ready { IsLoggerReady slots.new (map P.access ports.new) (F.seen files.new) }
+    ensures entries { UseEntries 1 (map P.access ports.old) (map P.access ports.new) }
+    ensures others { LeavesOthers number slots.old slots.new }
+{
+    channel_laws::aborts_kept();
+    match slots.get_mut(number) {
+        None => {}
+        Some(slot) => abort_slot(slot, rt, files, ports),
+    }
+}
+
+/// Pulls once on this channel, where there is one.
+fn pull_slot<R: Wait, F: Files, P: BufferPort>(
+    slot: &mut Option<Channel>,
+    rt: &R,
+    files: &mut F,
+    ports: &mut Ports<P>,
+) -> Pulled
+    requires served { (c : a_channel) → slot.old ≡ Some c → c.spec.buffer < length ports.old }
+    requires entries { HaveEntries 2 (map P.access ports.old) }
+    requires file { (c : a_channel) → slot.old ≡ Some c →
+        IsOpenFile (F.seen files.old) c.spec (written_run c.stage) }
+    requires room { (c : a_channel) → (a : Access) → slot.old ≡ Some c →
+        slice_get (map P.access ports.old) c.spec.buffer ≡ Some a →
+        min event_limit (a.size - 24) ≤ c.event.room }
+    ensures pulls { (slots : List (Option a_channel)) → (number : ℕ) → slot_at slots number ≡ slot.old →
+        PullsSlot slot.old number result
+        (moment_of slots (map P.access ports.old) (F.seen files.old) (F.faults files.old)
+        (F.clashes files.old) (F.first files.old))
+        (moment_of (slice_set slots number slot.new) (map P.access ports.new) (F.seen files.new)
+        (F.faults files.new) (F.clashes files.new) (F.first files.new)) }
+    ensures entries { UseEntries 2 (map P.access ports.old) (map P.access ports.new) }
+{
+    let Some(channel) = slot else {
+        return Pulled::NoChannel;
+    };
+    let Some(port) = ports.get_mut(channel.spec.buffer as usize) else {
+        unreachable!()
+    };
+    channel.pull(rt, files, port)
+}
+
+/// Pulls once on the channel of this number, where there is one.
+pub fn pull_at<R: Wait, F: Files, P: BufferPort>(
+    slots: &mut Slots,
+    rt: &R,
+    files: &mut F,
+    ports: &mut Ports<P>,
+    number: usize,
+) -> Pulled
+    requires ready { IsLoggerReady slots.old (map P.access ports.old) (F.seen files.old) }
+    requires entries { HaveEntries 2 (map P.access ports.old) }
+    requires room { HasEventRoom number slots.old (map P.access ports.old) }
+    ensures pulls { PullsNumbered number result
+        (moment_of slots.old (map P.access ports.old) (F.seen files.old) (F.faults files.old)
+        (F.clashes files.old) (F.first files.old))
+        (moment_of slots.new (map P.access ports.new) (F.seen files.new) (F.faults files.new)
+        (F.clashes files.new) (F.first files.new)) }
+    ensures ready { IsLoggerReady slots.new (map P.access ports.new) (F.seen files.new) }
+    ensures entries { UseEntries 2 (map P.access ports.old) (map P.access ports.new) }
+{
+    channel_laws::pulls_kept();
+    match slots.get_mut(number) {
+        None => Pulled::NoChannel,
+        Some(slot) => pull_slot(slot, rt, files, ports),
+    }
+}

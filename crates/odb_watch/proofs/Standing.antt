@@ -1,0 +1,43 @@
+-- In a legal history of a watched database the rows are those of a database throughout.
+use Rattle.std.proofs.Common.{◌≡◌, ℕ, ◌≤◌, List, [], ◌∷◌, ◌++◌, length, Result, Ok, Err, refl, sym, ap, ◌∙◌, subst}
+use Rattle.std.specs.Str.Lines.{lines}
+use Rattle.odb_tree.specs.Rows.{Rows}
+use Rattle.odb_tree.specs.Noting.{Watched}
+use Rattle.odb_tree.specs.Databases.{IsDatabase}
+use Rattle.odb_tree.proofs.Sound.{database_after}
+use Rattle.odb_ascii.specs.Dumps.{dump_text, dump_limit}
+use Rattle.odb_ascii.proofs.Sizes.{dump_small}
+use Rattle.odb_ascii.proofs.LoadKeeps.{load_keeps}
+use Rattle.odb_watch.specs.declared.entry.WatchEntry.{WatchEntry}
+use Rattle.odb_watch.specs.declared.entry.WatchEntry.TheVariants.{Call, Watch, Notes, Unwatch, Save, Load}
+use Rattle.odb_watch.specs.Steps.{IsSoundEntry, StepsWatched, LeadsDatabase}
+
+abbrev Stands : Watched → Type 0
+Stands s = IsDatabase s.rows
+
+step_stands : (before : Watched) (entry : WatchEntry) (after : Watched) → Stands before → IsSoundEntry entry → StepsWatched before entry after → Stands after
+step_stands before (Call entry) after h sound step = subst Stands (sym step.1) (database_after before.rows entry h sound step.0)
+step_stands before (Watch row reply) after h sound step = subst Stands (sym step.1) h
+step_stands before (Notes w reply) after h sound step = subst Stands (sym step.1) h
+step_stands before (Unwatch w reply) after h sound step = subst Stands (sym step.1) h
+step_stands before (Save reply) after h sound step = subst Stands (sym step.1) h
+step_stands before (Load text (Ok loaded)) after h sound step = load_keeps before.rows after.rows (lines text) step.steps h step.reads step.ran
+step_stands before (Load text (Err why)) after h sound step = subst Stands (sym step.1) h
+
+pub leads_stand : (first : Watched) (h : List (ℕ × WatchEntry)) (last : Watched) → IsDatabase first.rows → LeadsDatabase first h last → IsDatabase last.rows
+leads_stand first [] last stands leads = subst Stands leads stands
+leads_stand first (e ∷ es) last stands leads =
+    leads_stand leads.0 es last (step_stands first e.1 leads.0 stands leads.1.sound leads.1.step) leads.2
+
+-- a dump that was saved last
+pub saved_text : (first : Watched) (h : List (ℕ × WatchEntry)) (caller : ℕ) (text : List ℕ) (last : Watched) → LeadsDatabase first (h ++ (caller, Save (Ok text)) ∷ []) last → text ≡ dump_text last.rows
+saved_text first [] caller text last leads =
+    let same : leads.0 ≡ last = leads.2 in
+    leads.1.step.0 ∙ ap (λ (s : Watched). dump_text s.rows) (sym leads.1.step.1 ∙ same)
+saved_text first (e ∷ es) caller text last leads = saved_text leads.0 es caller text last leads.2
+
+pub saved_small : (first : Watched) (h : List (ℕ × WatchEntry)) (caller : ℕ) (text : List ℕ) (last : Watched) → IsDatabase first.rows → LeadsDatabase first (h ++ (caller, Save (Ok text)) ∷ []) last
+    → length text ≤ dump_limit
+saved_small first h caller text last stands leads =
+    subst (λ (t : List ℕ). length t ≤ dump_limit) (sym (saved_text first h caller text last leads))
+    (dump_small last.rows (leads_stand first (h ++ (caller, Save (Ok text)) ∷ []) last stands leads))
