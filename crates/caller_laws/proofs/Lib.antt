@@ -16,3 +16,4 @@ pub mod GoingOn
 pub mod PortParts
 pub mod Sampled
 pub mod SampledSeen
+pub mod SampledEnds

@@ -1,11 +1,12 @@
 -- A run that a caller read, which meets all that the law of it asks; and others, each of which meets all but one, and for
 -- which what the law says is false.
-use Rattle.std.specs.Prelude.{◌≡◌, ◌≢◌, ℕ, List, [], ◌∷◌, slice_get, Some, Ok}
+use Rattle.std.specs.Prelude.{◌≡◌, ◌≢◌, ℕ, List, [], ◌∷◌, slice_get, Some, Ok, Err}
 use Rattle.std.specs.List.{AllByRecursion}
 use Rattle.daq_types.specs.Callers.{entries_by}
 use Rattle.daq_types.specs.declared.events.Event.{Event}
 use Rattle.daq_types.specs.declared.runs.Kind.TheVariants.{All}
 use Rattle.buffer_core.specs.declared.gate.RunGate.TheVariants.{Shut}
+use Rattle.buffer_core.specs.declared.replies.MarkRefusal.TheVariants.{WrongGate}
 use Rattle.buffer_core.specs.declared.replies.Received.TheVariants.{Got, Empty}
 use Rattle.buffer_core.specs.declared.entry.BufferEntry.{BufferEntry}
 use Rattle.buffer_core.specs.declared.entry.BufferEntry.TheVariants.{Attach, Request, Cancel, Send, SendInRun, Receive, Begin, End, Level}
@@ -16,6 +17,8 @@ use Rattle.buffer_core.specs.Readers.{wanted}
 use Rattle.buffer_core.specs.Ports.{GotEvent}
 use Rattle.buffer_core.specs.Samples.{sample_event, longer_event}
 use Rattle.member_model.specs.ReadRuns.{HasReadRun}
+use Rattle.member_model.specs.CutRuns.{MarksEnd}
+use Rattle.member_model.specs.EndedRuns.{EndsBegun}
 use Rattle.caller_laws.specs.OneCaller.{WasSentAt, HaveOwnClients, events_in}
 use Rattle.caller_laws.specs.CallerLaws.{IsSendOf}
 
@@ -126,3 +129,16 @@ sent_in_other = (1, Begin 1 (Ok 0)) ∷ (2, SendInRun 2 0 sample_event (Ok 0)) �
 -- a call of the caller itself
 abbrev pub asked_level : List (ℕ × BufferEntry)
 asked_level = (1, Level 0) ∷ []
+
+-- these calls began run 1 and then called to end it, and none of them ended it
+pub record IsNotEnded (own : List BufferEntry) : Type 0 where
+  pub begun : EndsBegun own 1
+  pub never : (ended : ℕ) → MarksEnd own 1 ended → ⊥
+
+-- another caller ended the run
+abbrev pub ended_by_other : List (ℕ × BufferEntry)
+ended_by_other = (1, Begin 1 (Ok 0)) ∷ (2, End 1 (Ok 0)) ∷ (1, End 1 (Err (WrongGate Shut))) ∷ []
+
+-- the end of a run that is on is refused, where replies are no buffer's
+abbrev pub end_refused : List (ℕ × BufferEntry)
+end_refused = (1, Begin 1 (Ok 0)) ∷ (1, End 1 (Err (WrongGate Shut))) ∷ []

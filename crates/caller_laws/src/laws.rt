@@ -2,10 +2,11 @@
 
 ghost use Rattle.caller_laws.specs.BufferLaws.{BufferLaws};
 ghost use Rattle.std.specs.Prelude.{[]};
+ghost use Rattle.daq_types.specs.Callers.{entries_by};
 ghost use Rattle.buffer_core.specs.Window.{opening};
 ghost use Rattle.buffer_core.specs.Histories.{IsLegal};
-ghost use Rattle.caller_laws.specs.OneCaller.{HaveRunSends, IsCallersPart};
-ghost use Rattle.caller_laws.specs.CallerSamples.{ReadPremise, LegalHistory, OwnClients, CallersEntries, SentEvents, RunIsRead, MeetsPremise, IsReadRight, FailsWithout, IsUnsent, read_whole, found_nothing, got_by_other, call_left_out, other_event_told, not_drained, sent_in_none, sent_in_other, asked_level};
+ghost use Rattle.caller_laws.specs.OneCaller.{HaveRunSends, IsCallersPart, MarksAlone};
+ghost use Rattle.caller_laws.specs.CallerSamples.{ReadPremise, LegalHistory, OwnClients, CallersEntries, SentEvents, RunIsRead, MeetsPremise, IsReadRight, FailsWithout, IsUnsent, read_whole, found_nothing, got_by_other, call_left_out, other_event_told, not_drained, sent_in_none, sent_in_other, asked_level, IsNotEnded, ended_by_other, end_refused};
 ghost use Rattle.caller_laws.specs.SeenSamples.{SeenPremise, SeenLegal, SeenClients, SeenSends, SeenEntries, SeenPlaces, SeenGiven, SeenThrough, MeetsSeen, IsSeenRight, FailsToSee, got_of_none, event_not_told};
 ghost use Rattle.caller_laws.specs.CallerLaws.{ReadPlaces, ReadEvents, CutEvents, CutFile, SeenEvents, SeenSince, SentByCaller, SendIsAmong, SendStands, SendsStandInOrder, PartGoesOn, ReadGoesOn, CutGoesOn, OwnGoOn, PortTells, SenderHasOwn, SenderSendsInRuns, SilentSendsInRuns, MembersFit, BegunIsEnded, SenderMakesNoMark};
 
@@ -142,8 +143,12 @@ pub fn needs_each_to_see()
 
 /// And with the law of who sent an event: an event that was sent in no run, and one of another run, stand between the
 /// marks of a run in which no caller sent them; and a caller's part is none any more when the caller makes a call.
+/// And with the law of ends: a run that a caller began and called to end was not ended by it where another caller ended it,
+/// or where the replies are no buffer's.
 pub fn needs_runs()
     ensures sends { IsLegal (opening 48) sent_in_none × IsUnsent sent_in_none }
     ensures legal { HaveRunSends sent_in_other × IsUnsent sent_in_other }
     ensures silent { IsCallersPart [] 1 [] [] × ¬ (IsCallersPart asked_level 1 [] []) }
+    ensures alone { IsLegal (opening 48) ended_by_other × IsNotEnded (entries_by 1 ended_by_other) }
+    ensures gate { MarksAlone end_refused 1 × IsNotEnded (entries_by 1 end_refused) }
 {}

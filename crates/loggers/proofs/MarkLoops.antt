@@ -15,10 +15,10 @@ use Rattle.mid_logger.specs.Beside.{CallsBeside, LeftBeside}
 use Rattle.mid_logger.specs.Keeping.{BegunKeeps, EndedKeeps}
 use Rattle.loggers.specs.Moments.{LoggerMoment, InTurn}
 use Rattle.loggers.specs.Turning.{BeginsBuffer, EndsBuffer, PausesBuffer, ResumesBuffer, BeginsBelow, RefusesMark}
-use Rattle.loggers.specs.LoggerStands.{IsStartedStage, HasEndTurn, SlotsStand}
+use Rattle.loggers.specs.LoggerStands.{IsStartedStage, ChannelKept, HasEndTurn, SlotsStand}
 use Rattle.loggers.proofs.SlotLists.{same_or_other, got_there, got_elsewhere, many_set}
 use Rattle.loggers.proofs.PortSteps.{IsFrom}
-use Rattle.loggers.proofs.MarkMoves.{refused_quiet, pause_quiet, resume_quiet, called_stands, IsAskingStage, begun_started, begins_from, begins_stands, NeverEnded, MayEnd, HasEnded, has_ended, NoneTold, ends_from, ends_stands}
+use Rattle.loggers.proofs.MarkMoves.{refused_quiet, pause_quiet, resume_quiet, called_stands, IsAskingStage, begun_started, begins_from, begins_stands, NeverEnded, HasBegunRun, begins_started, MayEnd, HasEnded, has_ended, NoneTold, ends_from, ends_stands}
 
 -- Marks that no channel notes.
 
@@ -118,7 +118,11 @@ ended_more law calls ended Spare H turns start wide k a b turn none ends to =
             | inl hit ↦
                 let is : q ≡ x = cc (put, hit, at_set) in
                 let own : x.own ≡ p.own ++ End start reply ∷ [] = sym (ap (λ (y : Access). y.own) is) ∙ called.called.own in
-                rw (own, f.hit hit) (has_ended Spare turns p.own f.before.stage start reply never (to.may n f.before f.there (omega arith)))
+                let at_port : slice_get a.ports f.before.spec.buffer ≡ Some p = subst (λ (j : ℕ). slice_get a.ports j ≡ Some p) (sym hit) called.at_port in
+                let kept : ChannelKept H a.files.seen f.before p = to.standing.channels n f.before p f.there at_port in
+                let begun : IsStartedStage start f.before.stage → HasBegunRun p.own start =
+                λ started. begins_started f.before.spec f.before.client f.before.stage start kept.head p.own p.got a.files.seen started kept.stands in
+                rw (own, f.hit hit) (has_ended Spare turns p.own f.before.stage start reply never begun (to.may n f.before f.there (omega arith)))
             | inr miss ↦
                 let at_before : slice_get a.ports f.before.spec.buffer ≡ Some x = got_elsewhere a.ports k f.before.spec.buffer q x miss at_set in
                 subst (λ (s : ChannelStage). HasEnded Spare turns x.own start s) (sym (f.miss miss)) (to.done n f.before x f.there at_before (omega arith))

@@ -1,19 +1,23 @@
 -- What a mark in a buffer is to all channels: the begin of a run and its end, and calls that none notes.
 use Rattle.std.specs.Prelude.{◌≡◌, ◌≢◌, ◌==◌, ◌++◌, ℕ, Bool, true, false, if◌then◌else◌, List, [], ◌∷◌, length, map, Option, Some, None, Result, Ok, Err, ◌⊎◌, refl}
 use Rattle.std.specs.Option.{option_map}
-use Rattle.std.proofs.Common.{ap, sym, subst, ◌∙◌, inl, inr, eq-eqb}
+use Rattle.std.proofs.Common.{ap, sym, subst, ◌∙◌, append_assoc, inl, inr, eq-eqb}
 use Rattle.std.proofs.lemmas.Bool.{eqb-true}
 use Rattle.std.proofs.lemmas.List.{length-map, append-nil}
+use Rattle.daq_types.specs.declared.events.Event.{Event}
 use Rattle.daq_types.specs.declared.runs.ChannelState.{ChannelState}
+use Rattle.daq_types.specs.declared.runs.Kind.TheVariants.{All}
 use Rattle.daq_io.specs.Seen.{Seen}
 use Rattle.buffer_core.specs.declared.replies.MarkRefusal.{MarkRefusal}
 use Rattle.buffer_core.specs.declared.entry.BufferEntry.{BufferEntry}
-use Rattle.buffer_core.specs.declared.entry.BufferEntry.TheVariants.{Begin, Pause, Resume, End}
+use Rattle.buffer_core.specs.declared.entry.BufferEntry.TheVariants.{Request, Begin, Pause, Resume, End}
 use Rattle.buffer_core.specs.Ports.{Access, GotEvent, name_given}
 use Rattle.buffer_core.specs.Slots.{slot_at}
 use Rattle.member_model.specs.Turns.{MemberTurn, AreEngineTurns}
 use Rattle.member_model.specs.OwnCalls.{calls_after, AreOwnCalls, IsOwnCall, SendsNone}
-use Rattle.member_model.specs.CutRuns.{MarksEnd}
+use Rattle.member_model.specs.ReadRuns.{IsReading}
+use Rattle.member_model.specs.CutRuns.{MarksEnd, HasReadOn}
+use Rattle.member_model.specs.EndedRuns.{EndsBegun}
 use Rattle.member_model.proofs.ReadLaws.{calls_after-push}
 use Rattle.member_model.proofs.SentLaws.{EachCall-push}
 use Rattle.mid_logger.specs.declared.channel.Channel.{Channel}
@@ -21,14 +25,14 @@ use Rattle.mid_logger.specs.declared.channel_spec.ChannelSpec.{ChannelSpec}
 use Rattle.mid_logger.specs.declared.stage.ChannelRun.{ChannelRun}
 use Rattle.mid_logger.specs.declared.stage.ChannelStage.{ChannelStage}
 use Rattle.mid_logger.specs.declared.stage.ChannelStage.TheVariants.{Idle, Asking, Writing, Draining, Drained, Broken}
-use Rattle.mid_logger.specs.Channels.{FileHead, KeepsOwnCalls, ChannelStands, channel_run, written_run, stage_begun, stage_ended, place_marked, end_marked}
+use Rattle.mid_logger.specs.Channels.{FileHead, KeepsOwnCalls, ReadingAt, HasReadPart, BrokenAt, run_begun, ChannelStands, channel_run, written_run, stage_begun, stage_ended, place_marked, end_marked}
 use Rattle.mid_logger.specs.Beside.{LeavesClient, LeavesRunOn, CallsBeside, LeftBeside}
 use Rattle.mid_logger.specs.Keeping.{BegunKeeps, EndedKeeps}
 use Rattle.loggers.specs.Moments.{LoggerMoment, CallsBuffer, noted_channel}
 use Rattle.loggers.specs.Turning.{BeginsBuffer, EndsBuffer}
-use Rattle.loggers.specs.LoggerStands.{IsEndedSo, IsStartedStage, IsStoppingStage, HasEndTurn, IsEndTold, TellsStates, SlotsStand}
+use Rattle.loggers.specs.LoggerStands.{IsEndReplied, IsEndedSo, IsStartedStage, IsStoppingStage, HasEndTurn, IsEndTold, TellsStates, SlotsStand}
 use Rattle.loggers.proofs.ReadySteps.{WasNoted, was_noted}
-use Rattle.loggers.proofs.PullMoves.{EndsNone, GrowsOn, mark_stays, refusal_stays, ended_stays, port_grown}
+use Rattle.loggers.proofs.PullMoves.{EndsNone, GrowsOn, mark_stays, refusal_stays, ends_begun_stays, ended_stays, port_grown}
 use Rattle.loggers.proofs.PortSteps.{KeepsChannel, IsFrom, StepsPort, port_stepped}
 
 -- Channels that note a mark.
@@ -270,9 +274,9 @@ once_more own start reply never once s m n first second = elim (mark_push own (E
 ]
 
 -- what is told of the end of another run stays so
-ended_push : (own : List BufferEntry) (start : ℕ) (reply : Result ℕ MarkRefusal) (s : ℕ) (ended : Option ℕ) → s ≢ start → IsEndedSo own s ended → IsEndedSo (own ++ End start reply ∷ []) s ended
-ended_push own start reply s (Some place) other so = mark_stays own (End start reply ∷ []) s place so
-ended_push own start reply s None other so = (
+replied_push : (own : List BufferEntry) (start : ℕ) (reply : Result ℕ MarkRefusal) (s : ℕ) (ended : Option ℕ) → s ≢ start → IsEndReplied own s ended → IsEndReplied (own ++ End start reply ∷ []) s ended
+replied_push own start reply s (Some place) other so = mark_stays own (End start reply ∷ []) s place so
+replied_push own start reply s None other so = (
   refusal_stays own (End start reply ∷ []) s so.0,
   λ place marks. elim (mark_push own (End start reply) s place marks) as (λ w. ⊥) [
     | inl old ↦ so.1 place old
@@ -280,16 +284,75 @@ ended_push own start reply s None other so = (
   ],
 )
 
+ended_push : (own : List BufferEntry) (start : ℕ) (reply : Result ℕ MarkRefusal) (s : ℕ) (ended : Option ℕ) → s ≢ start → IsEndedSo own s ended → IsEndedSo (own ++ End start reply ∷ []) s ended
+ended_push own start reply s ended other so = (ends_begun_stays own (End start reply ∷ []) s so.0, replied_push own start reply s ended other so.1)
+
+-- The begin of a run that goes on.
+
+-- one of these calls began the run with this start number
+pub record HasBegunRun (own : List BufferEntry) (start : ℕ) : Type 0 where
+  pub begun : ℕ
+  pub before : List BufferEntry
+  pub after : List BufferEntry
+  pub is : own ≡ before ++ Begin start (Ok begun) ∷ after
+
+begins_read : (own : List BufferEntry) (got : List GotEvent) (client id mask number start begun : ℕ) (events : List Event) → IsReading own got client id mask number start begun events → HasBegunRun own start
+begins_read own got client id mask number start begun events reads = record {
+  begun = begun;
+  before = reads.asked.before ++ Request client id mask All (Ok number) ∷ reads.asking;
+  after = reads.running;
+  is = reads.asked.whole ∙ sym (append_assoc reads.asked.before (Request client id mask All (Ok number) ∷ reads.asking) (Begin start (Ok begun) ∷ reads.running));
+}
+
+begins_read_on : (own : List BufferEntry) (got : List GotEvent) (client id mask number start begun : ℕ) (events : List Event) → HasReadOn own got client id mask number start begun events → HasBegunRun own start
+begins_read_on own got client id mask number start begun events on =
+    let b : HasBegunRun on.calls start = begins_read on.calls on.got_by client id mask number start begun events on.reads in
+    record {
+      begun = b.begun;
+      before = b.before;
+      after = b.after ++ on.later;
+      is = on.own_is ∙ (ap (λ (l : List BufferEntry). l ++ on.later) b.is ∙ append_assoc b.before (Begin start (Ok b.begun) ∷ b.after) on.later);
+    }
+
+-- a channel whose run goes on has it begun in its buffer
+pub begins_started : (spec : ChannelSpec) (client : Option ℕ) (stage : ChannelStage) (start : ℕ) (head : FileHead) (own : List BufferEntry) (got : List GotEvent) (seen : Seen) → IsStartedStage start stage
+    → ChannelStands spec client stage head own got seen → HasBegunRun own start
+begins_started spec client Idle start head own got seen is stands = absurd is
+begins_started spec client (Asking opened) start head own got seen is stands = absurd is
+begins_started spec client (Writing opened begun) start head own got seen is stands =
+    let at : ReadingAt spec client (run_begun opened begun) head own got seen = stands.at in
+    subst (λ (n : ℕ). HasBegunRun own n) is (begins_read own got opened.client spec.id spec.mask opened.request opened.start begun at.events at.reads)
+begins_started spec client (Draining run) start head own got seen is stands = absurd is
+begins_started spec client (Drained run) start head own got seen is stands = absurd is
+begins_started spec client (Broken run) start head own got seen is stands =
+    let at : BrokenAt spec client run head own got seen = stands.at in
+    let on : HasReadOn own got run.opened.client spec.id spec.mask run.opened.request run.opened.start run.begun at.events =
+    subst (λ (e : Option ℕ). HasReadPart e own got run.opened.client spec.id spec.mask run.opened.request run.opened.start run.begun at.events) is.on at.reads in
+    subst (λ (n : ℕ). HasBegunRun own n) is.of (begins_read_on own got run.opened.client spec.id spec.mask run.opened.request run.opened.start run.begun at.events on)
+
+ends_begun_now : (own : List BufferEntry) (start : ℕ) (reply : Result ℕ MarkRefusal) → HasBegunRun own start → EndsBegun (own ++ End start reply ∷ []) start
+ends_begun_now own start reply b = record {
+  begun = b.begun;
+  reply = reply;
+  before = b.before;
+  running = b.after;
+  after = [];
+  is = ap (λ (l : List BufferEntry). l ++ End start reply ∷ []) b.is ∙ append_assoc b.before (Begin start (Ok b.begun) ∷ b.after) (End start reply ∷ []);
+}
+
 -- what is told of the end that was called for now
-ended_now : (own : List BufferEntry) (start : ℕ) (reply : Result ℕ MarkRefusal) → NeverEnded own start → IsEndedSo (own ++ End start reply ∷ []) start (place_marked reply)
-ended_now own start (Ok place) never = record { before = own; after = []; is = refl }
-ended_now own start (Err why) never = (
+replied_now : (own : List BufferEntry) (start : ℕ) (reply : Result ℕ MarkRefusal) → NeverEnded own start → IsEndReplied (own ++ End start reply ∷ []) start (place_marked reply)
+replied_now own start (Ok place) never = record { before = own; after = []; is = refl }
+replied_now own start (Err why) never = (
   record { before = own; after = []; why = why; is = refl },
   λ place marks. elim (mark_push own (End start (Err why)) start place marks) as (λ w. ⊥) [
     | inl old ↦ never place old
     | inr now ↦ let same : Err why ≡ Ok place = (end_reply start start (Err why) (Ok place) now).1 in cc (same)
   ],
 )
+
+ended_now : (own : List BufferEntry) (start : ℕ) (reply : Result ℕ MarkRefusal) → HasBegunRun own start → NeverEnded own start → IsEndedSo (own ++ End start reply ∷ []) start (place_marked reply)
+ended_now own start reply begun never = (ends_begun_now own start reply begun, replied_now own start reply never)
 
 -- The stages of channels at the end of a run: those that are idle are so only where this holds.
 abbrev pub MayEnd : (Spare : Type 0) → (start : ℕ) → ChannelStage → Type 0
@@ -323,23 +386,23 @@ end_stage calls law Spare c start reply head own got seen may stands = elim may 
   | inr started ↦ end_started law c.spec c.client c.stage start reply head own got seen started stands
 ]
 
-started_ended : (turns : List MemberTurn) (own : List BufferEntry) (stage : ChannelStage) (start : ℕ) (reply : Result ℕ MarkRefusal) → (AreEngineTurns turns → NeverEnded own start) → IsStartedStage start stage
+started_ended : (turns : List MemberTurn) (own : List BufferEntry) (stage : ChannelStage) (start : ℕ) (reply : Result ℕ MarkRefusal) → (AreEngineTurns turns → NeverEnded own start) → HasBegunRun own start → IsStartedStage start stage
     → IsStoppingStage turns (own ++ End start reply ∷ []) start (stage_ended stage (place_marked reply))
-started_ended turns own Idle start reply never is = absurd is
-started_ended turns own (Asking opened) start reply never is = absurd is
-started_ended turns own (Writing opened begun) start reply never is = record { of = is; so = λ are. ended_now own start reply (never are) }
-started_ended turns own (Draining run) start reply never is = absurd is
-started_ended turns own (Drained run) start reply never is = absurd is
-started_ended turns own (Broken run) start reply never is = record {
+started_ended turns own Idle start reply never begun is = absurd is
+started_ended turns own (Asking opened) start reply never begun is = absurd is
+started_ended turns own (Writing opened place) start reply never begun is = record { of = is; so = λ are. ended_now own start reply begun (never are) }
+started_ended turns own (Draining run) start reply never begun is = absurd is
+started_ended turns own (Drained run) start reply never begun is = absurd is
+started_ended turns own (Broken run) start reply never begun is = record {
   of = is.of;
-  so = λ are. subst (λ (e : Option ℕ). IsEndedSo (own ++ End start reply ∷ []) start (end_marked e (place_marked reply))) (sym is.on) (ended_now own start reply (never are));
+  so = λ are. subst (λ (e : Option ℕ). IsEndedSo (own ++ End start reply ∷ []) start (end_marked e (place_marked reply))) (sym is.on) (ended_now own start reply begun (never are));
 }
 
-pub has_ended : (Spare : Type 0) (turns : List MemberTurn) (own : List BufferEntry) (stage : ChannelStage) (start : ℕ) (reply : Result ℕ MarkRefusal) → (AreEngineTurns turns → NeverEnded own start) → MayEnd Spare start stage
+pub has_ended : (Spare : Type 0) (turns : List MemberTurn) (own : List BufferEntry) (stage : ChannelStage) (start : ℕ) (reply : Result ℕ MarkRefusal) → (AreEngineTurns turns → NeverEnded own start) → (IsStartedStage start stage → HasBegunRun own start) → MayEnd Spare start stage
     → HasEnded Spare turns (own ++ End start reply ∷ []) start (stage_ended stage (place_marked reply))
-has_ended Spare turns own stage start reply never may = elim may as (λ w. HasEnded Spare turns (own ++ End start reply ∷ []) start (stage_ended stage (place_marked reply))) [
+has_ended Spare turns own stage start reply never begun may = elim may as (λ w. HasEnded Spare turns (own ++ End start reply ∷ []) start (stage_ended stage (place_marked reply))) [
   | inl idle ↦ inl (idle.0, ap (λ (s : ChannelStage). stage_ended s (place_marked reply)) idle.1)
-  | inr started ↦ inr (started_ended turns own stage start reply never started)
+  | inr started ↦ inr (started_ended turns own stage start reply never (begun started) started)
 ]
 
 -- each channel behind the end of a run

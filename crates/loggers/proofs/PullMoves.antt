@@ -6,7 +6,7 @@ use Rattle.daq_types.specs.declared.events.Event.{Event}
 use Rattle.daq_types.specs.declared.runs.ChannelState.{ChannelState}
 use Rattle.daq_io.specs.Seen.{Seen}
 use Rattle.buffer_core.specs.declared.entry.BufferEntry.{BufferEntry}
-use Rattle.buffer_core.specs.declared.entry.BufferEntry.TheVariants.{Receive, Cancel, End}
+use Rattle.buffer_core.specs.declared.entry.BufferEntry.TheVariants.{Receive, Cancel, Begin, End}
 use Rattle.buffer_core.specs.declared.replies.Received.{Received}
 use Rattle.buffer_core.specs.declared.replies.Received.TheVariants.{Got, Empty, NoClient, SmallBuf}
 use Rattle.buffer_core.specs.Ports.{Access, GotEvent, got_after}
@@ -14,6 +14,7 @@ use Rattle.buffer_core.specs.Slots.{slot_at}
 use Rattle.member_model.specs.Turns.{MemberTurn}
 use Rattle.member_model.specs.SentCalls.{EachCall}
 use Rattle.member_model.specs.CutRuns.{MarksEnd, RefusesEnd}
+use Rattle.member_model.specs.EndedRuns.{EndsBegun}
 use Rattle.mid_logger.specs.declared.channel.Channel.{Channel}
 use Rattle.mid_logger.specs.declared.channel_spec.ChannelSpec.{ChannelSpec}
 use Rattle.mid_logger.specs.declared.pulled.Pulled.{Pulled}
@@ -26,7 +27,7 @@ use Rattle.mid_logger.specs.Beside.{LeavesNumber, LeavesRunFile, ChannelsApart, 
 use Rattle.mid_logger.specs.Keeping.{ChangesFile, KeepsRun, PullsKeep, PullsChange}
 use Rattle.loggers.specs.Moments.{LoggerMoment, ChannelStep, StepsChannel, HaveNumbersApart}
 use Rattle.loggers.specs.ChannelSteps.{PullsChannel}
-use Rattle.loggers.specs.LoggerStands.{IsEndedSo, IsEndTold, ChannelKept, PortKept, LeftRun, SlotsApart, SlotsStand}
+use Rattle.loggers.specs.LoggerStands.{IsEndReplied, IsEndedSo, IsEndTold, ChannelKept, PortKept, LeftRun, SlotsApart, SlotsStand}
 use Rattle.loggers.proofs.ReadySteps.{numbers_left}
 use Rattle.loggers.proofs.Moved.{Grows, Moves, moved}
 
@@ -175,9 +176,25 @@ refusal_stays own more start refuses = record {
   is = ap (λ (l : List BufferEntry). l ++ more) refuses.is ∙ append_assoc refuses.before (End start (Err refuses.why) ∷ refuses.after) more;
 }
 
+-- a run that was begun and called to end stays so when more calls follow
+pub ends_begun_stays : (own more : List BufferEntry) (start : ℕ) → EndsBegun own start → EndsBegun (own ++ more) start
+ends_begun_stays own more start e = record {
+  begun = e.begun;
+  reply = e.reply;
+  before = e.before;
+  running = e.running;
+  after = e.after ++ more;
+  is = ap (λ (l : List BufferEntry). l ++ more) e.is
+      ∙ (append_assoc e.before (Begin start (Ok e.begun) ∷ (e.running ++ End start e.reply ∷ e.after)) more
+      ∙ ap (λ (l : List BufferEntry). e.before ++ Begin start (Ok e.begun) ∷ l) (append_assoc e.running (End start e.reply ∷ e.after) more));
+}
+
+replied_stays : (own more : List BufferEntry) (start : ℕ) (ended : Option ℕ) → EachCall EndsNone more → IsEndReplied own start ended → IsEndReplied (own ++ more) start ended
+replied_stays own more start None quiet so = (refusal_stays own more start so.0, λ place marks. so.1 place (mark_before own more start place quiet marks))
+replied_stays own more start (Some place) quiet so = mark_stays own more start place so
+
 pub ended_stays : (own more : List BufferEntry) (start : ℕ) (ended : Option ℕ) → EachCall EndsNone more → IsEndedSo own start ended → IsEndedSo (own ++ more) start ended
-ended_stays own more start None quiet so = (refusal_stays own more start so.0, λ place marks. so.1 place (mark_before own more start place quiet marks))
-ended_stays own more start (Some place) quiet so = mark_stays own more start place so
+ended_stays own more start ended quiet so = (ends_begun_stays own more start so.0, replied_stays own more start ended quiet so.1)
 
 pub grown_on : (x y : Access) → GrowsOn x y → Grows x y
 grown_on x y grows = record {

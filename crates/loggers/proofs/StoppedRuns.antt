@@ -61,9 +61,9 @@ answer_in (Some x) has = (x, refl)
 -- What was told.
 
 state_so : (own : List BufferEntry) (start : ℕ) (ended : Option ℕ) (dump : Option (List ℕ)) → IsEndedSo own start ended → IsStateSo own start dump (state_ended ended dump)
-state_so own start None dump so = so
-state_so own start (Some place) None so = (refl, (place, so))
-state_so own start (Some place) (Some bytes) so = ((λ never. cc (never)), (place, so))
+state_so own start None dump so = (so.0, so.1.0, so.1.1)
+state_so own start (Some place) None so = (refl, (place, so.1))
+state_so own start (Some place) (Some bytes) so = ((λ never. cc (never)), (place, so.1))
 
 -- told as ended: the end was marked, and there was a dump
 record EndedParts (ended : Option ℕ) (dump : Option (List ℕ)) : Type 0 where
@@ -79,8 +79,8 @@ ended_parts (Some place) (Some bytes) is = record { place = place; bytes = bytes
 
 -- the place at which the end was accepted is the one that the run has
 ended_place : (own : List BufferEntry) (start : ℕ) (ended : Option ℕ) (place : ℕ) → IsEndedSo own start ended → MarksEnd own start place → ((m n : ℕ) → MarksEnd own start m → MarksEnd own start n → m ≡ n) → ended ≡ Some place
-ended_place own start None place so marks once = absurd (so.1 place marks)
-ended_place own start (Some p) place so marks once = ap Some (once p place so marks)
+ended_place own start None place so marks once = absurd (so.1.1 place marks)
+ended_place own start (Some p) place so marks once = ap Some (once p place so.1 marks)
 
 -- What was written.
 
@@ -221,7 +221,7 @@ left_as turns slots seen c a stop state told same l = subst (λ (s : ChannelStat
 
 told_so : (turns : List MemberTurn) (slots : List (Option Channel)) (seen : Seen) (c : Channel) (a : Access) (stop : MemberTurn) (state : ChannelState) → LeftRun turns slots seen c a stop state → IsStateSo a.own stop.order.start stop.dump state
 told_so turns slots seen c a stop state l = elim l.told as (λ w. IsStateSo a.own stop.order.start stop.dump state) [
-  | inl broken ↦ subst (λ (s : ChannelState). IsStateSo a.own stop.order.start stop.dump s) (sym broken) tt
+  | inl broken ↦ subst (λ (s : ChannelState). IsStateSo a.own stop.order.start stop.dump s) (sym broken) l.ended.0
   | inr is ↦ subst (λ (s : ChannelState). IsStateSo a.own stop.order.start stop.dump s) (sym is) (state_so a.own stop.order.start l.run.ended stop.dump l.ended)
 ]
 

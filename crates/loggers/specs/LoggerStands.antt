@@ -16,6 +16,7 @@ use Rattle.transitions.specs.declared.answers.Tally.TheVariants.{Channels}
 use Rattle.member_model.specs.Turns.{MemberTurn, HasTurn, HasTurnOf, IsAcceptedStart, NoneOpen, current_run, AreEngineTurns}
 use Rattle.member_model.specs.SentCalls.{EachCall}
 use Rattle.member_model.specs.CutRuns.{MarksEnd, RefusesEnd}
+use Rattle.member_model.specs.EndedRuns.{EndsBegun}
 use Rattle.member_model.specs.LoggerKept.{LoggerChannel, LoggerPort, IsStartAnswer, KeepsLogger}
 use Rattle.mid_logger.specs.declared.channel.Channel.{Channel}
 use Rattle.mid_logger.specs.declared.stage.BegunRun.{BegunRun}
@@ -77,9 +78,13 @@ pub record HasHead (turns : List MemberTurn) (start : ℕ) (head : FileHead) : T
   pub dump : head.dump ≡ unwrap_or turn.dump []
 
 -- what the end of the run with this start number was replied: a place; or it was refused, and was never accepted
+abbrev pub IsEndReplied : List BufferEntry → (start : ℕ) → (ended : Option ℕ) → Type 0
+IsEndReplied own start (Some place) = MarksEnd own start place
+IsEndReplied own start None = RefusesEnd own start × ((place : ℕ) → MarksEnd own start place → ⊥)
+
+-- the run with this start number was begun, and then called to end, which was replied so
 abbrev pub IsEndedSo : List BufferEntry → (start : ℕ) → (ended : Option ℕ) → Type 0
-IsEndedSo own start (Some place) = MarksEnd own start place
-IsEndedSo own start None = RefusesEnd own start × ((place : ℕ) → MarksEnd own start place → ⊥)
+IsEndedSo own start ended = EndsBegun own start × IsEndReplied own start ended
 
 -- a run with this start number that is not to be ended yet
 pub record IsUnended (start : ℕ) (run : BegunRun) : Type 0 where
