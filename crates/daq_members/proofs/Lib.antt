@@ -4,3 +4,4 @@ pub mod FrontMemberLaws
 pub mod TakenLaws
 pub mod TurnSets
 pub mod CrewLaws
+pub mod UnderwayLaws

@@ -11,8 +11,8 @@ use Rattle.front_ends.specs.declared.front_run.FrontRun.{FrontRun}
 use Rattle.daq_members.specs.declared.turned.Turned.{Turned}
 use Rattle.daq_members.specs.FrontTaken.{FrontTaken, IsSameBufferPort, FrontMemberStands}
 
--- A front-end in a session: the engine that it asks, its client number, its name, its equipment, and its run; its calls on the
--- engine; and its access to its buffer and to the database.
+-- A front-end in a session: the engine that it asks, its client number, its name, its equipment, and its run; its
+-- calls on the engine; and its access to its buffer and to the database.
 pub record FrontSeen (E : Type 0) : Type 0 where
   pub engine : SharedEngine
   pub client : ℕ
@@ -23,8 +23,8 @@ pub record FrontSeen (E : Type 0) : Type 0 where
   pub port : Access
   pub database : DatabaseAccess
 
--- The port and the access are the client's own, an event fits into the buffer, and the front-end keeps its contract over its
--- own calls on engine, buffer and database.
+-- The port and the access are the client's own, an event fits into the buffer, and the front-end keeps its contract
+-- over its own calls on engine, buffer and database.
 pub record IsSeated {E : Type 0} (takes : E → Order → Bool) (makes : E → Order → ℕ → Event) (front : FrontSeen E) : Type 0 where
   pub caller : front.port.caller ≡ caller_of_client front.client
   pub database_caller : front.database.caller ≡ caller_of_client front.client
@@ -51,8 +51,8 @@ module _ {E : Type 0} (takes : E → Order → Bool) (makes : E → Order → �
     turned = turned;
   }
 
-  -- The same front-end with the same equipment: it asks the same engine by the same client number, and leads to the same buffer
-  -- and the same database.
+  -- The same front-end with the same equipment: it asks the same engine by the same client number, and leads to the
+  -- same buffer and the same database.
   pub record IsSameFront (before after : FrontSeen E) : Type 0 where
     pub engine : after.engine ≡ before.engine
     pub client : after.client ≡ before.client

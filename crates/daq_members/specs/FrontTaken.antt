@@ -1,4 +1,5 @@
--- What a front-end does in one turn of its own: its calls on the engine, on its buffer and on the database, and what it came to.
+-- What a front-end does in one turn of its own: its calls on the engine, on its buffer and on the database, and what
+-- it came to.
 use Rattle.std.specs.Prelude.{◌≡◌, ℕ, Bool, true, false, ◌||◌, is_some, if◌then◌else◌, List, [], ◌∷◌, ◌++◌, Option, Some, None}
 use Rattle.daq_types.specs.declared.events.Event.{Event}
 use Rattle.daq_types.specs.declared.runs.Order.{Order}
@@ -26,8 +27,8 @@ use Rattle.daq_members.specs.declared.turned.Turned.TheVariants.{Worked, Idle, E
 use Rattle.daq_members.specs.OwnTurns.{start_owed, GivesAnswer}
 use Rattle.daq_members.specs.SentSets.{number_set_at, number_if, AreNumbersSet}
 
--- A turn of a front-end: its client number, its name, and what its equipment does; its run, its calls on the engine, and its
--- access to its buffer and to the database, before and behind; and what it came to.
+-- A turn of a front-end: its client number, its name, and what its equipment does; its run, its calls on the engine,
+-- and its access to its buffer and to the database, before and behind; and what it came to.
 pub record FrontTaken : Type 0 where
   pub client : ℕ
   pub name : List ℕ
@@ -92,7 +93,8 @@ pub record WorksFront (t : FrontTaken) (reply : Polled) : Type 0 where
   pub database : t.later_database ≡ t.database
   pub turned_is : t.turned ≡ turned_by (is_sent step)
 
--- The front-end is given a turn: it takes it, sets the number that it has to, and gives the answer, if there is one yet.
+-- The front-end is given a turn: it takes it, sets the number that it has to, and gives the answer, if there is one
+-- yet.
 pub record TakesFrontTurn (t : FrontTaken) (transition : Transition) (order : Order) (reply : Polled) : Type 0 where
   pub answer : Option Answer
   pub answer_is : answer ≡ front_answer (t.takes order) t.run transition order
@@ -103,8 +105,8 @@ pub record TakesFrontTurn (t : FrontTaken) (transition : Transition) (order : Or
       t.database t.later_database
   pub turned_is : t.turned ≡ Worked
 
--- The front-end has yet to answer its turn in the run with this start number: it makes its step; and where it can answer then, it
--- sets the number that it sent, and gives the answer.
+-- The front-end has yet to answer its turn in the run with this start number: it makes its step; and where it can
+-- answer then, it sets the number that it sent, and gives the answer.
 pub record FinishesFront (t : FrontTaken) (start : ℕ) (reply : Polled) : Type 0 where
   pub step : FrontStep
   pub stepped : Option FrontRun
@@ -133,8 +135,8 @@ pub record TakesFront (t : FrontTaken) : Type 0 where
 
 -- What is kept at every moment between two turns.
 
--- A front-end as a member, with its calls on the engine, on its buffer and on the database: it keeps the front-end's contract over
--- the turns that its calls on the engine tell, and says in the database how many events it sent.
+-- A front-end as a member, with its calls on the engine, on its buffer and on the database: it keeps the front-end's
+-- contract over the turns that its calls on the engine tell, and says in the database how many events it sent.
 pub record FrontMemberStands (client : ℕ) (name : List ℕ) (takes : Order → Bool) (makes : Order → ℕ → Event)
     (run : Option FrontRun) (calls : List EngineEntry) (own : List BufferEntry) (sets : List DatabaseEntry) : Type 0 where
   pub stands : FrontStands takes makes run own (member_turns client calls)

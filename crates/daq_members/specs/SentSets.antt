@@ -1,5 +1,5 @@
--- How a front-end says in the database how many events it sent: at each start that is none; at each pause, and at each stop once
--- it answers that, it is how many events it had sent in the run when it answered.
+-- How a front-end says in the database how many events it sent: at each start that is none; at each pause, and at
+-- each stop once it answers that, it is how many events it had sent in the run when it answered.
 use Rattle.std.specs.Prelude.{◌≡◌, ℕ, Bool, true, false, is_some, List, [], ◌∷◌, ◌++◌, Option, Some, None}
 use Rattle.daq_types.specs.declared.runs.Transition.{Transition}
 use Rattle.daq_types.specs.declared.runs.Transition.TheVariants.{Start, Stop, Pause, Resume, StartAbort}
@@ -23,7 +23,8 @@ abbrev pub number_if : (answered : Bool) → (sent : ℕ) → Option ℕ
 number_if true sent = Some sent
 number_if false sent = None
 
--- These calls are the earlier ones and one more, which sets the number in the front-end's key, whatever it was replied.
+-- These calls are the earlier ones and one more, which sets the number in the front-end's key, whatever it was
+-- replied.
 pub record AddsNumber (name : List ℕ) (sent : ℕ) (earlier calls : List DatabaseEntry) : Type 0 where
   pub entry : DatabaseEntry
   pub sets : IsSet (sent_set name sent) entry
@@ -34,11 +35,13 @@ abbrev pub AddsNumberIf : (name : List ℕ) → Option ℕ → (earlier calls : 
 AddsNumberIf name None earlier calls = calls ≡ earlier
 AddsNumberIf name (Some sent) earlier calls = AddsNumber name sent earlier calls
 
--- The front-end's calls on the database are such sets alone: one for each of its turns at which a number is set, in the order of
--- the turns. The latest turn stands first, and so does its moment; all turns but the latest were answered.
+-- The front-end's calls on the database are such sets alone: one for each of its turns at which a number is set, in
+-- the order of the turns. The latest turn stands first, and so does its moment; all turns but the latest were
+-- answered.
 abbrev pub AreNumbersSet : (name : List ℕ) → List BufferEntry → List MemberTurn → (moments : List ℕ) →
     (calls : List DatabaseEntry) → Type 0
 AreNumbersSet name own [] moments calls = calls ≡ []
 AreNumbersSet name own (t ∷ ts) [] calls = ⊥
-AreNumbersSet name own (t ∷ ts) (m ∷ ms) calls = NoneOpen ts × (earlier : List DatabaseEntry) × AreNumbersSet name own ts ms earlier ×
+AreNumbersSet name own (t ∷ ts) (m ∷ ms) calls =
+    NoneOpen ts × (earlier : List DatabaseEntry) × AreNumbersSet name own ts ms earlier ×
     AddsNumberIf name (number_set_at t.transition (is_some t.answer) (sent_by_moment own t.order.start m)) earlier calls

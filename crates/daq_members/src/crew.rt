@@ -1,26 +1,29 @@
 // The members of a session.
-ghost use Rattle.std.specs.Prelude.{◌≡◌, ◌+◌, ◌<◌, ◌≤◌, ◌^◌, ℕ, [], None, IsTrue, length};
+ghost use Rattle.std.specs.Prelude.{◌≡◌, ◌+◌, ◌<◌, ◌≤◌, ◌^◌, ℕ, [], None, IsTrue, IfOk, IfErr, OnErr, length};
 ghost use Rattle.daq_types.specs.Callers.{main_caller};
-ghost use Rattle.turn_lock.specs.Passes.{number_of, held_by, own_entries, IsOf};
-ghost use Rattle.transition_lock.specs.SharedEngines.{engine_lock_of};
-ghost use Rattle.daq_members.specs.Crews.{ChecksUntil};
+ghost use Rattle.turn_lock.specs.Passes.{number_of, seen_by, held_by, own_entries, IsOf};
+ghost use Rattle.transition_lock.specs.SharedEngines.{engine_lock_of, first_engine};
+ghost use Rattle.transitions.specs.EngineHistories.{IsSheet, engine_replay};
+ghost use Rattle.daq_members.specs.Crews.{IsUnderway, TellsDone, ChecksUntil, MakesTransition, RefusesTransition};
 
-use crate::endless::{EndlessAccess, EndlessPort};
+use crate::endless::EndlessPort;
 use crate::front_seat::FrontSeat;
 use crate::turned::Turned;
 use daq_io::{Gate, Pick};
+use daq_types::{StartOutcome, Transition};
 use front_ends::Equipment;
+use odb_port::WatchPort;
 use std::sync::Wait;
 use transition_lock::{EnginePass, SharedEngine};
-use transitions::{Progress, Tallies};
+use transitions::{BeginRefusal, Progress, Sheet, Tallies};
 
-/// The members of a session. Each stands at its client number.
+/// The members of a session, front-ends so far, in the order in which they take their turns.
 #[derive(Drop)]
-pub struct Crew<'a, E: Equipment, P: EndlessPort, D: EndlessAccess> {
+pub struct Crew<'a, E: Equipment, P: EndlessPort, D: WatchPort> {
     pub fronts: Vec<FrontSeat<'a, E, P, D>>,
 }
 
-impl<'a, E: Equipment, P: EndlessPort, D: EndlessAccess> Crew<'a, E, P, D> {
+impl<'a, E: Equipment, P: EndlessPort, D: WatchPort> Crew<'a, E, P, D> {
     ghost use Rattle.daq_members.specs.Crews.{TurnsFront, TakesRound, AreSameFronts};
 
     /// One turn of the member of this number.
@@ -51,8 +54,8 @@ impl<'a, E: Equipment, P: EndlessPort, D: EndlessAccess> Crew<'a, E, P, D> {
         }
     }
 
-    /// Rounds for as long as a transition is in progress, before each of which the main thread checks the engine. What the
-    /// last check told, with the tallies that it gave.
+    /// Rounds for as long as a transition is in progress, before each of which the main thread checks the engine.
+    /// What the last check told, with the tallies that it gave.
     pub fn drive<R: Wait, K: Pick, G: Gate>(
         &mut self,
         rt: &R,
@@ -68,6 +71,8 @@ impl<'a, E: Equipment, P: EndlessPort, D: EndlessAccess> Crew<'a, E, P, D> {
         requires empty { tallies.old ≡ [] }
         requires some { 0 < length self.old.fronts.items }
         requires few { length self.old.fronts.items < 2 ^ 16 }
+        ensures done { IsUnderway (engine_replay (first_engine engine.now) (seen_by main.old)) →
+            TellsDone result }
         ensures checks { ChecksUntil result tallies.new (own_entries main.old)
             (own_entries main.new) }
         ensures number { number_of main.new ≡ main_caller }
@@ -83,5 +88,46 @@ impl<'a, E: Equipment, P: EndlessPort, D: EndlessAccess> Crew<'a, E, P, D> {
             self.round(rt, pick, gate);
         }
         unreachable!()
+    }
+    /// One transition by the main thread: it is begun with this sheet, and the members take their turns until it is
+    /// done. The tallies are those of its end. Where it is not begun, the sheet comes back.
+    pub fn transit<R: Wait, K: Pick, G: Gate>(
+        &mut self,
+        rt: &R,
+        engine: &SharedEngine,
+        main: &mut EnginePass,
+        transition: Transition,
+        sheet: Sheet,
+        tallies: &mut Tallies,
+        pick: &mut K,
+        gate: &G,
+    ) -> Result<StartOutcome, (BeginRefusal, Sheet)>
+        requires main { number_of main.old ≡ main_caller }
+        requires own { IsOf (engine_lock_of engine.now) main.old }
+        requires idle { held_by main.old ≡ None }
+        requires sheet { IsSheet sheet }
+        requires empty { tallies.old ≡ [] }
+        requires some { 0 < length self.old.fronts.items }
+        requires few { length self.old.fronts.items < 2 ^ 16 }
+        ensures made { IfOk result (λ outcome. (start : ℕ) × MakesTransition
+            (own_entries main.old) (own_entries main.new) transition sheet start outcome
+            tallies.new) }
+        ensures refused { IfErr result (λ refused. RefusesTransition (own_entries main.old)
+            (own_entries main.new) transition sheet refused.0) }
+        ensures back { IfErr result (λ refused. refused.1 ≡ sheet) }
+        ensures unmoved { OnErr result (self.new ≡ self.old) }
+        ensures number { number_of main.new ≡ main_caller }
+        ensures own { IsOf (engine_lock_of engine.now) main.new }
+        ensures idle { held_by main.new ≡ None }
+        ensures same { AreSameFronts E.takes E.makes self.old.fronts.items self.new.fronts.items }
+    {
+        match engine.begin(rt, main, transition, sheet) {
+            Err(refused) => Err(refused),
+            Ok(_) => match self.drive(rt, engine, main, tallies, pick, gate) {
+                Progress::Done { outcome } => Ok(outcome),
+                Progress::Going => unreachable!(),
+                Progress::None => unreachable!(),
+            },
+        }
     }
 }

@@ -1,16 +1,15 @@
-use crate::setting::SetPort;
-use buffer_core::BufferPort;
+use buffer_core::{BufferPort, EventBuffer};
+use buffer_lock::SharedPort;
 
 /// A port that takes no room for its calls.
 pub trait EndlessPort: BufferPort {
     ghost use Rattle.daq_members.specs.Endless.{IsEndless};
 
-    ghost endless: { (port : Self) → IsEndless (Self.access port) };
+    ghost has_room: { (port : Self) → IsEndless (Self.access port) };
 }
 
-/// An access to a database that takes no room for its calls.
-pub trait EndlessAccess: SetPort {
-    ghost use Rattle.std.specs.Prelude.{◌≤◌};
+impl<'a, B: EventBuffer> EndlessPort for SharedPort<'a, B> {
+    ghost use Rattle.std.proofs.Common.{rules};
 
-    ghost endless: { (port : Self) → 1 ≤ (Self.access port).room };
+    ghost has_room = { λ port. record { entries = Prim.search rules; bytes = Prim.search rules } };
 }

@@ -18,13 +18,13 @@ ghost use Rattle.daq_members.specs.SentSets.{number_set_at, number_if, AddsNumbe
 ghost use Rattle.daq_members.specs.FrontTaken.{turned_by, is_sent, SetsSent, StepsFront, IsSameBufferPort, TakesFront, FrontMemberStands};
 
 use crate::seat::Seat;
-use crate::setting::SetPort;
 use crate::turned::Turned;
 use buffer_core::BufferPort;
 use daq_io::{Gate, Point};
 use daq_types::{Name, NoMemory, Order, Transition};
 use front_ends::{Equipment, FrontEnd, FrontStep};
 use odb_path::Path;
+use odb_port::WatchPort;
 use odb_port::laws::calls_add_up;
 use odb_runinfo::sent_path;
 use odb_value::Item;
@@ -32,14 +32,15 @@ use std::alloc::Global;
 use std::sync::Wait;
 use transitions::Polled;
 
-/// A front-end as a member of a session: its place at the engine, its name, the path of the key in which it says how many events
-/// it sent, and the front-end. Only `new` takes memory.
+/// A front-end as a member of a session: its place at the engine, its name, the path of the key in which it says how
+/// many events it sent, and the front-end. Only `new` takes memory.
 #[derive(Drop)]
 pub struct FrontMember<'a, E: Equipment> {
     pub seat: Seat<'a>,
     pub name: Name,
     pub path: Path,
     pub front: FrontEnd<E>,
+    alloc: Global,
     ghost path_is: { path ≡ sent_path name },
 }
 
@@ -84,15 +85,15 @@ fn number_finished(answered: bool, sent: u64) -> Option<u64>
 }
 
 /// Sets the number in the key of this path, if there is one. A refusal is passed over.
-fn set_sent<R: Wait, D: SetPort>(
+fn set_sent<R: Wait, D: WatchPort>(
     rt: &R,
+    alloc: Global,
     database: &mut D,
     name: Name,
     path: &Path,
     number: Option<u64>,
 )
     requires path { path.now ≡ sent_path name }
-    requires room { 1 ≤ (D.access database.old).room }
     ensures sets { SetsSent name number (D.access database.old) (D.access database.new) }
     ensures own { AddsNumberIf name number (own_calls (D.access database.old))
         (own_calls (D.access database.new)) }
@@ -102,7 +103,7 @@ fn set_sent<R: Wait, D: SetPort>(
     let Some(sent) = number else {
         return;
     };
-    let _ = database.set(rt, path, 0, Item::UInt64(sent));
+    let _ = database.set_lent(rt, alloc, path, 0, &Item::UInt64(sent));
 }
 
 impl<'a, E: Equipment> FrontMember<'a, E> {
@@ -128,14 +129,15 @@ impl<'a, E: Equipment> FrontMember<'a, E> {
             name,
             path,
             front,
+            alloc,
         })
     }
 
-    /// One turn: the engine is asked once. A turn that it gives is taken, and answered where that can be at once; else the next
-    /// event is sent, and then a stop is answered that waited for it. Worked exactly where a new turn was given, one was answered,
-    /// or an event was sent; Ended exactly where the engine is closed. The calls are those of the member's own number. Takes no
-    /// memory.
-    pub fn turn<R: Wait, P: BufferPort, D: SetPort, G: Gate>(
+    /// One turn: the engine is asked once. A turn that it gives is taken, and answered where that can be at once;
+    /// else the next event is sent, and then a stop is answered that waited for it. Worked exactly where a new turn
+    /// was given, one was answered, or an event was sent; Ended exactly where the engine is closed. The calls are
+    /// those of the member's own number. Takes no memory.
+    pub fn turn<R: Wait, P: BufferPort, D: WatchPort, G: Gate>(
         &mut self,
         rt: &R,
         port: &mut P,
@@ -148,7 +150,6 @@ impl<'a, E: Equipment> FrontMember<'a, E> {
         requires entries { 1 ≤ (P.access port.old).entries }
         requires bytes { event_room ≤ (P.access port.old).bytes }
         requires size { 104 ≤ (P.access port.old).size }
-        requires room { 1 ≤ (D.access database.old).room }
         ensures takes { TakesFront (record {
           client = self.old.seat.client;
           name = self.old.name;
@@ -230,16 +231,15 @@ impl<'a, E: Equipment> FrontMember<'a, E> {
         step
     }
 
-    /// Takes a turn that the engine gave: the number that was sent is set where it has to be, and the answer is given, if there is
-    /// one yet.
-    fn take_turn<R: Wait, D: SetPort>(
+    /// Takes a turn that the engine gave: the number that was sent is set where it has to be, and the answer is
+    /// given, if there is one yet.
+    fn take_turn<R: Wait, D: WatchPort>(
         &mut self,
         rt: &R,
         database: &mut D,
         transition: Transition,
         order: &Order,
     )
-        requires room { 1 ≤ (D.access database.old).room }
         ensures gives { GivesAnswer self.old.seat.client
             (front_answer (E.takes self.old.front.equipment order.now)
             self.old.front.run transition order.now)
@@ -273,13 +273,13 @@ impl<'a, E: Equipment> FrontMember<'a, E> {
         let sent = self.front.sent_in(order.start);
         let answer = self.front.on_turn(transition, order);
         let number = number_set_at(transition, answer.is_some(), sent);
-        set_sent(rt, database, self.name, &self.path, number);
+        set_sent(rt, self.alloc, database, self.name, &self.path, number);
         self.seat.give(rt, answer);
     }
 
-    /// Answers the stop that waited, if it can be answered; the number that was sent is set before. Whether it was answered.
-    fn finish<R: Wait, D: SetPort>(&mut self, rt: &R, database: &mut D, start: u32) -> bool
-        requires room { 1 ≤ (D.access database.old).room }
+    /// Answers the stop that waited, if it can be answered; the number that was sent is set before. Whether it was
+    /// answered.
+    fn finish<R: Wait, D: WatchPort>(&mut self, rt: &R, database: &mut D, start: u32) -> bool
         ensures answered { result ≡ is_some (finish_answer self.old.front.run) }
         ensures gives { GivesAnswer self.old.seat.client (finish_answer self.old.front.run)
             (own_entries self.old.seat.pass) (own_entries self.new.seat.pass) }
@@ -312,7 +312,7 @@ impl<'a, E: Equipment> FrontMember<'a, E> {
         let answer = self.front.finish();
         let answered = answer.is_some();
         let number = number_finished(answered, sent);
-        set_sent(rt, database, self.name, &self.path, number);
+        set_sent(rt, self.alloc, database, self.name, &self.path, number);
         self.seat.give(rt, answer);
         answered
     }

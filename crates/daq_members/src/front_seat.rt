@@ -5,23 +5,24 @@ ghost use Rattle.odb_port.specs.DatabasePorts.{own_calls};
 ghost use Rattle.turn_lock.specs.Passes.{own_entries};
 ghost use Rattle.daq_members.specs.FrontTaken.{TakesFront, FrontMemberStands};
 
-use crate::endless::{EndlessAccess, EndlessPort};
+use crate::endless::EndlessPort;
 use crate::front_member::FrontMember;
 use crate::turned::Turned;
 use daq_io::Gate;
 use front_ends::Equipment;
+use odb_port::WatchPort;
 use std::marker::Model;
 use std::sync::Wait;
 
 /// A front-end in a session, with its own port to its buffer and its own access to the database.
 #[derive(Drop)]
-pub struct FrontSeat<'a, E: Equipment, P: EndlessPort, D: EndlessAccess> {
+pub struct FrontSeat<'a, E: Equipment, P: EndlessPort, D: WatchPort> {
     member: FrontMember<'a, E>,
     port: P,
     database: D,
 }
 
-impl<'a, E: Equipment, P: EndlessPort, D: EndlessAccess> Model for FrontSeat<'a, E, P, D> {
+impl<'a, E: Equipment, P: EndlessPort, D: WatchPort> Model for FrontSeat<'a, E, P, D> {
     ghost use Rattle.turn_lock.specs.Passes.{own_entries};
     ghost use Rattle.daq_members.specs.FrontSeats.{FrontSeen, IsSeated};
 
@@ -50,7 +51,7 @@ impl<'a, E: Equipment, P: EndlessPort, D: EndlessAccess> Model for FrontSeat<'a,
     }) };
 }
 
-impl<'a, E: Equipment, P: EndlessPort, D: EndlessAccess> FrontSeat<'a, E, P, D> {
+impl<'a, E: Equipment, P: EndlessPort, D: WatchPort> FrontSeat<'a, E, P, D> {
     ghost use Rattle.daq_members.specs.FrontSeats.{IsSeated, IsSameFront, front_taken};
 
     /// A front-end that has made no call yet, with its own port to its buffer and its own access to the database.

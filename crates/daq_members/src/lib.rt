@@ -1,6 +1,5 @@
-//! The members of a session. Each has its place at the engine, where it asks for its turns and answers them, and goes on with
-//! its work by what it hears there: a front-end sends its events and says in the database how many it sent; the logger reads its
-//! channels and writes their files.
+//! The members of a session. Each has its place at the engine, where it asks for its turns and answers them, and goes
+//! on with its work by what it hears there: a front-end sends its events and says in the database how many it sent.
 #![tactic(auto)]
 
 mod crew;
@@ -9,13 +8,11 @@ mod front_member;
 mod front_seat;
 pub mod laws;
 mod seat;
-mod setting;
 mod turned;
 
 pub use crew::Crew;
-pub use endless::{EndlessAccess, EndlessPort};
+pub use endless::EndlessPort;
 pub use front_member::FrontMember;
 pub use front_seat::FrontSeat;
 pub use seat::Seat;
-pub use setting::SetPort;
 pub use turned::Turned;

@@ -11,8 +11,8 @@ use std::sync::Wait;
 use transition_lock::{EnginePass, SharedEngine};
 use transitions::{Answer, Polled};
 
-/// A member's place at a shared engine: its client number, its pass, and the start number of the turn that it was given and has
-/// not answered. By it the member polls and answers for its own client alone.
+/// A member's place at a shared engine: its client number, its pass, and the start number of the turn that it was
+/// given and has not answered. By it the member polls and answers for its own client alone.
 #[derive(Drop)]
 pub struct Seat<'a> {
     pub engine: &'a SharedEngine,

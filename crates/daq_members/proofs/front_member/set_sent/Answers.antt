@@ -7,20 +7,20 @@ use Rattle.daq_members.proofs.front_member.set_sent.Goals as goal
 
 pub returns-clause-sets : goal.returns-clause-sets
 returns-clause-sets g c = rw c.in-Some.is (
-  Set c.args.path.now 0 (UInt64 c.in-Some.sent) c.set.result,
-  record { reply = c.set.result; is = ap (λ (p : List (List ℕ)). Set p 0 (UInt64 c.in-Some.sent) c.set.result) c.requires.path },
-  c.set.ensures.called,
+  Set c.args.path.now 0 (UInt64 c.in-Some.sent) c.set_lent.result,
+  record { reply = c.set_lent.result; is = ap (λ (p : List (List ℕ)). Set p 0 (UInt64 c.in-Some.sent) c.set_lent.result) c.requires.path },
+  c.set_lent.ensures.called,
 )
 
 pub returns-clause-own : goal.returns-clause-own
 returns-clause-own g c =
-    let entry : DatabaseEntry = Set c.args.path.now 0 (UInt64 c.in-Some.sent) c.set.result in
+    let entry : DatabaseEntry = Set c.args.path.now 0 (UInt64 c.in-Some.sent) c.set_lent.result in
     rw c.in-Some.is (record {
       entry = entry;
-      sets = record { reply = c.set.result; is = ap (λ (p : List (List ℕ)). Set p 0 (UInt64 c.in-Some.sent) c.set.result) c.requires.path };
-      whole = c.calls_add_up.ensures.own (g.D.SetPort.access c.args.database.now) (g.D.SetPort.access c.set.new.self) (entry ∷ [])
-          (g.D.SetPort.access c.set.new.self, c.set.ensures.called, refl);
+      sets = record { reply = c.set_lent.result; is = ap (λ (p : List (List ℕ)). Set p 0 (UInt64 c.in-Some.sent) c.set_lent.result) c.requires.path };
+      whole = c.calls_add_up.ensures.own (g.D.DatabasePort.access c.args.database.now) (g.D.DatabasePort.access c.set_lent.new.self) (entry ∷ [])
+          (g.D.DatabasePort.access c.set_lent.new.self, c.set_lent.ensures.called, refl);
     })
 
 pub returns-clause-same : goal.returns-clause-same
-returns-clause-same g c = c.set.ensures.called.same
+returns-clause-same g c = c.set_lent.ensures.called.same

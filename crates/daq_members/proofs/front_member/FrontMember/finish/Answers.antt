@@ -18,7 +18,7 @@ returns-clause-keeps g c = λ calls own transition order dump blank asked owed m
     let takes = g.E.Equipment.takes front.equipment in
     let makes = g.E.Equipment.makes front.equipment in
     finished_stands self.seat.client self.name takes makes front.run ended.new.self.run calls (own_entries c.give.new.self.pass) own
-    (own_calls (g.D.SetPort.access c.args.database.now)) (own_calls (g.D.SetPort.access c.set_sent.new.database))
+    (own_calls (g.D.DatabasePort.access c.args.database.now)) (own_calls (g.D.DatabasePort.access c.set_sent.new.database))
     c.args.start ended.result member ended.ensures.answer owed
     (finished_turns self.seat.client calls (own_entries self.seat.pass) (own_entries c.give.new.self.pass) transition order dump blank c.args.start ended.result owed asked c.give.ensures.gives)
     -- the equipment is the same behind the call
