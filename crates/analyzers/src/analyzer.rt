@@ -38,7 +38,12 @@ impl Model for Analyzer {
 
     ghost Value = { AnalyzerState };
 
-    ghost view = { λ a. record { wanted = a.wanted; room = a.event.room; client = a.client; run = a.run } };
+    ghost view = { λ a. record {
+      wanted = a.wanted;
+      room = a.event.room;
+      client = a.client;
+      run = a.run;
+    } };
 }
 
 /// What a turn is answered that needs no more.
