@@ -417,7 +417,8 @@ impl Analyzer {
         requires room { min event_limit ((P.access port.old).size - 24) ≤ self.old.room }
         requires counted { IsWithinGot (Some run) (P.access port.old).got }
         ensures after { self.new ≡ self.old }
-        ensures receives { ReceivesFor run result.0 self.old.room (P.access port.old) (P.access port.new)
+        ensures receives { ReceivesFor run result.0 self.old.room (P.access port.old)
+            (P.access port.new)
             result.1 }
         ensures counted { IsWithinGot (Some result.0) (P.access port.new).got }
         ensures size { (P.access port.new).size ≡ (P.access port.old).size }
@@ -493,11 +494,13 @@ impl Analyzer {
     pub fn finish(&mut self) -> Option<Answer>
         ensures answer { result ≡ report_answer self.old.run }
         ensures after { self.new ≡ record self.old { run = run_reported self.old.run result } }
-        ensures keeps { (own : List BufferEntry) → (got : List GotEvent) → (turns : List MemberTurn) →
+        ensures keeps { (own : List BufferEntry) → (got : List GotEvent)
+            → (turns : List MemberTurn) →
             AnalyzerStands self.old.wanted self.old.client self.old.run own got turns →
             AnalyzerStands self.new.wanted self.new.client self.new.run own got
             (latest_answered turns result) }
-        ensures tells { (own : List BufferEntry) → (got : List GotEvent) → (turns : List MemberTurn) →
+        ensures tells { (own : List BufferEntry) → (got : List GotEvent)
+            → (turns : List MemberTurn) →
             AnalyzerStands self.old.wanted self.old.client self.old.run own got turns →
             AnalyzerTells self.old.run turns →
             AnalyzerTells self.new.run (latest_answered turns result) }

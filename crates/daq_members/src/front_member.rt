@@ -168,8 +168,10 @@ impl<'a, E: Equipment> FrontMember<'a, E> {
         ensures client { self.new.seat.client ≡ self.old.seat.client }
         ensures engine { self.new.seat.engine.now ≡ self.old.seat.engine.now }
         ensures name { self.new.name ≡ self.old.name }
-        ensures equipment_takes { E.takes self.new.front.equipment ≡ E.takes self.old.front.equipment }
-        ensures equipment_makes { E.makes self.new.front.equipment ≡ E.makes self.old.front.equipment }
+        ensures equipment_takes { E.takes self.new.front.equipment
+            ≡ E.takes self.old.front.equipment }
+        ensures equipment_makes { E.makes self.new.front.equipment
+            ≡ E.makes self.old.front.equipment }
         ensures same_port { IsSameBufferPort (P.access port.old) (P.access port.new) }
         ensures same { IsSamePort (D.access database.old) (D.access database.new) }
         ensures keeps { FrontMemberStands self.old.seat.client self.old.name
@@ -213,8 +215,10 @@ impl<'a, E: Equipment> FrontMember<'a, E> {
             self.new.front.run (P.access port.old) (P.access port.new) result }
         ensures seat { self.new.seat ≡ self.old.seat }
         ensures name { self.new.name ≡ self.old.name }
-        ensures equipment_takes { E.takes self.new.front.equipment ≡ E.takes self.old.front.equipment }
-        ensures equipment_makes { E.makes self.new.front.equipment ≡ E.makes self.old.front.equipment }
+        ensures equipment_takes { E.takes self.new.front.equipment
+            ≡ E.takes self.old.front.equipment }
+        ensures equipment_makes { E.makes self.new.front.equipment
+            ≡ E.makes self.old.front.equipment }
         ensures same_port { IsSameBufferPort (P.access port.old) (P.access port.new) }
         ensures keeps { (calls : List EngineEntry) → (sets : List DatabaseEntry) →
             FrontMemberStands self.old.seat.client self.old.name

@@ -43,7 +43,8 @@ impl<E: Equipment> Model for FrontEnd<E> {
 
     ghost view = { λ f. record { equipment = f.equipment; run = f.run } };
 
-    ghost invariant = { λ f. E.fit f.equipment × (event_room ≤ f.event.room) × IsWithinQuota f.run };
+    ghost invariant = { λ f. E.fit f.equipment × (event_room ≤ f.event.room)
+        × IsWithinQuota f.run };
 }
 
 /// Whether the front-end has nothing more to send in the run.
@@ -222,7 +223,8 @@ impl<E: Equipment> FrontEnd<E> {
     pub fn new(alloc: Global, equipment: E) -> Result<FrontEnd<E>, NoMemory>
         requires { E.fit equipment }
         ensures made { IfOk result (λ front. front ≡ record { equipment = equipment; run = None }) }
-        ensures stands { IfOk result (λ front. FrontStands (E.takes equipment) (E.makes equipment) front.run [] []) }
+        ensures stands { IfOk result
+            (λ front. FrontStands (E.takes equipment) (E.makes equipment) front.run [] []) }
         ensures moments { KeepsMoments [] [] [] }
     {
         let event = EventBuf::new(alloc, EVENT_BYTES)?;
@@ -350,7 +352,8 @@ impl<E: Equipment> FrontEnd<E> {
             self.old.run own turns →
             FrontStands (E.takes self.new.equipment) (E.makes self.new.equipment)
             self.new.run own (latest_answered turns result) }
-        ensures moments { (own : List BufferEntry) → (turns : List MemberTurn) → (moments : List ℕ) →
+        ensures moments { (own : List BufferEntry) → (turns : List MemberTurn)
+            → (moments : List ℕ) →
             KeepsMoments own turns moments →
             KeepsMoments own (latest_answered turns result)
             (moments_answered moments result (length own)) }

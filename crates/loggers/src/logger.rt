@@ -151,7 +151,8 @@ impl Logger {
         order: &Order,
         dump: Option<Bytes>,
     ) -> Option<Answer>
-        requires ready { IsLoggerReady self.old.channels (map P.access ports.old) (F.seen files.old) }
+        requires ready { IsLoggerReady self.old.channels (map P.access ports.old)
+            (F.seen files.old) }
         requires entries { HaveEntries 49 (map P.access ports.old) }
         requires idle { IsIdleOutside self.old.run self.old.channels }
         requires begun { buffers_begun self.old.run ≤ length ports.old }
@@ -170,13 +171,15 @@ impl Logger {
           after = moment_of self.new.channels (map P.access ports.new) (F.seen files.new)
               (F.faults files.new) (F.clashes files.new) (F.first files.new);
         }) }
-        ensures ready { IsLoggerReady self.new.channels (map P.access ports.new) (F.seen files.new) }
+        ensures ready { IsLoggerReady self.new.channels (map P.access ports.new)
+            (F.seen files.new) }
         ensures idle { IsIdleOutside self.new.run self.new.channels }
         ensures begun { buffers_begun self.new.run ≤ length ports.new }
         ensures small { IfSome self.old.stop_dump (λ bytes. length bytes ≤ record_limit) →
             IfSome self.new.stop_dump (λ bytes. length bytes ≤ record_limit) }
         ensures same { AreSamePorts (map P.access ports.old) (map P.access ports.new) }
-        ensures room { ((number : ℕ) → HasEventRoom number self.old.channels (map P.access ports.old)) →
+        ensures room { ((number : ℕ)
+            → HasEventRoom number self.old.channels (map P.access ports.old)) →
             (number : ℕ) → HasEventRoom number self.new.channels (map P.access ports.new) }
         ensures keeps { (turns : List MemberTurn) → NoneOpen turns →
             NoneTakenBack (map P.access ports.new) →
@@ -200,7 +203,8 @@ impl Logger {
         order: &Order,
         dump: Option<Bytes>,
     ) -> Option<Answer>
-        requires ready { IsLoggerReady self.old.channels (map P.access ports.old) (F.seen files.old) }
+        requires ready { IsLoggerReady self.old.channels (map P.access ports.old)
+            (F.seen files.old) }
         requires entries { HaveEntries 49 (map P.access ports.old) }
         requires idle { IsIdleOutside self.old.run self.old.channels }
         requires begun { buffers_begun self.old.run ≤ length ports.old }
@@ -219,7 +223,8 @@ impl Logger {
           after = moment_of self.new.channels (map P.access ports.new) (F.seen files.new)
               (F.faults files.new) (F.clashes files.new) (F.first files.new);
         }) }
-        ensures ready { IsLoggerReady self.new.channels (map P.access ports.new) (F.seen files.new) }
+        ensures ready { IsLoggerReady self.new.channels (map P.access ports.new)
+            (F.seen files.new) }
         ensures idle { IsIdleOutside self.new.run self.new.channels }
         ensures begun { buffers_begun self.new.run ≤ length ports.new }
         ensures small { IfSome self.old.stop_dump (λ bytes. length bytes ≤ record_limit) →
@@ -243,7 +248,8 @@ impl Logger {
         order: &Order,
         dump: &Option<Bytes>,
     ) -> Answer
-        requires ready { IsLoggerReady self.old.channels (map P.access ports.old) (F.seen files.old) }
+        requires ready { IsLoggerReady self.old.channels (map P.access ports.old)
+            (F.seen files.old) }
         requires entries { HaveEntries 49 (map P.access ports.old) }
         requires idle { IsIdleOutside self.old.run self.old.channels }
         requires begun { buffers_begun self.old.run ≤ length ports.old }
@@ -262,7 +268,8 @@ impl Logger {
           after = moment_of self.new.channels (map P.access ports.new) (F.seen files.new)
               (F.faults files.new) (F.clashes files.new) (F.first files.new);
         }) }
-        ensures ready { IsLoggerReady self.new.channels (map P.access ports.new) (F.seen files.new) }
+        ensures ready { IsLoggerReady self.new.channels (map P.access ports.new)
+            (F.seen files.new) }
         ensures idle { IsIdleOutside self.new.run self.new.channels }
         ensures begun { buffers_begun self.new.run ≤ length ports.new }
     {
@@ -281,7 +288,8 @@ impl Logger {
         order: &Order,
         dump: &Option<Bytes>,
     ) -> Answer
-        requires ready { IsLoggerReady self.old.channels (map P.access ports.old) (F.seen files.old) }
+        requires ready { IsLoggerReady self.old.channels (map P.access ports.old)
+            (F.seen files.old) }
         requires entries { HaveEntries 49 (map P.access ports.old) }
         requires idle { AreIdle self.old.channels }
         requires small { IfSome dump.now (λ bytes. length bytes ≤ record_limit) }
@@ -299,7 +307,8 @@ impl Logger {
           after = moment_of self.new.channels (map P.access ports.new) (F.seen files.new)
               (F.faults files.new) (F.clashes files.new) (F.first files.new);
         }) }
-        ensures ready { IsLoggerReady self.new.channels (map P.access ports.new) (F.seen files.new) }
+        ensures ready { IsLoggerReady self.new.channels (map P.access ports.new)
+            (F.seen files.new) }
         ensures idle { IsIdleOutside self.new.run self.new.channels }
         ensures begun { buffers_begun self.new.run ≤ length ports.new }
     {
@@ -329,7 +338,8 @@ impl Logger {
         order: &Order,
         dump: Option<Bytes>,
     ) -> Option<Answer>
-        requires ready { IsLoggerReady self.old.channels (map P.access ports.old) (F.seen files.old) }
+        requires ready { IsLoggerReady self.old.channels (map P.access ports.old)
+            (F.seen files.old) }
         requires entries { HaveEntries 49 (map P.access ports.old) }
         requires idle { IsIdleOutside self.old.run self.old.channels }
         requires begun { buffers_begun self.old.run ≤ length ports.old }
@@ -347,7 +357,8 @@ impl Logger {
           after = moment_of self.new.channels (map P.access ports.new) (F.seen files.new)
               (F.faults files.new) (F.clashes files.new) (F.first files.new);
         }) }
-        ensures ready { IsLoggerReady self.new.channels (map P.access ports.new) (F.seen files.new) }
+        ensures ready { IsLoggerReady self.new.channels (map P.access ports.new)
+            (F.seen files.new) }
         ensures idle { IsIdleOutside self.new.run self.new.channels }
         ensures begun { buffers_begun self.new.run ≤ length ports.new }
         ensures dump { self.new.stop_dump ≡ (if is_started self.old.run order.now.start then dump
@@ -376,7 +387,8 @@ impl Logger {
         ports: &mut Ports<P>,
         order: &Order,
     ) -> Answer
-        requires ready { IsLoggerReady self.old.channels (map P.access ports.old) (F.seen files.old) }
+        requires ready { IsLoggerReady self.old.channels (map P.access ports.old)
+            (F.seen files.old) }
         requires entries { HaveEntries 49 (map P.access ports.old) }
         requires idle { IsIdleOutside self.old.run self.old.channels }
         requires begun { buffers_begun self.old.run ≤ length ports.old }
@@ -395,7 +407,8 @@ impl Logger {
               after = moment_of self.new.channels (map P.access ports.new) (F.seen files.new)
                   (F.faults files.new) (F.clashes files.new) (F.first files.new);
             }) }
-        ensures ready { IsLoggerReady self.new.channels (map P.access ports.new) (F.seen files.new) }
+        ensures ready { IsLoggerReady self.new.channels (map P.access ports.new)
+            (F.seen files.new) }
         ensures idle { IsIdleOutside self.new.run self.new.channels }
         ensures begun { buffers_begun self.new.run ≤ length ports.new }
         ensures same { self.new ≡ self.old }
@@ -416,7 +429,8 @@ impl Logger {
         ports: &mut Ports<P>,
         order: &Order,
     ) -> Answer
-        requires ready { IsLoggerReady self.old.channels (map P.access ports.old) (F.seen files.old) }
+        requires ready { IsLoggerReady self.old.channels (map P.access ports.old)
+            (F.seen files.old) }
         requires entries { HaveEntries 49 (map P.access ports.old) }
         requires idle { IsIdleOutside self.old.run self.old.channels }
         requires begun { buffers_begun self.old.run ≤ length ports.old }
@@ -435,7 +449,8 @@ impl Logger {
               after = moment_of self.new.channels (map P.access ports.new) (F.seen files.new)
                   (F.faults files.new) (F.clashes files.new) (F.first files.new);
             }) }
-        ensures ready { IsLoggerReady self.new.channels (map P.access ports.new) (F.seen files.new) }
+        ensures ready { IsLoggerReady self.new.channels (map P.access ports.new)
+            (F.seen files.new) }
         ensures idle { IsIdleOutside self.new.run self.new.channels }
         ensures begun { buffers_begun self.new.run ≤ length ports.new }
         ensures same { self.new ≡ self.old }
@@ -456,25 +471,28 @@ impl Logger {
         ports: &mut Ports<P>,
         order: &Order,
     ) -> Answer
-        requires ready { IsLoggerReady self.old.channels (map P.access ports.old) (F.seen files.old) }
+        requires ready { IsLoggerReady self.old.channels (map P.access ports.old)
+            (F.seen files.old) }
         requires entries { HaveEntries 49 (map P.access ports.old) }
         requires idle { IsIdleOutside self.old.run self.old.channels }
         requires begun { buffers_begun self.old.run ≤ length ports.old }
-        ensures takes { (dump : Option (List ℕ)) → TakesAbort (is_of_start self.old.run order.now.start) (record {
-          transition = StartAbort;
-          order = order.now;
-          dump = dump;
-          answer = Some result;
-          run = self.old.run;
-          later_run = self.new.run;
-          stop_dump = self.old.stop_dump;
-          later_stop_dump = self.new.stop_dump;
-          before = moment_of self.old.channels (map P.access ports.old) (F.seen files.old)
-              (F.faults files.old) (F.clashes files.old) (F.first files.old);
-          after = moment_of self.new.channels (map P.access ports.new) (F.seen files.new)
-              (F.faults files.new) (F.clashes files.new) (F.first files.new);
-        }) }
-        ensures ready { IsLoggerReady self.new.channels (map P.access ports.new) (F.seen files.new) }
+        ensures takes { (dump : Option (List ℕ))
+            → TakesAbort (is_of_start self.old.run order.now.start) (record {
+              transition = StartAbort;
+              order = order.now;
+              dump = dump;
+              answer = Some result;
+              run = self.old.run;
+              later_run = self.new.run;
+              stop_dump = self.old.stop_dump;
+              later_stop_dump = self.new.stop_dump;
+              before = moment_of self.old.channels (map P.access ports.old) (F.seen files.old)
+                  (F.faults files.old) (F.clashes files.old) (F.first files.old);
+              after = moment_of self.new.channels (map P.access ports.new) (F.seen files.new)
+                  (F.faults files.new) (F.clashes files.new) (F.first files.new);
+            }) }
+        ensures ready { IsLoggerReady self.new.channels (map P.access ports.new)
+            (F.seen files.new) }
         ensures idle { IsIdleOutside self.new.run self.new.channels }
         ensures begun { buffers_begun self.new.run ≤ length ports.new }
         ensures small { IfSome self.old.stop_dump (λ bytes. length bytes ≤ record_limit) →
@@ -499,7 +517,8 @@ impl Logger {
         ports: &mut Ports<P>,
         channel: u32,
     ) -> Pulled
-        requires ready { IsLoggerReady self.old.channels (map P.access ports.old) (F.seen files.old) }
+        requires ready { IsLoggerReady self.old.channels (map P.access ports.old)
+            (F.seen files.old) }
         requires entries { HaveEntries 2 (map P.access ports.old) }
         requires idle { IsIdleOutside self.old.run self.old.channels }
         requires room { HasEventRoom channel self.old.channels (map P.access ports.old) }
@@ -510,11 +529,13 @@ impl Logger {
             (F.faults files.new) (F.clashes files.new) (F.first files.new)) }
         ensures run { self.new.run ≡ self.old.run }
         ensures stop_dump { self.new.stop_dump ≡ self.old.stop_dump }
-        ensures ready { IsLoggerReady self.new.channels (map P.access ports.new) (F.seen files.new) }
+        ensures ready { IsLoggerReady self.new.channels (map P.access ports.new)
+            (F.seen files.new) }
         ensures idle { IsIdleOutside self.new.run self.new.channels }
         ensures uses { UseEntries 2 (map P.access ports.old) (map P.access ports.new) }
         ensures same { AreSamePorts (map P.access ports.old) (map P.access ports.new) }
-        ensures room { ((number : ℕ) → HasEventRoom number self.old.channels (map P.access ports.old)) →
+        ensures room { ((number : ℕ)
+            → HasEventRoom number self.old.channels (map P.access ports.old)) →
             (number : ℕ) → HasEventRoom number self.new.channels (map P.access ports.new) }
         ensures keeps { (turns : List MemberTurn) →
             LoggerStands self.old.run self.old.stop_dump self.old.channels

@@ -142,7 +142,8 @@ fn end_at<R: Wait, P: BufferPort>(
 fn pause_at<R: Wait, P: BufferPort>(rt: &R, ports: &mut Ports<P>, buffer: usize, start: u32)
     requires within { buffer < length ports.old }
     requires entries { HasEntry buffer (map P.access ports.old) }
-    ensures pauses { (slots : List (Option a_channel)) → (files : RunFiles) → PausesBuffer start buffer
+    ensures pauses { (slots : List (Option a_channel)) → (files : RunFiles)
+        → PausesBuffer start buffer
         (record { slots = slots; ports = map P.access ports.old; files = files })
         (record { slots = slots; ports = map P.access ports.new; files = files }) }
     ensures entries { UsesEntry buffer (map P.access ports.old) (map P.access ports.new) }
@@ -157,7 +158,8 @@ fn pause_at<R: Wait, P: BufferPort>(rt: &R, ports: &mut Ports<P>, buffer: usize,
 fn resume_at<R: Wait, P: BufferPort>(rt: &R, ports: &mut Ports<P>, buffer: usize, start: u32)
     requires within { buffer < length ports.old }
     requires entries { HasEntry buffer (map P.access ports.old) }
-    ensures resumes { (slots : List (Option a_channel)) → (files : RunFiles) → ResumesBuffer start buffer
+    ensures resumes { (slots : List (Option a_channel)) → (files : RunFiles)
+        → ResumesBuffer start buffer
         (record { slots = slots; ports = map P.access ports.old; files = files })
         (record { slots = slots; ports = map P.access ports.new; files = files }) }
     ensures entries { UsesEntry buffer (map P.access ports.old) (map P.access ports.new) }

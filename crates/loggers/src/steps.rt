@@ -31,13 +31,15 @@ fn open_slot<R: Wait, F: Files, P: BufferPort>(
     requires entries { HaveEntries 2 (map P.access ports.old) }
     requires idle { (c : a_channel) → slot.old ≡ Some c → c.stage ≡ Idle }
     requires small { length dump.now ≤ record_limit }
-    ensures opens { OnOk result ((slots : List (Option a_channel)) → (number : ℕ) → slot_at slots number ≡ slot.old →
+    ensures opens { OnOk result
+        ((slots : List (Option a_channel)) → (number : ℕ) → slot_at slots number ≡ slot.old →
         StepsSlot (OpensChannel order.now dump.now (Ok tt)) number slot.old
         (moment_of slots (map P.access ports.old) (F.seen files.old) (F.faults files.old)
         (F.clashes files.old) (F.first files.old))
         (moment_of (slice_set slots number slot.new) (map P.access ports.new) (F.seen files.new)
         (F.faults files.new) (F.clashes files.new) (F.first files.new))) }
-    ensures refuses { IfErr result (λ why. (c : a_channel) × (slot.old ≡ Some c) × ((slots : List (Option a_channel)) →
+    ensures refuses { IfErr result
+        (λ why. (c : a_channel) × (slot.old ≡ Some c) × ((slots : List (Option a_channel)) →
         (number : ℕ) → slot_at slots number ≡ slot.old →
         StepsChannel (OpensChannel order.now dump.now (Err why)) number c
         (moment_of slots (map P.access ports.old) (F.seen files.old) (F.faults files.old)
@@ -103,7 +105,8 @@ fn abort_slot<R: Wait, F: Files, P: BufferPort>(
     requires entries { HaveEntries 1 (map P.access ports.old) }
     requires file { (c : a_channel) → slot.old ≡ Some c →
         IsOpenFile (F.seen files.old) c.spec (written_run c.stage) }
-    ensures aborts { (slots : List (Option a_channel)) → (number : ℕ) → slot_at slots number ≡ slot.old →
+    ensures aborts { (slots : List (Option a_channel)) → (number : ℕ) → slot_at slots number
+        ≡ slot.old →
         StepsSlot AbortsChannel number slot.old
         (moment_of slots (map P.access ports.old) (F.seen files.old) (F.faults files.old)
         (F.clashes files.old) (F.first files.old))
@@ -162,7 +165,8 @@ fn pull_slot<R: Wait, F: Files, P: BufferPort>(
     requires room { (c : a_channel) → (a : Access) → slot.old ≡ Some c →
         slice_get (map P.access ports.old) c.spec.buffer ≡ Some a →
         min event_limit (a.size - 24) ≤ c.event.room }
-    ensures pulls { (slots : List (Option a_channel)) → (number : ℕ) → slot_at slots number ≡ slot.old →
+    ensures pulls { (slots : List (Option a_channel)) → (number : ℕ) → slot_at slots number
+        ≡ slot.old →
         PullsSlot slot.old number result
         (moment_of slots (map P.access ports.old) (F.seen files.old) (F.faults files.old)
         (F.clashes files.old) (F.first files.old))

@@ -145,7 +145,8 @@ impl Channel {
         ensures quiet { OnOk result (F.seen files.new ≡ F.seen files.old) }
         ensures why { IfErr result (λ why. why ≡ Why.BufferRefused) }
         ensures stage { OnErr result (self.new.stage ≡ self.old.stage) }
-        ensures refused { OnErr result (AsksEvents self.old.spec self.old.client self.new.client None
+        ensures refused { OnErr result
+            (AsksEvents self.old.spec self.old.client self.new.client None
             (P.access port.old) (P.access port.new)) }
         ensures drops { OnErr result
             (DropsFile (F.seen files.old) (F.seen files.new) file name.now) }
@@ -205,7 +206,8 @@ impl Channel {
           files = F.seen files.new;
           faults = F.faults files.new;
         }) }
-        ensures exists { IsTrue (F.seen files.old).tells → (IsErrOf result (Exists self.old.spec.number)
+        ensures exists { IsTrue (F.seen files.old).tells
+            → (IsErrOf result (Exists self.old.spec.number)
             ↔ IsSome ((F.seen files.old).at (file_name_by self.old.spec.pattern order.now.run))) }
         ensures failed { NotesFault self.old.failed self.new.failed (F.faults files.old)
             (F.faults files.new) }
@@ -258,7 +260,8 @@ impl Channel {
           files = F.seen files.new;
           faults = F.faults files.new;
         }) }
-        ensures exists { IsTrue (F.seen files.old).tells → (IsErrOf result (Exists self.old.spec.number)
+        ensures exists { IsTrue (F.seen files.old).tells
+            → (IsErrOf result (Exists self.old.spec.number)
             ↔ IsSome ((F.seen files.old).at (file_name_by self.old.spec.pattern order.now.run))) }
         ensures failed { NotesFault self.old.failed self.new.failed (F.faults files.old)
             (F.faults files.new) }

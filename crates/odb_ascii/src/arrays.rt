@@ -41,7 +41,8 @@ pub fn take_item<'a>(
 ) -> Result<(), ItemsFault>
     requires of_type { tid_of read.item ≡ tid }
     requires short { IsShorter size_limit read.item }
-    ensures taken { OnOk result (TakesItem tid read.size read.item so_far.old.items.items so_far.old.size
+    ensures taken { OnOk result
+        (TakesItem tid read.size read.item so_far.old.items.items so_far.old.size
         so_far.new.items.items so_far.new.size) }
     ensures rest { OnOk result (so_far.new.rest.now ≡ behind.now) }
     ensures fault { IfErr result (IsTakeFault read.size) }
@@ -66,7 +67,8 @@ fn read_next<'a>(
     so_far: &mut ItemsSoFar<'a>,
 ) -> Result<(), ItemsFault>
     requires { index < items_limit }
-    ensures read { OnOk result (ReadsItem tid index (lines so_far.old.rest.now) so_far.old.items.items
+    ensures read { OnOk result
+        (ReadsItem tid index (lines so_far.old.rest.now) so_far.old.items.items
         so_far.old.size (lines so_far.new.rest.now) so_far.new.items.items so_far.new.size) }
     ensures shorter { OnOk result (length so_far.new.rest.now < length so_far.old.rest.now) }
     ensures fault { IfErr result (λ fault. IsItemFault tid index (lines so_far.old.rest.now)
@@ -90,7 +92,8 @@ pub fn read_items<'a>(
     text: &'a [u8],
 ) -> Result<ItemsSoFar<'a>, ItemsFault>
     requires { count ≤ items_limit }
-    ensures read { IfOk result (λ read. AreRead tid (lines text.now) count read.items.items read.size
+    ensures read { IfOk result
+        (λ read. AreRead tid (lines text.now) count read.items.items read.size
         (lines read.rest.now)) }
     ensures shorter { IfOk result (λ read. length read.rest.now + count ≤ length text.now) }
     ensures fault { IfErr result (StopsAtItem tid (lines text.now) count) }

@@ -112,7 +112,8 @@ fn array_key<'a>(
 ) -> Result<Block<'a>, BlockFault>
     requires head { IsArrayHead dir.now head.now.line.now head.now.name head.now.tid count }
     requires many { count ≤ items_limit }
-    ensures block { IfOk result (λ block. IsBlock dir.now (head.now.line.now ∷ lines head.now.behind.now)
+    ensures block { IfOk result
+        (λ block. IsBlock dir.now (head.now.line.now ∷ lines head.now.behind.now)
         block.act (lines block.rest.now) block.lines) }
     ensures shorter { IfOk result (λ block. length block.rest.now + block.lines
         ≤ length head.now.behind.now + 1) }
@@ -171,7 +172,8 @@ fn single_key<'a>(
     requires single { IsSingle head.now.rest.now text.now }
     requires no_pass { IsPassed head.now.line.now → ⊥ }
     requires no_dir { (p : List (List ℕ)) → IsDirLine head.now.line.now p → ⊥ }
-    ensures block { IfOk result (λ block. IsBlock dir.now (head.now.line.now ∷ lines head.now.behind.now)
+    ensures block { IfOk result
+        (λ block. IsBlock dir.now (head.now.line.now ∷ lines head.now.behind.now)
         block.act (lines block.rest.now) block.lines) }
     ensures shorter { IfOk result (λ block. length block.rest.now + block.lines
         ≤ length head.now.behind.now + 1) }
@@ -198,7 +200,8 @@ fn kept_key<'a>(alloc: Global, dir: &Path, head: &KeyHead<'a>) -> Result<Block<'
     requires kept { is_kept head.now.tid ≡ true }
     requires no_pass { IsPassed head.now.line.now → ⊥ }
     requires no_dir { (p : List (List ℕ)) → IsDirLine head.now.line.now p → ⊥ }
-    ensures block { IfOk result (λ block. IsBlock dir.now (head.now.line.now ∷ lines head.now.behind.now)
+    ensures block { IfOk result
+        (λ block. IsBlock dir.now (head.now.line.now ∷ lines head.now.behind.now)
         block.act (lines block.rest.now) block.lines) }
     ensures shorter { IfOk result (λ block. length block.rest.now + block.lines
         ≤ length head.now.behind.now + 1) }
@@ -223,7 +226,8 @@ fn skipped_array<'a>(_dir: &Path, head: &KeyHead<'a>, count: u32) -> Result<Bloc
     requires skipped { is_skipped head.now.tid ≡ true }
     requires array { IsArray head.now.rest.now count }
     requires many { count ≤ items_limit }
-    ensures block { IfOk result (λ block. IsBlock _dir.now (head.now.line.now ∷ lines head.now.behind.now)
+    ensures block { IfOk result
+        (λ block. IsBlock _dir.now (head.now.line.now ∷ lines head.now.behind.now)
         block.act (lines block.rest.now) block.lines) }
     ensures shorter { IfOk result (λ block. length block.rest.now + block.lines
         ≤ length head.now.behind.now + 1) }
@@ -248,7 +252,8 @@ fn skipped_key<'a>(dir: &Path, head: &KeyHead<'a>) -> Result<Block<'a>, BlockFau
     requires skipped { is_skipped head.now.tid ≡ true }
     requires no_pass { IsPassed head.now.line.now → ⊥ }
     requires no_dir { (p : List (List ℕ)) → IsDirLine head.now.line.now p → ⊥ }
-    ensures block { IfOk result (λ block. IsBlock dir.now (head.now.line.now ∷ lines head.now.behind.now)
+    ensures block { IfOk result
+        (λ block. IsBlock dir.now (head.now.line.now ∷ lines head.now.behind.now)
         block.act (lines block.rest.now) block.lines) }
     ensures shorter { IfOk result (λ block. length block.rest.now + block.lines
         ≤ length head.now.behind.now + 1) }
@@ -276,7 +281,8 @@ fn read_key<'a>(alloc: Global, dir: &Path, head: &KeyHead<'a>) -> Result<Block<'
     requires key { IsKeyLine head.now.line.now head.now.name head.now.tid head.now.rest.now }
     requires no_pass { IsPassed head.now.line.now → ⊥ }
     requires no_dir { (p : List (List ℕ)) → IsDirLine head.now.line.now p → ⊥ }
-    ensures block { IfOk result (λ block. IsBlock dir.now (head.now.line.now ∷ lines head.now.behind.now)
+    ensures block { IfOk result
+        (λ block. IsBlock dir.now (head.now.line.now ∷ lines head.now.behind.now)
         block.act (lines block.rest.now) block.lines) }
     ensures shorter { IfOk result (λ block. length block.rest.now + block.lines
         ≤ length head.now.behind.now + 1) }

@@ -52,7 +52,8 @@ fn is_exists(refusal: OdbRefusal) -> bool
 
 /// That a directory is at the path, where something is there.
 fn is_dir_there<D: Database>(alloc: Global, database: &D, path: &Path) -> Result<(), OdbRefusal>
-    ensures dir { OnOk result (there_already (seek_key (D.rows database.now).rows path.now) ≡ None) }
+    ensures dir { OnOk result
+        (there_already (seek_key (D.rows database.now).rows path.now) ≡ None) }
     ensures key { IfErr result (λ why. why ≢ no_memory
         → there_already (seek_key (D.rows database.now).rows path.now) ≡ Some why) }
 {
@@ -67,7 +68,8 @@ fn make_dir<D: Database>(alloc: Global, database: &mut D, path: &Path) -> Result
     ensures fine { OnOk result (make_fault (D.rows database.old) path.now ≡ None) }
     ensures made { OnOk result (D.rows database.new ≡ after_make (D.rows database.old) path.now) }
     ensures noted { OnOk result (D.watches database.new
-        ≡ all_noted (changes_of_act (D.rows database.old) (Make path.now)) (D.watches database.old)) }
+        ≡ all_noted (changes_of_act (D.rows database.old) (Make path.now))
+        (D.watches database.old)) }
     ensures refused { IfErr result (λ why. why ≢ no_memory
         → make_fault (D.rows database.old) path.now ≡ Some why) }
 {
@@ -212,7 +214,8 @@ fn do_block<'a, D: Database>(
     requires less { length behind.now < length at.old.rest.now }
     requires read { IsPassed line.now → ⊥ }
     requires room { IsRoomy at.old.line (length at.old.rest.now) at.old.loaded }
-    ensures on { OnOk result (AdvancesText (place_at at.old.rest.now at.old.line at.old.dir at.old.loaded)
+    ensures on { OnOk result
+        (AdvancesText (place_at at.old.rest.now at.old.line at.old.dir at.old.loaded)
         (place_at at.new.rest.now at.new.line at.new.dir at.new.loaded)
         (watched_as (D.rows database.old) (D.watches database.old))
         (watched_as (D.rows database.new) (D.watches database.new))) }
@@ -244,7 +247,8 @@ fn read_on<'a, D: Database>(
     requires first { lines at.old.rest.now ≡ line.now ∷ lines behind.now }
     requires less { length behind.now < length at.old.rest.now }
     requires room { IsRoomy at.old.line (length at.old.rest.now) at.old.loaded }
-    ensures on { OnOk result (AdvancesText (place_at at.old.rest.now at.old.line at.old.dir at.old.loaded)
+    ensures on { OnOk result
+        (AdvancesText (place_at at.old.rest.now at.old.line at.old.dir at.old.loaded)
         (place_at at.new.rest.now at.new.line at.new.dir at.new.loaded)
         (watched_as (D.rows database.old) (D.watches database.old))
         (watched_as (D.rows database.new) (D.watches database.new))) }

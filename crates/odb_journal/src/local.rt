@@ -32,9 +32,19 @@ impl<D: Database> Model for LocalDatabase<D> {
 
     ghost Value = { Noted };
 
-    ghost view = { λ d. record { start = D.rows d.start.value; rows = D.rows d.database; history = d.entries.items; room = vec_capacity d.entries - vec_len d.entries } };
+    ghost view = { λ d. record {
+      start = D.rows d.start.value;
+      rows = D.rows d.database;
+      history = d.entries.items;
+      room = vec_capacity d.entries - vec_len d.entries;
+    } };
 
-    ghost invariant = { λ d. IsNoted (record { start = D.rows d.start.value; rows = D.rows d.database; history = d.entries.items; room = vec_capacity d.entries - vec_len d.entries }) };
+    ghost invariant = { λ d. IsNoted (record {
+      start = D.rows d.start.value;
+      rows = D.rows d.database;
+      history = d.entries.items;
+      room = vec_capacity d.entries - vec_len d.entries;
+    }) };
 }
 
 /// The value of a key, twice.

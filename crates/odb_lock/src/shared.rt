@@ -98,7 +98,8 @@ impl<D: Database> SharedOdb<D> {
         requires main { number_of pass.old ≡ main_caller }
         requires own { IsOf (odb_lock_of self.now) pass.old }
         requires idle { held_by pass.old ≡ None }
-        ensures entered { Enters (odb_lock_of self.now) (call_of (Create path.now kind result)) pass.old
+        ensures entered { Enters (odb_lock_of self.now)
+            (call_of (Create path.now kind result)) pass.old
             pass.new }
         ensures legal { IsLegalDatabase (first_database self.now) (seen_by pass.new) }
     {
@@ -122,7 +123,8 @@ impl<D: Database> SharedOdb<D> {
     ) -> Result<u32, OdbRefusal>
         requires own { IsOf (odb_lock_of self.now) pass.old }
         requires idle { held_by pass.old ≡ None }
-        ensures entered { Enters (odb_lock_of self.now) (call_of (Set path.now index item.now result)) pass.old
+        ensures entered { Enters (odb_lock_of self.now)
+            (call_of (Set path.now index item.now result)) pass.old
             pass.new }
         ensures legal { IsLegalDatabase (first_database self.now) (seen_by pass.new) }
         ensures memory { result ≡ Err no_memory → tid_of item.now ≡ Tid.Text }
@@ -157,7 +159,8 @@ impl<D: Database> SharedOdb<D> {
         requires main { number_of pass.old ≡ main_caller }
         requires own { IsOf (odb_lock_of self.now) pass.old }
         requires idle { held_by pass.old ≡ None }
-        ensures entered { Enters (odb_lock_of self.now) (call_of (SetAll path.now value.now result)) pass.old
+        ensures entered { Enters (odb_lock_of self.now)
+            (call_of (SetAll path.now value.now result)) pass.old
             pass.new }
         ensures legal { IsLegalDatabase (first_database self.now) (seen_by pass.new) }
     {
@@ -281,7 +284,8 @@ impl<D: Database> SharedOdb<D> {
         requires main { number_of pass.old ≡ main_caller }
         requires own { IsOf (odb_lock_of self.now) pass.old }
         requires idle { held_by pass.old ≡ None }
-        ensures entered { Enters (odb_lock_of self.now) (call_of (Resize path.now len result)) pass.old
+        ensures entered { Enters (odb_lock_of self.now)
+            (call_of (Resize path.now len result)) pass.old
             pass.new }
         ensures legal { IsLegalDatabase (first_database self.now) (seen_by pass.new) }
     {
@@ -406,7 +410,8 @@ impl<D: Database> SharedOdb<D> {
         requires own { IsOf (odb_lock_of self.now) pass.old }
         requires idle { held_by pass.old ≡ None }
         requires small { length text.now ≤ dump_limit }
-        ensures entered { Enters (odb_lock_of self.now) (load_of text.now result) pass.old pass.new }
+        ensures entered { Enters (odb_lock_of self.now)
+            (load_of text.now result) pass.old pass.new }
         ensures legal { IsLegalDatabase (first_database self.now) (seen_by pass.new) }
     {
         let mut held = self.turns.take(rt, pass);

@@ -402,7 +402,8 @@ impl Declarations {
 
     /// Declares a channel where there is none.
     fn default_channel(&mut self)
-        ensures { self.new ≡ record self.old { channels = or_default default_channel self.old.channels } }
+        ensures { self.new ≡ record
+            self.old { channels = or_default default_channel self.old.channels } }
     {
         if self.channels.as_slice().is_empty() {
             self.add_channel(ChannelSpec {

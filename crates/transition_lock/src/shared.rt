@@ -78,7 +78,8 @@ impl SharedEngine {
     fn enter(&self, pass: &mut EnginePass, held: Held<LockedEngine>, call: &CallMade<'_>)
         requires own { IsOf (engine_lock_of self.now) pass.old }
         requires step { (before : _) × (held_by pass.old ≡ Some before)
-            × StepsEngine before (number_of pass.old) (engine_entry_of call.now) held.value.value.engine }
+            × StepsEngine before (number_of pass.old)
+            (engine_entry_of call.now) held.value.value.engine }
         ensures entered { Enters (engine_lock_of self.now) (engine_entry_of call.now)
             pass.old pass.new }
         ensures legal { IsLegalEngine (first_engine self.now) (seen_by pass.new) }
@@ -99,7 +100,8 @@ impl SharedEngine {
         requires main { number_of pass.old ≡ main_caller }
         requires own { IsOf (engine_lock_of self.now) pass.old }
         requires idle { held_by pass.old ≡ None }
-        ensures entered { Enters (engine_lock_of self.now) (Register name sequences wants_dump wants_report result) pass.old pass.new }
+        ensures entered { Enters (engine_lock_of self.now)
+            (Register name sequences wants_dump wants_report result) pass.old pass.new }
         ensures legal { IsLegalEngine (first_engine self.now) (seen_by pass.new) }
     {
         let mut held = self.turns.take(rt, pass);
@@ -133,7 +135,8 @@ impl SharedEngine {
         requires own { IsOf (engine_lock_of self.now) pass.old }
         requires idle { held_by pass.old ≡ None }
         requires sheet { IsSheet sheet }
-        ensures entered { Enters (engine_lock_of self.now) (Begin transition sheet (without_return result)) pass.old pass.new }
+        ensures entered { Enters (engine_lock_of self.now)
+            (Begin transition sheet (without_return result)) pass.old pass.new }
         ensures legal { IsLegalEngine (first_engine self.now) (seen_by pass.new) }
         ensures back { IfErr result (λ refused. refused.1 ≡ sheet) }
     {
@@ -183,7 +186,8 @@ impl SharedEngine {
     ) -> Result<(), (NotYourTurn, Answer)>
         requires own { IsOf (engine_lock_of self.now) pass.old }
         requires idle { held_by pass.old ≡ None }
-        ensures entered { Enters (engine_lock_of self.now) (AnswerCall client answer (without_return result)) pass.old pass.new }
+        ensures entered { Enters (engine_lock_of self.now)
+            (AnswerCall client answer (without_return result)) pass.old pass.new }
         ensures legal { IsLegalEngine (first_engine self.now) (seen_by pass.new) }
         ensures back { IfErr result (λ refused. refused.1 ≡ answer) }
     {
@@ -208,7 +212,8 @@ impl SharedEngine {
         requires own { IsOf (engine_lock_of self.now) pass.old }
         requires idle { held_by pass.old ≡ None }
         requires empty { tallies.old ≡ [] }
-        ensures entered { Enters (engine_lock_of self.now) (Check result tallies.new) pass.old pass.new }
+        ensures entered { Enters (engine_lock_of self.now)
+            (Check result tallies.new) pass.old pass.new }
         ensures legal { IsLegalEngine (first_engine self.now) (seen_by pass.new) }
     {
         let mut held = self.turns.take(rt, pass);

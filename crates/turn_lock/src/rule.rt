@@ -45,7 +45,8 @@ impl<M: Machine> TableRule<Option<Box<M>>, View<M::State, M::Entry>, LockKey<M>>
     ghost use Rattle.turn_lock.specs.Views.{first_view};
     ghost use Rattle.turn_lock.specs.Protocol.{IsLock};
 
-    ghost holds = { λ key. IsLock (λ boxed. M.state boxed.value) M.step (M.state key.first.value) key.passes };
+    ghost holds = { λ key. IsLock (λ boxed. M.state boxed.value) M.step
+        (M.state key.first.value) key.passes };
 
     ghost first = { λ key. first_view (M.state key.first.value) key.passes };
 }
