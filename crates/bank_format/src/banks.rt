@@ -38,7 +38,10 @@ impl<'a> Model for Banks<'a> {
     ghost use Rattle.bank_format.specs.BankAreas.{BanksBefore};
     ghost use Rattle.bank_format.specs.Whole.{IsWhole};
 
-    ghost view = { λ b. record { all = banks_in b.format b.area.now; left = banks_in b.format b.left.now } };
+    ghost view = { λ b. record {
+      all = banks_in b.format b.area.now;
+      left = banks_in b.format b.left.now;
+    } };
 
     ghost invariant = { λ b. IsWhole b.format b.area.now b.left.now };
 }

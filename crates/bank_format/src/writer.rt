@@ -26,7 +26,11 @@ impl Model for BankWriter {
     ghost use Rattle.bank_format.specs.Places.{banks_in};
     ghost use Rattle.bank_format.specs.Held.{IsHeld};
 
-    ghost view = { λ w. record { format = w.format; limit = w.limit; banks = banks_in w.format (drop 8 w.bytes.items) } };
+    ghost view = { λ w. record {
+      format = w.format;
+      limit = w.limit;
+      banks = banks_in w.format (drop 8 w.bytes.items);
+    } };
 
     ghost invariant = { λ w. IsHeld w.format w.limit w.bytes };
 }

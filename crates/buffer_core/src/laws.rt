@@ -66,7 +66,8 @@ pub fn cancels()
 pub fn sends_in_runs()
     ensures { (size : ℕ) → (before after : History) → (caller start stated place : ℕ) →
         (event : Event) →
-        IsLegal (opening size) (before ++ (caller, SendInRun start stated event (Ok place)) ∷ after) →
+        IsLegal (opening size)
+        (before ++ (caller, SendInRun start stated event (Ok place)) ∷ after) →
         start ≢ 0 }
 {}
 
@@ -89,7 +90,8 @@ pub fn has_read()
     ensures got { (size : ℕ) → (before after : History) → (caller client room place start : ℕ) →
         IsLegal (opening size) (before ++ (caller, Receive client room (Got place start)) ∷ after) →
         KeepsLife client after →
-        HasReadBelow (before ++ (caller, Receive client room (Got place start)) ∷ after) client (place + 1) }
+        HasReadBelow (before ++ (caller, Receive client room (Got place start)) ∷ after) client
+        (place + 1) }
     ensures drained { (size : ℕ) → (before after : History) → (caller client room : ℕ) →
         (gate : RunGate) → (last : ℕ) →
         IsLegal (opening size) (before ++ (caller, Receive client room (Empty gate last)) ∷ after) →
@@ -104,14 +106,17 @@ pub fn reads_all()
     ensures between { (size : ℕ) → (history : History) → (client id mask from to : ℕ) →
         IsLegal (opening size) history →
         ReadsAll history client id mask from to →
-        among (events_between (Some from) (Some to) (sent (past_of history))) (places_got history client)
-        ≡ places_of (wanted id mask (events_between (Some from) (Some to) (sent (past_of history)))) }
+        among (events_between (Some from) (Some to) (sent (past_of history)))
+        (places_got history client)
+        ≡ places_of (wanted id mask
+        (events_between (Some from) (Some to) (sent (past_of history)))) }
     ensures run { (size : ℕ) → (history : History) → (client id mask start from to : ℕ) →
         IsLegal (opening size) history →
         ReadsAll history client id mask from to →
         begun_at (past_of history) start ≡ Some from →
         ended_at (past_of history) start ≡ Some to →
-        among (segment history start) (places_got history client) ≡ places_of (wanted id mask (segment history start)) }
+        among (segment history start) (places_got history client)
+        ≡ places_of (wanted id mask (segment history start)) }
 {}
 
 /// A receive finds the event of the least kept place, from the one on at which the client goes on, that a living request of

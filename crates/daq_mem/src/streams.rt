@@ -25,7 +25,11 @@ impl Model for MemSource {
 
     ghost Value = { SourceSeen };
 
-    ghost view = { λ s. record { left = drop s.at s.bytes.items; faults = s.faults; plan = s.planned } };
+    ghost view = { λ s. record {
+      left = drop s.at s.bytes.items;
+      faults = s.faults;
+      plan = s.planned;
+    } };
 
     ghost invariant = { λ s. s.at ≤ length s.bytes.items };
 }
@@ -95,7 +99,12 @@ impl Model for MemSink {
 
     ghost Value = { SinkSeen };
 
-    ghost view = { λ s. record { bytes = s.bytes.bytes; room = s.bytes.room; faults = s.faults; plan = s.planned } };
+    ghost view = { λ s. record {
+      bytes = s.bytes.bytes;
+      room = s.bytes.room;
+      faults = s.faults;
+      plan = s.planned;
+    } };
 }
 
 impl MemSink {

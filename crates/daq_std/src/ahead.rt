@@ -24,7 +24,8 @@ impl Model for ReadAhead {
 
     ghost view = { λ a. slice_range a.block.items a.start a.end };
 
-    ghost invariant = { λ a. (a.start ≤ a.end) × (a.end ≤ length a.block.items) × (65536 ≤ vec_capacity a.block) };
+    ghost invariant = { λ a. (a.start ≤ a.end) × (a.end ≤ length a.block.items)
+        × (65536 ≤ vec_capacity a.block) };
 }
 
 impl ReadAhead {

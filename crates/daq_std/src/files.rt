@@ -31,7 +31,11 @@ impl<R: rt::Files + Drop> Model for StdFiles<R> {
 
     ghost Value = { InBlocks R.File };
 
-    ghost view = { λ s. record { uses = s.numbers.uses.items; blocks = s.blocks.blocks.items; tallied = s.tally } };
+    ghost view = { λ s. record {
+      uses = s.numbers.uses.items;
+      blocks = s.blocks.blocks.items;
+      tallied = s.tally;
+    } };
 }
 
 impl<R: rt::Files + Drop> StdFiles<R> {
@@ -82,8 +86,10 @@ impl<R: rt::Files + Drop> Files for StdFiles<R> {
     /// Once a write failed, no byte of that file is taken.
     fn append(&mut self, file: u32, bytes: &[u8]) -> Result<(), Failed>
         requires { IsTrue ((told_by self.old).writes file) }
-        ensures written { OnOk result (Extends (told_by self.old) (told_by self.new) file bytes.now) }
-        ensures part { OnErr result (ExtendsPart (told_by self.old) (told_by self.new) file bytes.now) }
+        ensures written { OnOk result
+            (Extends (told_by self.old) (told_by self.new) file bytes.now) }
+        ensures part { OnErr result
+            (ExtendsPart (told_by self.old) (told_by self.new) file bytes.now) }
         ensures faults { CountsOne self.old self.new result }
         ensures clashes { self.new.tallied.clashes ≡ self.old.tallied.clashes }
         ensures first { NamesFirstAt file self.old self.new result }

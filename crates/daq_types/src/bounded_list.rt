@@ -24,7 +24,8 @@ impl<T, const ROOM: usize> Model for BoundedList<T, ROOM> {
 
     ghost view = { λ l. l.entries.items };
 
-    ghost invariant = { λ l. (vec_len l.entries ≡ length l.entries.items) × (ROOM ≤ vec_capacity l.entries) };
+    ghost invariant = { λ l. (vec_len l.entries ≡ length l.entries.items)
+        × (ROOM ≤ vec_capacity l.entries) };
 }
 
 impl<T, const ROOM: usize> BoundedList<T, ROOM> {

@@ -26,7 +26,8 @@ pub fn banks_of_an_event()
 /// Two names of four bytes with types have the same order number only where they are the same.
 pub fn one_number()
     ensures { (a b : List ℕ) → (kind other : IntegerType) → IsBytes a → IsBytes b
-        → length a ≡ 4 → length b ≡ 4 → order_number a kind ≡ order_number b other → (a ≡ b) × (kind ≡ other) }
+        → length a ≡ 4 → length b ≡ 4 → order_number a kind ≡ order_number b other
+        → (a ≡ b) × (kind ≡ other) }
 {}
 
 /// The rows of a report rise: those of ids by their id, those of banks by name and type. So each stands there once.

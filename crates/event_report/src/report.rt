@@ -31,7 +31,13 @@ impl Model for Report {
 
     ghost use Rattle.event_report.specs.Held.{IsWithinBytes};
 
-    ghost view = { λ r. record { bytes = r.bytes; events = r.events; ids = r.ids; banks = r.banks; bad = r.bad } };
+    ghost view = { λ r. record {
+      bytes = r.bytes;
+      events = r.events;
+      ids = r.ids;
+      banks = r.banks;
+      bad = r.bad;
+    } };
 
     ghost invariant = { λ r. IsWithinBytes r.bytes r.events r.ids r.banks r.bad };
 }

@@ -32,9 +32,23 @@ impl<B: EventBuffer> Model for LocalPort<B> {
 
     ghost Value = { Ported };
 
-    ghost view = { λ p. record { start = B.window p.start.value; window = B.window p.buffer; history = p.journal.entries; caller = p.caller; entries = p.journal.room; bytes = p.journal.bytes } };
+    ghost view = { λ p. record {
+      start = B.window p.start.value;
+      window = B.window p.buffer;
+      history = p.journal.entries;
+      caller = p.caller;
+      entries = p.journal.room;
+      bytes = p.journal.bytes;
+    } };
 
-    ghost invariant = { λ p. IsPorted (record { start = B.window p.start.value; window = B.window p.buffer; history = p.journal.entries; caller = p.caller; entries = p.journal.room; bytes = p.journal.bytes }) };
+    ghost invariant = { λ p. IsPorted (record {
+      start = B.window p.start.value;
+      window = B.window p.buffer;
+      history = p.journal.entries;
+      caller = p.caller;
+      entries = p.journal.room;
+      bytes = p.journal.bytes;
+    }) };
 }
 
 /// The event of a header, without data. Takes no memory.

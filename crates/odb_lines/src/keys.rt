@@ -82,8 +82,10 @@ fn typed(text: &[u8]) -> Option<(Tid, &[u8])>
 /// The key of this name.
 fn named_key(name: Name, after: &[u8]) -> Option<(Name, Tid, &[u8])>
     ensures name { IfSome result (λ key. key.0 ≡ name) }
-    ensures named { IfSome result (λ key. IsNamed (front is_of_word (behind is_blank after.now)) key.1) }
-    ensures rest { IfSome result (λ key. key.2.now ≡ behind is_of_word (behind is_blank after.now)) }
+    ensures named { IfSome result (λ key.
+        IsNamed (front is_of_word (behind is_blank after.now)) key.1) }
+    ensures rest { IfSome result (λ key.
+        key.2.now ≡ behind is_of_word (behind is_blank after.now)) }
     ensures none { IfNone result ((type : Tid)
         → IsNamed (front is_of_word (behind is_blank after.now)) type → ⊥) }
 {
@@ -124,7 +126,8 @@ pub fn single(rest: &[u8]) -> Option<&[u8]>
 /// and for 0.
 fn counted(numeral: &[u8], blanks: &[u8]) -> Option<Option<u64>>
     requires { IsNumeral 10 numeral.now }
-    ensures some { IfSome result (λ count. count ≡ up_to items_limit (digits_value 10 numeral.now)) }
+    ensures some { IfSome result (λ count.
+        count ≡ up_to items_limit (digits_value 10 numeral.now)) }
     ensures right { IfSome result (λ _. AreBlanks blanks.now × (1 ≤ digits_value 10 numeral.now)) }
     ensures none { IfNone result (AreBlanks blanks.now → 1 ≤ digits_value 10 numeral.now → ⊥) }
 {

@@ -59,7 +59,8 @@ pub struct RunRecorder {
     runs: Vec<RunRecord>,
     on: Option<OpenRun>,
     // The history of the buffer tells the recorded runs, that the one that is on has no event yet, and of no other run.
-    ghost told: { ∥ IsStanding path.port.history (accepted_of path.port.window) starts runs.items (on_of on) ∥₁ },
+    ghost told: { ∥ IsStanding path.port.history (accepted_of path.port.window) starts
+        runs.items (on_of on) ∥₁ },
     // The record of the run that is on needs no memory.
     ghost room: { ForSome on (λ _. vec_len runs < vec_capacity runs) },
     // The buffer takes the events of the run that is on, and none where none is on.
@@ -69,7 +70,8 @@ pub struct RunRecorder {
     ghost few: { starts ≤ most_starts },
     // Each run that was begun had room for all its events, and so has the one that is on.
     ghost spent: { path.port.window.total ≤ most_spent starts },
-    ghost spends: { ForSome on (λ r. path.port.window.total + most_spent 1 ≤ most_spent r.order.start) },
+    ghost spends: { ForSome on (λ r.
+        path.port.window.total + most_spent 1 ≤ most_spent r.order.start) },
     ghost begun: { ForSome on (λ r. r.order.start ≤ starts) },
     // There is room to note the calls of the run that is on, up to its end.
     ghost entries: { ForSome on (λ r. 2 * r.order.quota + 1 ≤ path.port.entries) },
@@ -84,7 +86,14 @@ impl Model for RunRecorder {
 
     ghost use Rattle.run_recorder.specs.OpenRuns.{on_of};
 
-    ghost view = { λ r. record { starts = r.starts; runs = r.runs.items; on = on_of r.on; calls = r.path.port.entries; bytes = r.path.port.bytes; records = vec_capacity r.runs - vec_len r.runs } };
+    ghost view = { λ r. record {
+      starts = r.starts;
+      runs = r.runs.items;
+      on = on_of r.on;
+      calls = r.path.port.entries;
+      bytes = r.path.port.bytes;
+      records = vec_capacity r.runs - vec_len r.runs;
+    } };
 }
 
 /// The record of a start that the logger refused. Takes no memory.

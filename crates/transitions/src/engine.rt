@@ -63,7 +63,8 @@ impl Model for Engine {
       underway = underway_of e.stage e.dump e.blanks e.called.items e.tallies;
     } };
 
-    ghost invariant = { λ e. IsEngine e.state e.clients e.stage e.dump e.blanks e.called e.tallies };
+    ghost invariant = { λ e.
+        IsEngine e.state e.clients e.stage e.dump e.blanks e.called e.tallies };
 }
 
 /// The transition whose turns are given: a refused start is called off.
