@@ -1,0 +1,3 @@
+mod KnownSteps
+mod KnownCalls
+mod MadeLaws

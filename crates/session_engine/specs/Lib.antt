@@ -1,0 +1,3 @@
+pub mod MainKnowledge
+pub mod MadeTransitions
+pub mod Members

@@ -1,0 +1,11 @@
+//! The main thread at the engine of a session: it registers the members, makes transitions, in which it gives the members their
+//! rounds until all have answered, and closes the engine.
+#![tactic(auto)]
+
+mod making;
+mod opening;
+mod rounds;
+
+pub use making::{Made, make_transition};
+pub use opening::{MemberName, close, register_all};
+pub use rounds::Rounds;

@@ -1,0 +1,103 @@
+// A transition by the main thread.
+ghost use Rattle.std.specs.Prelude.{◌≡◌, ◌++◌, ◌∷◌, [], None, Some, Ok, Err, IfOk, IfErr};
+ghost use Rattle.daq_types.specs.Callers.{main_caller};
+ghost use Rattle.turn_lock.specs.Passes.{number_of, held_by, own_entries, IsOf};
+ghost use Rattle.transitions.specs.declared.entry.EngineEntry.TheVariants.{Begin};
+ghost use Rattle.transitions.specs.Engines.{engine_opening};
+ghost use Rattle.transitions.specs.EngineHistories.{IsSheet};
+ghost use Rattle.transition_lock.specs.SharedEngines.{engine_lock_of, first_engine};
+ghost use Rattle.session_engine.specs.MainKnowledge.{known_from, begin_known, known_behind};
+ghost use Rattle.session_engine.specs.MadeTransitions.{WaitsForEnd, DrivesTransition};
+
+use crate::rounds::Rounds;
+use daq_types::{StartOutcome, Transition};
+use std::sync::Wait;
+use transition_lock::{EnginePass, SharedEngine};
+use transitions::{BeginRefusal, Progress, Sheet, Tallies};
+
+/// A transition that was made.
+#[derive(Clone, Copy, Debug, PartialEq, Eq)]
+pub struct Made {
+    /// The start number of its run.
+    pub start: u32,
+    /// Whether a client refused, which only a start can be.
+    pub outcome: StartOutcome,
+}
+
+/// Rounds until the transition that is going on has ended, before each of which the engine is checked. Nothing is owed about
+/// the end: it comes with the last member's answer.
+fn wait_for_end<R: Wait, M: Rounds>(
+    rt: &R,
+    engine: &SharedEngine,
+    main: &mut EnginePass,
+    tallies: &mut Tallies,
+    members: &mut M,
+) -> StartOutcome
+    requires main { number_of main.old ≡ main_caller }
+    requires own { IsOf (engine_lock_of engine.now) main.old }
+    requires idle { held_by main.old ≡ None }
+    requires opening { first_engine engine.now ≡ engine_opening }
+    requires empty { tallies.old ≡ [] }
+    requires going { (t : _) × ((known_from (own_entries main.old)).going ≡ Some t) }
+    ensures waits { WaitsForEnd M.round result tallies.new (own_entries main.old)
+        (own_entries main.new) members.old members.new }
+    ensures main { number_of main.new ≡ main_caller }
+    ensures own { IsOf (engine_lock_of engine.now) main.new }
+    ensures idle { held_by main.new ≡ None }
+{
+    for _ in rt.forever() {
+        let progress = engine.check(rt, main, tallies);
+        match progress {
+            Progress::Going => members.round(rt),
+            Progress::Done { outcome } => return outcome,
+            Progress::None => unreachable!(),
+        }
+    }
+    unreachable!()
+}
+
+/// Makes a transition: begins it, and gives the members rounds for as long as it is in progress. The tallies that the clients
+/// answered come into the empty list. Where the engine refuses to begin it, which the main thread's own calls tell before, the
+/// sheet comes back, and nothing else has happened.
+pub fn make_transition<R: Wait, M: Rounds>(
+    rt: &R,
+    engine: &SharedEngine,
+    main: &mut EnginePass,
+    transition: Transition,
+    sheet: Sheet,
+    tallies: &mut Tallies,
+    members: &mut M,
+) -> Result<Made, (BeginRefusal, Sheet)>
+    requires main { number_of main.old ≡ main_caller }
+    requires own { IsOf (engine_lock_of engine.now) main.old }
+    requires idle { held_by main.old ≡ None }
+    requires opening { first_engine engine.now ≡ engine_opening }
+    requires sheet { IsSheet sheet }
+    requires empty { tallies.old ≡ [] }
+
+    // Where it is begun, and what is made then.
+    ensures begun { IfOk result (λ made. begin_known (known_from (own_entries main.old)) transition
+        ≡ Ok made.start) }
+    ensures made { IfOk result (λ made. DrivesTransition M.round transition sheet made.start
+        made.outcome tallies.new (own_entries main.old) (own_entries main.new) members.old
+        members.new) }
+    ensures known { IfOk result (λ made. known_from (own_entries main.new)
+        ≡ known_behind transition made.outcome (known_from (own_entries main.old))) }
+
+    // Where it is refused, and what stays.
+    ensures refused { IfErr result (λ refused. begin_known (known_from (own_entries main.old))
+        transition ≡ Err refused.0) }
+    ensures tried { IfErr result (λ refused. own_entries main.new
+        ≡ own_entries main.old ++ Begin transition sheet (Err refused.0) ∷ []) }
+    ensures back { IfErr result (λ refused. refused.1 ≡ sheet) }
+    ensures same { IfErr result (λ _. (known_from (own_entries main.new)
+        ≡ known_from (own_entries main.old)) × (tallies.new ≡ []) × (members.new ≡ members.old)) }
+
+    ensures main { number_of main.new ≡ main_caller }
+    ensures own { IsOf (engine_lock_of engine.now) main.new }
+    ensures idle { held_by main.new ≡ None }
+{
+    let start = engine.begin(rt, main, transition, sheet)?;
+    let outcome = wait_for_end(rt, engine, main, tallies, members);
+    Ok(Made { start, outcome })
+}
