@@ -375,17 +375,17 @@ due rows h now w notes lost (Some k) i g =
           ∙ ap counted {x = 0 + (0 + length (notes_for k.row q.changes) - notes_limit)} {y = length (notes_for k.row q.changes) - notes_limit} (omega arith)));
     }
 
-onward : (rows : Rows) (done : List WatchEntry) (more : List (ℕ × WatchEntry)) (s last : Watched) (caller w : ℕ) (notes : List Note) (lost : ℕ) → IsAfter rows done s
-    → LeadsDatabase s (more ++ (caller, Notes w (Ok (notes, lost))) ∷ []) last → AreDue rows (done ++ calls_made more) w notes lost
-onward rows done [] s last caller w notes lost i leads =
+onward : (rows : Rows) (done : List WatchEntry) (more rest : List (ℕ × WatchEntry)) (s last : Watched) (caller w : ℕ) (notes : List Note) (lost : ℕ) → IsAfter rows done s
+    → LeadsDatabase s (more ++ (caller, Notes w (Ok (notes, lost))) ∷ rest) last → AreDue rows (done ++ calls_made more) w notes lost
+onward rows done [] rest s last caller w notes lost i leads =
     subst (λ (l : List WatchEntry). AreDue rows l w notes lost) (sym (append-nil done)) (due rows done s.rows w notes lost (slot s.slots w) (i.keeps w) leads.1.step.0)
-onward rows done (e ∷ more) s last caller w notes lost i leads =
+onward rows done (e ∷ more) rest s last caller w notes lost i leads =
     subst (λ (l : List WatchEntry). AreDue rows l w notes lost) (append_assoc done (e.1 ∷ []) (calls_made more))
-    (onward rows (done ++ e.1 ∷ []) more leads.0 last caller w notes lost (step rows done s e.1 leads.0 i leads.1.step) leads.2)
+    (onward rows (done ++ e.1 ∷ []) more rest leads.0 last caller w notes lost (step rows done s e.1 leads.0 i leads.1.step) leads.2)
 
 nothing_kept : (rows : Rows) → IsAfter rows [] (unwatched rows)
 nothing_kept rows = record { changes = []; wrote = (refl, refl); keeps = λ (w : ℕ) (k : a_watch) (is : slot [] w ≡ Some k). (let e : None ≡ Some k = is in absurd (cc)) }
 
-pub notes_are_due : (rows : Rows) (h : List (ℕ × WatchEntry)) (caller w : ℕ) (notes : List Note) (lost : ℕ) (last : Watched)
-    → LeadsDatabase (unwatched rows) (h ++ (caller, Notes w (Ok (notes, lost))) ∷ []) last → AreDue rows (calls_made h) w notes lost
-notes_are_due rows h caller w notes lost last leads = onward rows [] h (unwatched rows) last caller w notes lost (nothing_kept rows) leads
+pub notes_are_due : (rows : Rows) (h : List (ℕ × WatchEntry)) (caller w : ℕ) (notes : List Note) (lost : ℕ) (more : List (ℕ × WatchEntry)) (last : Watched)
+    → LeadsDatabase (unwatched rows) (h ++ (caller, Notes w (Ok (notes, lost))) ∷ more) last → AreDue rows (calls_made h) w notes lost
+notes_are_due rows h caller w notes lost more last leads = onward rows [] h more (unwatched rows) last caller w notes lost (nothing_kept rows) leads

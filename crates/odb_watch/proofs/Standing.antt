@@ -1,5 +1,5 @@
 -- In a legal history of a watched database the rows are those of a database throughout.
-use Rattle.std.proofs.Common.{◌≡◌, ℕ, ◌≤◌, List, [], ◌∷◌, ◌++◌, length, Result, Ok, Err, refl, sym, ap, ◌∙◌, subst}
+use Rattle.std.proofs.Common.{◌≡◌, ℕ, ◌≤◌, List, [], ◌∷◌, ◌++◌, length, Result, Ok, Err, refl, sym, subst}
 use Rattle.std.specs.Str.Lines.{lines}
 use Rattle.odb_tree.specs.Rows.{Rows}
 use Rattle.odb_tree.specs.Noting.{Watched}
@@ -29,15 +29,16 @@ leads_stand first [] last stands leads = subst Stands leads stands
 leads_stand first (e ∷ es) last stands leads =
     leads_stand leads.0 es last (step_stands first e.1 leads.0 stands leads.1.sound leads.1.step) leads.2
 
--- a dump that was saved last
-pub saved_text : (first : Watched) (h : List (ℕ × WatchEntry)) (caller : ℕ) (text : List ℕ) (last : Watched) → LeadsDatabase first (h ++ (caller, Save (Ok text)) ∷ []) last → text ≡ dump_text last.rows
-saved_text first [] caller text last leads =
-    let same : leads.0 ≡ last = leads.2 in
-    leads.1.step.0 ∙ ap (λ (s : Watched). dump_text s.rows) (sym leads.1.step.1 ∙ same)
-saved_text first (e ∷ es) caller text last leads = saved_text leads.0 es caller text last leads.2
+-- a dump that was saved somewhere in a history
+pub saved_text : (first : Watched) (h : List (ℕ × WatchEntry)) (caller : ℕ) (text : List ℕ) (more : List (ℕ × WatchEntry)) (last : Watched)
+    → LeadsDatabase first (h ++ (caller, Save (Ok text)) ∷ more) last → (at : Watched) × LeadsDatabase first h at × (text ≡ dump_text at.rows)
+saved_text first [] caller text more last leads = (first, refl, leads.1.step.0)
+saved_text first (e ∷ es) caller text more last leads =
+    let rest : (at : Watched) × LeadsDatabase leads.0 es at × (text ≡ dump_text at.rows) = saved_text leads.0 es caller text more last leads.2 in
+    (rest.0, (leads.0, leads.1, rest.1), rest.2)
 
-pub saved_small : (first : Watched) (h : List (ℕ × WatchEntry)) (caller : ℕ) (text : List ℕ) (last : Watched) → IsDatabase first.rows → LeadsDatabase first (h ++ (caller, Save (Ok text)) ∷ []) last
-    → length text ≤ dump_limit
-saved_small first h caller text last stands leads =
-    subst (λ (t : List ℕ). length t ≤ dump_limit) (sym (saved_text first h caller text last leads))
-    (dump_small last.rows (leads_stand first (h ++ (caller, Save (Ok text)) ∷ []) last stands leads))
+pub saved_small : (first : Watched) (h : List (ℕ × WatchEntry)) (caller : ℕ) (text : List ℕ) (more : List (ℕ × WatchEntry)) (last : Watched) → IsDatabase first.rows
+    → LeadsDatabase first (h ++ (caller, Save (Ok text)) ∷ more) last → length text ≤ dump_limit
+saved_small first h caller text more last stands leads =
+    let point : (at : Watched) × LeadsDatabase first h at × (text ≡ dump_text at.rows) = saved_text first h caller text more last leads in
+    subst (λ (t : List ℕ). length t ≤ dump_limit) (sym point.2) (dump_small point.0.rows (leads_stand first h point.0 stands point.1))

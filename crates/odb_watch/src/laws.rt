@@ -13,12 +13,13 @@ ghost use Rattle.odb_watch.specs.Steps.{LeadsDatabase, unwatched};
 ghost use Rattle.odb_watch.specs.History.{AreDue, calls_made};
 
 /// In every legal history of a watched database, from any rows and no watch on, of whatever callers and calls, with dumps
-/// and texts that are loaded: what `notes` answers is what the calls before it say. These are the first 256 changes of
-/// the row and of what lay below it since the watch began or was last read, and how many others.
+/// and texts that are loaded: what each `notes` answers, wherever it stands, is what the calls before it say. These are
+/// the first 256 changes of the row and of what lay below it since the watch began or was last read, and how many others,
+/// told as 2^64 - 1 where they are more.
 pub fn notes_are_due()
     ensures { (rows : Rows) (h : List (ℕ × WatchEntry)) (caller : ℕ) (w : ℕ) (notes : List a_note)
-        (lost : ℕ) (last : Watched)
-        → LeadsDatabase (unwatched rows) (h ++ (caller, notes_of w (Ok (notes, lost))) ∷ []) last
+        (lost : ℕ) (more : List (ℕ × WatchEntry)) (last : Watched)
+        → LeadsDatabase (unwatched rows) (h ++ (caller, notes_of w (Ok (notes, lost))) ∷ more) last
         → AreDue rows (calls_made h) w notes lost }
 {}
 
@@ -30,15 +31,17 @@ pub fn watches_are_few()
 {}
 
 /// From a database on, every legal history of a watched database leads to a database, texts that are loaded not excepted;
-/// a dump that `save` answers in it is that of the rows at its point, and has at most 268,435,456 bytes.
+/// each dump that `save` answers in it, wherever it stands, is that of the rows at its point, and has at most 268,435,456
+/// bytes.
 pub fn watched_databases_stay()
     ensures stays { (first : Watched) (h : List (ℕ × WatchEntry)) (last : Watched)
         → IsDatabase first.rows → LeadsDatabase first h last → IsDatabase last.rows }
     ensures saved { (first : Watched) (h : List (ℕ × WatchEntry)) (caller : ℕ) (text : List ℕ)
-        (last : Watched) → LeadsDatabase first (h ++ (caller, save_of (Ok text)) ∷ []) last
-        → text ≡ dump_text last.rows }
+        (more : List (ℕ × WatchEntry)) (last : Watched)
+        → LeadsDatabase first (h ++ (caller, save_of (Ok text)) ∷ more) last
+        → (at : Watched) × LeadsDatabase first h at × (text ≡ dump_text at.rows) }
     ensures small { (first : Watched) (h : List (ℕ × WatchEntry)) (caller : ℕ) (text : List ℕ)
-        (last : Watched) → IsDatabase first.rows
-        → LeadsDatabase first (h ++ (caller, save_of (Ok text)) ∷ []) last
+        (more : List (ℕ × WatchEntry)) (last : Watched) → IsDatabase first.rows
+        → LeadsDatabase first (h ++ (caller, save_of (Ok text)) ∷ more) last
         → length text ≤ dump_limit }
 {}
