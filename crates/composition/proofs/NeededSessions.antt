@@ -22,6 +22,13 @@ use Rattle.buffer_core.specs.Window.{opening}
 use Rattle.buffer_core.specs.Histories.{IsLegal}
 use Rattle.buffer_core.specs.Samples.{sample_event, longer_event}
 use Rattle.event_report.specs.Reports.{Totals}
+use Rattle.odb_value.specs.declared.items.Item.TheVariants.{UInt64}
+use Rattle.odb_tree.specs.declared.entry.DatabaseEntry.{DatabaseEntry}
+use Rattle.odb_tree.specs.declared.entry.DatabaseEntry.TheVariants.{Set}
+use Rattle.odb_watch.specs.declared.entry.WatchEntry.TheVariants.{Watch}
+use Rattle.odb_port.specs.DatabasePorts.{row_calls}
+use Rattle.odb_runinfo.specs.RunKeys.{sent_path}
+use Rattle.odb_runinfo.specs.RunSets.{AreSets, sent_set}
 use Rattle.transitions.specs.declared.sheet.Sheet.{Sheet}
 use Rattle.transitions.specs.declared.answers.Answer.{Answer as ClientAnswer}
 use Rattle.transitions.specs.declared.answers.Answer.TheVariants.{Yes}
@@ -50,8 +57,8 @@ use Rattle.composition.specs.SentSets.{AreTurnSets}
 use Rattle.composition.specs.Sessions.{Session, SessionFront, SessionAnalyzer, HasFront, IsMemberCaller, turns_of, buffer_calls, database_calls, IsRegistered}
 use Rattle.composition.specs.SessionRuns.{IsStoppedRun, ToldState, channel_events}
 use Rattle.composition.specs.CompositionLaws.{FrontsTell, FrontsSent, FrontsStand, FrontsSet, StopsSet, OnlyFrontsSent, ChannelsTold, FilesHoldRuns, ReportsTold}
-use Rattle.composition.specs.SessionSamples.{first_sheet, last_sheet, first_tallies, last_tallies, sample_engine, sample_history, sample_name, sample_front, sample_channel, sample_files, sample_session, sample_run}
-use Rattle.composition.specs.NeededSamples.{SessionPremise, LegalBuffers, LegalEngine, OwnNames, MemberCalls, KeptFronts, FrontMoments, FrontNumbers, KeptLogger, LoggerEvents, KeptAnalyzers, AnalyzerEvents, FrontsThere, AnalyzersThere, LoggerThere, OneDump, MeetsSession, FailsSession, unmarked_session, unknown_sender, other_maker, other_made, early_front, early_session, nothing_set, nothing_stored, other_got, other_files, other_told, sample_analyzer, front_for_analyzer, unknown_analyzer, absent_front, unknown_front, no_files, empty_engine, empty_run, unknown_logger, made_up_engine, made_up, ended_run, spoken_for_engine, spoken_for, no_dump_engine, marked_history, no_dump, no_end_run}
+use Rattle.composition.specs.SessionSamples.{first_sheet, last_sheet, first_tallies, last_tallies, sample_engine, sample_history, sample_name, sample_database, sample_front, sample_channel, sample_files, sample_session, sample_run}
+use Rattle.composition.specs.NeededSamples.{SessionPremise, LegalBuffers, LegalEngine, OwnNames, MemberCalls, KeptFronts, FrontMoments, FrontNumbers, KeptLogger, LoggerEvents, KeptAnalyzers, AnalyzerEvents, FrontsThere, AnalyzersThere, LoggerThere, OneDump, MeetsSession, FailsSession, unmarked_session, unknown_sender, other_maker, other_made, early_front, early_session, nothing_set, watching_front, nothing_stored, other_got, other_files, other_told, sample_analyzer, front_for_analyzer, unknown_analyzer, absent_front, unknown_front, no_files, empty_engine, empty_run, unknown_logger, made_up_engine, made_up, ended_run, spoken_for_engine, spoken_for, no_dump_engine, marked_history, no_dump, no_end_run}
 use Rattle.composition.proofs.Sampled.{first_fair, last_fair, front_calls, front_turns, front_keeps, front_moments, front_set, only_channel, no_analyzer, none_of_others, logger_turns, logger_start, logger_stop, run_read_of, stop_is, never_broken, logger_is_kept, sample_keeps, sample_stopped}
 
 -- The sample session meets all.
@@ -219,7 +226,11 @@ fronts_needed = record {
 -- A moment before an event that was sent.
 
 early_set : AreTurnSets sample_name front_calls front_turns (0 ∷ 0 ∷ []) (database_calls early_session 1)
-early_set = inl (record { reply = Ok 8; is = refl }, (record { reply = Ok 8; is = refl }, tt))
+early_set = inl (record {
+  sets = Set (sent_path sample_name) 0 (UInt64 0) (Ok 8) ∷ Set (sent_path sample_name) 0 (UInt64 0) (Ok 8) ∷ [];
+  are_sets = (record { reply = Ok 8; is = refl }, (record { reply = Ok 8; is = refl }, tt));
+  alone = refl;
+})
 
 others_of_early : (other : SessionPremise) → other ≢ FrontMoments → MeetsSession other early_session
 others_of_early LegalBuffers ne = sample_keeps.buffers_legal
@@ -276,8 +287,43 @@ others_of_unset OneDump ne = sample_keeps.one_dump
 pub sets_needed : FailsSession FrontNumbers nothing_set FrontsSet
 sets_needed = record { others = others_of_unset; wrong = λ law. wrong (law sample_front (0, refl)) }
   where
+    none_set : (sets : List DatabaseEntry) → AreSets (sent_set sample_name 0 ∷ sent_set sample_name 1 ∷ []) sets → [] ≡ row_calls sets → ⊥
+    none_set [] are alone = are
+    none_set (entry ∷ entries) are alone = cc (alone)
+
     wrong : AreTurnSets sample_name front_calls front_turns (1 ∷ 0 ∷ []) [] → ⊥
-    wrong (inl sets) = sets
+    wrong (inl told) = none_set told.sets told.are_sets told.alone
+    wrong (inr none) = absurd (let e : Some (Yes (Front 1 Quota)) ≡ None = none.0 in cc (e))
+
+-- A call besides.
+
+others_of_watching : (other : SessionPremise) → other ≢ FrontNumbers → MeetsSession other watching_front
+others_of_watching LegalBuffers ne = sample_keeps.buffers_legal
+others_of_watching LegalEngine ne = sample_keeps.engine_legal
+others_of_watching OwnNames ne = sample_keeps.own_clients
+others_of_watching MemberCalls ne = known_callers watching_front sample_front (0, refl) refl refl refl
+others_of_watching KeptFronts ne = sample_keeps.fronts_keep
+others_of_watching FrontMoments ne = sample_keeps.fronts_moments
+others_of_watching FrontNumbers ne = absurd (ne refl)
+others_of_watching KeptLogger ne = sample_keeps.logger_keeps
+others_of_watching LoggerEvents ne = sample_keeps.logger_got
+others_of_watching KeptAnalyzers ne = λ a has. absurd (no_analyzer a has)
+others_of_watching AnalyzerEvents ne = λ a has. absurd (no_analyzer a has)
+others_of_watching FrontsThere ne = sample_keeps.fronts_registered
+others_of_watching AnalyzersThere ne = λ a has. absurd (no_analyzer a has)
+others_of_watching LoggerThere ne = sample_keeps.logger_registered
+others_of_watching OneDump ne = sample_keeps.one_dump
+
+pub alone_needed : FailsSession FrontNumbers watching_front FrontsSet
+alone_needed = record { others = others_of_watching; wrong = λ law. wrong (law sample_front (0, refl)) }
+  where
+    -- a watch is no call on the rows
+    no_watch : (sets : List DatabaseEntry) → Watch 1 (Ok 0) ∷ entries_by 2 sample_database ≡ row_calls sets → ⊥
+    no_watch [] alone = cc (alone)
+    no_watch (entry ∷ entries) alone = cc (alone)
+
+    wrong : AreTurnSets sample_name front_calls front_turns (1 ∷ 0 ∷ []) (Watch 1 (Ok 0) ∷ entries_by 2 sample_database) → ⊥
+    wrong (inl told) = no_watch told.sets told.alone
     wrong (inr none) = absurd (let e : Some (Yes (Front 1 Quota)) ≡ None = none.0 in cc (e))
 
 -- There is no file.

@@ -26,6 +26,9 @@ use Rattle.buffer_core.specs.declared.entry.BufferEntry.TheVariants.{Attach, Req
 use Rattle.buffer_core.specs.Window.{opening, no_clients, no_requests, any}
 use Rattle.buffer_core.specs.Histories.{IsLegal}
 use Rattle.buffer_core.specs.Samples.{sample_event}
+use Rattle.odb_value.specs.declared.items.Item.TheVariants.{UInt64}
+use Rattle.odb_tree.specs.declared.entry.DatabaseEntry.TheVariants.{Set}
+use Rattle.odb_runinfo.specs.RunKeys.{sent_path}
 use Rattle.transitions.specs.declared.sheet.Sheet.{Sheet}
 use Rattle.transitions.specs.declared.answers.Answer.{Answer as ClientAnswer}
 use Rattle.transitions.specs.declared.answers.Answer.TheVariants.{Yes, No}
@@ -212,10 +215,18 @@ first_moments : KeepsMoments one_send first_turns (1 ∷ 1 ∷ 1 ∷ 0 ∷ [])
 first_moments = record { are = (omega arith, (omega arith, (omega arith, (omega arith, tt)))); ends = λ are t moment has is answer. first_ends t moment has is }
 
 first_sets : AreTurnSets (codes "A") one_send first_turns (1 ∷ 1 ∷ 1 ∷ 0 ∷ []) (database_calls paused_session 0)
-first_sets = inl (record { reply = Ok 8; is = refl }, (record { reply = Ok 8; is = refl }, (record { reply = Ok 8; is = refl }, (record { reply = Ok 8; is = refl }, tt))))
+first_sets = inl (record {
+  sets = Set (sent_path (codes "A")) 0 (UInt64 0) (Ok 8) ∷ Set (sent_path (codes "A")) 0 (UInt64 1) (Ok 8) ∷ Set (sent_path (codes "A")) 0 (UInt64 1) (Ok 8) ∷ Set (sent_path (codes "A")) 0 (UInt64 0) (Ok 8) ∷ [];
+  are_sets = (record { reply = Ok 8; is = refl }, (record { reply = Ok 8; is = refl }, (record { reply = Ok 8; is = refl }, (record { reply = Ok 8; is = refl }, tt))));
+  alone = refl;
+})
 
 second_sets : AreTurnSets (codes "B") one_send second_turns (1 ∷ 1 ∷ 0 ∷ []) (database_calls paused_session 1)
-second_sets = inl (record { reply = Ok 8; is = refl }, (record { reply = Ok 8; is = refl }, (record { reply = Ok 8; is = refl }, tt)))
+second_sets = inl (record {
+  sets = Set (sent_path (codes "B")) 0 (UInt64 0) (Ok 8) ∷ Set (sent_path (codes "B")) 0 (UInt64 1) (Ok 8) ∷ Set (sent_path (codes "B")) 0 (UInt64 1) (Ok 8) ∷ [];
+  are_sets = (record { reply = Ok 8; is = refl }, (record { reply = Ok 8; is = refl }, (record { reply = Ok 8; is = refl }, tt)));
+  alone = refl;
+})
 
 each_front : (P : SessionFront → Type 0) → P first_front → P second_front → (f : SessionFront) → HasFront paused_session f → P f
 each_front P first second f (zero, e) = let same : first_front ≡ f = cc (e) in subst P same first

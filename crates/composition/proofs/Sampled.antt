@@ -23,6 +23,9 @@ use Rattle.buffer_core.specs.declared.entry.BufferEntry.TheVariants.{Attach, Sen
 use Rattle.buffer_core.specs.Window.{opening, no_clients, no_requests, any}
 use Rattle.buffer_core.specs.Histories.{IsLegal}
 use Rattle.buffer_core.specs.Samples.{sample_event}
+use Rattle.odb_value.specs.declared.items.Item.TheVariants.{UInt64}
+use Rattle.odb_tree.specs.declared.entry.DatabaseEntry.TheVariants.{Set}
+use Rattle.odb_runinfo.specs.RunKeys.{sent_path}
 use Rattle.transitions.specs.declared.sheet.Sheet.{Sheet}
 use Rattle.transitions.specs.declared.answers.Answer.{Answer as ClientAnswer}
 use Rattle.transitions.specs.declared.answers.Answer.TheVariants.{Yes}
@@ -146,7 +149,11 @@ front_moments = record { are = (omega arith, (omega arith, tt)); ends = λ are t
     ends t moment (inr (inr none)) is = absurd none
 
 pub front_set : AreTurnSets sample_name front_calls front_turns (1 ∷ 0 ∷ []) (database_calls sample_session 1)
-front_set = inl (record { reply = Ok 8; is = refl }, (record { reply = Ok 8; is = refl }, tt))
+front_set = inl (record {
+  sets = Set (sent_path sample_name) 0 (UInt64 0) (Ok 8) ∷ Set (sent_path sample_name) 0 (UInt64 1) (Ok 8) ∷ [];
+  are_sets = (record { reply = Ok 8; is = refl }, (record { reply = Ok 8; is = refl }, tt));
+  alone = refl;
+})
 
 -- The logger.
 

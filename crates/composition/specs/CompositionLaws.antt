@@ -43,8 +43,8 @@ FrontsStand s = (r : SessionRun) → IsStoppedRun s r →
     events_in (events_at_places (places_sent own r.start) (segment (s.history f.buffer) r.start))
     ≡ made_events f.makes (run_order r) sent)
 
--- Each front-end set in the database, in its own key alone, 0 at each start, and at each pause and each stop how many events
--- it had sent in the run by then, in the order of these turns.
+-- Each front-end set in the database, in its own key alone, 0 at each start, and at each pause and each stop how many
+-- events it had sent in the run by then, in the order of these turns; and it made no other call on the database.
 abbrev pub FrontsSet : Session → Type 0
 FrontsSet s = (f : SessionFront) → HasFront s f →
     AreTurnSets f.name (buffer_calls s f.buffer f.client) (turns_of s f.client) f.moments (database_calls s f.client)

@@ -14,6 +14,7 @@ use Rattle.buffer_core.specs.Ports.{GotEvent}
 use Rattle.buffer_core.specs.Samples.{sample_event, longer_event}
 use Rattle.odb_value.specs.declared.items.Item.TheVariants.{UInt64}
 use Rattle.odb_tree.specs.declared.entry.DatabaseEntry.TheVariants.{Set}
+use Rattle.odb_watch.specs.declared.entry.WatchEntry.TheVariants.{Call, Watch}
 use Rattle.odb_runinfo.specs.RunKeys.{sent_path}
 use Rattle.transitions.specs.declared.answers.Answer.TheVariants.{Yes}
 use Rattle.transitions.specs.declared.answers.Tally.TheVariants.{Plain, Channels}
@@ -27,7 +28,7 @@ use Rattle.transitions.specs.EngineSamples.{at_all}
 use Rattle.caller_laws.specs.CallerSamples.{got_first}
 use Rattle.composition.specs.Sessions.{Session, SessionFront, SessionAnalyzer, BuffersLegal, EngineLegal, NameOwnClients, MembersCall, FrontsKeep, FrontsHaveMoments, FrontsSetNumbers, LoggerKeeps, LoggerGotSent, AnalyzersKeep, AnalyzersGotSent, FrontsRegistered, AnalyzersRegistered, LoggerRegistered, LoggerWantsDump}
 use Rattle.composition.specs.SessionRuns.{SessionRun}
-use Rattle.composition.specs.SessionSamples.{first_sheet, last_sheet, sample_name, sample_front, sample_channel, sample_files, sample_session}
+use Rattle.composition.specs.SessionSamples.{first_sheet, last_sheet, sample_name, sample_front, sample_channel, sample_files, sample_database, sample_session}
 
 -- what the laws ask
 pub data SessionPremise : Type 0 where
@@ -98,12 +99,17 @@ abbrev pub early_session : Session
 early_session = record sample_session {
   fronts = early_front ∷ [];
   database =
-      (2, Set (sent_path sample_name) 0 (UInt64 0) (Ok 8)) ∷ (2, Set (sent_path sample_name) 0 (UInt64 0) (Ok 8)) ∷ [];
+      (2, Call (Set (sent_path sample_name) 0 (UInt64 0) (Ok 8)))
+      ∷ (2, Call (Set (sent_path sample_name) 0 (UInt64 0) (Ok 8))) ∷ [];
 }
 
 -- the front-end sets nothing
 abbrev pub nothing_set : Session
 nothing_set = record sample_session { database = [] }
+
+-- the front-end sets what it must, and watches a row besides
+abbrev pub watching_front : Session
+watching_front = record sample_session { database = (2, Watch 1 (Ok 0)) ∷ sample_database }
 
 -- there is no file
 abbrev pub no_files : Seen

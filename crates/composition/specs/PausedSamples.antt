@@ -19,8 +19,9 @@ use Rattle.buffer_core.specs.Histories.{History}
 use Rattle.buffer_core.specs.Ports.{GotEvent}
 use Rattle.buffer_core.specs.Samples.{sample_event}
 use Rattle.odb_value.specs.declared.items.Item.TheVariants.{UInt64}
-use Rattle.odb_tree.specs.declared.entry.DatabaseEntry.{DatabaseEntry}
 use Rattle.odb_tree.specs.declared.entry.DatabaseEntry.TheVariants.{Set}
+use Rattle.odb_watch.specs.declared.entry.WatchEntry.{WatchEntry}
+use Rattle.odb_watch.specs.declared.entry.WatchEntry.TheVariants.{Call}
 use Rattle.odb_runinfo.specs.RunKeys.{sent_path}
 use Rattle.transitions.specs.declared.sheet.Sheet.{Sheet}
 use Rattle.transitions.specs.declared.answers.Answer.TheVariants.{Yes, No}
@@ -124,10 +125,10 @@ second_front = record {
 }
 
 -- a set by the caller of the front-end of this name
-abbrev pub set_by : (caller : ℕ) → (name : List ℕ) → (sent : ℕ) → ℕ × DatabaseEntry
-set_by caller name sent = (caller, Set (sent_path name) 0 (UInt64 sent) (Ok 8))
+abbrev pub set_by : (caller : ℕ) → (name : List ℕ) → (sent : ℕ) → ℕ × WatchEntry
+set_by caller name sent = (caller, Call (Set (sent_path name) 0 (UInt64 sent) (Ok 8)))
 
-abbrev pub paused_database : List (ℕ × DatabaseEntry)
+abbrev pub paused_database : List (ℕ × WatchEntry)
 paused_database =
     set_by 1 (codes "A") 0 ∷ set_by 2 (codes "B") 0 ∷ set_by 1 (codes "A") 1 ∷ set_by 2 (codes "B") 1
     ∷ set_by 1 (codes "A") 1 ∷ set_by 2 (codes "B") 1 ∷ set_by 1 (codes "A") 0 ∷ []

@@ -4,6 +4,8 @@ use Rattle.daq_types.specs.declared.runs.Transition.{Transition}
 use Rattle.daq_types.specs.declared.runs.Transition.TheVariants.{Start, Stop, Pause, Resume, StartAbort}
 use Rattle.buffer_core.specs.declared.entry.BufferEntry.{BufferEntry}
 use Rattle.odb_tree.specs.declared.entry.DatabaseEntry.{DatabaseEntry}
+use Rattle.odb_watch.specs.declared.entry.WatchEntry.{WatchEntry}
+use Rattle.odb_port.specs.DatabasePorts.{row_calls}
 use Rattle.odb_runinfo.specs.RunSets.{AreSets, sent_set}
 use Rattle.member_model.specs.Turns.{MemberTurn}
 use Rattle.member_model.specs.SentCalls.{own_sent}
@@ -28,12 +30,19 @@ numbers_set own (t ∷ turns) [] = []
 numbers_set own (t ∷ turns) (moment ∷ moments) =
     numbers_set own turns moments ++ numbers_at t.transition (sent_by_moment own t.order.start moment)
 
--- The calls on the database of the front-end with this name are the sets of these numbers in its own key, in order, whatever
--- they were replied; those of a latest turn that has no answer may still be to come.
+-- These calls on a database are the sets of these numbers in the own key of the front-end with this name, in order,
+-- whatever they were replied; and there is no other call, be it on the rows, a watch, or a text that is saved or loaded.
+pub record AreSetsAlone (name : List ℕ) (numbers : List ℕ) (calls : List WatchEntry) : Type 0 where
+  pub sets : List DatabaseEntry
+  pub are_sets : AreSets (map (sent_set name) numbers) sets
+  pub alone : calls ≡ row_calls sets
+
+-- All calls on the database of the front-end with this name are the sets of the numbers of its turns, in its own key,
+-- and it makes no other call there; those of a latest turn that has no answer may still be to come.
 abbrev pub AreTurnSets : (name : List ℕ) → List BufferEntry → List MemberTurn → (moments : List ℕ) →
-    List DatabaseEntry → Type 0
+    List WatchEntry → Type 0
 AreTurnSets name own [] moments calls = calls ≡ []
 AreTurnSets name own (t ∷ turns) [] calls = ⊥
 AreTurnSets name own (t ∷ turns) (moment ∷ moments) calls =
-    AreSets (map (sent_set name) (numbers_set own (t ∷ turns) (moment ∷ moments))) calls
-    ⊎ ((t.answer ≡ None) × AreSets (map (sent_set name) (numbers_set own turns moments)) calls)
+    AreSetsAlone name (numbers_set own (t ∷ turns) (moment ∷ moments)) calls
+    ⊎ ((t.answer ≡ None) × AreSetsAlone name (numbers_set own turns moments) calls)

@@ -12,8 +12,9 @@ use Rattle.buffer_core.specs.Histories.{History}
 use Rattle.buffer_core.specs.Ports.{GotEvent}
 use Rattle.buffer_core.specs.Samples.{sample_event}
 use Rattle.odb_value.specs.declared.items.Item.TheVariants.{UInt64}
-use Rattle.odb_tree.specs.declared.entry.DatabaseEntry.{DatabaseEntry}
 use Rattle.odb_tree.specs.declared.entry.DatabaseEntry.TheVariants.{Set}
+use Rattle.odb_watch.specs.declared.entry.WatchEntry.{WatchEntry}
+use Rattle.odb_watch.specs.declared.entry.WatchEntry.TheVariants.{Call}
 use Rattle.odb_runinfo.specs.RunKeys.{sent_path}
 use Rattle.transitions.specs.declared.sheet.Sheet.{Sheet}
 use Rattle.transitions.specs.declared.answers.Answer.TheVariants.{Yes}
@@ -72,9 +73,10 @@ abbrev pub sample_name : List ℕ
 sample_name = codes "F"
 
 -- it sets 0 at its start, and 1 at its stop
-abbrev pub sample_database : List (ℕ × DatabaseEntry)
+abbrev pub sample_database : List (ℕ × WatchEntry)
 sample_database =
-    (2, Set (sent_path sample_name) 0 (UInt64 0) (Ok 8)) ∷ (2, Set (sent_path sample_name) 0 (UInt64 1) (Ok 8)) ∷ []
+    (2, Call (Set (sent_path sample_name) 0 (UInt64 0) (Ok 8)))
+    ∷ (2, Call (Set (sent_path sample_name) 0 (UInt64 1) (Ok 8))) ∷ []
 
 abbrev pub sample_front : SessionFront
 sample_front = record {

@@ -12,7 +12,7 @@ use Rattle.buffer_core.specs.declared.entry.BufferEntry.{BufferEntry}
 use Rattle.buffer_core.specs.Window.{opening}
 use Rattle.buffer_core.specs.Histories.{History, IsLegal}
 use Rattle.buffer_core.specs.Ports.{GotEvent}
-use Rattle.odb_tree.specs.declared.entry.DatabaseEntry.{DatabaseEntry}
+use Rattle.odb_watch.specs.declared.entry.WatchEntry.{WatchEntry}
 use Rattle.transitions.specs.declared.sheet.Sheet.{Sheet}
 use Rattle.transitions.specs.declared.entry.EngineEntry.{EngineEntry}
 use Rattle.transitions.specs.declared.entry.EngineEntry.TheVariants.{Begin, Poll, Answer}
@@ -53,7 +53,7 @@ pub record Session : Type 0 where
   pub size : (buffer : ℕ) → ℕ
   pub history : (buffer : ℕ) → History
   pub engine : EngineHistory
-  pub database : List (ℕ × DatabaseEntry)
+  pub database : List (ℕ × WatchEntry)
   pub fronts : List SessionFront
   pub logger : ℕ
   pub channels : List LoggerChannel
@@ -69,8 +69,8 @@ turns_of s client = member_turns client (entries_by (caller_of_client client) s.
 abbrev pub buffer_calls : Session → (buffer client : ℕ) → List BufferEntry
 buffer_calls s buffer client = entries_by (caller_of_client client) (s.history buffer)
 
--- its calls on the database
-abbrev pub database_calls : Session → (client : ℕ) → List DatabaseEntry
+-- all its calls on the database: on its rows, on watches, and of its text
+abbrev pub database_calls : Session → (client : ℕ) → List WatchEntry
 database_calls s client = entries_by (caller_of_client client) s.database
 
 -- the front-end stands in the session
@@ -140,7 +140,7 @@ abbrev pub FrontsHaveMoments : Session → Type 0
 FrontsHaveMoments s = (f : SessionFront) → HasFront s f →
     KeepsMoments (buffer_calls s f.buffer f.client) (turns_of s f.client) f.moments
 
--- it sets in the database how many events it had sent
+-- it sets in the database how many events it had sent, and makes no other call there
 abbrev pub FrontsSetNumbers : Session → Type 0
 FrontsSetNumbers s = (f : SessionFront) → HasFront s f →
     AreTurnSets f.name (buffer_calls s f.buffer f.client) (turns_of s f.client) f.moments (database_calls s f.client)

@@ -8,7 +8,7 @@ ghost use Rattle.composition.specs.SessionSamples.{sample_session, sample_run, s
 ghost use Rattle.composition.specs.PausedSamples.{paused_session, pausing_run, paused_channel};
 ghost use Rattle.composition.specs.CountedSamples.{counted_session, counted_run, counted_analyzer, counted_report};
 ghost use Rattle.buffer_core.specs.Samples.{sample_event, longer_event};
-ghost use Rattle.composition.specs.NeededSamples.{SessionPremise, LegalBuffers, LegalEngine, OwnNames, MemberCalls, KeptFronts, FrontMoments, FrontNumbers, KeptLogger, LoggerEvents, KeptAnalyzers, AnalyzerEvents, FrontsThere, AnalyzersThere, LoggerThere, OneDump, MeetsSession, FailsSession, unmarked_session, made_up, spoken_for, unknown_sender, other_made, early_session, nothing_set, nothing_stored, other_told, front_for_analyzer, unknown_front, unknown_analyzer, unknown_logger, no_dump};
+ghost use Rattle.composition.specs.NeededSamples.{SessionPremise, LegalBuffers, LegalEngine, OwnNames, MemberCalls, KeptFronts, FrontMoments, FrontNumbers, KeptLogger, LoggerEvents, KeptAnalyzers, AnalyzerEvents, FrontsThere, AnalyzersThere, LoggerThere, OneDump, MeetsSession, FailsSession, unmarked_session, made_up, spoken_for, unknown_sender, other_made, early_session, nothing_set, watching_front, nothing_stored, other_told, front_for_analyzer, unknown_front, unknown_analyzer, unknown_logger, no_dump};
 
 use caller_laws::laws as callers;
 use engine_laws::laws as turns;
@@ -32,8 +32,9 @@ pub fn fronts()
     engine::start_numbers_rise();
 }
 
-/// Each front-end set in the database, in its own key alone, 0 at each start, and at each pause and each stop how many events
-/// it had sent in the run by then. At the stop of a run that was not refused that is what it told in the Done.
+/// Each front-end set in the database, in its own key alone, 0 at each start, and at each pause and each stop how many
+/// events it had sent in the run by then, and made no other call there. At the stop of a run that was not refused that is
+/// what it told in the Done.
 pub fn sets()
     ensures set { (s : Session) → MembersKeep s → FrontsSet s }
     ensures stop { (s : Session) → MembersKeep s → StopsSet s }
@@ -122,6 +123,7 @@ pub fn needs_each_premise()
     ensures fronts { FailsSession KeptFronts other_made FrontsSent }
     ensures moments { FailsSession FrontMoments early_session StopsSet }
     ensures sets { FailsSession FrontNumbers nothing_set FrontsSet }
+    ensures sets_alone { FailsSession FrontNumbers watching_front FrontsSet }
     ensures logger { FailsSession KeptLogger nothing_stored FilesHoldRuns }
     ensures events { FailsSession LoggerEvents other_told FilesHoldRuns }
     ensures analyzers { FailsSession KeptAnalyzers front_for_analyzer ReportsTold }

@@ -8,7 +8,7 @@ use Rattle.daq_types.specs.declared.runs.Transition.TheVariants.{Stop}
 use Rattle.buffer_core.specs.declared.entry.BufferEntry.{BufferEntry}
 use Rattle.buffer_core.specs.declared.entry.BufferEntry.TheVariants.{SendInRun}
 use Rattle.buffer_core.specs.Ports.{Access}
-use Rattle.odb_tree.specs.declared.entry.DatabaseEntry.{DatabaseEntry}
+use Rattle.odb_watch.specs.declared.entry.WatchEntry.{WatchEntry}
 use Rattle.transitions.specs.declared.answers.Answer.{Answer}
 use Rattle.transitions.specs.declared.entry.EngineEntry.{EngineEntry}
 use Rattle.member_model.specs.Turns.{MemberTurn, NoneOpen, IsOfRun, AreEngineTurns, latest_answered}
@@ -28,7 +28,7 @@ use Rattle.daq_members.proofs.OwnTurnLaws.{taken_turn}
 use Rattle.daq_members.proofs.SetLaws.{sent_by_all_calls, sets_more, number_now}
 
 -- the same front-end with calls that tell the same turns
-pub same_turns_stand : (client : ℕ) (name : List ℕ) (takes : Order → Bool) (makes : Order → ℕ → Event) (run : Option FrontRun) (calls later : List EngineEntry) (own : List BufferEntry) (sets : List DatabaseEntry)
+pub same_turns_stand : (client : ℕ) (name : List ℕ) (takes : Order → Bool) (makes : Order → ℕ → Event) (run : Option FrontRun) (calls later : List EngineEntry) (own : List BufferEntry) (sets : List WatchEntry)
     → member_turns client later ≡ member_turns client calls → FrontMemberStands client name takes makes run calls own sets → FrontMemberStands client name takes makes run later own sets
 same_turns_stand client name takes makes run calls later own sets same member = record {
   stands = subst (λ (ts : List MemberTurn). FrontStands takes makes run own ts) (sym same) member.stands;
@@ -38,7 +38,7 @@ same_turns_stand client name takes makes run calls later own sets same member = 
 }
 
 -- A step: more calls on the buffer.
-pub step_stands : (client : ℕ) (name : List ℕ) (takes : Order → Bool) (makes : Order → ℕ → Event) (run later : Option FrontRun) (calls : List EngineEntry) (own more : List BufferEntry) (sets : List DatabaseEntry)
+pub step_stands : (client : ℕ) (name : List ℕ) (takes : Order → Bool) (makes : Order → ℕ → Event) (run later : Option FrontRun) (calls : List EngineEntry) (own more : List BufferEntry) (sets : List WatchEntry)
     → (member : FrontMemberStands client name takes makes run calls own sets)
     → FrontStands takes makes later (own ++ more) (member_turns client calls) → KeepsMoments (own ++ more) (member_turns client calls) member.moments
     → FrontMemberStands client name takes makes later calls (own ++ more) sets
@@ -50,7 +50,7 @@ step_stands client name takes makes run later calls own more sets member stands 
 }
 
 -- A new turn, whose answer, if there is one, is given.
-pub taken_stands : (client : ℕ) (name : List ℕ) (takes : Order → Bool) (makes : Order → ℕ → Event) (run later_run : Option FrontRun) (calls later : List EngineEntry) (own : List BufferEntry) (sets later_sets : List DatabaseEntry)
+pub taken_stands : (client : ℕ) (name : List ℕ) (takes : Order → Bool) (makes : Order → ℕ → Event) (run later_run : Option FrontRun) (calls later : List EngineEntry) (own : List BufferEntry) (sets later_sets : List WatchEntry)
     (transition : Transition) (order : Order) (dump : Option (List ℕ)) (answer : Option Answer)
     → (member : FrontMemberStands client name takes makes run calls own sets)
     → NoneOpen (member_turns client calls)
@@ -112,7 +112,7 @@ stop_owed takes makes None own turns start answer stands is owed = absurd (cc (i
 stop_owed takes makes (Some r) own turns start answer stands is owed = owed_with r r.stop turns start answer stands.run_stands.waiting is owed
 
 -- the sets behind the answer
-finish_told : (name : List ℕ) (own : List BufferEntry) (turns : List MemberTurn) (moments : List ℕ) (calls : ℕ) (sets later_sets : List DatabaseEntry) (order : Order) (dump : Option (List ℕ)) (earlier : List MemberTurn) (answer : Answer) (sent : ℕ)
+finish_told : (name : List ℕ) (own : List BufferEntry) (turns : List MemberTurn) (moments : List ℕ) (calls : ℕ) (sets later_sets : List WatchEntry) (order : Order) (dump : Option (List ℕ)) (earlier : List MemberTurn) (answer : Answer) (sent : ℕ)
     → turns ≡ front_turn dump Stop order None ∷ earlier → length (own_sent own order.start) ≡ sent → AddsNumberIf name (Some sent) sets later_sets → AreNumbersSet name own turns moments sets
     → AreNumbersSet name own (latest_answered turns (Some answer)) (moments_answered moments (Some answer) (length own)) later_sets
 finish_told name own [] moments calls sets later_sets order dump earlier answer sent is number adds told = absurd (cc (is))
@@ -125,11 +125,11 @@ finish_told name own (t ∷ ts) (m ∷ ms) calls sets later_sets order dump earl
       told.2,
       subst (λ (v : MemberTurn). AddsNumberIf name (number_set_at v.transition true (sent_by_moment own v.order.start (length own))) told.1 later_sets) (sym latest)
           (subst (λ (n : ℕ). AddsNumberIf name (Some n) told.1 later_sets) (sym (sent_by_all_calls own order.start ∙ number))
-          (subst (λ (l : List DatabaseEntry). AddsNumberIf name (Some sent) l later_sets) none adds)),
+          (subst (λ (l : List WatchEntry). AddsNumberIf name (Some sent) l later_sets) none adds)),
     )
 
 -- A turn that is owed, and its answer, if it can be given.
-pub finished_stands : (client : ℕ) (name : List ℕ) (takes : Order → Bool) (makes : Order → ℕ → Event) (run later_run : Option FrontRun) (calls later : List EngineEntry) (own : List BufferEntry) (sets later_sets : List DatabaseEntry) (start : ℕ) (answer : Option Answer)
+pub finished_stands : (client : ℕ) (name : List ℕ) (takes : Order → Bool) (makes : Order → ℕ → Event) (run later_run : Option FrontRun) (calls later : List EngineEntry) (own : List BufferEntry) (sets later_sets : List WatchEntry) (start : ℕ) (answer : Option Answer)
     → (member : FrontMemberStands client name takes makes run calls own sets)
     → answer ≡ finish_answer run
     → open_start (member_turns client calls) ≡ Some start
@@ -145,7 +145,7 @@ finished_stands client name takes makes run later_run calls later own sets later
   moments = member.moments;
   kept = subst (λ (l : List MemberTurn). KeepsMoments own l member.moments) (sym turns) kept;
   told = subst (λ (l : List MemberTurn). AreEngineTurns l → AreNumbersSet name own l member.moments later_sets) (sym turns)
-      (λ are. subst (λ (l : List DatabaseEntry). AreNumbersSet name own (member_turns client calls) member.moments l) (sym adds) (member.told are));
+      (λ are. subst (λ (l : List WatchEntry). AreNumbersSet name own (member_turns client calls) member.moments l) (sym adds) (member.told are));
 }
 finished_stands client name takes makes run later_run calls later own sets later_sets start (Some answer) member is owed turns stands kept sent adds engine =
     let stop : IsStopOwed run (member_turns client calls) start = stop_owed takes makes run own (member_turns client calls) start answer member.stands (sym is) owed in
@@ -192,7 +192,7 @@ step_adds makes run later a b step steps = by_work (is_at_work run) steps
     by_work true sends = (SendInRun sends.run.order.start (length (makes sends.run.order (suc sends.run.sent)).body) (makes sends.run.order (suc sends.run.sent)) sends.reply ∷ [], sends.sent.own)
 
 -- What is kept behind a step.
-pub stepped_stands : (client : ℕ) (name : List ℕ) (takes : Order → Bool) (makes : Order → ℕ → Event) (run later : Option FrontRun) (a b : Access) (step : FrontStep) (calls : List EngineEntry) (sets : List DatabaseEntry)
+pub stepped_stands : (client : ℕ) (name : List ℕ) (takes : Order → Bool) (makes : Order → ℕ → Event) (run later : Option FrontRun) (a b : Access) (step : FrontStep) (calls : List EngineEntry) (sets : List WatchEntry)
     → StepsFront makes run later a b step
     → (member : FrontMemberStands client name takes makes run calls a.own sets)
     → FrontStands takes makes later b.own (member_turns client calls) → KeepsMoments b.own (member_turns client calls) member.moments

@@ -5,7 +5,7 @@ use Rattle.std.proofs.lemmas.List.{take-append-le, take_all}
 use Rattle.daq_types.specs.declared.runs.Transition.{Transition}
 use Rattle.daq_types.specs.declared.runs.Transition.TheVariants.{Start, Stop, Pause, Resume, StartAbort}
 use Rattle.buffer_core.specs.declared.entry.BufferEntry.{BufferEntry}
-use Rattle.odb_tree.specs.declared.entry.DatabaseEntry.{DatabaseEntry}
+use Rattle.odb_watch.specs.declared.entry.WatchEntry.{WatchEntry}
 use Rattle.member_model.specs.Turns.{MemberTurn, IsOfRun, IsNextTurn}
 use Rattle.member_model.specs.SentCalls.{own_sent}
 use Rattle.member_model.specs.Moments.{AreMoments}
@@ -20,7 +20,7 @@ sent_by_moment-more own more moment start within = ap (λ (l : List BufferEntry)
 pub sent_by_all_calls : (own : List BufferEntry) (start : ℕ) → sent_by_moment own start (length own) ≡ length (own_sent own start)
 sent_by_all_calls own start = ap (λ (l : List BufferEntry). length (own_sent l start)) (take_all (length own) own (omega arith))
 
-pub sets_more : (name : List ℕ) (own more : List BufferEntry) (turns : List MemberTurn) (moments : List ℕ) (calls : ℕ) (sets : List DatabaseEntry) → calls ≤ length own → AreMoments turns moments calls
+pub sets_more : (name : List ℕ) (own more : List BufferEntry) (turns : List MemberTurn) (moments : List ℕ) (calls : ℕ) (sets : List WatchEntry) → calls ≤ length own → AreMoments turns moments calls
     → AreNumbersSet name own turns moments sets → AreNumbersSet name (own ++ more) turns moments sets
 sets_more name own more [] moments calls sets within are told = told
 sets_more name own more (t ∷ ts) [] calls sets within are told = absurd told

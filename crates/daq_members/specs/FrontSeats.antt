@@ -4,7 +4,7 @@ use Rattle.daq_types.specs.Callers.{caller_of_client}
 use Rattle.daq_types.specs.declared.events.Event.{Event}
 use Rattle.daq_types.specs.declared.runs.Order.{Order}
 use Rattle.buffer_core.specs.Ports.{Access}
-use Rattle.odb_port.specs.DatabasePorts.{DatabaseAccess, IsSamePort, own_calls}
+use Rattle.odb_port.specs.DatabasePorts.{DatabaseAccess, IsSamePort, own_watched}
 use Rattle.transitions.specs.declared.entry.EngineEntry.{EngineEntry}
 use Rattle.transition_lock.specs.declared.shared.SharedEngine.{SharedEngine}
 use Rattle.front_ends.specs.declared.front_run.FrontRun.{FrontRun}
@@ -30,7 +30,7 @@ pub record IsSeated {E : Type 0} (takes : E → Order → Bool) (makes : E → O
   pub database_caller : front.database.caller ≡ caller_of_client front.client
   pub size : 104 ≤ front.port.size
   pub stands : FrontMemberStands front.client front.name (takes front.equipment) (makes front.equipment) front.run
-      front.calls front.port.own (own_calls front.database)
+      front.calls front.port.own (own_watched front.database)
 
 module _ {E : Type 0} (takes : E → Order → Bool) (makes : E → Order → ℕ → Event) where
   -- a turn of the front-end, by what is seen of it before and behind

@@ -7,6 +7,7 @@ use Rattle.daq_types.specs.declared.runs.Transition.{Transition}
 use Rattle.buffer_core.specs.declared.entry.BufferEntry.{BufferEntry}
 use Rattle.buffer_core.specs.Ports.{Access}
 use Rattle.odb_tree.specs.declared.entry.DatabaseEntry.{DatabaseEntry}
+use Rattle.odb_watch.specs.declared.entry.WatchEntry.{WatchEntry}
 use Rattle.odb_port.specs.DatabasePorts.{DatabaseAccess, AddsCall}
 use Rattle.odb_runinfo.specs.RunSets.{IsSet, sent_set}
 use Rattle.transitions.specs.declared.answers.Answer.{Answer}
@@ -136,18 +137,20 @@ pub record TakesFront (t : FrontTaken) : Type 0 where
 -- What is kept at every moment between two turns.
 
 -- A front-end as a member, with its calls on the engine, on its buffer and on the database: it keeps the front-end's
--- contract over the turns that its calls on the engine tell, and says in the database how many events it sent.
+-- contract over the turns that its calls on the engine tell, says in the database how many events it sent, and makes
+-- no other call there.
 pub record FrontMemberStands (client : ℕ) (name : List ℕ) (takes : Order → Bool) (makes : Order → ℕ → Event)
-    (run : Option FrontRun) (calls : List EngineEntry) (own : List BufferEntry) (sets : List DatabaseEntry) : Type 0 where
+    (run : Option FrontRun) (calls : List EngineEntry) (own : List BufferEntry) (sets : List WatchEntry) : Type 0 where
   pub stands : FrontStands takes makes run own (member_turns client calls)
   pub moments : List ℕ
   pub kept : KeepsMoments own (member_turns client calls) moments
   pub told : AreEngineTurns (member_turns client calls) →
       AreNumbersSet name own (member_turns client calls) moments sets
 
--- It keeps the front-end's contract, its turns have moments, and its calls on the database are the sets of its turns.
+-- It keeps the front-end's contract, its turns have moments, and all its calls on the database are the sets of its
+-- turns.
 pub record KeepsFrontMember (name : List ℕ) (takes : Order → Bool) (makes : Order → ℕ → Event) (turns : List MemberTurn)
-    (own : List BufferEntry) (sets : List DatabaseEntry) : Type 0 where
+    (own : List BufferEntry) (sets : List WatchEntry) : Type 0 where
   pub keeps : KeepsFront takes makes own turns
   pub moments : List ℕ
   pub kept : KeepsMoments own turns moments
@@ -156,6 +159,6 @@ pub record KeepsFrontMember (name : List ℕ) (takes : Order → Bool) (makes : 
 -- So does each front-end that is a member.
 abbrev pub FrontKeeps : Type 0
 FrontKeeps = (client : ℕ) → (name : List ℕ) → (takes : Order → Bool) → (makes : Order → ℕ → Event) → (run : Option FrontRun) →
-    (calls : List EngineEntry) → (own : List BufferEntry) → (sets : List DatabaseEntry) →
+    (calls : List EngineEntry) → (own : List BufferEntry) → (sets : List WatchEntry) →
     FrontMemberStands client name takes makes run calls own sets →
     KeepsFrontMember name takes makes (member_turns client calls) own sets

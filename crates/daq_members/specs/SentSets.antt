@@ -4,6 +4,8 @@ use Rattle.std.specs.Prelude.{◌≡◌, ℕ, Bool, true, false, is_some, List, 
 use Rattle.daq_types.specs.declared.runs.Transition.{Transition}
 use Rattle.daq_types.specs.declared.runs.Transition.TheVariants.{Start, Stop, Pause, Resume, StartAbort}
 use Rattle.odb_tree.specs.declared.entry.DatabaseEntry.{DatabaseEntry}
+use Rattle.odb_watch.specs.declared.entry.WatchEntry.{WatchEntry}
+use Rattle.odb_watch.specs.declared.entry.WatchEntry.TheVariants.{Call}
 use Rattle.odb_runinfo.specs.RunSets.{IsSet, sent_set}
 use Rattle.buffer_core.specs.declared.entry.BufferEntry.{BufferEntry}
 use Rattle.member_model.specs.Turns.{MemberTurn, NoneOpen}
@@ -25,23 +27,23 @@ number_if false sent = None
 
 -- These calls are the earlier ones and one more, which sets the number in the front-end's key, whatever it was
 -- replied.
-pub record AddsNumber (name : List ℕ) (sent : ℕ) (earlier calls : List DatabaseEntry) : Type 0 where
+pub record AddsNumber (name : List ℕ) (sent : ℕ) (earlier calls : List WatchEntry) : Type 0 where
   pub entry : DatabaseEntry
   pub sets : IsSet (sent_set name sent) entry
-  pub whole : calls ≡ earlier ++ entry ∷ []
+  pub whole : calls ≡ earlier ++ Call entry ∷ []
 
 -- the same, where there is a number
-abbrev pub AddsNumberIf : (name : List ℕ) → Option ℕ → (earlier calls : List DatabaseEntry) → Type 0
+abbrev pub AddsNumberIf : (name : List ℕ) → Option ℕ → (earlier calls : List WatchEntry) → Type 0
 AddsNumberIf name None earlier calls = calls ≡ earlier
 AddsNumberIf name (Some sent) earlier calls = AddsNumber name sent earlier calls
 
--- The front-end's calls on the database are such sets alone: one for each of its turns at which a number is set, in
--- the order of the turns. The latest turn stands first, and so does its moment; all turns but the latest were
--- answered.
+-- All of the front-end's calls on the database, of whatever kind, are such sets: one for each of its turns at which a
+-- number is set, in the order of the turns. The latest turn stands first, and so does its moment; all turns but the
+-- latest were answered.
 abbrev pub AreNumbersSet : (name : List ℕ) → List BufferEntry → List MemberTurn → (moments : List ℕ) →
-    (calls : List DatabaseEntry) → Type 0
+    (calls : List WatchEntry) → Type 0
 AreNumbersSet name own [] moments calls = calls ≡ []
 AreNumbersSet name own (t ∷ ts) [] calls = ⊥
 AreNumbersSet name own (t ∷ ts) (m ∷ ms) calls =
-    NoneOpen ts × (earlier : List DatabaseEntry) × AreNumbersSet name own ts ms earlier ×
+    NoneOpen ts × (earlier : List WatchEntry) × AreNumbersSet name own ts ms earlier ×
     AddsNumberIf name (number_set_at t.transition (is_some t.answer) (sent_by_moment own t.order.start m)) earlier calls

@@ -4,8 +4,8 @@ ghost use Rattle.daq_types.specs.declared.runs.Order.{Order as RunOrder};
 ghost use Rattle.daq_types.specs.declared.runs.Transition.{Transition as TurnKind};
 ghost use Rattle.turn_lock.specs.Passes.{own_entries};
 ghost use Rattle.buffer_core.specs.declared.entry.BufferEntry.{BufferEntry};
-ghost use Rattle.odb_tree.specs.declared.entry.DatabaseEntry.{DatabaseEntry};
-ghost use Rattle.odb_port.specs.DatabasePorts.{IsSamePort, own_calls};
+ghost use Rattle.odb_watch.specs.declared.entry.WatchEntry.{WatchEntry};
+ghost use Rattle.odb_port.specs.DatabasePorts.{IsSamePort, own_watched};
 ghost use Rattle.odb_runinfo.specs.RunKeys.{sent_path};
 ghost use Rattle.transitions.specs.declared.replies.Polled.TheVariants.{Turn};
 ghost use Rattle.transitions.specs.declared.entry.EngineEntry.{EngineEntry};
@@ -95,8 +95,8 @@ fn set_sent<R: Wait, D: WatchPort>(
 )
     requires path { path.now ≡ sent_path name }
     ensures sets { SetsSent name number (D.access database.old) (D.access database.new) }
-    ensures own { AddsNumberIf name number (own_calls (D.access database.old))
-        (own_calls (D.access database.new)) }
+    ensures own { AddsNumberIf name number (own_watched (D.access database.old))
+        (own_watched (D.access database.new)) }
     ensures same { IsSamePort (D.access database.old) (D.access database.new) }
 {
     calls_add_up();
@@ -177,11 +177,11 @@ impl<'a, E: Equipment> FrontMember<'a, E> {
         ensures keeps { FrontMemberStands self.old.seat.client self.old.name
             (E.takes self.old.front.equipment) (E.makes self.old.front.equipment)
             self.old.front.run (own_entries self.old.seat.pass)
-            (P.access port.old).own (own_calls (D.access database.old)) →
+            (P.access port.old).own (own_watched (D.access database.old)) →
             FrontMemberStands self.old.seat.client self.old.name
             (E.takes self.old.front.equipment) (E.makes self.old.front.equipment)
             self.new.front.run (own_entries self.new.seat.pass)
-            (P.access port.new).own (own_calls (D.access database.new)) }
+            (P.access port.new).own (own_watched (D.access database.new)) }
     {
         let owed = self.seat.owed;
         match self.seat.poll(rt) {
@@ -220,7 +220,7 @@ impl<'a, E: Equipment> FrontMember<'a, E> {
         ensures equipment_makes { E.makes self.new.front.equipment
             ≡ E.makes self.old.front.equipment }
         ensures same_port { IsSameBufferPort (P.access port.old) (P.access port.new) }
-        ensures keeps { (calls : List EngineEntry) → (sets : List DatabaseEntry) →
+        ensures keeps { (calls : List EngineEntry) → (sets : List WatchEntry) →
             FrontMemberStands self.old.seat.client self.old.name
             (E.takes self.old.front.equipment) (E.makes self.old.front.equipment)
             self.old.front.run calls (P.access port.old).own sets →
@@ -268,11 +268,11 @@ impl<'a, E: Equipment> FrontMember<'a, E> {
             start_owed self.old.seat.client calls ≡ None →
             FrontMemberStands self.old.seat.client self.old.name
             (E.takes self.old.front.equipment) (E.makes self.old.front.equipment)
-            self.old.front.run calls own (own_calls (D.access database.old)) →
+            self.old.front.run calls own (own_watched (D.access database.old)) →
             FrontMemberStands self.old.seat.client self.old.name
             (E.takes self.old.front.equipment) (E.makes self.old.front.equipment)
             self.new.front.run (own_entries self.new.seat.pass) own
-            (own_calls (D.access database.new)) }
+            (own_watched (D.access database.new)) }
     {
         let sent = self.front.sent_in(order.start);
         let answer = self.front.on_turn(transition, order);
@@ -306,11 +306,11 @@ impl<'a, E: Equipment> FrontMember<'a, E> {
             start_owed self.old.seat.client calls ≡ Some start →
             FrontMemberStands self.old.seat.client self.old.name
             (E.takes self.old.front.equipment) (E.makes self.old.front.equipment)
-            self.old.front.run calls own (own_calls (D.access database.old)) →
+            self.old.front.run calls own (own_watched (D.access database.old)) →
             FrontMemberStands self.old.seat.client self.old.name
             (E.takes self.old.front.equipment) (E.makes self.old.front.equipment)
             self.new.front.run (own_entries self.new.seat.pass) own
-            (own_calls (D.access database.new)) }
+            (own_watched (D.access database.new)) }
     {
         let sent = self.front.sent_in(start);
         let answer = self.front.finish();

@@ -1,7 +1,7 @@
 // A front-end in a session, with what it calls.
 ghost use Rattle.std.specs.Prelude.{◌≡◌, ◌≤◌, []};
 ghost use Rattle.daq_types.specs.Callers.{caller_of_client};
-ghost use Rattle.odb_port.specs.DatabasePorts.{own_calls};
+ghost use Rattle.odb_port.specs.DatabasePorts.{own_watched};
 ghost use Rattle.turn_lock.specs.Passes.{own_entries};
 ghost use Rattle.daq_members.specs.FrontTaken.{TakesFront, FrontMemberStands};
 
@@ -59,7 +59,7 @@ impl<'a, E: Equipment, P: EndlessPort, D: WatchPort> FrontSeat<'a, E, P, D> {
         requires stands { FrontMemberStands member.seat.client member.name
             (E.takes member.front.equipment) (E.makes member.front.equipment)
             member.front.run (own_entries member.seat.pass) (P.access port).own
-            (own_calls (D.access database)) }
+            (own_watched (D.access database)) }
         requires caller { (P.access port).caller ≡ caller_of_client member.seat.client }
         requires database_caller { (D.access database).caller
             ≡ caller_of_client member.seat.client }

@@ -1,4 +1,4 @@
-use Rattle.composition.proofs.NeededSessions.{all_met, buffers_needed, engine_needed, names_needed, members_needed, fronts_needed, moments_needed, sets_needed, logger_needed, events_needed, analyzers_needed, fronts_there, analyzers_there, logger_there_needed, dump_needed}
+use Rattle.composition.proofs.NeededSessions.{all_met, buffers_needed, engine_needed, names_needed, members_needed, fronts_needed, moments_needed, sets_needed, alone_needed, logger_needed, events_needed, analyzers_needed, fronts_there, analyzers_there, logger_there_needed, dump_needed}
 use Rattle.composition.proofs.CountedSampled.{counted_needed}
 use Rattle.composition.proofs.laws.needs_each_premise.Goals as goal
 
@@ -13,6 +13,7 @@ returns c =
       fronts = fronts_needed;
       moments = moments_needed;
       sets = sets_needed;
+      sets_alone = alone_needed;
       logger = logger_needed;
       events = events_needed;
       analyzers = analyzers_needed;

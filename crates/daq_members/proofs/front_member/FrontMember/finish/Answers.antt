@@ -4,7 +4,7 @@ use Rattle.front_ends.specs.FrontKept.{FrontStands}
 use Rattle.member_model.specs.Turns.{latest_answered}
 use Rattle.turn_lock.specs.Passes.{own_entries}
 use Rattle.member_model.specs.TurnCalls.{member_turns}
-use Rattle.odb_port.specs.DatabasePorts.{own_calls}
+use Rattle.odb_port.specs.DatabasePorts.{own_watched}
 use Rattle.daq_members.proofs.OwnTurnLaws.{finished_turns}
 use Rattle.daq_members.proofs.FrontMemberLaws.{finished_stands, engine_unanswered}
 use Rattle.daq_members.proofs.front_member.FrontMember.finish.Goals as goal
@@ -18,7 +18,7 @@ returns-clause-keeps g c = λ calls own transition order dump blank asked owed m
     let takes = g.E.Equipment.takes front.equipment in
     let makes = g.E.Equipment.makes front.equipment in
     finished_stands self.seat.client self.name takes makes front.run ended.new.self.run calls (own_entries c.give.new.self.pass) own
-    (own_calls (g.D.DatabasePort.access c.args.database.now)) (own_calls (g.D.DatabasePort.access c.set_sent.new.database))
+    (own_watched (g.D.DatabasePort.access c.args.database.now)) (own_watched (g.D.DatabasePort.access c.set_sent.new.database))
     c.args.start ended.result member ended.ensures.answer owed
     (finished_turns self.seat.client calls (own_entries self.seat.pass) (own_entries c.give.new.self.pass) transition order dump blank c.args.start ended.result owed asked c.give.ensures.gives)
     -- the equipment is the same behind the call

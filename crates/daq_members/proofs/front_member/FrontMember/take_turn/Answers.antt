@@ -4,7 +4,7 @@ use Rattle.front_ends.specs.Fronts.{FrontState, front_turn}
 use Rattle.front_ends.specs.FrontKept.{FrontStands}
 use Rattle.turn_lock.specs.Passes.{own_entries}
 use Rattle.member_model.specs.TurnCalls.{member_turns}
-use Rattle.odb_port.specs.DatabasePorts.{own_calls}
+use Rattle.odb_port.specs.DatabasePorts.{own_watched}
 use Rattle.daq_members.proofs.OwnTurnLaws.{none_open, taken_turns}
 use Rattle.daq_members.proofs.FrontMemberLaws.{taken_stands}
 use Rattle.daq_members.proofs.front_member.FrontMember.take_turn.Goals as goal
@@ -18,7 +18,7 @@ returns-clause-keeps g c = λ calls own dump blank asked none member.
     let takes = g.E.Equipment.takes front.equipment in
     let makes = g.E.Equipment.makes front.equipment in
     taken_stands self.seat.client self.name takes makes front.run turn.new.self.run calls (own_entries c.give.new.self.pass) own
-    (own_calls (g.D.DatabasePort.access c.args.database.now)) (own_calls (g.D.DatabasePort.access c.set_sent.new.database))
+    (own_watched (g.D.DatabasePort.access c.args.database.now)) (own_watched (g.D.DatabasePort.access c.set_sent.new.database))
     c.args.transition c.args.order.now dump turn.result member (none_open (member_turns self.seat.client calls) none)
     (taken_turns self.seat.client calls (own_entries self.seat.pass) (own_entries c.give.new.self.pass) c.args.transition c.args.order.now dump blank turn.result none asked c.give.ensures.gives)
     -- the equipment is the same behind the turn

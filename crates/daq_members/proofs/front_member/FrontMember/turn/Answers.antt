@@ -3,7 +3,7 @@ use Rattle.std.proofs.Common.{ap, sym, refl, ◌∙◌}
 use Rattle.turn_lock.specs.Passes.{own_entries}
 use Rattle.transitions.specs.declared.replies.Polled.TheVariants.{Idle, Closed, NoClient}
 use Rattle.member_model.specs.TurnCalls.{member_turns}
-use Rattle.odb_port.specs.DatabasePorts.{own_calls}
+use Rattle.odb_port.specs.DatabasePorts.{own_watched}
 use Rattle.daq_members.specs.declared.seat.Seat.{Seat}
 use Rattle.daq_members.specs.FrontTaken.{turned_by, is_sent}
 use Rattle.daq_members.proofs.OwnTurnLaws.{idle_turns, closed_turns, unknown_turns}
@@ -55,7 +55,7 @@ returns-in-Idle-clause-keeps g c = λ member.
     let idle = same_turns_stand self.seat.client self.name _ _ self.front.run (own_entries self.seat.pass) (own_entries c.poll.new.self.pass) _ _
     (ap (member_turns self.seat.client) (rw c.in-Idle.is at c.poll.ensures.asked) ∙ idle_turns self.seat.client (own_entries self.seat.pass) c.in-Idle.state) member in
     rw (c.poll.ensures.client, ← c.step.ensures.seat) at
-    (c.step.ensures.keeps (own_entries c.poll.new.self.pass) (own_calls (g.D.DatabasePort.access c.args.database.now)) (rw (← c.poll.ensures.client) at idle))
+    (c.step.ensures.keeps (own_entries c.poll.new.self.pass) (own_watched (g.D.DatabasePort.access c.args.database.now)) (rw (← c.poll.ensures.client) at idle))
 
 pub returns-in-None-clause-takes : goal.returns-in-None-clause-takes
 returns-in-None-clause-takes g c =
@@ -99,7 +99,7 @@ returns-clause-takes g c =
 pub returns-clause-keeps : goal.returns-clause-keeps
 returns-clause-keeps g c = λ member.
     let self = c.args.self.now in
-    let stepped = c.step-step.ensures.keeps (own_entries self.seat.pass) (own_calls (g.D.DatabasePort.access c.args.database.now)) (rw (← c.poll.ensures.client) at member) in
+    let stepped = c.step-step.ensures.keeps (own_entries self.seat.pass) (own_watched (g.D.DatabasePort.access c.args.database.now)) (rw (← c.poll.ensures.client) at member) in
     rw (c.step-step.ensures.seat, c.step-step.ensures.name, c.step-step.ensures.equipment_takes, c.step-step.ensures.equipment_makes, c.poll.ensures.client) at
     (c.finish-answered.ensures.keeps (own_entries self.seat.pass) (g.P.BufferPort.access c.step-step.new.port).own c.in-Turn.transition c.in-Turn.order c.in-Turn.dump c.in-Turn.blank
     (rw (← c.poll.ensures.client, ← c.step-step.ensures.seat) at (rw c.in-Turn.is at c.poll.ensures.asked))
