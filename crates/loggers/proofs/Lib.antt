@@ -23,3 +23,4 @@ pub mod FinishedLogger
 pub mod NewStands
 pub mod TurnParts
 pub mod EndedReady
+pub mod KnownBefore

@@ -44,12 +44,12 @@ none_before ports buffer p q there still none k x at = elim (same_or_other k buf
 pub none_called : (entry : BufferEntry) (buffer : ℕ) (a b : LoggerMoment) → CallsBuffer entry buffer a b → NoneTakenBack b.ports → NoneTakenBack a.ports
 none_called entry buffer a b called none = none_before a.ports buffer called.port called.later_port called.at_port called.called.still_known (subst (λ (l : List Access). NoneTakenBack l) called.ports none)
 
-none_stepped : (Step : ChannelStep → Type 0) (n : ℕ) (before : Channel) (a b : LoggerMoment) (s : StepsChannel Step n before a b) → StillKnown s.port s.later_port → NoneTakenBack b.ports → NoneTakenBack a.ports
+pub none_stepped : (Step : ChannelStep → Type 0) (n : ℕ) (before : Channel) (a b : LoggerMoment) (s : StepsChannel Step n before a b) → StillKnown s.port s.later_port → NoneTakenBack b.ports → NoneTakenBack a.ports
 none_stepped Step n before a b s still none = none_before a.ports before.spec.buffer s.port s.later_port s.at_port still (subst (λ (l : List Access). NoneTakenBack l) s.ports none)
 
 -- Opening a run.
 
-same_known : (a b : Access) → b ≡ a → StillKnown a b
+pub same_known : (a b : Access) → b ≡ a → StillKnown a b
 same_known a b same call has = subst (λ (x : Access). Contains x.taken_back call) (sym same) has
 
 client_known : (client later : Option ℕ) (a b : Access) → HasClient client later a b → StillKnown a b

@@ -120,7 +120,7 @@ aborted_all laws H turns count a b steps stands =
     turns_keep (λ number. StepsAt AbortsChannel number) (λ (m : LoggerMoment). SlotsStand H turns m.slots m.ports m.files.seen) count a b
     (λ k x y step kept. abort_stands laws.left laws.aborts_keep laws.aborts_change laws.aborts_beside laws.files H turns k (slot_at x.slots k) x y refl step kept) steps stands
 
-none_aborts : (a b : LoggerMoment) → AbortsAll a b → NoneTakenBack b.ports → NoneTakenBack a.ports
+pub none_aborts : (a b : LoggerMoment) → AbortsAll a b → NoneTakenBack b.ports → NoneTakenBack a.ports
 none_aborts a b aborts none = none_turns (λ number. StepsAt AbortsChannel number) (length a.slots) a b (λ k x y step. none_aborted k (slot_at x.slots k) x y step) aborts none
 
 -- A start.

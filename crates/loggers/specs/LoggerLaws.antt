@@ -1,9 +1,11 @@
 -- What each call keeps of what a logger keeps between its calls.
-use Rattle.std.specs.Prelude.{◌≤◌, List, [], ◌∷◌, length, unwrap_or}
+use Rattle.std.specs.Prelude.{◌≤◌, ℕ, List, [], ◌∷◌, length, unwrap_or}
 use Rattle.daq_model.specs.Events.{record_limit}
 use Rattle.buffer_core.specs.Ports.{Access}
 use Rattle.member_model.specs.Turns.{MemberTurn, NoneOpen, latest_answered}
-use Rattle.loggers.specs.Moments.{HaveFilesOpen, IsLoggerReady}
+use Rattle.mid_logger.specs.declared.pulled.Pulled.{Pulled}
+use Rattle.loggers.specs.Moments.{LoggerMoment, HaveFilesOpen, IsLoggerReady}
+use Rattle.loggers.specs.SlotPulls.{PullsNumbered}
 use Rattle.loggers.specs.Turning.{LoggerTurn, TakesTurn, IsIdleOutside}
 use Rattle.loggers.specs.Finishing.{LoggerFinish, FinishesLogger}
 use Rattle.loggers.specs.NewLoggers.{NoneTakenBack}
@@ -26,3 +28,12 @@ abbrev pub FinishesKeep : Type 0
 FinishesKeep = (f : LoggerFinish) → (ports : List Access) → (turns : List MemberTurn) → FinishesLogger f →
     HaveFilesOpen f.slots f.files.seen → LoggerStands f.run f.stop_dump f.slots ports turns f.files.seen →
     LoggerStands f.later_run f.later_stop_dump f.later_slots ports (latest_answered turns f.answer) f.later_files.seen
+
+-- Where behind a turn no client of the logger is known to be detached by another, none was known before it.
+abbrev pub TurnsLeaveKnown : Type 0
+TurnsLeaveKnown = (t : LoggerTurn) → TakesTurn t → NoneTakenBack t.after.ports → NoneTakenBack t.before.ports
+
+-- The same of a pull.
+abbrev pub PullsLeaveKnown : Type 0
+PullsLeaveKnown = (number : ℕ) → (answer : Pulled) → (a b : LoggerMoment) → PullsNumbered number answer a b →
+    NoneTakenBack b.ports → NoneTakenBack a.ports

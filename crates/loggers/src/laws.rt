@@ -1,6 +1,6 @@
 //! What a logger keeps: each function does nothing, and its contract is the law.
 
-ghost use Rattle.loggers.specs.LoggerLaws.{FinishesKeep, TurnsKeep};
+ghost use Rattle.loggers.specs.LoggerLaws.{FinishesKeep, TurnsKeep, TurnsLeaveKnown, PullsLeaveKnown};
 ghost use Rattle.loggers.specs.LoggerStands.{LoggerKeeps};
 
 use mid_logger::laws as channel_laws;
@@ -34,3 +34,9 @@ pub fn finishes_keep()
     channel_laws::closes_beside();
     channel_laws::closes_kept();
 }
+
+/// What was known before a turn or a pull of clients that others detached is known behind it.
+pub fn still_known()
+    ensures turns { TurnsLeaveKnown }
+    ensures pulls { PullsLeaveKnown }
+{}
