@@ -28,7 +28,7 @@ use Rattle.odb_runinfo.specs.RunSets.{number_asked}
 use Rattle.daq_session.specs.RunCalls.{key_made, is_settled, opens_session}
 use Rattle.daq_session.specs.Stages.{Outset, Stage, OpensSession, CallsLine, CallsStart, Interrupts, called, opened_by}
 use Rattle.daq_session.specs.Standing.{Course, stage_of, order_in, IsAt, IsReady, HandlesBy}
-use Rattle.daq_session.proofs.OwnCalls.{StandAlone, MainCalls, call_noted, main_adds, main_calls, main_none}
+use Rattle.daq_session.proofs.OwnCalls.{StandAlone, MainCalls, none_noted, call_noted, main_adds, main_calls, main_none}
 use Rattle.daq_session.proofs.TransitionLaws.{stand_more}
 
 -- Of the main thread's calls the first were made.
@@ -175,7 +175,7 @@ opening_broken : StandAlone → (old : Session) (d e : CalledDatabase) → d.his
     → (c : Course) → Interrupts (Ok Start) (stage_of old c) (with_calls (stage_of old c) e.history)
 opening_broken alone old d e same main idle shut (inl none) c =
     interrupts_opening (stage_of old c) (with_calls (stage_of old c) e.history) [] shut (idle_stage old c idle) tt refl
-    (calls_stage (stage_of old c) old.database.history e.history [] refl refl (main_none old.database.history e.history (ap (λ (a : _). a.seen) none ∙ same)))
+    (calls_stage (stage_of old c) old.database.history e.history [] refl refl (main_none old.database.history e.history (none_noted alone d e none ∙ same)))
 opening_broken alone old d e same main idle shut (inr add) c =
     interrupts_opening (stage_of old c) (with_calls (stage_of old c) e.history) (key_made (Err no_memory) ∷ []) shut (idle_stage old c idle) (inr (refl, refl)) refl
     (calls_stage (stage_of old c) old.database.history e.history (key_made (Err no_memory) ∷ []) refl refl

@@ -17,6 +17,10 @@ use Rattle.daq_session.specs.RunTransitions.{CallsMore, HoldsTransition}
 abbrev pub StandAlone : Type 0
 StandAlone = (d e : CalledDatabase) (calls : List DatabaseEntry) → AddsCalls (local_access d) (local_access e) calls → e.history ≡ d.history ++ calls_by d.caller calls
 
+-- where no call was made, none was noted
+pub none_noted : StandAlone → (d e : CalledDatabase) → local_access e ≡ local_access d → e.history ≡ d.history
+none_noted alone d e none = alone d e [] none ∙ append-nil d.history
+
 pub calls_noted : StandAlone → (d e : CalledDatabase) (caller : ℕ) (calls : List DatabaseEntry) → d.caller ≡ caller → AddsCalls (local_access d) (local_access e) calls → e.history ≡ d.history ++ calls_by caller calls
 calls_noted alone d e caller calls is adds = alone d e calls adds ∙ ap (λ (by : ℕ). d.history ++ calls_by by calls) is
 

@@ -15,7 +15,7 @@ use Rattle.odb_runinfo.specs.RunSets.{AsksKey, GetsNumber, have_of, next_run, se
 use Rattle.odb_script.specs.declared.forms.Command.{Command}
 use Rattle.odb_script.specs.declared.forms.Command.TheVariants.{Start}
 use Rattle.odb_script.specs.declared.refusals.LineRefusal.{LineRefusal}
-use Rattle.odb_port.specs.DatabasePorts.{DatabaseAccess, IsCutShort, IsSettled}
+use Rattle.odb_port.specs.DatabasePorts.{IsCutShort, IsSettled}
 use Rattle.daq_session.specs.declared.halts.Halt.{Halt}
 use Rattle.daq_session.specs.declared.halts.Halt.TheVariants.{NoMemory, SinkFault, FileFault}
 use Rattle.session_console.specs.FrontNames.{front_name}
@@ -31,7 +31,7 @@ use Rattle.daq_session.specs.RunCalls.{key_made}
 use Rattle.daq_session.specs.Stages.{Outset, Stage, DoesByLine, DoesStart, OpensSession, StartsFrom, StartsRun, Interrupts, called}
 use Rattle.daq_session.specs.Standing.{Course, behind_reply, stage_of, order_in, IsAt, IsReady, Breaks, Stays, FailsLine, FailsTurn, LineDoes, Handles, HandlesRun}
 use Rattle.daq_session.specs.BrokenRuns.{turning}
-use Rattle.daq_session.proofs.OwnCalls.{StandAlone, MainCalls, call_noted, main_calls, main_none}
+use Rattle.daq_session.proofs.OwnCalls.{StandAlone, MainCalls, none_noted, call_noted, main_calls, main_none}
 use Rattle.daq_session.proofs.TransitionLaws.{more_none, more_after}
 use Rattle.daq_session.proofs.Leading.{stage_is}
 use Rattle.daq_session.proofs.Interrupting.{at_same, calls_stage, interrupts_start, memory_handled, with_calls}
@@ -61,7 +61,7 @@ pub opened_more : StandAlone → (p : List (ℕ × DatabaseEntry)) (d e : Called
 opened_more alone p d e front same main asks = (main_call alone p d e (sent_key_made front asks.reply) same main asks.called).more
 
 pub may_more : StandAlone → (p : List (ℕ × DatabaseEntry)) (d e : CalledDatabase) (entry : DatabaseEntry) → d.history ≡ p → d.caller ≡ 0 → MayAdd (local_access d) (local_access e) entry → CallsMore p e.history
-may_more alone p d e entry same main (inl none) = more_none p e.history (ap (λ (a : DatabaseAccess). a.seen) none ∙ same)
+may_more alone p d e entry same main (inl none) = more_none p e.history (none_noted alone d e none ∙ same)
 may_more alone p d e entry same main (inr add) = (main_call alone p d e entry same main add).more
 
 -- nothing was done but that room was made
@@ -199,7 +199,7 @@ asked_by alone opened asked run next is main is_quota is_starts is_opened is_run
 -- a start that found no memory for the number
 number_cut : StandAlone → (old opened new : Session) → IsOpened old opened → opened.database.caller ≡ 0 → MayAdd (local_access opened.database) (local_access new.database) (number_asked (Err no_memory))
     → (made : List DatabaseEntry) × IsCutShort (number_asked (Err no_memory) ∷ []) made × MainCalls opened.database.history new.database.history made
-number_cut alone old opened new is main (inl none) = ([], tt, main_none opened.database.history new.database.history (ap (λ (a : DatabaseAccess). a.seen) none))
+number_cut alone old opened new is main (inl none) = ([], tt, main_none opened.database.history new.database.history (none_noted alone opened.database new.database none))
 number_cut alone old opened new is main (inr add) =
     (number_asked (Err no_memory) ∷ [], inl (refl, tt), main_call alone opened.database.history opened.database new.database (number_asked (Err no_memory)) refl main add)
 
