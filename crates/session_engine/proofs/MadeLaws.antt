@@ -1,8 +1,7 @@
 -- The replies that the main thread can tell before, and a transition that it makes.
-use Rattle.std.specs.Prelude.{◌≡◌, ◌≢◌, ℕ, zero, suc, ◌+◌, ◌≤◌, ◌<◌, Bool, true, false, nat_lt, if◌then◌else◌, List, [], ◌∷◌, ◌++◌, length, map, take, get_or, replicate, Option, Some, None, Result, Ok, Err, refl, ⊤}
+use Rattle.std.specs.Prelude.{◌≡◌, ℕ, zero, suc, ◌+◌, ◌≤◌, ◌<◌, Bool, false, if◌then◌else◌, List, [], ◌∷◌, ◌++◌, length, map, take, get_or, Option, Some, None, Result, Ok, Err, refl, ⊤}
 use Rattle.std.proofs.Common.{ap, sym, subst, ◌∙◌, arith, append_assoc, append-nil}
 use Rattle.std.proofs.lemmas.Bool.{lt-ltb}
-use Rattle.daq_types.specs.Callers.{main_caller}
 use Rattle.daq_types.specs.declared.runs.RunState.{RunState}
 use Rattle.daq_types.specs.declared.runs.Transition.{Transition}
 use Rattle.daq_types.specs.declared.runs.StartOutcome.{StartOutcome}
@@ -24,15 +23,14 @@ use Rattle.transitions.specs.Limits.{most_clients}
 use Rattle.transitions.specs.Engines.{Underway, EngineState}
 use Rattle.transitions.specs.EnginePoints.{engine_past}
 use Rattle.std.proofs.lemmas.List.{length-append, length-take-le, take_more}
-use Rattle.transitions.specs.EngineCalls.{register_reply, register_reply_in, close_reply_in, progress_of, check_reply_in, tallies_in}
+use Rattle.transitions.specs.EngineCalls.{register_reply_in, close_reply_in, progress_of, check_reply_in, tallies_in}
 use Rattle.session_engine.specs.declared.opening.MemberName.{MemberName}
 use Rattle.session_engine.specs.Members.{gets_dumps, gets_reports, registration, registrations}
 use Rattle.run_states.specs.Sequences.{sequences_of}
 use Rattle.session_engine.specs.MainKnowledge.{MainKnows, state_ended, known_at, known_from, known_behind, by_main, begin_known}
-use Rattle.session_engine.proofs.KnownSteps.{KnowsTransition, Knows, begin_same}
+use Rattle.session_engine.proofs.KnownSteps.{KnowsTransition, begin_same}
 use Rattle.session_engine.proofs.KnownCalls.{AtCall, known_more}
 use Rattle.session_engine.specs.MadeTransitions.{going_checks, done_check, HadRounds, WaitsForEnd, DrivesTransition}
-use Rattle.transitions.specs.TurnOrder.{number_with}
 
 -- Replies.
 

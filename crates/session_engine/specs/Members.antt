@@ -1,7 +1,7 @@
 -- The members of a session at the engine.
 use Rattle.std.specs.Prelude.{ℕ, suc, Bool, true, false, List, [], ◌∷◌, Ok}
 use Rattle.run_states.specs.declared.sequences.Role.{Role}
-use Rattle.run_states.specs.declared.sequences.Role.TheVariants.{FrontEnd, Logger, Analyzer}
+use Rattle.run_states.specs.declared.sequences.Role.TheVariants.{Logger, Analyzer}
 use Rattle.run_states.specs.Sequences.{sequences_of}
 use Rattle.transitions.specs.declared.entry.EngineEntry.{EngineEntry}
 use Rattle.transitions.specs.declared.entry.EngineEntry.TheVariants.{Register}

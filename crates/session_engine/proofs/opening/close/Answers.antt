@@ -1,6 +1,5 @@
-use Rattle.std.specs.Prelude.{◌≡◌, ◌++◌, [], ◌∷◌}
+use Rattle.std.specs.Prelude.{◌++◌, [], ◌∷◌}
 use Rattle.std.proofs.Common.{ap, ◌∙◌}
-use Rattle.transitions.specs.declared.entry.EngineEntry.{EngineEntry}
 use Rattle.transitions.specs.declared.entry.EngineEntry.TheVariants.{Close}
 use Rattle.turn_lock.specs.Passes.{number_of, seen_by, own_entries}
 use Rattle.transition_lock.specs.SharedEngines.{first_engine}

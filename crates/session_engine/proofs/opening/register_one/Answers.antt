@@ -1,4 +1,4 @@
-use Rattle.std.specs.Prelude.{◌≡◌, ◌++◌, [], ◌∷◌, length}
+use Rattle.std.specs.Prelude.{◌++◌, [], ◌∷◌, length}
 use Rattle.std.proofs.Common.{ap, ◌∙◌}
 use Rattle.transitions.specs.declared.entry.EngineEntry.{EngineEntry}
 use Rattle.transitions.specs.declared.entry.EngineEntry.TheVariants.{Register}
