@@ -23,3 +23,7 @@ pub mod FinishedLogger
 pub mod NewStands
 pub mod TurnParts
 pub mod EndedReady
+pub mod OwnCalls
+pub mod TurnsOwn
+pub mod TurnUses
+pub mod FaultsNoted

@@ -1,14 +1,14 @@
 //! What a logger keeps: each function does nothing, and its contract is the law.
 
 ghost use Rattle.loggers.specs.LoggerLaws.{FinishesKeep, TurnsKeep};
-ghost use Rattle.loggers.specs.LoggerStands.{LoggerKeeps};
+ghost use Rattle.loggers.specs.LoggerStands.{StandingLoggerKeeps};
 
 use mid_logger::laws as channel_laws;
 
 /// What a logger keeps between its calls has the logger's contract: each channel that told to have ended has
 /// written its run, and each that told to be broken a part of it.
 pub fn logger_keeps()
-    ensures { LoggerKeeps }
+    ensures { StandingLoggerKeeps }
 {}
 
 /// What a logger keeps before a turn it keeps behind it.
