@@ -24,3 +24,7 @@ pub mod NewStands
 pub mod TurnParts
 pub mod EndedReady
 pub mod KnownBefore
+pub mod OwnCalls
+pub mod TurnsOwn
+pub mod TurnUses
+pub mod FaultsNoted

@@ -1,19 +1,24 @@
 -- What a new logger keeps.
-use Rattle.std.specs.Prelude.{◌≡◌, ℕ, List, [], ◌∷◌, ◌++◌, slice_get, Option, Some, None, Ok}
+use Rattle.std.specs.Prelude.{◌≡◌, ◌≤◌, ◌-◌, ◌||◌, min, ℕ, suc, Bool, true, false, refl, List, [], ◌∷◌, ◌++◌, slice_get, Option, Some, None, Ok}
 use Rattle.std.proofs.Common.{ap, sym, subst, ◌∙◌, arith}
+use Rattle.daq_model.specs.Events.{event_limit}
 use Rattle.daq_io.specs.Seen.{Seen}
 use Rattle.buffer_core.specs.declared.entry.BufferEntry.{BufferEntry}
 use Rattle.buffer_core.specs.declared.entry.BufferEntry.TheVariants.{End}
 use Rattle.buffer_core.specs.Ports.{Access}
-use Rattle.buffer_core.specs.Slots.{slot_at}
+use Rattle.buffer_core.specs.Slots.{slot_at, some_slot}
 use Rattle.member_model.specs.CutRuns.{MarksEnd}
 use Rattle.mid_logger.specs.declared.channel.Channel.{Channel}
 use Rattle.mid_logger.specs.declared.channel_spec.ChannelSpec.{ChannelSpec}
 use Rattle.mid_logger.specs.declared.stage.ChannelStage.{ChannelStage}
 use Rattle.mid_logger.specs.declared.stage.ChannelStage.TheVariants.{Idle}
-use Rattle.mid_logger.specs.Channels.{FileHead, ChannelStands, channel_run, written_run}
+use Rattle.mid_logger.specs.Channels.{FileHead, KeepsOwnCalls, IsOwnClient, ChannelStands, channel_run, written_run}
+use Rattle.mid_logger.specs.ChannelTurns.{asking_run}
 use Rattle.loggers.specs.Moments.{IsLoggerReady}
-use Rattle.loggers.specs.NewLoggers.{IsNewChannel, HasNewChannels, AreUnused, HavePorts}
+use Rattle.loggers.specs.SlotPulls.{HasEventRoom}
+use Rattle.loggers.specs.LoggerCalls.{KeepsLoggerCalls}
+use Rattle.loggers.specs.LoggerFaults.{HasFailed}
+use Rattle.loggers.specs.NewLoggers.{IsNewChannel, HasNewChannels, AreUnused, HavePorts, HaveRooms}
 use Rattle.loggers.specs.LoggerStands.{IsHeadTold, PortKept, SlotsStand, LoggerStands}
 
 -- a channel of a new logger is idle and has no client
@@ -93,3 +98,39 @@ new_ready specs rooms slots ports seen new have = record {
     numbers = λ n m c d differ first second r s is other_is. absurd (let never : None ≡ Some r = sym (ap (λ (x : ChannelStage). written_run x) (fresh_at specs rooms slots n c new first).stage) ∙ is in cc (never));
   };
 }
+
+-- each channel has room for the events of its buffer, where the rooms of the specs are enough
+pub new_room : (specs : List ChannelSpec) (rooms : List ℕ) (slots : List (Option Channel)) (ports : List Access) → HasNewChannels specs rooms slots → HaveRooms specs rooms ports → (number : ℕ) → HasEventRoom number slots ports
+new_room specs rooms slots ports new have number c a stood at =
+    let place : ℕ = (new.only number c stood).1.0 in
+    let made : IsNewChannel specs rooms place c = (new.only number c stood).1.1 in
+    let spec : c.spec ≡ made.spec = ap (λ (x : Channel). x.spec) made.is in
+    let room : c.event.room ≡ made.room = ap (λ (x : Channel). x.event.room) made.is in
+    let at_spec : slice_get ports made.spec.buffer ≡ Some a = subst (λ (s : ChannelSpec). slice_get ports s.buffer ≡ Some a) spec at in
+    subst (λ (r : ℕ). min event_limit (a.size - 24) ≤ r) (sym room) (have place made.room made.spec a made.has_spec made.has_room at_spec)
+
+-- a new logger has made no call
+pub new_own : (specs : List ChannelSpec) (rooms : List ℕ) (slots : List (Option Channel)) (ports : List Access) → HasNewChannels specs rooms slots → AreUnused ports → KeepsLoggerCalls slots ports
+new_own specs rooms slots ports new unused = record {
+  calls = λ buffer a at.
+      let none : KeepsOwnCalls [] = record { sends_none = tt; own_calls = tt } in
+      subst (λ (l : List BufferEntry). KeepsOwnCalls l) (sym (unused buffer a at).0) none;
+  clients = λ n c a stood at.
+      let f : IsFresh specs c = fresh_at specs rooms slots n c new stood in
+      subst (λ (client : Option ℕ). IsOwnClient client a.own) (sym f.client) tt;
+  asking = λ n c opened stood is.
+      let f : IsFresh specs c = fresh_at specs rooms slots n c new stood in
+      absurd (let never : None ≡ Some opened = sym (ap (λ (s : ChannelStage). asking_run s) f.stage) ∙ is in cc (never));
+}
+
+none_failed : (slots : List (Option Channel)) → ((n : ℕ) (c : Channel) → slot_at slots n ≡ Some c → c.failed ≡ false) → some_slot (λ (c : Channel). c.failed) slots ≡ false
+none_failed [] each = refl
+none_failed (None ∷ os) each = none_failed os (λ n c there. each (suc n) c there)
+none_failed (Some c ∷ os) each = ap (λ (b : Bool). b || some_slot (λ (x : Channel). x.failed) os) (each 0 c refl) ∙ none_failed os (λ n d there. each (suc n) d there)
+
+-- no call on the files was made yet
+pub new_failed : (specs : List ChannelSpec) (rooms : List ℕ) (slots : List (Option Channel)) → HasNewChannels specs rooms slots → HasFailed slots → ⊥
+new_failed specs rooms slots new failed =
+    let none : some_slot (λ (c : Channel). c.failed) slots ≡ false = none_failed slots (λ n c stood. ap (λ (x : Channel). x.failed) (new.only n c stood).1.1.is) in
+    let both : true ≡ false = sym failed ∙ none in
+    cc (both)

@@ -2,6 +2,7 @@
 use Rattle.std.specs.Prelude.{◌≡◌, ◌==◌, ℕ, Bool, true, false, if◌then◌else◌, nat_lt, List, length, slice_get, slice_set, Option, Some, None, Result, Ok, Err, ⊤, refl}
 use Rattle.std.specs.Option.{option_map}
 use Rattle.std.proofs.Common.{ap, sym, subst, ◌∙◌, inl, inr}
+use Rattle.std.proofs.lemmas.List.{length-set}
 use Rattle.daq_types.specs.declared.events.Event.{Event}
 use Rattle.daq_types.specs.declared.runs.Order.{Order}
 use Rattle.daq_types.specs.declared.runs.Transition.{Transition}
@@ -50,6 +51,7 @@ called_access a b entry got called = (called.buffer, called.caller, called.size)
 
 pub same_ports : (ports : List Access) → AreSamePorts ports ports
 same_ports ports = record {
+  many = refl;
   there = λ buffer b at. (b, at);
   same = λ buffer a b one other.
       let both : Some a ≡ Some b = sym one ∙ other in
@@ -59,6 +61,7 @@ same_ports ports = record {
 
 pub ports_then : (ports between later : List Access) → AreSamePorts ports between → AreSamePorts between later → AreSamePorts ports later
 ports_then ports between later one two = record {
+  many = two.many ∙ one.many;
   there = λ buffer c at. let b : (b : Access) × (slice_get between buffer ≡ Some b) = two.there buffer c at in one.there buffer b.0 b.1;
   same = λ buffer a c first last.
       let b : (b : Access) × (slice_get between buffer ≡ Some b) = two.there buffer c last in
@@ -68,6 +71,7 @@ ports_then ports between later one two = record {
 -- one port was called
 port_set : (ports : List Access) (buffer : ℕ) (p q : Access) → slice_get ports buffer ≡ Some p → IsSameAccess p q → AreSamePorts ports (slice_set ports buffer q)
 port_set ports buffer p q there same = record {
+  many = length-set ports buffer q;
   there = λ n b at. elim (same_or_other n buffer) as (λ w. (a : Access) × (slice_get ports n ≡ Some a)) [
     | inl here ↦ (p, subst (λ (k : ℕ). slice_get ports k ≡ Some p) (sym here) there)
     | inr other ↦ (b, got_elsewhere ports buffer n q b other at)

@@ -6,3 +6,5 @@ pub mod LoggerStands
 pub mod NewLoggers
 pub mod SlotPulls
 pub mod LoggerLaws
+pub mod LoggerCalls
+pub mod LoggerFaults

@@ -250,8 +250,8 @@ pub record LoggerStands (run : Option LoggedRun) (stop_dump : Option (List ℕ))
   pub current : AreEngineTurns turns → HasCurrentRun run turns
 
 -- It keeps the logger's contract, whatever numbers stand for clients that are not attached yet.
-abbrev pub LoggerKeeps : Type 0
-LoggerKeeps = (run : Option LoggedRun) → (stop_dump : Option (List ℕ)) → (slots : List (Option Channel)) →
+abbrev pub StandingLoggerKeeps : Type 0
+StandingLoggerKeeps = (run : Option LoggedRun) → (stop_dump : Option (List ℕ)) → (slots : List (Option Channel)) →
     (ports : List Access) →
     (turns : List MemberTurn) → (seen : Seen) → (absent : ℕ → ℕ) → LoggerStands run stop_dump slots ports turns seen →
     KeepsLogger (logger_channels absent slots) (logger_ports ports) turns seen

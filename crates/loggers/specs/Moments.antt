@@ -150,8 +150,9 @@ pub record UsesEntry (buffer : ℕ) (before after : List Access) : Type 0 where
 abbrev pub IsSameAccess : (a b : Access) → Type 0
 IsSameAccess a b = (b.buffer ≡ a.buffer) × (b.caller ≡ a.caller) × (b.size ≡ a.size)
 
--- The ports lead to the same buffers, and are the same callers'.
+-- There are as many ports, and they lead to the same buffers, and are the same callers'.
 pub record AreSamePorts (before after : List Access) : Type 0 where
+  pub many : length after ≡ length before
   pub there : (buffer : ℕ) → (b : Access) → slice_get after buffer ≡ Some b →
       (a : Access) × (slice_get before buffer ≡ Some a)
   pub same : (buffer : ℕ) → (a b : Access) → slice_get before buffer ≡ Some a → slice_get after buffer ≡ Some b →

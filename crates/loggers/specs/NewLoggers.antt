@@ -1,5 +1,6 @@
 -- A new logger.
-use Rattle.std.specs.Prelude.{◌≡◌, ◌≢◌, ◌<◌, ℕ, false, List, [], slice_get, length, Option, Some, None}
+use Rattle.std.specs.Prelude.{◌≡◌, ◌≢◌, ◌≤◌, ◌<◌, ◌-◌, ℕ, false, min, List, [], slice_get, length, Option, Some, None}
+use Rattle.daq_model.specs.Events.{event_limit}
 use Rattle.event_header.specs.Held.{empty_buf}
 use Rattle.buffer_core.specs.Ports.{Access}
 use Rattle.buffer_core.specs.Slots.{slot_at}
@@ -41,6 +42,14 @@ AreUnused ports = (buffer : ℕ) → (a : Access) → slice_get ports buffer ≡
 abbrev pub HavePorts : List ChannelSpec → (ports : List Access) → Type 0
 HavePorts specs ports = (i : ℕ) → (s : ChannelSpec) → slice_get specs i ≡ Some s → s.buffer < length ports
 
--- what is known of other callers is that they took no client of the logger
+-- at each place, the room is that of each event that the port of the spec's buffer may give, or more
+abbrev pub HaveRooms : List ChannelSpec → (rooms : List ℕ) → (ports : List Access) → Type 0
+HaveRooms specs rooms ports = (place room : ℕ) → (s : ChannelSpec) → (a : Access) →
+    slice_get specs place ≡ Some s → slice_get rooms place ≡ Some room → slice_get ports s.buffer ≡ Some a →
+    min event_limit (a.size - 24) ≤ room
+
+-- What is known of other callers is that they took no client of the logger. What is known stays known at each call, so
+-- that behind the last call this says it of all calls before. It holds where no other caller detaches a client of the
+-- logger.
 abbrev pub NoneTakenBack : List Access → Type 0
 NoneTakenBack ports = (buffer : ℕ) → (a : Access) → slice_get ports buffer ≡ Some a → a.taken_back ≡ []

@@ -11,7 +11,9 @@ ghost use Rattle.loggers.specs.Moments.{moment_of, IsLoggerReady, HaveFilesOpen,
 ghost use Rattle.loggers.specs.Turning.{TakesTurn, TakesStart, TakesStop, TakesMark, TakesAbort, StartsLogger, PausesBuffer, ResumesBuffer, is_run_on, is_started, is_of_start, buffers_begun, IsIdleOutside, start_answer, start_part};
 ghost use Rattle.loggers.specs.Finishing.{FinishesLogger};
 ghost use Rattle.loggers.specs.SlotPulls.{HasEventRoom, PullsNumbered};
-ghost use Rattle.loggers.specs.NewLoggers.{HaveNumbers, HasNewChannels, HavePorts, AreUnused, NoneTakenBack};
+ghost use Rattle.loggers.specs.NewLoggers.{HaveNumbers, HasNewChannels, HavePorts, AreUnused, HaveRooms, NoneTakenBack};
+ghost use Rattle.loggers.specs.LoggerCalls.{KeepsLoggerCalls};
+ghost use Rattle.loggers.specs.LoggerFaults.{HasFailed, NotesFaults};
 ghost use Rattle.loggers.specs.LoggerStands.{LoggerStands, logger_turn};
 
 use crate::endings::{end_files, stop_time};
@@ -123,6 +125,11 @@ impl Logger {
         ensures stands { IfOk result (λ logger. (ports : List Access) → (seen : Seen) →
             HavePorts specs ports → AreUnused ports →
             LoggerStands logger.run logger.stop_dump logger.channels ports [] seen) }
+        ensures room { IfOk result (λ logger. (ports : List Access) → HaveRooms specs rooms.now ports →
+            (number : ℕ) → HasEventRoom number logger.channels ports) }
+        ensures own { IfOk result (λ logger. (ports : List Access) → AreUnused ports →
+            KeepsLoggerCalls logger.channels ports) }
+        ensures failed { IfOk result (λ logger. HasFailed logger.channels → ⊥) }
     {
         let channels = new_channels(alloc, specs, rooms)?;
         Ok(Logger {
@@ -177,7 +184,12 @@ impl Logger {
         ensures begun { buffers_begun self.new.run ≤ length ports.new }
         ensures small { IfSome self.old.stop_dump (λ bytes. length bytes ≤ record_limit) →
             IfSome self.new.stop_dump (λ bytes. length bytes ≤ record_limit) }
+        ensures uses { UseEntries 49 (map P.access ports.old) (map P.access ports.new) }
         ensures same { AreSamePorts (map P.access ports.old) (map P.access ports.new) }
+        ensures own { KeepsLoggerCalls self.old.channels (map P.access ports.old) →
+            KeepsLoggerCalls self.new.channels (map P.access ports.new) }
+        ensures failed { NotesFaults self.old.channels self.new.channels
+            (F.faults files.old) (F.faults files.new) }
         ensures room { ((number : ℕ)
             → HasEventRoom number self.old.channels (map P.access ports.old)) →
             (number : ℕ) → HasEventRoom number self.new.channels (map P.access ports.new) }
@@ -534,6 +546,10 @@ impl Logger {
         ensures idle { IsIdleOutside self.new.run self.new.channels }
         ensures uses { UseEntries 2 (map P.access ports.old) (map P.access ports.new) }
         ensures same { AreSamePorts (map P.access ports.old) (map P.access ports.new) }
+        ensures own { KeepsLoggerCalls self.old.channels (map P.access ports.old) →
+            KeepsLoggerCalls self.new.channels (map P.access ports.new) }
+        ensures failed { NotesFaults self.old.channels self.new.channels
+            (F.faults files.old) (F.faults files.new) }
         ensures room { ((number : ℕ)
             → HasEventRoom number self.old.channels (map P.access ports.old)) →
             (number : ℕ) → HasEventRoom number self.new.channels (map P.access ports.new) }
@@ -587,6 +603,10 @@ impl Logger {
         ensures room { (ports : List Access) →
             ((number : ℕ) → HasEventRoom number self.old.channels ports) →
             (number : ℕ) → HasEventRoom number self.new.channels ports }
+        ensures own { (ports : List Access) → KeepsLoggerCalls self.old.channels ports →
+            KeepsLoggerCalls self.new.channels ports }
+        ensures failed { NotesFaults self.old.channels self.new.channels
+            (F.faults files.old) (F.faults files.new) }
         ensures keeps { (ports : List Access) → (turns : List MemberTurn) →
             LoggerStands self.old.run self.old.stop_dump self.old.channels ports turns
             (F.seen files.old) →

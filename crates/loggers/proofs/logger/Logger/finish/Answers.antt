@@ -1,4 +1,6 @@
 use Rattle.loggers.proofs.EndedReady.{ended_room}
+use Rattle.loggers.proofs.TurnsOwn.{finish_own}
+use Rattle.loggers.proofs.FaultsNoted.{finish_faults}
 use Rattle.loggers.specs.Finishing.{LoggerFinish}
 use Rattle.loggers.proofs.logger.Logger.finish.Goals as goal
 
@@ -21,5 +23,7 @@ returns g c =
       idle = c.end_run.ensures.idle;
       begun = c.end_run.ensures.begun;
       room = λ ports room. ended_room f ports c.end_run.ensures.finishes room;
+      own = λ ports kept. finish_own f ports c.end_run.ensures.finishes kept;
+      failed = finish_faults f c.end_run.ensures.finishes;
       keeps = λ ports turns stands. c.finishes_keep.ensures f ports turns c.end_run.ensures.finishes c.requires.files stands;
     }

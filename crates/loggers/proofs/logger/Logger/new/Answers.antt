@@ -1,5 +1,14 @@
-use Rattle.loggers.proofs.NewStands.{new_stands}
+use Rattle.loggers.proofs.NewStands.{new_stands, new_room, new_own, new_failed}
 use Rattle.loggers.proofs.logger.Logger.new.Goals as goal
 
 pub returns-clause-stands : goal.returns-clause-stands
 returns-clause-stands c = λ ports seen served unused. new_stands c.args.specs c.args.rooms.now c.in_ok-channels.channels ports seen c.in_ok-channels.ensures served unused
+
+pub returns-clause-room : goal.returns-clause-room
+returns-clause-room c = λ ports rooms number d a stood at. new_room c.args.specs c.args.rooms.now c.in_ok-channels.channels ports c.in_ok-channels.ensures rooms number d a stood at
+
+pub returns-clause-own : goal.returns-clause-own
+returns-clause-own c = λ ports unused. new_own c.args.specs c.args.rooms.now c.in_ok-channels.channels ports c.in_ok-channels.ensures unused
+
+pub returns-clause-failed : goal.returns-clause-failed
+returns-clause-failed c = λ failed. new_failed c.args.specs c.args.rooms.now c.in_ok-channels.channels c.in_ok-channels.ensures failed
