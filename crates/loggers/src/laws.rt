@@ -2,3 +2,41 @@
 
 ghost use Rattle.loggers.specs.LoggerLaws.{FinishesKeep, TurnsKeep, TurnsLeaveKnown, PullsLeaveKnown};
 ghost use Rattle.loggers.specs.LoggerStands.{StandingLoggerKeeps};
+
+use mid_logger::laws as channel_laws;
+
+/// What a logger keeps between its calls has the logger's contract: each channel that told to have ended has
+/// written its run, and each that told to be broken a part of it.
+pub fn logger_keeps()
+    ensures { StandingLoggerKeeps }
+{}
+
+/// What a logger keeps before a turn it keeps behind it.
+pub fn turns_keep()
+    ensures { TurnsKeep }
+{
+    channel_laws::left_beside();
+    channel_laws::calls_beside();
+    channel_laws::files_beside();
+    channel_laws::opens_beside();
+    channel_laws::aborts_beside();
+    channel_laws::opens_kept();
+    channel_laws::aborts_kept();
+    channel_laws::marks_kept();
+}
+
+/// What a logger keeps before a call to finish it keeps behind it.
+pub fn finishes_keep()
+    ensures { FinishesKeep }
+{
+    channel_laws::left_beside();
+    channel_laws::files_beside();
+    channel_laws::closes_beside();
+    channel_laws::closes_kept();
+}
+
+/// What was known before a turn or a pull of clients that others detached is known behind it.
+pub fn still_known()
+    ensures turns { TurnsLeaveKnown }
+    ensures pulls { PullsLeaveKnown }
+{}
