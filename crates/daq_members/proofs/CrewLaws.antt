@@ -17,8 +17,9 @@ use Rattle.transitions.specs.Engines.{EngineState, Underway}
 use Rattle.transitions.specs.EngineCalls.{tallies_in, IsEngineReply, engine_after}
 use Rattle.transitions.specs.EngineHistories.{IsLegalEngine, engine_replay}
 use Rattle.buffer_core.specs.Ports.{Access}
+use Rattle.loggers.specs.Moments.{IsSameAccess}
 use Rattle.daq_members.specs.declared.turned.Turned.{Turned}
-use Rattle.daq_members.specs.FrontTaken.{TakesFront, IsSameBufferPort}
+use Rattle.daq_members.specs.FrontTaken.{TakesFront}
 use Rattle.daq_members.specs.FrontSeats.{FrontSeen, IsSameFront, front_taken}
 use Rattle.daq_members.specs.Crews.{TurnsFront, TurnFrom, AreSameFronts, TellsGoing, ChecksUntil}
 
@@ -43,11 +44,11 @@ some_there (x ∷ xs) (suc i) within = some_there xs i (omega arith)
 
 -- Accesses.
 
-same_access : (a : Access) → IsSameBufferPort a a
-same_access a = record { buffer = refl; caller = refl; size = refl }
+same_access : (a : Access) → IsSameAccess a a
+same_access a = (refl, refl, refl)
 
-access_then : (a b c : Access) → IsSameBufferPort a b → IsSameBufferPort b c → IsSameBufferPort a c
-access_then a b c first then_ = record { buffer = then_.buffer ∙ first.buffer; caller = then_.caller ∙ first.caller; size = then_.size ∙ first.size }
+access_then : (a b c : Access) → IsSameAccess a b → IsSameAccess b c → IsSameAccess a c
+access_then a b c first then_ = (then_.0 ∙ first.0, then_.1 ∙ first.1, then_.2 ∙ first.2)
 
 same_port : (a : DatabaseAccess) → IsSamePort a a
 same_port a = record { database = refl; caller = refl; undisturbed = refl }

@@ -20,10 +20,11 @@ use Rattle.front_ends.specs.declared.front_step.FrontStep.{FrontStep}
 use Rattle.front_ends.specs.declared.front_step.FrontStep.TheVariants.{NoWork}
 use Rattle.front_ends.specs.Fronts.{front_turn, finish_answer, finish_with, is_at_work, SendsNext, events_sent}
 use Rattle.front_ends.specs.FrontKept.{FrontStands, KeepsMoments, IsInRun, IsWaiting}
+use Rattle.loggers.specs.Moments.{IsSameAccess}
 use Rattle.daq_members.specs.OwnTurns.{open_start}
 use Rattle.composition.specs.SentSets.{sent_by_moment}
 use Rattle.daq_members.specs.SentSets.{number_set_at, number_if, AddsNumberIf, AreNumbersSet}
-use Rattle.daq_members.specs.FrontTaken.{StepsBy, StepsFront, IsSameBufferPort, FrontMemberStands}
+use Rattle.daq_members.specs.FrontTaken.{StepsBy, StepsFront, FrontMemberStands}
 use Rattle.daq_members.proofs.OwnTurnLaws.{taken_turn}
 use Rattle.daq_members.proofs.SetLaws.{sent_by_all_calls, sets_more, number_now}
 
@@ -176,12 +177,12 @@ steps_so makes run later a b step nothing idle quiet sends = by_work (is_at_work
     by_work true is = sends is
 
 -- it is by the same access
-pub step_same : (makes : Order → ℕ → Event) (run later : Option FrontRun) (a b : Access) (step : FrontStep) → StepsFront makes run later a b step → IsSameBufferPort a b
+pub step_same : (makes : Order → ℕ → Event) (run later : Option FrontRun) (a b : Access) (step : FrontStep) → StepsFront makes run later a b step → IsSameAccess a b
 step_same makes run later a b step steps = by_work (is_at_work run) steps
   where
-    by_work : (work : Bool) → StepsBy work makes run later a b step → IsSameBufferPort a b
-    by_work false idle = record { buffer = ap (λ (x : Access). x.buffer) idle.1; caller = ap (λ (x : Access). x.caller) idle.1; size = ap (λ (x : Access). x.size) idle.1 }
-    by_work true sends = record { buffer = sends.sent.buffer; caller = sends.sent.caller; size = sends.sent.size }
+    by_work : (work : Bool) → StepsBy work makes run later a b step → IsSameAccess a b
+    by_work false idle = (ap (λ (x : Access). x.buffer) idle.1, ap (λ (x : Access). x.caller) idle.1, ap (λ (x : Access). x.size) idle.1)
+    by_work true sends = (sends.sent.buffer, sends.sent.caller, sends.sent.size)
 
 -- it adds calls to those on the buffer
 pub step_adds : (makes : Order → ℕ → Event) (run later : Option FrontRun) (a b : Access) (step : FrontStep) → StepsFront makes run later a b step → (more : List BufferEntry) × (b.own ≡ a.own ++ more)

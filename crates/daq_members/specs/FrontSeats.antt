@@ -8,8 +8,9 @@ use Rattle.odb_port.specs.DatabasePorts.{DatabaseAccess, IsSamePort, own_watched
 use Rattle.transitions.specs.declared.entry.EngineEntry.{EngineEntry}
 use Rattle.transition_lock.specs.declared.shared.SharedEngine.{SharedEngine}
 use Rattle.front_ends.specs.declared.front_run.FrontRun.{FrontRun}
+use Rattle.loggers.specs.Moments.{IsSameAccess}
 use Rattle.daq_members.specs.declared.turned.Turned.{Turned}
-use Rattle.daq_members.specs.FrontTaken.{FrontTaken, IsSameBufferPort, FrontMemberStands}
+use Rattle.daq_members.specs.FrontTaken.{FrontTaken, FrontMemberStands}
 
 -- A front-end in a session: the engine that it asks, its client number, its name, its equipment, and its run; its
 -- calls on the engine; and its access to its buffer and to the database.
@@ -59,5 +60,5 @@ module _ {E : Type 0} (takes : E → Order → Bool) (makes : E → Order → �
     pub name : after.name ≡ before.name
     pub takes_as : takes after.equipment ≡ takes before.equipment
     pub makes_as : makes after.equipment ≡ makes before.equipment
-    pub port : IsSameBufferPort before.port after.port
+    pub port : IsSameAccess before.port after.port
     pub database : IsSamePort before.database after.database

@@ -72,12 +72,6 @@ abbrev pub StepsFront : (makes : Order → ℕ → Event) → (run later : Optio
     FrontStep → Type 0
 StepsFront makes run later a b step = StepsBy (is_at_work run) makes run later a b step
 
--- The same caller's access to the same buffer.
-pub record IsSameBufferPort (a b : Access) : Type 0 where
-  pub buffer : b.buffer ≡ a.buffer
-  pub caller : b.caller ≡ a.caller
-  pub size : b.size ≡ a.size
-
 -- Nothing is done but to ask.
 pub record LeavesFront (t : FrontTaken) (reply : Polled) (turned : Turned) : Type 0 where
   pub asks : t.later_calls ≡ asked_so t.client t.calls reply

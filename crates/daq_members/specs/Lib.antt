@@ -1,6 +1,8 @@
 pub mod OwnTurns
 pub mod SentSets
 pub mod FrontTaken
+pub mod LoggerTaken
 pub mod Endless
 pub mod FrontSeats
+pub mod LoggerSeats
 pub mod Crews

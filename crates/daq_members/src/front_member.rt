@@ -13,9 +13,10 @@ ghost use Rattle.transitions.specs.declared.entry.EngineEntry.TheVariants.{Poll}
 ghost use Rattle.event_report.specs.Reports.{Totals};
 ghost use Rattle.front_ends.specs.FrontIds.{event_room};
 ghost use Rattle.front_ends.specs.Fronts.{front_answer, run_after, finish_answer, run_finished, events_sent};
+ghost use Rattle.loggers.specs.Moments.{IsSameAccess};
 ghost use Rattle.daq_members.specs.OwnTurns.{start_owed, GivesAnswer};
 ghost use Rattle.daq_members.specs.SentSets.{number_set_at, number_if, AddsNumberIf};
-ghost use Rattle.daq_members.specs.FrontTaken.{turned_by, is_sent, SetsSent, StepsFront, IsSameBufferPort, TakesFront, FrontMemberStands};
+ghost use Rattle.daq_members.specs.FrontTaken.{turned_by, is_sent, SetsSent, StepsFront, TakesFront, FrontMemberStands};
 
 use crate::seat::Seat;
 use crate::turned::Turned;
@@ -172,7 +173,7 @@ impl<'a, E: Equipment> FrontMember<'a, E> {
             ≡ E.takes self.old.front.equipment }
         ensures equipment_makes { E.makes self.new.front.equipment
             ≡ E.makes self.old.front.equipment }
-        ensures same_port { IsSameBufferPort (P.access port.old) (P.access port.new) }
+        ensures same_port { IsSameAccess (P.access port.old) (P.access port.new) }
         ensures same { IsSamePort (D.access database.old) (D.access database.new) }
         ensures keeps { FrontMemberStands self.old.seat.client self.old.name
             (E.takes self.old.front.equipment) (E.makes self.old.front.equipment)
@@ -219,7 +220,7 @@ impl<'a, E: Equipment> FrontMember<'a, E> {
             ≡ E.takes self.old.front.equipment }
         ensures equipment_makes { E.makes self.new.front.equipment
             ≡ E.makes self.old.front.equipment }
-        ensures same_port { IsSameBufferPort (P.access port.old) (P.access port.new) }
+        ensures same_port { IsSameAccess (P.access port.old) (P.access port.new) }
         ensures keeps { (calls : List EngineEntry) → (sets : List WatchEntry) →
             FrontMemberStands self.old.seat.client self.old.name
             (E.takes self.old.front.equipment) (E.makes self.old.front.equipment)

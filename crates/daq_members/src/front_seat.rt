@@ -96,4 +96,24 @@ impl<'a, E: Equipment, P: EndlessPort, D: WatchPort> FrontSeat<'a, E, P, D> {
     {
         self.member.seat.client
     }
+
+    /// The front-end, its port and its access to the database, given back.
+    pub fn into_parts(self) -> (FrontMember<'a, E>, P, D)
+        ensures engine { result.0.seat.engine.now ≡ self.entry.engine }
+        ensures client { result.0.seat.client ≡ self.entry.client }
+        ensures name { result.0.name ≡ self.entry.name }
+        ensures equipment { result.0.front.equipment ≡ self.entry.equipment }
+        ensures run { result.0.front.run ≡ self.entry.run }
+        ensures calls { own_entries result.0.seat.pass ≡ self.entry.calls }
+        ensures port { P.access result.1 ≡ self.entry.port }
+        ensures database { D.access result.2 ≡ self.entry.database }
+        ensures seated { IsSeated E.takes E.makes self.entry }
+    {
+        let FrontSeat {
+            member,
+            port,
+            database,
+        } = self;
+        (member, port, database)
+    }
 }

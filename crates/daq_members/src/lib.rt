@@ -7,6 +7,8 @@ mod endless;
 mod front_member;
 mod front_seat;
 pub mod laws;
+mod logger_member;
+mod logger_seat;
 mod seat;
 mod turned;
 
@@ -14,5 +16,7 @@ pub use crew::Crew;
 pub use endless::EndlessPort;
 pub use front_member::FrontMember;
 pub use front_seat::FrontSeat;
+pub use logger_member::LoggerMember;
+pub use logger_seat::LoggerSeat;
 pub use seat::Seat;
 pub use turned::Turned;

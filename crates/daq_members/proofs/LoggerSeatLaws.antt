@@ -1,0 +1,70 @@
+-- The logger in a session, behind a turn; and the room of its ports.
+use Rattle.std.specs.Prelude.{◌≡◌, ◌≤◌, ℕ, zero, suc, Bool, List, [], ◌∷◌, length, map, slice_get, Option, Some, None}
+use Rattle.std.proofs.Common.{sym, subst, ◌∙◌}
+use Rattle.std.proofs.lemmas.List.{length-map}
+use Rattle.buffer_core.specs.Ports.{Access}
+use Rattle.transitions.specs.declared.replies.Polled.{Polled}
+use Rattle.transitions.specs.declared.replies.Polled.TheVariants.{Turn, Idle as NoTurn, Closed, NoClient}
+use Rattle.loggers.specs.Moments.{LoggerMoment, HaveEntries, AreSamePorts}
+use Rattle.loggers.specs.NewLoggers.{NoneTakenBack}
+use Rattle.loggers.specs.LoggerLaws.{TurnsLeaveKnown, PullsLeaveKnown}
+use Rattle.daq_members.specs.OwnTurns.{start_owed}
+use Rattle.daq_members.specs.LoggerTaken.{LoggerTaken, HaveCaller, PullsBelow, TakesLoggerBy, TakesLogger, pulled_channels}
+use Rattle.daq_members.specs.Endless.{IsEndless}
+
+-- What was known of other callers before a turn is known behind it.
+
+pulled_known : PullsLeaveKnown → (n : ℕ) (got : Bool) (a b : LoggerMoment) → PullsBelow n got a b → NoneTakenBack b.ports → NoneTakenBack a.ports
+pulled_known pulls zero got a b steps none = subst (λ (m : LoggerMoment). NoneTakenBack m.ports) steps.1 none
+pulled_known pulls (suc n) got a b steps none = pulled_known pulls n steps.1 a steps.0 steps.3 (pulls n steps.2 steps.0 b steps.4 none)
+
+same_known : (a b : LoggerMoment) → b ≡ a → NoneTakenBack b.ports → NoneTakenBack a.ports
+same_known a b same none = subst (λ (m : LoggerMoment). NoneTakenBack m.ports) same none
+
+known_by : TurnsLeaveKnown → PullsLeaveKnown → (t : LoggerTaken) (reply : Polled) (owed : Option ℕ) → TakesLoggerBy reply owed t → NoneTakenBack t.after.ports → NoneTakenBack t.before.ports
+known_by turns pulls t Closed owed leaves none = same_known t.before t.after leaves.moment none
+known_by turns pulls t NoClient owed leaves none = same_known t.before t.after leaves.moment none
+known_by turns pulls t (NoTurn state) owed works none = pulled_known pulls pulled_channels works.got t.before t.after works.pulls none
+known_by turns pulls t (Turn transition order dump blank) None taken none = turns (record {
+  transition = transition;
+  order = order;
+  dump = dump;
+  answer = taken.answer;
+  run = t.run;
+  later_run = t.later_run;
+  stop_dump = t.stop_dump;
+  later_stop_dump = t.later_stop_dump;
+  before = t.before;
+  after = t.after;
+}) taken.takes none
+known_by turns pulls t (Turn transition order dump blank) (Some start) ends none =
+    pulled_known pulls pulled_channels ends.got t.before ends.pulled ends.pulls (subst (λ (ports : List Access). NoneTakenBack ports) ends.ports none)
+
+pub known_before : TurnsLeaveKnown → PullsLeaveKnown → (t : LoggerTaken) → TakesLogger t → NoneTakenBack t.after.ports → NoneTakenBack t.before.ports
+known_before turns pulls t takes none = known_by turns pulls t takes.reply (start_owed t.client t.calls) takes.takes none
+
+-- Endless ports have room for a turn.
+
+entries_of : {P : Type 0} (access : P → Access) (ports : List P) (buffer : ℕ) (a : Access) → ((port : P) → IsEndless (access port)) → slice_get (map access ports) buffer ≡ Some a → 49 ≤ a.entries
+entries_of access [] zero a endless at = absurd (cc (at))
+entries_of access [] (suc n) a endless at = absurd (cc (at))
+entries_of access (p ∷ ps) zero a endless at =
+    let is : access p ≡ a = cc (at) in
+    subst (λ (x : Access). 49 ≤ x.entries) is (endless p).entries
+entries_of access (p ∷ ps) (suc n) a endless at = entries_of access ps n a endless at
+
+pub have_entries : {P : Type 0} (access : P → Access) (ports : List P) → ((port : P) → IsEndless (access port)) → HaveEntries 49 (map access ports)
+have_entries access ports endless = λ buffer a at. entries_of access ports buffer a endless at
+
+-- The ports stay the caller's own, and there are as many of them as of their accesses.
+
+pub caller_kept : (caller : ℕ) (before after : List Access) → AreSamePorts before after → HaveCaller caller before → HaveCaller caller after
+caller_kept caller before after same have = λ buffer b at.
+    let old : (a : Access) × (slice_get before buffer ≡ Some a) = same.there buffer b at in
+    (same.same buffer old.0 b old.1 at).1 ∙ have buffer old.0 old.1
+
+pub begun_mapped : {P : Type 0} (access : P → Access) (ports : List P) (n : ℕ) → n ≤ length ports → n ≤ length (map access ports)
+begun_mapped access ports n within = subst (λ (k : ℕ). n ≤ k) (sym (length-map ports access)) within
+
+pub begun_read : {P : Type 0} (access : P → Access) (ports : List P) (n : ℕ) → n ≤ length (map access ports) → n ≤ length ports
+begun_read access ports n within = subst (λ (k : ℕ). n ≤ k) (length-map ports access) within

@@ -1,0 +1,48 @@
+use Rattle.std.specs.Prelude.{ℕ, ◌-◌, ◌*◌, ◌+◌, map}
+use Rattle.loggers.specs.Moments.{moment_of}
+use Rattle.std.proofs.Common.{ap, sym, refl, arith, subst, add-one, ◌∙◌}
+use Rattle.daq_members.specs.LoggerTaken.{PullsBelow}
+use Rattle.daq_members.proofs.LoggerLaws.{entries_fewer, entries_left, pulls_more, as_many, same_ports, same_then}
+use Rattle.daq_members.proofs.logger_member.LoggerMember.pull_all.Goals as goal
+
+pub loop-channel-init : goal.loop-channel-init
+loop-channel-init g c = record {
+  pulls = (refl, refl);
+  within = omega arith;
+  many = refl;
+  entries = entries_fewer 49 32 _ (omega arith) c.requires.entries;
+  seat = refl;
+  run = refl;
+  stop_dump = refl;
+  same = same_ports _;
+  ready = c.requires.ready;
+  room = c.requires.room;
+  idle = c.requires.idle;
+  keeps = λ turns stands. stands;
+}
+
+pub pull_one-requires-clause-entries : goal.pull_one-requires-clause-entries
+pull_one-requires-clause-entries g c = entries_fewer (2 * (16 - c.loop-channel.channel)) 2 _ (omega arith) c.loop-channel.invariant.entries
+
+pub loop-channel-preserved : goal.loop-channel-preserved
+loop-channel-preserved g c =
+    let did = c.pull_one.ensures in
+    let so_far = c.loop-channel.invariant in
+    record {
+      pulls = pulls_more c.loop-channel.channel c.loop-channel.got c.or_pulled-got.result c.pull_one.result
+          (moment_of c.args.self.now.logger.channels (map g.P.BufferPort.access c.args.ports.now) (g.F.Files.seen c.args.files.now) (g.F.Files.faults c.args.files.now) (g.F.Files.clashes c.args.files.now) (g.F.Files.first c.args.files.now))
+          (moment_of c.loop-channel.self.logger.channels (map g.P.BufferPort.access c.loop-channel.ports) (g.F.Files.seen c.loop-channel.files) (g.F.Files.faults c.loop-channel.files) (g.F.Files.clashes c.loop-channel.files) (g.F.Files.first c.loop-channel.files))
+          (moment_of c.pull_one.new.self.logger.channels (map g.P.BufferPort.access c.pull_one.new.ports) (g.F.Files.seen c.pull_one.new.files) (g.F.Files.faults c.pull_one.new.files) (g.F.Files.clashes c.pull_one.new.files) (g.F.Files.first c.pull_one.new.files))
+          so_far.pulls did.pulls c.or_pulled-got.ensures;
+      many = as_many g.P.BufferPort.access c.loop-channel.ports c.pull_one.new.ports did.uses ∙ so_far.many;
+      within = omega arith;
+      entries = entries_left c.loop-channel.channel _ _ (omega arith) did.same did.uses so_far.entries;
+      seat = did.seat ∙ so_far.seat;
+      run = did.run ∙ so_far.run;
+      stop_dump = did.stop_dump ∙ so_far.stop_dump;
+      same = same_then _ _ _ so_far.same did.same;
+      ready = did.ready;
+      room = did.room;
+      idle = did.idle;
+      keeps = λ turns stands. did.keeps turns (so_far.keeps turns stands);
+    }

@@ -1,0 +1,70 @@
+-- The logger in a session, with its own ports to the buffers and the run files.
+use Rattle.std.specs.Prelude.{◌≡◌, ◌≤◌, ℕ, IfSome, List, length, Option}
+use Rattle.daq_types.specs.Callers.{caller_of_client}
+use Rattle.daq_model.specs.Events.{record_limit}
+use Rattle.daq_io.specs.Seen.{Seen}
+use Rattle.buffer_core.specs.Ports.{Access}
+use Rattle.transitions.specs.declared.entry.EngineEntry.{EngineEntry}
+use Rattle.transition_lock.specs.declared.shared.SharedEngine.{SharedEngine}
+use Rattle.member_model.specs.TurnCalls.{member_turns}
+use Rattle.mid_logger.specs.declared.channel.Channel.{Channel}
+use Rattle.loggers.specs.declared.logged_run.LoggedRun.{LoggedRun}
+use Rattle.loggers.specs.Moments.{RunFiles, IsLoggerReady, AreSamePorts}
+use Rattle.loggers.specs.NewLoggers.{NoneTakenBack}
+use Rattle.loggers.specs.SlotPulls.{HasEventRoom}
+use Rattle.loggers.specs.Turning.{IsIdleOutside, buffers_begun}
+use Rattle.loggers.specs.LoggerStands.{LoggerStands}
+use Rattle.daq_members.specs.declared.turned.Turned.{Turned}
+use Rattle.daq_members.specs.LoggerTaken.{LoggerTaken, HaveCaller}
+
+-- A logger in a session: the engine that it asks, its client number, its run, and the dump of the stop that it has not
+-- answered; its calls on the engine; and its channels, its access to each buffer, and the run files.
+pub record LoggerSeen (F : Type 0) : Type 0 where
+  pub engine : SharedEngine
+  pub client : ℕ
+  pub run : Option LoggedRun
+  pub stop_dump : Option (List ℕ)
+  pub calls : List EngineEntry
+  pub slots : List (Option Channel)
+  pub ports : List Access
+  pub files : F
+
+-- run files, by what is told of them, their counts of faults and of clashes, and the name of the first fault
+abbrev pub files_by : {F : Type 0} → (seen : F → Seen) → (faults clashes : F → ℕ) → (first : F → Option (List ℕ)) → F →
+    RunFiles
+files_by seen faults clashes first files =
+    record { seen = seen files; faults = faults files; clashes = clashes files; first = first files }
+
+-- The ports are the client's own, and the logger is ready for each turn; and it keeps its contract over its own calls
+-- on engine, buffers and files, where no client of it is known to be detached by another.
+pub record IsLoggerSeated {F : Type 0} (seen : F → Seen) (logger : LoggerSeen F) : Type 0 where
+  pub caller : HaveCaller (caller_of_client logger.client) logger.ports
+  pub ready : IsLoggerReady logger.slots logger.ports (seen logger.files)
+  pub room : (number : ℕ) → HasEventRoom number logger.slots logger.ports
+  pub idle : IsIdleOutside logger.run logger.slots
+  pub begun : buffers_begun logger.run ≤ length logger.ports
+  pub small : IfSome logger.stop_dump (λ bytes. length bytes ≤ record_limit)
+  pub stands : NoneTakenBack logger.ports →
+      LoggerStands logger.run logger.stop_dump logger.slots logger.ports (member_turns logger.client logger.calls)
+      (seen logger.files)
+
+-- a turn of the logger, by what is seen of it before and behind
+abbrev pub logger_taken : {F : Type 0} → (read : F → RunFiles) → (before after : LoggerSeen F) → Turned → LoggerTaken
+logger_taken read before after turned = record {
+  client = before.client;
+  calls = before.calls;
+  later_calls = after.calls;
+  run = before.run;
+  later_run = after.run;
+  stop_dump = before.stop_dump;
+  later_stop_dump = after.stop_dump;
+  before = record { slots = before.slots; ports = before.ports; files = read before.files };
+  after = record { slots = after.slots; ports = after.ports; files = read after.files };
+  turned = turned;
+}
+
+-- The same logger: it asks the same engine by the same client number, and leads to the same buffers.
+pub record IsSameLogger {F : Type 0} (before after : LoggerSeen F) : Type 0 where
+  pub engine : after.engine ≡ before.engine
+  pub client : after.client ≡ before.client
+  pub ports : AreSamePorts before.ports after.ports

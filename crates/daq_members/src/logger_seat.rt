@@ -1,0 +1,129 @@
+// The logger in a session, with what it calls.
+ghost use Rattle.std.specs.Prelude.{◌≡◌, ◌≤◌, ℕ, length, map, IfSome};
+ghost use Rattle.daq_types.specs.Callers.{caller_of_client};
+ghost use Rattle.daq_model.specs.Events.{record_limit};
+ghost use Rattle.turn_lock.specs.Passes.{own_entries};
+ghost use Rattle.member_model.specs.TurnCalls.{member_turns};
+ghost use Rattle.loggers.specs.Moments.{IsLoggerReady};
+ghost use Rattle.loggers.specs.NewLoggers.{NoneTakenBack};
+ghost use Rattle.loggers.specs.SlotPulls.{HasEventRoom};
+ghost use Rattle.loggers.specs.Turning.{IsIdleOutside, buffers_begun};
+ghost use Rattle.loggers.specs.LoggerStands.{LoggerStands};
+ghost use Rattle.daq_members.specs.LoggerTaken.{TakesLogger, HaveCaller};
+
+use crate::endless::EndlessPort;
+use crate::logger_member::LoggerMember;
+use crate::turned::Turned;
+use daq_io::{Files, Gate};
+use loggers::{Ports, laws as logger_laws};
+use std::marker::Model;
+use std::sync::Wait;
+
+/// The logger in a session, with its own ports to the buffers, each at its buffer's number, and the run files.
+#[derive(Drop)]
+pub struct LoggerSeat<'a, P: EndlessPort, F: Files> {
+    member: LoggerMember<'a>,
+    ports: Ports<P>,
+    files: F,
+}
+
+impl<'a, P: EndlessPort, F: Files> Model for LoggerSeat<'a, P, F> {
+    ghost use Rattle.std.specs.Prelude.{map};
+    ghost use Rattle.turn_lock.specs.Passes.{own_entries};
+    ghost use Rattle.daq_members.specs.LoggerSeats.{LoggerSeen, IsLoggerSeated};
+
+    ghost Value = { LoggerSeen F };
+
+    ghost view = { λ s. record {
+      engine = s.member.seat.engine.now;
+      client = s.member.seat.client;
+      run = s.member.logger.run;
+      stop_dump = s.member.logger.stop_dump;
+      calls = own_entries s.member.seat.pass;
+      slots = s.member.logger.channels;
+      ports = map P.access s.ports;
+      files = s.files;
+    } };
+
+    ghost invariant = { λ s. IsLoggerSeated F.seen (record {
+      engine = s.member.seat.engine.now;
+      client = s.member.seat.client;
+      run = s.member.logger.run;
+      stop_dump = s.member.logger.stop_dump;
+      calls = own_entries s.member.seat.pass;
+      slots = s.member.logger.channels;
+      ports = map P.access s.ports;
+      files = s.files;
+    }) };
+}
+
+impl<'a, P: EndlessPort, F: Files> LoggerSeat<'a, P, F> {
+    ghost use Rattle.daq_members.specs.LoggerSeats.{IsLoggerSeated, IsSameLogger, logger_taken, files_by};
+
+    /// A logger that is ready for its turns, with its own ports to the buffers and the run files.
+    pub fn new(member: LoggerMember<'a>, ports: Ports<P>, files: F) -> LoggerSeat<'a, P, F>
+        requires stands { NoneTakenBack (map P.access ports) → LoggerStands member.logger.run
+            member.logger.stop_dump member.logger.channels (map P.access ports)
+            (member_turns member.seat.client (own_entries member.seat.pass)) (F.seen files) }
+        requires caller { HaveCaller (caller_of_client member.seat.client) (map P.access ports) }
+        requires ready { IsLoggerReady member.logger.channels (map P.access ports)
+            (F.seen files) }
+        requires room { (number : ℕ) → HasEventRoom number member.logger.channels
+            (map P.access ports) }
+        requires idle { IsIdleOutside member.logger.run member.logger.channels }
+        requires begun { buffers_begun member.logger.run ≤ length ports }
+        requires small { IfSome member.logger.stop_dump (λ bytes. length bytes ≤ record_limit) }
+        ensures engine { result.engine ≡ member.entry.seat.engine.now }
+        ensures client { result.client ≡ member.entry.seat.client }
+        ensures run { result.run ≡ member.entry.logger.run }
+        ensures stop_dump { result.stop_dump ≡ member.entry.logger.stop_dump }
+        ensures calls { result.calls ≡ own_entries member.entry.seat.pass }
+        ensures slots { result.slots ≡ member.entry.logger.channels }
+        ensures ports { result.ports ≡ map P.access ports }
+        ensures files { result.files ≡ files }
+    {
+        LoggerSeat {
+            member,
+            ports,
+            files,
+        }
+    }
+
+    /// One turn, as `LoggerMember::turn`, on the own ports and the run files.
+    pub fn turn<R: Wait, G: Gate>(&mut self, rt: &R, gate: &G) -> Turned
+        ensures takes { TakesLogger (logger_taken
+            (files_by F.seen F.faults F.clashes F.first) self.old self.new result) }
+        ensures same { IsSameLogger self.old self.new }
+    {
+        logger_laws::still_known();
+        self.member.turn(rt, &mut self.ports, &mut self.files, gate)
+    }
+
+    /// The logger's client number. It keeps its contract at every moment.
+    pub fn client(&self) -> u32
+        ensures number { result ≡ self.now.client }
+        ensures seated { IsLoggerSeated F.seen self.now }
+    {
+        self.member.seat.client
+    }
+
+    /// The logger, its ports and the run files, given back.
+    pub fn into_parts(self) -> (LoggerMember<'a>, Ports<P>, F)
+        ensures engine { result.0.seat.engine.now ≡ self.entry.engine }
+        ensures client { result.0.seat.client ≡ self.entry.client }
+        ensures run { result.0.logger.run ≡ self.entry.run }
+        ensures stop_dump { result.0.logger.stop_dump ≡ self.entry.stop_dump }
+        ensures calls { own_entries result.0.seat.pass ≡ self.entry.calls }
+        ensures slots { result.0.logger.channels ≡ self.entry.slots }
+        ensures ports { map P.access result.1 ≡ self.entry.ports }
+        ensures files { result.2 ≡ self.entry.files }
+        ensures seated { IsLoggerSeated F.seen self.entry }
+    {
+        let LoggerSeat {
+            member,
+            ports,
+            files,
+        } = self;
+        (member, ports, files)
+    }
+}
