@@ -1,20 +1,17 @@
 //! Each call once, by the main thread and by another.
 ghost use Rattle.std.specs.Prelude.{◌≡◌, [], ◌∷◌};
-ghost use Rattle.daq_types.specs.Callers.{main_caller};
 ghost use Rattle.turn_lock.specs.Passes.{number_of, IsOf};
 ghost use Rattle.turn_lock.specs.Roster.{items_of, numbers_of, ArePassesOf, AreFresh, IsFresh};
 ghost use Rattle.odb_lock.specs.SharedOdbs.{odb_lock_of};
 
 use crate::{OdbPass, OdbPasses, SharedAccess, SharedOdb};
-use daq_types::{NoMemory, Tid};
+use daq_types::Tid;
 use odb_ascii::Loaded;
 use odb_path::Path;
 use odb_port::{DatabasePort, WatchPort};
 use odb_tree::{Database, NewKey, Note, Notes, PlainTree};
 use odb_value::Item;
 use odb_watch::NoWatch;
-use std::alloc::Global;
-use std::sync::Wait;
 use std::test::Fail;
 
 impl SharedOdb<PlainTree> {
@@ -112,25 +109,6 @@ fn a_watch_sees_what_is_loaded(rt: HostRuntime) -> Result<(), Fail> {
     Ok(())
 }
 
-/// Loads a text by the main thread's port, sets an item by another, and counts what the other's watch noted of both.
-fn noted_by_port<R: Wait, P: WatchPort>(
-    rt: &R,
-    alloc: Global,
-    main: &mut P,
-    other: &mut P,
-) -> Result<usize, NoMemory>
-    requires main { (P.access main.old).caller ≡ main_caller }
-{
-    let path = Path::read(alloc, b"/A/b").map_err(|_| NoMemory)?;
-    let mut notes = Notes::new(alloc)?;
-    let watch = other.watch(rt, alloc, 0).map_err(|_| NoMemory)?;
-    let _ = main.load(rt, alloc, b"[/A]\nb = UINT8[2] :\n[0] 7\n[1] 8\n\n");
-    let _ = other.set_lent(rt, alloc, &path, 1, &Item::UInt8(9));
-    let _ = other.notes(rt, watch, &mut notes);
-    let _ = other.unwatch(rt, watch);
-    Ok(notes.len())
-}
-
 #[test]
 fn ports_lead_to_one_database(rt: HostRuntime) -> Result<(), Fail> {
     let alloc = rt.alloc();
@@ -138,13 +116,22 @@ fn ports_lead_to_one_database(rt: HostRuntime) -> Result<(), Fail> {
     let (main, other) = shared.two_passes(&mut passes);
     let mut main = SharedAccess::new(&shared, main);
     let mut other = SharedAccess::new(&shared, other);
-    assert_eq!(rt; noted_by_port(&rt, alloc, &mut main, &mut other), Ok(3));
+    let path = Path::read(alloc, b"/A/b")?;
+    let mut notes = Notes::new(alloc)?;
+    assert_eq!(rt; other.watch(&rt, alloc, 0), Ok(0));
+    let text = b"[/A]\nb = UINT8[2] :\n[0] 7\n[1] 8\n\n";
+    assert!(rt; main.load(&rt, alloc, text).is_ok(), "the text is loaded");
+    let set = other.set_lent(&rt, alloc, &path, 1, &Item::UInt8(9));
+    assert_eq!(rt; set, Ok(2));
+    assert_eq!(rt; other.notes(&rt, 0, &mut notes), Ok(0));
+    assert_eq!(rt; notes.len(), 3);
+    assert_eq!(rt; other.unwatch(&rt, 0), Ok(()));
     let dump = main.save(&rt, alloc)?;
     assert_eq!(rt;
         dump.as_slice(),
         b"[/A]\nb = UINT8[2] :\n[0] 7\n[1] 9\n\n".as_slice()
     );
-    assert_eq!(rt; main.find(&rt, Path::read(alloc, b"/A/b")?), Ok(2));
+    assert_eq!(rt; main.find(&rt, path), Ok(2));
     assert_eq!(rt; other.into_pass().number(), 1);
     Ok(())
 }
