@@ -1,0 +1,5 @@
+use Rattle.logger_rows.specs.LoggerRows.{AreRowPorts}
+use Rattle.logger_rows.proofs.making.new_ports.Given as goal
+
+abbrev pub invariant-loop-number : goal.invariant-loop-number
+invariant-loop-number l = AreRowPorts l.number l.ports

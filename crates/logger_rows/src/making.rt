@@ -1,0 +1,90 @@
+//! Loggers of several channels, with ports to their buffers.
+
+ghost use Rattle.std.specs.Prelude.{◌≡◌, ◌≤◌, ◌<◌, ◌%◌, List, map, IfOk};
+ghost use Rattle.daq_io.specs.Seen.{Seen};
+ghost use Rattle.local_port.specs.Ported.{Ported, access_of};
+ghost use Rattle.logger_rows.specs.LoggerRows.{IsRowReady, AreRowPorts, AreRowSpecs, AreRowRooms, row_size};
+
+use daq_types::NoMemory;
+use local_port::LocalPort;
+use loggers::{ChannelSpecs, Logger, Ports};
+use mid_logger::{ChannelSpec, Pattern};
+use plain_buffer::PlainBuffer;
+use std::alloc::Global;
+use std::test::Fail;
+
+/// The port of the rows.
+pub type Port = LocalPort<PlainBuffer>;
+
+/// The size in bytes of the buffer of this number: the first is the largest.
+fn size_of(number: u32) -> u32
+    ensures size { result ≡ row_size number }
+    ensures least { 256 ≤ result }
+    ensures most { result ≤ 1024 }
+    ensures whole { result % 8 ≡ 0 }
+{
+    if number == 0 { 1024 } else { 256 }
+}
+
+/// Ports to so many new buffers.
+pub fn new_ports(alloc: Global, count: u32) -> Result<Ports<Port>, NoMemory>
+    ensures { IfOk result (AreRowPorts count) }
+{
+    let mut ports = Ports::new(alloc)?;
+    for number in 0..count {
+        ports.try_push(LocalPort::new(alloc, PlainBuffer::new(alloc, size_of(number))?))?;
+    }
+    Ok(ports)
+}
+
+/// Channel n reads buffer n modulo the number of buffers, and asks for all events.
+fn spec_of(alloc: Global, number: u32, buffers: u32) -> Result<ChannelSpec, Fail>
+    requires some { 0 < buffers }
+    ensures number { IfOk result (λ spec. spec.number ≡ number) }
+    ensures buffer { IfOk result (λ spec. spec.buffer ≡ number % buffers) }
+{
+    let text = format!(in alloc; "ch{number}run%05d.mid")?;
+    Ok(ChannelSpec {
+        number,
+        pattern: Pattern::new(text.as_str())?,
+        buffer: number % buffers,
+        id: 65535,
+        mask: 65535,
+    })
+}
+
+/// The specs of so many channels.
+fn new_specs(alloc: Global, channels: u32, buffers: u32) -> Result<ChannelSpecs, Fail>
+    requires some { 0 < buffers }
+    ensures { IfOk result (AreRowSpecs channels buffers) }
+{
+    let mut specs = ChannelSpecs::new(alloc)?;
+    for number in 0..channels {
+        specs.try_push(spec_of(alloc, number, buffers)?)?;
+    }
+    Ok(specs)
+}
+
+/// Rooms, each for the largest event of the buffer that the channel reads.
+fn new_rooms(alloc: Global, channels: u32, buffers: u32) -> Result<Vec<u32>, NoMemory>
+    requires some { 0 < buffers }
+    ensures { IfOk result (λ rooms. AreRowRooms channels buffers rooms.items) }
+{
+    let mut rooms = Vec::new(alloc);
+    for number in 0..channels {
+        rooms.push(size_of(number % buffers) - 24)?;
+    }
+    Ok(rooms)
+}
+
+/// A logger with so many channels.
+pub fn new_logger(alloc: Global, channels: u32, buffers: u32) -> Result<Logger, Fail>
+    requires few { channels ≤ 16 }
+    requires some { 0 < buffers }
+    ensures { IfOk result (λ logger. (ports : List Ported) → (seen : Seen) →
+        AreRowPorts buffers ports → IsRowReady logger (map access_of ports) seen) }
+{
+    let specs = new_specs(alloc, channels, buffers)?;
+    let rooms = new_rooms(alloc, channels, buffers)?;
+    Ok(Logger::new(alloc, specs, rooms.as_slice())?)
+}
