@@ -39,12 +39,7 @@ impl Model for Fixture {
 impl Fixture {
     /// A new logger of so many channels over these files. Channel n reads buffer n modulo the number of
     /// buffers, of which the first has 1,024 bytes and each other 256.
-    pub fn new(
-        alloc: Global,
-        channels: u32,
-        buffers: u32,
-        files: MemFiles,
-    ) -> Result<Fixture, Fail>
+    pub fn new(alloc: Global, channels: u32, buffers: u32, files: MemFiles) -> Result<Fixture, Fail>
         requires few { channels ≤ 16 }
         requires some { 0 < buffers }
     {

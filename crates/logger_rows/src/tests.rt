@@ -1,6 +1,6 @@
 use crate::answers::{
-    count_of, is_broken, is_dropped, is_fault_at, is_nothing, is_plain, is_written,
-    name_of, taken_by,
+    count_of, is_broken, is_dropped, is_fault_at, is_nothing, is_plain, is_written, name_of,
+    taken_by,
 };
 use crate::fixture::Fixture;
 use daq_io::Files;
@@ -154,12 +154,7 @@ fn refused_by<R: Abort + Wait>(
 
 /// A run of one event and one channel, of whose calls on the files one fails: how many channels are told
 /// to be broken.
-fn broken_by<R: Abort + Wait>(
-    rt: &R,
-    alloc: Global,
-    op: FileOp,
-    call: u64,
-) -> Result<usize, Fail> {
+fn broken_by<R: Abort + Wait>(rt: &R, alloc: Global, op: FileOp, call: u64) -> Result<usize, Fail> {
     let mut row = Fixture::new(alloc, 1, 1, failing_files(alloc, op, call)?)?;
     assert!(rt; is_plain(&row.start(rt, alloc)));
     row.send(rt, 0, 1, b"ab");
