@@ -18,7 +18,7 @@ use Rattle.transitions.specs.declared.entry.EngineEntry.TheVariants.{Register, B
 use Rattle.transitions.specs.Engines.{Underway, EngineState}
 use Rattle.transitions.specs.EngineCalls.{polled_by, after_poll_by, after_answer_in, progress_of, check_reply_in, IsEngineReply, engine_after}
 use Rattle.transitions.specs.EngineHistories.{EngineHistory, IsEngineCaller, IsLegalEngine, engine_replay}
-use Rattle.daq_members.specs.Crews.{IsUnderway, TellsDone, ChecksUntil, MakesTransition}
+use Rattle.daq_members.specs.Crews.{IsInProgress, TellsDone, ChecksUntil, MakesTransition}
 
 -- One call.
 
@@ -26,16 +26,16 @@ mapped : (u : Option Underway) (c : Registered) → is_some u ≡ true → is_so
 mapped None c on = absurd (cc (on))
 mapped (Some u) c on = refl
 
-polled : (s : EngineState) (c : Option Registered) → IsUnderway s → IsUnderway (after_poll_by s c)
+polled : (s : EngineState) (c : Option Registered) → IsInProgress s → IsInProgress (after_poll_by s c)
 polled s None on = on
 polled s (Some c) on = mapped s.underway c on
 
-answered : (s : EngineState) (client : ℕ) (answer : ClientAnswer) (u : Option Underway) → is_some u ≡ true → IsUnderway (after_answer_in s client answer u)
+answered : (s : EngineState) (client : ℕ) (answer : ClientAnswer) (u : Option Underway) → is_some u ≡ true → IsInProgress (after_answer_in s client answer u)
 answered s client answer None on = absurd (cc (on))
 answered s client answer (Some u) on = refl
 
 -- a call of another caller than the main thread
-other_call : (s : EngineState) (by : ℕ) (e : EngineEntry) → IsEngineCaller by e → by ≢ main_caller → IsUnderway s → IsUnderway (engine_after s e)
+other_call : (s : EngineState) (by : ℕ) (e : EngineEntry) → IsEngineCaller by e → by ≢ main_caller → IsInProgress s → IsInProgress (engine_after s e)
 other_call s by (Register name sequences dump report reply) may other on = absurd (other may)
 other_call s by (Begin t sheet reply) may other on = absurd (other may.0)
 other_call s by (Poll client (Turn t order dump blank)) may other on = polled s (slice_get s.clients client) on
@@ -58,9 +58,9 @@ other_first x h is = rw is refl
 none_left : (e : EngineEntry) (es : List EngineEntry) → e ∷ es ≡ [] → ⊥
 none_left e es is = cc (is)
 
-other_calls : (s : EngineState) (h : EngineHistory) → IsLegalEngine s h → entries_by main_caller h ≡ [] → IsUnderway s → IsUnderway (engine_replay s h)
+other_calls : (s : EngineState) (h : EngineHistory) → IsLegalEngine s h → entries_by main_caller h ≡ [] → IsInProgress s → IsInProgress (engine_replay s h)
 other_calls s [] legal foreign on = on
-other_calls s (x ∷ h) legal foreign on = elim (eqb_tells x.0 main_caller) as (λ w. IsUnderway (engine_replay (engine_after s x.1) h)) [
+other_calls s (x ∷ h) legal foreign on = elim (eqb_tells x.0 main_caller) as (λ w. IsInProgress (engine_replay (engine_after s x.1) h)) [
   | inl same ↦ absurd (none_left x.1 (entries_by main_caller h) (sym (own_first x h same.0) ∙ foreign))
   | inr differs ↦ other_calls (engine_after s x.1) h legal.2 (sym (other_first x h differs.0) ∙ foreign) (other_call s x.0 x.1 legal.0 differs.1 on)
 ]
@@ -78,10 +78,10 @@ legal_before s [] ys legal = tt
 legal_before s (x ∷ xs) ys legal = (legal.0, legal.1, legal_before (engine_after s x.1) xs ys legal.2)
 
 -- the state at the main thread's next call, where a transition was in progress behind its last
-on_at : (s : EngineState) (seen others : EngineHistory) (e : ℕ × EngineEntry) → IsLegalEngine s ((seen ++ others) ++ e ∷ []) → entries_by main_caller others ≡ [] → IsUnderway (engine_replay s seen) → IsUnderway (engine_replay s (seen ++ others))
+on_at : (s : EngineState) (seen others : EngineHistory) (e : ℕ × EngineEntry) → IsLegalEngine s ((seen ++ others) ++ e ∷ []) → entries_by main_caller others ≡ [] → IsInProgress (engine_replay s seen) → IsInProgress (engine_replay s (seen ++ others))
 on_at s seen others e legal foreign on =
     let within : IsLegalEngine s (seen ++ others) = legal_before s (seen ++ others) (e ∷ []) legal in
-    subst IsUnderway (sym (replay_then s seen others)) (other_calls (engine_replay s seen) others (legal_behind s seen others within) foreign on)
+    subst IsInProgress (sym (replay_then s seen others)) (other_calls (engine_replay s seen) others (legal_behind s seen others within) foreign on)
 
 -- Checks.
 
@@ -94,7 +94,7 @@ told_progress (Some u) on is = not_none u is
 
 -- where a transition is in progress, a check tells that it goes on, or its end
 pub check_done : (s : EngineState) (seen before others : EngineHistory) (reply : Progress) (tallies : List ClientTally) → seen ≡ (before ++ others) ++ (main_caller, Check reply tallies) ∷ [] → entries_by main_caller others ≡ []
-    → IsLegalEngine s seen → reply ≢ Going → IsUnderway (engine_replay s before) → TellsDone reply
+    → IsLegalEngine s seen → reply ≢ Going → IsInProgress (engine_replay s before) → TellsDone reply
 check_done s seen before others reply tallies is foreign legal over on = by_reply reply is over
   where
     by_reply : (r : Progress) → seen ≡ (before ++ others) ++ (main_caller, Check r tallies) ∷ [] → r ≢ Going → TellsDone r
@@ -107,20 +107,20 @@ check_done s seen before others reply tallies is foreign legal over on = by_repl
 
 -- and it is in progress still where it goes on
 pub check_going : (s : EngineState) (seen before others : EngineHistory) (tallies : List ClientTally) → seen ≡ (before ++ others) ++ (main_caller, Check Going tallies) ∷ [] → entries_by main_caller others ≡ []
-    → IsLegalEngine s seen → IsUnderway (engine_replay s before) → IsUnderway (engine_replay s seen)
+    → IsLegalEngine s seen → IsInProgress (engine_replay s before) → IsInProgress (engine_replay s seen)
 check_going s seen before others tallies is foreign legal on =
     let whole : IsLegalEngine s ((before ++ others) ++ (main_caller, Check Going tallies) ∷ []) = subst (IsLegalEngine s) is legal in
-    subst (λ (h : EngineHistory). IsUnderway (engine_replay s h)) (sym is)
-    (subst IsUnderway (sym (replay_then s (before ++ others) ((main_caller, Check Going tallies) ∷ [])))
+    subst (λ (h : EngineHistory). IsInProgress (engine_replay s h)) (sym is)
+    (subst IsInProgress (sym (replay_then s (before ++ others) ((main_caller, Check Going tallies) ∷ [])))
     (on_at s before others (main_caller, Check Going tallies) whole foreign on))
 
 -- Begins.
 
 -- behind a begin that was accepted a transition is in progress
-pub begun_underway : (s : EngineState) (seen earlier : EngineHistory) (by start : ℕ) (t : Transition) (sheet : Sheet) → seen ≡ earlier ++ (by, Begin t sheet (Ok start)) ∷ [] → IsUnderway (engine_replay s seen)
+pub begun_underway : (s : EngineState) (seen earlier : EngineHistory) (by start : ℕ) (t : Transition) (sheet : Sheet) → seen ≡ earlier ++ (by, Begin t sheet (Ok start)) ∷ [] → IsInProgress (engine_replay s seen)
 begun_underway s seen earlier by start t sheet is =
-    subst (λ (h : EngineHistory). IsUnderway (engine_replay s h)) (sym is)
-    (subst IsUnderway (sym (replay_then s earlier ((by, Begin t sheet (Ok start)) ∷ []))) refl)
+    subst (λ (h : EngineHistory). IsInProgress (engine_replay s h)) (sym is)
+    (subst IsInProgress (sym (replay_then s earlier ((by, Begin t sheet (Ok start)) ∷ []))) refl)
 
 regroup : (before between : List EngineEntry) (first last : EngineEntry) → ((before ++ first ∷ []) ++ between) ++ last ∷ [] ≡ before ++ first ∷ (between ++ last ∷ [])
 regroup before between first last = simp append_assoc

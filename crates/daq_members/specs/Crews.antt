@@ -55,8 +55,8 @@ abbrev pub TellsGoing : EngineEntry → Type 0
 TellsGoing entry = entry ≡ Check Going []
 
 -- a transition is in progress
-abbrev pub IsUnderway : EngineState → Type 0
-IsUnderway s = is_some s.underway ≡ true
+abbrev pub IsInProgress : EngineState → Type 0
+IsInProgress s = is_some s.underway ≡ true
 
 -- the reply tells that a transition is done
 abbrev pub TellsDone : Progress → Type 0

@@ -4,7 +4,7 @@ ghost use Rattle.daq_types.specs.Callers.{main_caller};
 ghost use Rattle.turn_lock.specs.Passes.{number_of, seen_by, held_by, own_entries, IsOf};
 ghost use Rattle.transition_lock.specs.SharedEngines.{engine_lock_of, first_engine};
 ghost use Rattle.transitions.specs.EngineHistories.{IsSheet, engine_replay};
-ghost use Rattle.daq_members.specs.Crews.{IsUnderway, TellsDone, ChecksUntil, MakesTransition, RefusesTransition};
+ghost use Rattle.daq_members.specs.Crews.{IsInProgress, TellsDone, ChecksUntil, MakesTransition, RefusesTransition};
 
 use crate::endless::EndlessPort;
 use crate::front_seat::FrontSeat;
@@ -71,7 +71,7 @@ impl<'a, E: Equipment, P: EndlessPort, D: WatchPort> Crew<'a, E, P, D> {
         requires empty { tallies.old ≡ [] }
         requires some { 0 < length self.old.fronts.items }
         requires few { length self.old.fronts.items < 2 ^ 16 }
-        ensures done { IsUnderway (engine_replay (first_engine engine.now) (seen_by main.old)) →
+        ensures done { IsInProgress (engine_replay (first_engine engine.now) (seen_by main.old)) →
             TellsDone result }
         ensures checks { ChecksUntil result tallies.new (own_entries main.old)
             (own_entries main.new) }

@@ -4,7 +4,7 @@ use Rattle.std.proofs.Common.{sym, subst, arith}
 use Rattle.std.proofs.lemmas.List.{append-nil, take_all}
 use Rattle.daq_io.specs.Seen.{Seen, Extends, ExtendsPart, Closes}
 use Rattle.daq_io.proofs.SeenLaws.{Extends-Closes}
-use Rattle.database_files.specs.WholeFiles.{ClosesPart}
+use Rattle.database_files.specs.WholeFiles.{ClosesFirstPart}
 
 -- what holds whatever the result holds of each of its variants
 pub on_ok : {T E P : Type 0} (r : Result T E) → P → OnOk r P
@@ -20,9 +20,9 @@ pub whole_closed : {a b c : Seen} {n : ℕ} {text : List ℕ} → Extends a b n 
 whole_closed {a} {b} {c} {n} {text} p q = subst (λ (bytes : List ℕ). Closes a c n bytes) (append-nil text) (Extends-Closes p q)
 
 -- a part of it
-pub part_closed : {a b c : Seen} {n : ℕ} {text : List ℕ} → ExtendsPart a b n text → Closes b c n [] → ClosesPart a c n text
+pub part_closed : {a b c : Seen} {n : ℕ} {text : List ℕ} → ExtendsPart a b n text → Closes b c n [] → ClosesFirstPart a c n text
 part_closed {a} {b} {c} {n} {text} p q = record { count = p.count; closes = whole_closed p.extends q }
 
 -- or all of it
-pub all_closed : {a b : Seen} {n : ℕ} {text : List ℕ} → Closes a b n text → ClosesPart a b n text
+pub all_closed : {a b : Seen} {n : ℕ} {text : List ℕ} → Closes a b n text → ClosesFirstPart a b n text
 all_closed {a} {b} {n} {text} p = record { count = length text; closes = subst (λ (bytes : List ℕ). Closes a b n bytes) (sym (take_all (length text) text (omega arith))) p }

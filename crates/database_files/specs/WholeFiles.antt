@@ -48,7 +48,7 @@ pub record SomeRead (old new : Seen) (file : ℕ) : Type 0 where
   pub reads : Reads old new file bytes
 
 -- All bytes that were left were read, and are these.
-pub record ReadsAll (old new : Seen) (file : ℕ) (text : List ℕ) : Type 0 where
+pub record ReadsWholeText (old new : Seen) (file : ℕ) (text : List ℕ) : Type 0 where
   pub reads : Reads old new file text
   pub end : IsTrue old.tells → new.left file ≡ []
   pub fits : length text ≤ file_limit
@@ -60,13 +60,13 @@ pub record ReadsTooLong (old new : Seen) (file : ℕ) (text : List ℕ) : Type 0
 
 -- what was read where the reading ended so
 abbrev pub GaveBytes : (old new : Seen) (file : ℕ) (text : List ℕ) → ReadEnd → Type 0
-GaveBytes old new file text to_end = ReadsAll old new file text
+GaveBytes old new file text to_end = ReadsWholeText old new file text
 GaveBytes old new file text past_limit = ReadsTooLong old new file text
 GaveBytes old new file text without_memory = SomeRead old new file
 
 -- the same of what is handed on
 abbrev pub GivesBody : (old new : Seen) (file : ℕ) → Body → Type 0
-GivesBody old new file (whole_body text) = ReadsAll old new file text
+GivesBody old new file (whole_body text) = ReadsWholeText old new file text
 GivesBody old new file long_body = (text : List ℕ) × ReadsTooLong old new file text
 GivesBody old new file no_body = SomeRead old new file
 
@@ -86,6 +86,6 @@ GivesRead seen file read_fault = Unit {0}
 GivesRead seen file read_too_long = IsTrue seen.tells → file_limit < length (seen.left file)
 
 -- The file of this number has a first part of the text behind what it had, and is closed.
-pub record ClosesPart (old new : Seen) (file : ℕ) (text : List ℕ) : Type 0 where
+pub record ClosesFirstPart (old new : Seen) (file : ℕ) (text : List ℕ) : Type 0 where
   pub count : ℕ
   pub closes : Closes old new file (take count text)

@@ -2,7 +2,7 @@ ghost use Rattle.std.specs.Prelude.{◌≡◌, IsTrue, OnOk, OnErr};
 ghost use Rattle.daq_io.specs.Counts.{CountsFault, NamesFirst};
 ghost use Rattle.daq_io.specs.Seen.{Closes};
 ghost use Rattle.database_files.specs.FileReplies.{FaultsOf, ClashesOf, NamesFault};
-ghost use Rattle.database_files.specs.WholeFiles.{ClosesPart, WritesFile};
+ghost use Rattle.database_files.specs.WholeFiles.{ClosesFirstPart, WritesFile};
 
 use crate::replies::FileReply;
 use daq_io::{Failed, Files, NameRefused};
@@ -12,7 +12,8 @@ use daq_types::FileName;
 fn write_and_close<E: Files>(files: &mut E, file: u32, text: &[u8]) -> Result<(), Failed>
     requires { IsTrue ((E.seen files.old).writes file) }
     ensures written { OnOk result (Closes (E.seen files.old) (E.seen files.new) file text.now) }
-    ensures part { OnErr result (ClosesPart (E.seen files.old) (E.seen files.new) file text.now) }
+    ensures part { OnErr result
+        (ClosesFirstPart (E.seen files.old) (E.seen files.new) file text.now) }
     ensures faults { CountsFault (E.faults files.old) (E.faults files.new) result }
     ensures clashes { E.clashes files.new ≡ E.clashes files.old }
     ensures first { NamesFirst ((E.seen files.old).name_of file) (E.first files.old)

@@ -33,7 +33,8 @@ impl Model for Fixture {
 
     ghost view = { λ f. length f.ports };
 
-    ghost invariant = { λ f. IsRowReady f.logger (map access_of f.ports) (seen_files f.files).seen };
+    ghost invariant = { λ f.
+        IsRowReady f.logger (map access_of f.ports) (seen_files f.files).seen };
 }
 
 impl Fixture {

@@ -126,7 +126,8 @@ impl Logger {
             HavePorts specs ports → AreUnused ports →
             LoggerStands logger.run logger.stop_dump logger.channels ports [] seen) }
         ensures room { IfOk result (λ logger. (ports : List Access) →
-            HaveRooms specs rooms.now ports → (number : ℕ) → HasEventRoom number logger.channels ports) }
+            HaveRooms specs rooms.now ports → (number : ℕ) →
+            HasEventRoom number logger.channels ports) }
         ensures own { IfOk result (λ logger. (ports : List Access) → AreUnused ports →
             KeepsLoggerCalls logger.channels ports) }
         ensures failed { IfOk result (λ logger. HasFailed logger.channels → ⊥) }

@@ -11,7 +11,7 @@ use Rattle.transitions.specs.EngineCalls.{IsEngineReply, engine_after}
 use Rattle.transitions.specs.EngineHistories.{EngineHistory, IsEngineCaller, IsLegalEngine, engine_replay}
 use Rattle.transitions.specs.EnginePoints.{engine_past, engine_past_after}
 use Rattle.turn_lock.specs.History.{Appends}
-use Rattle.session_engine.specs.MainKnowledge.{MainKnows, known_at, known_from, by_main}
+use Rattle.session_engine.specs.MainKnowledge.{MainKnows, known_at, known_from, entry_of_main}
 use Rattle.session_engine.proofs.KnownSteps.{Knows, polled, answered, main_step}
 use Rattle.std.specs.Prelude.{slice_get}
 
@@ -36,14 +36,14 @@ first_other x h is = rw is refl
 
 -- the point behind these own calls, which follow this point
 abbrev behind : (past : EngineHistory) → (own : List EngineEntry) → EngineHistory
-behind past own = engine_past_after past (map by_main own)
+behind past own = engine_past_after past (map entry_of_main own)
 
 known_all : (past : EngineHistory) (s : EngineState) (h : EngineHistory) → IsLegalEngine s h → Knows (known_at past) s → Knows (known_at (behind past (entries_by main_caller h))) (engine_replay s h)
 known_all past s [] legal knows = knows
 known_all past s (x ∷ h) legal knows = elim (eqb_tells x.0 main_caller) as (λ w. Knows (known_at (behind past (entries_by main_caller (x ∷ h)))) (engine_replay s (x ∷ h))) [
   | inl own ↦
-      let later : Knows (known_at (by_main x.1 ∷ past)) (engine_after s x.1) = main_step past s x.1 legal.1 knows in
-      subst (λ (es : List EngineEntry). Knows (known_at (behind past es)) (engine_replay s (x ∷ h))) (sym (first_own x h own.0)) (known_all (by_main x.1 ∷ past) (engine_after s x.1) h legal.2 later)
+      let later : Knows (known_at (entry_of_main x.1 ∷ past)) (engine_after s x.1) = main_step past s x.1 legal.1 knows in
+      subst (λ (es : List EngineEntry). Knows (known_at (behind past es)) (engine_replay s (x ∷ h))) (sym (first_own x h own.0)) (known_all (entry_of_main x.1 ∷ past) (engine_after s x.1) h legal.2 later)
   | inr differs ↦
       let later : Knows (known_at past) (engine_after s x.1) = other_step (known_at past) s x.0 x.1 differs.1 legal.0 legal.1 knows in
       subst (λ (es : List EngineEntry). Knows (known_at (behind past es)) (engine_replay s (x ∷ h))) (sym (first_other x h differs.0)) (known_all past (engine_after s x.1) h legal.2 later)
@@ -58,11 +58,11 @@ known h legal = known_all [] engine_opening h legal opening_known
 
 -- One call more.
 
-behind_more : (past : EngineHistory) (own : List EngineEntry) (e : EngineEntry) → behind past (own ++ e ∷ []) ≡ by_main e ∷ behind past own
+behind_more : (past : EngineHistory) (own : List EngineEntry) (e : EngineEntry) → behind past (own ++ e ∷ []) ≡ entry_of_main e ∷ behind past own
 behind_more past [] e = refl
-behind_more past (x ∷ own) e = behind_more (by_main x ∷ past) own e
+behind_more past (x ∷ own) e = behind_more (entry_of_main x ∷ past) own e
 
-pub known_more : (own : List EngineEntry) (e : EngineEntry) → known_from (own ++ e ∷ []) ≡ known_at (by_main e ∷ engine_past (map by_main own))
+pub known_more : (own : List EngineEntry) (e : EngineEntry) → known_from (own ++ e ∷ []) ≡ known_at (entry_of_main e ∷ engine_past (map entry_of_main own))
 known_more own e = ap known_at (behind_more [] own e)
 
 own_joined : (xs ys : EngineHistory) → entries_by main_caller (xs ++ ys) ≡ entries_by main_caller xs ++ entries_by main_caller ys

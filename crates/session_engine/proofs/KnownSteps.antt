@@ -28,7 +28,7 @@ use Rattle.transitions.specs.EngineCalls.{state_with, is_start, turn_of, is_next
 use Rattle.transitions.specs.EnginePoints.{transition_at}
 use Rattle.transitions.specs.TurnOrder.{number_with}
 use Rattle.daq_types.specs.Callers.{main_caller}
-use Rattle.session_engine.specs.MainKnowledge.{MainKnows, state_ended, state_told_at, known_at, begin_known, begin_known_in}
+use Rattle.session_engine.specs.MainKnowledge.{MainKnows, state_behind, state_told_at, known_at, begin_known, begin_known_in}
 
 -- the transition in progress, and the state: while all have not answered it is that before
 abbrev pub KnowsTransition : (going : Option Transition) → (before : RunState) → (state : RunState) → Option Underway → Type 0
@@ -120,8 +120,8 @@ begin_parts false None state t start n is = (refl, allowed_number (is_allowed st
 -- Ends.
 
 ended_state : (before : RunState) (going : Option Transition) (state : RunState) (t : Transition) (refusal : Option Refusal) → going ≡ Some t → state ≡ state_with before t refusal []
-    → state ≡ state_ended (outcome_of refusal) going before
-ended_state before going state t None going_is state_is = state_is ∙ ap (λ (g : Option Transition). state_ended Completed g before) (sym going_is)
+    → state ≡ state_behind (outcome_of refusal) going before
+ended_state before going state t None going_is state_is = state_is ∙ ap (λ (g : Option Transition). state_behind Completed g before) (sym going_is)
 ended_state before going state t (Some r) going_is state_is = state_is
 
 done_outcome : (outcome : StartOutcome) (called : List Called) (refusal : Option Refusal) → Done outcome ≡ progress_of called refusal → (called ≡ []) × (outcome ≡ outcome_of refusal)
@@ -129,12 +129,12 @@ done_outcome outcome [] refusal is = (refl, cc (is))
 done_outcome outcome (c ∷ cs) refusal is = absurd (cc (is))
 
 pub ended : (before : RunState) (going : Option Transition) (state : RunState) (u : Option Underway) (outcome : StartOutcome) → Done outcome ≡ check_reply_in u
-    → KnowsTransition going before state u → state ≡ state_ended outcome going before
+    → KnowsTransition going before state u → state ≡ state_behind outcome going before
 ended before going state None outcome is knows = absurd (cc (is))
 ended before going state (Some u) outcome is knows =
     let done : (u.called ≡ []) × (outcome ≡ outcome_of u.refusal) = done_outcome outcome u.called u.refusal is in
     let at_end : state ≡ state_with before u.transition u.refusal [] = knows.1 ∙ ap (state_with before u.transition u.refusal) done.0 in
-    ended_state before going state u.transition u.refusal knows.0 at_end ∙ ap (λ (o : StartOutcome). state_ended o going before) (sym done.1)
+    ended_state before going state u.transition u.refusal knows.0 at_end ∙ ap (λ (o : StartOutcome). state_behind o going before) (sym done.1)
 
 -- One call of the main thread.
 

@@ -27,7 +27,7 @@ use Rattle.transitions.specs.EngineCalls.{register_reply_in, close_reply_in, pro
 use Rattle.session_engine.specs.declared.opening.MemberName.{MemberName}
 use Rattle.session_engine.specs.Members.{gets_dumps, gets_reports, registration, registrations}
 use Rattle.run_states.specs.Sequences.{sequences_of}
-use Rattle.session_engine.specs.MainKnowledge.{MainKnows, state_ended, known_at, known_from, known_behind, by_main, begin_known}
+use Rattle.session_engine.specs.MainKnowledge.{MainKnows, state_behind, known_at, known_from, known_behind, entry_of_main, begin_known}
 use Rattle.session_engine.proofs.KnownSteps.{KnowsTransition, begin_same}
 use Rattle.session_engine.proofs.KnownCalls.{AtCall, known_more}
 use Rattle.session_engine.specs.MadeTransitions.{going_checks, done_check, HadRounds, WaitsForEnd, DrivesTransition}
@@ -96,7 +96,7 @@ pub record OnlyJoined (count : ℕ) (own later : List EngineEntry) : Type 0 wher
 
 pub known_registered : (own : List EngineEntry) (client : ℕ) (m : MemberName) → OnlyJoined 1 own (own ++ registration client m ∷ [])
 known_registered own client m =
-    let more : known_from (own ++ registration client m ∷ []) ≡ known_at (by_main (registration client m) ∷ engine_past (map by_main own)) = known_more own (registration client m) in
+    let more : known_from (own ++ registration client m ∷ []) ≡ known_at (entry_of_main (registration client m) ∷ engine_past (map entry_of_main own)) = known_more own (registration client m) in
     record {
       closed = ap (λ (k : MainKnows). k.closed) more;
       going = ap (λ (k : MainKnows). k.going) more;
@@ -171,7 +171,7 @@ checks_tell own (suc n) =
     ap known_from (sym (append_assoc own (Check Going [] ∷ []) (going_checks n))) ∙ (checks_tell (own ++ Check Going [] ∷ []) n ∙ known_going own [])
 
 abbrev known_done : (outcome : StartOutcome) (k : MainKnows) → MainKnows
-known_done outcome k = record { closed = k.closed; clients = k.clients; starts = k.starts; going = None; state = state_ended outcome k.going k.state }
+known_done outcome k = record { closed = k.closed; clients = k.clients; starts = k.starts; going = None; state = state_behind outcome k.going k.state }
 
 pub known_begun : (own : List EngineEntry) (t : Transition) (sheet : Sheet) (start : ℕ) → (known_from (own ++ Begin t sheet (Ok start) ∷ [])).going ≡ Some t
 known_begun own t sheet start = ap (λ (k : MainKnows). k.going) (known_more own (Begin t sheet (Ok start)))

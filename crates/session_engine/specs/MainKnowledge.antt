@@ -40,12 +40,12 @@ is_closed_at [] = false
 is_closed_at (e ∷ past) = is_closed_by e.1 (is_closed_at past)
 
 -- the run state behind a transition that was going on and ended so: a start that was refused changes nothing
-abbrev pub state_ended : StartOutcome → Option Transition → RunState → RunState
-state_ended Completed (Some t) state = run_state_after state t
-state_ended outcome going state = state
+abbrev pub state_behind : StartOutcome → Option Transition → RunState → RunState
+state_behind Completed (Some t) state = run_state_after state t
+state_behind outcome going state = state
 
 abbrev pub state_told_by : EngineNews → (going : Option Transition) → RunState → RunState
-state_told_by (Ended outcome) going state = state_ended outcome going state
+state_told_by (Ended outcome) going state = state_behind outcome going state
 state_told_by news going state = state
 
 -- the run state to which the transitions led whose ends were told
@@ -63,12 +63,12 @@ known_at past = record {
   state = state_told_at past;
 }
 
-abbrev pub by_main : EngineEntry → ℕ × EngineEntry
-by_main entry = (main_caller, entry)
+abbrev pub entry_of_main : EngineEntry → ℕ × EngineEntry
+entry_of_main entry = (main_caller, entry)
 
 -- what the main thread knows from its own calls, in their order
 abbrev pub known_from : (own : List EngineEntry) → MainKnows
-known_from own = known_at (engine_past (map by_main own))
+known_from own = known_at (engine_past (map entry_of_main own))
 
 -- The reply of a begin, as the main thread can tell it before: the engine is closed, or a transition is going on, or the state
 -- does not allow this one, or the last start number was given; else it is the start number.
@@ -86,5 +86,5 @@ known_behind t outcome k = record {
   clients = k.clients;
   starts = number_with t k.starts;
   going = None;
-  state = state_ended outcome (Some t) k.state;
+  state = state_behind outcome (Some t) k.state;
 }
