@@ -12,7 +12,7 @@ use Rattle.daq_types.specs.declared.runs.FrontEnded.{FrontEnded}
 use Rattle.daq_types.specs.declared.runs.FrontEnded.TheVariants.{Quota}
 use Rattle.daq_types.specs.declared.runs.RunState.TheVariants.{Stopped, Running}
 use Rattle.daq_types.specs.declared.runs.Transition.{Transition}
-use Rattle.daq_types.specs.declared.runs.Transition.TheVariants.{Start, Stop}
+use Rattle.daq_types.specs.declared.runs.Transition.TheVariants.{Start, Stop, Pause}
 use Rattle.daq_model.specs.Events.{matches, slot_of_length, record_limit}
 use Rattle.daq_model.specs.RunFile.{IsFileEvent}
 use Rattle.buffer_core.specs.SlotLaws.{split}
@@ -44,6 +44,7 @@ use Rattle.member_model.specs.OwnCalls.{calls_after, AreOwnCalls, SendsNone}
 use Rattle.run_states.specs.Sequences.{sequence_for}
 use Rattle.member_model.specs.ReadRuns.{HasReadRun}
 use Rattle.member_model.specs.LoggerKept.{LoggerChannel, LoggerPort, HasWritten, TellsState, IsStartAnswer, IsStateSo, KeepsLogger}
+use Rattle.front_ends.specs.Spans.{HasSpan}
 use Rattle.front_ends.specs.FrontKept.{IsMade, IsFrontTally, KeepsFront, KeepsMoments}
 use Rattle.caller_laws.specs.OneCaller.{WasSentAt}
 use Rattle.caller_laws.specs.CallerSamples.{reading_history, reading_calls, with_own_run, got_first}
@@ -141,12 +142,17 @@ front_keeps = record {
 -- its moments
 
 pub front_moments : KeepsMoments front_calls front_turns (1 ∷ 0 ∷ [])
-front_moments = record { are = (omega arith, (omega arith, tt)); ends = λ are t moment has is answer. ends t moment has is }
+front_moments = record { are = (omega arith, (omega arith, tt)); ends = λ are t moment has is answer. ends t moment has is; holds = λ t moment until span is answer. no_pause t moment until span is }
   where
     ends : (t : MemberTurn) (moment : ℕ) → HasMoment front_turns (1 ∷ 0 ∷ []) t moment → t.transition ≡ Stop → EachCall (SendsNotIn t.order.start) (drop moment front_calls)
     ends t moment (inl here) is = subst (λ (n : ℕ). EachCall (SendsNotIn t.order.start) (drop n front_calls)) here.1 tt
     ends t moment (inr (inl here)) is = absurd (let e : Start ≡ Stop = ap (λ (v : MemberTurn). v.transition) here.0 ∙ is in cc (e))
     ends t moment (inr (inr none)) is = absurd none
+
+    no_pause : (t : MemberTurn) (moment until : ℕ) → HasSpan front_turns (1 ∷ 0 ∷ []) 1 t moment until → t.transition ≡ Pause → EachCall (SendsNotIn t.order.start) (drop moment (take until front_calls))
+    no_pause t moment until (inl here) is = absurd (let e : Stop ≡ Pause = ap (λ (v : MemberTurn). v.transition) here.0 ∙ is in cc (e))
+    no_pause t moment until (inr (inl here)) is = absurd (let e : Start ≡ Pause = ap (λ (v : MemberTurn). v.transition) here.0 ∙ is in cc (e))
+    no_pause t moment until (inr (inr none)) is = absurd none
 
 pub front_set : AreTurnSets sample_name front_calls front_turns (1 ∷ 0 ∷ []) (database_calls sample_session 1)
 front_set = inl (record {
@@ -352,7 +358,7 @@ sample_keeps = record {
   callers = sample_callers;
   fronts_keep = λ f has. subst (λ (x : SessionFront). KeepsFront x.takes x.makes (buffer_calls sample_session x.buffer x.client) (turns_of sample_session x.client)) (only_front f has) front_keeps;
   fronts_moments = λ f has. subst (λ (x : SessionFront). KeepsMoments (buffer_calls sample_session x.buffer x.client) (turns_of sample_session x.client) x.moments) (only_front f has) front_moments;
-  fronts_set = λ f has. subst (λ (x : SessionFront). AreTurnSets x.name (buffer_calls sample_session x.buffer x.client) (turns_of sample_session x.client) x.moments (database_calls sample_session x.client)) (only_front f has) front_set;
+  fronts_set = λ f has are. subst (λ (x : SessionFront). AreTurnSets x.name (buffer_calls sample_session x.buffer x.client) (turns_of sample_session x.client) x.moments (database_calls sample_session x.client)) (only_front f has) front_set;
   logger_keeps = logger_is_kept;
   logger_got = got_so;
   analyzers_keep = λ a has. absurd (no_analyzer a has);
@@ -395,7 +401,6 @@ sample_stopped = record {
     whole = refl;
     on = (refl, (refl, (refl, (refl, tt))));
   };
-  same_run = refl;
 }
 
 pub sample_told : ToldState sample_session sample_run sample_channel Ended

@@ -9,6 +9,7 @@ returns c s keep = record {
   only_fronts = c.fronts.ensures.only s keep;
   fronts_set = c.sets.ensures.set s keep;
   stops_set = c.sets.ensures.stop s keep;
+  pauses_set = c.sets.ensures.pause s keep;
   channels_told = c.files.ensures.told s keep;
   runs_ended = c.files.ensures.ended s keep;
   no_end_refused = c.files.ensures.unrefused s keep;
@@ -17,4 +18,5 @@ returns c s keep = record {
   reports_told = c.reports.ensures.told s keep;
   reports_so = c.reports.ensures.so s keep;
   reports_whole = c.reports.ensures.whole s keep;
+  got_whole = c.reports.ensures.got s keep;
 }
