@@ -1,0 +1,4 @@
+pub mod ClosedSessions
+pub mod MembersEnd
+pub mod MadeRuns
+pub mod EndLaws
