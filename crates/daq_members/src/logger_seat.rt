@@ -18,6 +18,7 @@ use crate::turned::Turned;
 use daq_io::{Files, Gate};
 use loggers::{Ports, laws as logger_laws};
 use std::marker::Model;
+use std::snapshot::Snapshot;
 use std::sync::Wait;
 use transition_lock::EnginePass;
 
@@ -37,6 +38,7 @@ pub struct LoggerSeat<'a, P: EndlessPort, F: Files> {
     member: LoggerMember<'a>,
     ports: Ports<P>,
     files: F,
+    first: Snapshot<F>,
 }
 
 impl<'a, P: EndlessPort, F: Files> Model for LoggerSeat<'a, P, F> {
@@ -55,6 +57,7 @@ impl<'a, P: EndlessPort, F: Files> Model for LoggerSeat<'a, P, F> {
       slots = s.member.logger.channels;
       ports = map P.access s.ports;
       files = s.files;
+      first = s.first.value;
     } };
 
     ghost invariant = { λ s. IsLoggerSeated F.seen (record {
@@ -66,6 +69,7 @@ impl<'a, P: EndlessPort, F: Files> Model for LoggerSeat<'a, P, F> {
       slots = s.member.logger.channels;
       ports = map P.access s.ports;
       files = s.files;
+      first = s.first.value;
     }) };
 }
 
@@ -93,11 +97,14 @@ impl<'a, P: EndlessPort, F: Files> LoggerSeat<'a, P, F> {
         ensures slots { result.slots ≡ member.entry.logger.channels }
         ensures ports { result.ports ≡ map P.access ports }
         ensures files { result.files ≡ files }
+        ensures first { result.first ≡ files }
     {
+        let first = Snapshot::of(&files);
         LoggerSeat {
             member,
             ports,
             files,
+            first,
         }
     }
 
@@ -108,6 +115,7 @@ impl<'a, P: EndlessPort, F: Files> LoggerSeat<'a, P, F> {
         ensures same { IsSameLogger self.old self.new }
     {
         logger_laws::still_known();
+        logger_laws::other_files();
         self.member.turn(rt, &mut self.ports, &mut self.files, gate)
     }
 
@@ -134,6 +142,7 @@ impl<'a, P: EndlessPort, F: Files> LoggerSeat<'a, P, F> {
             member,
             ports,
             files,
+            first: _,
         } = self;
         let LoggerMember { seat, .. } = member;
         LoggerParts {

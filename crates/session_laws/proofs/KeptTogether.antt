@@ -55,7 +55,7 @@ main_calls c ends P registered steered =
     subst (AllByRecursion P) (sym ends.main.calls)
     (all_both P (registrations 0 (members_of c.fronts)) ends.main.later registered (all_each SteersEngine P ends.main.later steered ends.main.steers))
 
-names_own : (c : ClosedSession) → MembersEnd c → AllByRecursion NamesOwnClient c.engine
+pub names_own : (c : ClosedSession) → MembersEnd c → AllByRecursion NamesOwnClient c.engine
 names_own c ends =
     each_by (λ by e. NamesOwnClient (by, e)) c.engine
     (by_caller (λ by. AllByRecursion (λ e. NamesOwnClient (by, e)) (engine_calls c by)) c

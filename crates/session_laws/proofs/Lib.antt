@@ -7,3 +7,4 @@ pub mod LoggerEnd
 pub mod FrontsEnd
 pub mod KeptTogether
 pub mod RunsMade
+pub mod NamesStay

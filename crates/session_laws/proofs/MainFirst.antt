@@ -19,7 +19,7 @@ use Rattle.session_laws.specs.MembersEnd.{MembersEnd}
 use Rattle.session_laws.proofs.EachCaller.{own_around}
 use Rattle.session_laws.proofs.Registrations.{Among, registered_at, behind_all}
 
-may_call : (s : EngineState) (xs : EngineHistory) (x : ℕ × EngineEntry) (ys : EngineHistory) → IsLegalEngine s (xs ++ x ∷ ys) → IsEngineCaller x.0 x.1
+pub may_call : (s : EngineState) (xs : EngineHistory) (x : ℕ × EngineEntry) (ys : EngineHistory) → IsLegalEngine s (xs ++ x ∷ ys) → IsEngineCaller x.0 x.1
 may_call s [] x ys legal = legal.0
 may_call s (y ∷ xs) x ys legal = may_call (engine_after s y.1) xs x ys legal.2
 

@@ -32,14 +32,15 @@ pub record ClosedFront : Type 0 where
   pub makes : Order → ℕ → Event
 
 -- A session: its buffers, each at its number; the history of the engine, and that of the database; the front-ends, each at
--- its client number; the logger's channels, each at its number; and the run files. The logger's client number is the one
--- behind those of the front-ends.
+-- its client number; the logger's channels, each at its number; and the run files, as they were at first and as they are. The
+-- logger's client number is the one behind those of the front-ends.
 pub record ClosedSession : Type 0 where
   pub buffers : List ClosedBuffer
   pub engine : EngineHistory
   pub database : List (ℕ × WatchEntry)
   pub fronts : List ClosedFront
   pub slots : List (Option Channel)
+  pub first_files : Seen
   pub files : Seen
 
 -- the client numbers are those below the logger's and the logger's own

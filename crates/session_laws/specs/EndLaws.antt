@@ -1,5 +1,5 @@
 -- What a closed session's histories tell: statements of the laws.
-use Rattle.std.specs.Prelude.{ℕ, List}
+use Rattle.std.specs.Prelude.{◌≡◌, ℕ, List}
 use Rattle.daq_types.specs.Callers.{entries_by, main_caller}
 use Rattle.composition.specs.Sessions.{Session, EngineLegal, MembersKeep}
 use Rattle.composition.specs.SessionRuns.{SessionRun, IsStoppedRun}
@@ -7,6 +7,7 @@ use Rattle.composition.specs.CompositionLaws.{IsComposed}
 use Rattle.session_laws.specs.ClosedSessions.{ClosedSession, session_of}
 use Rattle.session_laws.specs.MembersEnd.{MembersEnd}
 use Rattle.session_laws.specs.MadeRuns.{MakesRun, RunHolds}
+use Rattle.session_laws.specs.OtherNames.{IsOtherName}
 
 -- What is known of a session when its objects are closed is all that the law of composition asks for: there are moments of
 -- the front-ends' turns for which each member keeps its contract.
@@ -28,11 +29,18 @@ MadeAreStopped = (s : Session) → EngineLegal s → (r : SessionRun) → MakesR
 abbrev pub StoppedHold : Type 0
 StoppedHold = (s : Session) → IsComposed s → (r : SessionRun) → IsStoppedRun s r → RunHolds s r
 
--- A closed session: the law of composition for its histories, and all runs that the main thread made.
+-- Each file whose name no channel gives in a run that the main thread began is as it was at first.
+abbrev pub OtherNamesStay : Type 0
+OtherNamesStay = (c : ClosedSession) → MembersEnd c → (name : List ℕ) → IsOtherName c name →
+    c.files.at name ≡ c.first_files.at name
+
+-- A closed session: the law of composition for its histories; all runs that the main thread made; and the files of other
+-- names, which are as they were at first.
 pub record SessionHolds (c : ClosedSession) : Type 0 where
   pub moments : (client : ℕ) → List ℕ
   pub composed : IsComposed (session_of c moments)
   pub runs : (r : SessionRun) → MakesRun (entries_by main_caller c.engine) r → RunHolds (session_of c moments) r
+  pub others : (name : List ℕ) → IsOtherName c name → c.files.at name ≡ c.first_files.at name
 
 abbrev pub EndsHold : Type 0
 EndsHold = (c : ClosedSession) → MembersEnd c → SessionHolds c

@@ -18,8 +18,10 @@ use Rattle.front_ends.specs.declared.front_run.FrontRun.{FrontRun}
 use Rattle.loggers.specs.declared.logged_run.LoggedRun.{LoggedRun}
 use Rattle.loggers.specs.NewLoggers.{NoneTakenBack}
 use Rattle.loggers.specs.LoggerStands.{LoggerStands}
+use Rattle.loggers.specs.OtherFiles.{specs_in, KeepsOtherFiles}
 use Rattle.session_engine.specs.Members.{registrations}
 use Rattle.daq_members.specs.OwnTurns.{are_calls_for}
+use Rattle.daq_members.specs.StartedRuns.{started_runs}
 use Rattle.daq_members.specs.FrontTaken.{FrontMemberStands}
 use Rattle.session_laws.specs.ClosedSessions.{ClosedBuffer, ClosedFront, ClosedSession, logger_client, logger_caller, members_of, engine_calls, calls_on_buffer, calls_on_database}
 
@@ -40,9 +42,9 @@ pub record IsAccessTo (caller : ℕ) (b : ClosedBuffer) (a : Access) : Type 0 wh
   pub got : a.got ≡ given_in caller (opening b.size) seen
   pub known : a.taken_back ≡ taken_back_in caller 0 seen
 
--- The logger: on the engine it polls and answers for its own client alone; it has a port to each buffer; and it keeps its
--- contract over its calls on the engine, what its ports told it, and the run files, where no client of it is known to be
--- detached by another.
+-- The logger: on the engine it polls and answers for its own client alone; and it has a port to each buffer. Where no client
+-- of it is known to be detached by another, it keeps its contract over its calls on the engine, what its ports told it, and
+-- the run files; and it left all files but those of its channels in the runs that it was told to start.
 pub record LoggerEnds (c : ClosedSession) : Type 0 where
   pub speaks : are_calls_for (logger_client c) (engine_calls c (logger_caller c)) ≡ true
   pub run : Option LoggedRun
@@ -53,6 +55,9 @@ pub record LoggerEnds (c : ClosedSession) : Type 0 where
       slice_get c.buffers buffer ≡ Some b → IsAccessTo (logger_caller c) b a
   pub stands : NoneTakenBack ports →
       LoggerStands run stop_dump c.slots ports (member_turns (logger_client c) (engine_calls c (logger_caller c))) c.files
+  pub others : NoneTakenBack ports →
+      KeepsOtherFiles (specs_in c.slots) (started_runs (member_turns (logger_client c) (engine_calls c (logger_caller c))))
+      c.first_files c.files
 
 -- the call begins a transition, checks one, or closes the engine
 abbrev pub SteersEngine : EngineEntry → Type 0

@@ -1,6 +1,6 @@
 //! Laws of closed sessions: each function does nothing, and its contract is the law.
 
-ghost use Rattle.session_laws.specs.EndLaws.{EndsKeep, EndsComposed, MadeAreStopped, StoppedHold, EndsHold};
+ghost use Rattle.session_laws.specs.EndLaws.{EndsKeep, EndsComposed, MadeAreStopped, StoppedHold, OtherNamesStay, EndsHold};
 
 use buffer_lock::laws as buffers;
 use caller_laws::laws as callers;
@@ -45,11 +45,20 @@ pub fn stopped_hold()
     ensures { StoppedHold }
 {}
 
-/// A closed session holds all that of each run that the main thread made.
+/// Each run file whose name no channel gives in a run that the main thread began is as it was at first: it is there where it
+/// was there, with the same bytes.
+pub fn other_names_stay()
+    ensures { OtherNamesStay }
+{
+    turns::turns_begun();
+}
+
+/// A closed session holds all that, of each run that the main thread made and of its run files.
 pub fn session_holds()
     ensures { EndsHold }
 {
     ends_composed();
     made_are_stopped();
     stopped_hold();
+    other_names_stay();
 }

@@ -1,4 +1,6 @@
+use Rattle.std.specs.Prelude.{refl}
 use Rattle.daq_members.proofs.LoggerSeatLaws.{known_before, have_entries, caller_kept, begun_mapped, begun_read}
+use Rattle.daq_members.proofs.OtherFilesKept.{LoggerLeaves, specs_stay, others_kept}
 use Rattle.daq_members.proofs.logger_seat.LoggerSeat.turn.Goals as goal
 
 pub turn-requires-clause-entries : goal.turn-requires-clause-entries
@@ -7,11 +9,24 @@ turn-requires-clause-entries g c = have_entries g.P.BufferPort.access c.self.ins
 pub turn-requires-clause-begun : goal.turn-requires-clause-begun
 turn-requires-clause-begun g c = begun_read g.P.BufferPort.access c.self.inside.ports _ c.self.invariant.begun
 
+pub returns-clause-same : goal.returns-clause-same
+returns-clause-same g c =
+    let laws : LoggerLeaves = record { turns = c.other_files.ensures.turns; pulls = c.other_files.ensures.pulls; finishes = c.other_files.ensures.finishes } in
+    record {
+      engine = c.turn.ensures.engine;
+      client = c.turn.ensures.client;
+      ports = c.turn.ensures.same;
+      specs = specs_stay laws _ c.turn.ensures.takes c.self.invariant.ready;
+      first = refl;
+    }
+
 pub invariant_of-self : goal.invariant_of-self
 invariant_of-self g c =
     let before = c.self.invariant in
     let did = c.turn.ensures in
+    let laws : LoggerLeaves = record { turns = c.other_files.ensures.turns; pulls = c.other_files.ensures.pulls; finishes = c.other_files.ensures.finishes } in
     record {
+      speaks = c.turn.new.self.seat.calls_for;
       caller = rw did.client (caller_kept _ _ _ did.same before.caller);
       ready = did.ready;
       room = did.room;
@@ -19,4 +34,7 @@ invariant_of-self g c =
       begun = begun_mapped g.P.BufferPort.access c.turn.new.ports _ did.begun;
       small = did.small;
       stands = λ none. rw did.client (did.keeps none (before.stands (known_before c.still_known.ensures.turns c.still_known.ensures.pulls _ did.takes none)));
+      others = λ none.
+          let known = known_before c.still_known.ensures.turns c.still_known.ensures.pulls _ did.takes none in
+          rw did.client (others_kept laws _ _ did.takes before.ready (before.stands known) (before.others known));
     }
