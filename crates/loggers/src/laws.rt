@@ -1,6 +1,6 @@
 //! What a logger keeps: each function does nothing, and its contract is the law.
 
-ghost use Rattle.loggers.specs.LoggerLaws.{FinishesKeep, TurnsKeep, TurnsLeaveKnown, PullsLeaveKnown};
+ghost use Rattle.loggers.specs.LoggerLaws.{FinishesKeep, TurnsKeep, TurnsLeaveKnown, PullsLeaveKnown, TurnsNote, PullsNote, FinishesNote, NotesFollow};
 ghost use Rattle.loggers.specs.LoggerStands.{StandingLoggerKeeps};
 ghost use Rattle.loggers.specs.OtherFiles.{TurnsLeaveFiles, PullsLeaveFiles, FinishesLeaveFiles};
 
@@ -54,3 +54,11 @@ pub fn other_files()
     channel_laws::pulls_kept();
     channel_laws::closes_kept();
 }
+
+/// The faults of the files are noted by each call, and by several that follow one another.
+pub fn faults_noted()
+    ensures turns { TurnsNote }
+    ensures pulls { PullsNote }
+    ensures finishes { FinishesNote }
+    ensures follow { NotesFollow }
+{}
