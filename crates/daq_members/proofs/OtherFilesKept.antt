@@ -1,18 +1,15 @@
 -- A turn of the logger in a session leaves all files but those of its channels in the runs that it was told to start.
-use Rattle.std.specs.Prelude.{◌≡◌, ◌<◌, ℕ, zero, suc, Bool, List, [], ◌∷◌, ◌++◌, length, slice_get, Contains, Option, Some, None, ⊤, refl}
+use Rattle.std.specs.Prelude.{◌≡◌, ◌<◌, ℕ, zero, suc, Bool, List, [], ◌∷◌, ◌++◌, length, slice_get, Contains, Option, Some, None, refl}
 use Rattle.std.proofs.Common.{ap, sym, subst, ◌∙◌, arith, inl, inr}
 use Rattle.std.proofs.lemmas.List.Elements.{Contains-append_left, Contains-append_right}
-use Rattle.daq_types.specs.declared.runs.Order.{Order}
 use Rattle.daq_types.specs.declared.runs.Transition.{Transition}
 use Rattle.daq_types.specs.declared.runs.Transition.TheVariants.{Start, Stop, Pause, Resume, StartAbort}
 use Rattle.daq_io.specs.Seen.{Seen}
 use Rattle.buffer_core.specs.declared.entry.BufferEntry.{BufferEntry}
 use Rattle.buffer_core.specs.Ports.{Access, GotEvent}
-use Rattle.buffer_core.specs.Slots.{slot_at}
 use Rattle.transitions.specs.declared.answers.Answer.{Answer}
 use Rattle.transitions.specs.declared.replies.Polled.{Polled}
 use Rattle.transitions.specs.declared.replies.Polled.TheVariants.{Turn, Idle as NoTurn, Closed, NoClient}
-use Rattle.transitions.specs.declared.entry.EngineEntry.{EngineEntry}
 use Rattle.member_model.specs.Turns.{MemberTurn, HasTurn, latest_answered}
 use Rattle.member_model.specs.TurnCalls.{member_turns}
 use Rattle.mid_logger.specs.declared.channel.Channel.{Channel}
@@ -22,10 +19,10 @@ use Rattle.mid_logger.specs.declared.stage.ChannelStage.{ChannelStage}
 use Rattle.mid_logger.specs.declared.stage.ChannelStage.TheVariants.{Idle, Asking, Writing, Draining, Drained, Broken}
 use Rattle.mid_logger.specs.Channels.{FileHead, StageAt, channel_run}
 use Rattle.loggers.specs.declared.logged_run.LoggedRun.{LoggedRun}
-use Rattle.loggers.specs.Moments.{RunFiles, LoggerMoment, HaveFilesOpen, IsLoggerReady}
+use Rattle.loggers.specs.Moments.{LoggerMoment, IsLoggerReady}
 use Rattle.loggers.specs.LoggerStands.{LoggerStands, HasHead, ChannelKept, IsHeadTold}
 use Rattle.loggers.specs.OtherFiles.{specs_in, IsRunName, HaveRunsAmong, KeepsOtherFiles, LeavesOtherFiles, TurnsLeaveFiles, PullsLeaveFiles, FinishesLeaveFiles}
-use Rattle.daq_members.specs.OwnTurns.{start_owed, is_call_for, are_calls_for, GivesAnswer}
+use Rattle.daq_members.specs.OwnTurns.{start_owed}
 use Rattle.daq_members.specs.StartedRuns.{runs_with, started_runs}
 use Rattle.daq_members.specs.LoggerTaken.{LoggerTaken, PullsBelow, TakesLoggerBy, TakesLogger, pulled_channels}
 use Rattle.daq_members.proofs.OwnTurnLaws.{taken_turns, finished_turns, idle_turns, closed_turns, unknown_turns}

@@ -3,7 +3,6 @@ use Rattle.std.specs.Prelude.{◌≡◌, ◌==◌, ℕ, zero, suc, Bool, true, f
 use Rattle.std.specs.Option.{option_map}
 use Rattle.std.specs.List.{list_all}
 use Rattle.std.proofs.Common.{ap, sym, subst, ◌∙◌, inl, inr}
-use Rattle.daq_types.specs.declared.runs.ChannelState.{ChannelState}
 use Rattle.daq_types.specs.declared.runs.Order.{Order}
 use Rattle.daq_types.specs.declared.runs.Transition.{Transition}
 use Rattle.daq_types.specs.declared.runs.Transition.TheVariants.{Start, Stop, Pause, Resume, StartAbort}
@@ -22,11 +21,11 @@ use Rattle.mid_logger.specs.Channels.{channel_run, written_run, stage_begun, sta
 use Rattle.mid_logger.specs.ChannelTurns.{ChannelAt, OpensBy}
 use Rattle.mid_logger.specs.ChannelEnds.{stage_settled}
 use Rattle.mid_logger.specs.Keeping.{ChangesFile, PullsChange, AbortsChange, ClosesChange, OpensChange}
-use Rattle.loggers.specs.Moments.{RunFiles, LoggerMoment, ChannelStep, StepsChannel, StepsSlot, StepsAt, CallsBuffer, MarksBuffer, InTurn, noted_channel, HaveFilesOpen, IsLoggerReady}
-use Rattle.loggers.specs.ChannelSteps.{OpensChannel, AbortsChannel, PullsChannel, EndsChannel}
-use Rattle.loggers.specs.SlotPulls.{PullsSlot, PullsNumbered}
-use Rattle.loggers.specs.Turning.{BeginsBuffer, EndsBuffer, PausesBuffer, ResumesBuffer, LoggerTurn, OpensBelow, BeginsBelow, AbortsAll, UndoesOpens, UndoesBegins, StartsSo, TakesStart, TakesStop, TakesMark, TakesAbort, TakesTurnBy, TakesTurn, is_run_on, is_started, is_of_start, buffers_begun}
-use Rattle.loggers.specs.Finishing.{EndingMoment, EndsSlot, EndsSlotAt, LoggerFinish, FinishesBy, FinishesLogger, is_settled_slot, waiting_stop}
+use Rattle.loggers.specs.Moments.{RunFiles, LoggerMoment, ChannelStep, StepsChannel, StepsSlot, StepsAt, CallsBuffer, MarksBuffer, InTurn, noted_channel, HaveFilesOpen}
+use Rattle.loggers.specs.ChannelSteps.{OpensChannel, AbortsChannel, PullsChannel}
+use Rattle.loggers.specs.SlotPulls.{PullsSlot}
+use Rattle.loggers.specs.Turning.{BeginsBuffer, EndsBuffer, PausesBuffer, ResumesBuffer, LoggerTurn, OpensBelow, BeginsBelow, AbortsAll, UndoesOpens, UndoesBegins, StartsSo, TakesStart, TakesStop, TakesMark, TakesAbort, TakesTurnBy, is_run_on, is_started, is_of_start, buffers_begun}
+use Rattle.loggers.specs.Finishing.{EndingMoment, EndsSlot, EndsSlotAt, LoggerFinish, FinishesBy, is_settled_slot, waiting_stop}
 use Rattle.loggers.specs.OtherFiles.{specs_in, IsRunName, HaveRunsAmong, KeepsOtherFiles, LeavesOtherFiles, TurnsLeaveFiles, PullsLeaveFiles, FinishesLeaveFiles}
 use Rattle.loggers.proofs.InTurns.{turns_keep}
 use Rattle.loggers.proofs.SlotLists.{one_changed}

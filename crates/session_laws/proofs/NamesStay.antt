@@ -1,5 +1,5 @@
 -- The files of other names are as they were at first.
-use Rattle.std.specs.Prelude.{◌≡◌, ◌≢◌, ℕ, zero, suc, ◌<◌, List, [], ◌∷◌, ◌++◌, length, Contains, Option, Some, None, Ok, ⊤, refl, ◌⊎◌}
+use Rattle.std.specs.Prelude.{◌≡◌, ℕ, zero, suc, List, [], ◌∷◌, ◌++◌, Contains, Option, Some, None, Ok, refl, ◌⊎◌}
 use Rattle.std.specs.Option.{option_map}
 use Rattle.std.proofs.Common.{ap, sym, subst, ◌∙◌, arith, inl, inr}
 use Rattle.daq_types.specs.Callers.{entries_by, main_caller}
@@ -10,7 +10,7 @@ use Rattle.buffer_core.specs.Slots.{slot_at}
 use Rattle.transitions.specs.declared.entry.EngineEntry.{EngineEntry}
 use Rattle.transitions.specs.declared.entry.EngineEntry.TheVariants.{Begin}
 use Rattle.transitions.specs.Engines.{engine_opening}
-use Rattle.transitions.specs.EngineHistories.{EngineHistory, IsEngineCaller, IsLegalEngine}
+use Rattle.transitions.specs.EngineHistories.{IsEngineCaller, IsLegalEngine}
 use Rattle.member_model.specs.Turns.{MemberTurn, HasTurn}
 use Rattle.member_model.specs.TurnCalls.{member_turns}
 use Rattle.mid_logger.specs.declared.channel.Channel.{Channel}
@@ -23,7 +23,7 @@ use Rattle.composition.proofs.SessionTurns.{speaks}
 use Rattle.daq_members.specs.StartedRuns.{runs_with, started_runs}
 use Rattle.session_laws.specs.ClosedSessions.{ClosedSession, logger_client, logger_caller, engine_calls}
 use Rattle.session_laws.specs.MembersEnd.{MembersEnd}
-use Rattle.session_laws.specs.OtherNames.{BeginsStartOf, IsOtherName}
+use Rattle.session_laws.specs.OtherNames.{BeginsStartOf}
 use Rattle.session_laws.specs.EndLaws.{OtherNamesStay}
 use Rattle.session_laws.proofs.EachCaller.{own_around}
 use Rattle.session_laws.proofs.MainFirst.{may_call}
