@@ -1,0 +1,23 @@
+-- The texts of the words, one by one, and the test for `--`.
+use Rattle.std.proofs.Common.{◌≡◌, ◌∙◌, ◌||◌, ◌+◌, ◌<◌, ◌++◌, ℕ, Bool, refl, sym, ap, List, [], ◌∷◌, length, map, take, Some, None, codes}
+use Rattle.std.specs.Prelude.{slice_get}
+use Rattle.std.specs.List.{list_any}
+use Rattle.std.specs.Str.{bytes_eq}
+use Rattle.std.specs.Borrow.{Bor}
+use Rattle.std.proofs.lemmas.List.{map-append, take_more}
+use Rattle.std.proofs.lemmas.Option.{get_or_from_slice_get, slice_get-get_or, slice_get_within}
+use Rattle.command_words.specs.Reader.{has_separator}
+
+pub texts_next : (words : List (List ℕ)) (at : ℕ) (texts : List (Bor (List ℕ))) (word : Bor (List ℕ)) → map (λ t. t.now) texts ≡ take at words → Some word.now ≡ slice_get words at
+    → map (λ t. t.now) (texts ++ word ∷ []) ≡ take (at + 1) words
+texts_next words at texts word so_far is =
+    map-append (λ (t : Bor (List ℕ)). t.now) texts (word ∷ []) ∙ ap (λ (xs : List (List ℕ)). xs ++ word.now ∷ []) so_far
+    ∙ sym (take_more words at word.now (slice_get_within words at word.now (sym is)) ∙ ap (λ (w : List ℕ). take at words ++ w ∷ []) (get_or_from_slice_get words at word.now word.now (sym is)))
+
+pub none_within : (words : List (List ℕ)) (at : ℕ) → None ≡ slice_get words at → at < length words → ⊥
+none_within words at none lt = let some = slice_get-get_or words at [] lt in absurd (cc)
+
+-- the test of the texts is that of the words
+pub separator_is : (texts : List (Bor (List ℕ))) → list_any (λ (t : Bor (List ℕ)). bytes_eq t.now (codes "--")) texts ≡ has_separator (map (λ t. t.now) texts)
+separator_is [] = refl
+separator_is (t ∷ rest) = ap (λ (b : Bool). bytes_eq t.now (codes "--") || b) (separator_is rest)
