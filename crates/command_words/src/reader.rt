@@ -1,9 +1,10 @@
-ghost use Rattle.std.specs.Prelude.{◌≡◌, ◌≤◌, ◌∷◌, [], Bool, List, ℕ, IfOk, Some, None, false, codes, length, map};
+ghost use Rattle.std.specs.Prelude.{◌≡◌, ◌≤◌, ◌∷◌, [], Bool, List, ℕ, IfOk, OnErr, Some, None, false, codes, length, map};
 ghost use Rattle.clap.specs.Words.{Row, app_of, first_of, one_of, shape_of, subcommand_rows_of};
-ghost use Rattle.command_words.specs.CommandLine.{FormIs, tool_word};
+ghost use Rattle.command_words.specs.CommandLine.{FormIs, HasForm, tool_word};
 ghost use Rattle.command_words.specs.declared.forms.Tool.{Tool};
 ghost use Rattle.command_words.specs.Reader.{flag_text, has_separator, midas_app, one_word, run_shape};
 
+use crate::direct::direct_form;
 use crate::forms::{Form, form_generate, form_on_file, tool_of};
 use clap::error::ErrorKind;
 use clap::{Arg, ArgAction, ArgMatches, Command};
@@ -101,9 +102,8 @@ fn texts_of(alloc: Global, words: &Words) -> Result<Vec<&str>, AllocError>
     Ok(texts)
 }
 
-/// The form of the words; none exactly where they have none. FILE is a name of a file that does not begin with `-`, but
-/// for `-` alone, and N is decimal digits of a value that fits 32 bits, with any zeros in front.
-pub fn form_of(alloc: Global, words: &Words) -> Result<Option<Form>, NoMemory>
+/// The form of the words, as the command reads them.
+fn read(alloc: Global, words: &Words) -> Result<Option<Form>, NoMemory>
     ensures { IfOk result (FormIs words.now) }
 {
     // No form has more than two words, so that words past the numbers of `Words::get` have none.
@@ -116,4 +116,17 @@ pub fn form_of(alloc: Global, words: &Words) -> Result<Option<Form>, NoMemory>
         return Ok(None);
     }
     form_read(alloc, texts.as_slice())
+}
+
+/// The form of the words; none exactly where they have none. FILE is a name of a file that does not begin with `-`, but
+/// for `-` alone, and N is decimal digits of a value that fits 32 bits, with any zeros in front. Words of no form are told
+/// so even where there is no memory to read them.
+pub fn form_of(alloc: Global, words: &Words) -> Result<Option<Form>, NoMemory>
+    ensures form { IfOk result (FormIs words.now) }
+    ensures no_memory { OnErr result (HasForm words.now) }
+{
+    match read(alloc, words) {
+        Err(NoMemory) if direct_form(words).is_none() => Ok(None),
+        form => form,
+    }
 }

@@ -3,7 +3,7 @@ use Rattle.std.specs.Borrow.{Bor}
 use Rattle.command_words.specs.Reader.{has_separator}
 use Rattle.command_words.proofs.Reading.{form_apart}
 use Rattle.command_words.proofs.Texts.{separator_is}
-use Rattle.command_words.proofs.reader.form_of.Goals as goal
+use Rattle.command_words.proofs.reader.read.Goals as goal
 
 pub returns-then-contains : goal.returns-then-contains
 returns-then-contains c = λ has.
