@@ -27,7 +27,7 @@ use Rattle.caller_laws.specs.SeenRuns.{SeesRun}
 use Rattle.caller_laws.specs.SentRuns.{places_sent, events_at_places}
 use Rattle.composition.specs.SentSets.{sent_by_moment, AreTurnSets}
 use Rattle.composition.specs.Sessions.{Session, SessionFront, SessionAnalyzer, HasFront, HasAnalyzer, turns_of, buffer_calls, database_calls}
-use Rattle.composition.specs.SessionRuns.{SessionRun, IsStoppedRun, run_order, TellsFront, FrontSent, SetAtStop, IsOfFront, ToldState, HoldsRunFile, HoldsFilePart, TellsTotals, ReportsRun, analyzer_events, SawThrough}
+use Rattle.composition.specs.SessionRuns.{SessionRun, IsStoppedRun, run_order, TellsFront, FrontSent, SetAtStop, IsOfFront, IsMadeInRun, ToldState, HoldsRunFile, HoldsFilePart, TellsTotals, ReportsRun, analyzer_events, SawThrough}
 
 -- Each front-end has told in the Done of the stop what it sent in the run.
 abbrev pub FrontsTell : Session → Type 0
@@ -75,6 +75,13 @@ abbrev pub OnlyFrontsSent : Session → Type 0
 OnlyFrontsSent s = (buffer start index place : ℕ) → (x : Sent) →
     slice_get (segment (s.history buffer) start) index ≡ Some (place, x) →
     IsOfFront s buffer start place x.event
+
+-- Where the run was not refused and was stopped, each event between its marks in a buffer is one of those that a front-end of
+-- that buffer told that it sent: one of the first events of that front-end's equipment in the order of the run.
+abbrev pub SegmentsAreMade : Session → Type 0
+SegmentsAreMade s = (r : SessionRun) → IsStoppedRun s r →
+    (buffer index place : ℕ) → (x : Sent) → slice_get (segment (s.history buffer) r.start) index ≡ Some (place, x) →
+    IsMadeInRun s r buffer x.event
 
 -- The logger has told in the Done of the stop what became of each channel, and that is so.
 abbrev pub ChannelsTold : Session → Type 0
@@ -151,6 +158,7 @@ pub record IsComposed (s : Session) : Type 0 where
   pub fronts_sent : FrontsSent s
   pub fronts_stand : FrontsStand s
   pub only_fronts : OnlyFrontsSent s
+  pub segments_made : SegmentsAreMade s
   pub fronts_set : FrontsSet s
   pub stops_set : StopsSet s
   pub pauses_set : PausesSet s

@@ -1,6 +1,6 @@
 -- A run of a session, and what is so of it.
 use mathlib.Core.List.{IsPrefix}
-use Rattle.std.specs.Prelude.{◌≡◌, ℕ, List, [], ◌∷◌, ◌++◌, All, slice_get, unwrap_or, Some, Ok}
+use Rattle.std.specs.Prelude.{◌≡◌, ℕ, List, [], ◌∷◌, ◌++◌, All, slice_get, unwrap_or, Contains, Some, Ok}
 use Rattle.daq_types.specs.Callers.{caller_of_client, entries_by}
 use Rattle.daq_types.specs.declared.events.Event.{Event}
 use Rattle.daq_types.specs.declared.runs.ChannelState.{ChannelState}
@@ -96,6 +96,17 @@ pub record IsOfFront (s : Session) (buffer start place : ℕ) (event : Event) : 
   pub stands : HasFront s front
   pub buffer_is : front.buffer ≡ buffer
   pub send : IsSendOf (buffer_calls s buffer front.client) start place event
+
+-- a front-end of the buffer told in the Done of the stop how many events it sent in the run, and the event is one of these:
+-- one of the first events of its equipment, so many as it told
+pub record IsMadeInRun (s : Session) (r : SessionRun) (buffer : ℕ) (event : Event) : Type 0 where
+  pub front : SessionFront
+  pub stands : HasFront s front
+  pub buffer_is : front.buffer ≡ buffer
+  pub sent : ℕ
+  pub ended : FrontEnded
+  pub told : TellsFront r front.client sent ended
+  pub made : Contains (made_events front.makes (run_order r) sent) event
 
 -- Channels.
 

@@ -1,6 +1,6 @@
 //! Laws of a session's members together: each function does nothing, and its contract is the law.
 
-ghost use Rattle.composition.specs.CompositionLaws.{FrontsTell, FrontsSent, FrontsStand, FrontsSet, StopsSet, PausesSet, OnlyFrontsSent, ChannelsTold, StatesTold, RunsAreEnded, NoEndRefused, FilesHoldRuns, FilesHoldParts, ReportsTold, ReportsSo, ReportsWhole, GotWhole, StopsComplete, IsComposed};
+ghost use Rattle.composition.specs.CompositionLaws.{FrontsTell, FrontsSent, FrontsStand, FrontsSet, StopsSet, PausesSet, OnlyFrontsSent, SegmentsAreMade, ChannelsTold, StatesTold, RunsAreEnded, NoEndRefused, FilesHoldRuns, FilesHoldParts, ReportsTold, ReportsSo, ReportsWhole, GotWhole, StopsComplete, IsComposed};
 ghost use Rattle.daq_types.specs.declared.runs.ChannelState.TheVariants.{Ended};
 ghost use Rattle.composition.specs.Sessions.{Session, MembersKeep};
 ghost use Rattle.composition.specs.SessionRuns.{IsStoppedRun, ToldState, ReportsRun, SawThrough};
@@ -17,12 +17,13 @@ use transitions::laws as engine;
 
 /// In a run that was not refused and was stopped each front-end told in the Done of the stop what it sent, and that is what
 /// it sent: the first events of its equipment, in order. They all stand between the marks of the run. Each event between the
-/// marks of a run was sent in that run by a front-end of that buffer.
+/// marks of a run was sent in that run by a front-end of that buffer, and is one of those that this told.
 pub fn fronts()
     ensures tell { (s : Session) → MembersKeep s → FrontsTell s }
     ensures sent { (s : Session) → MembersKeep s → FrontsSent s }
     ensures stand { (s : Session) → MembersKeep s → FrontsStand s }
     ensures only { (s : Session) → MembersKeep s → OnlyFrontsSent s }
+    ensures made { (s : Session) → MembersKeep s → SegmentsAreMade s }
 {
     callers::sent_by();
     callers::fits_members();
