@@ -1,6 +1,6 @@
 -- A run of a session, and what is so of it.
 use mathlib.Core.List.{IsPrefix}
-use Rattle.std.specs.Prelude.{◌≡◌, ℕ, List, [], ◌∷◌, ◌++◌, All, slice_get, unwrap_or, Contains, Some, Ok}
+use Rattle.std.specs.Prelude.{◌≡◌, ℕ, List, [], ◌∷◌, ◌++◌, slice_get, unwrap_or, Contains, Some, Ok}
 use Rattle.daq_types.specs.Callers.{caller_of_client, entries_by}
 use Rattle.daq_types.specs.declared.events.Event.{Event}
 use Rattle.daq_types.specs.declared.runs.ChannelState.{ChannelState}
@@ -10,7 +10,7 @@ use Rattle.daq_types.specs.declared.runs.Order.{Order}
 use Rattle.daq_types.specs.declared.runs.RunState.TheVariants.{Stopped, Paused}
 use Rattle.daq_types.specs.declared.runs.StartOutcome.TheVariants.{Completed}
 use Rattle.daq_types.specs.declared.runs.Transition.TheVariants.{Start, Stop}
-use Rattle.daq_model.specs.RunFile.{run_file, IsFileEvent}
+use Rattle.daq_model.specs.RunFile.{run_file, IsRunFile}
 use Rattle.daq_io.specs.Seen.{IsStored}
 use Rattle.buffer_core.specs.Runs.{segment}
 use Rattle.event_report.specs.Reports.{Totals}
@@ -125,14 +125,15 @@ channel_events s r channel = events_in (wanted channel.id channel.mask (segment 
 abbrev pub begin_dump : SessionRun → List ℕ
 begin_dump r = unwrap_or r.first.dump []
 
--- The channel's file of the run is closed, and is the run file of these events with the dumps of both sheets; and the channel's
--- client got, of the places between the marks, just those of these events.
+-- The channel's file of the run is closed, and is the run file of these events with the dumps of both sheets: its dumps and events
+-- are not too large, and it has at most 2^62 bytes. And the channel's client got, of the places between the marks, just those of
+-- these events.
 pub record HoldsRunFile (s : Session) (r : SessionRun) (channel : LoggerChannel) : Type 0 where
   pub last_dump : List ℕ
   pub has_dump : r.last.dump ≡ Some last_dump
-  pub fine : All IsFileEvent (channel_events s r channel)
-  pub stored : IsStored s.files (channel.name r.first.run)
-      (run_file r.first.run r.first.time (begin_dump r) (channel_events s r channel) r.last.time last_dump)
+  pub bytes : List ℕ
+  pub is : IsRunFile bytes r.first.run r.first.time (begin_dump r) (channel_events s r channel) r.last.time last_dump
+  pub stored : IsStored s.files (channel.name r.first.run) bytes
   pub got : among (segment (s.history channel.buffer) r.start) (places_got (s.history channel.buffer) channel.client)
       ≡ places_of (wanted channel.id channel.mask (segment (s.history channel.buffer) r.start))
 

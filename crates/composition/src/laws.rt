@@ -53,8 +53,8 @@ pub fn sets()
 /// In a run that was not refused and was stopped the logger told in the Done of the stop what became of each channel: that it
 /// ended or broke off, or that the stop had no dump. It ended the run in the buffer of each channel: never was that refused.
 /// The file of each channel that the logger told to have ended is the run file of all events between the marks of the run
-/// that the channel asks for, with the dumps of the two sheets; the file of one that was told to be broken begins so, where the
-/// stop's sheet has a dump.
+/// that the channel asks for, with the dumps of the two sheets, and has at most 2^62 bytes; the file of one that was told to be
+/// broken begins so, where the stop's sheet has a dump.
 pub fn files()
     ensures told { (s : Session) → MembersKeep s → ChannelsTold s }
     ensures states { (s : Session) → MembersKeep s → StatesTold s }
@@ -67,6 +67,7 @@ pub fn files()
     callers::reads_events();
     callers::cut_short();
     callers::cut_file();
+    callers::file_fits();
     callers::fits_members();
     callers::ends_runs();
     turns::gives_turns();
