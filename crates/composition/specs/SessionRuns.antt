@@ -32,8 +32,8 @@ use Rattle.analyzers.specs.AnalyzerKept.{IsReportOfRun}
 use Rattle.caller_laws.specs.SeenRuns.{SeesRun}
 use Rattle.caller_laws.specs.CallerLaws.{IsSendOf}
 use Rattle.engine_laws.specs.BegunTurns.{HasTransition}
-use Rattle.composition.specs.SentSets.{sent_by_moment}
-use Rattle.composition.specs.Sessions.{Session, SessionFront, SessionAnalyzer, HasFront, turns_of, buffer_calls}
+use Rattle.composition.specs.SentSets.{sent_by_moment, HasTurnSet}
+use Rattle.composition.specs.Sessions.{Session, SessionFront, SessionAnalyzer, HasFront, turns_of, buffer_calls, database_calls}
 
 -- A run: its start number, the sheets that its start and its stop were begun with, and the tallies in their Dones.
 pub record SessionRun : Type 0 where
@@ -80,8 +80,8 @@ pub record FrontSent (s : Session) (r : SessionRun) (f : SessionFront) (sent : �
   pub events : own_sent (buffer_calls s f.buffer f.client) r.start ≡ made_events f.makes (run_order r) sent
   pub ended_so : EndedIn s r f sent ended
 
--- Behind its answer to the stop of the run the front-end had sent so many events in it, which is what it set at that
--- turn.
+-- The front-end has a turn of the stop of the run, and its set at this turn stands in the database, of this number: so many events it
+-- had sent in the run behind its answer to the turn.
 pub record SetAtStop (s : Session) (r : SessionRun) (f : SessionFront) (sent : ℕ) : Type 0 where
   pub turn : MemberTurn
   pub moment : ℕ
@@ -89,6 +89,17 @@ pub record SetAtStop (s : Session) (r : SessionRun) (f : SessionFront) (sent : �
   pub is : turn.transition ≡ Stop
   pub of : turn.order.start ≡ r.start
   pub number : sent_by_moment (buffer_calls s f.buffer f.client) turn.order.start moment ≡ sent
+  pub set : HasTurnSet f.name (buffer_calls s f.buffer f.client) (turns_of s f.client) f.moments
+      (database_calls s f.client) turn moment sent
+
+-- The front-end's set at this turn, which has this moment, stands in the database, of the number of events that it had sent in the
+-- run by then; and when it had made so many calls it had sent no more.
+pub record SetAtPause (s : Session) (f : SessionFront) (turn : MemberTurn) (moment until : ℕ) : Type 0 where
+  pub number : sent_by_moment (buffer_calls s f.buffer f.client) turn.order.start moment
+      ≡ sent_by_moment (buffer_calls s f.buffer f.client) turn.order.start until
+  pub set : HasTurnSet f.name (buffer_calls s f.buffer f.client) (turns_of s f.client) f.moments
+      (database_calls s f.client) turn moment
+      (sent_by_moment (buffer_calls s f.buffer f.client) turn.order.start moment)
 
 -- a front-end of the buffer sent the event in the run with this start number, at this place
 pub record IsOfFront (s : Session) (buffer start place : ℕ) (event : Event) : Type 0 where

@@ -1,4 +1,4 @@
-//! Laws of a session's members together: each function does nothing, and its contract is the law.
+//! Laws of a session's members together: each function does nothing but call other laws, and its contract is the law.
 
 ghost use Rattle.composition.specs.CompositionLaws.{FrontsTell, FrontsSent, FrontsStand, FrontsSet, StopsSet, PausesSet, OnlyFrontsSent, SegmentsAreMade, ChannelsTold, StatesTold, RunsAreEnded, NoEndRefused, FilesHoldRuns, FilesHoldParts, ReportsTold, ReportsSo, ReportsWhole, GotWhole, StopsComplete, IsComposed};
 ghost use Rattle.daq_types.specs.declared.runs.ChannelState.TheVariants.{Ended};
@@ -35,8 +35,9 @@ pub fn fronts()
 }
 
 /// Each front-end set in the database, in its own key alone, 0 at each start, and at each pause and each stop how many
-/// events it had sent in the run by then, and made no other call there. At the stop of a run that was not refused that is
-/// what it told in the Done. At a pause it is also how many it had sent when it answered its next turn.
+/// events it had sent in the run by then, and made no other call there; what it sets at a latest turn that it has not answered may
+/// be to come. Its set at the stop of a run that was not refused stands there, and is what it told in the Done. Its set at a pause
+/// stands there, and is also how many it had sent when it answered its next turn.
 pub fn sets()
     ensures set { (s : Session) → MembersKeep s → FrontsSet s }
     ensures stop { (s : Session) → MembersKeep s → StopsSet s }
