@@ -371,14 +371,18 @@ many_listed first [] moments = refl
 many_listed first (f ∷ fs) moments = ap suc (many_listed (suc first) fs moments)
 
 pub records_hold : RecordsHold
-records_hold c holds own same r quota fits =
+records_hold c holds own more same r quota fits =
     let n : ℕ = logger_client c in
     let begun : CurrentRun = run_of r quota in
     let run : SessionRun = record_run r quota fits.start.dump (dump_saved fits.stop.saved) fits.start.tallies fits.stop.tallies in
-    let joined : fits.early.engine ++ fits.late.engine ≡ engine_calls c main_caller = sym (ap (λ (o : MainOwn). o.engine) fits.calls) ∙ same in
-    let makes : RunIn (fits.early.engine ++ fits.late.engine) run = record {
-      started = made_then fits.early.engine fits.late.engine Start run.first r.start Completed fits.start.tallies (made fits.early.engine Start run.first r.start Completed fits.start.tallies fits.start.made);
-      stopped = made_behind fits.early.engine fits.late.engine Stop run.last r.start Completed fits.stop.tallies (made fits.late.engine Stop run.last r.start Completed fits.stop.tallies fits.stop.made);
+    let early : List EngineEntry = fits.early.engine in
+    let late : List EngineEntry = fits.late.engine in
+    let joined : (early ++ late) ++ more ≡ engine_calls c main_caller = sym (same ∙ ap (λ (o : MainOwn). o.engine ++ more) fits.calls) in
+    let makes : RunIn ((early ++ late) ++ more) run = record {
+      started = made_then (early ++ late) more Start run.first r.start Completed fits.start.tallies
+          (made_then early late Start run.first r.start Completed fits.start.tallies (made early Start run.first r.start Completed fits.start.tallies fits.start.made));
+      stopped = made_then (early ++ late) more Stop run.last r.start Completed fits.stop.tallies
+          (made_behind early late Stop run.last r.start Completed fits.stop.tallies (made late Stop run.last r.start Completed fits.stop.tallies fits.stop.made));
     } in
     let all : RunHolds (session_of c holds.moments) run = holds.runs run (subst (λ (l : List EngineEntry). RunIn l run) joined makes) in
     let tells = fits.stop.tells in

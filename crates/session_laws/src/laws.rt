@@ -1,6 +1,6 @@
 //! Laws of closed sessions: each function does nothing, and its contract is the law.
 
-ghost use Rattle.session_laws.specs.RecordedRuns.{RecordsHold};
+ghost use Rattle.session_laws.specs.RecordedRuns.{ChannelsAgree, RecordsHold};
 ghost use Rattle.session_laws.specs.EndLaws.{EndsKeep, EndsComposed, MadeAreStopped, StoppedHold, OtherNamesStay, EndsHold};
 
 use buffer_lock::laws as buffers;
@@ -62,6 +62,11 @@ pub fn session_holds()
     stopped_hold();
     other_names_stay();
 }
+
+/// Where the logger's channels are those that were declared, the records of its runs name them in order of number.
+pub fn channels_agree()
+    ensures { ChannelsAgree }
+{}
 
 /// The record of each run that was not refused, where it fits the main thread's own calls, has the numbers and the times of a
 /// run of the session, what each front-end told at the stop, which is what it sent, and what the logger told of each file: the
