@@ -44,7 +44,7 @@ pub record CallerFacts : Type 0 where
   pub ends : BegunIsEnded
   pub senders : SenderMakesNoMark
 
-yes_channels : (answer : Answer) (states : List ChannelState) → Channels states ≡ tally_of answer → answer ≡ Yes (Channels states)
+pub yes_channels : (answer : Answer) (states : List ChannelState) → Channels states ≡ tally_of answer → answer ≡ Yes (Channels states)
 yes_channels (Yes tally) states e = ap (λ (t : Tally). Yes t) (sym e)
 yes_channels (No why) states e = absurd (cc (e))
 

@@ -29,3 +29,4 @@ pub mod TurnsOwn
 pub mod TurnUses
 pub mod FaultsNoted
 pub mod FilesLeft
+pub mod ReasonsKept

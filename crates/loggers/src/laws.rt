@@ -2,6 +2,7 @@
 
 ghost use Rattle.loggers.specs.LoggerLaws.{FinishesKeep, TurnsKeep, TurnsLeaveKnown, PullsLeaveKnown, TurnsNote, PullsNote, FinishesNote, NotesFollow};
 ghost use Rattle.loggers.specs.LoggerStands.{StandingLoggerKeeps};
+ghost use Rattle.loggers.specs.Reasons.{TurnsGiveReasons, PullsGiveReasons, FinishesGiveReasons};
 ghost use Rattle.loggers.specs.OtherFiles.{TurnsLeaveFiles, PullsLeaveFiles, FinishesLeaveFiles};
 
 use mid_logger::laws as channel_laws;
@@ -61,4 +62,12 @@ pub fn faults_noted()
     ensures pulls { PullsNote }
     ensures finishes { FinishesNote }
     ensures follow { NotesFollow }
+{}
+
+/// What a logger answers rests on the counts of the run files, and each call keeps that: a start is refused for a name only
+/// where a clash was counted, and for a fault only where one was; and a channel is told to be broken only where a fault was.
+pub fn reasons_given()
+    ensures turns { TurnsGiveReasons }
+    ensures pulls { PullsGiveReasons }
+    ensures finishes { FinishesGiveReasons }
 {}

@@ -3,3 +3,4 @@ pub mod MembersEnd
 pub mod MadeRuns
 pub mod OtherNames
 pub mod EndLaws
+pub mod CountedFaults

@@ -1,5 +1,6 @@
 //! Laws of closed sessions: each function does nothing, and its contract is the law.
 
+ghost use Rattle.session_laws.specs.CountedFaults.{CountsTell};
 ghost use Rattle.session_laws.specs.EndLaws.{EndsKeep, EndsComposed, MadeAreStopped, StoppedHold, OtherNamesStay, EndsHold};
 
 use buffer_lock::laws as buffers;
@@ -61,4 +62,17 @@ pub fn session_holds()
     made_are_stopped();
     stopped_hold();
     other_names_stay();
+}
+
+/// Of a closed session, by the counts of its run files: a start was refused by a front-end as NotReady, whose equipment takes
+/// no part in the run, or by the logger, for a name only where a clash was counted and for a fault only where one was; each
+/// front-end's equipment takes part in a run that was started; and where no fault was counted each channel of each run ended,
+/// or the stop's sheet had no dump.
+pub fn counts_tell()
+    ensures { CountsTell }
+{
+    turns::main_has_transition();
+    turns::tallies_answered();
+    ends_composed();
+    made_are_stopped();
 }

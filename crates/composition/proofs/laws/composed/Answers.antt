@@ -3,6 +3,8 @@ use Rattle.composition.proofs.laws.composed.Goals as goal
 pub returns : goal.returns
 returns c s keep = record {
   stops_complete = c.stops.ensures s keep;
+  fronts_refuse = c.starts.ensures.refused s keep;
+  fronts_take = c.starts.ensures.taken s keep;
   fronts_tell = c.fronts.ensures.tell s keep;
   fronts_sent = c.fronts.ensures.sent s keep;
   fronts_stand = c.fronts.ensures.stand s keep;
