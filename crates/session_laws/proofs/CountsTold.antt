@@ -35,8 +35,8 @@ use Rattle.composition.specs.CompositionLaws.{IsComposed}
 use Rattle.composition.proofs.FilesTogether.{yes_channels}
 use Rattle.composition.proofs.SessionTurns.{speaks}
 use Rattle.session_laws.specs.ClosedSessions.{ClosedFront, ClosedSession, logger_client, logger_caller, engine_calls, session_of, session_front, session_fronts}
-use Rattle.session_laws.specs.MembersEnd.{MembersEnd}
-use Rattle.session_laws.specs.MadeRuns.{MakesIn, MakesRun}
+use Rattle.session_laws.specs.MembersAtEnd.{MembersAtEnd}
+use Rattle.session_laws.specs.MadeRuns.{TransitionIn, MakesRun}
 use Rattle.session_laws.specs.EndLaws.{EndsComposed, MadeAreStopped}
 use Rattle.session_laws.specs.CountedFaults.{LoggerReasons, IsFrontRefusal, IsRefusedSo, state_by_dump, CountsHold, CountsTell}
 use Rattle.session_laws.proofs.EachCaller.{by_caller}
@@ -54,7 +54,7 @@ pub record CountLaws : Type 0 where
 
 -- Refusals.
 
-refused_turn : CountLaws → (c : ClosedSession) → MembersEnd c → (sheet : Sheet) (start client : ℕ) (why : Why) (tallies : List ClientTally) → (has : HasTransition c.engine Start sheet start (Refused client why) tallies)
+refused_turn : CountLaws → (c : ClosedSession) → MembersAtEnd c → (sheet : Sheet) (start client : ℕ) (why : Why) (tallies : List ClientTally) → (has : HasTransition c.engine Start sheet start (Refused client why) tallies)
     → IsRefusedTurn (member_turns client (engine_calls c (caller_of_client client))) (state_at (engine_past has.earlier)) sheet start why
 refused_turn laws c ends sheet start client why tallies has =
     laws.refusals (caller_of_client client) client c.engine ends.engine (speaks client c.engine (names_own c ends)) sheet start why tallies has
@@ -68,7 +68,7 @@ RefusesBy c first now sheet start why tallies by =
 main_refuses : (c : ClosedSession) (first now : RunFiles) (sheet : Sheet) (start : ℕ) (why : Why) (tallies : List ClientTally) → RefusesBy c first now sheet start why tallies main_caller
 main_refuses c first now sheet start why tallies client is turn stands answered has = absurd (omega (arith, is))
 
-front_refuses : CountLaws → (c : ClosedSession) → MembersEnd c → (first now : RunFiles) (sheet : Sheet) (start : ℕ) (why : Why) (tallies : List ClientTally) (n : ℕ) (f : ClosedFront) → slice_get c.fronts n ≡ Some f → RefusesBy c first now sheet start why tallies (caller_of_client n)
+front_refuses : CountLaws → (c : ClosedSession) → MembersAtEnd c → (first now : RunFiles) (sheet : Sheet) (start : ℕ) (why : Why) (tallies : List ClientTally) (n : ℕ) (f : ClosedFront) → slice_get c.fronts n ≡ Some f → RefusesBy c first now sheet start why tallies (caller_of_client n)
 front_refuses laws c ends first now sheet start why tallies n f at client is turn stands answered has =
     let same : client ≡ n = omega (arith, is) in
     let mine : HasTransition c.engine Start sheet start (Refused n why) tallies = subst (λ (k : ℕ). HasTransition c.engine Start sheet start (Refused k why) tallies) same has in
@@ -86,7 +86,7 @@ other_refuses : (c : ClosedSession) (first now : RunFiles) (sheet : Sheet) (star
 other_refuses c first now sheet start why tallies by none client is turn stands answered has =
     absurd (subst (λ (calls : List EngineEntry). HasTurn (member_turns client calls) turn) none stands)
 
-refused_so : CountLaws → (c : ClosedSession) → MembersEnd c → (first now : RunFiles) → LoggerReasons c first now → (sheet : Sheet) (start client : ℕ) (why : Why) (tallies : List ClientTally) → MakesIn (engine_calls c main_caller) Start sheet start (Refused client why) tallies
+refused_so : CountLaws → (c : ClosedSession) → MembersAtEnd c → (first now : RunFiles) → LoggerReasons c first now → (sheet : Sheet) (start client : ℕ) (why : Why) (tallies : List ClientTally) → TransitionIn (engine_calls c main_caller) Start sheet start (Refused client why) tallies
     → IsRefusedSo c first now (order_for sheet start Stopped) client why
 refused_so laws c ends first now reasons sheet start client why tallies made =
     let has : HasTransition c.engine Start sheet start (Refused client why) tallies = has_made laws.main c.engine Start sheet start (Refused client why) tallies ends.engine made in
@@ -98,7 +98,7 @@ refused_so laws c ends first now reasons sheet start client why tallies made =
     (λ by past. other_refuses c first now sheet start why tallies by (ends.others.engine by past))
     (caller_of_client client) client refl r.turn r.stands r.answered has
 
-started_so : CountLaws → (c : ClosedSession) → MembersEnd c → (sheet : Sheet) (start : ℕ) (tallies : List ClientTally) → MakesIn (engine_calls c main_caller) Start sheet start Completed tallies → (client : ℕ) (f : ClosedFront) → slice_get c.fronts client ≡ Some f
+started_so : CountLaws → (c : ClosedSession) → MembersAtEnd c → (sheet : Sheet) (start : ℕ) (tallies : List ClientTally) → TransitionIn (engine_calls c main_caller) Start sheet start Completed tallies → (client : ℕ) (f : ClosedFront) → slice_get c.fronts client ≡ Some f
     → f.takes (order_for sheet start Stopped) ≡ true
 started_so laws c ends sheet start tallies made client f at =
     let composed = laws.composed c ends in
@@ -106,7 +106,7 @@ started_so laws c ends sheet start tallies made client f at =
 
 -- Channels.
 
-broken_so : CountLaws → (c : ClosedSession) → MembersEnd c → (first now : RunFiles) → LoggerReasons c first now → (moments : (client : ℕ) → List ℕ) (r : SessionRun) → MakesRun (engine_calls c main_caller) r → (channel : LoggerChannel) → ToldState (session_of c moments) r channel Broken
+broken_so : CountLaws → (c : ClosedSession) → MembersAtEnd c → (first now : RunFiles) → LoggerReasons c first now → (moments : (client : ℕ) → List ℕ) (r : SessionRun) → MakesRun (engine_calls c main_caller) r → (channel : LoggerChannel) → ToldState (session_of c moments) r channel Broken
     → Rose first.faults now.faults
 broken_so laws c ends first now reasons moments r made channel told =
     let n : ℕ = logger_client c in
@@ -130,7 +130,7 @@ state_is s composed r run index channel at none Ended told so = with_dump r.last
 state_is s composed r run index channel at none NoEnd told so = ap state_by_dump (sym so.0)
 state_is s composed r run index channel at none NoMark told so = absurd (composed.no_end_refused r run index channel at told)
 
-ended_so : CountLaws → (c : ClosedSession) → MembersEnd c → (first now : RunFiles) → LoggerReasons c first now → (Rose first.faults now.faults → ⊥) → (moments : (client : ℕ) → List ℕ) (r : SessionRun) → MakesRun (engine_calls c main_caller) r → (index : ℕ) (channel : LoggerChannel)
+ended_so : CountLaws → (c : ClosedSession) → MembersAtEnd c → (first now : RunFiles) → LoggerReasons c first now → (Rose first.faults now.faults → ⊥) → (moments : (client : ℕ) → List ℕ) (r : SessionRun) → MakesRun (engine_calls c main_caller) r → (index : ℕ) (channel : LoggerChannel)
     → slice_get (logger_channels (λ number. 0) c.slots) index ≡ Some channel → ToldState (session_of c moments) r channel (state_by_dump r.last.dump)
 ended_so laws c ends first now reasons stays moments r made index channel at =
     let composed = laws.composed c ends in

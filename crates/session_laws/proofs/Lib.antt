@@ -9,3 +9,4 @@ pub mod KeptTogether
 pub mod RunsMade
 pub mod NamesStay
 pub mod CountsTold
+pub mod RecordsMade

@@ -20,8 +20,8 @@ use Rattle.loggers.specs.LoggerStands.{logger_channels}
 use Rattle.loggers.specs.Reasons.{IsReasonSo, GivesReasons}
 use Rattle.composition.specs.SessionRuns.{SessionRun, ToldState}
 use Rattle.session_laws.specs.ClosedSessions.{ClosedFront, ClosedSession, logger_client, logger_caller, engine_calls, session_of}
-use Rattle.session_laws.specs.MembersEnd.{MembersEnd}
-use Rattle.session_laws.specs.MadeRuns.{MakesIn, MakesRun}
+use Rattle.session_laws.specs.MembersAtEnd.{MembersAtEnd}
+use Rattle.session_laws.specs.MadeRuns.{TransitionIn, MakesRun}
 
 -- What the logger of a closed session answered rests on the counts of the run files, which were so as it took its seat, and
 -- are so now.
@@ -52,10 +52,10 @@ state_by_dump (Some dump) = Ended
 -- where a fault was counted; so that where none was, each channel of each run ended, or the stop's sheet had no dump.
 pub record CountsHold (c : ClosedSession) (first now : RunFiles) : Type 0 where
   pub refused : (sheet : Sheet) → (start client : ℕ) → (why : Why) → (tallies : List ClientTally) →
-      MakesIn (engine_calls c main_caller) Start sheet start (Refused client why) tallies →
+      TransitionIn (engine_calls c main_caller) Start sheet start (Refused client why) tallies →
       IsRefusedSo c first now (order_for sheet start Stopped) client why
   pub started : (sheet : Sheet) → (start : ℕ) → (tallies : List ClientTally) →
-      MakesIn (engine_calls c main_caller) Start sheet start Completed tallies →
+      TransitionIn (engine_calls c main_caller) Start sheet start Completed tallies →
       (client : ℕ) → (f : ClosedFront) → slice_get c.fronts client ≡ Some f →
       f.takes (order_for sheet start Stopped) ≡ true
   pub broken : (moments : (client : ℕ) → List ℕ) → (r : SessionRun) → MakesRun (engine_calls c main_caller) r →
@@ -67,5 +67,5 @@ pub record CountsHold (c : ClosedSession) (first now : RunFiles) : Type 0 where
 
 -- So it is with a closed session, by what the logger's answers rest on.
 abbrev pub CountsTell : Type 0
-CountsTell = (c : ClosedSession) → MembersEnd c → (first now : RunFiles) → LoggerReasons c first now →
+CountsTell = (c : ClosedSession) → MembersAtEnd c → (first now : RunFiles) → LoggerReasons c first now →
     CountsHold c first now
