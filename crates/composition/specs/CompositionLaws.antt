@@ -94,6 +94,13 @@ StatesTold s = (r : SessionRun) → IsStoppedRun s r → (place : ℕ) → (stat
     (index : ℕ) → (channel : LoggerChannel) → slice_get s.channels index ≡ Some channel →
     (state : ChannelState) × (slice_get states channel.number ≡ Some state)
 
+-- Each state that it told of a channel there is so.
+abbrev pub StatesSo : Session → Type 0
+StatesSo s = (r : SessionRun) → IsStoppedRun s r →
+    (index : ℕ) → (channel : LoggerChannel) → slice_get s.channels index ≡ Some channel →
+    (state : ChannelState) → ToldState s r channel state →
+    IsStateSo (buffer_calls s channel.buffer s.logger) r.start r.last.dump state
+
 -- The file of each channel that the logger told to have ended is the run file of the events that the channel asks for.
 abbrev pub FilesHoldRuns : Session → Type 0
 FilesHoldRuns s = (r : SessionRun) → IsStoppedRun s r →
@@ -175,6 +182,7 @@ pub record IsComposed (s : Session) : Type 0 where
   pub pauses_set : PausesSet s
   pub channels_told : ChannelsTold s
   pub states_told : StatesTold s
+  pub states_so : StatesSo s
   pub runs_ended : RunsAreEnded s
   pub no_end_refused : NoEndRefused s
   pub files_hold : FilesHoldRuns s

@@ -30,3 +30,4 @@ pub mod TurnUses
 pub mod FaultsNoted
 pub mod FilesLeft
 pub mod ReasonsKept
+pub mod NamesUndone

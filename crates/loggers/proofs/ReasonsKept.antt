@@ -1,12 +1,12 @@
 -- Each call keeps that what a logger answers rests on the counts of the run files.
-use Rattle.std.specs.Prelude.{◌≡◌, ◌<◌, ◌+◌, ◌==◌, nat_lt, ℕ, zero, suc, Bool, true, false, if◌then◌else◌, List, [], ◌∷◌, length, map, replicate, slice_get, slice_set, Option, Some, None, Result, Ok, Err, ⊤, ◌⊎◌, refl}
+use Rattle.std.specs.Prelude.{◌≡◌, ◌<◌, ◌==◌, nat_lt, ℕ, zero, suc, Bool, true, false, if◌then◌else◌, List, [], ◌∷◌, length, map, replicate, slice_get, slice_set, Option, Some, None, Result, Ok, Err, ⊤, ◌⊎◌, refl}
 use Rattle.std.specs.List.{list_all}
 use Rattle.std.specs.Option.{option_map}
 use Rattle.std.proofs.Common.{ap, sym, subst, ◌∙◌, arith, inl, inr}
 use Rattle.std.proofs.lemmas.Option.{slice_get_within}
 use Rattle.daq_types.specs.declared.events.Event.{Event}
 use Rattle.daq_types.specs.declared.runs.ChannelState.{ChannelState}
-use Rattle.daq_types.specs.declared.runs.ChannelState.TheVariants.{Idle as IsIdle, Writing as IsWriting, Broken as IsBroken, Ended, NoEnd, NoMark}
+use Rattle.daq_types.specs.declared.runs.ChannelState.TheVariants.{Idle as IsIdle, Broken as IsBroken}
 use Rattle.daq_types.specs.declared.runs.Order.{Order}
 use Rattle.daq_types.specs.declared.runs.Transition.{Transition}
 use Rattle.daq_types.specs.declared.runs.Transition.TheVariants.{Start, Stop, Pause, Resume, StartAbort}
@@ -21,18 +21,17 @@ use Rattle.transitions.specs.declared.answers.Answer.{Answer}
 use Rattle.transitions.specs.declared.answers.Answer.TheVariants.{Yes, No}
 use Rattle.transitions.specs.declared.answers.Tally.{Tally}
 use Rattle.transitions.specs.declared.answers.Tally.TheVariants.{Plain, Front, Channels, Report}
-use Rattle.member_model.specs.Turns.{MemberTurn, HasTurn, latest_answered}
+use Rattle.member_model.specs.Turns.{MemberTurn, latest_answered}
 use Rattle.mid_logger.specs.declared.channel.Channel.{Channel}
 use Rattle.mid_logger.specs.declared.channel_spec.ChannelSpec.{ChannelSpec}
 use Rattle.mid_logger.specs.declared.pulled.Pulled.{Pulled}
-use Rattle.mid_logger.specs.declared.pulled.Pulled.TheVariants.{Broke, NoChannel, Nothing, Dropped, Wrote}
 use Rattle.mid_logger.specs.declared.stage.BegunRun.{BegunRun}
 use Rattle.mid_logger.specs.declared.stage.ChannelStage.{ChannelStage}
 use Rattle.mid_logger.specs.declared.stage.ChannelStage.TheVariants.{Idle, Asking, Writing, Draining, Drained, Broken}
 use Rattle.mid_logger.specs.Channels.{stage_begun, stage_ended, place_marked, reading_run, is_behind_end}
-use Rattle.mid_logger.specs.ChannelEnds.{ClosesRead, ClosesFile, stage_settled, state_otherwise}
+use Rattle.mid_logger.specs.ChannelEnds.{ClosesFile, stage_settled, state_otherwise}
 use Rattle.mid_logger.specs.ChannelTurns.{NotesFault, OpenClashes, broken_run, drained_run}
-use Rattle.mid_logger.specs.Pulls.{PullOf, Pulls, PullsIn, TakesReply, TakesBy, FindsNone, PullFaults, drains_at_none}
+use Rattle.mid_logger.specs.Pulls.{PullOf, PullsIn, TakesReply, TakesBy, FindsNone, PullFaults, drains_at_none}
 use Rattle.loggers.specs.Moments.{RunFiles, LoggerMoment, ChannelStep, StepsChannel, StepsSlot, StepsAt, CallsBuffer, MarksBuffer, InTurn, noted_channel, channel_limit, AreIdle}
 use Rattle.loggers.specs.ChannelSteps.{OpensChannel, AbortsChannel, PullsChannel, EndsChannel}
 use Rattle.loggers.specs.SlotPulls.{PullsSlot, PullsNumbered}
@@ -40,7 +39,7 @@ use Rattle.loggers.specs.Finishing.{EndingMoment, EndsSlot, EndsSlotAt, EndsFile
 use Rattle.loggers.specs.Turning.{BeginsBuffer, EndsBuffer, PausesBuffer, ResumesBuffer, LoggerTurn, OpensBelow, BeginsBelow, AbortsAll, UndoesOpens, UndoesBegins, StartsSo, TakesStart, TakesStop, TakesMark, TakesAbort, TakesTurnBy, TakesTurn, is_run_on, is_started, is_of_start, buffers_begun, start_answer}
 use Rattle.loggers.specs.LoggerStands.{logger_turn}
 use Rattle.loggers.specs.NewLoggers.{HasNewChannels}
-use Rattle.loggers.specs.Reasons.{IsReasonSo, AreStatesSo, IsAnswerSo, AreAnswersSo, StaysOrRose, HasBrokenOff, GivesReasons}
+use Rattle.loggers.specs.Reasons.{IsReasonSo, IsAnswerSo, StaysOrRose, HasBrokenOff, GivesReasons}
 use Rattle.loggers.proofs.InTurns.{turns_keep}
 use Rattle.loggers.proofs.StoppedRuns.{there_is}
 use Rattle.loggers.proofs.SlotLists.{same_or_other, one_changed, got_there, got_elsewhere, many_set}
@@ -48,10 +47,10 @@ use Rattle.loggers.proofs.FaultsNoted.{rose_then, then_rose, counts_then, pull_f
 
 -- Counts, and channels that broke off.
 
-record CountsKept (slots later : List (Option Channel)) (old new : RunFiles) : Type 0 where
-  faults : StaysOrRose old.faults new.faults
-  clashes : StaysOrRose old.clashes new.clashes
-  broken : HasBrokenOff later → HasBrokenOff slots ⊎ Rose old.faults new.faults
+pub record CountsKept (slots later : List (Option Channel)) (old new : RunFiles) : Type 0 where
+  pub faults : StaysOrRose old.faults new.faults
+  pub clashes : StaysOrRose old.clashes new.clashes
+  pub broken : HasBrokenOff later → HasBrokenOff slots ⊎ Rose old.faults new.faults
 
 kept_same : (slots : List (Option Channel)) (files : RunFiles) → CountsKept slots slots files files
 kept_same slots files = record { faults = inl refl; clashes = inl refl; broken = λ is. inl is }
@@ -113,7 +112,7 @@ clash_count (Err BufferRefused) f g same = inl same
 
 -- Steps.
 
-abbrev Kept : (a b : LoggerMoment) → Type 0
+abbrev pub Kept : (a b : LoggerMoment) → Type 0
 Kept a b = CountsKept a.slots b.slots a.files b.files
 
 moment_same : (a b : LoggerMoment) → b ≡ a → Kept a b
@@ -125,7 +124,7 @@ moment_then a b c first second = kept_then a.slots b.slots c.slots a.files b.fil
 moment_turns : (Step : ℕ → LoggerMoment → LoggerMoment → Type 0) (n : ℕ) (a b : LoggerMoment) → ((k : ℕ) (x y : LoggerMoment) → Step k x y → Kept x y) → InTurn Step n a b → Kept a b
 moment_turns Step n a b each turns = turns_keep Step (λ m. Kept a m) n a b (λ k x y step kept. moment_then a x y kept (each k x y step)) turns (moment_same a a refl)
 
-step_kept : (Step : ChannelStep → Type 0) (n : ℕ) (before : Channel) (a b : LoggerMoment) (s : StepsChannel Step n before a b) → slot_at a.slots n ≡ Some before → StaysOrRose a.files.faults b.files.faults → StaysOrRose a.files.clashes b.files.clashes
+pub step_kept : (Step : ChannelStep → Type 0) (n : ℕ) (before : Channel) (a b : LoggerMoment) (s : StepsChannel Step n before a b) → slot_at a.slots n ≡ Some before → StaysOrRose a.files.faults b.files.faults → StaysOrRose a.files.clashes b.files.clashes
     → BreaksFrom before.stage s.after.stage a.files.faults b.files.faults → Kept a b
 step_kept Step n before a b s there faults clashes breaks =
     subst (λ (l : List (Option Channel)). CountsKept a.slots l a.files b.files) (sym s.slots) (set_kept a.slots n before s.after a.files b.files there faults clashes breaks)
@@ -136,12 +135,12 @@ open_kept order dump n (Some before) a b there s = step_kept (OpensChannel order
     (noted_count before.failed s.after.failed a.files.faults b.files.faults s.step.failed) (clash_count (Ok tt) a.files.clashes b.files.clashes s.step.clashes)
     (breaks_none before.stage s.after.stage a.files.faults b.files.faults (ap broken_run s.step.opens.asks.stage))
 
-refused_kept : (order : Order) (dump : List ℕ) (why : Why) (n : ℕ) (before : Channel) (a b : LoggerMoment) → slot_at a.slots n ≡ Some before → StepsChannel (OpensChannel order dump (Err why)) n before a b → Kept a b
+pub refused_kept : (order : Order) (dump : List ℕ) (why : Why) (n : ℕ) (before : Channel) (a b : LoggerMoment) → slot_at a.slots n ≡ Some before → StepsChannel (OpensChannel order dump (Err why)) n before a b → Kept a b
 refused_kept order dump why n before a b there s = step_kept (OpensChannel order dump (Err why)) n before a b s there
     (noted_count before.failed s.after.failed a.files.faults b.files.faults s.step.failed) (clash_count (Err why) a.files.clashes b.files.clashes s.step.clashes)
     (breaks_same before.stage s.after.stage a.files.faults b.files.faults s.step.opens.0)
 
-abort_kept : (n : ℕ) (slot : Option Channel) (a b : LoggerMoment) → slot_at a.slots n ≡ slot → StepsSlot AbortsChannel n slot a b → Kept a b
+pub abort_kept : (n : ℕ) (slot : Option Channel) (a b : LoggerMoment) → slot_at a.slots n ≡ slot → StepsSlot AbortsChannel n slot a b → Kept a b
 abort_kept n None a b there same = moment_same a b same
 abort_kept n (Some before) a b there s = step_kept AbortsChannel n before a b s there
     (noted_count before.failed s.after.failed a.files.faults b.files.faults s.step.failed) (inl s.step.clashes)
@@ -180,7 +179,7 @@ pulled_kept n answer (Some before) a b there s =
 
 -- marks
 
-call_kept : (entry : BufferEntry) (buffer : ℕ) (a b : LoggerMoment) → CallsBuffer entry buffer a b → Kept a b
+pub call_kept : (entry : BufferEntry) (buffer : ℕ) (a b : LoggerMoment) → CallsBuffer entry buffer a b → Kept a b
 call_kept entry buffer a b calls = subst (λ (l : List (Option Channel)). CountsKept a.slots l a.files b.files) (sym calls.slots)
     (subst (λ (files : RunFiles). CountsKept a.slots a.slots a.files files) (sym calls.files) (kept_same a.slots a.files))
 
@@ -220,7 +219,7 @@ map_off note buffer (Some x ∷ os) zero c run none there off =
     record { number = 0; channel = x; run = was.0; there = refl; off = was.1 }
 map_off note buffer (o ∷ os) (suc n) c run none there off = more_off o os (map_off note buffer os n c run none there off)
 
-mark_kept : (entry : BufferEntry) (note : ChannelStage → ChannelStage) (buffer : ℕ) (a b : LoggerMoment) → BreaksNone note → MarksBuffer entry note buffer a b → Kept a b
+pub mark_kept : (entry : BufferEntry) (note : ChannelStage → ChannelStage) (buffer : ℕ) (a b : LoggerMoment) → BreaksNone note → MarksBuffer entry note buffer a b → Kept a b
 mark_kept entry note buffer a b none marks =
     let kept : CountsKept a.slots (map (option_map (noted_channel note buffer)) a.slots) a.files a.files = record {
       faults = inl refl;
@@ -232,16 +231,16 @@ mark_kept entry note buffer a b none marks =
 
 -- Turns.
 
-opens_kept : (order : Order) (dump : List ℕ) (n : ℕ) (a b : LoggerMoment) → OpensBelow order dump n a b → Kept a b
+pub opens_kept : (order : Order) (dump : List ℕ) (n : ℕ) (a b : LoggerMoment) → OpensBelow order dump n a b → Kept a b
 opens_kept order dump n a b opens = moment_turns (λ k. StepsAt (OpensChannel order dump (Ok tt)) k) n a b (λ k x y step. open_kept order dump k (slot_at x.slots k) x y refl step) opens
 
-begins_kept : (start n : ℕ) (a b : LoggerMoment) → BeginsBelow start n a b → Kept a b
+pub begins_kept : (start n : ℕ) (a b : LoggerMoment) → BeginsBelow start n a b → Kept a b
 begins_kept start n a b begins = moment_turns (λ k. BeginsBuffer start k) n a b (λ k x y step. mark_kept _ (λ stage. stage_begun stage step.0) k x y (begun_none step.0) step.1) begins
 
-ends_kept : (start n : ℕ) (a b : LoggerMoment) → InTurn (λ k. EndsBuffer start k) n a b → Kept a b
+pub ends_kept : (start n : ℕ) (a b : LoggerMoment) → InTurn (λ k. EndsBuffer start k) n a b → Kept a b
 ends_kept start n a b ends = moment_turns (λ k. EndsBuffer start k) n a b (λ k x y step. mark_kept _ (λ stage. stage_ended stage (place_marked step.0)) k x y (ended_none (place_marked step.0)) step.1) ends
 
-aborts_kept : (a b : LoggerMoment) → AbortsAll a b → Kept a b
+pub aborts_kept : (a b : LoggerMoment) → AbortsAll a b → Kept a b
 aborts_kept a b aborts = moment_turns (λ k. StepsAt AbortsChannel k) (length a.slots) a b (λ k x y step. abort_kept k (slot_at x.slots k) x y refl step) aborts
 
 undone_opens_kept : (order : Order) (dump : List ℕ) (why : Why) (begun : ℕ) (a b : LoggerMoment) → UndoesOpens order dump why begun a b → Kept a b

@@ -10,3 +10,4 @@ pub mod LoggerCalls
 pub mod LoggerFaults
 pub mod OtherFiles
 pub mod Reasons
+pub mod LeftNames

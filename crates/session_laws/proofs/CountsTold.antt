@@ -131,15 +131,13 @@ state_is s composed r run index channel at none NoEnd told so = ap state_by_dump
 state_is s composed r run index channel at none NoMark told so = absurd (composed.no_end_refused r run index channel at told)
 
 ended_so : CountLaws → (c : ClosedSession) → MembersAtEnd c → (first now : RunFiles) → LoggerReasons c first now → (Rose first.faults now.faults → ⊥) → (moments : (client : ℕ) → List ℕ) (r : SessionRun) → MakesRun (engine_calls c main_caller) r → (index : ℕ) (channel : LoggerChannel)
-    → slice_get (logger_channels (λ number. 0) c.slots) index ≡ Some channel → ToldState (session_of c moments) r channel (state_by_dump r.last.dump)
-ended_so laws c ends first now reasons stays moments r made index channel at =
+    → slice_get (logger_channels (λ number. 0) c.slots) index ≡ Some channel → (state : ChannelState) → ToldState (session_of c moments) r channel state → state ≡ state_by_dump r.last.dump
+ended_so laws c ends first now reasons stays moments r made index channel at state told =
     let composed = laws.composed c ends in
     let s : Session = session_of c composed.0 in
     let run : IsStoppedRun s r = laws.stopped s ends.engine r made in
-    let told = composed.1.channels_told r run index channel at in
-    let is : told.0 ≡ state_by_dump r.last.dump = state_is s composed.1 r run index channel at (λ broken. stays (broken_so laws c ends first now reasons composed.0 r made channel broken)) told.0 told.1 told.2 in
-    let now_told : ToldState s r channel (state_by_dump r.last.dump) = subst (ToldState s r channel) is told.1 in
-    record { index = now_told.index; states = now_told.states; told = now_told.told; state_is = now_told.state_is }
+    let here : ToldState s r channel state = record { index = told.index; states = told.states; told = told.told; state_is = told.state_is } in
+    state_is s composed.1 r run index channel at (λ broken. stays (broken_so laws c ends first now reasons composed.0 r made channel broken)) state here (composed.1.states_so r run index channel at state here)
 
 pub counts_tell : CountLaws → CountsTell
 counts_tell laws c ends first now reasons = record {

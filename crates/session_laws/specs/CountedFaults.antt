@@ -49,7 +49,8 @@ state_by_dump (Some dump) = Ended
 
 -- What the main thread was told of starts and of channels, where the counts of the run files were so at first, and are so
 -- now: why a start was refused; that each front-end takes part in a run that was started; that a channel broke off only
--- where a fault was counted; so that where none was, each channel of each run ended, or the stop's sheet had no dump.
+-- where a fault was counted; so that where none was, all that was told of a channel of a run is that it ended, or that the
+-- stop's sheet had no dump.
 pub record CountsHold (c : ClosedSession) (first now : RunFiles) : Type 0 where
   pub refused : (sheet : Sheet) → (start client : ℕ) → (why : Why) → (tallies : List ClientTally) →
       TransitionIn (engine_calls c main_caller) Start sheet start (Refused client why) tallies →
@@ -63,7 +64,7 @@ pub record CountsHold (c : ClosedSession) (first now : RunFiles) : Type 0 where
   pub ended : (Rose first.faults now.faults → ⊥) →
       (moments : (client : ℕ) → List ℕ) → (r : SessionRun) → MakesRun (engine_calls c main_caller) r →
       (index : ℕ) → (channel : LoggerChannel) → slice_get (logger_channels (λ number. 0) c.slots) index ≡ Some channel →
-      ToldState (session_of c moments) r channel (state_by_dump r.last.dump)
+      (state : ChannelState) → ToldState (session_of c moments) r channel state → state ≡ state_by_dump r.last.dump
 
 -- So it is with a closed session, by what the logger's answers rest on.
 abbrev pub CountsTell : Type 0
