@@ -9,3 +9,4 @@ pub mod NeededSessions
 pub mod CountedSampled
 pub mod PausedSampled
 pub mod PausedNeeded
+pub mod StartsTogether
