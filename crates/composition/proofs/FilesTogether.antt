@@ -43,7 +43,7 @@ use Rattle.caller_laws.specs.CallerLaws.{ReadPlaces, ReadEvents, CutEvents, CutF
 use Rattle.engine_laws.specs.BegunTurns.{HasTransition, HasTally}
 use Rattle.composition.specs.Sessions.{Session, turns_of, buffer_calls, MembersKeep}
 use Rattle.composition.specs.SessionRuns.{SessionRun, IsStoppedRun, run_order, ToldState, channel_events, begin_dump}
-use Rattle.composition.specs.CompositionLaws.{ChannelsTold, StatesTold, FilesHoldRuns, FilesHoldParts, RunsAreEnded, NoEndRefused}
+use Rattle.composition.specs.CompositionLaws.{ChannelsTold, StatesTold, StatesSo, FilesHoldRuns, FilesHoldParts, RunsAreEnded, NoEndRefused}
 use Rattle.composition.proofs.SessionTurns.{EngineFacts, are_turns, start_turn, one_start, StopTally, number_of, stop_tally, HasStartTally, start_tally, last_tally}
 use Rattle.composition.proofs.SentTogether.{each_reads_or_sends}
 
@@ -58,7 +58,7 @@ pub record CallerFacts : Type 0 where
   pub ends : BegunIsEnded
   pub senders : SenderMakesNoMark
 
-yes_channels : (answer : Answer) (states : List ChannelState) → Channels states ≡ tally_of answer → answer ≡ Yes (Channels states)
+pub yes_channels : (answer : Answer) (states : List ChannelState) → Channels states ≡ tally_of answer → answer ≡ Yes (Channels states)
 yes_channels (Yes tally) states e = ap (λ (t : Tally). Yes t) (sym e)
 yes_channels (No why) states e = absurd (cc (e))
 
@@ -241,6 +241,9 @@ state_so laws s keep r run index channel at state l =
     let same : told.0 ≡ state = one_state turns l.stop channel told.0 state told.1 l.tells in
     subst (λ (st : ChannelState). IsStateSo own r.start r.last.dump st) same
     (subst (λ (d : Option (List ℕ)). IsStateSo own r.start d told.0) l.dump (subst (λ (n : ℕ). IsStateSo own n l.stop.dump told.0) l.number told.2))
+
+pub states_so : EngineFacts → (s : Session) → MembersKeep s → StatesSo s
+states_so laws s keep r run index channel at state told = state_so laws s keep r run index channel at state (logger_run laws s keep r run channel state told)
 
 -- The logger alone makes marks.
 

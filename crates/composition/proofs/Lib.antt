@@ -10,3 +10,4 @@ pub mod NeededSessions
 pub mod CountedSampled
 pub mod PausedSampled
 pub mod PausedNeeded
+pub mod StartsTogether

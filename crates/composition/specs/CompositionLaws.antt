@@ -1,15 +1,19 @@
 -- What the members' contracts and the histories of all objects tell together: what the laws say of a session whose members
 -- keep their contracts.
-use Rattle.std.specs.Prelude.{◌≡◌, ℕ, List, length, slice_get, Some}
+use Rattle.std.specs.Prelude.{◌≡◌, ℕ, true, false, List, length, slice_get, Some}
 use Rattle.daq_types.specs.Callers.{caller_of_client}
 use Rattle.daq_types.specs.declared.runs.ChannelState.{ChannelState}
 use Rattle.daq_types.specs.declared.runs.ChannelState.TheVariants.{Ended, Broken, NoMark}
 use Rattle.daq_types.specs.declared.runs.FrontEnded.{FrontEnded}
 use Rattle.daq_types.specs.declared.runs.StartOutcome.{StartOutcome}
-use Rattle.daq_types.specs.declared.runs.StartOutcome.TheVariants.{Completed}
-use Rattle.daq_types.specs.declared.runs.Transition.TheVariants.{Stop, Pause}
+use Rattle.daq_types.specs.declared.runs.StartOutcome.TheVariants.{Completed, Refused}
+use Rattle.daq_types.specs.declared.runs.RunState.TheVariants.{Stopped}
+use Rattle.daq_types.specs.declared.runs.Transition.TheVariants.{Start, Stop, Pause}
+use Rattle.daq_types.specs.declared.runs.Why.{Why}
+use Rattle.daq_types.specs.declared.runs.Why.TheVariants.{NotReady}
 use Rattle.transitions.specs.declared.sheet.Sheet.{Sheet}
 use Rattle.transitions.specs.declared.answers.ClientTally.{ClientTally}
+use Rattle.transitions.specs.EngineCalls.{order_for}
 use Rattle.transitions.specs.declared.answers.Tally.TheVariants.{Channels}
 use Rattle.engine_laws.specs.BegunTurns.{HasTransition}
 use Rattle.buffer_core.specs.declared.entry.BufferEntry.{BufferEntry}
@@ -96,6 +100,13 @@ StatesTold s = (r : SessionRun) → IsStoppedRun s r → (place : ℕ) → (stat
     (index : ℕ) → (channel : LoggerChannel) → slice_get s.channels index ≡ Some channel →
     (state : ChannelState) × (slice_get states channel.number ≡ Some state)
 
+-- Each state that it told of a channel there is so.
+abbrev pub StatesSo : Session → Type 0
+StatesSo s = (r : SessionRun) → IsStoppedRun s r →
+    (index : ℕ) → (channel : LoggerChannel) → slice_get s.channels index ≡ Some channel →
+    (state : ChannelState) → ToldState s r channel state →
+    IsStateSo (buffer_calls s channel.buffer s.logger) r.start r.last.dump state
+
 -- The file of each channel that the logger told to have ended is the run file of the events that the channel asks for.
 abbrev pub FilesHoldRuns : Session → Type 0
 FilesHoldRuns s = (r : SessionRun) → IsStoppedRun s r →
@@ -150,9 +161,24 @@ abbrev pub StopsComplete : Session → Type 0
 StopsComplete s = (sheet : Sheet) → (start : ℕ) → (outcome : StartOutcome) → (tallies : List ClientTally) →
     HasTransition s.engine Stop sheet start outcome tallies → outcome ≡ Completed
 
+-- A start that a front-end refused was refused as NotReady, and its equipment takes no part in the run.
+abbrev pub FrontsRefuse : Session → Type 0
+FrontsRefuse s = (f : SessionFront) → HasFront s f →
+    (sheet : Sheet) → (start : ℕ) → (why : Why) → (tallies : List ClientTally) →
+    HasTransition s.engine Start sheet start (Refused f.client why) tallies →
+    (why ≡ NotReady) × (f.takes (order_for sheet start Stopped) ≡ false)
+
+-- A start that was not refused is one of a run in which the equipment of each front-end takes part.
+abbrev pub FrontsTakePart : Session → Type 0
+FrontsTakePart s = (sheet : Sheet) → (start : ℕ) → (tallies : List ClientTally) →
+    HasTransition s.engine Start sheet start Completed tallies →
+    (f : SessionFront) → HasFront s f → f.takes (order_for sheet start Stopped) ≡ true
+
 -- All that these laws say of a session.
 pub record IsComposed (s : Session) : Type 0 where
   pub stops_complete : StopsComplete s
+  pub fronts_refuse : FrontsRefuse s
+  pub fronts_take : FrontsTakePart s
   pub fronts_tell : FrontsTell s
   pub fronts_sent : FrontsSent s
   pub fronts_stand : FrontsStand s
@@ -163,6 +189,7 @@ pub record IsComposed (s : Session) : Type 0 where
   pub pauses_set : PausesSet s
   pub channels_told : ChannelsTold s
   pub states_told : StatesTold s
+  pub states_so : StatesSo s
   pub runs_ended : RunsAreEnded s
   pub no_end_refused : NoEndRefused s
   pub files_hold : FilesHoldRuns s

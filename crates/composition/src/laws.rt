@@ -1,6 +1,6 @@
 //! Laws of a session's members together: each function does nothing but call other laws, and its contract is the law.
 
-ghost use Rattle.composition.specs.CompositionLaws.{FrontsTell, FrontsSent, FrontsStand, FrontsSet, StopsSet, PausesSet, OnlyFrontsSent, SegmentsAreMade, ChannelsTold, StatesTold, RunsAreEnded, NoEndRefused, FilesHoldRuns, FilesHoldParts, ReportsTold, ReportsSo, ReportsWhole, GotWhole, StopsComplete, IsComposed};
+ghost use Rattle.composition.specs.CompositionLaws.{FrontsTell, FrontsSent, FrontsStand, FrontsSet, StopsSet, PausesSet, OnlyFrontsSent, SegmentsAreMade, ChannelsTold, StatesTold, RunsAreEnded, NoEndRefused, FilesHoldRuns, FilesHoldParts, ReportsTold, ReportsSo, ReportsWhole, GotWhole, StopsComplete, StatesSo, FrontsRefuse, FrontsTakePart, IsComposed};
 ghost use Rattle.daq_types.specs.declared.runs.ChannelState.TheVariants.{Ended};
 ghost use Rattle.composition.specs.Sessions.{Session, MembersKeep};
 ghost use Rattle.composition.specs.SessionRuns.{IsStoppedRun, ToldState, ReportsRun, SawThrough};
@@ -59,6 +59,7 @@ pub fn sets()
 pub fn files()
     ensures told { (s : Session) → MembersKeep s → ChannelsTold s }
     ensures states { (s : Session) → MembersKeep s → StatesTold s }
+    ensures so { (s : Session) → MembersKeep s → StatesSo s }
     ensures ended { (s : Session) → MembersKeep s → RunsAreEnded s }
     ensures unrefused { (s : Session) → MembersKeep s → NoEndRefused s }
     ensures hold { (s : Session) → MembersKeep s → FilesHoldRuns s }
@@ -104,11 +105,23 @@ pub fn stops()
     turns::tallies_answered();
 }
 
+/// A start that a front-end refused was refused as NotReady, where its equipment takes no part in the run; and each
+/// front-end's equipment takes part in a run whose start was not refused.
+pub fn starts()
+    ensures refused { (s : Session) → MembersKeep s → FrontsRefuse s }
+    ensures taken { (s : Session) → MembersKeep s → FrontsTakePart s }
+{
+    turns::turns_begun();
+    turns::tallies_answered();
+    turns::called_told();
+}
+
 /// All of these laws: what the histories of a session's objects and its run files tell where each member keeps its contract.
 pub fn composed()
     ensures { (s : Session) → MembersKeep s → IsComposed s }
 {
     stops();
+    starts();
     fronts();
     sets();
     files();

@@ -17,10 +17,11 @@ use Rattle.engine_laws.specs.EngineLaws.{MainHasTransition}
 use Rattle.composition.specs.Sessions.{Session, SessionFront, HasFront}
 use Rattle.composition.specs.SessionRuns.{SessionRun, IsStoppedRun, ToldState}
 use Rattle.composition.specs.CompositionLaws.{IsComposed}
-use Rattle.session_laws.specs.MadeRuns.{TransitionIn, FrontHolds, IsFileSo, ChannelHolds}
+use Rattle.session_engine.specs.MadeTransitions.{TransitionIn}
+use Rattle.session_laws.specs.MadeRuns.{FrontHolds, IsFileSo, ChannelHolds}
 use Rattle.session_laws.specs.EndLaws.{MadeAreStopped, StoppedHold}
 
-has_made : MainHasTransition → (history : EngineHistory) (t : Transition) (sheet : Sheet) (start : ℕ) (outcome : StartOutcome) (tallies : List ClientTally) → IsLegalEngine engine_opening history
+pub has_made : MainHasTransition → (history : EngineHistory) (t : Transition) (sheet : Sheet) (start : ℕ) (outcome : StartOutcome) (tallies : List ClientTally) → IsLegalEngine engine_opening history
     → TransitionIn (entries_by main_caller history) t sheet start outcome tallies → HasTransition history t sheet start outcome tallies
 has_made law history t sheet start outcome tallies legal made = (law history made.before made.between made.after t sheet start outcome tallies legal made.whole made.on).0
 

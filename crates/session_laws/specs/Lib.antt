@@ -3,4 +3,5 @@ pub mod MembersAtEnd
 pub mod MadeRuns
 pub mod OtherNames
 pub mod EndLaws
+pub mod CountedFaults
 pub mod RecordedRuns
