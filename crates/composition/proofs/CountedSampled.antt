@@ -148,7 +148,7 @@ counting_by = Attach [] (Ok 0) ∷ Request 0 any any All (Ok 0) ∷ Receive 0 0 
 abbrev counting_calls : List BufferEntry
 counting_calls = counting_by ++ Cancel 0 0 (Ok tt) ∷ []
 
-abbrev wholly_counted : (told : Event) → IsWhollyCounted counting_calls (got_first told ∷ []) (count_request (counted_analyzer told).wanted 0 0 1) (told ∷ [])
+abbrev wholly_counted : (told : Event) → IsWhollyCounted counting_calls (got_first told ∷ []) (count_request (counted_analyzer told).wanted 0 0 1 0) (told ∷ [])
 wholly_counted told = record {
   accepted = 1;
   reading = Receive 0 0 (Got 0 1) ∷ [];
@@ -163,7 +163,7 @@ wholly_counted told = record {
   got_later = [];
   got_is = refl;
   counted = record {
-    asked = record { before = Attach [] (Ok 0) ∷ []; whole = refl; alone = λ n. refl };
+    asked = record { before = Attach [] (Ok 0) ∷ []; whole = refl; alone = λ n. refl; requests = refl };
     asks_on = (tt, (tt, (tt, tt)));
     earlier = [];
     given = got_first told ∷ [];
@@ -181,6 +181,8 @@ report_told told = record {
   accepted = refl;
   client = 0;
   number = 0;
+  earlier = 0;
+  of_start = inr (inl (refl, refl));
   events = told ∷ [];
   counted = wholly_counted told;
   report_is = refl;
@@ -189,6 +191,7 @@ report_told told = record {
 counting_keeps : (told : Event) → KeepsAnalyzer (counted_analyzer told).wanted counting_calls (got_first told ∷ []) (counting_turns told)
 counting_keeps told = record {
   calls = record { only_reads = (tt, (tt, (tt, (tt, (tt, (tt, tt)))))); own_calls = (refl, (refl, (tt, (refl, (refl, (tt, tt)))))) };
+  once = refl;
   reports = reports;
   starts = start_answer (counting_stop told) counting_start refl refl;
   stops = λ are start begin stop answer accepted stops is. told_so stop answer stops.stands stops.is is;
