@@ -43,6 +43,7 @@ use Rattle.caller_laws.specs.OneCaller.{WasSentAt}
 use Rattle.caller_laws.specs.CallerSamples.{got_first}
 use Rattle.engine_laws.specs.BegunTurns.{IsRegisteredIn}
 use Rattle.composition.specs.SentSets.{AreTurnSets}
+use Rattle.caller_laws.specs.SeenRuns.{SeesRun}
 use Rattle.composition.specs.Sessions.{SessionFront, SessionAnalyzer, HasAnalyzer, IsMemberCaller, turns_of, buffer_calls, database_calls, IsRegistered, MembersKeep}
 use Rattle.composition.specs.SessionRuns.{IsStoppedRun, ReportsRun, SawThrough, analyzer_events}
 use Rattle.composition.specs.CompositionLaws.{ReportsWhole, GotWhole}
@@ -342,25 +343,38 @@ pub saw_run : (told : Event) → (so : ReportsRun (counted_session told) (counte
 saw_run told = (
   report_told told,
   record {
+    before = (3, Attach [] (Ok 0)) ∷ [];
+    running = take 3 (drop 2 (counted_history 0));
+    draining = (3, Accepted 1) ∷ [];
+    after = (3, Cancel 0 0 (Ok tt)) ∷ [];
+    by = 1;
     ended = 1;
-    sees = record {
-      before = (3, Attach [] (Ok 0)) ∷ [];
-      running = take 3 (drop 2 (counted_history 0));
-      draining = (3, Accepted 1) ∷ [];
-      after = (3, Cancel 0 0 (Ok tt)) ∷ [];
-      number = 0;
-      by = 1;
-      room = 0;
-      gate = Shut;
-      last = 1;
-      whole = refl;
-      early = tt;
-      alone = λ n. refl;
-      keeps = (tt, (tt, tt));
-    };
+    room = 0;
+    gate = Shut;
+    last = 1;
+    whole = refl;
     by_request = refl;
+    early = tt;
+    lives = (tt, (tt, tt));
   },
 )
+
+counted_sees : SeesRun (counted_history 0) 3 0 any any 1 1
+counted_sees = record {
+  before = (3, Attach [] (Ok 0)) ∷ [];
+  running = take 3 (drop 2 (counted_history 0));
+  draining = (3, Accepted 1) ∷ [];
+  after = (3, Cancel 0 0 (Ok tt)) ∷ [];
+  number = 0;
+  by = 1;
+  room = 0;
+  gate = Shut;
+  last = 1;
+  whole = refl;
+  early = tt;
+  alone = λ n. refl;
+  keeps = (tt, (tt, tt));
+}
 
 -- What it was told is needed.
 
@@ -397,10 +411,7 @@ one_got : longer_event ∷ [] ≡ sample_event ∷ [] → ⊥
 one_got e = other_report (ap report_of e)
 
 pub got_needed : FailsSession AnalyzerEvents (counted_session longer_event) GotWhole
-unfolding saw_run
 got_needed = record {
   others = others_of_counted longer_event;
-  wrong = λ law.
-      let saw = saw_run longer_event in
-      one_got (law (counted_run longer_event) (counted_analyzer longer_event) (0, refl) 0 1 saw.1.sees ∙ one_event);
+  wrong = λ law. one_got (law (counted_run longer_event) (counted_analyzer longer_event) (0, refl) 0 1 counted_sees ∙ one_event);
 }
