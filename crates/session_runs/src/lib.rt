@@ -13,8 +13,6 @@ mod runs;
 mod starting;
 mod stopping;
 mod tallied;
-#[cfg(test)]
-mod tests;
 
 pub use channels::{RunChannel, RunChannels};
 pub use on::CurrentRun;
