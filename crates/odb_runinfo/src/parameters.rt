@@ -63,26 +63,38 @@ impl KeyPaths {
         ensures { SetsNumbers (D.access database.old) (D.access database.new)
             (start_sets run time) }
     {
-        assign_at(rt, alloc, database, &self.state, state_item(RunState::Stopped));
-        assign_at(rt, alloc, database, &self.run_number, Item::Int32(run as i32));
+        assign_at(
+            rt,
+            alloc,
+            database,
+            &self.state,
+            state_item(RunState::Stopped),
+        );
+        assign_at(
+            rt,
+            alloc,
+            database,
+            &self.run_number,
+            Item::Int32(run as i32),
+        );
         assign_at(rt, alloc, database, &self.start_time, Item::UInt32(time));
         assign_at(rt, alloc, database, &self.stop_time, Item::UInt32(0));
     }
 
     /// Sets the run's number back by one, as a start that was refused does at its end.
-    pub fn set_back<R: Wait, D: WatchPort>(
-        &self,
-        rt: &R,
-        alloc: Global,
-        database: &mut D,
-        run: u32,
-    )
+    pub fn set_back<R: Wait, D: WatchPort>(&self, rt: &R, alloc: Global, database: &mut D, run: u32)
         requires first { 1 ≤ run }
         requires small { run < 2 ^ 31 }
         ensures { SetsNumbers (D.access database.old) (D.access database.new)
             (refused_sets run) }
     {
-        assign_at(rt, alloc, database, &self.run_number, Item::Int32((run - 1) as i32));
+        assign_at(
+            rt,
+            alloc,
+            database,
+            &self.run_number,
+            Item::Int32((run - 1) as i32),
+        );
     }
 
     /// Sets what a stop sets as it begins: the state of the run as it is, and the time of the stop.

@@ -3,8 +3,8 @@ ghost use Rattle.std.specs.Prelude.{◌≡◌, IfOk};
 ghost use Rattle.daq_types.specs.Callers.{main_caller};
 
 use crate::{
-    RunKey, RunNumber, RunPaths, START_CALLS, STOP_CALLS, KeyPaths, StoppingPaths, next_run,
-    open, open_front, sent_path, set_refused, set_running, set_sent, set_start, set_stopped,
+    KeyPaths, RunKey, RunNumber, RunPaths, START_CALLS, STOP_CALLS, StoppingPaths, next_run, open,
+    open_front, sent_path, set_refused, set_running, set_sent, set_start, set_stopped,
     set_stopping,
 };
 use daq_types::{Caller, Name, NoMemory, Tid};
