@@ -1,13 +1,13 @@
 -- How long a run file is: what a client gets in its life takes at most 2^62 bytes of room, which is 8 more for each event than the
 -- event's bytes in a file; so where there are many events the two records fit besides, and few events are short.
-use Rattle.std.specs.Prelude.{◌≡◌, ℕ, ◌+◌, ◌*◌, ◌^◌, ◌≤◌, ◌==◌, Bool, if◌then◌else◌, List, [], ◌∷◌, ◌++◌, All, length, map, reverse, slice_get, Option, Some, None, refl}
+use Rattle.std.specs.Prelude.{◌≡◌, ℕ, ◌+◌, ◌*◌, ◌^◌, ◌≤◌, ◌==◌, Bool, if◌then◌else◌, List, [], ◌∷◌, ◌++◌, All, length, reverse, slice_get, Option, Some, None, refl}
 use Rattle.std.specs.List.{filter, list_any, sum_by}
-use Rattle.std.proofs.Common.{ap, sym, ◌∙◌, subst, arith, length-append}
+use Rattle.std.proofs.Common.{ap, arith, length-append}
 use Rattle.std.proofs.lemmas.List.{reverse-append}
 use Rattle.std.proofs.lemmas.List.Elements.{All-head, All-tail}
 use Rattle.std.proofs.lemmas.List.Sums.{sum_by-cons}
 use Rattle.daq_types.specs.declared.events.Event.{Event}
-use Rattle.daq_model.specs.Events.{encoding, all_encoded, slot_size, slot_of_length, matches, record_limit}
+use Rattle.daq_model.specs.Events.{encoding, all_encoded, slot_size, slot_of_length, matches}
 use Rattle.daq_model.specs.RunFile.{begin_record, end_record, begun_file, run_file, IsFileEvent}
 use Rattle.daq_model.proofs.Events.{length-encoding}
 use Rattle.buffer_core.specs.SlotLaws.{split}

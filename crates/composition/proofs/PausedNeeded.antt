@@ -1,5 +1,5 @@
 -- That a front-end sends nothing behind a pause is needed.
-use Rattle.std.specs.Prelude.{◌≡◌, ◌≢◌, ℕ, zero, suc, codes, List, [], ◌∷◌, slice_get, Some, Ok, refl, ◌⊎◌}
+use Rattle.std.specs.Prelude.{◌≡◌, ◌≢◌, ℕ, zero, suc, codes, [], ◌∷◌, slice_get, Some, Ok, refl, ◌⊎◌}
 use Rattle.std.proofs.Common.{subst, arith, inl, inr}
 use Rattle.daq_types.specs.Callers.{entries_by}
 use Rattle.daq_types.specs.declared.runs.Transition.TheVariants.{Start, Stop}

@@ -1,5 +1,5 @@
 -- Where a front-end's calls on the database are the sets of its turns, the set of each turn stands among them.
-use Rattle.std.specs.Prelude.{◌≡◌, ℕ, List, [], ◌∷◌, ◌++◌, map, Option, None, refl, ◌⊎◌}
+use Rattle.std.specs.Prelude.{◌≡◌, ℕ, List, [], ◌∷◌, ◌++◌, map, refl}
 use Rattle.std.proofs.Common.{ap, sym, ◌∙◌, subst, inl, inr, append_assoc, append-nil}
 use Rattle.std.proofs.lemmas.List.{map-append}
 use Rattle.buffer_core.specs.declared.entry.BufferEntry.{BufferEntry}
@@ -8,7 +8,6 @@ use Rattle.odb_watch.specs.declared.entry.WatchEntry.{WatchEntry}
 use Rattle.odb_watch.specs.declared.entry.WatchEntry.TheVariants.{Call}
 use Rattle.odb_port.specs.DatabasePorts.{row_calls}
 use Rattle.odb_runinfo.specs.RunSets.{Assignment, AreSets, sent_set}
-use Rattle.transitions.specs.declared.answers.Answer.{Answer}
 use Rattle.member_model.specs.Turns.{MemberTurn, HasAnswer}
 use Rattle.member_model.specs.Moments.{HasMoment}
 use Rattle.front_ends.specs.Spans.{moment_or_now, HasSpan}
