@@ -1,0 +1,3 @@
+mod PlayingLaws
+mod PlayingEnds
+mod ClosingLaws
