@@ -1,4 +1,8 @@
+ghost use Rattle.std.specs.Prelude.{◌≡◌};
+
 use daq_types::FileName;
+use script_desk::Ending;
+use session_replies::Refusals;
 
 /// Why a script ended.
 #[derive(Clone, Copy, Debug, PartialEq, Eq)]
@@ -13,7 +17,8 @@ pub enum ScriptEnd {
     SourceFault,
     /// A call on the sink failed.
     SinkFault,
-    /// A call on the run files failed; the name is that of the file of the first fault.
+    /// A call on files failed; the name is that of the file of the first fault, of the run files where one of theirs failed, else of
+    /// the files of the database.
     FileFault { name: FileName },
     /// There was no memory.
     NoMemory,

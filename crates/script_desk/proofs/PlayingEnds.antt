@@ -182,44 +182,121 @@ module _ {St : Type 0} (does : ℕ → Read Command → St → Reply → St → 
       (λ unanswered. broken_played last first source_first source_old left told_first told_old told_new reading_old reading_new old new was now number place line is between reads unanswered)
       line_does
 
-  -- The line that was read was handled, as it stands in the reader.
+  -- The line that was read was handled: what it did as things stood it does as the lines before it left them.
+
+  stood_replied : (first : St) (source_first left told_first told_old : Option (List ℕ)) (reading : Reading) (last : Bool) (old new : St) (was now : Refusals) (number : ℕ) (reply : Reply)
+      → (has : HasLine does breaks first source_first left told_first told_old reading last old was number) → Replied does reading.line (number + 1) reply old new was now → Replied does (kept has.line) (number + 1) reply has.stood new was now
+  stood_replied first source_first left told_first told_old reading last old new was now number reply has replied =
+      let same : command_of reading.line ≡ command_of has.line =
+          ap command_of (shown_next last has.reading_old reading has.source_old left has.line has.next) ∙ command_of-kept has.line in
+      record {
+        answers = subst (λ (c : Read Command). does (number + 1) c has.stood reply new) (sym (command_of-kept has.line))
+            (has.answers_so reply new (subst (λ (c : Read Command). does (number + 1) c old reply new) same replied.answers));
+        is_noted = replied.is_noted;
+      }
+
+  stood_unanswered : (first : St) (source_first left told_first told_old told_new : Option (List ℕ)) (reading : Reading) (last : Bool) (old new : St) (was now : Refusals) (number : ℕ)
+      → (has : HasLine does breaks first source_first left told_first told_old reading last old was number) → Unanswered does breaks reading.line (number + 1) old new told_old told_new was now
+      → Unanswered does breaks (kept has.line) (number + 1) has.stood new told_old told_new was now
+  stood_unanswered first source_first left told_first told_old told_new reading last old new was now number has unanswered =
+      let same : command_of reading.line ≡ command_of has.line =
+          ap command_of (shown_next last has.reading_old reading has.source_old left has.line has.next) ∙ command_of-kept has.line in
+      record {
+        broke = subst (λ (c : Read Command). breaks (number + 1) c has.stood new) (sym (command_of-kept has.line))
+            (has.breaks_so new (subst (λ (c : Read Command). breaks (number + 1) c old new) same unanswered.broke));
+        same = unanswered.same;
+        kept = unanswered.kept;
+      }
+
+  -- the command of the line as it is kept
+  shown_command : (first : St) (source_first left told_first told_old : Option (List ℕ)) (reading : Reading) (last : Bool) (old : St) (was : Refusals) (number : ℕ)
+      → (has : HasLine does breaks first source_first left told_first told_old reading last old was number) → command_of reading.line ≡ command_of (kept has.line)
+  shown_command first source_first left told_first told_old reading last old was number has =
+      ap command_of (shown_next last has.reading_old reading has.source_old left has.line has.next)
 
   pub halted_at : (leaves : Read Command → Bool) (halt : Halt) (last : Bool) (first : St) (source_first left told_first told_old told_new : Option (List ℕ)) (reading : Reading) (old new : St) (was now : Refusals) (number : ℕ)
-      → HasLine does first source_first left told_first told_old reading last old was number
+      → HasLine does breaks first source_first left told_first told_old reading last old was number
       → DoesLine does breaks leaves reading.line (number + 1) last old new told_old told_new was now (Err halt) → Played does breaks first (Halted halt) source_first left told_first told_new new now
-  halted_at leaves halt last first source_first left told_first told_old told_new reading old new was now number has line_does =
-      halted_played leaves halt last first source_first has.source_old left told_first told_old told_new has.reading_old reading old new was now number (number + 1) has.line refl has.between has.next
-      (subst (λ (bytes : List ℕ). DoesLine does breaks leaves bytes (number + 1) last old new told_old told_new was now (Err halt)) (shown_next last has.reading_old reading has.source_old left has.line has.next) line_does)
+  halted_at leaves SinkFault last first source_first left told_first told_old told_new reading old new was now number has line_does =
+      halted_played leaves SinkFault last first source_first has.source_old left told_first told_old told_new has.reading_old reading has.stood new was now number (number + 1) has.line refl has.between has.next
+      (line_does.0, stood_replied first source_first left told_first told_old reading last old new was now number line_does.0 has line_does.1, line_does.2)
+  halted_at leaves NoMemory last first source_first left told_first told_old told_new reading old new was now number has line_does =
+      halted_played leaves NoMemory last first source_first has.source_old left told_first told_old told_new has.reading_old reading has.stood new was now number (number + 1) has.line refl has.between has.next
+      (⊎_elim
+      (λ answered. inl (answered.0, stood_replied first source_first left told_first told_old reading last old new was now number answered.0 has answered.1, answered.2))
+      (λ unanswered. inr (stood_unanswered first source_first left told_first told_old told_new reading last old new was now number has unanswered))
+      line_does)
 
   pub stopped_at : (leaves : Read Command → Bool) (last : Bool) (first : St) (source_first left told_first told_old told_new : Option (List ℕ)) (reading : Reading) (old new : St) (was now : Refusals) (number : ℕ)
-      → HasLine does first source_first left told_first told_old reading last old was number
+      → HasLine does breaks first source_first left told_first told_old reading last old was number
       → DoesLine does breaks leaves reading.line (number + 1) last old new told_old told_new was now (Ok going.End) → Played does breaks first End source_first left told_first told_new new now
   stopped_at leaves last first source_first left told_first told_old told_new reading old new was now number has line_does =
-      let kept_does : DoesLine does breaks leaves (kept has.line) (number + 1) last old new told_old told_new was now (Ok going.End) =
-          subst (λ (bytes : List ℕ). DoesLine does breaks leaves bytes (number + 1) last old new told_old told_new was now (Ok going.End)) (shown_next last has.reading_old reading has.source_old left has.line has.next) line_does in
-      stop_played last first source_first has.source_old left told_first told_old told_new has.reading_old reading old new was now number (number + 1) has.line kept_does.0 refl has.between has.next kept_does.1 kept_does.2 kept_does.3
+      stop_played last first source_first has.source_old left told_first told_old told_new has.reading_old reading has.stood new was now number (number + 1) has.line line_does.0 refl has.between has.next
+      (stood_replied first source_first left told_first told_old reading last old new was now number line_does.0 has line_does.1) line_does.2
+      (subst (λ (c : Read Command). (is_exit c ≡ true) ⊎ (last ≡ true)) (shown_command first source_first left told_first told_old reading last old was number has) line_does.3)
 
   -- it goes on behind it
   pub goes_on_at : (leaves : Read Command → Bool) (last : Bool) (first : St) (source_first left told_first told_old told_new : Option (List ℕ)) (reading : Reading) (old new : St) (was now : Refusals) (number : ℕ)
-      → HasLine does first source_first left told_first told_old reading last old was number
+      → HasLine does breaks first source_first left told_first told_old reading last old was number
       → DoesLine does breaks leaves reading.line (number + 1) last old new told_old told_new was now (Ok going.On) → IsBetween does first source_first left told_first told_new reading new now (number + 1)
   goes_on_at leaves last first source_first left told_first told_old told_new reading old new was now number has line_does =
-      let kept_does : DoesLine does breaks leaves (kept has.line) (number + 1) last old new told_old told_new was now (Ok going.On) =
-          subst (λ (bytes : List ℕ). DoesLine does breaks leaves bytes (number + 1) last old new told_old told_new was now (Ok going.On)) (shown_next last has.reading_old reading has.source_old left has.line has.next) line_does in
-      between_more does first source_first has.source_old left told_first told_old told_new has.reading_old reading old new was now number (number + 1) has.line kept_does.0 refl has.between
-      (subst (λ (b : Bool). ReadsNext b has.reading_old reading has.source_old left has.line) kept_does.3.1 has.next) kept_does.1 kept_does.2 kept_does.3.0
+      between_more does first source_first has.source_old left told_first told_old told_new has.reading_old reading has.stood new was now number (number + 1) has.line line_does.0 refl has.between
+      (subst (λ (b : Bool). ReadsNext b has.reading_old reading has.source_old left has.line) line_does.3.1 has.next)
+      (stood_replied first source_first left told_first told_old reading last old new was now number line_does.0 has line_does.1) line_does.2
+      (ap is_exit (sym (shown_command first source_first left told_first told_old reading last old was number has)) ∙ line_does.3.0)
 
   -- it is left to another
   pub left_at : (leaves : Read Command → Bool) (last : Bool) (first : St) (source_first left told_first told_old told_new : Option (List ℕ)) (reading : Reading) (old new : St) (was now : Refusals) (number : ℕ)
-      → HasLine does first source_first left told_first told_old reading last old was number
+      → HasLine does breaks first source_first left told_first told_old reading last old was number
       → DoesLine does breaks leaves reading.line (number + 1) last old new told_old told_new was now (Ok going.Opens) → OpensAt does breaks leaves first source_first left told_first told_new reading last new now number
-  left_at leaves last first source_first left told_first told_old told_new reading old new was now number has line_does = record {
-    has = rw (line_does.stage, line_does.told, line_does.same) has;
-    left = ap leaves (sym (command_of-kept has.line)) ∙ ap (λ (bytes : List ℕ). leaves (command_of bytes)) (sym (shown_next last has.reading_old reading has.source_old left has.line has.next)) ∙ line_does.left;
-  }
+  left_at leaves last first source_first left told_first told_old told_new reading old new was now number has line_does =
+      let here : OpensAt does breaks leaves first source_first left told_first told_old reading last old was number = record {
+        has = has;
+        left = ap leaves (sym (command_of-kept has.line)) ∙ ap leaves (sym (shown_command first source_first left told_first told_old reading last old was number has)) ∙ line_does.left;
+      } in rw (line_does.stage, line_does.told, line_does.same) here
 
-  -- the next line was read behind those that were answered, or they ended so
+  -- the next line was read behind those that were answered
   pub line_behind : (last : Bool) (first : St) (source_first source_old source_new told_first told_now : Option (List ℕ)) (old new : Reading) (now : St) (refusals : Refusals) (number : ℕ)
-      → IsBetween does first source_first source_old told_first told_now old now refusals number → ReadsOn None last old new source_old source_new → HasLine does first source_first source_new told_first told_now new last now refusals number
+      → IsBetween does first source_first source_old told_first told_now old now refusals number → ReadsOn None last old new source_old source_new → HasLine does breaks first source_first source_new told_first told_now new last now refusals number
   line_behind last first source_first source_old source_new told_first told_now old new now refusals number between reads =
-      record { source_old = source_old; reading_old = old; between = between; line = reads.0; next = reads.1 }
+      record {
+        source_old = source_old;
+        reading_old = old;
+        stood = now;
+        between = between;
+        line = reads.0;
+        next = reads.1;
+        answers_so = λ reply later here. here;
+        breaks_so = λ later here. here;
+      }
+
+  -- So of a desk, behind which the reader, the count of lines and the refusals are these.
+
+  pub goes_next : (leaves : Read Command → Bool) (last last_new : Bool) (first : St) (source_first source_old source_new told_first told_old told_new : Option (List ℕ)) (reading_old reading_mid reading_new : Reading) (old new : St) (was mid now : Refusals) (number_old number_mid number_new : ℕ)
+      → HasLine does breaks first source_first source_old told_first told_old reading_old last old was number_old
+      → DoesLine does breaks leaves reading_old.line (number_old + 1) last old new told_old told_new was mid (Ok going.On) → reading_mid ≡ reading_old → number_mid ≡ number_old + 1
+      → ReadsOn None last_new reading_mid reading_new source_old source_new → number_new ≡ number_mid → now ≡ mid
+      → HasLine does breaks first source_first source_new told_first told_new reading_new last_new new now number_new
+  goes_next leaves last last_new first source_first source_old source_new told_first told_old told_new reading_old reading_mid reading_new old new was mid now number_old number_mid number_new has line_does same_reading is_mid reads is_number is_refusals =
+      let between : IsBetween does first source_first source_old told_first told_new reading_old new mid (number_old + 1) =
+          goes_on_at leaves last first source_first source_old told_first told_old told_new reading_old old new was mid number_old has line_does in
+      let moved : IsBetween does first source_first source_old told_first told_new reading_mid new now number_new = rw (same_reading, is_refusals, is_number, is_mid) between in
+      line_behind last_new first source_first source_old source_new told_first told_new reading_mid reading_new new now number_new moved reads
+
+  pub ends_next : (leaves : Read Command → Bool) (ending : Ending) (last last_new : Bool) (first : St) (source_first source_old source_new told_first told_old told_new : Option (List ℕ)) (reading_old reading_mid reading_new : Reading) (old new : St) (was mid now : Refusals) (number_old : ℕ)
+      → HasLine does breaks first source_first source_old told_first told_old reading_old last old was number_old
+      → DoesLine does breaks leaves reading_old.line (number_old + 1) last old new told_old told_new was mid (Ok going.On) → reading_mid ≡ reading_old
+      → ReadsOn (Some ending) last_new reading_mid reading_new source_old source_new → now ≡ mid
+      → Played does breaks first ending source_first source_new told_first told_new new now
+  ends_next leaves ending last last_new first source_first source_old source_new told_first told_old told_new reading_old reading_mid reading_new old new was mid now number_old has line_does same_reading reads is_refusals =
+      let between : IsBetween does first source_first source_old told_first told_new reading_old new mid (number_old + 1) =
+          goes_on_at leaves last first source_first source_old told_first told_old told_new reading_old old new was mid number_old has line_does in
+      let moved : IsBetween does first source_first source_old told_first told_new reading_mid new now (number_old + 1) = rw (same_reading, is_refusals) between in
+      ended_played ending last_new first source_first source_old source_new told_first told_new reading_mid reading_new new now (number_old + 1) moved reads
+
+  pub left_next : (leaves : Read Command → Bool) (last last_new : Bool) (first : St) (source_first left told_first told_old told_new : Option (List ℕ)) (reading reading_new : Reading) (old new : St) (was now : Refusals) (number number_new : ℕ)
+      → HasLine does breaks first source_first left told_first told_old reading last old was number
+      → DoesLine does breaks leaves reading.line (number + 1) last old new told_old told_new was now (Ok going.Opens) → reading_new ≡ reading → last_new ≡ last → number_new ≡ number
+      → OpensAt does breaks leaves first source_first left told_first told_new reading_new last_new new now number_new
+  left_next leaves last last_new first source_first left told_first told_old told_new reading reading_new old new was now number number_new has line_does same_reading same_last same_number =
+      rw (same_reading, same_last, same_number) (left_at leaves last first source_first left told_first told_old told_new reading old new was now number has line_does)

@@ -75,14 +75,6 @@ module _ {St : Type 0} (does : (number : ℕ) → Read Command → St → Reply 
     pub is_number : length lines ≡ number
     pub numbered : length replies ≡ length lines
 
-  -- Behind them one more line was read, which is not answered yet.
-  pub record HasLine (first : St) (source_first source_now told_first told_now : Option (List ℕ)) (reading : Reading) (last : Bool) (now : St) (refusals : Refusals) (number : ℕ) : Type 0 where
-    pub source_old : Option (List ℕ)
-    pub reading_old : Reading
-    pub between : IsBetween first source_first source_old told_first told_now reading_old now refusals number
-    pub line : List ℕ
-    pub next : ReadsNext last reading_old reading source_old source_now line
-
 -- The lines as they ended.
 
 -- The lines are the whole script: up to its first `exit`, or to the end of a text that is not too long.
@@ -142,6 +134,18 @@ Wrote (Halted SinkFault) told_first told_now replies = WroteUpTo told_first told
 Wrote (Halted NoMemory) told_first told_now replies = Appends told_first told_now (console_text 1 replies) ⊎ WroteBut told_first told_now replies
 
 module _ {St : Type 0} (does : (number : ℕ) → Read Command → St → Reply → St → Type 0) (breaks : (number : ℕ) → Read Command → St → St → Type 0) where
+  -- Behind the lines that were answered one more was read, which is not answered yet. What it does as things stand now it does
+  -- as those lines left them.
+  pub record HasLine (first : St) (source_first source_now told_first told_now : Option (List ℕ)) (reading : Reading) (last : Bool) (now : St) (refusals : Refusals) (number : ℕ) : Type 0 where
+    pub source_old : Option (List ℕ)
+    pub reading_old : Reading
+    pub stood : St
+    pub between : IsBetween does first source_first source_old told_first told_now reading_old stood refusals number
+    pub line : List ℕ
+    pub next : ReadsNext last reading_old reading source_old source_now line
+    pub answers_so : (reply : Reply) → (new : St) → does (number + 1) (command_of line) now reply new → does (number + 1) (command_of line) stood reply new
+    pub breaks_so : (new : St) → breaks (number + 1) (command_of line) now new → breaks (number + 1) (command_of line) stood new
+
   -- The line found no memory, and nothing was written.
   pub record Unanswered (line : List ℕ) (number : ℕ) (old new : St) (told_old told_new : Option (List ℕ)) (was now : Refusals) : Type 0 where
     pub broke : breaks number (command_of line) old new
@@ -186,7 +190,7 @@ module _ {St : Type 0} (does : (number : ℕ) → Read Command → St → Reply 
 
   -- A line was read that is left to another.
   pub record OpensAt (leaves : Read Command → Bool) (first : St) (source_first source_now told_first told_now : Option (List ℕ)) (reading : Reading) (last : Bool) (now : St) (refusals : Refusals) (number : ℕ) : Type 0 where
-    pub has : HasLine does first source_first source_now told_first told_now reading last now refusals number
+    pub has : HasLine first source_first source_now told_first told_now reading last now refusals number
     pub left : leaves (command_of has.line) ≡ true
 
   -- where the lines of a script stand that are not answered on
@@ -199,7 +203,7 @@ module _ {St : Type 0} (does : (number : ℕ) → Read Command → St → Reply 
   -- The lines are answered on from the one that was read, wherever the script began.
   abbrev pub PlaysOn : (leaves : Read Command → Bool) → PlayEnd → (source_old source_new told_old told_new : Option (List ℕ)) (reading_old reading_new : Reading) (last_old last_new : Bool) (old new : St) (was now : Refusals) (number_old number_new : ℕ) → Type 0
   PlaysOn leaves end source_old source_new told_old told_new reading_old reading_new last_old last_new old new was now number_old number_new =
-      (first : St) (source_first told_first : Option (List ℕ)) → HasLine does first source_first source_old told_first told_old reading_old last_old old was number_old
+      (first : St) (source_first told_first : Option (List ℕ)) → HasLine first source_first source_old told_first told_old reading_old last_old old was number_old
       → PlaysTo leaves first source_first told_first end source_new told_new reading_new last_new new now number_new
 
 -- a line that is left to another is counted among the bytes that were read

@@ -1,5 +1,6 @@
 ghost use Rattle.std.specs.Prelude.{◌≡◌, ◌≤◌, ◌+◌, ◌^◌, ℕ, IfOk, IfNone, OnErr, OnOk};
 ghost use Rattle.odb_script.specs.Lines.{no_line_read, script_limit};
+ghost use Rattle.script_desk.specs.Playing.{GoesBehind};
 
 use crate::answerer::Answerer;
 use crate::console::print_reply;

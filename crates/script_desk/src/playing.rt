@@ -1,7 +1,7 @@
 ghost use Rattle.std.specs.Prelude.{◌≡◌, ◌≤◌, ◌+◌, ℕ, List, Option};
 ghost use Rattle.odb_script.specs.Lines.{no_line_read};
 ghost use Rattle.script_desk.specs.Endings.{SourceCounts, SinkCounts};
-ghost use Rattle.script_desk.specs.Playing.{HasLine, PlaysTo, PlaysOn, FitsOn};
+ghost use Rattle.script_desk.specs.Playing.{PlaysTo, PlaysOn, FitsOn};
 
 use crate::answerer::Answerer;
 use crate::desk::Desk;

@@ -1,0 +1,4 @@
+pub mod Stages
+pub mod SetupReplies
+pub mod RunLines
+pub mod ScriptLines
