@@ -1,7 +1,7 @@
-ghost use Rattle.std.specs.Prelude.{◌≡◌};
-
+use daq_io::Files;
 use daq_types::FileName;
-use script_desk::Ending;
+use database_files::FileReply;
+use script_desk::{Ending, Halt};
 use session_replies::Refusals;
 
 /// Why a script ended.
@@ -22,4 +22,62 @@ pub enum ScriptEnd {
     FileFault { name: FileName },
     /// There was no memory.
     NoMemory,
+}
+
+/// The name of the file of the first fault: of the run files where a call on them failed, else of the files of the database where one
+/// of theirs failed, by what came of the lines that called them.
+fn faulted_name<F: Files, E: Files>(
+    failed: bool,
+    run_files: &F,
+    replies: &[(u64, FileReply)],
+    odb_files: &E,
+) -> Option<FileName> {
+    if failed {
+        return run_files.first_fault();
+    }
+    if replies.iter().any(|(_, came)| *came == FileReply::Fault) {
+        return odb_files.first_fault();
+    }
+    None
+}
+
+/// The cause where nothing failed but the script may be too long, or had lines that were refused.
+fn end_by_lines(ending: Ending, refusals: &Refusals) -> ScriptEnd {
+    if ending == Ending::TooLong {
+        return ScriptEnd::TooLong;
+    }
+    if refusals.count == 0 {
+        ScriptEnd::Done
+    } else {
+        ScriptEnd::CommandRefused {
+            count: refusals.count,
+            first: refusals.first,
+        }
+    }
+}
+
+/// Why a script ended whose lines ended so, with these refused.
+pub fn end_of<F: Files, E: Files>(
+    ending: Ending,
+    refusals: &Refusals,
+    failed: bool,
+    run_files: &F,
+    replies: &[(u64, FileReply)],
+    odb_files: &E,
+) -> ScriptEnd {
+    match ending {
+        Ending::Halted {
+            halt: Halt::NoMemory,
+        } => ScriptEnd::NoMemory,
+        Ending::Halted {
+            halt: Halt::SinkFault,
+        } => ScriptEnd::SinkFault,
+        Ending::SourceFault => ScriptEnd::SourceFault,
+        Ending::End | Ending::TooLong => {
+            match faulted_name(failed, run_files, replies, odb_files) {
+                Some(name) => ScriptEnd::FileFault { name },
+                None => end_by_lines(ending, refusals),
+            }
+        }
+    }
 }

@@ -1,3 +1,4 @@
+pub mod NothingSaid
 pub mod Stages
 pub mod SetupReplies
 pub mod RunLines

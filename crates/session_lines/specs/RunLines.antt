@@ -19,9 +19,10 @@ use Rattle.session_setup.specs.SetupLines.{opened_with_defaults}
 use Rattle.session_runs.specs.declared.replies.RunReply.{RunReply}
 use Rattle.session_runs.specs.declared.replies.RunReply.TheVariants as answer
 use Rattle.session_runs.specs.KeptRuns.{RunsSeen}
-use Rattle.session_runs.specs.RunAnswers.{AnswersPause, AnswersResume, AnswersStart, AnswersStop, CommandPoint, CutsStart, StopsUnsaved, point_of}
+use Rattle.session_runs.specs.RunAnswers.{AnswersPause, AnswersResume, AnswersStart, AnswersStop, CutsStart, StopsUnsaved}
 use Rattle.session_replies.specs.declared.replies.Reply.{Reply}
 use Rattle.session_replies.specs.declared.replies.Reply.TheVariants.{WrongState, LastStart, RunNumber, StartRefused, Started as run_started, Paused as run_paused, Resumed as run_resumed, Stopped as run_stopped}
+use Rattle.session_lines.specs.NothingSaid.{NothingSaid, own_point}
 use Rattle.session_lines.specs.Stages.{Stage, front_names, open_stage, opened_runs}
 
 -- Replies.
@@ -61,13 +62,6 @@ reply_for runs (answer.Stopped run) =
     run_stopped run (map (sent_line runs.fronts) (fronts_in (last_record runs.runs))) (files_in (last_record runs.runs))
 
 -- Commands of an open session, by the main thread's own calls. What its members did meanwhile is not said here.
-
-abbrev pub NothingSaid : (before after : Unit {0}) → Type 0
-NothingSaid before after = ⊤
-
--- the point of the main thread where the members are passed over
-abbrev pub own_point : RunsSeen → DatabaseAccess → CommandPoint (Unit {0})
-own_point runs access = point_of runs access tt
 
 -- A command of runs that does so leads from the one stage to the other, with this reply.
 pub record RunsCommand (Does : RunReply → (old new : Stage) → (before after : RunsSeen) → Type 0) (before : RunsSeen) (old : Stage) (reply : Reply) (new : Stage) : Type 0 where

@@ -1,5 +1,5 @@
 -- What a line of a script does to a session, and what it is answered.
-use Rattle.std.specs.Prelude.{◌≡◌, ℕ, Option, Result, Ok, Err}
+use Rattle.std.specs.Prelude.{◌≡◌, ℕ, Bool, true, false, Option, Ok, Err}
 use Rattle.odb_script.specs.declared.forms.Command.{Command}
 use Rattle.odb_script.specs.declared.forms.Command.TheVariants.{Nothing, Buffer, Equip, Channel, Events, Start, Stop, Pause, Resume, Create, CreateDir, Set, Get, List as Ls, Remove, Load, Save, Watch, Notes, Unwatch, Exit}
 use Rattle.odb_script.specs.declared.refusals.LineRefusal.{LineRefusal}
@@ -60,6 +60,11 @@ BreaksCommand command old new = BreaksDatabase command old.database new.database
 abbrev pub BreaksScriptLine : (number : ℕ) → Read Command → (old new : Stage) → Type 0
 BreaksScriptLine number (Err refusal) old new = ⊥
 BreaksScriptLine number (Ok command) old new = BreaksCommand command old new
+
+-- the first start of a session opens it
+abbrev pub opens_session : Read Command → Bool
+opens_session (Ok Start) = true
+opens_session _ = false
 
 -- What is done behind all lines.
 abbrev pub ClosesScript : (old : Stage) → Option Reply → (new : Stage) → Type 0

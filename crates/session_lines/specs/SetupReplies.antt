@@ -1,5 +1,5 @@
 -- What the lines that declare something do, and what they are answered.
-use Rattle.std.specs.Prelude.{◌≡◌, ℕ, Bool, true, false, List, Option, Some, None}
+use Rattle.std.specs.Prelude.{◌≡◌, ℕ, Bool, true, false, List, Option, Some, None, Result, Ok, Err}
 use Rattle.mid_logger.specs.Patterns.{NamePattern}
 use Rattle.session_setup.specs.declared.refusals.SetupRefusal.{SetupRefusal}
 use Rattle.session_setup.specs.declared.refusals.SetupRefusal.TheVariants.{Opened}
@@ -8,6 +8,11 @@ use Rattle.session_setup.specs.Refusals.{NameRead, IsNameRead}
 use Rattle.session_setup.specs.SetupLines.{buffer_refusal, with_buffer, equip_refusal, with_front, IsPatternRead, channel_refusal, with_channel}
 use Rattle.session_replies.specs.declared.replies.Reply.{Reply}
 use Rattle.session_replies.specs.declared.replies.Reply.TheVariants.{Silent, Setup}
+
+-- the reply to a line that was taken or refused
+abbrev pub setup_reply : Result (Unit {0}) SetupRefusal → Reply
+setup_reply (Ok taken) = Silent
+setup_reply (Err refusal) = Setup refusal
 
 -- a line that is refused so changes nothing; one that is not declares what it does
 abbrev pub TakesSetup : Option SetupRefusal → (taken : Declared) → (old : Declared) → Reply → (new : Declared) → Type 0

@@ -36,6 +36,16 @@ first_stage access files clock = record {
   runs = None;
 }
 
+-- the stage of a session that is not open
+abbrev pub unopened_stage : (quota : ℕ) → Declared → DatabaseStage → ClockTold → Stage
+unopened_stage quota declared database clock = record {
+  quota = quota;
+  declared = declared;
+  database = database;
+  clock = clock;
+  runs = None;
+}
+
 -- the stage of an open session
 abbrev pub open_stage : Declared → DatabaseStage → ClockTold → RunsSeen → Stage
 open_stage declared database clock runs = record {

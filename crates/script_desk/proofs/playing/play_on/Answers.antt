@@ -10,28 +10,28 @@ returns-in-Err-clause-did g c = λ first source_first told_first has.
 
 pub returns-in-Ok-Opens-clause-did : goal.returns-in-Ok-Opens-clause-did
 returns-in-Ok-Opens-clause-did g c = λ first source_first told_first has.
-    let opens = rw c.in-Ok-Opens.is at c.in-Ok-Opens.field-0-is in
+    let opens = c.in-Ok-Opens.field-0-is in
     let given : c.handle.result ≡ Ok going.Opens = c.in-Ok-Opens.is ∙ ap Ok opens in
     left_next _ _ g.A.Answerer.leaves _ _ first source_first _ told_first _ _ _ _ _ _ _ _ _ _ (c.loop-line.invariant.has first source_first told_first has)
     (rw given at c.handle.ensures.did) c.handle.ensures.reader c.handle.ensures.last (rw given at c.handle.ensures.number)
 
 pub returns-in-Ok-End-clause-did : goal.returns-in-Ok-End-clause-did
 returns-in-Ok-End-clause-did g c = λ first source_first told_first has.
-    let ends = rw c.in-Ok-End.is at c.in-Ok-End.field-0-is in
+    let ends = c.in-Ok-End.field-0-is in
     let given : c.handle.result ≡ Ok going.End = c.in-Ok-End.is ∙ ap Ok ends in
     stopped_at _ _ g.A.Answerer.leaves _ first source_first _ told_first _ _ _ _ _ _ _ _ (c.loop-line.invariant.has first source_first told_first has)
     (rw given at c.handle.ensures.did)
 
 pub returns-in-Some-clause-did : goal.returns-in-Some-clause-did
 returns-in-Some-clause-did g c = λ first source_first told_first has.
-    let on = rw c.in-Ok-On.is at c.in-Ok-On.field-0-is in
+    let on = c.in-Ok-On.field-0-is in
     let given : c.handle.result ≡ Ok going.On = c.in-Ok-On.is ∙ ap Ok on in
     ends_next _ _ g.A.Answerer.leaves c.in-Some.ending _ _ first source_first _ _ told_first _ _ _ _ _ _ _ _ _ _ _ (c.loop-line.invariant.has first source_first told_first has)
     (rw given at c.handle.ensures.did) c.handle.ensures.reader c.in-Some.ensures.read c.next_line.ensures.refusals
 
 pub loop-line-preserved : goal.loop-line-preserved
 loop-line-preserved g c =
-    let on = rw c.in-Ok-On.is at c.in-Ok-On.field-0-is in
+    let on = c.in-Ok-On.field-0-is in
     let given : c.handle.result ≡ Ok going.On = c.in-Ok-On.is ∙ ap Ok on in
     let number = rw given at c.handle.ensures.number in
     record {
