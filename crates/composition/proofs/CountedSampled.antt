@@ -45,7 +45,7 @@ use Rattle.engine_laws.specs.BegunTurns.{IsRegisteredIn}
 use Rattle.composition.specs.SentSets.{AreTurnSets}
 use Rattle.composition.specs.Sessions.{SessionFront, SessionAnalyzer, HasAnalyzer, IsMemberCaller, turns_of, buffer_calls, database_calls, IsRegistered, MembersKeep}
 use Rattle.composition.specs.SessionRuns.{IsStoppedRun, ReportsRun, SawThrough, analyzer_events}
-use Rattle.composition.specs.CompositionLaws.{ReportsWhole}
+use Rattle.composition.specs.CompositionLaws.{ReportsWhole, GotWhole}
 use Rattle.composition.specs.SessionSamples.{first_sheet, last_sheet, sample_front, sample_files}
 use Rattle.composition.specs.CountedSamples.{counted_sheet, counted_report, counted_engine, counted_history, counted_analyzer, counted_session, counted_run}
 use Rattle.composition.specs.NeededSamples.{SessionPremise, LegalBuffers, LegalEngine, OwnNames, MemberCalls, KeptFronts, FrontMoments, FrontNumbers, KeptLogger, LoggerEvents, KeptAnalyzers, AnalyzerEvents, FrontsThere, AnalyzersThere, LoggerThere, OneDump, MeetsSession, FailsSession}
@@ -268,7 +268,7 @@ others_of_counted told OwnNames ne = (tt, (tt, (tt, (tt, (refl, (refl, (refl, (r
 others_of_counted told MemberCalls ne = counted_callers told
 others_of_counted told KeptFronts ne = the_front (λ (x : SessionFront). KeepsFront x.takes x.makes (buffer_calls (counted_session told) x.buffer x.client) (turns_of (counted_session told) x.client)) front_keeps
 others_of_counted told FrontMoments ne = the_front (λ (x : SessionFront). KeepsMoments (buffer_calls (counted_session told) x.buffer x.client) (turns_of (counted_session told) x.client) x.moments) front_moments
-others_of_counted told FrontNumbers ne = the_front (λ (x : SessionFront). AreTurnSets x.name (buffer_calls (counted_session told) x.buffer x.client) (turns_of (counted_session told) x.client) x.moments (database_calls (counted_session told) x.client)) front_set
+others_of_counted told FrontNumbers ne = λ f has are. the_front (λ (x : SessionFront). AreTurnSets x.name (buffer_calls (counted_session told) x.buffer x.client) (turns_of (counted_session told) x.client) x.moments (database_calls (counted_session told) x.client)) front_set f has
 others_of_counted told KeptLogger ne = marking_logger told
 others_of_counted told LoggerEvents ne = λ buffer. tt
 others_of_counted told KeptAnalyzers ne = the_analyzer (λ (x : SessionAnalyzer). KeepsAnalyzer x.wanted (buffer_calls (counted_session told) x.buffer x.client) x.got (turns_of (counted_session told) x.client)) (counted_analyzer told) (counting_keeps told)
@@ -331,7 +331,6 @@ counted_stopped = record {
     whole = refl;
     on = (refl, (refl, (refl, (refl, (refl, (refl, tt))))));
   };
-  same_run = refl;
 }
 
 -- The analyzer saw the run through.
@@ -389,4 +388,16 @@ counted_needed = record {
   wrong = λ law.
       let saw = saw_run longer_event in
       other_report (law (counted_run longer_event) (counted_analyzer longer_event) (0, refl) (counted_report longer_event) saw.0 saw.1 ∙ ap report_of one_event);
+}
+
+one_got : longer_event ∷ [] ≡ sample_event ∷ [] → ⊥
+one_got e = other_report (ap report_of e)
+
+pub got_needed : FailsSession AnalyzerEvents (counted_session longer_event) GotWhole
+unfolding saw_run
+got_needed = record {
+  others = others_of_counted longer_event;
+  wrong = λ law.
+      let saw = saw_run longer_event in
+      one_got (law (counted_run longer_event) (counted_analyzer longer_event) (0, refl) 0 1 saw.1.sees ∙ one_event);
 }

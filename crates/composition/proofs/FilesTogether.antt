@@ -29,7 +29,7 @@ use Rattle.caller_laws.specs.OneCaller.{IsCallersPart, HaveOwnClients, MarksAlon
 use Rattle.caller_laws.specs.CallerLaws.{ReadPlaces, ReadEvents, CutEvents, CutFile, MembersFit, BegunIsEnded, SenderMakesNoMark}
 use Rattle.engine_laws.specs.BegunTurns.{HasTally}
 use Rattle.composition.specs.Sessions.{Session, turns_of, buffer_calls, MembersKeep}
-use Rattle.composition.specs.SessionRuns.{SessionRun, IsStoppedRun, run_order, ToldState, channel_events}
+use Rattle.composition.specs.SessionRuns.{SessionRun, IsStoppedRun, run_order, ToldState, channel_events, begin_dump}
 use Rattle.composition.specs.CompositionLaws.{ChannelsTold, FilesHoldRuns, FilesHoldParts, RunsAreEnded, NoEndRefused}
 use Rattle.composition.proofs.SessionTurns.{EngineFacts, are_turns, start_turn, one_start, StopTally, number_of, stop_tally, HasStartTally, start_tally, last_tally}
 use Rattle.composition.proofs.SentTogether.{each_reads_or_sends}
@@ -92,13 +92,13 @@ logger_run laws s keep r run channel state told =
           ((start_turn laws s keep r run s.logger u here).order, ap (λ (v : MemberTurn). v.dump) (sym same) ∙ t0.dump keep.one_dump starts);
     }
 
-dump_is : (d : Option (List ℕ)) (dump : List ℕ) → d ≡ Some dump → unwrap_or d [] ≡ dump
-dump_is d dump e = ap (λ (o : Option (List ℕ)). unwrap_or o []) e
+dump_as : (d first : Option (List ℕ)) → d ≡ first → unwrap_or d [] ≡ unwrap_or first []
+dump_as d first e = ap (λ (o : Option (List ℕ)). unwrap_or o []) e
 
 -- A channel that ended.
 
 pub files_hold_runs : EngineFacts → CallerFacts → (s : Session) → MembersKeep s → FilesHoldRuns s
-files_hold_runs laws callers s keep r run index channel at told dump has =
+files_hold_runs laws callers s keep r run index channel at told =
     let l : LoggerRun s r channel Ended = logger_run laws s keep r run channel Ended told in
     let b : ℕ = channel.buffer in
     let h : History = s.history b in
@@ -109,7 +109,8 @@ files_hold_runs laws callers s keep r run index channel at told dump has =
     subst (λ (n : ℕ). HasReadRun own (s.got b) channel.client channel.id channel.mask w.number n w.begun w.ended w.events) l.number w.reads in
     let events : w.events ≡ channel_events s r channel =
     callers.events (s.size b) h (caller_of_client s.logger) own (s.got b) (keep.buffers_legal b) (own_clients callers s keep b) (logger_part s keep b) channel.client channel.id channel.mask w.number r.start w.begun w.ended w.events reads in
-    let first_dump : unwrap_or w.start.dump [] ≡ dump = dump_is w.start.dump dump (first.1 ∙ has) in
+    let dump : List ℕ = begin_dump r in
+    let first_dump : unwrap_or w.start.dump [] ≡ dump = dump_as w.start.dump r.first.dump first.1 in
     record {
       last_dump = w.dump;
       has_dump = sym l.dump ∙ w.has_dump;
@@ -256,7 +257,7 @@ no_end_refused laws callers s keep r run index channel at told =
 -- A channel that broke off.
 
 pub files_hold_parts : EngineFacts → CallerFacts → (s : Session) → MembersKeep s → FilesHoldParts s
-files_hold_parts laws callers s keep r run index channel at told dump last_dump has has_last =
+files_hold_parts laws callers s keep r run index channel at told last_dump has_last =
     let l : LoggerRun s r channel Broken = logger_run laws s keep r run channel Broken told in
     let b : ℕ = channel.buffer in
     let h : History = s.history b in
@@ -268,7 +269,8 @@ files_hold_parts laws callers s keep r run index channel at told dump last_dump 
     let w : HasWrittenPart (record { own = own; got = s.got b }) (turns_of s s.logger) s.files channel l.stop ended last_dump =
     keep.logger_keeps.broken (are_turns laws s keep s.logger) l.stop index channel at l.tells ended marks_stop last_dump (l.dump ∙ has_last) in
     let first = l.first w.start w.is_start.is_start in
-    let first_dump : unwrap_or w.start.dump [] ≡ dump = dump_is w.start.dump dump (first.1 ∙ has) in
+    let dump : List ℕ = begin_dump r in
+    let first_dump : unwrap_or w.start.dump [] ≡ dump = dump_as w.start.dump r.first.dump first.1 in
     record {
       bytes = w.bytes;
       stored = subst (λ (o : Order). IsStored s.files (channel.name o.run) w.bytes) first.0 w.stored;

@@ -99,7 +99,6 @@ stopped_in : (s : Session) → s.engine ≡ sample_engine → IsStoppedRun s sam
 stopped_in s is = record {
   started = subst (λ (h : EngineHistory). HasTransition h Start first_sheet 1 Completed first_tallies) (sym is) sample_stopped.started;
   stopped = subst (λ (h : EngineHistory). HasTransition h Stop last_sheet 1 Completed last_tallies) (sym is) sample_stopped.stopped;
-  same_run = refl;
 }
 
 one_front : (f g : SessionFront) → (at : (index : ℕ) × (slice_get (f ∷ []) index ≡ Some g)) → f ≡ g
@@ -145,7 +144,7 @@ others_of_unmarked OwnNames ne = sample_keeps.own_clients
 others_of_unmarked MemberCalls ne = unmarked_callers
 others_of_unmarked KeptFronts ne = λ f has. subst (λ (x : SessionFront). KeepsFront x.takes x.makes (buffer_calls unmarked_session x.buffer x.client) (turns_of unmarked_session x.client)) (one_front sample_front f has) front_keeps
 others_of_unmarked FrontMoments ne = λ f has. subst (λ (x : SessionFront). KeepsMoments (buffer_calls unmarked_session x.buffer x.client) (turns_of unmarked_session x.client) x.moments) (one_front sample_front f has) front_moments
-others_of_unmarked FrontNumbers ne = λ f has. subst (λ (x : SessionFront). AreTurnSets x.name (buffer_calls unmarked_session x.buffer x.client) (turns_of unmarked_session x.client) x.moments (database_calls unmarked_session x.client)) (one_front sample_front f has) front_set
+others_of_unmarked FrontNumbers ne = λ f has are. subst (λ (x : SessionFront). AreTurnSets x.name (buffer_calls unmarked_session x.buffer x.client) (turns_of unmarked_session x.client) x.moments (database_calls unmarked_session x.client)) (one_front sample_front f has) front_set
 others_of_unmarked KeptLogger ne = unmarked_logger
 others_of_unmarked LoggerEvents ne = λ buffer. tt
 others_of_unmarked KeptAnalyzers ne = λ a has. absurd (no_analyzer a has)
@@ -207,7 +206,7 @@ others_of_made OwnNames ne = sample_keeps.own_clients
 others_of_made MemberCalls ne = known_callers other_made other_maker (0, refl) refl refl refl
 others_of_made KeptFronts ne = absurd (ne refl)
 others_of_made FrontMoments ne = λ f has. subst (λ (x : SessionFront). KeepsMoments (buffer_calls other_made x.buffer x.client) (turns_of other_made x.client) x.moments) (one_front other_maker f has) front_moments
-others_of_made FrontNumbers ne = λ f has. subst (λ (x : SessionFront). AreTurnSets x.name (buffer_calls other_made x.buffer x.client) (turns_of other_made x.client) x.moments (database_calls other_made x.client)) (one_front other_maker f has) front_set
+others_of_made FrontNumbers ne = λ f has are. subst (λ (x : SessionFront). AreTurnSets x.name (buffer_calls other_made x.buffer x.client) (turns_of other_made x.client) x.moments (database_calls other_made x.client)) (one_front other_maker f has) front_set
 others_of_made KeptLogger ne = sample_keeps.logger_keeps
 others_of_made LoggerEvents ne = sample_keeps.logger_got
 others_of_made KeptAnalyzers ne = λ a has. absurd (no_analyzer a has)
@@ -239,7 +238,7 @@ others_of_early OwnNames ne = sample_keeps.own_clients
 others_of_early MemberCalls ne = known_callers early_session early_front (0, refl) refl refl refl
 others_of_early KeptFronts ne = λ f has. subst (λ (x : SessionFront). KeepsFront x.takes x.makes (buffer_calls early_session x.buffer x.client) (turns_of early_session x.client)) (one_front early_front f has) front_keeps
 others_of_early FrontMoments ne = absurd (ne refl)
-others_of_early FrontNumbers ne = λ f has. subst (λ (x : SessionFront). AreTurnSets x.name (buffer_calls early_session x.buffer x.client) (turns_of early_session x.client) x.moments (database_calls early_session x.client)) (one_front early_front f has) early_set
+others_of_early FrontNumbers ne = λ f has are. subst (λ (x : SessionFront). AreTurnSets x.name (buffer_calls early_session x.buffer x.client) (turns_of early_session x.client) x.moments (database_calls early_session x.client)) (one_front early_front f has) early_set
 others_of_early KeptLogger ne = sample_keeps.logger_keeps
 others_of_early LoggerEvents ne = sample_keeps.logger_got
 others_of_early KeptAnalyzers ne = λ a has. absurd (no_analyzer a has)
@@ -354,7 +353,7 @@ ended_told_in s is = record { index = 0; states = Ended ∷ []; told = ap (λ (n
 pub logger_needed : FailsSession KeptLogger nothing_stored FilesHoldRuns
 logger_needed = record {
   others = others_of_unstored;
-  wrong = λ law. not_stored ((law sample_run (stopped_in nothing_stored refl) 0 sample_channel refl (ended_told_in nothing_stored refl) (7 ∷ []) refl).stored.holds refl);
+  wrong = λ law. not_stored ((law sample_run (stopped_in nothing_stored refl) 0 sample_channel refl (ended_told_in nothing_stored refl)).stored.holds refl);
 }
 
 -- Another event was told than the one that was sent.
@@ -428,7 +427,7 @@ pub events_needed : FailsSession LoggerEvents other_told FilesHoldRuns
 events_needed = record {
   others = others_of_told;
   wrong = λ law.
-      let held = law sample_run (stopped_in other_told refl) 0 sample_channel refl (ended_told_in other_told refl) (7 ∷ []) refl in
+      let held = law sample_run (stopped_in other_told refl) 0 sample_channel refl (ended_told_in other_told refl) in
       other_file (channel_events other_told sample_run sample_channel) one_event (of_last (channel_events other_told sample_run sample_channel) held.last_dump held.has_dump (held.stored.holds refl));
 }
   where
@@ -537,7 +536,7 @@ others_of_absent OwnNames ne = sample_keeps.own_clients
 others_of_absent MemberCalls ne = known_callers unknown_front sample_front (0, refl) refl refl refl
 others_of_absent KeptFronts ne = each_front (λ (x : SessionFront). KeepsFront x.takes x.makes (buffer_calls unknown_front x.buffer x.client) (turns_of unknown_front x.client)) front_keeps idle_front
 others_of_absent FrontMoments ne = each_front (λ (x : SessionFront). KeepsMoments (buffer_calls unknown_front x.buffer x.client) (turns_of unknown_front x.client) x.moments) front_moments (record { are = tt; ends = λ are t moment has. absurd has })
-others_of_absent FrontNumbers ne = each_front (λ (x : SessionFront). AreTurnSets x.name (buffer_calls unknown_front x.buffer x.client) (turns_of unknown_front x.client) x.moments (database_calls unknown_front x.client)) front_set refl
+others_of_absent FrontNumbers ne = λ f has are. each_front (λ (x : SessionFront). AreTurnSets x.name (buffer_calls unknown_front x.buffer x.client) (turns_of unknown_front x.client) x.moments (database_calls unknown_front x.client)) front_set refl f has
 others_of_absent KeptLogger ne = sample_keeps.logger_keeps
 others_of_absent LoggerEvents ne = sample_keeps.logger_got
 others_of_absent KeptAnalyzers ne = λ a has. absurd (no_analyzer a has)
@@ -615,7 +614,6 @@ empty_stopped : IsStoppedRun unknown_logger empty_run
 empty_stopped = record {
   started = record { earlier = []; between = []; later = drop 2 empty_engine; opener = 0; closer = 0; whole = refl; on = tt };
   stopped = record { earlier = take 2 empty_engine; between = []; later = []; opener = 0; closer = 0; whole = refl; on = tt };
-  same_run = refl;
 }
 
 pub logger_there_needed : FailsSession LoggerThere unknown_logger ChannelsTold
@@ -645,13 +643,12 @@ made_up_stopped : IsStoppedRun made_up ended_run
 made_up_stopped = record {
   started = record { earlier = take 1 made_up_engine; between = []; later = drop 3 made_up_engine; opener = 0; closer = 0; whole = refl; on = tt };
   stopped = record { earlier = take 3 made_up_engine; between = []; later = []; opener = 0; closer = 0; whole = refl; on = tt };
-  same_run = refl;
 }
 
 pub engine_needed : FailsSession LegalEngine made_up FilesHoldRuns
 engine_needed = record {
   others = others_of_made_up;
-  wrong = λ law. not_stored ((law ended_run made_up_stopped 0 sample_channel refl (record { index = 0; states = Ended ∷ []; told = refl; state_is = refl }) (7 ∷ []) refl).stored.holds refl);
+  wrong = λ law. not_stored ((law ended_run made_up_stopped 0 sample_channel refl (record { index = 0; states = Ended ∷ []; told = refl; state_is = refl })).stored.holds refl);
 }
 
 spoken_for_legal : IsLegalEngine engine_opening spoken_for_engine
@@ -683,13 +680,12 @@ spoken_for_stopped : IsStoppedRun spoken_for ended_run
 spoken_for_stopped = record {
   started = record { earlier = take 1 spoken_for_engine; between = take 2 (drop 2 spoken_for_engine); later = drop 5 spoken_for_engine; opener = 0; closer = 0; whole = refl; on = (refl, (refl, tt)) };
   stopped = record { earlier = take 5 spoken_for_engine; between = take 2 (drop 6 spoken_for_engine); later = []; opener = 0; closer = 0; whole = refl; on = (refl, (refl, tt)) };
-  same_run = refl;
 }
 
 pub names_needed : FailsSession OwnNames spoken_for FilesHoldRuns
 names_needed = record {
   others = others_of_spoken_for;
-  wrong = λ law. not_stored ((law ended_run spoken_for_stopped 0 sample_channel refl (record { index = 0; states = Ended ∷ []; told = refl; state_is = refl }) (7 ∷ []) refl).stored.holds refl);
+  wrong = λ law. not_stored ((law ended_run spoken_for_stopped 0 sample_channel refl (record { index = 0; states = Ended ∷ []; told = refl; state_is = refl })).stored.holds refl);
 }
 
 -- The logger does not want the dump.
@@ -796,7 +792,6 @@ no_dump_stopped : IsStoppedRun no_dump no_end_run
 no_dump_stopped = record {
   started = record { earlier = take 1 no_dump_engine; between = take 2 (drop 2 no_dump_engine); later = drop 5 no_dump_engine; opener = 0; closer = 0; whole = refl; on = (refl, (refl, tt)) };
   stopped = record { earlier = take 5 no_dump_engine; between = take 2 (drop 6 no_dump_engine); later = []; opener = 0; closer = 0; whole = refl; on = (refl, (refl, tt)) };
-  same_run = refl;
 }
 
 no_end_state : (index : ℕ) (states : List ChannelState) (state : ChannelState) → slice_get no_end_run.last_tallies index ≡ Some (record { client = 0; tally = Channels states }) → slice_get states 0 ≡ Some state → NoEnd ≡ state

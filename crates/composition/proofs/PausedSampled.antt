@@ -462,7 +462,7 @@ paused_keeps = record {
   callers = paused_callers;
   fronts_keep = each_front (λ (x : SessionFront). KeepsFront x.takes x.makes (buffer_calls paused_session x.buffer x.client) (turns_of paused_session x.client)) first_keeps second_keeps;
   fronts_moments = each_front (λ (x : SessionFront). KeepsMoments (buffer_calls paused_session x.buffer x.client) (turns_of paused_session x.client) x.moments) first_moments second_moments;
-  fronts_set = each_front (λ (x : SessionFront). AreTurnSets x.name (buffer_calls paused_session x.buffer x.client) (turns_of paused_session x.client) x.moments (database_calls paused_session x.client)) first_sets second_sets;
+  fronts_set = λ f has are. each_front (λ (x : SessionFront). AreTurnSets x.name (buffer_calls paused_session x.buffer x.client) (turns_of paused_session x.client) x.moments (database_calls paused_session x.client)) first_sets second_sets f has;
   logger_keeps = paused_logger;
   logger_got = got_so;
   analyzers_keep = λ a has. absurd (no_paused_analyzer a has);
@@ -503,7 +503,6 @@ paused_stopped = record {
     whole = refl;
     on = (refl, (refl, (refl, (refl, (refl, (refl, tt))))));
   };
-  same_run = refl;
 }
 
 pub paused_told : (number : ℕ) → slice_get (Ended ∷ Ended ∷ []) number ≡ Some Ended → ToldState paused_session pausing_run (paused_channel number) Ended

@@ -22,11 +22,11 @@ use Rattle.analyzers.specs.CountedRuns.{counted_calls}
 use Rattle.analyzers.specs.AnalyzerKept.{IsReportOfRun, KeepsAnalyzer}
 use Rattle.caller_laws.specs.OneCaller.{WasSentAt, HaveOwnClients, HaveRunSends, events_in}
 use Rattle.member_model.specs.GotRuns.{events_of_start}
-use Rattle.caller_laws.specs.CallerLaws.{SeenSince, MembersFit}
+use Rattle.caller_laws.specs.CallerLaws.{SeenEvents, SeenSince, MembersFit}
 use Rattle.engine_laws.specs.BegunTurns.{HasTally}
 use Rattle.composition.specs.Sessions.{Session, MembersKeep, turns_of, buffer_calls}
 use Rattle.composition.specs.SessionRuns.{analyzer_events}
-use Rattle.composition.specs.CompositionLaws.{ReportsTold, ReportsSo, ReportsWhole}
+use Rattle.composition.specs.CompositionLaws.{ReportsTold, ReportsSo, ReportsWhole, GotWhole}
 use Rattle.composition.proofs.SessionTurns.{EngineFacts, are_turns, StopTally, number_of, stop_tally, HasStartTally, start_tally, last_tally}
 use Rattle.composition.proofs.SentTogether.{each_reads_or_sends}
 use Rattle.composition.proofs.FilesTogether.{plain_start}
@@ -96,3 +96,11 @@ reports_whole since fits s keep r a has report told through =
     let whole : events_of_start told.client r.start given ≡ analyzer_events s r a =
     subst (λ (x : History). events_of_start told.client r.start given ≡ events_in (wanted a.wanted.id a.wanted.mask (segment x r.start))) (sym saw.whole) seen in
     told.report_is ∙ ap report_of (w.counted.events_are ∙ whole)
+
+-- all that it got of the run
+pub got_whole : SeenEvents → MembersFit → (s : Session) → MembersKeep s → GotWhole s
+got_whole seen fits s keep r a has client ended sees =
+    let fit = fits (s.history a.buffer) (each_reads_or_sends s keep a.buffer) in
+    let got = keep.analyzers_got a has in
+    seen (s.size a.buffer) (s.history a.buffer) (caller_of_client a.client) (buffer_calls s a.buffer a.client) a.got (keep.buffers_legal a.buffer) fit.0 fit.1
+    (record { own_is = refl; sent_so = got.0 }) got.1 client a.wanted.id a.wanted.mask r.start ended sees

@@ -352,7 +352,7 @@ sample_keeps = record {
   callers = sample_callers;
   fronts_keep = λ f has. subst (λ (x : SessionFront). KeepsFront x.takes x.makes (buffer_calls sample_session x.buffer x.client) (turns_of sample_session x.client)) (only_front f has) front_keeps;
   fronts_moments = λ f has. subst (λ (x : SessionFront). KeepsMoments (buffer_calls sample_session x.buffer x.client) (turns_of sample_session x.client) x.moments) (only_front f has) front_moments;
-  fronts_set = λ f has. subst (λ (x : SessionFront). AreTurnSets x.name (buffer_calls sample_session x.buffer x.client) (turns_of sample_session x.client) x.moments (database_calls sample_session x.client)) (only_front f has) front_set;
+  fronts_set = λ f has are. subst (λ (x : SessionFront). AreTurnSets x.name (buffer_calls sample_session x.buffer x.client) (turns_of sample_session x.client) x.moments (database_calls sample_session x.client)) (only_front f has) front_set;
   logger_keeps = logger_is_kept;
   logger_got = got_so;
   analyzers_keep = λ a has. absurd (no_analyzer a has);
@@ -395,7 +395,6 @@ sample_stopped = record {
     whole = refl;
     on = (refl, (refl, (refl, (refl, tt))));
   };
-  same_run = refl;
 }
 
 pub sample_told : ToldState sample_session sample_run sample_channel Ended

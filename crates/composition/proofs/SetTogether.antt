@@ -17,8 +17,8 @@ use Rattle.composition.specs.CompositionLaws.{FrontsSet, StopsSet}
 use Rattle.composition.proofs.SessionTurns.{EngineFacts, are_turns, StopTally, number_of, stop_tally}
 use Rattle.composition.proofs.SentTogether.{yes_front}
 
-pub fronts_set : (s : Session) → MembersKeep s → FrontsSet s
-fronts_set s keep f has = keep.fronts_set f has
+pub fronts_set : EngineFacts → (s : Session) → MembersKeep s → FrontsSet s
+fronts_set laws s keep f has = keep.fronts_set f has (are_turns laws s keep f.client)
 
 pub stops_set : EngineFacts → (s : Session) → MembersKeep s → StopsSet s
 stops_set laws s keep r run f has sent ended tells =

@@ -1,6 +1,7 @@
 -- What the members' contracts and the histories of all objects tell together: what the laws say of a session whose members
 -- keep their contracts.
 use Rattle.std.specs.Prelude.{◌≡◌, ℕ, List, slice_get, Some}
+use Rattle.daq_types.specs.Callers.{caller_of_client}
 use Rattle.daq_types.specs.declared.runs.ChannelState.{ChannelState}
 use Rattle.daq_types.specs.declared.runs.ChannelState.TheVariants.{Ended, Broken, NoMark}
 use Rattle.daq_types.specs.declared.runs.FrontEnded.{FrontEnded}
@@ -15,9 +16,11 @@ use Rattle.buffer_core.specs.Window.{Sent}
 use Rattle.event_report.specs.Reports.{Totals, report_of}
 use Rattle.buffer_core.specs.Runs.{segment}
 use Rattle.member_model.specs.CutRuns.{MarksEnd}
+use Rattle.member_model.specs.GotRuns.{events_of_start}
 use Rattle.member_model.specs.LoggerKept.{LoggerChannel, IsStateSo}
 use Rattle.front_ends.specs.FrontKept.{made_events}
 use Rattle.caller_laws.specs.OneCaller.{events_in}
+use Rattle.caller_laws.specs.SeenRuns.{SeesRun}
 use Rattle.caller_laws.specs.SentRuns.{places_sent, events_at_places}
 use Rattle.composition.specs.SentSets.{AreTurnSets}
 use Rattle.composition.specs.Sessions.{Session, SessionFront, SessionAnalyzer, HasFront, HasAnalyzer, turns_of, buffer_calls, database_calls}
@@ -72,14 +75,13 @@ ChannelsTold s = (r : SessionRun) → IsStoppedRun s r →
 abbrev pub FilesHoldRuns : Session → Type 0
 FilesHoldRuns s = (r : SessionRun) → IsStoppedRun s r →
     (index : ℕ) → (channel : LoggerChannel) → slice_get s.channels index ≡ Some channel → ToldState s r channel Ended →
-    (dump : List ℕ) → r.first.dump ≡ Some dump → HoldsRunFile s r channel dump
+    HoldsRunFile s r channel
 
--- The file of a channel that was told to be broken begins that run file, where both sheets had a dump.
+-- The file of a channel that was told to be broken begins that run file, where the stop's sheet had a dump.
 abbrev pub FilesHoldParts : Session → Type 0
 FilesHoldParts s = (r : SessionRun) → IsStoppedRun s r →
     (index : ℕ) → (channel : LoggerChannel) → slice_get s.channels index ≡ Some channel → ToldState s r channel Broken →
-    (dump last_dump : List ℕ) → r.first.dump ≡ Some dump → r.last.dump ≡ Some last_dump →
-    HoldsFilePart s r channel dump last_dump
+    (last_dump : List ℕ) → r.last.dump ≡ Some last_dump → HoldsFilePart s r channel last_dump
 
 -- The logger ended the run in the buffer of each channel.
 abbrev pub RunsAreEnded : Session → Type 0
@@ -97,18 +99,26 @@ abbrev pub ReportsTold : Session → Type 0
 ReportsTold s = (r : SessionRun) → IsStoppedRun s r →
     (a : SessionAnalyzer) → HasAnalyzer s a → (report : Totals) × TellsTotals r a.client report
 
--- And that is the report of the events with the run's start number that its client got, in order, from its one request on,
--- until it was drained of all that the buffer had taken by its stop.
+-- And that is the report of the events with the run's start number that its client got, in order, from its one request on
+-- until it cancelled that: before then the buffer told it how many events it had taken, and it read all of these.
 abbrev pub ReportsSo : Session → Type 0
 ReportsSo s = (r : SessionRun) → IsStoppedRun s r →
     (a : SessionAnalyzer) → HasAnalyzer s a → (report : Totals) → TellsTotals r a.client report →
     ReportsRun s r a report
 
--- And where it saw the run through, it is the report of all events between the marks of the run that it asks for.
+-- And where it saw the run through, by the request by which it counted it, that is the report of all events between the marks
+-- of the run that it asks for.
 abbrev pub ReportsWhole : Session → Type 0
 ReportsWhole s = (r : SessionRun) →
     (a : SessionAnalyzer) → HasAnalyzer s a → (report : Totals) → (told : ReportsRun s r a report) →
     SawThrough s r a report told → report ≡ report_of (analyzer_events s r a)
+
+-- All that an analyzer's client got of a run that it saw through are the events between the marks of the run that it asks
+-- for, each once and in order.
+abbrev pub GotWhole : Session → Type 0
+GotWhole s = (r : SessionRun) → (a : SessionAnalyzer) → HasAnalyzer s a → (client ended : ℕ) →
+    SeesRun (s.history a.buffer) (caller_of_client a.client) client a.wanted.id a.wanted.mask r.start ended →
+    events_of_start client r.start a.got ≡ analyzer_events s r a
 
 -- Only a start is refused: the Done of a stop says Completed.
 abbrev pub StopsComplete : Session → Type 0
@@ -132,3 +142,4 @@ pub record IsComposed (s : Session) : Type 0 where
   pub reports_told : ReportsTold s
   pub reports_so : ReportsSo s
   pub reports_whole : ReportsWhole s
+  pub got_whole : GotWhole s

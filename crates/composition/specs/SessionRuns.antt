@@ -1,6 +1,6 @@
 -- A run of a session, and what is so of it.
 use mathlib.Core.List.{IsPrefix}
-use Rattle.std.specs.Prelude.{◌≡◌, ℕ, List, ◌∷◌, ◌++◌, All, slice_get, Some, Ok}
+use Rattle.std.specs.Prelude.{◌≡◌, ℕ, List, [], ◌∷◌, ◌++◌, All, slice_get, unwrap_or, Some, Ok}
 use Rattle.daq_types.specs.Callers.{caller_of_client, entries_by}
 use Rattle.daq_types.specs.declared.events.Event.{Event}
 use Rattle.daq_types.specs.declared.runs.ChannelState.{ChannelState}
@@ -43,12 +43,11 @@ pub record SessionRun : Type 0 where
   pub first_tallies : List ClientTally
   pub last_tallies : List ClientTally
 
--- A run of the session that was not refused, and was stopped: both transitions stand in the engine's history, and the stop
--- is of the same run number.
+-- A run of the session that was not refused, and was stopped: both transitions stand in the engine's history, with its start
+-- number.
 pub record IsStoppedRun (s : Session) (r : SessionRun) : Type 0 where
   pub started : HasTransition s.engine Start r.first r.start Completed r.first_tallies
   pub stopped : HasTransition s.engine Stop r.last r.start Completed r.last_tallies
-  pub same_run : r.last.run ≡ r.first.run
 
 -- what the members are ordered at the start of the run
 abbrev pub run_order : SessionRun → Order
@@ -111,22 +110,26 @@ pub record ToldState (s : Session) (r : SessionRun) (channel : LoggerChannel) (s
 abbrev pub channel_events : Session → SessionRun → LoggerChannel → List Event
 channel_events s r channel = events_in (wanted channel.id channel.mask (segment (s.history channel.buffer) r.start))
 
+-- the dump that the run's file begins with: that of the start's sheet, or an empty one where this has none
+abbrev pub begin_dump : SessionRun → List ℕ
+begin_dump r = unwrap_or r.first.dump []
+
 -- The channel's file of the run is closed, and is the run file of these events with the dumps of both sheets; and the channel's
 -- client got, of the places between the marks, just those of these events.
-pub record HoldsRunFile (s : Session) (r : SessionRun) (channel : LoggerChannel) (dump : List ℕ) : Type 0 where
+pub record HoldsRunFile (s : Session) (r : SessionRun) (channel : LoggerChannel) : Type 0 where
   pub last_dump : List ℕ
   pub has_dump : r.last.dump ≡ Some last_dump
   pub fine : All IsFileEvent (channel_events s r channel)
   pub stored : IsStored s.files (channel.name r.first.run)
-      (run_file r.first.run r.first.time dump (channel_events s r channel) r.last.time last_dump)
+      (run_file r.first.run r.first.time (begin_dump r) (channel_events s r channel) r.last.time last_dump)
   pub got : among (segment (s.history channel.buffer) r.start) (places_got (s.history channel.buffer) channel.client)
       ≡ places_of (wanted channel.id channel.mask (segment (s.history channel.buffer) r.start))
 
 -- The channel's file of the run is closed, and what it has begins that run file.
-pub record HoldsFilePart (s : Session) (r : SessionRun) (channel : LoggerChannel) (dump last_dump : List ℕ) : Type 0 where
+pub record HoldsFilePart (s : Session) (r : SessionRun) (channel : LoggerChannel) (last_dump : List ℕ) : Type 0 where
   pub bytes : List ℕ
   pub stored : IsStored s.files (channel.name r.first.run) bytes
-  pub part : IsPrefix bytes (run_file r.first.run r.first.time dump (channel_events s r channel) r.last.time last_dump)
+  pub part : IsPrefix bytes (run_file r.first.run r.first.time (begin_dump r) (channel_events s r channel) r.last.time last_dump)
 
 -- Analyzers.
 

@@ -18,7 +18,7 @@ use Rattle.transitions.specs.declared.entry.EngineEntry.{EngineEntry}
 use Rattle.transitions.specs.declared.entry.EngineEntry.TheVariants.{Begin, Poll, Answer}
 use Rattle.transitions.specs.Engines.{engine_opening}
 use Rattle.transitions.specs.EngineHistories.{EngineHistory, IsLegalEngine}
-use Rattle.member_model.specs.Turns.{MemberTurn}
+use Rattle.member_model.specs.Turns.{MemberTurn, AreEngineTurns}
 use Rattle.member_model.specs.TurnCalls.{member_turns}
 use Rattle.member_model.specs.OwnCalls.{AreGivenBy}
 use Rattle.member_model.specs.LoggerKept.{LoggerChannel, KeepsLogger}
@@ -140,9 +140,10 @@ abbrev pub FrontsHaveMoments : Session → Type 0
 FrontsHaveMoments s = (f : SessionFront) → HasFront s f →
     KeepsMoments (buffer_calls s f.buffer f.client) (turns_of s f.client) f.moments
 
--- it sets in the database how many events it had sent, and makes no other call there
+-- where its turns are such as an engine gives, it sets in the database at them how many events it had sent, and makes no
+-- other call there
 abbrev pub FrontsSetNumbers : Session → Type 0
-FrontsSetNumbers s = (f : SessionFront) → HasFront s f →
+FrontsSetNumbers s = (f : SessionFront) → HasFront s f → AreEngineTurns (turns_of s f.client) →
     AreTurnSets f.name (buffer_calls s f.buffer f.client) (turns_of s f.client) f.moments (database_calls s f.client)
 
 -- the logger keeps its contract

@@ -1,6 +1,6 @@
 //! Laws of a session's members together: each function does nothing, and its contract is the law.
 
-ghost use Rattle.composition.specs.CompositionLaws.{FrontsTell, FrontsSent, FrontsStand, FrontsSet, StopsSet, OnlyFrontsSent, ChannelsTold, RunsAreEnded, NoEndRefused, FilesHoldRuns, FilesHoldParts, ReportsTold, ReportsSo, ReportsWhole, StopsComplete, IsComposed};
+ghost use Rattle.composition.specs.CompositionLaws.{FrontsTell, FrontsSent, FrontsStand, FrontsSet, StopsSet, OnlyFrontsSent, ChannelsTold, RunsAreEnded, NoEndRefused, FilesHoldRuns, FilesHoldParts, ReportsTold, ReportsSo, ReportsWhole, GotWhole, StopsComplete, IsComposed};
 ghost use Rattle.daq_types.specs.declared.runs.ChannelState.TheVariants.{Ended};
 ghost use Rattle.composition.specs.Sessions.{Session, MembersKeep};
 ghost use Rattle.composition.specs.SessionRuns.{IsStoppedRun, ToldState, ReportsRun, SawThrough};
@@ -50,7 +50,7 @@ pub fn sets()
 /// ended or broke off, or that the stop had no dump. It ended the run in the buffer of each channel: never was that refused.
 /// The file of each channel that the logger told to have ended is the run file of all events between the marks of the run
 /// that the channel asks for, with the dumps of the two sheets; the file of one that was told to be broken begins so, where the
-/// sheets have dumps.
+/// stop's sheet has a dump.
 pub fn files()
     ensures told { (s : Session) → MembersKeep s → ChannelsTold s }
     ensures ended { (s : Session) → MembersKeep s → RunsAreEnded s }
@@ -72,12 +72,15 @@ pub fn files()
 }
 
 /// In a run that was not refused and was stopped each analyzer told in the Done of the stop the report of the events of the run
-/// that its client got. Where it saw the run through, these are all events between the marks of the run that it asks for.
+/// that its client got. Where it saw the run through, these are all events between the marks of the run that it asks for, each
+/// once and in order; and its client got no other events of the run.
 pub fn reports()
     ensures told { (s : Session) → MembersKeep s → ReportsTold s }
     ensures so { (s : Session) → MembersKeep s → ReportsSo s }
     ensures whole { (s : Session) → MembersKeep s → ReportsWhole s }
+    ensures got { (s : Session) → MembersKeep s → GotWhole s }
 {
+    callers::sees_events();
     callers::sees_since();
     callers::fits_members();
     turns::gives_turns();
@@ -128,6 +131,7 @@ pub fn needs_each_premise()
     ensures events { FailsSession LoggerEvents other_told FilesHoldRuns }
     ensures analyzers { FailsSession KeptAnalyzers front_for_analyzer ReportsTold }
     ensures counted { FailsSession AnalyzerEvents (counted_session longer_event) ReportsWhole }
+    ensures got { FailsSession AnalyzerEvents (counted_session longer_event) GotWhole }
     ensures fronts_there { FailsSession FrontsThere unknown_front FrontsTell }
     ensures analyzers_there { FailsSession AnalyzersThere unknown_analyzer ReportsTold }
     ensures logger_there { FailsSession LoggerThere unknown_logger ChannelsTold }

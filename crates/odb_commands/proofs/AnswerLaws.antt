@@ -135,10 +135,6 @@ path_answered (Err why) answer Then calls reply each does = does
 path_answered (Ok p) answer Then calls reply each does = each p does
 
 pub performs_answered : (s : Rows) (c : Command) (calls : List DatabaseEntry) (reply : CommandReply) → Performs c calls reply → IsLegal s (calls_by 0 calls) → IsAnswerOf (answer_of s c) calls reply
-performs_answered s command.Nothing calls reply does legal = absurd does
-performs_answered s (command.Events count) calls reply does legal = absurd does
-performs_answered s command.Start calls reply does legal = absurd does
-performs_answered s command.Stop calls reply does legal = absurd does
 performs_answered s (command.Create type path len) calls reply does legal =
     path_answered (path_reply path) (create_at s (Keys type len)) (CreatesKey (Keys type len)) calls reply (λ p it. create_answered s (Keys type len) p calls reply legal it) does
 performs_answered s (command.CreateDir path) calls reply does legal = path_answered (path_reply path) (create_at s Dir) (CreatesKey Dir) calls reply (λ p it. create_answered s Dir p calls reply legal it) does
@@ -146,7 +142,7 @@ performs_answered s (command.Set path index value) calls reply does legal = path
 performs_answered s (command.Get path index) calls reply does legal = path_answered (path_reply path) (get_at s index) (Gets index) calls reply (λ p it. get_answered s index p calls reply legal it) does
 performs_answered s (command.List path) calls reply does legal = path_answered (path_reply path) (list_at s) Lists calls reply (λ p it. list_answered s p calls reply legal it) does
 performs_answered s (command.Remove path) calls reply does legal = path_answered (path_reply path) (remove_at s) RemovesKey calls reply (λ p it. remove_answered s p (is_protected p) calls reply legal it) does
-performs_answered s command.Exit calls reply does legal = absurd does
+performs_answered s _ calls reply does legal = absurd does
 
 -- Calls of others that leave the rows can be left out.
 

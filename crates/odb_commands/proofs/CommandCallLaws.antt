@@ -215,10 +215,6 @@ path_performs (Err why) answer Then each = (refl, refl)
 path_performs (Ok p) answer Then each = each p
 
 pub performs_answer : (s : Rows) (c : Command) → PerformsIf c (answer_of s c)
-performs_answer s command.Nothing = tt
-performs_answer s (command.Events count) = tt
-performs_answer s command.Start = tt
-performs_answer s command.Stop = tt
 performs_answer s (command.Create tid path len) = path_performs (path_reply path) (create_at s (Keys tid len)) (CreatesKey (Keys tid len)) (λ p. (create_reply s p (Keys tid len), refl, create_settled s p (Keys tid len), refl))
 performs_answer s (command.CreateDir path) = path_performs (path_reply path) (create_at s Dir) (CreatesKey Dir) (λ p. (create_reply s p Dir, refl, create_settled s p Dir, refl))
 performs_answer s (command.Set path index value) = path_performs (path_reply path) (set_at s index value) (Sets index value)
@@ -227,7 +223,7 @@ performs_answer s (command.Get path index) = path_performs (path_reply path) (ge
     (λ p. (get_reply s p, (get_in s p index (get_reply s p)).calls, refl, get_settled s p, get_performs s p index (get_reply s p)))
 performs_answer s (command.List path) = path_performs (path_reply path) (list_at s) Lists (λ p. (list_reply s p, refl, list_settled s p, refl))
 performs_answer s (command.Remove path) = path_performs (path_reply path) (remove_at s) RemovesKey (λ p. remove_performs s p (is_protected p))
-performs_answer s command.Exit = tt
+performs_answer s _ = tt
 
 spares_by : (calls more : List DatabaseEntry) → calls ≡ more → Spares more → Spares calls
 spares_by calls more is spares = subst Spares (sym is) spares
@@ -266,10 +262,6 @@ path_spares (Err why) Then calls reply each does = spares_by calls [] does.0 tt
 path_spares (Ok p) Then calls reply each does = each p does
 
 pub performs_spares : (c : Command) (calls : List DatabaseEntry) (reply : CommandReply) → Performs c calls reply → Spares calls
-performs_spares command.Nothing calls reply does = absurd does
-performs_spares (command.Events count) calls reply does = absurd does
-performs_spares command.Start calls reply does = absurd does
-performs_spares command.Stop calls reply does = absurd does
 performs_spares (command.Create tid path len) calls reply does =
     path_spares (path_reply path) (CreatesKey (Keys tid len)) calls reply (λ p it. spares_by calls (call.Create p (Keys tid len) it.0 ∷ []) it.1 (tt, tt)) does
 performs_spares (command.CreateDir path) calls reply does =
@@ -281,4 +273,4 @@ performs_spares (command.Get path index) calls reply does =
 performs_spares (command.List path) calls reply does =
     path_spares (path_reply path) Lists calls reply (λ p it. spares_by calls (call.ListDir p it.0 ∷ []) it.1 (tt, tt)) does
 performs_spares (command.Remove path) calls reply does = path_spares (path_reply path) RemovesKey calls reply (λ p it. remove_spares p calls reply it) does
-performs_spares command.Exit calls reply does = absurd does
+performs_spares _ calls reply does = absurd does

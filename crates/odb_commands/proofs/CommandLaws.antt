@@ -10,7 +10,7 @@ use Rattle.odb_tree.specs.declared.rows.NewKey.TheVariants.{Dir, Keys}
 use Rattle.odb_tree.specs.Rows.{Rows}
 use Rattle.odb_tree.specs.Calls.{get_reply, find_reply}
 use Rattle.odb_script.specs.declared.forms.Command.{Command}
-use Rattle.odb_script.specs.declared.forms.Command.TheVariants.{Nothing, Events, Start, Stop, Create, CreateDir, Set, Get, List as Ls, Remove, Exit}
+use Rattle.odb_script.specs.declared.forms.Command.TheVariants.{Create, CreateDir, Set, Get, List as Ls, Remove}
 use Rattle.odb_commands.specs.declared.replies.CommandRefusal.{CommandRefusal}
 use Rattle.odb_commands.specs.declared.replies.CommandRefusal.TheVariants.{Protected}
 use Rattle.odb_commands.specs.Answers.{Answer, refused, at_path, create_at, item_for, set_item, set_in, set_at, key_found, shown_value, get_in, get_at, list_at, removed, remove_at, answer_of}
@@ -49,14 +49,10 @@ path_spares (Err why) answer each = tt
 path_spares (Ok p) answer each = each p
 
 pub command_spares : (s : Rows) (c : Command) → SparesIf (answer_of s c)
-command_spares s Nothing = tt
-command_spares s (Events count) = tt
-command_spares s Start = tt
-command_spares s Stop = tt
 command_spares s (Create tid path len) = path_spares (path_reply path) (create_at s (Keys tid len)) (λ p. (tt, tt))
 command_spares s (CreateDir path) = path_spares (path_reply path) (create_at s Dir) (λ p. (tt, tt))
 command_spares s (Set path index value) = path_spares (path_reply path) (set_at s index value) (λ p. (tt, set_spares s p index value (get_reply s p)))
 command_spares s (Get path index) = path_spares (path_reply path) (get_at s index) (λ p. (tt, get_spares s p index (get_reply s p)))
 command_spares s (Ls path) = path_spares (path_reply path) (list_at s) (λ p. (tt, tt))
 command_spares s (Remove path) = path_spares (path_reply path) (remove_at s) (remove_spares s)
-command_spares s Exit = tt
+command_spares s _ = tt

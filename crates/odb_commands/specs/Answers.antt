@@ -122,14 +122,10 @@ remove_at s p = if is_protected p then refused Protected else removed s p
 
 -- The answer of a command, where it is one of the database's.
 abbrev pub answer_of : Rows → Command → Option Answer
-answer_of s command.Nothing = None
-answer_of s (command.Events count) = None
-answer_of s command.Start = None
-answer_of s command.Stop = None
 answer_of s (command.Create tid path len) = Some (at_path (path_reply path) (create_at s (Keys tid len)))
 answer_of s (command.CreateDir path) = Some (at_path (path_reply path) (create_at s Dir))
 answer_of s (command.Set path index value) = Some (at_path (path_reply path) (set_at s index value))
 answer_of s (command.Get path index) = Some (at_path (path_reply path) (get_at s index))
 answer_of s (command.List path) = Some (at_path (path_reply path) (list_at s))
 answer_of s (command.Remove path) = Some (at_path (path_reply path) (remove_at s))
-answer_of s command.Exit = None
+answer_of s _ = None

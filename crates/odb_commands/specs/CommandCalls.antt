@@ -88,11 +88,7 @@ Performs (command.Set path index value) calls reply = AtPath (path_reply path) (
 Performs (command.Get path index) calls reply = AtPath (path_reply path) (Gets index) calls reply
 Performs (command.List path) calls reply = AtPath (path_reply path) Lists calls reply
 Performs (command.Remove path) calls reply = AtPath (path_reply path) RemovesKey calls reply
-Performs command.Nothing calls reply = ⊥
-Performs (command.Events count) calls reply = ⊥
-Performs command.Start calls reply = ⊥
-Performs command.Stop calls reply = ⊥
-Performs command.Exit calls reply = ⊥
+Performs _ calls reply = ⊥
 
 -- Calls were made that do so, and this is the reply.
 pub record Answers (a b : DatabaseAccess) (Does : List DatabaseEntry → CommandReply → Type 0) (reply : CommandReply) : Type 0 where
@@ -112,11 +108,7 @@ calls_database (command.Set path index value) = true
 calls_database (command.Get path index) = true
 calls_database (command.List path) = true
 calls_database (command.Remove path) = true
-calls_database command.Nothing = false
-calls_database (command.Events count) = false
-calls_database command.Start = false
-calls_database command.Stop = false
-calls_database command.Exit = false
+calls_database _ = false
 
 -- the same for a command that may be another's, which makes no call and has no reply
 abbrev pub AnswersIf : (a b : DatabaseAccess) → Command → Option CommandReply → Type 0

@@ -448,9 +448,19 @@ pub fn run_command<R: Wait, P: DatabasePort>(
         Command::List { path } => Ok(Some(list(rt, alloc, port, path.as_slice())?)),
         Command::Remove { path } => Ok(Some(remove(rt, alloc, port, path.as_slice())?)),
         Command::Nothing
+        | Command::Buffer { .. }
+        | Command::Equip { .. }
+        | Command::Channel { .. }
         | Command::Events { .. }
         | Command::Start
         | Command::Stop
+        | Command::Pause
+        | Command::Resume
+        | Command::Load { .. }
+        | Command::Save { .. }
+        | Command::Watch { .. }
+        | Command::Notes { .. }
+        | Command::Unwatch { .. }
         | Command::Exit => Ok(None),
     }
 }

@@ -1,5 +1,5 @@
 // A database that threads share.
-ghost use Rattle.std.specs.Prelude.{◌≡◌, ◌≢◌, ◌<◌, ◌≤◌, ℕ, [], Option, Some, None, length, All, IfOk, IfErr, OnErr, Err};
+ghost use Rattle.std.specs.Prelude.{◌≡◌, ◌≢◌, ◌<◌, ◌≤◌, ℕ, [], Option, Some, None, length, All, IfOk, IfErr, OnErr, OnOk, Err};
 ghost use mathlib.Core.List.{IsPrefix};
 ghost use Rattle.daq_types.specs.declared.types.Tid.{Tid};
 ghost use Rattle.daq_types.specs.Callers.{entries_by, main_caller};
@@ -7,6 +7,7 @@ ghost use Rattle.odb_value.specs.Items.{tid_of};
 ghost use Rattle.odb_tree.specs.declared.refusals.OdbRefusal.TheVariants.{NoMemory as no_memory};
 ghost use Rattle.odb_tree.specs.declared.entry.DatabaseEntry.TheVariants.{Create, Set, SetAll, Get, Find, ListDir, Delete, Resize, PathOf};
 ghost use Rattle.odb_tree.specs.Databases.{IsDatabase};
+ghost use Rattle.odb_tree.specs.Noting.{notes_limit};
 ghost use Rattle.odb_ascii.specs.Dumps.{dump_limit};
 ghost use Rattle.odb_watch.specs.declared.entry.WatchEntry.TheVariants.{Call as call_of, Watch as begin_of, Notes as notes_of, Unwatch as end_of, Save as save_of, Load as load_of};
 ghost use Rattle.odb_watch.specs.Steps.{StepsDatabase, LeadsDatabase, IsLegalDatabase, unwatched, moved_out};
@@ -348,6 +349,7 @@ impl<D: Database> SharedOdb<D> {
         ensures entered { Enters (odb_lock_of self.now) (notes_of watch (moved_out into.new result))
             pass.old pass.new }
         ensures legal { IsLegalDatabase (first_database self.now) (seen_by pass.new) }
+        ensures few { OnOk result (length into.new ≤ notes_limit) }
         ensures kept { OnErr result (into.new ≡ into.old) }
     {
         let mut held = self.turns.take(rt, pass);

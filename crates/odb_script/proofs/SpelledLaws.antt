@@ -6,11 +6,11 @@ use Rattle.std.proofs.lemmas.List.{append-nil}
 use Rattle.daq_types.specs.declared.types.Tid.{Tid}
 use Rattle.odb_script.specs.LineWords.{Words, word, ended, faulty, line_words}
 use Rattle.daq_text.specs.Numbers.{number_of}
-use Rattle.odb_script.specs.Numbers.{most_number}
+use Rattle.odb_script.specs.Numbers.{most_number, most_small}
 use Rattle.odb_script.specs.TypeNames.{is_text, type_named}
 use Rattle.odb_script.specs.declared.forms.Command.{Command}
-use Rattle.odb_script.specs.declared.forms.Command.TheVariants.{Nothing, Events, Start, Stop, Create, CreateDir, Set, Get, List as Ls, Remove, Exit}
-use Rattle.odb_script.specs.Forms.{Read, ◌>>=◌, next_text, words_behind, line_end, last_number, only, events_form, value_form, create_form, set_end, set_form, get_form, list_form, remove_form, named_form, words_form, command_of}
+use Rattle.odb_script.specs.declared.forms.Command.TheVariants.{Nothing, Buffer, Equip, Channel, Events, Start, Stop, Pause, Resume, Create, CreateDir, Set, Get, List as Ls, Remove, Load, Save, Watch, Notes, Unwatch, Exit}
+use Rattle.odb_script.specs.Forms.{Read, ◌>>=◌, next_text, words_behind, line_end, next_number, last_number, only, with_text, with_number, buffer_form, equip_end, equip_form, channel_end, channel_form, value_form, create_form, set_end, set_form, get_form, watching_form, key_form, declaring_form, named_form, words_form, command_of}
 use Rattle.odb_script.specs.Spelled.{texts_of, Spells, Spelled}
 use Rattle.odb_script.proofs.TableLaws.{number_cases, type_cases, text_cases, no_directory_type}
 
@@ -32,11 +32,33 @@ ends front command (word at text ws) h = tt
 ends front command (ended at) h = ([], refl, subst (λ texts. Spells texts command) (sym (append-nil front)) h)
 ends front command (faulty at) h = tt
 
-path_ends : (front : List (List ℕ)) (make : List ℕ → Command) (ws : Words) → ((path : List ℕ) → Spells (front ++ path ∷ []) (make path))
-    → Reads front ws (next_text ws >>= (λ path. only (make path) (words_behind ws)))
-path_ends front make (word at text ws) h = step front at text ws (only (make text) ws) (ends (front ++ text ∷ []) (make text) ws (h text))
-path_ends front make (ended at) h = tt
-path_ends front make (faulty at) h = tt
+text_ends : (front : List (List ℕ)) (make : List ℕ → Command) → ((text : List ℕ) → Spells (front ++ text ∷ []) (make text)) → (ws : Words) → Reads front ws (with_text make ws)
+text_ends front make h (word at text (word next other ws)) = tt
+text_ends front make h (word at text (ended next)) = (text ∷ [], refl, h text)
+text_ends front make h (word at text (faulty next)) = tt
+text_ends front make h (ended at) = tt
+text_ends front make h (faulty at) = tt
+
+number_ends : (front : List (List ℕ)) (make : ℕ → Command) → ((text : List ℕ) (n : ℕ) → number_of most_number text ≡ Some n → Spells (front ++ text ∷ []) (make n))
+    → (ws : Words) → Reads front ws (with_number make ws)
+number_ends front make h (word at text (word next other ws)) = number_cases most_number text (λ e. rw e tt) (λ n e. rw e tt)
+number_ends front make h (word at text (ended next)) = number_cases most_number text (λ e. rw e tt) (λ n e. rw e (text ∷ [], refl, h text n e))
+number_ends front make h (word at text (faulty next)) = number_cases most_number text (λ e. rw e tt) (λ n e. rw e tt)
+number_ends front make h (ended at) = tt
+number_ends front make h (faulty at) = tt
+
+text_goes_on : (front : List (List ℕ)) (go_on : List ℕ → Words → Read Command) → ((text : List ℕ) (ws : Words) → Reads (front ++ text ∷ []) ws (go_on text ws))
+    → (ws : Words) → Reads front ws (next_text ws >>= (λ text. go_on text (words_behind ws)))
+text_goes_on front go_on h (word at text ws) = step front at text ws (go_on text ws) (h text ws)
+text_goes_on front go_on h (ended at) = tt
+text_goes_on front go_on h (faulty at) = tt
+
+number_goes_on : (front : List (List ℕ)) (most : ℕ) (go_on : ℕ → Words → Read Command)
+    → ((text : List ℕ) (n : ℕ) → number_of most text ≡ Some n → (ws : Words) → Reads (front ++ text ∷ []) ws (go_on n ws))
+    → (ws : Words) → Reads front ws (next_number most ws >>= (λ n. go_on n (words_behind ws)))
+number_goes_on front most go_on h (word at text ws) = number_cases most text (λ e. rw e tt) (λ n e. rw e (step front at text ws (go_on n ws) (h text n e ws)))
+number_goes_on front most go_on h (ended at) = tt
+number_goes_on front most go_on h (faulty at) = tt
 
 -- a number is given
 given : (front : List (List ℕ)) (make : Option ℕ → Command) (n : ℕ) (ws : Words) → Spells front (make (Some n))
@@ -45,41 +67,64 @@ given front make n (word at text ws) h = tt
 given front make n (ended at) h = ([], refl, subst (λ texts. Spells texts (make (Some n))) (sym (append-nil front)) h)
 given front make n (faulty at) h = tt
 
-number_ends : (front : List (List ℕ)) (make : Option ℕ → Command) (ws : Words) → Spells front (make None)
+maybe_number_ends : (front : List (List ℕ)) (make : Option ℕ → Command) → Spells front (make None)
     → ((text : List ℕ) (n : ℕ) → number_of most_number text ≡ Some n → Spells (front ++ text ∷ []) (make (Some n)))
-    → Reads front ws (last_number ws >>= (λ n. Ok (make n)))
-number_ends front make (word at text ws) none some = number_cases text
+    → (ws : Words) → Reads front ws (last_number ws >>= (λ n. Ok (make n)))
+maybe_number_ends front make none some (word at text ws) = number_cases most_number text
     (λ e. rw e tt)
     (λ n e. rw e (step front at text ws ((line_end ws >>= (λ end. Ok (Some n))) >>= (λ found. Ok (make found))) (given (front ++ text ∷ []) make n ws (some text n e))))
-number_ends front make (ended at) none some = ([], refl, subst (λ texts. Spells texts (make None)) (sym (append-nil front)) none)
-number_ends front make (faulty at) none some = tt
+maybe_number_ends front make none some (ended at) = ([], refl, subst (λ texts. Spells texts (make None)) (sym (append-nil front)) none)
+maybe_number_ends front make none some (faulty at) = tt
 
-path_number_ends : (front : List (List ℕ)) (make : List ℕ → Option ℕ → Command) (ws : Words) → ((path : List ℕ) → Spells (front ++ path ∷ []) (make path None))
-    → ((path text : List ℕ) (n : ℕ) → number_of most_number text ≡ Some n → Spells ((front ++ path ∷ []) ++ text ∷ []) (make path (Some n)))
-    → Reads front ws (next_text ws >>= (λ path. last_number (words_behind ws) >>= (λ n. Ok (make path n))))
-path_number_ends front make (word at path ws) none some =
-    step front at path ws (last_number ws >>= (λ n. Ok (make path n))) (number_ends (front ++ path ∷ []) (make path) ws (none path) (some path))
-path_number_ends front make (ended at) none some = tt
-path_number_ends front make (faulty at) none some = tt
+text_number_ends : (front : List (List ℕ)) (make : List ℕ → Option ℕ → Command) → ((text : List ℕ) → Spells (front ++ text ∷ []) (make text None))
+    → ((text number : List ℕ) (n : ℕ) → number_of most_number number ≡ Some n → Spells ((front ++ text ∷ []) ++ number ∷ []) (make text (Some n)))
+    → (ws : Words) → Reads front ws (next_text ws >>= (λ text. last_number (words_behind ws) >>= (λ n. Ok (make text n))))
+text_number_ends front make none some ws =
+    text_goes_on front (λ text behind. last_number behind >>= (λ n. Ok (make text n))) (λ text. maybe_number_ends (front ++ text ∷ []) (make text) (none text) (some text)) ws
 
-events : (ws : Words) → Reads (codes "events" ∷ []) ws (events_form ws)
-events (word at text ws) = number_cases text
-    (λ e. rw e tt)
-    (λ n e. rw e (step (codes "events" ∷ []) at text ws (only (Events n) ws) (ends (codes "events" ∷ text ∷ []) (Events n) ws (text, refl, e))))
-events (ended at) = tt
-events (faulty at) = tt
+buffer : (ws : Words) → Reads (codes "buffer" ∷ []) ws (buffer_form ws)
+buffer ws =
+    text_goes_on (codes "buffer" ∷ []) (λ name. with_number (Buffer name))
+    (λ name. number_ends (codes "buffer" ∷ name ∷ []) (Buffer name) (λ text n number. (text, refl, number))) ws
+
+equip : (ws : Words) → Reads (codes "equip" ∷ []) ws (equip_form ws)
+equip ws =
+    text_goes_on (codes "equip" ∷ [])
+    (λ name behind. next_number most_number behind >>= (λ id. next_number most_small (words_behind behind) >>= (λ mask. equip_end name id mask (words_behind (words_behind behind)))))
+    (λ name. number_goes_on (codes "equip" ∷ name ∷ []) most_number
+    (λ id behind. next_number most_small behind >>= (λ mask. equip_end name id mask (words_behind behind)))
+    (λ i id is_id. number_goes_on (codes "equip" ∷ name ∷ i ∷ []) most_small (equip_end name id)
+    (λ m mask is_mask. text_number_ends (codes "equip" ∷ name ∷ i ∷ m ∷ []) (λ into limit. Equip name id mask into (unwrap_or limit most_number))
+    (λ into. (i, m, is_id, is_mask, inl (refl, refl)))
+    (λ into number n is_number. (i, m, is_id, is_mask, inr (number, refl, is_number))))))
+    ws
+
+channel : (ws : Words) → Reads (codes "channel" ∷ []) ws (channel_form ws)
+channel ws =
+    number_goes_on (codes "channel" ∷ []) most_number
+    (λ number behind. next_text behind >>= (λ pattern. next_text (words_behind behind) >>= (λ into. channel_end number pattern into (words_behind (words_behind behind)))))
+    (λ t number is_number. text_goes_on (codes "channel" ∷ t ∷ [])
+    (λ pattern behind. next_text behind >>= (λ into. channel_end number pattern into (words_behind behind)))
+    (λ pattern. text_goes_on (codes "channel" ∷ t ∷ pattern ∷ []) (channel_end number pattern)
+    (λ into. number_goes_on (codes "channel" ∷ t ∷ pattern ∷ into ∷ []) most_small
+    (λ id behind. next_number most_small behind >>= (λ mask. only (Channel number pattern into id mask) (words_behind behind)))
+    (λ i id is_id. number_goes_on (codes "channel" ∷ t ∷ pattern ∷ into ∷ i ∷ []) most_small (λ mask. only (Channel number pattern into id mask))
+    (λ m mask is_mask rest. ends (codes "channel" ∷ t ∷ pattern ∷ into ∷ i ∷ m ∷ []) (Channel number pattern into id mask) rest
+    (t, i, m, refl, is_number, is_id, is_mask))))))
+    ws
 
 create : (ws : Words) → Reads (codes "create" ∷ []) ws (create_form ws)
 create (word at kind ws) = text_cases kind (codes "DIR")
     (λ same. subst (λ text. Reads (codes "create" ∷ []) (word at text ws) (create_form (word at text ws))) same
-    (step (codes "create" ∷ []) at (codes "DIR") ws (next_text ws >>= (λ path. only (CreateDir path) (words_behind ws)))
-    (path_ends (codes "create" ∷ codes "DIR" ∷ []) CreateDir ws (λ path. refl))))
+    (step (codes "create" ∷ []) at (codes "DIR") ws (with_text CreateDir ws)
+    (text_ends (codes "create" ∷ codes "DIR" ∷ []) CreateDir (λ path. refl) ws)))
     (λ other. type_cases kind
     (λ e. rw (other, e) tt)
     (λ t e. rw (other, e) (step (codes "create" ∷ []) at kind ws (value_form at (Some t) ws)
-    (path_number_ends (codes "create" ∷ kind ∷ []) (λ path len. Create t path (unwrap_or len 1)) ws
+    (text_number_ends (codes "create" ∷ kind ∷ []) (λ path len. Create t path (unwrap_or len 1))
     (λ path. (kind, e, inl (refl, refl)))
-    (λ path text n number. (kind, e, inr (text, refl, number)))))))
+    (λ path text n number. (kind, e, inr (text, refl, number)))
+    ws))))
 create (ended at) = tt
 create (faulty at) = tt
 
@@ -96,7 +141,7 @@ set_with_index path first n number (ended at) = ([], refl, inl (refl, refl))
 set_with_index path first n number (faulty at) = tt
 
 set_value : (path first : List ℕ) (ws : Words) → Reads (codes "set" ∷ path ∷ first ∷ []) ws (set_end path first (number_of most_number first) ws)
-set_value path first ws = number_cases first (λ e. rw e (set_without_index path first ws)) (λ n e. rw e (set_with_index path first n e ws))
+set_value path first ws = number_cases most_number first (λ e. rw e (set_without_index path first ws)) (λ n e. rw e (set_with_index path first n e ws))
 
 set : (ws : Words) → Reads (codes "set" ∷ []) ws (set_form ws)
 set (word at path (word next first ws)) =
@@ -108,7 +153,7 @@ set (ended at) = tt
 set (faulty at) = tt
 
 get : (ws : Words) → Reads (codes "get" ∷ []) ws (get_form ws)
-get ws = path_number_ends (codes "get" ∷ []) Get ws (λ path. refl) (λ path text n number. (text, refl, number))
+get ws = text_number_ends (codes "get" ∷ []) Get (λ path. refl) (λ path text n number. (text, refl, number)) ws
 
 -- the forms that begin with a name
 abbrev Named : ℕ → Words → List ℕ → Type 0
@@ -119,18 +164,28 @@ form : (at : ℕ) (name : List ℕ) (ws : Words) (read : Read Command) → Reads
 form at name ws read h = step [] at name ws read h
 
 named : (at : ℕ) (name : List ℕ) (ws : Words) → Named at ws name
-unfolding named_form
+unfolding named_form declaring_form key_form watching_form
 named at name ws =
-    text_cases name (codes "events") (λ e. subst (Named at ws) e (form at (codes "events") ws (events_form ws) (events ws))) (λ no_events.
+    text_cases name (codes "events") (λ e. subst (Named at ws) e (form at (codes "events") ws (with_number Events ws) (number_ends (codes "events" ∷ []) Events (λ text n number. (text, refl, number)) ws))) (λ no_events.
     text_cases name (codes "start") (λ e. subst (Named at ws) e (form at (codes "start") ws (only Start ws) (ends (codes "start" ∷ []) Start ws refl))) (λ no_start.
     text_cases name (codes "stop") (λ e. subst (Named at ws) e (form at (codes "stop") ws (only Stop ws) (ends (codes "stop" ∷ []) Stop ws refl))) (λ no_stop.
+    text_cases name (codes "pause") (λ e. subst (Named at ws) e (form at (codes "pause") ws (only Pause ws) (ends (codes "pause" ∷ []) Pause ws refl))) (λ no_pause.
+    text_cases name (codes "resume") (λ e. subst (Named at ws) e (form at (codes "resume") ws (only Resume ws) (ends (codes "resume" ∷ []) Resume ws refl))) (λ no_resume.
+    text_cases name (codes "exit") (λ e. subst (Named at ws) e (form at (codes "exit") ws (only Exit ws) (ends (codes "exit" ∷ []) Exit ws refl))) (λ no_exit.
+    text_cases name (codes "buffer") (λ e. subst (Named at ws) e (form at (codes "buffer") ws (buffer_form ws) (buffer ws))) (λ no_buffer.
+    text_cases name (codes "equip") (λ e. subst (Named at ws) e (form at (codes "equip") ws (equip_form ws) (equip ws))) (λ no_equip.
+    text_cases name (codes "channel") (λ e. subst (Named at ws) e (form at (codes "channel") ws (channel_form ws) (channel ws))) (λ no_channel.
     text_cases name (codes "create") (λ e. subst (Named at ws) e (form at (codes "create") ws (create_form ws) (create ws))) (λ no_create.
     text_cases name (codes "set") (λ e. subst (Named at ws) e (form at (codes "set") ws (set_form ws) (set ws))) (λ no_set.
     text_cases name (codes "get") (λ e. subst (Named at ws) e (form at (codes "get") ws (get_form ws) (get ws))) (λ no_get.
-    text_cases name (codes "ls") (λ e. subst (Named at ws) e (form at (codes "ls") ws (list_form ws) (path_ends (codes "ls" ∷ []) Ls ws (λ path. refl)))) (λ no_ls.
-    text_cases name (codes "rm") (λ e. subst (Named at ws) e (form at (codes "rm") ws (remove_form ws) (path_ends (codes "rm" ∷ []) Remove ws (λ path. refl)))) (λ no_rm.
-    text_cases name (codes "exit") (λ e. subst (Named at ws) e (form at (codes "exit") ws (only Exit ws) (ends (codes "exit" ∷ []) Exit ws refl))) (λ no_exit.
-    rw (no_events, no_start, no_stop, no_create, no_set, no_get, no_ls, no_rm, no_exit) tt)))))))))
+    text_cases name (codes "ls") (λ e. subst (Named at ws) e (form at (codes "ls") ws (with_text Ls ws) (text_ends (codes "ls" ∷ []) Ls (λ text. refl) ws))) (λ no_ls.
+    text_cases name (codes "rm") (λ e. subst (Named at ws) e (form at (codes "rm") ws (with_text Remove ws) (text_ends (codes "rm" ∷ []) Remove (λ text. refl) ws))) (λ no_rm.
+    text_cases name (codes "load") (λ e. subst (Named at ws) e (form at (codes "load") ws (with_text Load ws) (text_ends (codes "load" ∷ []) Load (λ text. refl) ws))) (λ no_load.
+    text_cases name (codes "save") (λ e. subst (Named at ws) e (form at (codes "save") ws (with_text Save ws) (text_ends (codes "save" ∷ []) Save (λ text. refl) ws))) (λ no_save.
+    text_cases name (codes "watch") (λ e. subst (Named at ws) e (form at (codes "watch") ws (with_text Watch ws) (text_ends (codes "watch" ∷ []) Watch (λ text. refl) ws))) (λ no_watch.
+    text_cases name (codes "notes") (λ e. subst (Named at ws) e (form at (codes "notes") ws (with_number Notes ws) (number_ends (codes "notes" ∷ []) Notes (λ text n number. (text, refl, number)) ws))) (λ no_notes.
+    text_cases name (codes "unwatch") (λ e. subst (Named at ws) e (form at (codes "unwatch") ws (with_number Unwatch ws) (number_ends (codes "unwatch" ∷ []) Unwatch (λ text n number. (text, refl, number)) ws))) (λ no_unwatch.
+    rw (no_events, no_start, no_stop, no_pause, no_resume, no_exit, no_buffer, no_equip, no_channel, no_create, no_set, no_get, no_ls, no_rm, no_load, no_save, no_watch, no_notes, no_unwatch) tt)))))))))))))))))))
 
 reads : (ws : Words) → Reads [] ws (words_form ws)
 reads (word at name ws) = named at name ws
@@ -171,6 +226,14 @@ on_four : (P : Words → Type 0) (ws : Words) (a b c d : List ℕ) → texts_of 
     → ((i j k l m : ℕ) → P (word i a (word j b (word k c (word l d (ended m)))))) → P ws
 on_four P ws a b c d h f = on_word P ws a (b ∷ c ∷ d ∷ []) h (λ i rest r. on_three (λ w. P (word i a w)) rest b c d r (f i))
 
+on_five : (P : Words → Type 0) (ws : Words) (a b c d e : List ℕ) → texts_of ws ≡ Some (a ∷ b ∷ c ∷ d ∷ e ∷ [])
+    → ((i j k l m n : ℕ) → P (word i a (word j b (word k c (word l d (word m e (ended n))))))) → P ws
+on_five P ws a b c d e h f = on_word P ws a (b ∷ c ∷ d ∷ e ∷ []) h (λ i rest r. on_four (λ w. P (word i a w)) rest b c d e r (f i))
+
+on_six : (P : Words → Type 0) (ws : Words) (a b c d e g : List ℕ) → texts_of ws ≡ Some (a ∷ b ∷ c ∷ d ∷ e ∷ g ∷ [])
+    → ((i j k l m n o : ℕ) → P (word i a (word j b (word k c (word l d (word m e (word n g (ended o)))))))) → P ws
+on_six P ws a b c d e g h f = on_word P ws a (b ∷ c ∷ d ∷ e ∷ g ∷ []) h (λ i rest r. on_five (λ w. P (word i a w)) rest b c d e g r (f i))
+
 -- the words are read as a command
 abbrev AreOf : Command → Words → Type 0
 AreOf command ws = words_form ws ≡ Ok command
@@ -182,11 +245,22 @@ no_type type t named = text_cases type (codes "DIR")
     (λ other. other)
 
 spelled : (ws : Words) (texts : List (List ℕ)) (command : Command) → texts_of ws ≡ Some texts → Spells texts command → AreOf command ws
-unfolding named_form
+unfolding named_form declaring_form key_form watching_form
 spelled ws texts Nothing h is = on_none (AreOf Nothing) ws (h ∙ ap Some is) (λ i. refl)
+spelled ws texts (Buffer name size) h is = on_three (AreOf (Buffer name size)) ws (codes "buffer") name is.0 (h ∙ ap Some is.1) (λ i j k l. rw is.2 refl)
+spelled ws texts (Equip name id mask buffer limit) h is = elim is.4 [
+  | inl whole ↦ on_five (AreOf (Equip name id mask buffer limit)) ws (codes "equip") name is.0 is.1 buffer (h ∙ ap Some whole.0)
+      (λ i j k l m n. rw (is.2, is.3) (ap (λ most. Ok (Equip name id mask buffer most)) (sym whole.1)))
+  | inr whole ↦ on_six (AreOf (Equip name id mask buffer limit)) ws (codes "equip") name is.0 is.1 buffer whole.0 (h ∙ ap Some whole.1)
+      (λ i j k l m n o. rw (is.2, is.3, whole.2) refl)
+]
+spelled ws texts (Channel number pattern buffer id mask) h is =
+    on_six (AreOf (Channel number pattern buffer id mask)) ws (codes "channel") is.0 pattern buffer is.1 is.2 (h ∙ ap Some is.3) (λ i j k l m n o. rw (is.4, is.5, is.6) refl)
 spelled ws texts (Events count) h is = on_two (AreOf (Events count)) ws (codes "events") is.0 (h ∙ ap Some is.1) (λ i j k. rw is.2 refl)
 spelled ws texts Start h is = on_one (AreOf Start) ws (codes "start") (h ∙ ap Some is) (λ i j. refl)
 spelled ws texts Stop h is = on_one (AreOf Stop) ws (codes "stop") (h ∙ ap Some is) (λ i j. refl)
+spelled ws texts Pause h is = on_one (AreOf Pause) ws (codes "pause") (h ∙ ap Some is) (λ i j. refl)
+spelled ws texts Resume h is = on_one (AreOf Resume) ws (codes "resume") (h ∙ ap Some is) (λ i j. refl)
 spelled ws texts (Create tid path len) h is = elim is.2 [
   | inl whole ↦ on_three (AreOf (Create tid path len)) ws (codes "create") is.0 path (h ∙ ap Some whole.0)
       (λ i j k l. rw (no_type is.0 tid is.1, is.1) (ap (λ n. Ok (Create tid path n)) (sym whole.1)))
@@ -203,6 +277,11 @@ spelled ws texts (Get path None) h is = on_two (AreOf (Get path None)) ws (codes
 spelled ws texts (Get path (Some index)) h is = on_three (AreOf (Get path (Some index))) ws (codes "get") path is.0 (h ∙ ap Some is.1) (λ i j k l. rw is.2 refl)
 spelled ws texts (Ls path) h is = on_two (AreOf (Ls path)) ws (codes "ls") path (h ∙ ap Some is) (λ i j k. refl)
 spelled ws texts (Remove path) h is = on_two (AreOf (Remove path)) ws (codes "rm") path (h ∙ ap Some is) (λ i j k. refl)
+spelled ws texts (Load file) h is = on_two (AreOf (Load file)) ws (codes "load") file (h ∙ ap Some is) (λ i j k. refl)
+spelled ws texts (Save file) h is = on_two (AreOf (Save file)) ws (codes "save") file (h ∙ ap Some is) (λ i j k. refl)
+spelled ws texts (Watch path) h is = on_two (AreOf (Watch path)) ws (codes "watch") path (h ∙ ap Some is) (λ i j k. refl)
+spelled ws texts (Notes watch) h is = on_two (AreOf (Notes watch)) ws (codes "notes") is.0 (h ∙ ap Some is.1) (λ i j k. rw is.2 refl)
+spelled ws texts (Unwatch watch) h is = on_two (AreOf (Unwatch watch)) ws (codes "unwatch") is.0 (h ∙ ap Some is.1) (λ i j k. rw is.2 refl)
 spelled ws texts Exit h is = on_one (AreOf Exit) ws (codes "exit") (h ∙ ap Some is) (λ i j. refl)
 
 -- Whole lines.

@@ -1,25 +1,25 @@
 -- A line is refused where no form of the table goes on, form by form.
-use Rattle.std.specs.Prelude.{◌≡◌, ℕ, ◌<◌, ◌≤◌, nat_eq, true, false, List, [], ◌∷◌, length, Option, Some, None, Ok, Err, unwrap_or, codes, refl}
-use Rattle.std.proofs.Common.{sym, subst}
+use Rattle.std.specs.Prelude.{◌≡◌, ℕ, ◌<◌, ◌≤◌, nat_eq, Bool, true, false, if◌then◌else◌, List, [], ◌∷◌, length, map, Option, Some, None, is_some, Ok, Err, unwrap_or, codes, refl}
+use Rattle.std.proofs.Common.{ap, sym, ◌∙◌, subst}
 use Rattle.std.specs.List.{starts_with}
 use Rattle.std.proofs.lemmas.Bool.{lt-ltb, le-ltb}
 use Rattle.std.proofs.lemmas.Slice.Eq.{bytes_eq-Decides}
 use Rattle.daq_types.specs.declared.types.Tid.{Tid}
 use Rattle.odb_script.specs.LineWords.{Words, word, ended, faulty, line_words}
 use Rattle.daq_text.specs.Numbers.{number_of}
-use Rattle.odb_script.specs.Numbers.{most_number}
+use Rattle.odb_script.specs.Numbers.{most_number, most_small}
 use Rattle.odb_script.specs.TypeNames.{is_text, type_named}
 use Rattle.odb_script.specs.declared.forms.Command.{Command}
-use Rattle.odb_script.specs.declared.forms.Command.TheVariants.{Nothing, Events, Start, Stop, Create, CreateDir, Set, Get, List as Ls, Remove, Exit}
+use Rattle.odb_script.specs.declared.forms.Command.TheVariants.{Nothing, Buffer, Equip, Channel, Events, Start, Stop, Pause, Resume, Create, CreateDir, Set, Get, List as Ls, Remove, Load, Save, Watch, Notes, Unwatch, Exit}
 use Rattle.odb_script.specs.declared.refusals.LineRefusal.TheVariants.{BadCommand}
-use Rattle.odb_script.specs.Forms.{◌>>=◌, next_text, words_behind, last_number, only, events_form, create_form, set_end, set_form, named_form, words_form, command_of}
-use Rattle.odb_script.specs.FormTable.{Form, exactly, any_text, a_number, a_type, forms, first_misfit, place_of}
+use Rattle.odb_script.specs.Forms.{Read, ◌>>=◌, next_text, words_behind, next_number, last_number, only, with_text, with_number, buffer_form, equip_end, equip_form, channel_end, channel_form, create_form, set_end, set_form, watching_form, key_form, declaring_form, named_form, words_form, command_of}
+use Rattle.odb_script.specs.FormTable.{Piece, exactly, any_text, number_to, a_number, a_small_number, a_type, fits, Form, forms, forms_going_on, form_ended, first_misfit, place_of}
 
 -- What is known of a text: whether it is a number, the name of a type, or one text alone.
 
-pub number_cases : {A : Type 0} (text : List ℕ) → (number_of most_number text ≡ None → A) → ((n : ℕ) → number_of most_number text ≡ Some n → A) → A
-number_cases {A} text none some =
-    elim (number_of most_number text) as (λ found. number_of most_number text ≡ found → A) [ None ↦ none | Some n ↦ some n ] refl
+pub number_cases : {A : Type 0} (most : ℕ) (text : List ℕ) → (number_of most text ≡ None → A) → ((n : ℕ) → number_of most text ≡ Some n → A) → A
+number_cases {A} most text none some =
+    elim (number_of most text) as (λ found. number_of most text ≡ found → A) [ None ↦ none | Some n ↦ some n ] refl
 
 pub type_cases : {A : Type 0} (text : List ℕ) → (type_named text ≡ None → A) → ((t : Tid) → type_named text ≡ Some t → A) → A
 type_cases {A} text none some =
@@ -36,33 +36,96 @@ ends command (word at text ws) = refl
 ends command (ended at) = refl
 ends command (faulty at) = refl
 
--- a number that may be left out
-number_ends : (make : Option ℕ → Command) (ws : Words) → place_of (last_number ws >>= (λ n. Ok (make n))) ≡ first_misfit ([] ∷ (a_number ∷ []) ∷ []) ws
-number_ends make (word at text (word next other ws)) = number_cases text (λ e. rw e refl) (λ n e. rw e refl)
-number_ends make (word at text (ended next)) = number_cases text (λ e. rw e refl) (λ n e. rw e refl)
-number_ends make (word at text (faulty next)) = number_cases text (λ e. rw e refl) (λ n e. rw e refl)
+-- one text
+text_ends : (make : List ℕ → Command) (ws : Words) → place_of (with_text make ws) ≡ first_misfit ((any_text ∷ []) ∷ []) ws
+text_ends make (word at text (word next other ws)) = refl
+text_ends make (word at text (ended next)) = refl
+text_ends make (word at text (faulty next)) = refl
+text_ends make (ended at) = refl
+text_ends make (faulty at) = refl
+
+-- one number
+number_ends : (make : ℕ → Command) (ws : Words) → place_of (with_number make ws) ≡ first_misfit ((a_number ∷ []) ∷ []) ws
+number_ends make (word at text (word next other ws)) = number_cases most_number text (λ e. rw e refl) (λ n e. rw e refl)
+number_ends make (word at text (ended next)) = number_cases most_number text (λ e. rw e refl) (λ n e. rw e refl)
+number_ends make (word at text (faulty next)) = number_cases most_number text (λ e. rw e refl) (λ n e. rw e refl)
 number_ends make (ended at) = refl
 number_ends make (faulty at) = refl
 
--- one path
-path_ends : (make : List ℕ → Command) (ws : Words) → place_of (next_text ws >>= (λ path. only (make path) (words_behind ws))) ≡ first_misfit ((any_text ∷ []) ∷ []) ws
-path_ends make (word at text ws) = ends (make text) ws
-path_ends make (ended at) = refl
-path_ends make (faulty at) = refl
+-- a number that may be left out
+maybe_number_ends : (make : Option ℕ → Command) (ws : Words) → place_of (last_number ws >>= (λ n. Ok (make n))) ≡ first_misfit ([] ∷ (a_number ∷ []) ∷ []) ws
+maybe_number_ends make (word at text (word next other ws)) = number_cases most_number text (λ e. rw e refl) (λ n e. rw e refl)
+maybe_number_ends make (word at text (ended next)) = number_cases most_number text (λ e. rw e refl) (λ n e. rw e refl)
+maybe_number_ends make (word at text (faulty next)) = number_cases most_number text (λ e. rw e refl) (λ n e. rw e refl)
+maybe_number_ends make (ended at) = refl
+maybe_number_ends make (faulty at) = refl
 
--- a path, and a number that may be left out
-path_number_ends : (make : List ℕ → Option ℕ → Command) (ws : Words)
-    → place_of (next_text ws >>= (λ path. last_number (words_behind ws) >>= (λ n. Ok (make path n)))) ≡ first_misfit ((any_text ∷ []) ∷ (any_text ∷ a_number ∷ []) ∷ []) ws
-path_number_ends make (word at text ws) = number_ends (make text) ws
-path_number_ends make (ended at) = refl
-path_number_ends make (faulty at) = refl
+-- Forms that all have the same piece in front.
+
+abbrev all_behind : Piece → List Form → List Form
+all_behind piece fs = map (λ f. piece ∷ f) fs
+
+all_go_on : (piece : Piece) (text : List ℕ) (fs : List Form) → fits piece text ≡ true → forms_going_on text (all_behind piece fs) ≡ fs
+all_go_on piece text [] e = refl
+all_go_on piece text (f ∷ fs) e = rw e (ap (λ gs. f ∷ gs) (all_go_on piece text fs e))
+
+none_goes_on : (piece : Piece) (text : List ℕ) (fs : List Form) → fits piece text ≡ false → forms_going_on text (all_behind piece fs) ≡ []
+none_goes_on piece text [] e = refl
+none_goes_on piece text (f ∷ fs) e = rw e (none_goes_on piece text fs e)
+
+none_ended : (piece : Piece) (fs : List Form) → form_ended (all_behind piece fs) ≡ false
+none_ended piece [] = refl
+none_ended piece (f ∷ fs) = none_ended piece fs
+
+text_goes_on : (f : Form) (fs : List Form) (go_on : List ℕ → Words → Read Command) → ((text : List ℕ) (ws : Words) → place_of (go_on text ws) ≡ first_misfit (f ∷ fs) ws)
+    → (ws : Words) → place_of (next_text ws >>= (λ text. go_on text (words_behind ws))) ≡ first_misfit (all_behind any_text (f ∷ fs)) ws
+text_goes_on f fs go_on h (word at text ws) = rw (all_go_on any_text text fs refl) (h text ws)
+text_goes_on f fs go_on h (ended at) = rw (none_ended any_text fs) refl
+text_goes_on f fs go_on h (faulty at) = refl
+
+number_goes_on : (most : ℕ) (f : Form) (fs : List Form) (go_on : ℕ → Words → Read Command) → ((n : ℕ) (ws : Words) → place_of (go_on n ws) ≡ first_misfit (f ∷ fs) ws)
+    → (ws : Words) → place_of (next_number most ws >>= (λ n. go_on n (words_behind ws))) ≡ first_misfit (all_behind (number_to most) (f ∷ fs)) ws
+number_goes_on most f fs go_on h (word at text ws) = number_cases most text
+    (λ e. rw (e, none_goes_on (number_to most) text fs (ap is_some e)) refl)
+    (λ n e. rw (e, all_go_on (number_to most) text fs (ap is_some e)) (h n ws))
+number_goes_on most f fs go_on h (ended at) = rw (none_ended (number_to most) fs) refl
+number_goes_on most f fs go_on h (faulty at) = refl
+
+-- a text, and a number that may be left out
+text_number_ends : (make : List ℕ → Option ℕ → Command) (ws : Words)
+    → place_of (next_text ws >>= (λ text. last_number (words_behind ws) >>= (λ n. Ok (make text n)))) ≡ first_misfit ((any_text ∷ []) ∷ (any_text ∷ a_number ∷ []) ∷ []) ws
+text_number_ends make ws = text_goes_on [] ((a_number ∷ []) ∷ []) (λ text rest. last_number rest >>= (λ n. Ok (make text n))) (λ text. maybe_number_ends (make text)) ws
 
 -- The forms behind their names.
 
-events : (ws : Words) → place_of (events_form ws) ≡ first_misfit ((a_number ∷ []) ∷ []) ws
-events (word at text ws) = number_cases text (λ e. rw e refl) (λ n e. rw e (ends (Events n) ws))
-events (ended at) = refl
-events (faulty at) = refl
+buffer : (ws : Words) → place_of (buffer_form ws) ≡ first_misfit ((any_text ∷ a_number ∷ []) ∷ []) ws
+buffer ws = text_goes_on (a_number ∷ []) [] (λ name. with_number (Buffer name)) (λ name. number_ends (Buffer name)) ws
+
+equip : (ws : Words) → place_of (equip_form ws)
+    ≡ first_misfit ((any_text ∷ a_number ∷ a_small_number ∷ any_text ∷ []) ∷ (any_text ∷ a_number ∷ a_small_number ∷ any_text ∷ a_number ∷ []) ∷ []) ws
+equip ws =
+    text_goes_on (a_number ∷ a_small_number ∷ any_text ∷ []) ((a_number ∷ a_small_number ∷ any_text ∷ a_number ∷ []) ∷ [])
+    (λ name behind. next_number most_number behind >>= (λ id. next_number most_small (words_behind behind) >>= (λ mask. equip_end name id mask (words_behind (words_behind behind)))))
+    (λ name. number_goes_on most_number (a_small_number ∷ any_text ∷ []) ((a_small_number ∷ any_text ∷ a_number ∷ []) ∷ [])
+    (λ id behind. next_number most_small behind >>= (λ mask. equip_end name id mask (words_behind behind)))
+    (λ id. number_goes_on most_small (any_text ∷ []) ((any_text ∷ a_number ∷ []) ∷ []) (equip_end name id)
+    (λ mask. text_number_ends (λ into limit. Equip name id mask into (unwrap_or limit most_number)))))
+    ws
+
+channel_back : (number : ℕ) (pattern into : List ℕ) (ws : Words) → place_of (channel_end number pattern into ws) ≡ first_misfit ((a_small_number ∷ a_small_number ∷ []) ∷ []) ws
+channel_back number pattern into ws =
+    number_goes_on most_small (a_small_number ∷ []) [] (λ id behind. next_number most_small behind >>= (λ mask. only (Channel number pattern into id mask) (words_behind behind)))
+    (λ id. number_goes_on most_small [] [] (λ mask. only (Channel number pattern into id mask)) (λ mask. ends (Channel number pattern into id mask)))
+    ws
+
+channel : (ws : Words) → place_of (channel_form ws) ≡ first_misfit ((a_number ∷ any_text ∷ any_text ∷ a_small_number ∷ a_small_number ∷ []) ∷ []) ws
+channel ws =
+    number_goes_on most_number (any_text ∷ any_text ∷ a_small_number ∷ a_small_number ∷ []) []
+    (λ number behind. next_text behind >>= (λ pattern. next_text (words_behind behind) >>= (λ into. channel_end number pattern into (words_behind (words_behind behind)))))
+    (λ number. text_goes_on (any_text ∷ a_small_number ∷ a_small_number ∷ []) []
+    (λ pattern behind. next_text behind >>= (λ into. channel_end number pattern into (words_behind behind)))
+    (λ pattern. text_goes_on (a_small_number ∷ a_small_number ∷ []) [] (channel_end number pattern) (channel_back number pattern)))
+    ws
 
 pub no_directory_type : type_named (codes "DIR") ≡ None
 unfolding type_named
@@ -74,8 +137,8 @@ create_forms = (exactly (codes "DIR") ∷ any_text ∷ []) ∷ (a_type ∷ any_t
 
 create : (ws : Words) → place_of (create_form ws) ≡ first_misfit create_forms ws
 create (word at kind ws) = text_cases kind (codes "DIR")
-    (λ same. subst (λ text. place_of (create_form (word at text ws)) ≡ first_misfit create_forms (word at text ws)) same (rw no_directory_type (path_ends CreateDir ws)))
-    (λ other. type_cases kind (λ e. rw (other, e) refl) (λ t e. rw (other, e) (path_number_ends (λ path len. Create t path (unwrap_or len 1)) ws)))
+    (λ same. subst (λ text. place_of (create_form (word at text ws)) ≡ first_misfit create_forms (word at text ws)) same (rw no_directory_type (text_ends CreateDir ws)))
+    (λ other. type_cases kind (λ e. rw (other, e) refl) (λ t e. rw (other, e) (text_number_ends (λ path len. Create t path (unwrap_or len 1)) ws)))
 create (ended at) = refl
 create (faulty at) = refl
 
@@ -90,11 +153,28 @@ set_with_index path first n (ended at) = refl
 set_with_index path first n (faulty at) = refl
 
 set : (ws : Words) → place_of (set_form ws) ≡ first_misfit ((any_text ∷ any_text ∷ []) ∷ (any_text ∷ a_number ∷ any_text ∷ []) ∷ []) ws
-set (word at path (word next first ws)) = number_cases first (λ e. rw e (set_without_index path first ws)) (λ n e. rw e (set_with_index path first n ws))
+set (word at path (word next first ws)) = number_cases most_number first (λ e. rw e (set_without_index path first ws)) (λ n e. rw e (set_with_index path first n ws))
 set (word at path (ended next)) = refl
 set (word at path (faulty next)) = refl
 set (ended at) = refl
 set (faulty at) = refl
+
+-- A word that begins none of the forms.
+
+abbrev begins_one : List ℕ → List Form → Bool
+begins_one text [] = false
+begins_one text ([] ∷ fs) = begins_one text fs
+begins_one text ((piece ∷ pieces) ∷ fs) = if fits piece text then true else begins_one text fs
+
+none_begins : (text : List ℕ) (fs : List Form) → begins_one text fs ≡ false → forms_going_on text fs ≡ []
+none_begins text [] e = refl
+none_begins text ([] ∷ fs) e = none_begins text fs e
+none_begins text ((piece ∷ pieces) ∷ fs) e =
+    elim (fits piece text) as (λ b. (if b then true else begins_one text fs) ≡ false → (if b then pieces ∷ forms_going_on text fs else forms_going_on text fs) ≡ [])
+    [ true ↦ (λ h. cc) | false ↦ (λ h. none_begins text fs h) ] e
+
+misfit_at_once : (fs : List Form) (at : ℕ) (text : List ℕ) (ws : Words) → forms_going_on text fs ≡ [] → first_misfit fs (word at text ws) ≡ Some at
+misfit_at_once fs at text ws none = rw none refl
 
 -- Whole lines.
 
@@ -102,19 +182,32 @@ set (faulty at) = refl
 abbrev Named : ℕ → Words → List ℕ → Type 0
 Named at ws name = place_of (named_form at name ws) ≡ first_misfit forms (word at name ws)
 
+refused_by_all : (at : ℕ) (name : List ℕ) (ws : Words) → begins_one name forms ≡ false → named_form at name ws ≡ Err (BadCommand at) → Named at ws name
+refused_by_all at name ws none refused = ap place_of refused ∙ sym (misfit_at_once forms at name ws (none_begins name forms none))
+
 named : (at : ℕ) (name : List ℕ) (ws : Words) → Named at ws name
-unfolding named_form
+unfolding named_form declaring_form key_form watching_form
 named at name ws =
-    text_cases name (codes "events") (λ e. subst (Named at ws) e (events ws)) (λ no_events.
+    text_cases name (codes "events") (λ e. subst (Named at ws) e (number_ends Events ws)) (λ no_events.
     text_cases name (codes "start") (λ e. subst (Named at ws) e (ends Start ws)) (λ no_start.
     text_cases name (codes "stop") (λ e. subst (Named at ws) e (ends Stop ws)) (λ no_stop.
+    text_cases name (codes "pause") (λ e. subst (Named at ws) e (ends Pause ws)) (λ no_pause.
+    text_cases name (codes "resume") (λ e. subst (Named at ws) e (ends Resume ws)) (λ no_resume.
+    text_cases name (codes "exit") (λ e. subst (Named at ws) e (ends Exit ws)) (λ no_exit.
+    text_cases name (codes "buffer") (λ e. subst (Named at ws) e (buffer ws)) (λ no_buffer.
+    text_cases name (codes "equip") (λ e. subst (Named at ws) e (equip ws)) (λ no_equip.
+    text_cases name (codes "channel") (λ e. subst (Named at ws) e (channel ws)) (λ no_channel.
     text_cases name (codes "create") (λ e. subst (Named at ws) e (create ws)) (λ no_create.
     text_cases name (codes "set") (λ e. subst (Named at ws) e (set ws)) (λ no_set.
-    text_cases name (codes "get") (λ e. subst (Named at ws) e (path_number_ends Get ws)) (λ no_get.
-    text_cases name (codes "ls") (λ e. subst (Named at ws) e (path_ends Ls ws)) (λ no_ls.
-    text_cases name (codes "rm") (λ e. subst (Named at ws) e (path_ends Remove ws)) (λ no_rm.
-    text_cases name (codes "exit") (λ e. subst (Named at ws) e (ends Exit ws)) (λ no_exit.
-    rw (no_events, no_start, no_stop, no_create, no_set, no_get, no_ls, no_rm, no_exit) refl)))))))))
+    text_cases name (codes "get") (λ e. subst (Named at ws) e (text_number_ends Get ws)) (λ no_get.
+    text_cases name (codes "ls") (λ e. subst (Named at ws) e (text_ends Ls ws)) (λ no_ls.
+    text_cases name (codes "rm") (λ e. subst (Named at ws) e (text_ends Remove ws)) (λ no_rm.
+    text_cases name (codes "load") (λ e. subst (Named at ws) e (text_ends Load ws)) (λ no_load.
+    text_cases name (codes "save") (λ e. subst (Named at ws) e (text_ends Save ws)) (λ no_save.
+    text_cases name (codes "watch") (λ e. subst (Named at ws) e (text_ends Watch ws)) (λ no_watch.
+    text_cases name (codes "notes") (λ e. subst (Named at ws) e (number_ends Notes ws)) (λ no_notes.
+    text_cases name (codes "unwatch") (λ e. subst (Named at ws) e (number_ends Unwatch ws)) (λ no_unwatch.
+    refused_by_all at name ws (rw (no_events, no_start, no_stop, no_pause, no_resume, no_exit, no_buffer, no_equip, no_channel, no_create, no_set, no_get, no_ls, no_rm, no_load, no_save, no_watch, no_notes, no_unwatch) refl) (rw (no_events, no_start, no_stop, no_pause, no_resume, no_exit, no_buffer, no_equip, no_channel, no_create, no_set, no_get, no_ls, no_rm, no_load, no_save, no_watch, no_notes, no_unwatch) refl))))))))))))))))))))
 
 first_named : (ws : Words) → place_of (words_form ws) ≡ first_misfit forms ws
 first_named (word at name ws) = named at name ws

@@ -2,7 +2,7 @@
 use Rattle.std.specs.Prelude.{ℕ, Bool, true, false, if◌then◌else◌, List, [], ◌∷◌, Option, Some, None, is_some, Ok, Err, codes}
 use Rattle.odb_script.specs.LineWords.{Words, word, ended, faulty}
 use Rattle.daq_text.specs.Numbers.{number_of}
-use Rattle.odb_script.specs.Numbers.{most_number}
+use Rattle.odb_script.specs.Numbers.{most_number, most_small}
 use Rattle.odb_script.specs.TypeNames.{is_text, type_named}
 use Rattle.odb_script.specs.Forms.{Read}
 use Rattle.odb_script.specs.declared.forms.Command.{Command}
@@ -18,6 +18,9 @@ pub data Piece : Type 0 where
 abbrev pub a_number : Piece
 a_number = number_to most_number
 
+abbrev pub a_small_number : Piece
+a_small_number = number_to most_small
+
 abbrev pub fits : Piece → List ℕ → Bool
 fits (exactly name) text = is_text text name
 fits any_text text = true
@@ -32,9 +35,15 @@ Form = List Piece
 abbrev pub forms : List Form
 forms =
     []
+    ∷ (exactly (codes "buffer") ∷ any_text ∷ a_number ∷ [])
+    ∷ (exactly (codes "equip") ∷ any_text ∷ a_number ∷ a_small_number ∷ any_text ∷ [])
+    ∷ (exactly (codes "equip") ∷ any_text ∷ a_number ∷ a_small_number ∷ any_text ∷ a_number ∷ [])
+    ∷ (exactly (codes "channel") ∷ a_number ∷ any_text ∷ any_text ∷ a_small_number ∷ a_small_number ∷ [])
     ∷ (exactly (codes "events") ∷ a_number ∷ [])
     ∷ (exactly (codes "start") ∷ [])
     ∷ (exactly (codes "stop") ∷ [])
+    ∷ (exactly (codes "pause") ∷ [])
+    ∷ (exactly (codes "resume") ∷ [])
     ∷ (exactly (codes "create") ∷ exactly (codes "DIR") ∷ any_text ∷ [])
     ∷ (exactly (codes "create") ∷ a_type ∷ any_text ∷ [])
     ∷ (exactly (codes "create") ∷ a_type ∷ any_text ∷ a_number ∷ [])
@@ -44,6 +53,11 @@ forms =
     ∷ (exactly (codes "get") ∷ any_text ∷ a_number ∷ [])
     ∷ (exactly (codes "ls") ∷ any_text ∷ [])
     ∷ (exactly (codes "rm") ∷ any_text ∷ [])
+    ∷ (exactly (codes "load") ∷ any_text ∷ [])
+    ∷ (exactly (codes "save") ∷ any_text ∷ [])
+    ∷ (exactly (codes "watch") ∷ any_text ∷ [])
+    ∷ (exactly (codes "notes") ∷ a_number ∷ [])
+    ∷ (exactly (codes "unwatch") ∷ a_number ∷ [])
     ∷ (exactly (codes "exit") ∷ [])
     ∷ []
 

@@ -4,10 +4,10 @@ use Rattle.std.specs.List.{starts_with}
 use Rattle.daq_types.specs.declared.types.Tid.{Tid}
 use Rattle.odb_script.specs.LineWords.{Words, word, ended, faulty, line_words}
 use Rattle.daq_text.specs.Numbers.{number_of}
-use Rattle.odb_script.specs.Numbers.{most_number}
+use Rattle.odb_script.specs.Numbers.{most_number, most_small}
 use Rattle.odb_script.specs.TypeNames.{is_text, type_named}
 use Rattle.odb_script.specs.declared.forms.Command.{Command}
-use Rattle.odb_script.specs.declared.forms.Command.TheVariants.{Nothing, Events, Start, Stop, Create, CreateDir, Set, Get, List as Ls, Remove, Exit}
+use Rattle.odb_script.specs.declared.forms.Command.TheVariants.{Nothing, Buffer, Equip, Channel, Events, Start, Stop, Pause, Resume, Create, CreateDir, Set, Get, List as Ls, Remove, Load, Save, Watch, Notes, Unwatch, Exit}
 use Rattle.odb_script.specs.declared.refusals.LineRefusal.{LineRefusal}
 use Rattle.odb_script.specs.declared.refusals.LineRefusal.TheVariants.{BadCommand}
 
@@ -58,23 +58,77 @@ last_number (word at text ws) = do
 last_number (ended at) = Ok None
 last_number (faulty at) = Err (BadCommand at)
 
+-- the text of the last word
+abbrev pub only_text : Words → Read (List ℕ)
+only_text ws = do
+  text ← next_text ws
+  _ ← line_end (words_behind ws)
+  Ok text
+
+-- the last word, which is a number
+abbrev pub only_number : Words → Read ℕ
+only_number ws = do
+  n ← next_number most_number ws
+  _ ← line_end (words_behind ws)
+  Ok n
+
 -- a command of one word
 abbrev pub only : Command → Words → Read Command
 only command ws = do
   _ ← line_end ws
   Ok command
 
--- `events N`
-abbrev pub events_form : Words → Read Command
-events_form ws = do
-  count ← next_number most_number ws
-  only (Events count) (words_behind ws)
+-- a command with one text
+abbrev pub with_text : (List ℕ → Command) → Words → Read Command
+with_text make ws = do
+  text ← only_text ws
+  Ok (make text)
+
+-- a command with one number
+abbrev pub with_number : (ℕ → Command) → Words → Read Command
+with_number make ws = do
+  n ← only_number ws
+  Ok (make n)
+
+-- `buffer NAME SIZE`
+abbrev pub buffer_form : Words → Read Command
+buffer_form ws = do
+  name ← next_text ws
+  with_number (Buffer name) (words_behind ws)
+
+-- what stands behind `equip NAME ID MASK`: a buffer's name and maybe LIMIT, which is else the greatest number
+abbrev pub equip_end : (name : List ℕ) (id mask : ℕ) → Words → Read Command
+equip_end name id mask ws = do
+  buffer ← next_text ws
+  limit ← last_number (words_behind ws)
+  Ok (Equip name id mask buffer (unwrap_or limit most_number))
+
+-- `equip NAME ID MASK BUFFER [LIMIT]`
+abbrev pub equip_form : Words → Read Command
+equip_form ws = do
+  name ← next_text ws
+  id ← next_number most_number (words_behind ws)
+  mask ← next_number most_small (words_behind (words_behind ws))
+  equip_end name id mask (words_behind (words_behind (words_behind ws)))
+
+-- what stands behind `channel N PATTERN BUFFER`
+abbrev pub channel_end : (number : ℕ) (pattern buffer : List ℕ) → Words → Read Command
+channel_end number pattern buffer ws = do
+  id ← next_number most_small ws
+  mask ← next_number most_small (words_behind ws)
+  only (Channel number pattern buffer id mask) (words_behind (words_behind ws))
+
+-- `channel N PATTERN BUFFER ID MASK`
+abbrev pub channel_form : Words → Read Command
+channel_form ws = do
+  number ← next_number most_number ws
+  pattern ← next_text (words_behind ws)
+  buffer ← next_text (words_behind (words_behind ws))
+  channel_end number pattern buffer (words_behind (words_behind (words_behind ws)))
 
 -- `create DIR PATH`
 abbrev pub directory_form : Words → Read Command
-directory_form ws = do
-  path ← next_text ws
-  only (CreateDir path) (words_behind ws)
+directory_form = with_text CreateDir
 
 -- `create TYPE PATH` and maybe LEN, which is else 1
 abbrev pub value_form : ℕ → Option Tid → Words → Read Command
@@ -111,31 +165,43 @@ get_form ws = do
   index ← last_number (words_behind ws)
   Ok (Get path index)
 
--- `ls PATH`
-abbrev pub list_form : Words → Read Command
-list_form ws = do
-  path ← next_text ws
-  only (Ls path) (words_behind ws)
+-- The form that begins with a name, which stands at a place, and what is behind it: of the dump's files and of watches;
+-- of keys, or one of those; of declarations, or one of those; of runs, or one of those.
 
--- `rm PATH`
-abbrev pub remove_form : Words → Read Command
-remove_form ws = do
-  path ← next_text ws
-  only (Remove path) (words_behind ws)
+unfoldable pub watching_form : ℕ → List ℕ → Words → Read Command
+watching_form at name ws =
+    if is_text name (codes "load") then with_text Load ws
+    else if is_text name (codes "save") then with_text Save ws
+    else if is_text name (codes "watch") then with_text Watch ws
+    else if is_text name (codes "notes") then with_number Notes ws
+    else if is_text name (codes "unwatch") then with_number Unwatch ws
+    else Err (BadCommand at)
 
--- the form that begins with a name, which stands at a place, and what is behind it
-unfoldable pub named_form : ℕ → List ℕ → Words → Read Command
-named_form at name ws =
-    if is_text name (codes "events") then events_form ws
-    else if is_text name (codes "start") then only Start ws
-    else if is_text name (codes "stop") then only Stop ws
-    else if is_text name (codes "create") then create_form ws
+unfoldable pub key_form : ℕ → List ℕ → Words → Read Command
+key_form at name ws =
+    if is_text name (codes "create") then create_form ws
     else if is_text name (codes "set") then set_form ws
     else if is_text name (codes "get") then get_form ws
-    else if is_text name (codes "ls") then list_form ws
-    else if is_text name (codes "rm") then remove_form ws
+    else if is_text name (codes "ls") then with_text Ls ws
+    else if is_text name (codes "rm") then with_text Remove ws
+    else watching_form at name ws
+
+unfoldable pub declaring_form : ℕ → List ℕ → Words → Read Command
+declaring_form at name ws =
+    if is_text name (codes "buffer") then buffer_form ws
+    else if is_text name (codes "equip") then equip_form ws
+    else if is_text name (codes "channel") then channel_form ws
+    else key_form at name ws
+
+unfoldable pub named_form : ℕ → List ℕ → Words → Read Command
+named_form at name ws =
+    if is_text name (codes "events") then with_number Events ws
+    else if is_text name (codes "start") then only Start ws
+    else if is_text name (codes "stop") then only Stop ws
+    else if is_text name (codes "pause") then only Pause ws
+    else if is_text name (codes "resume") then only Resume ws
     else if is_text name (codes "exit") then only Exit ws
-    else Err (BadCommand at)
+    else declaring_form at name ws
 
 -- a line of no word is passed over
 abbrev pub words_form : Words → Read Command

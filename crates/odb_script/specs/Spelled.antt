@@ -2,10 +2,10 @@
 use Rattle.std.specs.Prelude.{◌≡◌, ◌⊎◌, ℕ, List, [], ◌∷◌, Option, Some, None, option_map, codes}
 use Rattle.odb_script.specs.LineWords.{Words, word, ended, faulty}
 use Rattle.daq_text.specs.Numbers.{number_of}
-use Rattle.odb_script.specs.Numbers.{most_number}
+use Rattle.odb_script.specs.Numbers.{most_number, most_small}
 use Rattle.odb_script.specs.TypeNames.{type_named}
 use Rattle.odb_script.specs.declared.forms.Command.{Command}
-use Rattle.odb_script.specs.declared.forms.Command.TheVariants.{Nothing, Events, Start, Stop, Create, CreateDir, Set, Get, List as Ls, Remove, Exit}
+use Rattle.odb_script.specs.declared.forms.Command.TheVariants.{Nothing, Buffer, Equip, Channel, Events, Start, Stop, Pause, Resume, Create, CreateDir, Set, Get, List as Ls, Remove, Load, Save, Watch, Notes, Unwatch, Exit}
 
 -- the texts of words, where nothing else stands among them
 abbrev pub texts_of : Words → Option (List (List ℕ))
@@ -13,12 +13,23 @@ texts_of (word at text rest) = option_map (λ texts. text ∷ texts) (texts_of r
 texts_of (ended at) = Some []
 texts_of (faulty at) = None
 
--- The texts are those of a command. An item's index is 0, and a new key has one item, where no number says so.
+-- The texts are those of a command. Where no number says so, an item's index is 0, a new key has one item, and the
+-- limit of a front-end is the greatest number.
 abbrev pub Spells : List (List ℕ) → Command → Type 0
 Spells texts Nothing = texts ≡ []
+Spells texts (Buffer name size) = (number : List ℕ) × (texts ≡ codes "buffer" ∷ name ∷ number ∷ []) × (number_of most_number number ≡ Some size)
+Spells texts (Equip name id mask buffer limit) =
+    (i : List ℕ) × (m : List ℕ) × (number_of most_number i ≡ Some id) × (number_of most_small m ≡ Some mask)
+    × ((texts ≡ codes "equip" ∷ name ∷ i ∷ m ∷ buffer ∷ []) × (limit ≡ most_number)
+    ⊎ ((number : List ℕ) × (texts ≡ codes "equip" ∷ name ∷ i ∷ m ∷ buffer ∷ number ∷ []) × (number_of most_number number ≡ Some limit)))
+Spells texts (Channel number pattern buffer id mask) =
+    (n : List ℕ) × (i : List ℕ) × (m : List ℕ) × (texts ≡ codes "channel" ∷ n ∷ pattern ∷ buffer ∷ i ∷ m ∷ [])
+    × (number_of most_number n ≡ Some number) × (number_of most_small i ≡ Some id) × (number_of most_small m ≡ Some mask)
 Spells texts (Events count) = (number : List ℕ) × (texts ≡ codes "events" ∷ number ∷ []) × (number_of most_number number ≡ Some count)
 Spells texts Start = texts ≡ codes "start" ∷ []
 Spells texts Stop = texts ≡ codes "stop" ∷ []
+Spells texts Pause = texts ≡ codes "pause" ∷ []
+Spells texts Resume = texts ≡ codes "resume" ∷ []
 Spells texts (Create tid path len) =
     (type : List ℕ) × (type_named type ≡ Some tid)
     × ((texts ≡ codes "create" ∷ type ∷ path ∷ []) × (len ≡ 1)
@@ -31,6 +42,11 @@ Spells texts (Get path None) = texts ≡ codes "get" ∷ path ∷ []
 Spells texts (Get path (Some index)) = (number : List ℕ) × (texts ≡ codes "get" ∷ path ∷ number ∷ []) × (number_of most_number number ≡ Some index)
 Spells texts (Ls path) = texts ≡ codes "ls" ∷ path ∷ []
 Spells texts (Remove path) = texts ≡ codes "rm" ∷ path ∷ []
+Spells texts (Load file) = texts ≡ codes "load" ∷ file ∷ []
+Spells texts (Save file) = texts ≡ codes "save" ∷ file ∷ []
+Spells texts (Watch path) = texts ≡ codes "watch" ∷ path ∷ []
+Spells texts (Notes watch) = (number : List ℕ) × (texts ≡ codes "notes" ∷ number ∷ []) × (number_of most_number number ≡ Some watch)
+Spells texts (Unwatch watch) = (number : List ℕ) × (texts ≡ codes "unwatch" ∷ number ∷ []) × (number_of most_number number ≡ Some watch)
 Spells texts Exit = texts ≡ codes "exit" ∷ []
 
 -- words have the texts of a command and no more

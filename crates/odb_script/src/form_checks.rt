@@ -11,49 +11,106 @@ fn spell_text(text: &mut TextBuffer, bytes: &[u8]) -> Result<(), NoMemory> {
     text.text(b">")
 }
 
+/// Writes a command with one text.
+fn spell_one(text: &mut TextBuffer, name: &str, bytes: &[u8]) -> Result<(), NoMemory> {
+    text.text(name.as_bytes())?;
+    spell_text(text, bytes)
+}
+
+/// Writes a command with one number.
+fn spell_number(text: &mut TextBuffer, name: &str, number: u32) -> Result<(), NoMemory> {
+    text.text(name.as_bytes())?;
+    text.blank_number(number as u64)
+}
+
+/// Writes a command of a session's declarations with all its parts, and nothing for any other.
+fn spell_declared(text: &mut TextBuffer, command: Command<'_>) -> Result<(), NoMemory> {
+    match command {
+        Command::Buffer { name, size } => {
+            spell_one(text, "buffer", name.as_slice())?;
+            text.blank_number(size as u64)
+        }
+        Command::Equip {
+            name,
+            id,
+            mask,
+            buffer,
+            limit,
+        } => {
+            spell_one(text, "equip", name.as_slice())?;
+            text.blank_number(id as u64)?;
+            text.blank_number(mask as u64)?;
+            spell_text(text, buffer.as_slice())?;
+            text.blank_number(limit as u64)
+        }
+        Command::Channel {
+            number,
+            pattern,
+            buffer,
+            id,
+            mask,
+        } => {
+            spell_number(text, "channel", number)?;
+            spell_text(text, pattern.as_slice())?;
+            spell_text(text, buffer.as_slice())?;
+            text.blank_number(id as u64)?;
+            text.blank_number(mask as u64)
+        }
+        _ => Ok(()),
+    }
+}
+
+/// Writes a command of the database's keys with all its parts; other commands in other ways.
+fn spell_key(text: &mut TextBuffer, command: Command<'_>) -> Result<(), NoMemory> {
+    match command {
+        Command::Create { tid, path, len } => {
+            text.text(b"create ")?;
+            spell_one(text, tid.name(), path.as_slice())?;
+            text.blank_number(len as u64)
+        }
+        Command::CreateDir { path } => spell_one(text, "directory", path.as_slice()),
+        Command::Set { path, index, value } => {
+            spell_one(text, "set", path.as_slice())?;
+            text.blank_number(index as u64)?;
+            spell_text(text, value.as_slice())
+        }
+        Command::Get { path, index } => {
+            spell_one(text, "get", path.as_slice())?;
+            match index {
+                None => Ok(()),
+                Some(index) => text.blank_number(index as u64),
+            }
+        }
+        Command::List { path } => spell_one(text, "list", path.as_slice()),
+        Command::Remove { path } => spell_one(text, "remove", path.as_slice()),
+        other => spell_declared(text, other),
+    }
+}
+
 /// Writes a command with all its parts, texts in angle brackets.
 fn spell(text: &mut TextBuffer, command: Command<'_>) -> Result<(), NoMemory> {
     match command {
         Command::Nothing => text.text(b"nothing"),
         Command::Start => text.text(b"start"),
         Command::Stop => text.text(b"stop"),
+        Command::Pause => text.text(b"pause"),
+        Command::Resume => text.text(b"resume"),
         Command::Exit => text.text(b"exit"),
-        Command::Events { count } => {
-            text.text(b"events")?;
-            text.blank_number(count as u64)
-        }
-        Command::Create { tid, path, len } => {
-            text.text(b"create ")?;
-            text.text(tid.name().as_bytes())?;
-            spell_text(text, path.as_slice())?;
-            text.blank_number(len as u64)
-        }
-        Command::CreateDir { path } => {
-            text.text(b"directory")?;
-            spell_text(text, path.as_slice())
-        }
-        Command::Set { path, index, value } => {
-            text.text(b"set")?;
-            spell_text(text, path.as_slice())?;
-            text.blank_number(index as u64)?;
-            spell_text(text, value.as_slice())
-        }
-        Command::Get { path, index } => {
-            text.text(b"get")?;
-            spell_text(text, path.as_slice())?;
-            match index {
-                None => Ok(()),
-                Some(index) => text.blank_number(index as u64),
-            }
-        }
-        Command::List { path } => {
-            text.text(b"list")?;
-            spell_text(text, path.as_slice())
-        }
-        Command::Remove { path } => {
-            text.text(b"remove")?;
-            spell_text(text, path.as_slice())
-        }
+        Command::Events { count } => spell_number(text, "events", count),
+        Command::Load { file } => spell_one(text, "load", file.as_slice()),
+        Command::Save { file } => spell_one(text, "save", file.as_slice()),
+        Command::Watch { path } => spell_one(text, "watch", path.as_slice()),
+        Command::Notes { watch } => spell_number(text, "notes", watch),
+        Command::Unwatch { watch } => spell_number(text, "unwatch", watch),
+        other => spell_key(text, other),
+    }
+}
+
+/// Writes the command of a line, or that it is refused.
+fn spell_line(text: &mut TextBuffer, line: &[u8]) -> Result<(), NoMemory> {
+    match Command::read(line) {
+        Ok(command) => spell(text, command),
+        Err(_) => text.text(b"refused"),
     }
 }
 
@@ -98,13 +155,69 @@ fn lines_that_are_commands(rt: HostRuntime) -> Result<(), Fail> {
         ("rm /Runinfo/State", "remove </Runinfo/State>"),
     ] {
         let mut text = TextBuffer::new(rt.alloc());
-        match Command::read(line.as_bytes()) {
-            Ok(command) => spell(&mut text, command)?,
-            Err(_) => text.text(b"refused")?,
-        }
+        spell_line(&mut text, line.as_bytes())?;
         assert_eq!(rt; text.as_slice(), wanted.as_bytes(), "{line}");
     }
     Ok(())
+}
+
+#[test]
+fn lines_of_a_session(rt: HostRuntime) -> Result<(), Fail> {
+    for (line, wanted) in [
+        ("buffer B 1024", "buffer <B> 1024"),
+        ("buffer \"\" 0xffffffff", "buffer <> 4294967295"),
+        ("equip FE 1 0 SYSTEM", "equip <FE> 1 0 <SYSTEM> 4294967295"),
+        (
+            "equip F 4294967295 0xffff \"a b\" 7",
+            "equip <F> 4294967295 65535 <a b> 7",
+        ),
+        (
+            "channel 0 run%05d.mid SYSTEM 65535 65535",
+            "channel 0 <run%05d.mid> <SYSTEM> 65535 65535",
+        ),
+        ("channel 16 \"\" b 0 1", "channel 16 <> <b> 0 1"),
+        ("pause", "pause"),
+        ("resume\t", "resume"),
+        ("load a.odb", "load <a.odb>"),
+        ("save \"\"", "save <>"),
+        ("watch /A", "watch </A>"),
+        ("notes 0", "notes 0"),
+        ("unwatch 63", "unwatch 63"),
+    ] {
+        let mut text = TextBuffer::new(rt.alloc());
+        spell_line(&mut text, line.as_bytes())?;
+        assert_eq!(rt; text.as_slice(), wanted.as_bytes(), "{line}");
+    }
+    Ok(())
+}
+
+#[test]
+fn places_in_lines_of_a_session(rt: HostRuntime) {
+    for (line, place) in [
+        ("buffer B", 8),
+        ("buffer B x", 9),
+        ("buffer B 4294967296", 9),
+        ("buffer B 8 8", 11),
+        ("equip FE x", 9),
+        ("equip FE 1 65536 SYSTEM", 11),
+        ("equip FE 1 0", 12),
+        ("equip FE 1 0 SYSTEM x", 20),
+        ("equip FE 1 0 SYSTEM 1 2", 22),
+        ("channel 0 p B 65536 0", 14),
+        ("channel 0 p B 1 65536", 16),
+        ("channel 0 p B 1", 15),
+        ("channel 0 p B 1 1 x", 18),
+        ("analyzer A B 1 1 all", 0),
+        ("pause 1", 6),
+        ("resume x", 7),
+        ("load", 4),
+        ("save a b", 7),
+        ("watch", 5),
+        ("notes x", 6),
+        ("unwatch 1 2", 10),
+    ] {
+        assert_eq!(rt; refused_at(line.as_bytes()), Some(place), "{line}");
+    }
 }
 
 #[test]
@@ -187,9 +300,6 @@ fn places_where_no_form_goes_on(rt: HostRuntime) {
         ("ls /A /B", 6),
         ("rm", 2),
         ("rm /A /B", 6),
-        ("load a.odb", 0),
-        ("buffer B 1024", 0),
-        ("pause", 0),
     ] {
         assert_eq!(rt; refused_at(line.as_bytes()), Some(place), "{line}");
     }

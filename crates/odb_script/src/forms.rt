@@ -1,14 +1,13 @@
-ghost use Rattle.std.specs.Prelude.{◌≡◌, OnOk, Ok};
+//! The command of a line, by the name in front and the form that it begins.
+ghost use Rattle.std.specs.Prelude.{◌≡◌, Ok};
 ghost use Rattle.odb_script.specs.Exits.{is_exit};
-ghost use Rattle.daq_text.specs.Numbers.{number_of};
-ghost use Rattle.odb_script.specs.Numbers.{most_number};
-ghost use Rattle.odb_script.specs.TypeNames.{type_named};
-ghost use Rattle.odb_script.specs.Forms.{next_text, words_behind, line_end, read_number_at, next_number as number_next, last_number as number_last, only, events_form, directory_form, value_form, create_form, set_end, set_form, get_form, list_form, remove_form, named_form, command_of};
+ghost use Rattle.odb_script.specs.Forms.{buffer_form, equip_form, channel_form, only, named_form, declaring_form, key_form, watching_form, command_of};
 
+use crate::key_forms::{read_create, read_get, read_set};
 use crate::line_text::LineText;
+use crate::pieces::{end, last_number, next_number, next_small, only_number, only_text, text};
 use crate::refusals::{LINE_BYTES, LineRefusal};
 use crate::words::{NextWord, WordReader};
-use daq_text::number;
 use daq_types::Tid;
 
 /// A command of the script. Its texts are words of the line, without quotes; paths and values are read later, by the
@@ -17,6 +16,28 @@ use daq_types::Tid;
 pub enum Command<'a> {
     /// An empty line, a line of blanks or a comment, which is passed over but counted.
     Nothing,
+    /// `buffer NAME SIZE`: adds an event buffer of so many bytes, or sets the size of SYSTEM.
+    Buffer {
+        name: LineText<'a>,
+        size: u32,
+    },
+    /// `equip NAME ID MASK BUFFER [LIMIT]`: adds a front-end, which sends at most so many events in a run, 4,294,967,295
+    /// if not given.
+    Equip {
+        name: LineText<'a>,
+        id: u32,
+        mask: u16,
+        buffer: LineText<'a>,
+        limit: u32,
+    },
+    /// `channel N PATTERN BUFFER ID MASK`: adds a channel of the logger.
+    Channel {
+        number: u32,
+        pattern: LineText<'a>,
+        buffer: LineText<'a>,
+        id: u16,
+        mask: u16,
+    },
     /// `events N`: how many events each front-end sends in the runs that are started from here on.
     Events {
         count: u32,
@@ -25,6 +46,10 @@ pub enum Command<'a> {
     Start,
     /// `stop`: ends the run.
     Stop,
+    /// `pause`: stops the front-ends of the run, which goes on.
+    Pause,
+    /// `resume`: lets the front-ends of a paused run go on.
+    Resume,
     /// `create TYPE PATH [LEN]`: makes a key of the database with so many items, 1 if not given.
     Create {
         tid: Tid,
@@ -54,199 +79,74 @@ pub enum Command<'a> {
     Remove {
         path: LineText<'a>,
     },
+    /// `load FILE`: reads a dump of the database from a file.
+    Load {
+        file: LineText<'a>,
+    },
+    /// `save FILE`: writes a dump of the database into a new file.
+    Save {
+        file: LineText<'a>,
+    },
+    /// `watch PATH`: begins a watch of a key or a directory of the database.
+    Watch {
+        path: LineText<'a>,
+    },
+    /// `notes W`: prints what the watch of this number noted.
+    Notes {
+        watch: u32,
+    },
+    /// `unwatch W`: ends the watch of this number.
+    Unwatch {
+        watch: u32,
+    },
     /// `exit`: ends the script.
     Exit,
 }
 
-/// The type that a word names, with its own name or its older one.
-fn type_of(name: &[u8]) -> Option<Tid>
-    ensures { result ≡ type_named name.now }
+/// `buffer NAME SIZE`
+fn read_buffer<'a>(words: &mut WordReader<'a>) -> Result<Command<'a>, LineRefusal>
+    ensures { result ≡ buffer_form words.old }
 {
-    Tid::from_name(name)
+    let name = text(words)?;
+    let size = only_number(words)?;
+    Ok(Command::Buffer { name, size })
 }
 
-/// The number of at most `most` that a word is.
-fn word_number(text: &LineText<'_>, most: u32) -> Option<u32>
-    ensures { result ≡ number_of most text.now }
+/// `equip NAME ID MASK BUFFER [LIMIT]`
+fn read_equip<'a>(words: &mut WordReader<'a>) -> Result<Command<'a>, LineRefusal>
+    ensures { result ≡ equip_form words.old }
 {
-    match number(text.as_slice(), most as u64) {
-        None => None,
-        Some(number) => Some(number as u32),
-    }
+    let name = text(words)?;
+    let id = next_number(words, u32::MAX)?;
+    let mask = next_small(words)?;
+    let buffer = text(words)?;
+    let limit = last_number(words)?.unwrap_or(u32::MAX);
+    Ok(Command::Equip {
+        name,
+        id,
+        mask,
+        buffer,
+        limit,
+    })
 }
 
-/// The number of at most `most` that a word at this place is.
-fn number_there(at: u32, text: &LineText<'_>, most: u32) -> Result<u32, LineRefusal>
-    ensures { result ≡ read_number_at at (number_of most text.now) }
+/// `channel N PATTERN BUFFER ID MASK`
+fn read_channel<'a>(words: &mut WordReader<'a>) -> Result<Command<'a>, LineRefusal>
+    ensures { result ≡ channel_form words.old }
 {
-    match word_number(text, most) {
-        None => Err(LineRefusal::BadCommand { at }),
-        Some(number) => Ok(number),
-    }
-}
-
-/// The next word, which has to be there.
-fn text<'a>(words: &mut WordReader<'a>) -> Result<LineText<'a>, LineRefusal>
-    ensures text { result ≡ next_text words.old }
-    ensures behind { OnOk result (words.new ≡ words_behind words.old) }
-{
-    match words.next() {
-        NextWord::Word { text, .. } => Ok(text),
-        NextWord::End { at } | NextWord::Faulty { at } => Err(LineRefusal::BadCommand { at }),
-    }
-}
-
-/// Nothing more stands in the line.
-fn end(words: &mut WordReader<'_>) -> Result<(), LineRefusal>
-    ensures { result ≡ line_end words.old }
-{
-    match words.next() {
-        NextWord::End { .. } => Ok(()),
-        NextWord::Word { at, .. } | NextWord::Faulty { at } => Err(LineRefusal::BadCommand { at }),
-    }
-}
-
-/// The next word, which has to be a number of at most `most`.
-fn next_number(words: &mut WordReader<'_>, most: u32) -> Result<u32, LineRefusal>
-    ensures number { result ≡ number_next most words.old }
-    ensures behind { OnOk result (words.new ≡ words_behind words.old) }
-{
-    match words.next() {
-        NextWord::Word { at, text } => number_there(at, &text, most),
-        NextWord::End { at } | NextWord::Faulty { at } => Err(LineRefusal::BadCommand { at }),
-    }
-}
-
-/// A number at the line's end, which may be left out.
-fn last_number(words: &mut WordReader<'_>) -> Result<Option<u32>, LineRefusal>
-    ensures { result ≡ number_last words.old }
-{
-    match words.next() {
-        NextWord::Word { at, text } => {
-            let number = number_there(at, &text, u32::MAX)?;
-            end(words)?;
-            Ok(Some(number))
-        }
-        NextWord::End { .. } => Ok(None),
-        NextWord::Faulty { at } => Err(LineRefusal::BadCommand { at }),
-    }
-}
-
-/// `events N`
-fn read_events<'a>(words: &mut WordReader<'a>) -> Result<Command<'a>, LineRefusal>
-    ensures { result ≡ events_form words.old }
-{
-    let count = next_number(words, u32::MAX)?;
+    let number = next_number(words, u32::MAX)?;
+    let pattern = text(words)?;
+    let buffer = text(words)?;
+    let id = next_small(words)?;
+    let mask = next_small(words)?;
     end(words)?;
-    Ok(Command::Events { count })
-}
-
-/// `create DIR PATH`
-fn read_directory<'a>(words: &mut WordReader<'a>) -> Result<Command<'a>, LineRefusal>
-    ensures { result ≡ directory_form words.old }
-{
-    let path = text(words)?;
-    end(words)?;
-    Ok(Command::CreateDir { path })
-}
-
-/// `create TYPE PATH [LEN]`, where the type's name stands at this place.
-fn read_value<'a>(
-    at: u32,
-    tid: Option<Tid>,
-    words: &mut WordReader<'a>,
-) -> Result<Command<'a>, LineRefusal>
-    ensures { result ≡ value_form at tid words.old }
-{
-    let Some(tid) = tid else {
-        return Err(LineRefusal::BadCommand { at });
-    };
-    let path = text(words)?;
-    let len = last_number(words)?.unwrap_or(1);
-    Ok(Command::Create { tid, path, len })
-}
-
-/// `create DIR PATH` or `create TYPE PATH [LEN]`
-fn read_create<'a>(words: &mut WordReader<'a>) -> Result<Command<'a>, LineRefusal>
-    ensures { result ≡ create_form words.old }
-{
-    match words.next() {
-        NextWord::Word { at, text } => {
-            if text.as_slice() == b"DIR".as_slice() {
-                read_directory(words)
-            } else {
-                read_value(at, type_of(text.as_slice()), words)
-            }
-        }
-        NextWord::End { at } | NextWord::Faulty { at } => Err(LineRefusal::BadCommand { at }),
-    }
-}
-
-/// What stands behind `set PATH` and one more word.
-fn read_set_end<'a>(
-    path: LineText<'a>,
-    first: LineText<'a>,
-    index: Option<u32>,
-    words: &mut WordReader<'a>,
-) -> Result<Command<'a>, LineRefusal>
-    ensures { result ≡ set_end path.entry first.entry index words.old }
-{
-    match words.next() {
-        NextWord::End { .. } => Ok(Command::Set {
-            path,
-            index: 0,
-            value: first,
-        }),
-        NextWord::Faulty { at } => Err(LineRefusal::BadCommand { at }),
-        NextWord::Word { at, text } => match index {
-            None => Err(LineRefusal::BadCommand { at }),
-            Some(index) => {
-                end(words)?;
-                Ok(Command::Set {
-                    path,
-                    index,
-                    value: text,
-                })
-            }
-        },
-    }
-}
-
-/// `set PATH [INDEX] VALUE`
-fn read_set<'a>(words: &mut WordReader<'a>) -> Result<Command<'a>, LineRefusal>
-    ensures { result ≡ set_form words.old }
-{
-    let path = text(words)?;
-    let first = text(words)?;
-    let index = word_number(&first, u32::MAX);
-    read_set_end(path, first, index, words)
-}
-
-/// `get PATH [INDEX]`
-fn read_get<'a>(words: &mut WordReader<'a>) -> Result<Command<'a>, LineRefusal>
-    ensures { result ≡ get_form words.old }
-{
-    let path = text(words)?;
-    let index = last_number(words)?;
-    Ok(Command::Get { path, index })
-}
-
-/// `ls PATH`
-fn read_list<'a>(words: &mut WordReader<'a>) -> Result<Command<'a>, LineRefusal>
-    ensures { result ≡ list_form words.old }
-{
-    let path = text(words)?;
-    end(words)?;
-    Ok(Command::List { path })
-}
-
-/// `rm PATH`
-fn read_remove<'a>(words: &mut WordReader<'a>) -> Result<Command<'a>, LineRefusal>
-    ensures { result ≡ remove_form words.old }
-{
-    let path = text(words)?;
-    end(words)?;
-    Ok(Command::Remove { path })
+    Ok(Command::Channel {
+        number,
+        pattern,
+        buffer,
+        id,
+        mask,
+    })
 }
 
 /// A command of one word.
@@ -260,24 +160,47 @@ fn read_only<'a>(
     Ok(command)
 }
 
-/// The form that begins with this name, which stands at this place.
-#[tactic(auto, unfolding(crate::specs::Forms::named_form))]
-fn read_form<'a>(
+/// The form that begins with this name, which stands at this place, where it is one of the last.
+#[tactic(auto, unfolding(crate::specs::Forms::watching_form))]
+fn read_watching<'a>(
     at: u32,
     name: &[u8],
     words: &mut WordReader<'a>,
 ) -> Result<Command<'a>, LineRefusal>
-    ensures { result ≡ named_form at name.now words.old }
+    ensures { result ≡ watching_form at name.now words.old }
 {
-    if name == b"events".as_slice() {
-        return read_events(words);
+    if name == b"load".as_slice() {
+        let file = only_text(words)?;
+        return Ok(Command::Load { file });
     }
-    if name == b"start".as_slice() {
-        return read_only(Command::Start, words);
+    if name == b"save".as_slice() {
+        let file = only_text(words)?;
+        return Ok(Command::Save { file });
     }
-    if name == b"stop".as_slice() {
-        return read_only(Command::Stop, words);
+    if name == b"watch".as_slice() {
+        let path = only_text(words)?;
+        return Ok(Command::Watch { path });
     }
+    if name == b"notes".as_slice() {
+        let watch = only_number(words)?;
+        return Ok(Command::Notes { watch });
+    }
+    if name == b"unwatch".as_slice() {
+        let watch = only_number(words)?;
+        return Ok(Command::Unwatch { watch });
+    }
+    Err(LineRefusal::BadCommand { at })
+}
+
+/// The form that begins with this name, where it is that of a key's command, or one of those behind it.
+#[tactic(auto, unfolding(crate::specs::Forms::key_form))]
+fn read_key<'a>(
+    at: u32,
+    name: &[u8],
+    words: &mut WordReader<'a>,
+) -> Result<Command<'a>, LineRefusal>
+    ensures { result ≡ key_form at name.now words.old }
+{
     if name == b"create".as_slice() {
         return read_create(words);
     }
@@ -288,15 +211,66 @@ fn read_form<'a>(
         return read_get(words);
     }
     if name == b"ls".as_slice() {
-        return read_list(words);
+        let path = only_text(words)?;
+        return Ok(Command::List { path });
     }
     if name == b"rm".as_slice() {
-        return read_remove(words);
+        let path = only_text(words)?;
+        return Ok(Command::Remove { path });
+    }
+    read_watching(at, name, words)
+}
+
+/// The form that begins with this name, where it is that of a declaration, or one of those behind it.
+#[tactic(auto, unfolding(crate::specs::Forms::declaring_form))]
+fn read_declaring<'a>(
+    at: u32,
+    name: &[u8],
+    words: &mut WordReader<'a>,
+) -> Result<Command<'a>, LineRefusal>
+    ensures { result ≡ declaring_form at name.now words.old }
+{
+    if name == b"buffer".as_slice() {
+        return read_buffer(words);
+    }
+    if name == b"equip".as_slice() {
+        return read_equip(words);
+    }
+    if name == b"channel".as_slice() {
+        return read_channel(words);
+    }
+    read_key(at, name, words)
+}
+
+/// The form that begins with this name, which stands at this place.
+#[tactic(auto, unfolding(crate::specs::Forms::named_form))]
+fn read_form<'a>(
+    at: u32,
+    name: &[u8],
+    words: &mut WordReader<'a>,
+) -> Result<Command<'a>, LineRefusal>
+    ensures { result ≡ named_form at name.now words.old }
+{
+    if name == b"events".as_slice() {
+        let count = only_number(words)?;
+        return Ok(Command::Events { count });
+    }
+    if name == b"start".as_slice() {
+        return read_only(Command::Start, words);
+    }
+    if name == b"stop".as_slice() {
+        return read_only(Command::Stop, words);
+    }
+    if name == b"pause".as_slice() {
+        return read_only(Command::Pause, words);
+    }
+    if name == b"resume".as_slice() {
+        return read_only(Command::Resume, words);
     }
     if name == b"exit".as_slice() {
         return read_only(Command::Exit, words);
     }
-    Err(LineRefusal::BadCommand { at })
+    read_declaring(at, name, words)
 }
 
 impl<'a> Command<'a> {

@@ -6,8 +6,10 @@ mod checks;
 #[cfg(test)]
 mod form_checks;
 mod forms;
+mod key_forms;
 pub mod laws;
 mod line_text;
+mod pieces;
 mod reading;
 mod refusals;
 mod words;

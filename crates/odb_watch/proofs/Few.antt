@@ -1,5 +1,5 @@
 -- A watched database has few watches, of few notes each.
-use Rattle.std.proofs.Common.{◌≡◌, ℕ, zero, suc, ◌+◌, ◌-◌, ◌<◌, ◌≤◌, Bool, true, false, cond, ltb, List, [], ◌∷◌, ◌++◌, length, map, slice_set, Option, Some, None, Result, Ok, Err, refl, sym, ap, ◌∙◌, subst, arith, length-append}
+use Rattle.std.proofs.Common.{◌≡◌, ℕ, zero, suc, ◌+◌, ◌-◌, ◌<◌, ◌≤◌, Bool, true, false, cond, ltb, List, [], ◌∷◌, ◌++◌, length, map, slice_set, Option, Some, None, Result, Ok, Err, OnOk, refl, sym, ap, ◌∙◌, subst, arith, length-append}
 use Rattle.std.specs.Option.{option_map}
 use Rattle.std.specs.List.{AllByRecursion}
 use Rattle.std.proofs.lemmas.Bool.Decides.{nat_tests}
@@ -12,7 +12,7 @@ use Rattle.odb_watch.specs.declared.notes.NoWatch.{NoWatch}
 use Rattle.odb_watch.specs.declared.notes.WatchRefusal.{WatchRefusal}
 use Rattle.odb_watch.specs.declared.entry.WatchEntry.{WatchEntry}
 use Rattle.odb_watch.specs.declared.entry.WatchEntry.TheVariants.{Call, Watch, Notes, Unwatch, Save, Load}
-use Rattle.odb_watch.specs.Slots.{slot, with_slot, free_watch, watches_limit, GivesWatch, after_watch, new_watch, emptied_slot, after_unwatch, HasFewNotes, AreFew}
+use Rattle.odb_watch.specs.Slots.{slot, with_slot, free_watch, watches_limit, GivesWatch, after_watch, new_watch, emptied_slot, GivesTaken, GivesNotes, after_notes, after_unwatch, HasFewNotes, AreFew}
 use Rattle.odb_watch.specs.Steps.{emptied_at, StepsWatched, LeadsDatabase, unwatched}
 
 note_short : (k : a_watch) (note : Note) → length k.notes ≤ notes_limit → length (with_note k note).notes ≤ notes_limit
@@ -103,3 +103,42 @@ along_few s last (e ∷ h) f leads = along_few leads.0 last h (step_few s e.1 le
 
 pub watches_are_few : (rows : Rows) (h : List (ℕ × WatchEntry)) (last : Watched) → LeadsDatabase (unwatched rows) h last → AreFew last.slots
 watches_are_few rows h last leads = along_few (unwatched rows) last h (record { few = omega arith; short = tt }) leads
+
+-- The same of the watches that the code keeps.
+
+pub few_none : (xs : List (Option a_watch)) → xs ≡ [] → AreFew xs
+few_none xs none = subst (λ (l : List (Option a_watch)). AreFew l) (sym none) (record { few = omega arith; short = tt })
+
+pub few_copied : (xs copy : List (Option a_watch)) → copy ≡ xs → AreFew xs → AreFew copy
+few_copied xs copy same h = subst (λ (l : List (Option a_watch)). AreFew l) (sym same) h
+
+pub few_noted : (xs after : List (Option a_watch)) (cs : List Change) → after ≡ all_noted cs xs → AreFew xs → AreFew after
+few_noted xs after cs noted h = few_copied (all_noted cs xs) after noted (noted_few cs xs h)
+
+pub few_begun : (xs after : List (Option a_watch)) (row : ℕ) (reply : Result ℕ WatchRefusal) → after ≡ after_watch xs row reply → GivesWatch xs reply → AreFew xs → AreFew after
+few_begun xs after row reply begun given h = few_copied (after_watch xs row reply) after begun (watch_few xs row reply h given)
+
+read_few : (xs : List (Option a_watch)) (w : ℕ) (reply : Result ℕ NoWatch) → AreFew xs → AreFew (after_notes xs w reply)
+read_few xs w (Ok lost) h = set_few xs w (emptied_slot (slot xs w)) h (emptied_short (slot xs w))
+read_few xs w (Err e) h = h
+
+pub few_read : (xs after : List (Option a_watch)) (w : ℕ) (reply : Result ℕ NoWatch) → after ≡ after_notes xs w reply → AreFew xs → AreFew after
+few_read xs after w reply read h = few_copied (after_notes xs w reply) after read (read_few xs w reply h)
+
+pub few_ended : (xs after : List (Option a_watch)) (w : ℕ) (reply : Result (Unit {0}) NoWatch) → after ≡ after_unwatch xs w reply → AreFew xs → AreFew after
+few_ended xs after w reply ended h = few_copied (after_unwatch xs w reply) after ended (unwatch_few xs w reply h)
+
+slot_short : (xs : List (Option a_watch)) (w : ℕ) → AllByRecursion HasFewNotes xs → HasFewNotes (slot xs w)
+slot_short [] w h = tt
+slot_short (x ∷ xs) zero h = h.0
+slot_short (x ∷ xs) (suc w) h = slot_short xs w h.1
+
+taken_short : (k : Option a_watch) (before after : List Note) (reply : Result ℕ NoWatch) → HasFewNotes k → GivesTaken k before after reply → OnOk reply (length after ≤ notes_limit)
+taken_short None before after (Ok lost) h taken = (let wrong : false ≡ true = taken.0 in absurd (cc))
+taken_short (Some k) before after (Ok lost) h taken = subst (λ (l : List Note). length l ≤ notes_limit) (sym taken.1) h
+taken_short k before after (Err e) h taken = tt
+
+-- the notes that a call moves out
+pub few_taken : (xs : List (Option a_watch)) (w : ℕ) (before after : List Note) (reply : Result ℕ NoWatch) → AreFew xs → GivesNotes xs w before after reply
+    → OnOk reply (length after ≤ notes_limit)
+few_taken xs w before after reply h given = taken_short (slot xs w) before after reply (slot_short xs w h.short) given

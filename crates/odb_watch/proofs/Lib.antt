@@ -2,5 +2,5 @@ pub mod NotesKept
 pub mod WatchSlots
 pub mod Due
 pub mod StepLemmas
-mod Few
+pub mod Few
 pub mod Standing

@@ -3,6 +3,7 @@ ghost use Rattle.std.specs.Option.{option_map};
 ghost use Rattle.odb_tree.specs.declared.notes.Watch.{Watch as a_watch};
 ghost use Rattle.odb_tree.specs.Noting.{changes_from, changes_for, with_note, noted_all, all_noted};
 ghost use Rattle.odb_watch.specs.Keeping.{with_notes};
+ghost use Rattle.odb_watch.specs.Slots.{AreFew};
 
 use odb_tree::{Database, Note, OdbRefusal, Watch};
 
@@ -71,8 +72,9 @@ pub fn note_reply<D: Database>(
     count: u32,
 )
     requires { first + count ≤ 2 ^ 32 }
-    ensures { slots.new.items ≡ all_noted (changes_for (D.rows database.now) reply first count)
-        slots.old.items }
+    ensures noted { slots.new.items ≡ all_noted (changes_for (D.rows database.now) reply first
+        count) slots.old.items }
+    ensures few { AreFew slots.old.items → AreFew slots.new.items }
 {
     if let Ok(row) = reply {
         note_items(database, slots, row, first, count);

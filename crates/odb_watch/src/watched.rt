@@ -1,11 +1,11 @@
-ghost use Rattle.std.specs.Prelude.{◌≡◌, ◌≢◌, [], length, map, Err, IfOk, OnErr, OnOk};
+ghost use Rattle.std.specs.Prelude.{◌≡◌, ◌≢◌, ◌≤◌, [], length, map, Err, IfOk, OnErr, OnOk};
 ghost use Rattle.daq_types.specs.declared.types.Tid.{Tid};
 ghost use Rattle.odb_value.specs.Items.{tid_of};
 ghost use Rattle.odb_tree.specs.declared.refusals.OdbRefusal.TheVariants.{NoMemory as no_memory};
 ghost use Rattle.odb_tree.specs.declared.entry.DatabaseEntry.TheVariants.{Create, Set, SetAll, Get, Find, ListDir, Delete, Resize, PathOf};
 ghost use Rattle.odb_tree.specs.Databases.{IsDatabase};
 ghost use Rattle.odb_tree.specs.Calls.{IsReply, rows_after, is_row_below};
-ghost use Rattle.odb_tree.specs.Noting.{changes_of, all_noted};
+ghost use Rattle.odb_tree.specs.Noting.{changes_of, all_noted, notes_limit};
 ghost use Rattle.odb_watch.specs.declared.entry.WatchEntry.TheVariants.{Watch as begin_of, Notes as notes_of, Unwatch as end_of};
 ghost use Rattle.odb_watch.specs.Steps.{StepsWatched, moved_out};
 
@@ -30,14 +30,18 @@ pub struct Watches<D: Database> {
 
 impl<D: Database> Model for Watches<D> {
     ghost use Rattle.odb_tree.specs.Noting.{Watched};
+    ghost use Rattle.odb_watch.specs.Slots.{AreFew};
 
     ghost Value = { Watched };
 
     ghost view = { λ w. record { rows = D.rows w.database; slots = w.slots.items } };
+
+    ghost invariant = { λ w. AreFew w.slots.items };
 }
 
 impl<D: Database> Watches<D> {
     /// This database, with no watch. Takes no memory.
+    #[tactic(auto, using(crate::proofs::Few::few_none))]
     pub fn new(alloc: Global, database: D) -> Watches<D>
         ensures rows { result.rows ≡ D.rows database }
         ensures slots { result.slots ≡ [] }
@@ -49,25 +53,26 @@ impl<D: Database> Watches<D> {
     }
 
     /// Begins to watch a row, 0 for the root, and what is below it. Answers the least number that no living watch has.
-    #[tactic(auto, using(crate::proofs::StepLemmas::watch_step))]
+    #[tactic(auto, using(crate::proofs::StepLemmas::watch_step, crate::proofs::Few::few_begun))]
     pub fn watch(&mut self, alloc: Global, row: u32) -> Result<u32, WatchRefusal>
         ensures { StepsWatched self.old (begin_of row result) self.new }
     {
         begin(alloc, &mut self.slots, row)
     }
 
-    /// Moves out all notes that a watch has kept, in the place of those that `into` has, and answers how many were lost
-    /// since the last call. Takes no memory.
-    #[tactic(auto, using(crate::proofs::StepLemmas::notes_step))]
+    /// Moves out all notes that a watch has kept, at most 256, in the place of those that `into` has, and answers how many
+    /// were lost since the last call. Takes no memory.
+    #[tactic(auto, using(crate::proofs::StepLemmas::notes_step, crate::proofs::Few::few_read, crate::proofs::Few::few_taken))]
     pub fn notes(&mut self, watch: u32, into: &mut Notes) -> Result<u64, NoWatch>
         ensures step { StepsWatched self.old (notes_of watch (moved_out into.new result)) self.new }
+        ensures few { OnOk result (length into.new ≤ notes_limit) }
         ensures kept { OnErr result (into.new ≡ into.old) }
     {
         take_notes(&mut self.slots, watch, into)
     }
 
     /// Ends a watch. Takes no memory.
-    #[tactic(auto, using(crate::proofs::StepLemmas::unwatch_step))]
+    #[tactic(auto, using(crate::proofs::StepLemmas::unwatch_step, crate::proofs::Few::few_ended))]
     pub fn unwatch(&mut self, watch: u32) -> Result<(), NoWatch>
         ensures { StepsWatched self.old (end_of watch result) self.new }
     {
@@ -187,6 +192,7 @@ impl<D: Database> Database for Watches<D> {
     }
 
     /// A database with the same rows, of the same numbers, and the same watches.
+    #[tactic(auto, using(crate::proofs::Few::few_copied))]
     fn copy(&self, alloc: Global) -> Result<Watches<D>, NoMemory>
         ensures rows { IfOk result (λ copy. copy.rows ≡ self.now.rows) }
         ensures watches { IfOk result (λ copy. copy.slots ≡ self.now.slots) }

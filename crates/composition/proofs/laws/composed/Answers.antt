@@ -17,4 +17,5 @@ returns c s keep = record {
   reports_told = c.reports.ensures.told s keep;
   reports_so = c.reports.ensures.so s keep;
   reports_whole = c.reports.ensures.whole s keep;
+  got_whole = c.reports.ensures.got s keep;
 }

@@ -10,3 +10,6 @@ returns-in-Dir-clause-notes g c =
     let s : Watched = c.args.self.now in
     ap (λ (w : Watched). w.slots) c.self.view_is
     ∙ (sym (none_noted s.slots) ∙ ap (λ (kind : NewKey). all_noted (changes_of s.rows (Create c.args.path.now kind c.create-reply.result)) s.slots) (sym c.in-Dir.is))
+
+pub invariant_of-self-in-Keys : goal.invariant_of-self-in-Keys
+invariant_of-self-in-Keys g c = c.note_reply.ensures.few c.self.invariant

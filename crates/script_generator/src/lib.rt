@@ -1,0 +1,9 @@
+//! Large scripts, made from a number: what `midas gen N` writes, to try a session with several front-ends, an analyzer
+//! and two runs.
+#![tactic(auto)]
+
+mod script;
+#[cfg(test)]
+mod tests;
+
+pub use script::{Unwritten, write_script};
