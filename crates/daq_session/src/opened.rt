@@ -9,7 +9,7 @@ use database_desk::DatabaseDesk;
 use odb_script::{Command, LineRefusal};
 use script_desk::Answerer;
 use session_engine::Rounds;
-use session_members::SessionCrew;
+use session_objects::SessionCrew;
 use session_replies::Reply;
 use session_runs::Runs;
 use session_setup::{DeclaredLists, SetupRefusal};
