@@ -49,8 +49,8 @@ AsksForNone (Some client) own = (n : ℕ) → asks (calls_after [] own) client n
 abbrev pub count_request : EventRequest → (client number start : ℕ) → CountRequest
 count_request wanted client number start = record { wanted = wanted; client = client; number = number; start = start }
 
--- A report of a run: its start was accepted, a client was drained behind its stop, by the one request of that client,
--- and the report is that of the events with its start number that the client got, in order, from the request on.
+-- A report of a run: its start was accepted, a client counted it wholly by its one request, and the report is that of the
+-- events with its start number that the client got, in order, from the request on.
 pub record IsReportOfRun (wanted : EventRequest) (own : List BufferEntry) (got : List GotEvent) (turns : List MemberTurn) (start : ℕ) (report : Totals) : Type 0 where
   pub begin_turn : MemberTurn
   pub is_start : HasTurnOf turns Start start begin_turn

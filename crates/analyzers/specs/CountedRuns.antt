@@ -1,5 +1,5 @@
--- A client whose events of one run are counted, by its one request, until it is drained behind the run's stop. What was got
--- is read off the calls and the events that they gave; nothing is asked of the buffer.
+-- A client whose events of one run are counted, by its one request, until it has read all that the buffer told it had taken.
+-- What was got is read off the calls and the events that they gave; nothing is asked of the buffer.
 use Rattle.std.specs.Prelude.{◌≡◌, ℕ, false, List, [], ◌∷◌, ◌++◌, Result, Ok, ⊤}
 use Rattle.daq_types.specs.declared.events.Event.{Event}
 use Rattle.buffer_core.specs.declared.replies.Received.{Received}

@@ -8,3 +8,4 @@ pub mod Sampled
 pub mod NeededSessions
 pub mod CountedSampled
 pub mod PausedSampled
+pub mod PausedNeeded

@@ -535,7 +535,7 @@ others_of_absent LegalEngine ne = sample_keeps.engine_legal
 others_of_absent OwnNames ne = sample_keeps.own_clients
 others_of_absent MemberCalls ne = known_callers unknown_front sample_front (0, refl) refl refl refl
 others_of_absent KeptFronts ne = each_front (λ (x : SessionFront). KeepsFront x.takes x.makes (buffer_calls unknown_front x.buffer x.client) (turns_of unknown_front x.client)) front_keeps idle_front
-others_of_absent FrontMoments ne = each_front (λ (x : SessionFront). KeepsMoments (buffer_calls unknown_front x.buffer x.client) (turns_of unknown_front x.client) x.moments) front_moments (record { are = tt; ends = λ are t moment has. absurd has })
+others_of_absent FrontMoments ne = each_front (λ (x : SessionFront). KeepsMoments (buffer_calls unknown_front x.buffer x.client) (turns_of unknown_front x.client) x.moments) front_moments (record { are = tt; ends = λ are t moment has. absurd has; holds = λ t moment until span. absurd span })
 others_of_absent FrontNumbers ne = λ f has are. each_front (λ (x : SessionFront). AreTurnSets x.name (buffer_calls unknown_front x.buffer x.client) (turns_of unknown_front x.client) x.moments (database_calls unknown_front x.client)) front_set refl f has
 others_of_absent KeptLogger ne = sample_keeps.logger_keeps
 others_of_absent LoggerEvents ne = sample_keeps.logger_got

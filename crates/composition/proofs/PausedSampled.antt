@@ -4,7 +4,7 @@ use Rattle.std.specs.List.{AllByRecursion}
 use Rattle.std.proofs.Common.{ap, sym, ◌∙◌, subst, arith, inl, inr, ne_eqb}
 use Rattle.std.proofs.lemmas.Bool.{eqb-true, eqb-false}
 use Rattle.std.proofs.lemmas.List.Elements.{All-nil, All-cons}
-use Rattle.daq_types.specs.Callers.{entries_by}
+use Rattle.daq_types.specs.Callers.{caller_of_client, entries_by}
 use Rattle.daq_types.specs.declared.events.Event.{Event}
 use Rattle.daq_types.specs.declared.runs.ChannelState.{ChannelState}
 use Rattle.daq_types.specs.declared.runs.ChannelState.TheVariants.{Ended, Broken}
@@ -46,12 +46,13 @@ use Rattle.member_model.specs.SentCalls.{SendsNotIn, EachCall}
 use Rattle.member_model.specs.OwnCalls.{calls_after, AreOwnCalls, SendsNone}
 use Rattle.member_model.specs.ReadRuns.{HasReadRun}
 use Rattle.member_model.specs.LoggerKept.{LoggerChannel, LoggerPort, HasWritten, TellsState, IsStartAnswer, IsStateSo, KeepsLogger}
+use Rattle.front_ends.specs.Spans.{HasSpan}
 use Rattle.front_ends.specs.FrontKept.{IsMade, AreNextSends, IsFrontTally, KeepsFront, KeepsMoments}
 use Rattle.caller_laws.specs.OneCaller.{WasSentAt}
 use Rattle.caller_laws.specs.CallerSamples.{got_first}
 use Rattle.engine_laws.specs.BegunTurns.{IsRegisteredIn}
 use Rattle.composition.specs.SentSets.{AreTurnSets}
-use Rattle.composition.specs.Sessions.{SessionFront, SessionAnalyzer, HasFront, HasAnalyzer, IsMemberCaller, turns_of, buffer_calls, database_calls, IsRegistered, MembersKeep}
+use Rattle.composition.specs.Sessions.{Session, SessionFront, SessionAnalyzer, HasFront, HasAnalyzer, IsMemberCaller, turns_of, buffer_calls, database_calls, IsRegistered, MembersKeep}
 use Rattle.composition.specs.SessionRuns.{IsStoppedRun, ToldState}
 use Rattle.composition.specs.SessionSamples.{first_sheet}
 use Rattle.composition.specs.PausedSamples.{at_each, pause_sheet, paused_stop_sheet, refused_sheet, paused_engine, buffer_of_sender, paused_history, paused_got, first_front, second_front, paused_channel, paused_files, paused_session, pausing_run}
@@ -86,31 +87,31 @@ paused_legal =
 
 -- The front-ends.
 
-abbrev begun_turn : MemberTurn
+abbrev pub begun_turn : MemberTurn
 begun_turn = record { transition = Start; order = order_for first_sheet 1 Stopped; dump = None; answer = Some (Yes Plain) }
 
-abbrev paused_turn : MemberTurn
+abbrev pub paused_turn : MemberTurn
 paused_turn = record { transition = Pause; order = order_for pause_sheet 1 Running; dump = None; answer = Some (Yes Plain) }
 
-abbrev stopped_turn : MemberTurn
+abbrev pub stopped_turn : MemberTurn
 stopped_turn = record { transition = Stop; order = order_for paused_stop_sheet 1 Paused; dump = None; answer = Some (Yes (Front 1 EndedPaused)) }
 
-abbrev refused_turn : MemberTurn
+abbrev pub refused_turn : MemberTurn
 refused_turn = record { transition = Start; order = order_for refused_sheet 2 Stopped; dump = None; answer = Some (No NotReady) }
 
-abbrev second_turns : List MemberTurn
+abbrev pub second_turns : List MemberTurn
 second_turns = stopped_turn ∷ paused_turn ∷ begun_turn ∷ []
 
-abbrev first_turns : List MemberTurn
+abbrev pub first_turns : List MemberTurn
 first_turns = refused_turn ∷ second_turns
 
-abbrev one_send : List BufferEntry
+abbrev pub one_send : List BufferEntry
 one_send = SendInRun 1 0 sample_event (Ok 0) ∷ []
 
-abbrev takes_two : Order → Bool
+abbrev pub takes_two : Order → Bool
 takes_two order = nat_le order.quota 2
 
-abbrev makes_one : Order → ℕ → Event
+abbrev pub makes_one : Order → ℕ → Event
 makes_one order number = sample_event
 
 made_in : (turns : List MemberTurn) → HasTurnOf turns Start 1 begun_turn → (start : ℕ) → IsMade makes_one one_send turns start
@@ -163,7 +164,7 @@ second_begun = record { stands = inr (inr (inl refl)); is = refl; of = refl }
 first_begun : HasTurnOf first_turns Start 1 begun_turn
 first_begun = record { stands = inr (inr (inr (inl refl))); is = refl; of = refl }
 
-second_keeps : KeepsFront takes_two makes_one one_send second_turns
+pub second_keeps : KeepsFront takes_two makes_one one_send second_turns
 second_keeps = record {
   only_sends = (tt, tt);
   starts = starts_in;
@@ -186,7 +187,7 @@ first_starts t answer (inl same) is told =
     sym f)
 first_starts t answer (inr before) is told = starts_in t answer before is told
 
-first_keeps : KeepsFront takes_two makes_one one_send first_turns
+pub first_keeps : KeepsFront takes_two makes_one one_send first_turns
 first_keeps = record {
   only_sends = (tt, tt);
   starts = first_starts;
@@ -204,17 +205,29 @@ second_ends t moment (inr (inl here)) is = absurd (let e : Pause ≡ Stop = ap (
 second_ends t moment (inr (inr (inl here))) is = absurd (let e : Start ≡ Stop = ap (λ (v : MemberTurn). v.transition) here.0 ∙ is in cc (e))
 second_ends t moment (inr (inr (inr none))) is = absurd none
 
-second_moments : KeepsMoments one_send second_turns (1 ∷ 1 ∷ 0 ∷ [])
-second_moments = record { are = (omega arith, (omega arith, (omega arith, tt))); ends = λ are t moment has is answer. second_ends t moment has is }
+second_holds : (t : MemberTurn) (moment until : ℕ) → HasSpan second_turns (1 ∷ 1 ∷ 0 ∷ []) 1 t moment until → t.transition ≡ Pause → EachCall (SendsNotIn t.order.start) (drop moment (take until one_send))
+second_holds t moment until (inl here) is = absurd (let e : Stop ≡ Pause = ap (λ (v : MemberTurn). v.transition) here.0 ∙ is in cc (e))
+second_holds t moment until (inr (inl here)) is =
+    subst (λ (n : ℕ). EachCall (SendsNotIn t.order.start) (drop n (take until one_send))) here.1
+    (subst (λ (n : ℕ). EachCall (SendsNotIn t.order.start) (drop 1 (take n one_send))) here.2 tt)
+second_holds t moment until (inr (inr (inl here))) is = absurd (let e : Start ≡ Pause = ap (λ (v : MemberTurn). v.transition) here.0 ∙ is in cc (e))
+second_holds t moment until (inr (inr (inr none))) is = absurd none
+
+pub second_moments : KeepsMoments one_send second_turns (1 ∷ 1 ∷ 0 ∷ [])
+second_moments = record { are = (omega arith, (omega arith, (omega arith, tt))); ends = λ are t moment has is answer. second_ends t moment has is; holds = λ t moment until span is answer. second_holds t moment until span is }
 
 first_ends : (t : MemberTurn) (moment : ℕ) → HasMoment first_turns (1 ∷ 1 ∷ 1 ∷ 0 ∷ []) t moment → t.transition ≡ Stop → EachCall (SendsNotIn t.order.start) (drop moment one_send)
 first_ends t moment (inl here) is = absurd (let e : Start ≡ Stop = ap (λ (v : MemberTurn). v.transition) here.0 ∙ is in cc (e))
 first_ends t moment (inr before) is = second_ends t moment before is
 
-first_moments : KeepsMoments one_send first_turns (1 ∷ 1 ∷ 1 ∷ 0 ∷ [])
-first_moments = record { are = (omega arith, (omega arith, (omega arith, (omega arith, tt)))); ends = λ are t moment has is answer. first_ends t moment has is }
+first_holds : (t : MemberTurn) (moment until : ℕ) → HasSpan first_turns (1 ∷ 1 ∷ 1 ∷ 0 ∷ []) 1 t moment until → t.transition ≡ Pause → EachCall (SendsNotIn t.order.start) (drop moment (take until one_send))
+first_holds t moment until (inl here) is = absurd (let e : Start ≡ Pause = ap (λ (v : MemberTurn). v.transition) here.0 ∙ is in cc (e))
+first_holds t moment until (inr before) is = second_holds t moment until before is
 
-first_sets : AreTurnSets (codes "A") one_send first_turns (1 ∷ 1 ∷ 1 ∷ 0 ∷ []) (database_calls paused_session 0)
+pub first_moments : KeepsMoments one_send first_turns (1 ∷ 1 ∷ 1 ∷ 0 ∷ [])
+first_moments = record { are = (omega arith, (omega arith, (omega arith, (omega arith, tt)))); ends = λ are t moment has is answer. first_ends t moment has is; holds = λ t moment until span is answer. first_holds t moment until span is }
+
+pub first_sets : AreTurnSets (codes "A") one_send first_turns (1 ∷ 1 ∷ 1 ∷ 0 ∷ []) (database_calls paused_session 0)
 first_sets = inl (record {
   sets = Set (sent_path (codes "A")) 0 (UInt64 0) (Ok 8) ∷ Set (sent_path (codes "A")) 0 (UInt64 1) (Ok 8) ∷ Set (sent_path (codes "A")) 0 (UInt64 1) (Ok 8) ∷ Set (sent_path (codes "A")) 0 (UInt64 0) (Ok 8) ∷ [];
   are_sets = (record { reply = Ok 8; is = refl }, (record { reply = Ok 8; is = refl }, (record { reply = Ok 8; is = refl }, (record { reply = Ok 8; is = refl }, tt))));
@@ -392,19 +405,19 @@ paused_logger = record {
 -- All together.
 
 -- of a buffer with this sender, the callers are the sender and the logger
-sender_callers : (sender buffer caller : ℕ) → IsMemberCaller paused_session buffer sender → (entries_by caller (buffer_of_sender sender) ≡ []) ⊎ IsMemberCaller paused_session buffer caller
-sender_callers sender buffer caller sends =
-    split (3 == caller) (λ b. (3 == caller) ≡ b → (entries_by caller (buffer_of_sender sender) ≡ []) ⊎ IsMemberCaller paused_session buffer caller)
-    (λ h e. inr (inl (sym (eqb-true 3 caller e))))
-    (λ h e. split (sender == caller) (λ b. (sender == caller) ≡ b → (entries_by caller (buffer_of_sender sender) ≡ []) ⊎ IsMemberCaller paused_session buffer caller)
-    (λ h' e'. inr (subst (IsMemberCaller paused_session buffer) (eqb-true sender caller e') sends))
+pub sender_callers : (s : Session) (sender buffer caller : ℕ) → caller_of_client s.logger ≡ 3 → IsMemberCaller s buffer sender → (entries_by caller (buffer_of_sender sender) ≡ []) ⊎ IsMemberCaller s buffer caller
+sender_callers s sender buffer caller logger_is sends =
+    split (3 == caller) (λ b. (3 == caller) ≡ b → (entries_by caller (buffer_of_sender sender) ≡ []) ⊎ IsMemberCaller s buffer caller)
+    (λ h e. inr (inl (sym (eqb-true 3 caller e) ∙ sym logger_is)))
+    (λ h e. split (sender == caller) (λ b. (sender == caller) ≡ b → (entries_by caller (buffer_of_sender sender) ≡ []) ⊎ IsMemberCaller s buffer caller)
+    (λ h' e'. inr (subst (IsMemberCaller s buffer) (eqb-true sender caller e') sends))
     (λ h' e'. inl (rw (ne_eqb 3 caller (eqb-false 3 caller e), ne_eqb sender caller (eqb-false sender caller e')) refl))
     refl)
     refl
 
 paused_callers : (buffer caller : ℕ) → (entries_by caller (paused_history buffer) ≡ []) ⊎ IsMemberCaller paused_session buffer caller
-paused_callers zero caller = sender_callers 1 0 caller (inr (inl (record { front = first_front; stands = (0, refl); buffer_is = refl; caller_is = refl })))
-paused_callers (suc zero) caller = sender_callers 2 1 caller (inr (inl (record { front = second_front; stands = (1, refl); buffer_is = refl; caller_is = refl })))
+paused_callers zero caller = sender_callers paused_session 1 0 caller refl (inr (inl (record { front = first_front; stands = (0, refl); buffer_is = refl; caller_is = refl })))
+paused_callers (suc zero) caller = sender_callers paused_session 2 1 caller refl (inr (inl (record { front = second_front; stands = (1, refl); buffer_is = refl; caller_is = refl })))
 paused_callers (suc (suc n)) caller = inl refl
 
 -- the clients are registered before the first begin
@@ -450,7 +463,7 @@ third_there t sequence (x ∷ y ∷ z ∷ zs) later caller begun sheet start cal
     let third : (0, Register [] (at_each 2) true false (Ok 2)) ≡ z = cc (e) in
     subst (λ (w : ℕ × EngineEntry). IsRegisteredIn (x ∷ y ∷ w ∷ zs) 2 t) third (there t sequence 2 2 true (x ∷ y ∷ []) zs called)
 
-no_paused_analyzer : (a : SessionAnalyzer) → HasAnalyzer paused_session a → ⊥
+pub no_paused_analyzer : (a : SessionAnalyzer) → HasAnalyzer paused_session a → ⊥
 no_paused_analyzer a (zero, e) = cc (e)
 no_paused_analyzer a (suc n, e) = cc (e)
 

@@ -12,7 +12,7 @@ use Rattle.daq_types.specs.declared.runs.FrontEnded.{FrontEnded}
 use Rattle.daq_types.specs.declared.runs.FrontEnded.TheVariants.{Quota}
 use Rattle.daq_types.specs.declared.runs.RunState.TheVariants.{Stopped, Running}
 use Rattle.daq_types.specs.declared.runs.Transition.{Transition}
-use Rattle.daq_types.specs.declared.runs.Transition.TheVariants.{Start, Stop}
+use Rattle.daq_types.specs.declared.runs.Transition.TheVariants.{Start, Stop, Pause}
 use Rattle.daq_model.specs.Events.{matches, slot_of_length, record_limit}
 use Rattle.daq_model.specs.RunFile.{IsFileEvent}
 use Rattle.buffer_core.specs.SlotLaws.{split}
@@ -44,6 +44,7 @@ use Rattle.member_model.specs.OwnCalls.{calls_after, AreOwnCalls, SendsNone}
 use Rattle.run_states.specs.Sequences.{sequence_for}
 use Rattle.member_model.specs.ReadRuns.{HasReadRun}
 use Rattle.member_model.specs.LoggerKept.{LoggerChannel, LoggerPort, HasWritten, TellsState, IsStartAnswer, IsStateSo, KeepsLogger}
+use Rattle.front_ends.specs.Spans.{HasSpan}
 use Rattle.front_ends.specs.FrontKept.{IsMade, IsFrontTally, KeepsFront, KeepsMoments}
 use Rattle.caller_laws.specs.OneCaller.{WasSentAt}
 use Rattle.caller_laws.specs.CallerSamples.{reading_history, reading_calls, with_own_run, got_first}
@@ -141,12 +142,17 @@ front_keeps = record {
 -- its moments
 
 pub front_moments : KeepsMoments front_calls front_turns (1 ∷ 0 ∷ [])
-front_moments = record { are = (omega arith, (omega arith, tt)); ends = λ are t moment has is answer. ends t moment has is }
+front_moments = record { are = (omega arith, (omega arith, tt)); ends = λ are t moment has is answer. ends t moment has is; holds = λ t moment until span is answer. no_pause t moment until span is }
   where
     ends : (t : MemberTurn) (moment : ℕ) → HasMoment front_turns (1 ∷ 0 ∷ []) t moment → t.transition ≡ Stop → EachCall (SendsNotIn t.order.start) (drop moment front_calls)
     ends t moment (inl here) is = subst (λ (n : ℕ). EachCall (SendsNotIn t.order.start) (drop n front_calls)) here.1 tt
     ends t moment (inr (inl here)) is = absurd (let e : Start ≡ Stop = ap (λ (v : MemberTurn). v.transition) here.0 ∙ is in cc (e))
     ends t moment (inr (inr none)) is = absurd none
+
+    no_pause : (t : MemberTurn) (moment until : ℕ) → HasSpan front_turns (1 ∷ 0 ∷ []) 1 t moment until → t.transition ≡ Pause → EachCall (SendsNotIn t.order.start) (drop moment (take until front_calls))
+    no_pause t moment until (inl here) is = absurd (let e : Stop ≡ Pause = ap (λ (v : MemberTurn). v.transition) here.0 ∙ is in cc (e))
+    no_pause t moment until (inr (inl here)) is = absurd (let e : Start ≡ Pause = ap (λ (v : MemberTurn). v.transition) here.0 ∙ is in cc (e))
+    no_pause t moment until (inr (inr none)) is = absurd none
 
 pub front_set : AreTurnSets sample_name front_calls front_turns (1 ∷ 0 ∷ []) (database_calls sample_session 1)
 front_set = inl (record {

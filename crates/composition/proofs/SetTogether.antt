@@ -11,9 +11,9 @@ use Rattle.member_model.specs.Turns.{MemberTurn, HasAnswer, AreEngineTurns}
 use Rattle.member_model.specs.Moments.{HasMoment}
 use Rattle.member_model.specs.SentCalls.{SendsNotIn, EachCall}
 use Rattle.member_model.proofs.MomentLaws.{moment_of, all_sent_by}
-use Rattle.front_ends.specs.FrontKept.{IsFrontTally, KeepsFront, KeepsMoments}
+use Rattle.front_ends.specs.FrontKept.{IsFrontTally, KeepsFront, KeepsMoments, SentAtPauses}
 use Rattle.composition.specs.Sessions.{Session, MembersKeep, turns_of, buffer_calls}
-use Rattle.composition.specs.CompositionLaws.{FrontsSet, StopsSet}
+use Rattle.composition.specs.CompositionLaws.{FrontsSet, StopsSet, PausesSet}
 use Rattle.composition.proofs.SessionTurns.{EngineFacts, are_turns, StopTally, number_of, stop_tally}
 use Rattle.composition.proofs.SentTogether.{yes_front}
 
@@ -41,3 +41,7 @@ stops_set laws s keep r run f has sent ended tells =
       of = number_of Stop r.last r.start t.turn t.of_begin;
       number = ap (λ (es : List Event). length es) (all_sent_by own t.turn.order.start at.0 ends) ∙ tally.number;
     }
+
+pub pauses_set : SentAtPauses → (s : Session) → MembersKeep s → PausesSet s
+pauses_set sent s keep f has t moment until span pause answered =
+    ap (λ (es : List Event). length es) (sent (buffer_calls s f.buffer f.client) (turns_of s f.client) f.moments (keep.fronts_moments f has) t moment until span pause answered)

@@ -1,13 +1,13 @@
 -- What the members' contracts and the histories of all objects tell together: what the laws say of a session whose members
 -- keep their contracts.
-use Rattle.std.specs.Prelude.{◌≡◌, ℕ, List, slice_get, Some}
+use Rattle.std.specs.Prelude.{◌≡◌, ℕ, List, length, slice_get, Some}
 use Rattle.daq_types.specs.Callers.{caller_of_client}
 use Rattle.daq_types.specs.declared.runs.ChannelState.{ChannelState}
 use Rattle.daq_types.specs.declared.runs.ChannelState.TheVariants.{Ended, Broken, NoMark}
 use Rattle.daq_types.specs.declared.runs.FrontEnded.{FrontEnded}
 use Rattle.daq_types.specs.declared.runs.StartOutcome.{StartOutcome}
 use Rattle.daq_types.specs.declared.runs.StartOutcome.TheVariants.{Completed}
-use Rattle.daq_types.specs.declared.runs.Transition.TheVariants.{Stop}
+use Rattle.daq_types.specs.declared.runs.Transition.TheVariants.{Stop, Pause}
 use Rattle.transitions.specs.declared.sheet.Sheet.{Sheet}
 use Rattle.transitions.specs.declared.answers.ClientTally.{ClientTally}
 use Rattle.engine_laws.specs.BegunTurns.{HasTransition}
@@ -15,14 +15,16 @@ use Rattle.buffer_core.specs.declared.entry.BufferEntry.{BufferEntry}
 use Rattle.buffer_core.specs.Window.{Sent}
 use Rattle.event_report.specs.Reports.{Totals, report_of}
 use Rattle.buffer_core.specs.Runs.{segment}
+use Rattle.member_model.specs.Turns.{MemberTurn, HasAnswer}
 use Rattle.member_model.specs.CutRuns.{MarksEnd}
 use Rattle.member_model.specs.GotRuns.{events_of_start}
 use Rattle.member_model.specs.LoggerKept.{LoggerChannel, IsStateSo}
+use Rattle.front_ends.specs.Spans.{HasSpan}
 use Rattle.front_ends.specs.FrontKept.{made_events}
 use Rattle.caller_laws.specs.OneCaller.{events_in}
 use Rattle.caller_laws.specs.SeenRuns.{SeesRun}
 use Rattle.caller_laws.specs.SentRuns.{places_sent, events_at_places}
-use Rattle.composition.specs.SentSets.{AreTurnSets}
+use Rattle.composition.specs.SentSets.{sent_by_moment, AreTurnSets}
 use Rattle.composition.specs.Sessions.{Session, SessionFront, SessionAnalyzer, HasFront, HasAnalyzer, turns_of, buffer_calls, database_calls}
 use Rattle.composition.specs.SessionRuns.{SessionRun, IsStoppedRun, run_order, TellsFront, FrontSent, SetAtStop, IsOfFront, ToldState, HoldsRunFile, HoldsFilePart, TellsTotals, ReportsRun, analyzer_events, SawThrough}
 
@@ -57,6 +59,15 @@ abbrev pub StopsSet : Session → Type 0
 StopsSet s = (r : SessionRun) → IsStoppedRun s r →
     (f : SessionFront) → HasFront s f → (sent : ℕ) → (ended : FrontEnded) → TellsFront r f.client sent ended →
     SetAtStop s r f sent
+
+-- What it set at a pause is how many events it had sent in the run when it answered its next turn, or has sent so far, where
+-- it answered none since.
+abbrev pub PausesSet : Session → Type 0
+PausesSet s = (f : SessionFront) → HasFront s f → (t : MemberTurn) → (moment until : ℕ) →
+    (let own : List BufferEntry = buffer_calls s f.buffer f.client in
+    HasSpan (turns_of s f.client) f.moments (length own) t moment until →
+    t.transition ≡ Pause → HasAnswer t.answer →
+    sent_by_moment own t.order.start moment ≡ sent_by_moment own t.order.start until)
 
 -- Each event between the marks of a run in a buffer was sent in that run by a front-end of that buffer.
 abbrev pub OnlyFrontsSent : Session → Type 0
@@ -134,6 +145,7 @@ pub record IsComposed (s : Session) : Type 0 where
   pub only_fronts : OnlyFrontsSent s
   pub fronts_set : FrontsSet s
   pub stops_set : StopsSet s
+  pub pauses_set : PausesSet s
   pub channels_told : ChannelsTold s
   pub runs_ended : RunsAreEnded s
   pub no_end_refused : NoEndRefused s

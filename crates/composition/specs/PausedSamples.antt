@@ -169,6 +169,18 @@ paused_session = record {
   files = paused_files;
 }
 
+-- the second front-end sets 0 at the pause, as if it had answered that before it sent its event
+abbrev pub early_second : SessionFront
+early_second = record second_front { moments = 1 ∷ 0 ∷ 0 ∷ [] }
+
+abbrev pub early_pause : Session
+early_pause = record paused_session {
+  fronts = first_front ∷ early_second ∷ [];
+  database =
+      set_by 1 (codes "A") 0 ∷ set_by 2 (codes "B") 0 ∷ set_by 1 (codes "A") 1 ∷ set_by 2 (codes "B") 0
+      ∷ set_by 1 (codes "A") 1 ∷ set_by 2 (codes "B") 1 ∷ set_by 1 (codes "A") 0 ∷ [];
+}
+
 abbrev pub pausing_run : SessionRun
 pausing_run = record {
   start = 1;

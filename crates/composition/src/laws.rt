@@ -1,17 +1,18 @@
 //! Laws of a session's members together: each function does nothing, and its contract is the law.
 
-ghost use Rattle.composition.specs.CompositionLaws.{FrontsTell, FrontsSent, FrontsStand, FrontsSet, StopsSet, OnlyFrontsSent, ChannelsTold, RunsAreEnded, NoEndRefused, FilesHoldRuns, FilesHoldParts, ReportsTold, ReportsSo, ReportsWhole, GotWhole, StopsComplete, IsComposed};
+ghost use Rattle.composition.specs.CompositionLaws.{FrontsTell, FrontsSent, FrontsStand, FrontsSet, StopsSet, PausesSet, OnlyFrontsSent, ChannelsTold, RunsAreEnded, NoEndRefused, FilesHoldRuns, FilesHoldParts, ReportsTold, ReportsSo, ReportsWhole, GotWhole, StopsComplete, IsComposed};
 ghost use Rattle.daq_types.specs.declared.runs.ChannelState.TheVariants.{Ended};
 ghost use Rattle.composition.specs.Sessions.{Session, MembersKeep};
 ghost use Rattle.composition.specs.SessionRuns.{IsStoppedRun, ToldState, ReportsRun, SawThrough};
 ghost use Rattle.composition.specs.SessionSamples.{sample_session, sample_run, sample_channel};
-ghost use Rattle.composition.specs.PausedSamples.{paused_session, pausing_run, paused_channel};
+ghost use Rattle.composition.specs.PausedSamples.{paused_session, pausing_run, paused_channel, early_pause};
 ghost use Rattle.composition.specs.CountedSamples.{counted_session, counted_run, counted_analyzer, counted_report};
 ghost use Rattle.buffer_core.specs.Samples.{sample_event, longer_event};
 ghost use Rattle.composition.specs.NeededSamples.{SessionPremise, LegalBuffers, LegalEngine, OwnNames, MemberCalls, KeptFronts, FrontMoments, FrontNumbers, KeptLogger, LoggerEvents, KeptAnalyzers, AnalyzerEvents, FrontsThere, AnalyzersThere, LoggerThere, OneDump, MeetsSession, FailsSession, unmarked_session, made_up, spoken_for, unknown_sender, other_made, early_session, nothing_set, watching_front, nothing_stored, other_told, front_for_analyzer, unknown_front, unknown_analyzer, unknown_logger, no_dump};
 
 use caller_laws::laws as callers;
 use engine_laws::laws as turns;
+use front_ends::laws as fronts_keep;
 use transitions::laws as engine;
 
 /// In a run that was not refused and was stopped each front-end told in the Done of the stop what it sent, and that is what
@@ -34,11 +35,13 @@ pub fn fronts()
 
 /// Each front-end set in the database, in its own key alone, 0 at each start, and at each pause and each stop how many
 /// events it had sent in the run by then, and made no other call there. At the stop of a run that was not refused that is
-/// what it told in the Done.
+/// what it told in the Done. At a pause it is also how many it had sent when it answered its next turn.
 pub fn sets()
     ensures set { (s : Session) → MembersKeep s → FrontsSet s }
     ensures stop { (s : Session) → MembersKeep s → StopsSet s }
+    ensures pause { (s : Session) → MembersKeep s → PausesSet s }
 {
+    fronts_keep::sent_at_pauses();
     turns::gives_turns();
     turns::turns_begun();
     turns::tallies_answered();
@@ -125,6 +128,7 @@ pub fn needs_each_premise()
     ensures members { FailsSession MemberCalls unknown_sender OnlyFrontsSent }
     ensures fronts { FailsSession KeptFronts other_made FrontsSent }
     ensures moments { FailsSession FrontMoments early_session StopsSet }
+    ensures pauses { FailsSession FrontMoments early_pause PausesSet }
     ensures sets { FailsSession FrontNumbers nothing_set FrontsSet }
     ensures sets_alone { FailsSession FrontNumbers watching_front FrontsSet }
     ensures logger { FailsSession KeptLogger nothing_stored FilesHoldRuns }

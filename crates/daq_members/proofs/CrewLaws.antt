@@ -1,27 +1,19 @@
--- A session's members behind a turn of one of them, and behind several.
-use Rattle.std.specs.Prelude.{◌≡◌, ◌≢◌, ℕ, zero, suc, ◌+◌, ◌<◌, ◌%◌, Bool, List, [], ◌∷◌, ◌++◌, slice_get, slice_set, length, Option, Some, None, refl}
-use Rattle.std.specs.List.{AllByRecursion}
-use Rattle.std.proofs.Common.{ap, sym, subst, ◌∙◌, arith, inl, inr, append_assoc, append-nil}
+-- A session's members behind a turn of one of them, behind several, and behind rounds.
+use Rattle.std.specs.Prelude.{◌≡◌, ◌≢◌, ℕ, zero, suc, ◌+◌, ◌<◌, ◌≤◌, ◌%◌, Bool, IsTrue, List, [], ◌∷◌, slice_get, slice_set, length, Some, refl}
+use Rattle.std.proofs.Common.{ap, sym, subst, ◌∙◌, arith, inl, inr, get_or, add-one}
+use Rattle.std.proofs.Math.Nat.{mod-lt}
 use Rattle.std.proofs.lemmas.List.{length-set}
-use Rattle.std.proofs.lemmas.Option.{slice_get_within}
+use Rattle.std.proofs.lemmas.Option.{slice_get_within, slice_get_read}
 use Rattle.std.proofs.lemmas.Bool.Decides.{eqb_tells}
-use Rattle.daq_types.specs.declared.events.Event.{Event}
-use Rattle.daq_types.specs.declared.runs.Order.{Order}
-use Rattle.odb_port.specs.DatabasePorts.{DatabaseAccess, IsSamePort}
-use Rattle.transitions.specs.declared.answers.ClientTally.{ClientTally}
-use Rattle.transitions.specs.declared.replies.Progress.{Progress}
-use Rattle.transitions.specs.declared.replies.Progress.TheVariants.{Going}
-use Rattle.transitions.specs.declared.entry.EngineEntry.{EngineEntry}
-use Rattle.transitions.specs.declared.entry.EngineEntry.TheVariants.{Check}
-use Rattle.transitions.specs.Engines.{EngineState, Underway}
-use Rattle.transitions.specs.EngineCalls.{tallies_in, IsEngineReply, engine_after}
-use Rattle.transitions.specs.EngineHistories.{IsLegalEngine, engine_replay}
 use Rattle.buffer_core.specs.Ports.{Access}
-use Rattle.loggers.specs.Moments.{IsSameAccess}
+use Rattle.loggers.specs.Moments.{IsSameAccess, AreSamePorts}
+use Rattle.odb_port.specs.DatabasePorts.{DatabaseAccess, IsSamePort}
+use Rattle.session_engine.specs.MadeTransitions.{HadRounds}
 use Rattle.daq_members.specs.declared.turned.Turned.{Turned}
 use Rattle.daq_members.specs.FrontTaken.{TakesFront}
 use Rattle.daq_members.specs.FrontSeats.{FrontSeen, IsSameFront, front_taken}
-use Rattle.daq_members.specs.Crews.{TurnsFront, TurnFrom, AreSameFronts, TellsGoing, ChecksUntil}
+use Rattle.daq_members.specs.LoggerSeats.{LoggerSeen, IsSameLogger}
+use Rattle.daq_members.specs.Crews.{CrewSeen, CrewTold, AreMembers, TurnsFront, TurnsLogger, TurnsMember, TurnFrom, PicksMember, TakesRound, AreSameFronts, IsSameCrew, KeptByRounds, member_count}
 
 -- Lists.
 
@@ -42,6 +34,25 @@ some_there [] i within = absurd (omega arith)
 some_there (x ∷ xs) zero within = (x, refl)
 some_there (x ∷ xs) (suc i) within = some_there xs i (omega arith)
 
+one_there : {X : Type 0} (xs ys : List X) (n : ℕ) (x y : X) → ys ≡ xs → slice_get xs n ≡ Some x → slice_get ys n ≡ Some y → x ≡ y
+one_there {X = X} xs ys n x y same at is =
+    let left : slice_get xs n ≡ Some y = subst (λ (l : List X). slice_get l n ≡ Some y) same is in
+    cc (at, left)
+
+-- what holds of each element below this place, and of that at it, holds of each below the next
+pub all_asked : {X : Type 0} (P : X → Type 0) (xs : List X) (i : ℕ) (x : X) → i < length xs → x ≡ get_or xs i x → P x → ((k : ℕ) → k < i → (y : X) → slice_get xs k ≡ Some y → P y)
+    → (k : ℕ) → k < i + 1 → (y : X) → slice_get xs k ≡ Some y → P y
+all_asked {X = X} P xs i x within is here so_far k below y at = elim (eqb_tells k i) as (λ w. P y) [
+  | inl same ↦
+      let there : slice_get xs i ≡ Some x = slice_get_read xs (length xs) i x refl within is in
+      let that : slice_get xs i ≡ Some y = subst (λ (n : ℕ). slice_get xs n ≡ Some y) same.1 at in
+      let one : x ≡ y = cc (there, that) in
+      subst P one here
+  | inr differs ↦
+      let other : k ≢ i = differs.1 in
+      so_far k (omega arith) y at
+]
+
 -- Accesses.
 
 same_access : (a : Access) → IsSameAccess a a
@@ -56,8 +67,40 @@ same_port a = record { database = refl; caller = refl; undisturbed = refl }
 port_then : (a b c : DatabaseAccess) → IsSamePort a b → IsSamePort b c → IsSamePort a c
 port_then a b c first then_ = record { database = then_.database ∙ first.database; caller = then_.caller ∙ first.caller; undisturbed = then_.undisturbed ∙ first.undisturbed }
 
-module _ {E : Type 0} (takes : E → Order → Bool) (makes : E → Order → ℕ → Event) where
-  same_front : (a : FrontSeen E) → IsSameFront takes makes a a
+same_ports : (ports : List Access) → AreSamePorts ports ports
+same_ports ports = record {
+  many = refl;
+  there = λ buffer b at. (b, at);
+  same = λ buffer a b one other.
+      let is : a ≡ b = one_there ports ports buffer a b refl one other in
+      subst (λ (x : Access). IsSameAccess a x) is (same_access a);
+}
+
+ports_then : (a b c : List Access) → AreSamePorts a b → AreSamePorts b c → AreSamePorts a c
+ports_then a b c first then_ = record {
+  many = then_.many ∙ first.many;
+  there = λ buffer z at. let y : (y : Access) × (slice_get b buffer ≡ Some y) = then_.there buffer z at in first.there buffer y.0 y.1;
+  same = λ buffer x z at is.
+      let y : (y : Access) × (slice_get b buffer ≡ Some y) = then_.there buffer z is in
+      access_then x y.0 z (first.same buffer x y.0 at y.1) (then_.same buffer y.0 z y.1 is);
+}
+
+-- Loggers.
+
+same_logger : {F : Type 0} (a : LoggerSeen F) → IsSameLogger a a
+same_logger a = record { engine = refl; client = refl; ports = same_ports a.ports }
+
+logger_then : {F : Type 0} (a b c : LoggerSeen F) → IsSameLogger a b → IsSameLogger b c → IsSameLogger a c
+logger_then a b c first then_ = record {
+  engine = then_.engine ∙ first.engine;
+  client = then_.client ∙ first.client;
+  ports = ports_then a.ports b.ports c.ports first.ports then_.ports;
+}
+
+module _ {E F K : Type 0} (told : CrewTold E F K) where
+  -- Front-ends.
+
+  same_front : (a : FrontSeen E) → IsSameFront told.takes told.makes a a
   same_front a = record {
     engine = refl;
     client = refl;
@@ -68,7 +111,7 @@ module _ {E : Type 0} (takes : E → Order → Bool) (makes : E → Order → �
     database = same_port a.database;
   }
 
-  front_then : (a b c : FrontSeen E) → IsSameFront takes makes a b → IsSameFront takes makes b c → IsSameFront takes makes a c
+  front_then : (a b c : FrontSeen E) → IsSameFront told.takes told.makes a b → IsSameFront told.takes told.makes b c → IsSameFront told.takes told.makes a c
   front_then a b c first then_ = record {
     engine = then_.engine ∙ first.engine;
     client = then_.client ∙ first.client;
@@ -79,9 +122,9 @@ module _ {E : Type 0} (takes : E → Order → Bool) (makes : E → Order → �
     database = port_then a.database b.database c.database first.database then_.database;
   }
 
-  -- One turn.
+  -- one front-end took a turn
   pub turns_one : (number : ℕ) (before : List (FrontSeen E)) (front later : FrontSeen E) (turned : Turned) → number < length before → slice_get before number ≡ Some front
-      → TakesFront (front_taken takes makes front later turned) → IsSameFront takes makes front later → TurnsFront takes makes number before (slice_set before number later) turned
+      → TakesFront (front_taken told.takes told.makes front later turned) → IsSameFront told.takes told.makes front later → TurnsFront told number before (slice_set before number later) turned
   turns_one number before front later turned within there turn same = record {
     count = length-set before number later;
     front = front;
@@ -93,16 +136,16 @@ module _ {E : Type 0} (takes : E → Order → Bool) (makes : E → Order → �
     others = λ other differs. get_set_else before number other later differs;
   }
 
-  pub same_fronts : (fronts : List (FrontSeen E)) → AreSameFronts takes makes fronts fronts
-  same_fronts fronts = record {
-    count = refl;
-    each = λ number front later there is.
-        let one : front ≡ later = cc (there, is) in
-        subst (λ (x : FrontSeen E). IsSameFront takes makes front x) one (same_front front);
+  same_fronts : (before after : List (FrontSeen E)) → after ≡ before → AreSameFronts told before after
+  same_fronts before after is = record {
+    count = ap length is;
+    each = λ number front later there at.
+        let one : front ≡ later = one_there before after number front later is there at in
+        subst (λ (x : FrontSeen E). IsSameFront told.takes told.makes front x) one (same_front front);
   }
 
-  pub same_fronts_then : (before between after : List (FrontSeen E)) → AreSameFronts takes makes before between → AreSameFronts takes makes between after → AreSameFronts takes makes before after
-  same_fronts_then before between after first then_ = record {
+  fronts_then : (before between after : List (FrontSeen E)) → AreSameFronts told before between → AreSameFronts told between after → AreSameFronts told before after
+  fronts_then before between after first then_ = record {
     count = then_.count ∙ first.count;
     each = λ number front later there is.
         let within : number < length between = subst (λ (n : ℕ). number < n) (sym first.count) (slice_get_within before number front there) in
@@ -110,71 +153,100 @@ module _ {E : Type 0} (takes : E → Order → Bool) (makes : E → Order → �
         front_then front middle.0 later (first.each number front middle.0 there middle.1) (then_.each number middle.0 later middle.1 is);
   }
 
-  one_same : (number : ℕ) (before after : List (FrontSeen E)) (turned : Turned) → TurnsFront takes makes number before after turned → AreSameFronts takes makes before after
-  one_same number before after turned turns = record {
+  one_front : (number : ℕ) (before after : List (FrontSeen E)) (turned : Turned) → TurnsFront told number before after turned → AreSameFronts told before after
+  one_front number before after turned turns = record {
     count = turns.count;
-    each = λ n front later there is. elim (eqb_tells n number) as (λ w. IsSameFront takes makes front later) [
+    each = λ n front later there is. elim (eqb_tells n number) as (λ w. IsSameFront told.takes told.makes front later) [
       | inl here ↦
           let at : slice_get before number ≡ Some front = subst (λ (k : ℕ). slice_get before k ≡ Some front) here.1 there in
           let behind : slice_get after number ≡ Some later = subst (λ (k : ℕ). slice_get after k ≡ Some later) here.1 is in
           let one : turns.front ≡ front = cc (at, turns.stands) in
           let other : turns.later ≡ later = cc (behind, turns.is) in
-          subst (λ (x : FrontSeen E). IsSameFront takes makes x later) one (subst (λ (y : FrontSeen E). IsSameFront takes makes turns.front y) other turns.same)
+          subst (λ (x : FrontSeen E). IsSameFront told.takes told.makes x later) one (subst (λ (y : FrontSeen E). IsSameFront told.takes told.makes turns.front y) other turns.same)
       | inr differs ↦
           let left : slice_get after n ≡ slice_get before n = turns.others n differs.1 in
           let one : front ≡ later = cc (left, there, is) in
-          subst (λ (x : FrontSeen E). IsSameFront takes makes front x) one (same_front front)
+          subst (λ (x : FrontSeen E). IsSameFront told.takes told.makes front x) one (same_front front)
     ];
   }
 
-  -- Several turns.
-  pub turns_same : (first count turns : ℕ) (before after : List (FrontSeen E)) → TurnFrom takes makes first count turns before after → AreSameFronts takes makes before after
-  turns_same first count zero before after all = subst (λ (l : List (FrontSeen E)). AreSameFronts takes makes before l) (sym all) (same_fronts before)
-  turns_same first count (suc n) before after all =
-      same_fronts_then before all.0 after (turns_same first count n before all.0 all.2) (one_same ((first + n) % count) all.0 after all.1 all.3)
+  -- The members behind a turn.
 
--- Checks while a transition is in progress.
+  pub same_crew : (before after : CrewSeen E F K) → after.fronts ≡ before.fronts → after.logger ≡ before.logger → IsSameCrew told before after
+  same_crew before after fronts logger = record {
+    fronts = same_fronts before.fronts after.fronts fronts;
+    logger = subst (λ (l : LoggerSeen F). IsSameLogger before.logger l) (sym logger) (same_logger before.logger);
+  }
 
--- so far the engine was checked while the transition was going on, and no other call was made
-pub record GoesOn (before now : List EngineEntry) : Type 0 where
-  pub between : List EngineEntry
-  pub going : AllByRecursion TellsGoing between
-  pub whole : now ≡ before ++ between
+  crew_then : (before between after : CrewSeen E F K) → IsSameCrew told before between → IsSameCrew told between after → IsSameCrew told before after
+  crew_then before between after first then_ = record {
+    fronts = fronts_then before.fronts between.fronts after.fronts first.fronts then_.fronts;
+    logger = logger_then before.logger between.logger after.logger first.logger then_.logger;
+  }
 
-pub goes_on_first : (before : List EngineEntry) → GoesOn before before
-goes_on_first before = record { between = []; going = tt; whole = sym (append-nil before) }
+  one_member : (number : ℕ) (before after : CrewSeen E F K) (turned : Turned) → number < member_count before → TurnsMember told number before after turned → IsSameCrew told before after
+  one_member number before after turned within turns = elim (eqb_tells number (length before.fronts)) as (λ w. IsSameCrew told before after) [
+    | inl here ↦
+        let did : TurnsLogger told before.logger after.logger turned × (after.fronts ≡ before.fronts) = turns.logger here.1 in
+        record { fronts = same_fronts before.fronts after.fronts did.1; logger = did.0.same }
+    | inr differs ↦
+        let other : number ≢ length before.fronts = differs.1 in
+        let front : number < length before.fronts = omega arith in
+        let did : TurnsFront told number before.fronts after.fronts turned × (after.logger ≡ before.logger) = turns.front front in
+        record {
+          fronts = one_front number before.fronts after.fronts turned did.0;
+          logger = subst (λ (l : LoggerSeen F). IsSameLogger before.logger l) (sym did.1) (same_logger before.logger);
+        }
+  ]
 
-legal_last : (s : EngineState) (xs : List (ℕ × EngineEntry)) (e : ℕ × EngineEntry) → IsLegalEngine s (xs ++ e ∷ []) → IsEngineReply (engine_replay s xs) e.1
-legal_last s [] e legal = legal.1
-legal_last s (x ∷ xs) e legal = legal_last (engine_after s x.1) xs e legal.2
+  -- Several turns of as many members.
+  pub turns_same : (first count turns : ℕ) (before after : CrewSeen E F K) → count ≡ member_count before → TurnFrom told first count turns before after → IsSameCrew told before after × (after.pick ≡ before.pick)
+  turns_same first count zero before after many all =
+      (same_crew before after (ap (λ (c : CrewSeen E F K). c.fronts) all) (ap (λ (c : CrewSeen E F K). c.logger) all), ap (λ (c : CrewSeen E F K). c.pick) all)
+  turns_same first count (suc n) before after many all =
+      let so_far : IsSameCrew told before all.0 × (all.0.pick ≡ before.pick) = turns_same first count n before all.0 many all.2 in
+      let as_many : length all.0.fronts ≡ length before.fronts = so_far.0.fronts.count in
+      let some : 0 < count = omega arith in
+      let number : (first + n) % count < count = mod-lt (first + n) some in
+      let within : (first + n) % count < member_count all.0 = omega arith in
+      (crew_then before all.0 after so_far.0 (one_member ((first + n) % count) all.0 after all.1 within all.3), all.3.pick ∙ so_far.1)
 
-none_going : (u : Option Underway) → tallies_in Going u ≡ []
-none_going None = refl
-none_going (Some u) = refl
+  -- as many members stay behind a turn of one
+  pub turn_counts : (number : ℕ) (before after : CrewSeen E F K) (turned : Turned) → number < member_count before → TurnsMember told number before after turned → member_count after ≡ member_count before
+  turn_counts number before after turned within turns = ap (λ (n : ℕ). n + 1) (one_member number before after turned within turns).fronts.count
 
--- while the transition is going on, a check gives no tallies
-pub going_empties : (s : EngineState) (seen earlier : List (ℕ × EngineEntry)) (by : ℕ) (tallies : List ClientTally) → seen ≡ earlier ++ (by, Check Going tallies) ∷ [] → IsLegalEngine s seen → tallies ≡ []
-going_empties s seen earlier by tallies is legal =
-    let reply : IsEngineReply (engine_replay s earlier) (Check Going tallies) = legal_last s earlier (by, Check Going tallies) (subst (IsLegalEngine s) is legal) in
-    reply.1 ∙ (ap (λ (p : Progress). tallies_in p (engine_replay s earlier).underway) (sym reply.0) ∙ none_going (engine_replay s earlier).underway)
+  -- one turn more
+  pub turn_more : (first count n : ℕ) (before between after : CrewSeen E F K) (turned : Turned) → TurnFrom told first count n before between → TurnsMember told ((first + n) % count) between after turned → TurnFrom told first count (n + 1) before after
+  turn_more first count n before between after turned so_far turn = rw add-one (between, turned, so_far, turn)
 
--- one check more while the transition is going on
-going_more : (es : List EngineEntry) (e : EngineEntry) → AllByRecursion TellsGoing es → TellsGoing e → AllByRecursion TellsGoing (es ++ e ∷ [])
-going_more [] e all here = (here, tt)
-going_more (x ∷ es) e all here = (all.0, going_more es e all.1 here)
+  -- Rounds.
 
-pub goes_on_more : (before now later : List EngineEntry) (tallies : List ClientTally) → GoesOn before now → later ≡ now ++ Check Going tallies ∷ [] → tallies ≡ [] → GoesOn before later
-goes_on_more before now later tallies so_far is empty = record {
-  between = so_far.between ++ Check Going [] ∷ [];
-  going = going_more so_far.between (Check Going []) so_far.going refl;
-  whole = is ∙ (ap (λ (t : List ClientTally). now ++ Check Going t ∷ []) empty
-      ∙ (ap (λ (l : List EngineEntry). l ++ Check Going [] ∷ []) so_far.whole ∙ append_assoc before so_far.between (Check Going [] ∷ [])));
-}
+  round_kept : (before after : CrewSeen E F K) → TakesRound told before after → KeptByRounds told 1 before after
+  round_kept before after round =
+      let picks = round.picks in
+      let chosen : IsSameCrew told before round.picked = same_crew before round.picked picks.fronts picks.logger in
+      let turned : IsSameCrew told round.picked after × (after.pick ≡ round.picked.pick) =
+      turns_same round.first (member_count round.picked) (member_count round.picked) round.picked after refl round.turns in
+      record {
+        same = crew_then before round.picked after chosen turned.0;
+        tells = ap told.tells turned.1 ∙ picks.tells;
+        picks = λ told_ n. ap (λ (k : K). told.ahead k n) turned.1 ∙ picks.later told_ n;
+      }
 
--- the last check
-pub checks_until : (before now later : List EngineEntry) (reply : Progress) (tallies : List ClientTally) → GoesOn before now → later ≡ now ++ Check reply tallies ∷ [] → ChecksUntil reply tallies before later
-checks_until before now later reply tallies so_far is = record {
-  between = so_far.between;
-  going = so_far.going;
-  whole = is ∙ ap (λ (l : List EngineEntry). l ++ Check reply tallies ∷ []) so_far.whole;
-}
+  pub rounds_kept : (count : ℕ) (before after : CrewSeen E F K) → HadRounds (TakesRound told) count before after → KeptByRounds told count before after
+  rounds_kept zero before after all = record {
+    same = same_crew before after (ap (λ (c : CrewSeen E F K). c.fronts) all) (ap (λ (c : CrewSeen E F K). c.logger) all);
+    tells = ap (λ (c : CrewSeen E F K). told.tells c.pick) all;
+    picks = λ tells n. ap (λ (c : CrewSeen E F K). told.ahead c.pick n) all ∙ ap (λ (m : ℕ). told.ahead before.pick m) (omega arith);
+  }
+  rounds_kept (suc n) before after all =
+      let so_far : KeptByRounds told n before all.0 = rounds_kept n before all.0 all.1 in
+      let round : KeptByRounds told 1 all.0 after = round_kept all.0 after all.2 in
+      record {
+        same = crew_then before all.0 after so_far.same round.same;
+        tells = round.tells ∙ so_far.tells;
+        picks = λ tells k.
+            let still : IsTrue (told.tells all.0.pick) = subst (λ (b : Bool). IsTrue b) (sym so_far.tells) tells in
+            let there : (k + 1) + n ≡ k + suc n = omega arith in
+            round.picks still k ∙ (so_far.picks tells (k + 1) ∙ ap (λ (m : ℕ). told.ahead before.pick m) there);
+      }

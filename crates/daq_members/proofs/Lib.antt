@@ -6,4 +6,3 @@ pub mod LoggerLaws
 pub mod LoggerSeatLaws
 pub mod TurnSets
 pub mod CrewLaws
-pub mod UnderwayLaws

@@ -1,82 +1,129 @@
 -- The members of a session, one beside the other.
-use Rattle.std.specs.Prelude.{◌≡◌, ◌≢◌, ℕ, zero, suc, ◌+◌, ◌<◌, ◌%◌, Bool, true, IsTrue, is_some, List, [], ◌∷◌, ◌++◌, slice_get, Some, Ok, Err, length, ⊤}
-use Rattle.std.specs.List.{AllByRecursion}
+use Rattle.std.specs.Prelude.{◌≡◌, ◌≢◌, ℕ, zero, suc, ◌+◌, ◌<◌, ◌≤◌, ◌%◌, Bool, IsTrue, List, slice_get, Option, Some, length}
 use Rattle.daq_types.specs.declared.events.Event.{Event}
 use Rattle.daq_types.specs.declared.runs.Order.{Order}
-use Rattle.daq_types.specs.declared.runs.StartOutcome.{StartOutcome}
-use Rattle.daq_types.specs.declared.runs.Transition.{Transition}
-use Rattle.transitions.specs.declared.answers.ClientTally.{ClientTally}
-use Rattle.transitions.specs.declared.sheet.Sheet.{Sheet}
-use Rattle.transitions.specs.declared.replies.BeginRefusal.{BeginRefusal}
-use Rattle.transitions.specs.Engines.{EngineState}
-use Rattle.transitions.specs.declared.replies.Progress.{Progress}
-use Rattle.transitions.specs.declared.replies.Progress.TheVariants.{Going, Done}
-use Rattle.transitions.specs.declared.entry.EngineEntry.{EngineEntry}
-use Rattle.transitions.specs.declared.entry.EngineEntry.TheVariants.{Begin, Check}
+use Rattle.daq_io.specs.Seen.{Seen}
+use Rattle.transitions.specs.Limits.{most_clients}
+use Rattle.loggers.specs.Moments.{RunFiles}
 use Rattle.daq_members.specs.declared.turned.Turned.{Turned}
 use Rattle.daq_members.specs.FrontTaken.{TakesFront}
-use Rattle.daq_members.specs.FrontSeats.{FrontSeen, IsSameFront, front_taken}
+use Rattle.daq_members.specs.LoggerTaken.{TakesLogger}
+use Rattle.daq_members.specs.FrontSeats.{FrontSeen, IsSameFront, IsSeated, front_taken}
+use Rattle.daq_members.specs.LoggerSeats.{LoggerSeen, IsSameLogger, IsLoggerSeated, logger_taken, files_by}
 
-module _ {E : Type 0} (takes : E → Order → Bool) (makes : E → Order → ℕ → Event) where
-  -- The member of this number takes one turn; all others are as they were.
+-- A crew: the front-ends, the logger, and the choice of the member that has the first turn of a round.
+pub record CrewSeen (E F K : Type 0) : Type 0 where
+  pub fronts : List (FrontSeen E)
+  pub logger : LoggerSeen F
+  pub pick : K
+
+abbrev pub crew_seen : {E F K : Type 0} → List (FrontSeen E) → LoggerSeen F → K → CrewSeen E F K
+crew_seen fronts logger pick = record { fronts = fronts; logger = logger; pick = pick }
+
+-- how many members a crew has
+abbrev pub member_count : {E F K : Type 0} → CrewSeen E F K → ℕ
+member_count crew = length crew.fronts + 1
+
+-- The members are not more than an engine has clients; each has its client number as its number, the front-ends the
+-- first ones and the logger the next; and all ask one engine.
+pub record AreMembers {E F : Type 0} (fronts : List (FrontSeen E)) (logger : LoggerSeen F) : Type 0 where
+  pub few : length fronts + 1 ≤ most_clients
+  pub numbers : (number : ℕ) → (front : FrontSeen E) → slice_get fronts number ≡ Some front → front.client ≡ number
+  pub logger_number : logger.client ≡ length fronts
+  pub engine : (number : ℕ) → (front : FrontSeen E) → slice_get fronts number ≡ Some front →
+      front.engine ≡ logger.engine
+
+-- What is told of equipments, run files and picks: which runs an equipment takes part in, and which events it makes;
+-- what is told of run files; and whether a pick tells its choices, and those that lie ahead.
+pub record CrewTold (E F K : Type 0) : Type 0 where
+  pub takes : E → Order → Bool
+  pub makes : E → Order → ℕ → Event
+  pub seen : F → Seen
+  pub read : F → RunFiles
+  pub tells : K → Bool
+  pub ahead : K → ℕ → ℕ
+
+abbrev pub crew_told : {E F K : Type 0} → (takes : E → Order → Bool) → (makes : E → Order → ℕ → Event) →
+    (seen : F → Seen) → (faults clashes : F → ℕ) → (first : F → Option (List ℕ)) → (tells : K → Bool) →
+    (ahead : K → ℕ → ℕ) → CrewTold E F K
+crew_told takes makes seen faults clashes first tells ahead = record {
+  takes = takes;
+  makes = makes;
+  seen = seen;
+  read = files_by seen faults clashes first;
+  tells = tells;
+  ahead = ahead;
+}
+
+module _ {E F K : Type 0} (told : CrewTold E F K) where
+  -- The front-end of this number takes one turn; all others are as they were.
   pub record TurnsFront (number : ℕ) (before after : List (FrontSeen E)) (turned : Turned) : Type 0 where
     pub count : length after ≡ length before
     pub front : FrontSeen E
     pub later : FrontSeen E
     pub stands : slice_get before number ≡ Some front
     pub is : slice_get after number ≡ Some later
-    pub turn : TakesFront (front_taken takes makes front later turned)
-    pub same : IsSameFront takes makes front later
+    pub turn : TakesFront (front_taken told.takes told.makes front later turned)
+    pub same : IsSameFront told.takes told.makes front later
     pub others : (other : ℕ) → other ≢ number → slice_get after other ≡ slice_get before other
+
+  -- The logger takes one turn.
+  pub record TurnsLogger (before after : LoggerSeen F) (turned : Turned) : Type 0 where
+    pub turn : TakesLogger (logger_taken told.read before after turned)
+    pub same : IsSameLogger before after
+
+  -- The member of this number takes one turn, a front-end or the logger; all others are as they were.
+  pub record TurnsMember (number : ℕ) (before after : CrewSeen E F K) (turned : Turned) : Type 0 where
+    pub front : number < length before.fronts →
+        TurnsFront number before.fronts after.fronts turned × (after.logger ≡ before.logger)
+    pub logger : number ≡ length before.fronts →
+        TurnsLogger before.logger after.logger turned × (after.fronts ≡ before.fronts)
+    pub pick : after.pick ≡ before.pick
 
   -- So many members take one turn each: the first of them is that of this number, of so many, and the others come
   -- behind it in cyclic order.
-  abbrev pub TurnFrom : (first count : ℕ) → (turns : ℕ) → (before after : List (FrontSeen E)) → Type 0
+  abbrev pub TurnFrom : (first count : ℕ) → (turns : ℕ) → (before after : CrewSeen E F K) → Type 0
   TurnFrom first count zero before after = after ≡ before
-  TurnFrom first count (suc n) before after = (between : List (FrontSeen E)) × (turned : Turned) ×
-      TurnFrom first count n before between × TurnsFront ((first + n) % count) between after turned
+  TurnFrom first count (suc n) before after = (between : CrewSeen E F K) × (turned : Turned) ×
+      TurnFrom first count n before between × TurnsMember ((first + n) % count) between after turned
 
-  -- Each member takes one turn: first the one that is picked, where the choice is told, and the others behind it in
+  -- The pick is read once, and gives the number of a member: the next one that is told, where choices are told.
+  pub record PicksMember (number : ℕ) (before after : CrewSeen E F K) : Type 0 where
+    pub within : number < member_count before
+    pub next : IsTrue (told.tells before.pick) → number ≡ told.ahead before.pick 0 % member_count before
+    pub tells : told.tells after.pick ≡ told.tells before.pick
+    pub later : IsTrue (told.tells before.pick) → (n : ℕ) → told.ahead after.pick n ≡ told.ahead before.pick (n + 1)
+    pub fronts : after.fronts ≡ before.fronts
+    pub logger : after.logger ≡ before.logger
+
+  -- One round: the pick is read once, and each member takes one turn, the picked one first and the others behind it in
   -- cyclic order.
-  pub record TakesRound (told : Bool) (ahead : ℕ) (before after : List (FrontSeen E)) : Type 0 where
+  pub record TakesRound (before after : CrewSeen E F K) : Type 0 where
     pub first : ℕ
-    pub within : first < length before
-    pub picked : IsTrue told → first ≡ ahead % length before
-    pub turns : TurnFrom first (length before) (length before) before after
+    pub picked : CrewSeen E F K
+    pub picks : PicksMember first before picked
+    pub turns : TurnFrom first (member_count picked) (member_count picked) picked after
 
-  -- There are as many members, and each is the same front-end.
+  -- There are as many front-ends, and each is the same front-end.
   pub record AreSameFronts (before after : List (FrontSeen E)) : Type 0 where
     pub count : length after ≡ length before
     pub each : (number : ℕ) → (front later : FrontSeen E) → slice_get before number ≡ Some front →
-        slice_get after number ≡ Some later → IsSameFront takes makes front later
+        slice_get after number ≡ Some later → IsSameFront told.takes told.makes front later
 
--- the engine was checked, and the transition was going on
-abbrev pub TellsGoing : EngineEntry → Type 0
-TellsGoing entry = entry ≡ Check Going []
+  -- The same members: the same front-ends, and the same logger.
+  pub record IsSameCrew (before after : CrewSeen E F K) : Type 0 where
+    pub fronts : AreSameFronts before.fronts after.fronts
+    pub logger : IsSameLogger before.logger after.logger
 
--- a transition is in progress
-abbrev pub IsInProgress : EngineState → Type 0
-IsInProgress s = is_some s.underway ≡ true
+  -- What so many rounds leave: the same members; and a pick of which so many choices were read.
+  pub record KeptByRounds (count : ℕ) (before after : CrewSeen E F K) : Type 0 where
+    pub same : IsSameCrew before after
+    pub tells : told.tells after.pick ≡ told.tells before.pick
+    pub picks : IsTrue (told.tells before.pick) → (n : ℕ) →
+        told.ahead after.pick n ≡ told.ahead before.pick (n + count)
 
--- the reply tells that a transition is done
-abbrev pub TellsDone : Progress → Type 0
-TellsDone (Done outcome) = ⊤
-TellsDone reply = ⊥
-
--- The engine was checked any number of times while the transition was going on, and then once more, which was replied
--- so.
-pub record ChecksUntil (reply : Progress) (tallies : List ClientTally) (before after : List EngineEntry) : Type 0 where
-  pub between : List EngineEntry
-  pub going : AllByRecursion TellsGoing between
-  pub whole : after ≡ (before ++ between) ++ Check reply tallies ∷ []
-
--- One transition by the main thread: it was begun with this sheet, checked while it was going on, and done.
-pub record MakesTransition (before after : List EngineEntry) (transition : Transition) (sheet : Sheet) (start : ℕ)
-    (outcome : StartOutcome) (tallies : List ClientTally) : Type 0 where
-  pub between : List EngineEntry
-  pub going : AllByRecursion TellsGoing between
-  pub whole : after ≡ before ++ Begin transition sheet (Ok start) ∷ (between ++ Check (Done outcome) tallies ∷ [])
-
--- It was not begun.
-abbrev pub RefusesTransition : (before after : List EngineEntry) → Transition → Sheet → BeginRefusal → Type 0
-RefusesTransition before after transition sheet refusal = after ≡ before ++ Begin transition sheet (Err refusal) ∷ []
+  -- Each member of the crew keeps its contract over its own calls.
+  pub record KeepContracts (crew : CrewSeen E F K) : Type 0 where
+    pub fronts : (number : ℕ) → (front : FrontSeen E) → slice_get crew.fronts number ≡ Some front →
+        IsSeated told.takes told.makes front
+    pub logger : IsLoggerSeated told.seen crew.logger

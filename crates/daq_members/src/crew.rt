@@ -1,133 +1,204 @@
 // The members of a session.
-ghost use Rattle.std.specs.Prelude.{◌≡◌, ◌+◌, ◌<◌, ◌≤◌, ◌^◌, ℕ, [], None, IsTrue, IfOk, IfErr, OnErr, length};
-ghost use Rattle.daq_types.specs.Callers.{main_caller};
-ghost use Rattle.turn_lock.specs.Passes.{number_of, seen_by, held_by, own_entries, IsOf};
-ghost use Rattle.transition_lock.specs.SharedEngines.{engine_lock_of, first_engine};
-ghost use Rattle.transitions.specs.EngineHistories.{IsSheet, engine_replay};
-ghost use Rattle.daq_members.specs.Crews.{IsInProgress, TellsDone, ChecksUntil, MakesTransition, RefusesTransition};
+ghost use Rattle.std.specs.Prelude.{◌≡◌, ◌<◌, ℕ, slice_get, Some, length};
+ghost use Rattle.daq_members.specs.FrontSeats.{FrontSeen, IsSeated};
 
 use crate::endless::EndlessPort;
 use crate::front_seat::FrontSeat;
+use crate::logger_seat::LoggerSeat;
 use crate::turned::Turned;
-use daq_io::{Gate, Pick};
-use daq_types::{StartOutcome, Transition};
+use daq_io::{Files, Gate, Pick};
 use front_ends::Equipment;
 use odb_port::WatchPort;
+use session_engine::Rounds;
+use std::marker::Model;
 use std::sync::Wait;
-use transition_lock::{EnginePass, SharedEngine};
-use transitions::{BeginRefusal, Progress, Sheet, Tallies};
 
-/// The members of a session, front-ends so far, in the order in which they take their turns.
+/// What the members of a session are at its end: each behind its last turn. A seat gives back what its member called
+/// with.
 #[derive(Drop)]
-pub struct Crew<'a, E: Equipment, P: EndlessPort, D: WatchPort> {
+pub struct CrewParts<'a, E: Equipment, P: EndlessPort, D: WatchPort, F: Files, K: Pick> {
     pub fronts: Vec<FrontSeat<'a, E, P, D>>,
+    pub logger: LoggerSeat<'a, P, F>,
+    pub pick: K,
 }
 
-impl<'a, E: Equipment, P: EndlessPort, D: WatchPort> Crew<'a, E, P, D> {
-    ghost use Rattle.daq_members.specs.Crews.{TurnsFront, TakesRound, AreSameFronts};
+/// Learns what each of these front-ends keeps.
+fn ask_all<'a, E: Equipment, P: EndlessPort, D: WatchPort>(fronts: &[FrontSeat<'a, E, P, D>])
+    ensures { (number : ℕ) → (front : FrontSeen E) → slice_get fronts.now number ≡ Some front →
+        IsSeated E.takes E.makes front }
+{
+    for front in fronts {
+        front.client();
+    }
+}
+
+/// The members of a session, which the main thread gives their turns. Each has its client number as its number: the
+/// front-ends the first ones, in order, and the logger the next. There are at most 64. In each round the pick names
+/// the member that has its turn first.
+#[derive(Drop)]
+pub struct Crew<'a, E: Equipment, P: EndlessPort, D: WatchPort, F: Files, K: Pick, G: Gate> {
+    fronts: Vec<FrontSeat<'a, E, P, D>>,
+    logger: LoggerSeat<'a, P, F>,
+    pick: K,
+    gate: &'a G,
+}
+
+impl<'a, E: Equipment, P: EndlessPort, D: WatchPort, F: Files, K: Pick, G: Gate> Model
+    for Crew<'a, E, P, D, F, K, G> {
+    ghost use Rattle.daq_members.specs.Crews.{CrewSeen, AreMembers};
+
+    ghost Value = { CrewSeen E F K };
+
+    ghost view = { λ c. record { fronts = c.fronts.items; logger = c.logger; pick = c.pick } };
+
+    ghost invariant = { λ c. AreMembers c.fronts.items c.logger };
+}
+
+impl<'a, E: Equipment, P: EndlessPort, D: WatchPort, F: Files, K: Pick, G: Gate> Crew<
+    'a,
+    E,
+    P,
+    D,
+    F,
+    K,
+    G,
+> {
+    ghost use Rattle.daq_members.specs.Crews.{crew_seen, crew_told, member_count, AreMembers, TurnsFront, TurnsLogger, TurnsMember, TurnFrom, PicksMember, IsSameCrew, KeepContracts};
+
+    /// A crew of these members, of which each asks the same engine by the client number that is its place.
+    pub fn new(
+        fronts: Vec<FrontSeat<'a, E, P, D>>,
+        logger: LoggerSeat<'a, P, F>,
+        pick: K,
+        gate: &'a G,
+    ) -> Crew<'a, E, P, D, F, K, G>
+        requires { AreMembers fronts.items logger }
+        ensures { result ≡ crew_seen fronts.entry.items logger.entry pick }
+    {
+        Crew {
+            fronts,
+            logger,
+            pick,
+            gate,
+        }
+    }
+
+    /// How many members there are.
+    pub fn count(&self) -> u32
+        ensures count { result ≡ member_count self.now }
+        ensures members { AreMembers self.now.fronts self.now.logger }
+    {
+        self.fronts.len() as u32 + 1
+    }
 
     /// One turn of the member of this number.
-    pub fn turn<R: Wait, G: Gate>(&mut self, rt: &R, number: u32, gate: &G) -> Turned
-        requires { number < length self.old.fronts.items }
-        ensures { TurnsFront E.takes E.makes number self.old.fronts.items self.new.fronts.items
-            result }
+    pub fn turn<R: Wait>(&mut self, rt: &R, number: u32) -> Turned
+        requires { number < member_count self.old }
+        ensures { TurnsMember (crew_told E.takes E.makes F.seen F.faults F.clashes F.first
+            K.tells K.ahead) number self.old self.new result }
+    {
+        let logger = self.count() - 1;
+        if number < logger {
+            return self.turn_front(rt, number);
+        }
+        self.turn_logger(rt)
+    }
+
+    /// One turn of the front-end of this number.
+    fn turn_front<R: Wait>(&mut self, rt: &R, number: u32) -> Turned
+        requires { number < length self.old.fronts }
+        ensures turns { TurnsFront (crew_told E.takes E.makes F.seen F.faults F.clashes F.first
+            K.tells K.ahead) number self.old.fronts self.new.fronts result }
+        ensures logger { self.new.logger ≡ self.old.logger }
+        ensures pick { self.new.pick ≡ self.old.pick }
     {
         let front = &mut self.fronts[number as usize];
-        front.turn(rt, gate)
+        front.turn(rt, self.gate)
     }
 
-    /// One turn of each member, the picked one first, the others behind it in cyclic order.
-    pub fn round<R: Wait, K: Pick, G: Gate>(&mut self, rt: &R, pick: &mut K, gate: &G)
-        requires some { 0 < length self.old.fronts.items }
-        requires few { length self.old.fronts.items < 2 ^ 16 }
-        ensures round { TakesRound E.takes E.makes (K.tells pick.old) (K.ahead pick.old 0)
-            self.old.fronts.items self.new.fronts.items }
-        ensures same { AreSameFronts E.takes E.makes self.old.fronts.items self.new.fronts.items }
-        ensures tells { K.tells pick.new ≡ K.tells pick.old }
-        ensures later { IsTrue (K.tells pick.old) → (n : ℕ) → K.ahead pick.new n
-            ≡ K.ahead pick.old (n + 1) }
+    /// One turn of the logger.
+    fn turn_logger<R: Wait>(&mut self, rt: &R) -> Turned
+        ensures turns { TurnsLogger (crew_told E.takes E.makes F.seen F.faults F.clashes F.first
+            K.tells K.ahead) self.old.logger self.new.logger result }
+        ensures fronts { self.new.fronts ≡ self.old.fronts }
+        ensures pick { self.new.pick ≡ self.old.pick }
     {
-        let count = self.fronts.len() as u32;
-        let first = pick.first(count);
+        self.logger.turn(rt, self.gate)
+    }
+
+    /// The number of the member that has the first turn of a round.
+    fn choose(&mut self) -> u32
+        ensures { PicksMember (crew_told E.takes E.makes F.seen F.faults F.clashes F.first
+            K.tells K.ahead) result self.old self.new }
+    {
+        let count = self.count();
+        self.pick.first(count)
+    }
+
+    /// One turn of each member, that of this number first, and the others behind it in cyclic order.
+    fn turn_all<R: Wait>(&mut self, rt: &R, first: u32)
+        requires { first < member_count self.old }
+        ensures { TurnFrom (crew_told E.takes E.makes F.seen F.faults F.clashes F.first
+            K.tells K.ahead) first (member_count self.old) (member_count self.old)
+            self.old self.new }
+    {
+        let count = self.count();
         for step in 0..count {
-            self.turn(rt, (first + step) % count, gate);
+            self.turn(rt, (first + step) % count);
         }
     }
 
-    /// Rounds for as long as a transition is in progress, before each of which the main thread checks the engine.
-    /// What the last check told, with the tallies that it gave.
-    pub fn drive<R: Wait, K: Pick, G: Gate>(
-        &mut self,
-        rt: &R,
-        engine: &SharedEngine,
-        main: &mut EnginePass,
-        tallies: &mut Tallies,
-        pick: &mut K,
-        gate: &G,
-    ) -> Progress
-        requires main { number_of main.old ≡ main_caller }
-        requires own { IsOf (engine_lock_of engine.now) main.old }
-        requires idle { held_by main.old ≡ None }
-        requires empty { tallies.old ≡ [] }
-        requires some { 0 < length self.old.fronts.items }
-        requires few { length self.old.fronts.items < 2 ^ 16 }
-        ensures done { IsInProgress (engine_replay (first_engine engine.now) (seen_by main.old)) →
-            TellsDone result }
-        ensures checks { ChecksUntil result tallies.new (own_entries main.old)
-            (own_entries main.new) }
-        ensures number { number_of main.new ≡ main_caller }
-        ensures own { IsOf (engine_lock_of engine.now) main.new }
-        ensures idle { held_by main.new ≡ None }
-        ensures same { AreSameFronts E.takes E.makes self.old.fronts.items self.new.fronts.items }
+    /// Each member has one turn more, in order of number, and then all is given back: behind the close of the engine
+    /// that turn is its last, which is Ended.
+    pub fn end<R: Wait>(mut self, rt: &R) -> CrewParts<'a, E, P, D, F, K>
+        ensures turns { TurnFrom (crew_told E.takes E.makes F.seen F.faults F.clashes F.first
+            K.tells K.ahead) 0 (member_count self.entry) (member_count self.entry) self.entry
+            (crew_seen result.fronts.items result.logger result.pick) }
+        ensures same { IsSameCrew (crew_told E.takes E.makes F.seen F.faults F.clashes F.first
+            K.tells K.ahead) self.entry
+            (crew_seen result.fronts.items result.logger result.pick) }
+        ensures pick { result.pick ≡ self.entry.pick }
+        ensures members { AreMembers result.fronts.items result.logger }
+        ensures keep { KeepContracts (crew_told E.takes E.makes F.seen F.faults F.clashes F.first
+            K.tells K.ahead) (crew_seen result.fronts.items result.logger result.pick) }
     {
-        for _ in rt.forever() {
-            let progress = engine.check(rt, main, tallies);
-            let Progress::Going = progress else {
-                return progress;
-            };
-            self.round(rt, pick, gate);
-        }
-        unreachable!()
+        self.turn_all(rt, 0);
+        self.into_parts()
     }
-    /// One transition by the main thread: it is begun with this sheet, and the members take their turns until it is
-    /// done. The tallies are those of its end. Where it is not begun, the sheet comes back.
-    pub fn transit<R: Wait, K: Pick, G: Gate>(
-        &mut self,
-        rt: &R,
-        engine: &SharedEngine,
-        main: &mut EnginePass,
-        transition: Transition,
-        sheet: Sheet,
-        tallies: &mut Tallies,
-        pick: &mut K,
-        gate: &G,
-    ) -> Result<StartOutcome, (BeginRefusal, Sheet)>
-        requires main { number_of main.old ≡ main_caller }
-        requires own { IsOf (engine_lock_of engine.now) main.old }
-        requires idle { held_by main.old ≡ None }
-        requires sheet { IsSheet sheet }
-        requires empty { tallies.old ≡ [] }
-        requires some { 0 < length self.old.fronts.items }
-        requires few { length self.old.fronts.items < 2 ^ 16 }
-        ensures made { IfOk result (λ outcome. (start : ℕ) × MakesTransition
-            (own_entries main.old) (own_entries main.new) transition sheet start outcome
-            tallies.new) }
-        ensures refused { IfErr result (λ refused. RefusesTransition (own_entries main.old)
-            (own_entries main.new) transition sheet refused.0) }
-        ensures back { IfErr result (λ refused. refused.1 ≡ sheet) }
-        ensures unmoved { OnErr result (self.new ≡ self.old) }
-        ensures number { number_of main.new ≡ main_caller }
-        ensures own { IsOf (engine_lock_of engine.now) main.new }
-        ensures idle { held_by main.new ≡ None }
-        ensures same { AreSameFronts E.takes E.makes self.old.fronts.items self.new.fronts.items }
+
+    /// The members and the pick, given back.
+    fn into_parts(self) -> CrewParts<'a, E, P, D, F, K>
+        ensures parts { crew_seen result.fronts.items result.logger result.pick ≡ self.entry }
+        ensures members { AreMembers result.fronts.items result.logger }
+        ensures keep { KeepContracts (crew_told E.takes E.makes F.seen F.faults F.clashes F.first
+            K.tells K.ahead) (crew_seen result.fronts.items result.logger result.pick) }
     {
-        match engine.begin(rt, main, transition, sheet) {
-            Err(refused) => Err(refused),
-            Ok(_) => match self.drive(rt, engine, main, tallies, pick, gate) {
-                Progress::Done { outcome } => Ok(outcome),
-                Progress::Going => unreachable!(),
-                Progress::None => unreachable!(),
-            },
+        let Crew {
+            fronts,
+            logger,
+            pick,
+            gate: _,
+        } = self;
+        logger.client();
+        ask_all(&fronts);
+        CrewParts {
+            fronts,
+            logger,
+            pick,
         }
+    }
+}
+
+impl<'a, E: Equipment, P: EndlessPort, D: WatchPort, F: Files, K: Pick, G: Gate> Rounds
+    for Crew<'a, E, P, D, F, K, G> {
+    ghost use Rattle.daq_members.specs.Crews.{crew_told, TakesRound};
+
+    ghost round = { TakesRound (crew_told E.takes E.makes F.seen F.faults F.clashes F.first
+        K.tells K.ahead) };
+
+    /// One turn of each member, the picked one first, and the others behind it in cyclic order.
+    fn round<R: Wait>(&mut self, rt: &R) {
+        let first = self.choose();
+        self.turn_all(rt, first);
     }
 }

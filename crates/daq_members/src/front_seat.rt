@@ -1,18 +1,33 @@
 // A front-end in a session, with what it calls.
-ghost use Rattle.std.specs.Prelude.{◌≡◌, ◌≤◌, []};
+ghost use Rattle.std.specs.Prelude.{◌≡◌, ◌≤◌, [], None};
 ghost use Rattle.daq_types.specs.Callers.{caller_of_client};
 ghost use Rattle.odb_port.specs.DatabasePorts.{own_watched};
-ghost use Rattle.turn_lock.specs.Passes.{own_entries};
+ghost use Rattle.turn_lock.specs.Passes.{number_of, held_by, own_entries, IsOf};
+ghost use Rattle.transition_lock.specs.SharedEngines.{engine_lock_of};
 ghost use Rattle.daq_members.specs.FrontTaken.{TakesFront, FrontMemberStands};
 
 use crate::endless::EndlessPort;
 use crate::front_member::FrontMember;
 use crate::turned::Turned;
 use daq_io::Gate;
+use daq_types::Name;
 use front_ends::Equipment;
 use odb_port::WatchPort;
 use std::marker::Model;
 use std::sync::Wait;
+use transition_lock::EnginePass;
+
+/// What a front-end gives back at its end.
+#[derive(Drop)]
+pub struct FrontParts<P, D> {
+    pub name: Name,
+    /// Its pass of the engine.
+    pub pass: EnginePass,
+    /// Its port to its buffer.
+    pub port: P,
+    /// Its access to the database.
+    pub database: D,
+}
 
 /// A front-end in a session, with its own port to its buffer and its own access to the database.
 #[derive(Drop)]
@@ -97,16 +112,16 @@ impl<'a, E: Equipment, P: EndlessPort, D: WatchPort> FrontSeat<'a, E, P, D> {
         self.member.seat.client
     }
 
-    /// The front-end, its port and its access to the database, given back.
-    pub fn into_parts(self) -> (FrontMember<'a, E>, P, D)
-        ensures engine { result.0.seat.engine.now ≡ self.entry.engine }
-        ensures client { result.0.seat.client ≡ self.entry.client }
-        ensures name { result.0.name ≡ self.entry.name }
-        ensures equipment { result.0.front.equipment ≡ self.entry.equipment }
-        ensures run { result.0.front.run ≡ self.entry.run }
-        ensures calls { own_entries result.0.seat.pass ≡ self.entry.calls }
-        ensures port { P.access result.1 ≡ self.entry.port }
-        ensures database { D.access result.2 ≡ self.entry.database }
+    /// What the front-end called with, given back: its pass of the engine it is asking, and its port and its access with
+    /// the calls that it made. Over these it keeps its contract.
+    pub fn into_parts(self) -> FrontParts<P, D>
+        ensures name { result.name ≡ self.entry.name }
+        ensures calls { own_entries result.pass ≡ self.entry.calls }
+        ensures number { number_of result.pass ≡ caller_of_client self.entry.client }
+        ensures own { IsOf (engine_lock_of self.entry.engine) result.pass }
+        ensures idle { held_by result.pass ≡ None }
+        ensures port { P.access result.port ≡ self.entry.port }
+        ensures database { D.access result.database ≡ self.entry.database }
         ensures seated { IsSeated E.takes E.makes self.entry }
     {
         let FrontSeat {
@@ -114,6 +129,12 @@ impl<'a, E: Equipment, P: EndlessPort, D: WatchPort> FrontSeat<'a, E, P, D> {
             port,
             database,
         } = self;
-        (member, port, database)
+        let FrontMember { seat, name, .. } = member;
+        FrontParts {
+            name,
+            pass: seat.into_pass(),
+            port,
+            database,
+        }
     }
 }

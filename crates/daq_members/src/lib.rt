@@ -1,5 +1,6 @@
 //! The members of a session. Each has its place at the engine, where it asks for its turns and answers them, and goes
-//! on with its work by what it hears there: a front-end sends its events and says in the database how many it sent.
+//! on with its work by what it hears there: a front-end sends its events and says in the database how many it sent, and
+//! the logger writes the run files. A crew has them all, and gives them their turns round by round.
 #![tactic(auto)]
 
 mod crew;
@@ -12,11 +13,11 @@ mod logger_seat;
 mod seat;
 mod turned;
 
-pub use crew::Crew;
+pub use crew::{Crew, CrewParts};
 pub use endless::EndlessPort;
 pub use front_member::FrontMember;
-pub use front_seat::FrontSeat;
+pub use front_seat::{FrontParts, FrontSeat};
 pub use logger_member::LoggerMember;
-pub use logger_seat::LoggerSeat;
+pub use logger_seat::{LoggerParts, LoggerSeat};
 pub use seat::Seat;
 pub use turned::Turned;

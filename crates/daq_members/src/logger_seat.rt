@@ -1,8 +1,9 @@
 // The logger in a session, with what it calls.
-ghost use Rattle.std.specs.Prelude.{◌≡◌, ◌≤◌, ℕ, length, map, IfSome};
+ghost use Rattle.std.specs.Prelude.{◌≡◌, ◌≤◌, ℕ, length, map, IfSome, None};
 ghost use Rattle.daq_types.specs.Callers.{caller_of_client};
 ghost use Rattle.daq_model.specs.Events.{record_limit};
-ghost use Rattle.turn_lock.specs.Passes.{own_entries};
+ghost use Rattle.turn_lock.specs.Passes.{number_of, held_by, own_entries, IsOf};
+ghost use Rattle.transition_lock.specs.SharedEngines.{engine_lock_of};
 ghost use Rattle.member_model.specs.TurnCalls.{member_turns};
 ghost use Rattle.loggers.specs.Moments.{IsLoggerReady};
 ghost use Rattle.loggers.specs.NewLoggers.{NoneTakenBack};
@@ -18,6 +19,17 @@ use daq_io::{Files, Gate};
 use loggers::{Ports, laws as logger_laws};
 use std::marker::Model;
 use std::sync::Wait;
+use transition_lock::EnginePass;
+
+/// What the logger gives back at its end.
+#[derive(Drop)]
+pub struct LoggerParts<P, F> {
+    /// Its pass of the engine.
+    pub pass: EnginePass,
+    /// Its ports to the buffers, each at its buffer's number.
+    pub ports: Ports<P>,
+    pub files: F,
+}
 
 /// The logger in a session, with its own ports to the buffers, each at its buffer's number, and the run files.
 #[derive(Drop)]
@@ -107,16 +119,15 @@ impl<'a, P: EndlessPort, F: Files> LoggerSeat<'a, P, F> {
         self.member.seat.client
     }
 
-    /// The logger, its ports and the run files, given back.
-    pub fn into_parts(self) -> (LoggerMember<'a>, Ports<P>, F)
-        ensures engine { result.0.seat.engine.now ≡ self.entry.engine }
-        ensures client { result.0.seat.client ≡ self.entry.client }
-        ensures run { result.0.logger.run ≡ self.entry.run }
-        ensures stop_dump { result.0.logger.stop_dump ≡ self.entry.stop_dump }
-        ensures calls { own_entries result.0.seat.pass ≡ self.entry.calls }
-        ensures slots { result.0.logger.channels ≡ self.entry.slots }
-        ensures ports { map P.access result.1 ≡ self.entry.ports }
-        ensures files { result.2 ≡ self.entry.files }
+    /// What the logger called with, given back: its pass of the engine it is asking, its ports with the calls that it
+    /// made, and the run files. Over these it keeps its contract.
+    pub fn into_parts(self) -> LoggerParts<P, F>
+        ensures calls { own_entries result.pass ≡ self.entry.calls }
+        ensures number { number_of result.pass ≡ caller_of_client self.entry.client }
+        ensures own { IsOf (engine_lock_of self.entry.engine) result.pass }
+        ensures idle { held_by result.pass ≡ None }
+        ensures ports { map P.access result.ports ≡ self.entry.ports }
+        ensures files { result.files ≡ self.entry.files }
         ensures seated { IsLoggerSeated F.seen self.entry }
     {
         let LoggerSeat {
@@ -124,6 +135,11 @@ impl<'a, P: EndlessPort, F: Files> LoggerSeat<'a, P, F> {
             ports,
             files,
         } = self;
-        (member, ports, files)
+        let LoggerMember { seat, .. } = member;
+        LoggerParts {
+            pass: seat.into_pass(),
+            ports,
+            files,
+        }
     }
 }

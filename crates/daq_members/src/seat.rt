@@ -87,6 +87,7 @@ impl<'a> Seat<'a> {
         ensures pass { result ≡ self.entry.pass }
         ensures own { IsOf (engine_lock_of self.entry.engine.now) result }
         ensures idle { held_by result ≡ None }
+        ensures number { number_of result ≡ caller_of_client self.entry.client }
     {
         let Seat { pass, .. } = self;
         pass

@@ -1,2 +1,3 @@
 pub mod FileReplies
 pub mod WholeFiles
+pub mod NotedReplies

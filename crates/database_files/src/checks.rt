@@ -1,5 +1,5 @@
 //! Files in memory that are written and read back, and the reply where a call fails or a name clashes.
-use crate::{FileRead, FileReply, read_file, write_file};
+use crate::{FileRead, FileReplies, FileReply, read_file, write_file};
 use daq_io::Files;
 use daq_mem::{FileFail, FileOp, MemFiles};
 use daq_types::{FileName, NoMemory};
@@ -63,5 +63,19 @@ fn each_call_fails_once(rt: HostRuntime) -> Result<(), Fail> {
         assert_eq!(rt; reply, written);
         assert_eq!(rt; got, read);
     }
+    Ok(())
+}
+
+#[test]
+fn replies_by_line(rt: HostRuntime) -> Result<(), Fail> {
+    let mut replies = FileReplies::new(rt.alloc(), 1)?;
+    replies.push(3, FileReply::Done);
+    replies.reserve(2)?;
+    replies.push(7, FileReply::Clash);
+    assert_eq!(rt; replies.len(), 2);
+    assert_eq!(rt; replies.get(0), Some(&(3, FileReply::Done)));
+    assert_eq!(rt; replies.pop(), Some((7, FileReply::Clash)));
+    assert_eq!(rt; replies.as_slice(), [(3, FileReply::Done)].as_slice());
+    assert!(rt; FileReplies::empty(rt.alloc()).pop().is_none());
     Ok(())
 }

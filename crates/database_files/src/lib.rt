@@ -4,10 +4,12 @@
 
 #[cfg(test)]
 mod checks;
+mod file_replies;
 mod reading;
 mod replies;
 mod writing;
 
+pub use file_replies::FileReplies;
 pub use reading::{FILE_BYTES, read_file};
 pub use replies::{FileRead, FileReply};
 pub use writing::write_file;

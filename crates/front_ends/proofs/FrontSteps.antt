@@ -4,7 +4,7 @@ use Rattle.std.proofs.Common.{ap, sym, subst, ◌∙◌, inl, inr, arith}
 use Rattle.std.proofs.lemmas.Bool.Decides.{eqb_tells, leb_tells}
 use Rattle.daq_types.specs.declared.events.Event.{Event}
 use Rattle.daq_types.specs.declared.runs.Order.{Order}
-use Rattle.daq_types.specs.declared.runs.Transition.TheVariants.{Start}
+use Rattle.daq_types.specs.declared.runs.Transition.TheVariants.{Start, Pause}
 use Rattle.transitions.specs.declared.answers.Answer.{Answer}
 use Rattle.buffer_core.specs.declared.replies.SendRefusal.{SendRefusal}
 use Rattle.buffer_core.specs.declared.replies.SendRefusal.TheVariants.{NotRunning, BadSize, ReservedId, TooLarge, Full, Spent}
@@ -14,8 +14,8 @@ use Rattle.member_model.specs.Turns.{MemberTurn, HasTurnOf, HasAnswer, AreEngine
 use Rattle.member_model.specs.SentCalls.{sent_by_call, own_sent, IsSendInRun}
 use Rattle.member_model.proofs.SentLaws.{own_sent-push, EachCall-push, WasSpent-here}
 use Rattle.front_ends.specs.declared.front_run.FrontRun.{FrontRun}
-use Rattle.front_ends.specs.Fronts.{is_done, run_sent}
-use Rattle.front_ends.specs.FrontKept.{made_events, IsMade, IsNextCall, KeepsFront, TakesPart, FrontStands}
+use Rattle.front_ends.specs.Fronts.{is_done, is_at_work, run_sent}
+use Rattle.front_ends.specs.FrontKept.{made_events, IsMade, IsNextCall, KeepsFront, TakesPart, last_answered, FrontStands}
 use Rattle.front_ends.proofs.FrontGrows.{length-made_events, sends_push, IsMade-same, Tally-pushed, spent_pushed, sent_same}
 
 -- the send of the next event, with this reply
@@ -124,8 +124,12 @@ made_accepted makes own turns r place start on are made =
       | inr differs ↦ IsMade-same makes own later turns start (accepted_elsewhere makes own r place start differs.1) made
     ]
 
-accepted_kept : (takes : Order → Bool) (makes : Order → ℕ → Event) (own : List BufferEntry) (turns : List MemberTurn) (r : FrontRun) (place : ℕ) → r.sent < r.order.quota → FrontStands takes makes (Some r) own turns → FrontStands takes makes (Some (run_sent (Ok place) r)) (own ++ sent_next makes r (Ok place) ∷ []) turns
-accepted_kept takes makes own turns r place more stands =
+-- a run of which an event is to be sent rests behind no pause
+works_on : (turns : List MemberTurn) (r : FrontRun) (later : Option FrontRun) → is_at_work (Some r) ≡ true → (last_answered turns ≡ Some Pause → is_at_work (Some r) ≡ false) → last_answered turns ≡ Some Pause → is_at_work later ≡ false
+works_on turns r later work rests last = absurd (let never : true ≡ false = sym work ∙ rests last in cc (never))
+
+accepted_kept : (takes : Order → Bool) (makes : Order → ℕ → Event) (own : List BufferEntry) (turns : List MemberTurn) (r : FrontRun) (place : ℕ) → r.sent < r.order.quota → is_at_work (Some r) ≡ true → FrontStands takes makes (Some r) own turns → FrontStands takes makes (Some (run_sent (Ok place) r)) (own ++ sent_next makes r (Ok place) ∷ []) turns
+accepted_kept takes makes own turns r place more work stands =
     let entry : BufferEntry = sent_next makes r (Ok place) in
     let on : TakesPart makes own turns r = stands.run_stands in
     record {
@@ -152,21 +156,22 @@ accepted_kept takes makes own turns r place more stands =
         fresh = on.fresh;
       };
       current = stands.current;
+      rests = works_on turns r (Some (run_sent (Ok place) r)) work stands.rests;
     }
 
 refused_kept : (takes : Order → Bool) (makes : Order → ℕ → Event) (own : List BufferEntry) (turns : List MemberTurn) (r : FrontRun) (why : SendRefusal) → r.sent < r.order.quota → FrontStands takes makes (Some r) own turns
     → FrontStands takes makes (Some r) (own ++ sent_next makes r (Err why) ∷ []) turns
 refused_kept takes makes own turns r why more stands =
-    record { keeps = keeps_refused takes makes own turns r why (next_send makes own turns r (Err why) stands.run_stands more) stands.keeps; run_stands = on_refused makes own turns r why stands.run_stands; current = stands.current }
+    record { keeps = keeps_refused takes makes own turns r why (next_send makes own turns r (Err why) stands.run_stands more) stands.keeps; run_stands = on_refused makes own turns r why stands.run_stands; current = stands.current; rests = stands.rests }
 
 -- what holds before a step holds behind it, whatever its send was replied
-pub step_kept : (takes : Order → Bool) (makes : Order → ℕ → Event) (own : List BufferEntry) (turns : List MemberTurn) (r : FrontRun) (reply : Result ℕ SendRefusal) → r.sent < r.order.quota → FrontStands takes makes (Some r) own turns
+pub step_kept : (takes : Order → Bool) (makes : Order → ℕ → Event) (own : List BufferEntry) (turns : List MemberTurn) (r : FrontRun) (reply : Result ℕ SendRefusal) → r.sent < r.order.quota → is_at_work (Some r) ≡ true → FrontStands takes makes (Some r) own turns
     → FrontStands takes makes (Some (run_sent reply r)) (own ++ sent_next makes r reply ∷ []) turns
-step_kept takes makes own turns r (Ok place) more stands = accepted_kept takes makes own turns r place more stands
-step_kept takes makes own turns r (Err (Spent total)) more stands =
-    record { keeps = keeps_refused takes makes own turns r (Spent total) (next_send makes own turns r (Err (Spent total)) stands.run_stands more) stands.keeps; run_stands = on_spent makes own turns r total stands.run_stands; current = stands.current }
-step_kept takes makes own turns r (Err (NotRunning gate)) more stands = refused_kept takes makes own turns r (NotRunning gate) more stands
-step_kept takes makes own turns r (Err (BadSize stated given)) more stands = refused_kept takes makes own turns r (BadSize stated given) more stands
-step_kept takes makes own turns r (Err (ReservedId id)) more stands = refused_kept takes makes own turns r (ReservedId id) more stands
-step_kept takes makes own turns r (Err (TooLarge slot size)) more stands = refused_kept takes makes own turns r (TooLarge slot size) more stands
-step_kept takes makes own turns r (Err (Full client place)) more stands = refused_kept takes makes own turns r (Full client place) more stands
+step_kept takes makes own turns r (Ok place) more work stands = accepted_kept takes makes own turns r place more work stands
+step_kept takes makes own turns r (Err (Spent total)) more work stands =
+    record { keeps = keeps_refused takes makes own turns r (Spent total) (next_send makes own turns r (Err (Spent total)) stands.run_stands more) stands.keeps; run_stands = on_spent makes own turns r total stands.run_stands; current = stands.current; rests = works_on turns r (Some (run_sent (Err (Spent total)) r)) work stands.rests }
+step_kept takes makes own turns r (Err (NotRunning gate)) more work stands = refused_kept takes makes own turns r (NotRunning gate) more stands
+step_kept takes makes own turns r (Err (BadSize stated given)) more work stands = refused_kept takes makes own turns r (BadSize stated given) more stands
+step_kept takes makes own turns r (Err (ReservedId id)) more work stands = refused_kept takes makes own turns r (ReservedId id) more stands
+step_kept takes makes own turns r (Err (TooLarge slot size)) more work stands = refused_kept takes makes own turns r (TooLarge slot size) more stands
+step_kept takes makes own turns r (Err (Full client place)) more work stands = refused_kept takes makes own turns r (Full client place) more stands

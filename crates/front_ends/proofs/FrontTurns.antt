@@ -17,8 +17,8 @@ use Rattle.transitions.specs.declared.answers.Tally.TheVariants.{Plain, Front}
 use Rattle.member_model.specs.Turns.{MemberTurn, IsAcceptedStart, HasTurnOf, HasAnswer, NoneOpen, current_run, IsOfRun, AreEngineTurns, latest_answered}
 use Rattle.member_model.proofs.TurnLaws.{HasTurnOf-earlier}
 use Rattle.front_ends.specs.declared.front_run.FrontRun.{FrontRun}
-use Rattle.front_ends.specs.Fronts.{front_turn, front_answer, run_after, begun_run, paused_run, stopping_run, is_stop_of, is_over, is_done, is_from_pause, front_tally, front_ended, finish_answer, finish_with, run_finished}
-use Rattle.front_ends.specs.FrontKept.{IsMade, EndedSo, IsFrontTally, IsWaiting, TakesPart, IsInRun, IsInCurrent, FrontStands}
+use Rattle.front_ends.specs.Fronts.{front_turn, front_answer, run_after, begun_run, paused_run, stopping_run, is_stop_of, is_over, is_done, is_at_work, is_from_pause, front_tally, front_ended, finish_answer, finish_with, run_finished}
+use Rattle.front_ends.specs.FrontKept.{IsMade, EndedSo, IsFrontTally, IsWaiting, TakesPart, IsInRun, IsInCurrent, answered_last, last_answered, FrontStands}
 use Rattle.front_ends.proofs.FrontGrows.{AnswersStart, TellsTally, sends_turns, accepted_earlier, keeps_more, Tally-more, LeavesRun, fresh_more, on_more, on_paused, none_sent, tally_holds}
 
 -- a turn that is no start, and of which the client's caller reads no other run, leaves the front-end in the current one
@@ -39,19 +39,26 @@ stop_in_run run turns start begin current of_run accepted = elim of_run as (λ w
   | inr none ↦ absurd (none begin accepted.is_start.stands accepted.is_start.is accepted.is_start.of)
 ]
 
+-- a turn that was answered is the latest that was
+last_is : (a : Option Answer) (k : Transition) (before : Option Transition) → HasAnswer a → answered_last a k before ≡ Some Pause → k ≡ Pause
+last_is None k before answered last = absurd answered
+last_is (Some answer) k before answered last = cc (last)
+
 -- a turn that is answered without a tally, and that leaves the run
 plain_more : (takes : Order → Bool) (makes : Order → ℕ → Event) (own : List BufferEntry) (turns : List MemberTurn) (run : Option FrontRun) (t : MemberTurn) → NoneOpen turns → FrontStands takes makes run own turns → HasAnswer t.answer
     → ((start : ℕ) (r : FrontRun) → run ≡ Some r → LeavesRun t r.order.start) → ((sent : ℕ) (ended : FrontEnded) → t.answer ≢ Some (Yes (Front sent ended))) → AnswersStart takes t → TellsTally turns t
-    → (AreEngineTurns (t ∷ turns) → IsInCurrent run (t ∷ turns)) → FrontStands takes makes run own (t ∷ turns)
-plain_more takes makes own turns None t none stands answer leaves plain starts tells current = record {
+    → (AreEngineTurns (t ∷ turns) → IsInCurrent run (t ∷ turns)) → (t.transition ≡ Pause → is_at_work run ≡ false) → FrontStands takes makes run own (t ∷ turns)
+plain_more takes makes own turns None t none stands answer leaves plain starts tells current pauses = record {
   keeps = keeps_more takes makes own turns t stands.keeps (λ are sent ended is tells. absurd (plain sent ended tells)) starts tells;
   run_stands = answer;
   current = current;
+  rests = λ last. pauses (last_is t.answer t.transition (last_answered turns) answer last);
 }
-plain_more takes makes own turns (Some r) t none stands answer leaves plain starts tells current = record {
+plain_more takes makes own turns (Some r) t none stands answer leaves plain starts tells current pauses = record {
   keeps = keeps_more takes makes own turns t stands.keeps (λ are sent ended is tells. absurd (plain sent ended tells)) starts tells;
   run_stands = on_more makes own turns r t stands.run_stands none answer (leaves 0 r refl);
   current = current;
+  rests = λ last. pauses (last_is t.answer t.transition (last_answered turns) answer last);
 }
 
 begin_kept : (dump : Option (List ℕ)) (takes : Order → Bool) (makes : Order → ℕ → Event) (own : List BufferEntry) (turns : List MemberTurn) (run : Option FrontRun) (order : Order) → true ≡ takes order → FrontStands takes makes run own turns
@@ -77,6 +84,7 @@ begin_kept dump takes makes own turns run order takes_part stands =
         ];
       };
       current = λ are start begin on accepted. let number : order.start ≡ start = cc (on) in number;
+      rests = λ last. absurd (let never : Start ≡ Pause = cc (last) in cc (never));
     }
 
 -- a start that was refused is not the accepted start of its number
@@ -109,6 +117,7 @@ stop_kept dump takes makes own turns r order true true is other over none stands
           (r.sent, front_ended r.spent (is_from_pause order.from), sym same_answer));
       run_stands = tt;
       current = λ are. current_none None (t ∷ turns) refl;
+      rests = λ last. refl;
     }
 stop_kept dump takes makes own turns r order true false is other over none stands =
     let t : MemberTurn = front_turn dump Stop order None in
@@ -129,6 +138,7 @@ stop_kept dump takes makes own turns r order true false is other over none stand
         fresh = λ are. fresh_more turns t r.order.start (on.fresh are.1) (λ stop answer. absurd answer);
       };
       current = λ are. current_none (Some (stopping_run order r)) (t ∷ turns) refl;
+      rests = stands.rests;
     }
 stop_kept dump takes makes own turns r order false over is other ends none stands =
     let t : MemberTurn = front_turn dump Stop order (Some (Yes Plain)) in
@@ -139,22 +149,25 @@ stop_kept dump takes makes own turns r order false over is other ends none stand
     (λ starts. absurd (cc (starts)))
     (λ are stop begin answer accepted told. absurd (other refl (stop_in_run (Some r) turns order.start begin (stands.current are.1) are.0 accepted)))
     (λ are. current_none (Some r) (t ∷ turns) refl)
+    (λ pause. absurd (cc (pause)))
 
 -- a turn that is neither a start nor a stop, and is answered plainly, leaves all as it is
 quiet_kept : (takes : Order → Bool) (makes : Order → ℕ → Event) (own : List BufferEntry) (turns : List MemberTurn) (run : Option FrontRun) (t : MemberTurn) → NoneOpen turns → FrontStands takes makes run own turns → t.answer ≡ Some (Yes Plain)
-    → t.transition ≢ Start → t.transition ≢ Stop → current_run (t ∷ turns) ≡ current_run turns → FrontStands takes makes run own (t ∷ turns)
-quiet_kept takes makes own turns run t none stands plain no_start no_stop same =
+    → t.transition ≢ Start → t.transition ≢ Stop → current_run (t ∷ turns) ≡ current_run turns → (t.transition ≡ Pause → is_at_work run ≡ false) → FrontStands takes makes run own (t ∷ turns)
+quiet_kept takes makes own turns run t none stands plain no_start no_stop same pauses =
     plain_more takes makes own turns run t none stands (subst (λ (a : Option Answer). HasAnswer a) (sym plain) tt) (λ start r is stop answer. absurd (no_stop stop))
     (λ sent ended tells. absurd (let e : Some (Yes Plain) ≡ Some (Yes (Front sent ended)) = sym plain ∙ tells in cc (e)))
     (λ starts. absurd (no_start starts))
     (λ are stop begin answer accepted told. absurd (no_stop stop))
     (λ are. current_more run t turns no_start same (stands.current are.1))
+    pauses
 
-paused_kept : (takes : Order → Bool) (makes : Order → ℕ → Event) (own : List BufferEntry) (turns : List MemberTurn) (r : FrontRun) (paused : Bool) → FrontStands takes makes (Some r) own turns → FrontStands takes makes (Some (paused_run paused r)) own turns
-paused_kept takes makes own turns r paused stands = record {
+paused_kept : (takes : Order → Bool) (makes : Order → ℕ → Event) (own : List BufferEntry) (turns : List MemberTurn) (r : FrontRun) (paused : Bool) → (last_answered turns ≡ Some Pause → is_at_work (Some (paused_run paused r)) ≡ false) → FrontStands takes makes (Some r) own turns → FrontStands takes makes (Some (paused_run paused r)) own turns
+paused_kept takes makes own turns r paused rests stands = record {
   keeps = stands.keeps;
   run_stands = on_paused makes own turns r paused stands.run_stands;
   current = λ are. current_paused (Some r) turns paused (stands.current are);
+  rests = rests;
 }
 
 -- what holds before a turn holds behind it, with its answer
@@ -166,20 +179,23 @@ turn_kept dump takes makes false run own turns Start order is none stands =
     (λ starts. ap (λ (b : Bool). Some (if b then Yes Plain else No NotReady)) is)
     (λ are stop begin answer accepted told. absurd (cc (stop)))
     (refused_current dump run turns order)
+    (λ pause. absurd (cc (pause)))
 turn_kept dump takes makes part None own turns Stop order is none stands =
     let t : MemberTurn = front_turn dump Stop order (Some (Yes Plain)) in
     plain_more takes makes own turns None t none stands tt (λ start r is stop answer. absurd (cc (is))) (λ sent ended tells. cc (tells))
     (λ starts. absurd (cc (starts)))
     (λ are stop begin answer accepted told. absurd (stop_in_run None turns order.start begin (stands.current are.1) are.0 accepted))
     (λ are. current_none None (t ∷ turns) refl)
+    (λ pause. absurd (cc (pause)))
 turn_kept dump takes makes part (Some r) own turns Stop order is none stands =
     stop_kept dump takes makes own turns r order (is_stop_of r order) (is_over r order) (λ e. eqb-true r.order.start order.start e) (λ e. eqb-false r.order.start order.start e) (λ e. e) none stands
-turn_kept dump takes makes part None own turns Pause order is none stands = quiet_kept takes makes own turns None (front_turn dump Pause order (Some (Yes Plain))) none stands refl (λ e. cc (e)) (λ e. cc (e)) refl
+turn_kept dump takes makes part None own turns Pause order is none stands = quiet_kept takes makes own turns None (front_turn dump Pause order (Some (Yes Plain))) none stands refl (λ e. cc (e)) (λ e. cc (e)) refl (λ pause. refl)
 turn_kept dump takes makes part (Some r) own turns Pause order is none stands =
-    paused_kept takes makes own (front_turn dump Pause order (Some (Yes Plain)) ∷ turns) r true (quiet_kept takes makes own turns (Some r) (front_turn dump Pause order (Some (Yes Plain))) none stands refl (λ e. cc (e)) (λ e. cc (e)) refl)
-turn_kept dump takes makes part None own turns Resume order is none stands = quiet_kept takes makes own turns None (front_turn dump Resume order (Some (Yes Plain))) none stands refl (λ e. cc (e)) (λ e. cc (e)) refl
+    quiet_kept takes makes own turns (Some (paused_run true r)) (front_turn dump Pause order (Some (Yes Plain))) none (paused_kept takes makes own turns r true (λ last. refl) stands) refl (λ e. cc (e)) (λ e. cc (e)) refl (λ pause. refl)
+turn_kept dump takes makes part None own turns Resume order is none stands = quiet_kept takes makes own turns None (front_turn dump Resume order (Some (Yes Plain))) none stands refl (λ e. cc (e)) (λ e. cc (e)) refl (λ pause. refl)
 turn_kept dump takes makes part (Some r) own turns Resume order is none stands =
-    paused_kept takes makes own (front_turn dump Resume order (Some (Yes Plain)) ∷ turns) r false (quiet_kept takes makes own turns (Some r) (front_turn dump Resume order (Some (Yes Plain))) none stands refl (λ e. cc (e)) (λ e. cc (e)) refl)
+    paused_kept takes makes own (front_turn dump Resume order (Some (Yes Plain)) ∷ turns) r false (λ last. absurd (let never : Resume ≡ Pause = cc (last) in cc (never)))
+    (quiet_kept takes makes own turns (Some r) (front_turn dump Resume order (Some (Yes Plain))) none stands refl (λ e. cc (e)) (λ e. cc (e)) refl (λ pause. absurd (cc (pause))))
 turn_kept dump takes makes part run own turns StartAbort order is none stands =
     let t : MemberTurn = front_turn dump StartAbort order (Some (Yes Plain)) in
     record {
@@ -188,6 +204,7 @@ turn_kept dump takes makes part run own turns StartAbort order is none stands =
           (λ are stop begin answer accepted told. absurd (cc (stop)));
       run_stands = tt;
       current = λ are. current_none None (t ∷ turns) refl;
+      rests = λ last. refl;
     }
 
 -- The answer to the stop that waited.
@@ -258,6 +275,7 @@ closed_kept dump takes makes r own earlier order same done stands =
       };
       run_stands = tt;
       current = λ are. current_none None (t ∷ earlier) refl;
+      rests = λ last. refl;
     }
 
 abbrev finish_by : (done : Bool) → (stop : Option Order) → FrontRun → Option Answer

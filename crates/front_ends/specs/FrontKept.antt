@@ -1,9 +1,10 @@
 -- What a front-end keeps of its calls on a buffer and of its turns, whatever the buffer replies.
-use Rattle.std.specs.Prelude.{◌≡◌, ◌≢◌, ℕ, zero, suc, ◌≤◌, ◌<◌, Bool, if◌then◌else◌, List, [], ◌∷◌, ◌++◌, length, drop, Option, Some, None, ⊤, ◌⊎◌}
+use Rattle.std.specs.Prelude.{◌≡◌, ◌≢◌, ℕ, zero, suc, ◌≤◌, ◌<◌, Bool, false, if◌then◌else◌, List, [], ◌∷◌, ◌++◌, length, take, drop, Option, Some, None, ⊤, ◌⊎◌}
 use Rattle.daq_types.specs.declared.events.Event.{Event}
 use Rattle.daq_types.specs.declared.runs.Order.{Order}
 use Rattle.daq_types.specs.declared.runs.RunState.TheVariants.{Paused}
-use Rattle.daq_types.specs.declared.runs.Transition.TheVariants.{Start, Stop}
+use Rattle.daq_types.specs.declared.runs.Transition.{Transition}
+use Rattle.daq_types.specs.declared.runs.Transition.TheVariants.{Start, Stop, Pause}
 use Rattle.daq_types.specs.declared.runs.FrontEnded.{FrontEnded}
 use Rattle.daq_types.specs.declared.runs.FrontEnded.TheVariants.{Quota, Paused as EndedPaused, Spent as EndedSpent}
 use Rattle.daq_types.specs.declared.runs.Why.TheVariants.{NotReady}
@@ -16,7 +17,8 @@ use Rattle.member_model.specs.Turns.{MemberTurn, HasTurn, HasTurnOf, IsAcceptedS
 use Rattle.member_model.specs.Moments.{AreMoments, HasMoment}
 use Rattle.member_model.specs.SentCalls.{own_sent, IsSendInRun, SendsNotIn, EachCall, WasSpent}
 use Rattle.front_ends.specs.declared.front_run.FrontRun.{FrontRun}
-use Rattle.front_ends.specs.Fronts.{front_turn}
+use Rattle.front_ends.specs.Fronts.{front_turn, is_at_work}
+use Rattle.front_ends.specs.Spans.{HasSpan}
 
 -- events 1 to n of an equipment in a run of this order
 abbrev pub made_events : (Order → ℕ → Event) → Order → (n : ℕ) → List Event
@@ -93,10 +95,25 @@ abbrev pub StopsEndSends : List BufferEntry → List MemberTurn → (moments : L
 StopsEndSends own turns moments = (t : MemberTurn) → (moment : ℕ) → HasMoment turns moments t moment →
     t.transition ≡ Stop → HasAnswer t.answer → EachCall (SendsNotIn t.order.start) (drop moment own)
 
+-- behind the answer to a pause no event is sent in its run, nor is one tried to be, until the next turn is answered
+abbrev pub PausesHoldSends : List BufferEntry → List MemberTurn → (moments : List ℕ) → Type 0
+PausesHoldSends own turns moments = (t : MemberTurn) → (moment until : ℕ) →
+    HasSpan turns moments (length own) t moment until → t.transition ≡ Pause → HasAnswer t.answer →
+    EachCall (SendsNotIn t.order.start) (drop moment (take until own))
+
 -- What holds at every moment of the moments of its turns.
 pub record KeepsMoments (own : List BufferEntry) (turns : List MemberTurn) (moments : List ℕ) : Type 0 where
   pub are : AreMoments turns moments (length own)
   pub ends : AreEngineTurns turns → StopsEndSends own turns moments
+  pub holds : PausesHoldSends own turns moments
+
+-- So what it had sent in the run by its answer to a pause is all that it had sent in it when it answered its next turn, or has
+-- sent so far, where it answered none since.
+abbrev pub SentAtPauses : Type 0
+SentAtPauses = (own : List BufferEntry) → (turns : List MemberTurn) → (moments : List ℕ) → KeepsMoments own turns moments →
+    (t : MemberTurn) → (moment until : ℕ) → HasSpan turns moments (length own) t moment until →
+    t.transition ≡ Pause → HasAnswer t.answer →
+    own_sent (take moment own) t.order.start ≡ own_sent (take until own) t.order.start
 
 -- the latest turn is a stop that is not answered, if one waits
 abbrev pub IsWaiting : (stop : Option Order) → (start : ℕ) → List MemberTurn → Type 0
@@ -137,8 +154,18 @@ IsInRun (Some r) start = r.order.start ≡ start
 abbrev pub IsInCurrent : Option FrontRun → List MemberTurn → Type 0
 IsInCurrent run turns = (start : ℕ) → (begin : MemberTurn) → current_run turns ≡ Some start → IsAcceptedStart turns start begin → IsInRun run start
 
--- a front-end in this run, or in none, with its own calls and its turns
+abbrev pub answered_last : Option Answer → Transition → (before : Option Transition) → Option Transition
+answered_last None transition before = before
+answered_last (Some answer) transition before = Some transition
+
+-- the transition of the latest turn that was answered
+abbrev pub last_answered : List MemberTurn → Option Transition
+last_answered [] = None
+last_answered (t ∷ ts) = answered_last t.answer t.transition (last_answered ts)
+
+-- a front-end in this run, or in none, with its own calls and its turns; since it answered a pause it is to send nothing
 pub record FrontStands (takes : Order → Bool) (makes : Order → ℕ → Event) (run : Option FrontRun) (own : List BufferEntry) (turns : List MemberTurn) : Type 0 where
   pub keeps : KeepsFront takes makes own turns
   pub run_stands : RunStands makes own turns run
   pub current : AreEngineTurns turns → IsInCurrent run turns
+  pub rests : last_answered turns ≡ Some Pause → is_at_work run ≡ false

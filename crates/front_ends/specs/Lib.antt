@@ -1,3 +1,4 @@
 pub mod FrontIds
 pub mod Fronts
+pub mod Spans
 pub mod FrontKept

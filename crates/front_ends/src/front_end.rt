@@ -354,6 +354,8 @@ impl<E: Equipment> FrontEnd<E> {
             self.new.run own (latest_answered turns result) }
         ensures moments { (own : List BufferEntry) → (turns : List MemberTurn)
             → (moments : List ℕ) →
+            FrontStands (E.takes self.old.equipment) (E.makes self.old.equipment)
+            self.old.run own turns →
             KeepsMoments own turns moments →
             KeepsMoments own (latest_answered turns result)
             (moments_answered moments result (length own)) }

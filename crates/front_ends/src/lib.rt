@@ -7,6 +7,7 @@ mod front_end;
 mod front_run;
 mod front_step;
 mod generator;
+pub mod laws;
 
 pub use equipment::{EVENT_BYTES, Equipment};
 pub use front_end::FrontEnd;

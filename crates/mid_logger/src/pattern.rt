@@ -134,6 +134,16 @@ impl Pattern {
         }
     }
 
+    /// The same pattern again. Takes no memory.
+    pub fn copy(&self) -> Pattern
+        ensures { result ≡ self.now }
+    {
+        Pattern {
+            front: held(self.front.as_slice()),
+            back: held(self.back.as_slice()),
+        }
+    }
+
     /// The name of the file in the run of this number.
     pub fn name(&self, run: u32) -> FileName
         ensures { result ≡ file_name_by self.now run }

@@ -27,8 +27,8 @@ fn add_names(text: &mut TextBuffer, names: &[Name]) -> Result<(), NoMemory>
     Ok(())
 }
 
-/// Adds the text of a path.
-fn add_path(text: &mut TextBuffer, names: &[Name]) -> Result<(), NoMemory>
+/// Adds the text of the path with these names: each behind a slash, from the root down; the root's is a slash alone.
+pub fn print_path(names: &[Name], text: &mut TextBuffer) -> Result<(), NoMemory>
     ensures { OnOk result (text.new ≡ text.old ++ path_text names.now) }
 {
     if names.is_empty() {
@@ -42,7 +42,7 @@ fn add_dir_line(text: &mut TextBuffer, path: &Path) -> Result<(), NoMemory>
     ensures { OnOk result (text.new ≡ text.old ++ dir_line path.now) }
 {
     text.text(b"[")?;
-    add_path(text, path.names())?;
+    print_path(path.names(), text)?;
     text.text(b"]\n")
 }
 

@@ -13,6 +13,7 @@ mod saving;
 mod skips;
 
 pub use acts::{Act, LoadRefusal, Loaded};
+pub use dump::print_path;
 pub use loading::load;
 pub use saving::save;
 

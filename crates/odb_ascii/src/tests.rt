@@ -226,6 +226,48 @@ const ENDED: &str =
     "[/Runinfo]\nState = INT32 : 3\nRun number = INT32 : 1\nStart time binary = UINT32 : 1000\n\
     Stop time binary = UINT32 : 1010\n\n[/Equipment]\n\n[/Equipment/FE]\nEvents sent = UINT64 : 1\n\n";
 
+/// The dump of such a run without events at its end: 176 bytes.
+const ENDED_EMPTY: &str =
+    "[/Runinfo]\nState = INT32 : 3\nRun number = INT32 : 1\nStart time binary = UINT32 : 1000\n\
+    Stop time binary = UINT32 : 1010\n\n[/Equipment]\n\n[/Equipment/FE]\nEvents sent = UINT64 : 0\n\n";
+
+/// Sets the only item of a key.
+fn set_only<D: Database>(
+    alloc: Global,
+    database: &mut D,
+    path: &str,
+    tid: Tid,
+    text: &str,
+) -> Result<(), Fail> {
+    let path = Path::read(alloc, path.as_bytes())?;
+    let item = parse_item(alloc, tid, text.as_bytes())?;
+    let _ = database.set(alloc, &path, 0, &item)?;
+    Ok(())
+}
+
+#[test]
+fn session_at_its_end(rt: HostRuntime) -> Result<(), Fail> {
+    let alloc = rt.alloc();
+    let mut database = new_session(alloc)?;
+    let sent: Key = ("/Equipment/FE/Events sent", Tid::UInt64, &["0"]);
+    put(alloc, &mut database, &sent)?;
+    for (path, tid, text) in [
+        ("/Runinfo/State", Tid::Int32, "1"),
+        ("/Runinfo/Run number", Tid::Int32, "1"),
+        ("/Runinfo/Start time binary", Tid::UInt32, "1000"),
+        ("/Runinfo/Stop time binary", Tid::UInt32, "0"),
+        ("/Equipment/FE/Events sent", Tid::UInt64, "0"),
+        ("/Runinfo/State", Tid::Int32, "3"),
+        ("/Runinfo/Stop time binary", Tid::UInt32, "1010"),
+    ] {
+        set_only(alloc, &mut database, path, tid, text)?;
+    }
+    let dump = save(alloc, &database)?;
+    assert_eq!(rt; dump.as_slice(), ENDED_EMPTY.as_bytes());
+    assert_eq!(rt; dump.as_slice().len(), 176);
+    Ok(())
+}
+
 #[test]
 fn dumps_load_again(rt: HostRuntime) -> Result<(), Fail> {
     for (text, len, keys) in [(NEW, 114, 4), (BEGUN, 173, 5), (ENDED, 176, 5)] {

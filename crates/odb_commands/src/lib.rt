@@ -11,4 +11,5 @@ mod tests;
 mod texts;
 
 pub use commands::{COMMAND_CALLS, create, get, list, remove, run_command, set};
+pub use reading::{read_path, settled};
 pub use replies::{CommandRefusal, CommandReply};

@@ -13,9 +13,7 @@ use odb_value::{Item, ItemRefusal, Value, parse_item};
 use std::alloc::Global;
 
 /// What the database answered, where memory was not wanting.
-pub(crate) fn settled<T: Drop>(
-    reply: Result<T, OdbRefusal>,
-) -> Result<Result<T, OdbRefusal>, NoMemory>
+pub fn settled<T: Drop>(reply: Result<T, OdbRefusal>) -> Result<Result<T, OdbRefusal>, NoMemory>
     ensures same { IfOk result (λ settled. settled ≡ reply) }
     ensures wanted { IfOk result (λ settled. IsSettled settled) }
     ensures memory { OnErr result (reply ≡ Err no_memory) }
@@ -28,7 +26,7 @@ pub(crate) fn settled<T: Drop>(
 }
 
 /// The path of a text, or why it is none.
-pub(crate) fn read_path(alloc: Global, text: &[u8]) -> Result<Result<Path, PathRefusal>, NoMemory>
+pub fn read_path(alloc: Global, text: &[u8]) -> Result<Result<Path, PathRefusal>, NoMemory>
     ensures { IfOk result (λ path. path ≡ path_reply text.now) }
 {
     match Path::read(alloc, text) {

@@ -125,15 +125,17 @@ fn add_odb_refusal(text: &mut TextBuffer, why: OdbRefusal) -> Result<(), NoMemor
     }
 }
 
-/// Adds a refusal: its name, and its fields in the order of their declaration.
-fn add_refusal(text: &mut TextBuffer, why: &CommandRefusal) -> Result<(), NoMemory>
-    ensures { OnOk result (text.new ≡ text.old ++ refusal_text why.now) }
-{
-    match *why {
-        CommandRefusal::Path { why } => add_path_refusal(text, why),
-        CommandRefusal::Protected => text.text(b"Protected"),
-        CommandRefusal::Item { why } => add_item_refusal(text, why),
-        CommandRefusal::Database { why } => add_odb_refusal(text, why),
+impl CommandRefusal {
+    /// Adds the refusal: its name, and its fields in the order of their declaration, each behind a blank.
+    pub fn print(&self, text: &mut TextBuffer) -> Result<(), NoMemory>
+        ensures { OnOk result (text.new ≡ text.old ++ refusal_text self.now) }
+    {
+        match *self {
+            CommandRefusal::Path { why } => add_path_refusal(text, why),
+            CommandRefusal::Protected => text.text(b"Protected"),
+            CommandRefusal::Item { why } => add_item_refusal(text, why),
+            CommandRefusal::Database { why } => add_odb_refusal(text, why),
+        }
     }
 }
 
@@ -144,7 +146,7 @@ fn add_refused(text: &mut TextBuffer, line: u64, why: &CommandRefusal) -> Result
     text.text(b"refused ")?;
     text.number(line)?;
     text.text(b": ")?;
-    add_refusal(text, why)?;
+    why.print(text)?;
     text.text(b"\n")
 }
 

@@ -40,6 +40,10 @@ sets_on a b c some more first then = record {
 pub sets_at : (a b : DatabaseAccess) (path at : List (List ℕ)) (item : Item) → path ≡ at → SetsNumbers a b (record { path = path; item = item } ∷ []) → SetsNumbers a b (record { path = at; item = item } ∷ [])
 sets_at a b path at item is sets = subst (λ (p : List (List ℕ)). SetsNumbers a b (record { path = p; item = item } ∷ [])) is sets
 
+-- a set of the item that this one is, at the path that this one is
+pub sets_as : (a b : DatabaseAccess) (path at : List (List ℕ)) (item held : Item) → path ≡ at → item ≡ held → SetsNumbers a b (record { path = path; item = item } ∷ []) → SetsNumbers a b (record { path = at; item = held } ∷ [])
+sets_as a b path at item held is same sets = subst (λ (i : Item). SetsNumbers a b (record { path = at; item = i } ∷ [])) same (sets_at a b path at item is sets)
+
 on_err : {T E : Type 0} (P : Type 0) (result : Result T E) → P → OnErr result P
 on_err P (Ok x) holds = tt
 on_err P (Err why) holds = holds

@@ -1,5 +1,7 @@
 -- What a session reads from the run's parameters, and writes to them: the calls, each with whatever reply it got.
 use Rattle.std.specs.Prelude.{◌≡◌, ℕ, ◌+◌, ◌-◌, nat_lt, if◌then◌else◌, ℤ, pos, negsuc, Bool, true, false, List, [], ◌∷◌, Result, Ok, Err, ⊤}
+use Rattle.daq_types.specs.declared.runs.RunState.{RunState}
+use Rattle.daq_types.specs.declared.runs.RunState.TheVariants.{Stopped, Paused, Running}
 use Rattle.daq_types.specs.declared.types.Tid.TheVariants as tid
 use Rattle.odb_value.specs.declared.items.Item.{Item}
 use Rattle.odb_value.specs.declared.items.Item.TheVariants.{Int32, UInt32, UInt64, Text}
@@ -112,6 +114,20 @@ stopping_sets time = key_set State (Int32 (pos 3)) ∷ key_set StopTime (UInt32 
 -- and stopped once it is over
 abbrev pub stopped_set : List Assignment
 stopped_set = key_set State (Int32 (pos 1)) ∷ []
+
+-- the run state as it stands in the database
+abbrev pub state_item : RunState → Item
+state_item Stopped = Int32 (pos 1)
+state_item Paused = Int32 (pos 2)
+state_item Running = Int32 (pos 3)
+
+-- the state of the run is set
+abbrev pub state_set : RunState → List Assignment
+state_set state = key_set State (state_item state) ∷ []
+
+-- a stop as it begins, in this state: the state as it is, and the time of the stop
+abbrev pub stop_sets : RunState → (time : ℕ) → List Assignment
+stop_sets state time = key_set State (state_item state) ∷ key_set StopTime (UInt32 time) ∷ []
 
 -- Where the calls are legal.
 

@@ -5,6 +5,7 @@
 mod keys;
 pub mod laws;
 mod opening;
+mod parameters;
 mod paths;
 mod sets;
 #[cfg(test)]
@@ -12,7 +13,7 @@ mod tests;
 
 pub use keys::{RunKey, sent_path};
 pub use opening::open;
-pub use paths::{RunPaths, StartPaths, StartedPaths, StoppedPaths, StoppingPaths};
+pub use paths::{KeyPaths, RunPaths, StartedPaths, StoppedPaths, StoppingPaths};
 pub use sets::{
     RunNumber, START_CALLS, STOP_CALLS, next_run, open_front, set_refused, set_running, set_sent,
     set_start, set_stopped, set_stopping,

@@ -7,9 +7,9 @@ use daq_types::{Name, NoMemory};
 use odb_path::Path;
 use std::alloc::Global;
 
-/// The paths of what a start sets before its run begins.
+/// The paths of the run's parameters. They are made before a run begins, so that what is set until its end takes no memory.
 #[derive(Drop)]
-pub struct StartPaths {
+pub struct KeyPaths {
     pub state: Path,
     pub run_number: Path,
     pub start_time: Path,
@@ -57,7 +57,7 @@ pub struct StoppedPaths {
 pub struct RunPaths {
     /// The front-end.
     pub front: Name,
-    pub start: StartPaths,
+    pub start: KeyPaths,
     pub started: StartedPaths,
     /// The run number, which is set back where the start is refused.
     pub refused: Path,
@@ -68,14 +68,14 @@ pub struct RunPaths {
     ghost stopped_front: { stopped.front ≡ front },
 }
 
-impl StartPaths {
+impl KeyPaths {
     /// These paths.
-    pub fn new(alloc: Global) -> Result<StartPaths, NoMemory> {
+    pub fn new(alloc: Global) -> Result<KeyPaths, NoMemory> {
         let state = RunKey::State.path(alloc)?;
         let run_number = RunKey::RunNumber.path(alloc)?;
         let start_time = RunKey::StartTime.path(alloc)?;
         let stop_time = RunKey::StopTime.path(alloc)?;
-        Ok(StartPaths {
+        Ok(KeyPaths {
             state,
             run_number,
             start_time,
@@ -120,7 +120,7 @@ impl RunPaths {
     pub fn new(alloc: Global, front: Name) -> Result<RunPaths, NoMemory>
         ensures { IfOk result (λ paths. paths.front ≡ front) }
     {
-        let start = StartPaths::new(alloc)?;
+        let start = KeyPaths::new(alloc)?;
         let started = StartedPaths::new(alloc, front)?;
         let refused = RunKey::RunNumber.path(alloc)?;
         let stopping = StoppingPaths::new(alloc)?;

@@ -7,7 +7,7 @@ ghost use Rattle.odb_runinfo.specs.RunKeys.{key_path, sent_path};
 ghost use Rattle.odb_runinfo.specs.RunSets.{AsksKey, GetsNumber, SetsNumbers, number_asked, number_in, next_run, sent_key_made, sent_set, start_sets, running_set, refused_sets, stopping_sets, stopped_set};
 
 use crate::keys::{RunKey, sent_path};
-use crate::paths::{StartPaths, StoppingPaths};
+use crate::paths::{KeyPaths, StoppingPaths};
 use daq_types::{Name, NoMemory, Tid};
 use odb_path::Path;
 use odb_port::DatabasePort;
@@ -123,7 +123,7 @@ pub fn set_start<R: Wait, P: DatabasePort>(
     rt: &R,
     alloc: Global,
     port: &mut P,
-    paths: StartPaths,
+    paths: KeyPaths,
     run: u32,
     time: u32,
 )
@@ -133,7 +133,7 @@ pub fn set_start<R: Wait, P: DatabasePort>(
     ensures same { IsSamePort (P.access port.old) (P.access port.new) }
     ensures room { (P.access port.old).room ≤ (P.access port.new).room + 4 }
 {
-    let StartPaths {
+    let KeyPaths {
         state,
         run_number,
         start_time,

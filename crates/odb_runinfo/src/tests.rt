@@ -3,7 +3,7 @@ ghost use Rattle.std.specs.Prelude.{◌≡◌, IfOk};
 ghost use Rattle.daq_types.specs.Callers.{main_caller};
 
 use crate::{
-    RunKey, RunNumber, RunPaths, START_CALLS, STOP_CALLS, StartPaths, StoppingPaths, next_run,
+    RunKey, RunNumber, RunPaths, START_CALLS, STOP_CALLS, KeyPaths, StoppingPaths, next_run,
     open, open_front, sent_path, set_refused, set_running, set_sent, set_start, set_stopped,
     set_stopping,
 };
@@ -73,7 +73,7 @@ fn start_once<R: Wait>(
     port: &mut LocalAccess<PlainTree>,
     run: u16,
 ) -> Result<(), NoMemory> {
-    let start = StartPaths::new(alloc)?;
+    let start = KeyPaths::new(alloc)?;
     let state = RunKey::State.path(alloc)?;
     port.reserve(START_CALLS)?;
     set_start(rt, alloc, port, start, run as u32, 1000);

@@ -1,3 +1,4 @@
 mod KnownSteps
 mod KnownCalls
 mod MadeLaws
+mod SeatLaws

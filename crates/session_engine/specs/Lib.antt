@@ -1,3 +1,4 @@
 pub mod MainKnowledge
 pub mod MadeTransitions
 pub mod Members
+pub mod MainSeats

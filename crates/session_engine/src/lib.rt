@@ -5,7 +5,9 @@
 mod making;
 mod opening;
 mod rounds;
+mod seat;
 
 pub use making::{Made, make_transition};
 pub use opening::{MemberName, close, register_all};
 pub use rounds::Rounds;
+pub use seat::MainSeat;

@@ -1,16 +1,19 @@
 // A transition by the main thread.
-ghost use Rattle.std.specs.Prelude.{◌≡◌, ◌++◌, ◌∷◌, [], None, Some, Ok, Err, IfOk, IfErr};
+ghost use Rattle.std.specs.Prelude.{◌≡◌, ◌≢◌, ◌++◌, ◌∷◌, [], None, Some, Ok, Err, IfOk, IfErr};
 ghost use Rattle.daq_types.specs.Callers.{main_caller};
-ghost use Rattle.turn_lock.specs.Passes.{number_of, held_by, own_entries, IsOf};
+ghost use Rattle.daq_types.specs.declared.runs.StartOutcome.TheVariants.{Completed};
+ghost use Rattle.daq_types.specs.declared.runs.Transition.TheVariants.{Start};
+ghost use Rattle.turn_lock.specs.Passes.{number_of, held_by, own_entries, seen_by, IsOf};
 ghost use Rattle.transitions.specs.declared.entry.EngineEntry.TheVariants.{Begin};
 ghost use Rattle.transitions.specs.Engines.{engine_opening};
-ghost use Rattle.transitions.specs.EngineHistories.{IsSheet};
+ghost use Rattle.transitions.specs.EngineHistories.{IsLegalEngine, IsSheet};
 ghost use Rattle.transition_lock.specs.SharedEngines.{engine_lock_of, first_engine};
 ghost use Rattle.session_engine.specs.MainKnowledge.{known_from, begin_known, known_behind};
 ghost use Rattle.session_engine.specs.MadeTransitions.{WaitsForEnd, DrivesTransition};
 
 use crate::rounds::Rounds;
 use daq_types::{StartOutcome, Transition};
+use engine_laws::laws::{main_has_transition, tallies_answered};
 use std::sync::Wait;
 use transition_lock::{EnginePass, SharedEngine};
 use transitions::{BeginRefusal, Progress, Sheet, Tallies};
@@ -44,6 +47,7 @@ fn wait_for_end<R: Wait, M: Rounds>(
     ensures main { number_of main.new ≡ main_caller }
     ensures own { IsOf (engine_lock_of engine.now) main.new }
     ensures idle { held_by main.new ≡ None }
+    ensures legal { IsLegalEngine (first_engine engine.now) (seen_by main.new) }
 {
     for _ in rt.forever() {
         let progress = engine.check(rt, main, tallies);
@@ -83,6 +87,7 @@ pub fn make_transition<R: Wait, M: Rounds>(
         members.new) }
     ensures known { IfOk result (λ made. known_from (own_entries main.new)
         ≡ known_behind transition made.outcome (known_from (own_entries main.old))) }
+    ensures completed { IfOk result (λ made. transition ≢ Start → made.outcome ≡ Completed) }
 
     // Where it is refused, and what stays.
     ensures refused { IfErr result (λ refused. begin_known (known_from (own_entries main.old))
@@ -97,6 +102,8 @@ pub fn make_transition<R: Wait, M: Rounds>(
     ensures own { IsOf (engine_lock_of engine.now) main.new }
     ensures idle { held_by main.new ≡ None }
 {
+    main_has_transition();
+    tallies_answered();
     let start = engine.begin(rt, main, transition, sheet)?;
     let outcome = wait_for_end(rt, engine, main, tallies, members);
     Ok(Made { start, outcome })

@@ -9,6 +9,7 @@ returns c s keep = record {
   only_fronts = c.fronts.ensures.only s keep;
   fronts_set = c.sets.ensures.set s keep;
   stops_set = c.sets.ensures.stop s keep;
+  pauses_set = c.sets.ensures.pause s keep;
   channels_told = c.files.ensures.told s keep;
   runs_ended = c.files.ensures.ended s keep;
   no_end_refused = c.files.ensures.unrefused s keep;

@@ -1,4 +1,5 @@
 use Rattle.composition.proofs.NeededSessions.{all_met, buffers_needed, engine_needed, names_needed, members_needed, fronts_needed, moments_needed, sets_needed, alone_needed, logger_needed, events_needed, analyzers_needed, fronts_there, analyzers_there, logger_there_needed, dump_needed}
+use Rattle.composition.proofs.PausedNeeded.{pauses_needed}
 use Rattle.composition.proofs.CountedSampled.{counted_needed, got_needed}
 use Rattle.composition.proofs.laws.needs_each_premise.Goals as goal
 
@@ -12,6 +13,7 @@ returns c =
       members = members_needed;
       fronts = fronts_needed;
       moments = moments_needed;
+      pauses = pauses_needed;
       sets = sets_needed;
       sets_alone = alone_needed;
       logger = logger_needed;

@@ -1,5 +1,5 @@
 use Rattle.composition.proofs.SessionTurns.{EngineFacts}
-use Rattle.composition.proofs.SetTogether.{fronts_set, stops_set}
+use Rattle.composition.proofs.SetTogether.{fronts_set, stops_set, pauses_set}
 use Rattle.composition.proofs.laws.sets.Goals as goal
 
 pub returns : goal.returns
@@ -12,4 +12,4 @@ returns c =
       told = c.called_told.ensures;
       rise = c.start_numbers_rise.ensures;
     } in
-    record { set = fronts_set laws; stop = stops_set laws }
+    record { set = fronts_set laws; stop = stops_set laws; pause = pauses_set c.sent_at_pauses.ensures }

@@ -7,7 +7,8 @@ use Rattle.turn_lock.specs.Passes.{number_of, seen_by, own_entries}
 use Rattle.transition_lock.specs.SharedEngines.{first_engine}
 use Rattle.session_engine.specs.MainKnowledge.{known_from}
 use Rattle.session_engine.proofs.KnownCalls.{at_call}
-use Rattle.session_engine.proofs.MadeLaws.{begun_so, known_refused, known_begun, known_made}
+use Rattle.session_engine.proofs.MadeLaws.{begun_so, known_refused, known_begun, known_made, made_whole}
+use Rattle.session_engine.proofs.SeatLaws.{completes}
 use Rattle.session_engine.proofs.making.make_transition.Goals as goal
 
 pub returns-in_err-start-clause-refused : goal.returns-in_err-start-clause-refused
@@ -42,3 +43,13 @@ returns-clause-known g c =
     let waited = c.wait_for_end-outcome in
     known_made g.M.Rounds.round (own_entries c.args.main.now) (own_entries c.begin.new.pass) (own_entries waited.new.main) c.args.members.now waited.new.members c.args.transition c.args.sheet c.in_ok-start.start waited.result waited.new.tallies
     c.in_ok-start.ensures.entered.mine waited.ensures.waits
+
+pub returns-clause-completed : goal.returns-clause-completed
+returns-clause-completed g c =
+    let main = c.args.main.now in
+    let waited = c.wait_for_end-outcome in
+    let later = waited.new.main in
+    let drives = made_whole g.M.Rounds.round (own_entries main) (own_entries c.begin.new.pass) (own_entries later) c.args.members.now waited.new.members c.args.transition c.args.sheet c.in_ok-start.start waited.result waited.new.tallies
+    c.in_ok-start.ensures.entered.mine waited.ensures.waits in
+    completes g.M.Rounds.round (first_engine c.args.engine.now) (number_of later) (own_entries main) (seen_by later) c.args.members.now waited.new.members c.args.transition c.args.sheet c.in_ok-start.start waited.result waited.new.tallies
+    c.main_has_transition.ensures c.tallies_answered.ensures.completed c.requires.opening waited.ensures.main waited.ensures.legal drives

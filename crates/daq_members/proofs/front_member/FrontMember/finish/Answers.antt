@@ -24,7 +24,7 @@ returns-clause-keeps g c = λ calls own transition order dump blank asked owed m
     -- the equipment is the same behind the call
     (subst (λ q. FrontStands (g.E.Equipment.takes q) (g.E.Equipment.makes q) ended.new.self.run own (latest_answered (member_turns self.seat.client calls) ended.result)) (ap (λ (f : FrontState _). f.equipment) ended.ensures.after)
     (ended.ensures.keeps own (member_turns self.seat.client calls) member.stands))
-    (ended.ensures.moments own (member_turns self.seat.client calls) member.moments member.kept)
+    (ended.ensures.moments own (member_turns self.seat.client calls) member.moments member.stands member.kept)
     (λ are in_run. c.sent_in-sent.ensures.in_run own (member_turns self.seat.client calls) member.stands are in_run ∙ c.sent_in-sent.ensures.number)
     (rw (c.number_finished-number.ensures, c.is_some-answered.ensures, c.sent_in-sent.ensures.number) at c.set_sent.ensures.own)
     (engine_unanswered (member_turns self.seat.client calls) ended.result)

@@ -15,4 +15,6 @@ returns-clause-keeps g c = λ own turns stands.
     (finish_kept (g.E.Equipment.takes c.self.inside.equipment) (g.E.Equipment.makes c.self.inside.equipment) c.self.inside.run own turns (rw (← c.self.view_is) at stands))
 
 pub returns-clause-moments : goal.returns-clause-moments
-returns-clause-moments g c = λ own turns moments keeps. finish_moments own turns moments (Some c.told_of.result) keeps
+returns-clause-moments g c = λ own turns moments stands keeps.
+    let told : finish_answer c.self.inside.run ≡ Some c.told_of.result = search rules in
+    finish_moments (g.E.Equipment.takes c.self.inside.equipment) (g.E.Equipment.makes c.self.inside.equipment) c.self.inside.run own turns moments c.told_of.result told (rw (← c.self.view_is) at stands) keeps

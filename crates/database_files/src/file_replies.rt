@@ -1,0 +1,93 @@
+ghost use Rattle.std.specs.Prelude.{◌≡◌, ◌≤◌, ◌<◌, ◌+◌, ◌++◌, ◌∷◌, [], length, slice_get, IfOk, OnOk, OnErr};
+ghost use Rattle.std.specs.Option.{option_copied, option_to_list};
+
+use crate::replies::FileReply;
+use daq_types::NoMemory;
+use std::alloc::Global;
+use std::marker::Model;
+
+/// What came of the lines of a script that called the database files, in order: each one's number, and its reply. Room
+/// for a line's entry is taken before the line's first call.
+#[derive(Debug, Drop)]
+pub struct FileReplies {
+    entries: Vec<(u64, FileReply)>,
+}
+
+impl Model for FileReplies {
+    ghost use Rattle.std.specs.Prelude.{◌-◌, vec_len, vec_capacity};
+    ghost use Rattle.database_files.specs.NotedReplies.{NotedReplies};
+
+    ghost Value = { NotedReplies };
+
+    ghost view = { λ r. record {
+      replies = r.entries.items;
+      room = vec_capacity r.entries - vec_len r.entries;
+    } };
+}
+
+impl FileReplies {
+    /// No entries and no room. Takes no memory.
+    pub fn empty(alloc: Global) -> FileReplies
+        ensures { result.replies ≡ [] }
+    {
+        FileReplies {
+            entries: Vec::new(alloc),
+        }
+    }
+
+    /// No entries, and room for so many.
+    pub fn new(alloc: Global, room: u32) -> Result<FileReplies, NoMemory>
+        ensures empty { IfOk result (λ made. made.replies ≡ []) }
+        ensures room { IfOk result (λ made. room ≤ made.room) }
+    {
+        let entries = Vec::with_capacity(alloc, room as usize)?;
+        Ok(FileReplies { entries })
+    }
+
+    /// Room for so many entries more.
+    pub fn reserve(&mut self, more: u32) -> Result<(), NoMemory>
+        ensures same { self.new.replies ≡ self.old.replies }
+        ensures room { OnOk result (more ≤ self.new.room) }
+        ensures kept { self.old.room ≤ self.new.room }
+    {
+        self.entries.reserve(more as usize)?;
+        Ok(())
+    }
+
+    /// The reply to the line of this number, behind the others, in the room there is. Takes no memory.
+    pub fn push(&mut self, line: u64, reply: FileReply)
+        requires { 1 ≤ self.old.room }
+        ensures noted { self.new.replies ≡ self.old.replies ++ (line, reply) ∷ [] }
+        ensures room { self.old.room ≤ self.new.room + 1 }
+    {
+        self.entries.push_reserved((line, reply));
+    }
+
+    /// The last entry, which is then gone.
+    pub fn pop(&mut self) -> Option<(u64, FileReply)>
+        ensures { self.old.replies ≡ self.new.replies ++ option_to_list result }
+    {
+        self.entries.pop()
+    }
+
+    /// How many entries there are.
+    pub fn len(&self) -> usize
+        ensures { result ≡ length self.now.replies }
+    {
+        self.entries.len()
+    }
+
+    /// The entry at this place.
+    pub fn get(&self, place: usize) -> Option<&(u64, FileReply)>
+        ensures { option_copied result ≡ slice_get self.now.replies place }
+    {
+        self.entries.get(place)
+    }
+
+    /// The entries.
+    pub fn as_slice(&self) -> &[(u64, FileReply)]
+        ensures { result.now ≡ self.now.replies }
+    {
+        self.entries.as_slice()
+    }
+}

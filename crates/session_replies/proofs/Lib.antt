@@ -1,0 +1,2 @@
+pub mod ConsoleLaws
+pub mod Refused

@@ -1,0 +1,141 @@
+//! What the replies to worked scripts print, and which of their lines are refused.
+use crate::{Refusals, Reply};
+use daq_text::TextBuffer;
+use daq_types::{BoundedList, ChannelState, FileName, Name, NameRefusal, NoMemory, RunState, Why};
+use run_records::{FileRecord, SentLine};
+use session_setup::SetupRefusal;
+use std::alloc::Global;
+use std::test::Fail;
+
+fn name(text: &str) -> Name {
+    match Name::new(text.as_bytes()) {
+        Ok(name) => name,
+        Err(_) => unreachable!(),
+    }
+}
+
+/// The end of run 1, for front-ends with these names that sent so much, and one channel.
+fn stopped(alloc: Global, fronts: &[(&str, u64)], state: ChannelState) -> Result<Reply, NoMemory> {
+    let mut lines = BoundedList::new(alloc)?;
+    for (front, sent) in fronts {
+        lines.try_push(SentLine {
+            name: name(front),
+            sent: *sent,
+        })?;
+    }
+    let mut files = BoundedList::new(alloc)?;
+    if let Ok(name) = FileName::new("run00001.mid") {
+        files.try_push(FileRecord {
+            channel: 0,
+            name,
+            state,
+        })?;
+    }
+    Ok(Reply::Stopped {
+        run: 1,
+        fronts: lines,
+        files,
+    })
+}
+
+/// Whether a reply to the line of this number prints this text, and refuses its line where that begins so.
+fn prints(alloc: Global, line: u64, reply: &Reply, wanted: &str) -> Result<bool, NoMemory> {
+    let mut text = TextBuffer::new(alloc);
+    reply.print(line, &mut text)?;
+    let refused = wanted.as_bytes().starts_with(b"refused ".as_slice());
+    Ok(text.as_slice() == wanted.as_bytes() && reply.is_refusal() == refused)
+}
+
+#[test]
+fn ends_of_runs(rt: HostRuntime) -> Result<(), Fail> {
+    let alloc = rt.alloc();
+    let one = stopped(alloc, &[("FE", 0)], ChannelState::Ended)?;
+    let wanted = "run 1 stopped\nFE sent 0\nrun00001.mid Ended\n";
+    assert!(rt; prints(alloc, 3, &one, wanted)?);
+    let two = stopped(alloc, &[("A", 1), ("B", 1)], ChannelState::NoEnd)?;
+    let wanted = "run 1 stopped\nA sent 1\nB sent 1\nrun00001.mid NoEnd\n";
+    assert!(rt; prints(alloc, 6, &two, wanted)?);
+    let broken = stopped(alloc, &[("FE", 3)], ChannelState::Broken)?;
+    let wanted = "run 1 stopped\nFE sent 3\nrun00001.mid Broken\n";
+    assert!(rt; prints(alloc, 3, &broken, wanted)?);
+    Ok(())
+}
+
+#[test]
+fn other_replies(rt: HostRuntime) -> Result<(), Fail> {
+    let alloc = rt.alloc();
+    for (reply, wanted) in [
+        (Reply::Silent, ""),
+        (Reply::BadCommand { at: 0 }, "refused 1: BadCommand 0\n"),
+        (Reply::Started { run: 1 }, "run 1 started\n"),
+        (Reply::Paused { run: 1 }, "run 1 paused\n"),
+        (Reply::Resumed { run: 1 }, "run 1 resumed\n"),
+        (Reply::LastStart, "refused 1: LastStart\n"),
+        (Reply::RunNumber { have: -1 }, "refused 1: RunNumber -1\n"),
+        (
+            Reply::WrongState {
+                state: RunState::Stopped,
+            },
+            "refused 1: WrongState 1\n",
+        ),
+        (
+            Reply::StartRefused {
+                client: name("Logger"),
+                why: Why::Exists { channel: 0 },
+            },
+            "refused 1: StartRefused Logger Exists 0\n",
+        ),
+        (
+            Reply::StartRefused {
+                client: name("FE"),
+                why: Why::NotReady,
+            },
+            "refused 1: StartRefused FE NotReady\n",
+        ),
+    ] {
+        assert!(rt; prints(alloc, 1, &reply, wanted)?, "{wanted}");
+    }
+    Ok(())
+}
+
+#[test]
+fn declarations_that_were_refused(rt: HostRuntime) -> Result<(), Fail> {
+    let alloc = rt.alloc();
+    for (refusal, wanted) in [
+        (SetupRefusal::Opened, "Opened"),
+        (SetupRefusal::BadName(NameRefusal::EmptyName), "EmptyName"),
+        (
+            SetupRefusal::BadName(NameRefusal::BadByte { at: 3 }),
+            "BadByte 3",
+        ),
+        (SetupRefusal::TooMany { most: 8 }, "TooMany 8"),
+        (
+            SetupRefusal::TooMany {
+                most: 1_073_741_824,
+            },
+            "TooMany 1073741824",
+        ),
+        (SetupRefusal::SameId, "SameId"),
+        (SetupRefusal::Compressed, "Compressed"),
+    ] {
+        let mut text = TextBuffer::new(alloc);
+        text.text(b"refused 12: ")?;
+        text.text(wanted.as_bytes())?;
+        text.end_line()?;
+        let mut printed = TextBuffer::new(alloc);
+        Reply::Setup { refusal }.print(12, &mut printed)?;
+        assert_eq!(rt; printed.as_slice(), text.as_slice());
+    }
+    Ok(())
+}
+
+#[test]
+fn lines_that_were_refused(rt: HostRuntime) {
+    let mut refusals = Refusals::NONE;
+    refusals.note(1, &Reply::Silent);
+    assert_eq!(rt; refusals, Refusals::NONE);
+    refusals.note(2, &Reply::LastStart);
+    refusals.note(3, &Reply::Started { run: 1 });
+    refusals.note(4, &Reply::BadCommand { at: 0 });
+    assert_eq!(rt; refusals, Refusals { count: 2, first: 2 });
+}
