@@ -69,18 +69,14 @@ fn stop_reply(
         (map (sent_line fronts.now) (fronts_in (last_record records.now)))
         (files_in (last_record records.now))) }
 {
-    match records {
-        [] => Ok(Reply::Stopped {
-            run,
-            fronts: BoundedList::new(alloc)?,
-            files: BoundedList::new(alloc)?,
-        }),
-        [.., record] => {
-            let fronts = sent_lines(alloc, fronts, record.fronts.as_slice())?;
-            let files = copied_files(alloc, record.files.as_slice())?;
-            Ok(Reply::Stopped { run, fronts, files })
-        }
-    }
+    let Some(record) = records.last() else {
+        let fronts = BoundedList::new(alloc)?;
+        let files = BoundedList::new(alloc)?;
+        return Ok(Reply::Stopped { run, fronts, files });
+    };
+    let fronts = sent_lines(alloc, fronts, record.fronts.as_slice())?;
+    let files = copied_files(alloc, record.files.as_slice())?;
+    Ok(Reply::Stopped { run, fronts, files })
 }
 
 /// The reply to a command of runs, behind which these are kept.

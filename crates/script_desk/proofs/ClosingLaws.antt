@@ -15,10 +15,10 @@ use Rattle.script_desk.specs.declared.endings.Ending.{Ending}
 use Rattle.script_desk.specs.declared.endings.Ending.TheVariants.{End, TooLong, SourceFault, Halted}
 use Rattle.script_desk.specs.declared.halts.Halt.{Halt}
 use Rattle.script_desk.specs.declared.halts.Halt.TheVariants.{NoMemory, SinkFault}
-use Rattle.session_console.specs.declared.refusals.Refusals.{Refusals}
-use Rattle.session_console.specs.declared.replies.Reply.{Reply}
-use Rattle.session_console.specs.Console.{console_text, text_of}
-use Rattle.session_console.proofs.ConsoleLaws.{console_text-more}
+use Rattle.session_replies.specs.declared.refusals.Refusals.{Refusals}
+use Rattle.session_replies.specs.declared.replies.Reply.{Reply}
+use Rattle.session_replies.specs.Console.{console_text, text_of}
+use Rattle.session_replies.proofs.ConsoleLaws.{console_text-more}
 use Rattle.script_desk.specs.Endings.{SinkByEnding}
 use Rattle.script_desk.specs.Playing.{Played, Prints, Wrote, WroteUpTo, WroteBut}
 use Rattle.script_desk.specs.Closing.{ClosesBy, Finished, MayFail, SinkBehind, WroteBehind, WroteMore, ended_by, prints, reply_list, script_text}

@@ -19,10 +19,10 @@ use Rattle.script_desk.specs.declared.halts.Halt.{Halt}
 use Rattle.script_desk.specs.declared.halts.Halt.TheVariants.{NoMemory, SinkFault}
 use Rattle.script_desk.specs.declared.endings.Ending.{Ending}
 use Rattle.script_desk.specs.declared.endings.Ending.TheVariants.{End, TooLong, SourceFault, Halted}
-use Rattle.session_console.specs.declared.replies.Reply.{Reply}
-use Rattle.session_console.specs.declared.refusals.Refusals.{Refusals}
-use Rattle.session_console.specs.Console.{text_of, console_text}
-use Rattle.session_console.proofs.Refused.{counts_noted}
+use Rattle.session_replies.specs.declared.replies.Reply.{Reply}
+use Rattle.session_replies.specs.declared.refusals.Refusals.{Refusals}
+use Rattle.session_replies.specs.Console.{text_of, console_text}
+use Rattle.session_replies.proofs.Refused.{counts_noted}
 use Rattle.script_desk.specs.Reading.{ReadsNext, ReadsOn}
 use Rattle.script_desk.specs.Playing.{AreFirst, AreLines, CutBy, DoesLine, HasLine, IsBetween, OpensAt, Played, PlaysFrom, Replied, Unanswered, Wrote}
 use Rattle.script_desk.proofs.PlayingLaws.{answered_more, between_more, wrote_more}

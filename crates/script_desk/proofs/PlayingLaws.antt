@@ -16,11 +16,11 @@ use Rattle.script_desk.specs.declared.going.Going.{Going}
 use Rattle.script_desk.specs.declared.going.Going.TheVariants as going
 use Rattle.script_desk.specs.declared.halts.Halt.{Halt}
 use Rattle.script_desk.specs.declared.halts.Halt.TheVariants.{NoMemory, SinkFault}
-use Rattle.session_console.specs.declared.replies.Reply.{Reply}
-use Rattle.session_console.specs.declared.refusals.Refusals.{Refusals}
-use Rattle.session_console.specs.Console.{text_of, console_text}
-use Rattle.session_console.proofs.ConsoleLaws.{console_text-more}
-use Rattle.session_console.proofs.Refused.{counts_noted}
+use Rattle.session_replies.specs.declared.replies.Reply.{Reply}
+use Rattle.session_replies.specs.declared.refusals.Refusals.{Refusals}
+use Rattle.session_replies.specs.Console.{text_of, console_text}
+use Rattle.session_replies.proofs.ConsoleLaws.{console_text-more}
+use Rattle.session_replies.proofs.Refused.{counts_noted}
 use Rattle.script_desk.specs.Playing.{DoesLine, GoesBehind, IsBetween, PlaysFrom, Prints, Replied, Unanswered, number_behind}
 
 -- one line more

@@ -10,10 +10,10 @@ use Rattle.script_desk.specs.declared.endings.Ending.{Ending}
 use Rattle.script_desk.specs.declared.endings.Ending.TheVariants.{End, TooLong, SourceFault, Halted}
 use Rattle.script_desk.specs.Halts.{SinkBy}
 use Rattle.script_desk.specs.Playing.{AreLines, CutBy, Played, PlaysFrom, Wrote}
-use Rattle.session_console.specs.declared.replies.Reply.{Reply}
-use Rattle.session_console.specs.declared.refusals.Refusals.{Refusals}
-use Rattle.session_console.specs.Console.{console_text, refused_lines}
-use Rattle.session_console.specs.Refused.{Counts}
+use Rattle.session_replies.specs.declared.replies.Reply.{Reply}
+use Rattle.session_replies.specs.declared.refusals.Refusals.{Refusals}
+use Rattle.session_replies.specs.Console.{console_text, refused_lines}
+use Rattle.session_replies.specs.Refused.{Counts}
 
 -- whether anything more may be printed behind the lines
 abbrev pub prints : Ending → Bool

@@ -17,10 +17,10 @@ use Rattle.script_desk.specs.declared.endings.Ending.TheVariants.{End, TooLong, 
 use Rattle.script_desk.specs.declared.play_end.PlayEnd.{PlayEnd}
 use Rattle.script_desk.specs.declared.play_end.PlayEnd.TheVariants as ends
 use Rattle.script_desk.specs.Reading.{ReadsNext}
-use Rattle.session_console.specs.declared.replies.Reply.{Reply}
-use Rattle.session_console.specs.declared.refusals.Refusals.{Refusals}
-use Rattle.session_console.specs.Console.{text_of, console_text, refuses_line, refused_lines}
-use Rattle.session_console.specs.Refused.{noted, Counts}
+use Rattle.session_replies.specs.declared.replies.Reply.{Reply}
+use Rattle.session_replies.specs.declared.refusals.Refusals.{Refusals}
+use Rattle.session_replies.specs.Console.{text_of, console_text, refuses_line, refused_lines}
+use Rattle.session_replies.specs.Refused.{noted, Counts}
 
 -- One line.
 

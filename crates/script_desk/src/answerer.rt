@@ -1,11 +1,11 @@
 ghost use Rattle.std.specs.Prelude.{◌≡◌, ℕ, Bool, Option, false, IfOk, OnErr};
 ghost use Rattle.odb_script.specs.declared.forms.Command.{Command};
 ghost use Rattle.odb_script.specs.Forms.{Read};
-ghost use Rattle.session_console.specs.declared.replies.Reply.{Reply};
+ghost use Rattle.session_replies.specs.declared.replies.Reply.{Reply};
 
 use daq_types::NoMemory;
 use odb_script::{Command, LineRefusal};
-use session_console::Reply;
+use session_replies::Reply;
 use std::alloc::Global;
 use std::sync::Wait;
 
@@ -26,6 +26,9 @@ pub trait Answerer {
     ghost closes: { Stage → Option Reply → Stage → Type 0 };
     ghost gives_up: { Stage → Stage → Type 0 };
 
+    // What stays, whatever lines are answered.
+    ghost stays: { Self → Self → Type 0 };
+
     /// Whether this line is left to another.
     fn is_left(&self, line: &Result<Command<'_>, LineRefusal>) -> bool
         ensures { result ≡ leaves line.now };
@@ -42,10 +45,16 @@ pub trait Answerer {
         ensures did { IfOk result (λ reply. does number line.entry (stage self.old) reply
             (stage self.new)) }
         ensures broke { OnErr result (breaks number line.entry (stage self.old)
-            (stage self.new)) };
+            (stage self.new)) }
+        ensures stays { stays self.old self.new };
 
     /// Ends what the lines left on, behind all of them.
     fn close<R: Wait>(&mut self, rt: &R, alloc: Global) -> Result<Option<Reply>, NoMemory>
         ensures closed { IfOk result (λ reply. closes (stage self.old) reply (stage self.new)) }
-        ensures gave_up { OnErr result (gives_up (stage self.old) (stage self.new)) };
+        ensures gave_up { OnErr result (gives_up (stage self.old) (stage self.new)) }
+        ensures stays { stays self.old self.new };
+
+    ghost stays_so: { (a : Self) → stays a a };
+
+    ghost stays_on: { (a b c : Self) → stays a b → stays b c → stays a c };
 }

@@ -26,6 +26,7 @@ pub fn close_lines<R: Wait, A: Answerer, K: Sink>(
     ensures refusals { desk.new.refusals ≡ desk.old.refusals }
     ensures may { MayFail ending result }
     ensures sink { SinkBehind result (K.faults out.old) (K.faults out.new) }
+    ensures stays { A.stays answerer.old answerer.new }
 {
     match answerer.close(rt, alloc) {
         Err(_) => Some(Halt::NoMemory),

@@ -1,11 +1,11 @@
 ghost use Rattle.script_desk.specs.Halts.{CountsSink};
 ghost use Rattle.script_desk.specs.Playing.{Prints};
-ghost use Rattle.session_console.specs.Console.{text_of};
+ghost use Rattle.session_replies.specs.Console.{text_of};
 
 use crate::halts::Halt;
 use daq_io::{Sink, write_all};
 use daq_text::TextBuffer;
-use session_console::Reply;
+use session_replies::Reply;
 
 /// Writes what the script's line of this number prints for this reply.
 pub fn print_reply<K: Sink>(

@@ -11,7 +11,7 @@ use daq_io::{Sink, Source};
 use daq_text::TextBuffer;
 use daq_types::NoMemory;
 use odb_script::{Command, LineReader, LineRefusal, NextLine};
-use session_console::Refusals;
+use session_replies::Refusals;
 use std::alloc::Global;
 use std::sync::Wait;
 
@@ -113,6 +113,7 @@ impl Desk {
         ensures number { IfOk result (λ going. self.new.number
             ≡ number_behind going self.old.number) }
         ensures sink { CountsSink (K.faults out.old) (K.faults out.new) result }
+        ensures stays { A.stays answerer.old answerer.new }
     {
         let command = Command::read(self.reader.line());
         if answerer.is_left(&command) {

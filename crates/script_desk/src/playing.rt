@@ -32,6 +32,7 @@ pub fn play_on<R: Wait, A: Answerer, S: Source, K: Sink>(
     ensures fits { FitsOn result desk.new.number desk.new.reader.taken }
     ensures source { SourceCounts result (S.faults source.old) (S.faults source.new) }
     ensures sink { SinkCounts result (K.faults out.old) (K.faults out.new) }
+    ensures stays { A.stays answerer.old answerer.new }
 {
     for line in 0..SCRIPT_LINES {
         match desk.handle(rt, alloc, answerer, out) {
@@ -73,6 +74,7 @@ pub fn play_script<R: Wait, A: Answerer, S: Source, K: Sink>(
     ensures fits { FitsOn result desk.new.number desk.new.reader.taken }
     ensures source { SourceCounts result (S.faults source.old) (S.faults source.new) }
     ensures sink { SinkCounts result (K.faults out.old) (K.faults out.new) }
+    ensures stays { A.stays answerer.old answerer.new }
 {
     match desk.next_line(source) {
         Some(ending) => PlayEnd::Ended { ending },

@@ -1,5 +1,5 @@
 -- What the commands of runs do, and what they are answered.
-use Rattle.std.specs.Prelude.{◌≡◌, ℕ, ◌⊎◌, List, [], ◌∷◌, ◌++◌, map, length, slice_get, Option, Some, None, Result, Ok, Err, OnErr, All, ⊤}
+use Rattle.std.specs.Prelude.{◌≡◌, ℕ, ◌-◌, ◌⊎◌, List, [], ◌∷◌, map, length, slice_get, Option, Some, None, Result}
 use Rattle.std.specs.Option.{unwrap_or}
 use Rattle.daq_types.specs.declared.runs.RunState.TheVariants.{Stopped}
 use Rattle.daq_types.specs.declared.runs.Transition.TheVariants.{Pause, Resume}
@@ -35,11 +35,9 @@ member_name fronts client = unwrap_or (slice_get fronts client) logger_name
 abbrev pub sent_line : (fronts : List (List ℕ)) → FrontTally → SentLine
 sent_line fronts tally = record { name = member_name fronts tally.client; sent = tally.sent }
 
--- the last of some records
+-- the last of some records, if there is any
 abbrev pub last_record : List RunRecord → Option RunRecord
-last_record [] = None
-last_record (r ∷ []) = Some r
-last_record (r ∷ (s ∷ rest)) = last_record (s ∷ rest)
+last_record records = slice_get records (length records - 1)
 
 abbrev pub fronts_in : Option RunRecord → List FrontTally
 fronts_in None = []

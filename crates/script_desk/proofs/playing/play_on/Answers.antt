@@ -40,6 +40,19 @@ loop-line-preserved g c =
           (rw given at c.handle.ensures.did) c.handle.ensures.reader number c.in-None.ensures.read c.next_line.ensures.number c.next_line.ensures.refusals;
       fits = c.in-None.ensures.fits;
       count = omega (arith, c.loop-line.invariant.count, number, c.next_line.ensures.number);
+      stays = g.met.A.Answerer.stays_on _ _ _ c.loop-line.invariant.stays c.handle.ensures.stays;
       source = c.in-None.ensures.faults ∙ c.loop-line.invariant.source;
       sink = (rw given at c.handle.ensures.sink.done) ∙ c.loop-line.invariant.sink;
     }
+
+pub returns-in-Err-clause-stays : goal.returns-in-Err-clause-stays
+returns-in-Err-clause-stays g c = g.met.A.Answerer.stays_on _ _ _ c.loop-line.invariant.stays c.handle.ensures.stays
+
+pub returns-in-Ok-Opens-clause-stays : goal.returns-in-Ok-Opens-clause-stays
+returns-in-Ok-Opens-clause-stays g c = g.met.A.Answerer.stays_on _ _ _ c.loop-line.invariant.stays c.handle.ensures.stays
+
+pub returns-in-Ok-End-clause-stays : goal.returns-in-Ok-End-clause-stays
+returns-in-Ok-End-clause-stays g c = g.met.A.Answerer.stays_on _ _ _ c.loop-line.invariant.stays c.handle.ensures.stays
+
+pub returns-in-Some-clause-stays : goal.returns-in-Some-clause-stays
+returns-in-Some-clause-stays g c = g.met.A.Answerer.stays_on _ _ _ c.loop-line.invariant.stays c.handle.ensures.stays

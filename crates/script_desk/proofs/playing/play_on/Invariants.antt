@@ -11,5 +11,6 @@ invariant-loop-line g l = record {
   fits : l.desk.number + 1 ≤ l.desk.reader.taken;
   count : l.line ≤ l.desk.number;
   source : g.S.Source.faults l.source ≡ g.S.Source.faults l.fn.source;
+  stays : g.A.Answerer.stays l.fn.answerer l.answerer;
   sink : g.K.Sink.faults l.out ≡ g.K.Sink.faults l.fn.out;
 }

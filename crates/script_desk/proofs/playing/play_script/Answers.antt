@@ -14,3 +14,6 @@ returns-in-None-clause-did g c =
     c.play_on.ensures.did _ _ _ (line_behind g.A.Answerer.does g.A.Answerer.breaks _ _ _ _ _ _ _ _ _ _ _ _
     (between_new g.A.Answerer.does _ _ _ _ _ _ c.requires.unread (c.next_line.ensures.refusals ∙ c.requires.none) (c.next_line.ensures.number ∙ c.requires.zero))
     c.in-None.ensures.read)
+
+pub returns-in-Some-clause-stays : goal.returns-in-Some-clause-stays
+returns-in-Some-clause-stays g c = g.met.A.Answerer.stays_so c.args.answerer.now
