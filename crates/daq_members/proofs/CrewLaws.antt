@@ -12,8 +12,9 @@ use Rattle.session_engine.specs.MadeTransitions.{HadRounds}
 use Rattle.daq_members.specs.declared.turned.Turned.{Turned}
 use Rattle.daq_members.specs.FrontTaken.{TakesFront}
 use Rattle.daq_members.specs.FrontSeats.{FrontSeen, IsSameFront, front_taken}
-use Rattle.daq_members.specs.LoggerSeats.{LoggerSeen, IsSameLogger}
-use Rattle.daq_members.specs.Crews.{CrewSeen, CrewTold, AreMembers, TurnsFront, TurnsLogger, TurnsMember, TurnFrom, PicksMember, TakesRound, AreSameFronts, IsSameCrew, KeptByRounds, member_count}
+use Rattle.daq_members.specs.LoggerSeats.{LoggerSeen, IsSameLogger, logger_taken}
+use Rattle.daq_members.specs.Crews.{CrewSeen, CrewTold, AreMembers, TurnsFront, TurnsLogger, TurnsMember, TurnFrom, PicksMember, TakesRound, AreSameFronts, IsSameCrew, NotesRunFaults, KeptByRounds, member_count}
+use Rattle.daq_members.proofs.LoggerSeatLaws.{NotedLaws, notes_same, taken_noted}
 
 -- Lists.
 
@@ -219,31 +220,61 @@ module _ {E F K : Type 0} (told : CrewTold E F K) where
   pub turn_more : (first count n : ℕ) (before between after : CrewSeen E F K) (turned : Turned) → TurnFrom told first count n before between → TurnsMember told ((first + n) % count) between after turned → TurnFrom told first count (n + 1) before after
   turn_more first count n before between after turned so_far turn = rw add-one (between, turned, so_far, turn)
 
+  -- The faults of the run files.
+
+  still_noted : (before after : LoggerSeen F) → after ≡ before → NotesRunFaults told before after
+  still_noted before after same = subst (λ (l : LoggerSeen F). NotesRunFaults told before l) (sym same) (notes_same before.slots (told.read before.files).faults)
+
+  noted_then : NotedLaws → (a b c : LoggerSeen F) → NotesRunFaults told a b → NotesRunFaults told b c → NotesRunFaults told a c
+  noted_then laws a b c first then_ = laws.follow a.slots b.slots c.slots (told.read a.files).faults (told.read b.files).faults (told.read c.files).faults first then_
+
+  one_noted : NotedLaws → (number : ℕ) (before after : CrewSeen E F K) (turned : Turned) → number < member_count before → TurnsMember told number before after turned → NotesRunFaults told before.logger after.logger
+  one_noted laws number before after turned within turns = elim (eqb_tells number (length before.fronts)) as (λ w. NotesRunFaults told before.logger after.logger) [
+    | inl here ↦ taken_noted laws (logger_taken told.read before.logger after.logger turned) (turns.logger here.1).0.turn
+    | inr differs ↦
+        let other : number ≢ length before.fronts = differs.1 in
+        let front : number < length before.fronts = omega arith in
+        still_noted before.logger after.logger (turns.front front).1
+  ]
+
+  pub turns_noted : NotedLaws → (first count turns : ℕ) (before after : CrewSeen E F K) → count ≡ member_count before → TurnFrom told first count turns before after → NotesRunFaults told before.logger after.logger
+  turns_noted laws first count zero before after many all = still_noted before.logger after.logger (ap (λ (c : CrewSeen E F K). c.logger) all)
+  turns_noted laws first count (suc n) before after many all =
+      let as_many : length all.0.fronts ≡ length before.fronts = (turns_same first count n before all.0 many all.2).0.fronts.count in
+      let some : 0 < count = omega arith in
+      let number : (first + n) % count < count = mod-lt (first + n) some in
+      let within : (first + n) % count < member_count all.0 = omega arith in
+      noted_then laws before.logger all.0.logger after.logger (turns_noted laws first count n before all.0 many all.2) (one_noted laws ((first + n) % count) all.0 after all.1 within all.3)
+
   -- Rounds.
 
-  round_kept : (before after : CrewSeen E F K) → TakesRound told before after → KeptByRounds told 1 before after
-  round_kept before after round =
+  round_kept : NotedLaws → (before after : CrewSeen E F K) → TakesRound told before after → KeptByRounds told 1 before after
+  round_kept laws before after round =
       let picks = round.picks in
       let chosen : IsSameCrew told before round.picked = same_crew before round.picked picks.fronts picks.logger in
       let turned : IsSameCrew told round.picked after × (after.pick ≡ round.picked.pick) =
       turns_same round.first (member_count round.picked) (member_count round.picked) round.picked after refl round.turns in
       record {
         same = crew_then before round.picked after chosen turned.0;
+        faults = noted_then laws before.logger round.picked.logger after.logger (still_noted before.logger round.picked.logger picks.logger)
+            (turns_noted laws round.first (member_count round.picked) (member_count round.picked) round.picked after refl round.turns);
         tells = ap told.tells turned.1 ∙ picks.tells;
         picks = λ told_ n. ap (λ (k : K). told.ahead k n) turned.1 ∙ picks.later told_ n;
       }
 
-  pub rounds_kept : (count : ℕ) (before after : CrewSeen E F K) → HadRounds (TakesRound told) count before after → KeptByRounds told count before after
-  rounds_kept zero before after all = record {
+  pub rounds_kept : NotedLaws → (count : ℕ) (before after : CrewSeen E F K) → HadRounds (TakesRound told) count before after → KeptByRounds told count before after
+  rounds_kept laws zero before after all = record {
     same = same_crew before after (ap (λ (c : CrewSeen E F K). c.fronts) all) (ap (λ (c : CrewSeen E F K). c.logger) all);
+    faults = still_noted before.logger after.logger (ap (λ (c : CrewSeen E F K). c.logger) all);
     tells = ap (λ (c : CrewSeen E F K). told.tells c.pick) all;
     picks = λ tells n. ap (λ (c : CrewSeen E F K). told.ahead c.pick n) all ∙ ap (λ (m : ℕ). told.ahead before.pick m) (omega arith);
   }
-  rounds_kept (suc n) before after all =
-      let so_far : KeptByRounds told n before all.0 = rounds_kept n before all.0 all.1 in
-      let round : KeptByRounds told 1 all.0 after = round_kept all.0 after all.2 in
+  rounds_kept laws (suc n) before after all =
+      let so_far : KeptByRounds told n before all.0 = rounds_kept laws n before all.0 all.1 in
+      let round : KeptByRounds told 1 all.0 after = round_kept laws all.0 after all.2 in
       record {
         same = crew_then before all.0 after so_far.same round.same;
+        faults = noted_then laws before.logger all.0.logger after.logger so_far.faults round.faults;
         tells = round.tells ∙ so_far.tells;
         picks = λ tells k.
             let still : IsTrue (told.tells all.0.pick) = subst (λ (b : Bool). IsTrue b) (sym so_far.tells) tells in

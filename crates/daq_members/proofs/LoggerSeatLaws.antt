@@ -1,13 +1,15 @@
 -- The logger in a session, behind a turn; and the room of its ports.
-use Rattle.std.specs.Prelude.{◌≡◌, ◌≤◌, ℕ, zero, suc, Bool, List, [], ◌∷◌, length, map, slice_get, Option, Some, None}
-use Rattle.std.proofs.Common.{sym, subst, ◌∙◌}
+use Rattle.std.specs.Prelude.{◌≡◌, ◌≤◌, ℕ, zero, suc, Bool, List, [], ◌∷◌, length, map, slice_get, Option, Some, None, refl}
+use Rattle.std.proofs.Common.{sym, subst, ◌∙◌, arith, inl}
 use Rattle.std.proofs.lemmas.List.{length-map}
 use Rattle.buffer_core.specs.Ports.{Access}
 use Rattle.transitions.specs.declared.replies.Polled.{Polled}
 use Rattle.transitions.specs.declared.replies.Polled.TheVariants.{Turn, Idle as NoTurn, Closed, NoClient}
 use Rattle.loggers.specs.Moments.{LoggerMoment, HaveEntries, AreSamePorts}
 use Rattle.loggers.specs.NewLoggers.{NoneTakenBack}
-use Rattle.loggers.specs.LoggerLaws.{TurnsLeaveKnown, PullsLeaveKnown}
+use Rattle.mid_logger.specs.declared.channel.Channel.{Channel}
+use Rattle.loggers.specs.LoggerFaults.{NotesFaults}
+use Rattle.loggers.specs.LoggerLaws.{TurnsLeaveKnown, PullsLeaveKnown, TurnsNote, PullsNote, FinishesNote, NotesFollow}
 use Rattle.daq_members.specs.OwnTurns.{start_owed}
 use Rattle.daq_members.specs.LoggerTaken.{LoggerTaken, HaveCaller, PullsBelow, TakesLoggerBy, TakesLogger, pulled_channels}
 use Rattle.daq_members.specs.Endless.{IsEndless}
@@ -42,6 +44,63 @@ known_by turns pulls t (Turn transition order dump blank) (Some start) ends none
 
 pub known_before : TurnsLeaveKnown → PullsLeaveKnown → (t : LoggerTaken) → TakesLogger t → NoneTakenBack t.after.ports → NoneTakenBack t.before.ports
 known_before turns pulls t takes none = known_by turns pulls t takes.reply (start_owed t.client t.calls) takes.takes none
+
+-- Each turn notes the faults of the files.
+
+-- what the laws of the logger's calls say of that
+pub record NotedLaws : Type 0 where
+  pub turns : TurnsNote
+  pub pulls : PullsNote
+  pub finishes : FinishesNote
+  pub follow : NotesFollow
+
+pub notes_same : (slots : List (Option Channel)) (faults : ℕ) → NotesFaults slots slots faults faults
+notes_same slots faults = record { count = inl refl; stays = λ h. h; each = λ less. absurd (omega (arith, less)); only = λ h. inl h }
+
+abbrev NotesBetween : (a b : LoggerMoment) → Type 0
+NotesBetween a b = NotesFaults a.slots b.slots a.files.faults b.files.faults
+
+same_noted : (a b : LoggerMoment) → b ≡ a → NotesBetween a b
+same_noted a b same = subst (λ (m : LoggerMoment). NotesBetween a m) (sym same) (notes_same a.slots a.files.faults)
+
+noted_then : NotedLaws → (a b c : LoggerMoment) → NotesBetween a b → NotesBetween b c → NotesBetween a c
+noted_then laws a b c first then_ = laws.follow a.slots b.slots c.slots a.files.faults b.files.faults c.files.faults first then_
+
+pulled_noted : NotedLaws → (n : ℕ) (got : Bool) (a b : LoggerMoment) → PullsBelow n got a b → NotesBetween a b
+pulled_noted laws zero got a b steps = same_noted a b steps.1
+pulled_noted laws (suc n) got a b steps = noted_then laws a steps.0 b (pulled_noted laws n steps.1 a steps.0 steps.3) (laws.pulls n steps.2 steps.0 b steps.4)
+
+noted_by : NotedLaws → (t : LoggerTaken) (reply : Polled) (owed : Option ℕ) → TakesLoggerBy reply owed t → NotesBetween t.before t.after
+noted_by laws t Closed owed leaves = same_noted t.before t.after leaves.moment
+noted_by laws t NoClient owed leaves = same_noted t.before t.after leaves.moment
+noted_by laws t (NoTurn state) owed works = pulled_noted laws pulled_channels works.got t.before t.after works.pulls
+noted_by laws t (Turn transition order dump blank) None taken = laws.turns (record {
+  transition = transition;
+  order = order;
+  dump = dump;
+  answer = taken.answer;
+  run = t.run;
+  later_run = t.later_run;
+  stop_dump = t.stop_dump;
+  later_stop_dump = t.later_stop_dump;
+  before = t.before;
+  after = t.after;
+}) taken.takes
+noted_by laws t (Turn transition order dump blank) (Some start) ends =
+    noted_then laws t.before ends.pulled t.after (pulled_noted laws pulled_channels ends.got t.before ends.pulled ends.pulls) (laws.finishes (record {
+      run = t.run;
+      later_run = t.later_run;
+      stop_dump = t.stop_dump;
+      later_stop_dump = t.later_stop_dump;
+      slots = ends.pulled.slots;
+      later_slots = t.after.slots;
+      files = ends.pulled.files;
+      later_files = t.after.files;
+      answer = ends.answer;
+    }) ends.finishes)
+
+pub taken_noted : NotedLaws → (t : LoggerTaken) → TakesLogger t → NotesFaults t.before.slots t.after.slots t.before.files.faults t.after.files.faults
+taken_noted laws t takes = noted_by laws t takes.reply (start_owed t.client t.calls) takes.takes
 
 -- Endless ports have room for a turn.
 

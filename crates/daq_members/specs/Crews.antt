@@ -4,6 +4,7 @@ use Rattle.daq_types.specs.declared.events.Event.{Event}
 use Rattle.daq_types.specs.declared.runs.Order.{Order}
 use Rattle.daq_io.specs.Seen.{Seen}
 use Rattle.transitions.specs.Limits.{most_clients}
+use Rattle.loggers.specs.LoggerFaults.{NotesFaults}
 use Rattle.loggers.specs.Moments.{RunFiles}
 use Rattle.daq_members.specs.declared.turned.Turned.{Turned}
 use Rattle.daq_members.specs.FrontTaken.{TakesFront}
@@ -115,9 +116,16 @@ module _ {E F K : Type 0} (told : CrewTold E F K) where
     pub fronts : AreSameFronts before.fronts after.fronts
     pub logger : IsSameLogger before.logger after.logger
 
-  -- What so many rounds leave: the same members; and a pick of which so many choices were read.
+  -- The logger noted each fault of the run files meanwhile.
+  abbrev pub NotesRunFaults : (before after : LoggerSeen F) → Type 0
+  NotesRunFaults before after =
+      NotesFaults before.slots after.slots (told.read before.files).faults (told.read after.files).faults
+
+  -- What so many rounds leave: the same members, of which the logger noted the faults of the run files; and a pick of
+  -- which so many choices were read.
   pub record KeptByRounds (count : ℕ) (before after : CrewSeen E F K) : Type 0 where
     pub same : IsSameCrew before after
+    pub faults : NotesRunFaults before.logger after.logger
     pub tells : told.tells after.pick ≡ told.tells before.pick
     pub picks : IsTrue (told.tells before.pick) → (n : ℕ) →
         told.ahead after.pick n ≡ told.ahead before.pick (n + count)

@@ -8,6 +8,7 @@ use crate::logger_seat::LoggerSeat;
 use crate::turned::Turned;
 use daq_io::{Files, Gate, Pick};
 use front_ends::Equipment;
+use loggers::laws as logger_laws;
 use odb_port::WatchPort;
 use session_engine::Rounds;
 use std::marker::Model;
@@ -63,7 +64,7 @@ impl<'a, E: Equipment, P: EndlessPort, D: WatchPort, F: Files, K: Pick, G: Gate>
     K,
     G,
 > {
-    ghost use Rattle.daq_members.specs.Crews.{crew_seen, crew_told, member_count, AreMembers, TurnsFront, TurnsLogger, TurnsMember, TurnFrom, PicksMember, IsSameCrew, KeepContracts};
+    ghost use Rattle.daq_members.specs.Crews.{crew_seen, crew_told, member_count, AreMembers, TurnsFront, TurnsLogger, TurnsMember, TurnFrom, PicksMember, IsSameCrew, NotesRunFaults, KeepContracts};
 
     /// A crew of these members, of which each asks the same engine by the client number that is its place.
     pub fn new(
@@ -157,11 +158,14 @@ impl<'a, E: Equipment, P: EndlessPort, D: WatchPort, F: Files, K: Pick, G: Gate>
         ensures same { IsSameCrew (crew_told E.takes E.makes F.seen F.faults F.clashes F.first
             K.tells K.ahead) self.entry
             (crew_seen result.fronts.items result.logger result.pick) }
+        ensures faults { NotesRunFaults (crew_told E.takes E.makes F.seen F.faults F.clashes
+            F.first K.tells K.ahead) self.entry.logger result.logger }
         ensures pick { result.pick ≡ self.entry.pick }
         ensures members { AreMembers result.fronts.items result.logger }
         ensures keep { KeepContracts (crew_told E.takes E.makes F.seen F.faults F.clashes F.first
             K.tells K.ahead) (crew_seen result.fronts.items result.logger result.pick) }
     {
+        logger_laws::faults_noted();
         self.turn_all(rt, 0);
         self.into_parts()
     }

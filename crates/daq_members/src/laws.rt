@@ -9,6 +9,7 @@ use crate::crew::Crew;
 use crate::endless::EndlessPort;
 use daq_io::{Files, Gate, Pick};
 use front_ends::Equipment;
+use loggers::laws as logger_laws;
 use odb_port::WatchPort;
 
 /// A front-end as a member has the front-end's contract over its own calls, with moments of its turns, and all its
@@ -17,7 +18,8 @@ pub fn front_keeps()
     ensures { FrontKeeps }
 {}
 
-/// A crew that had any number of rounds has the same members as before, and each round read one choice of its pick.
+/// A crew that had any number of rounds has the same members as before, of which the logger noted each fault of the run
+/// files, and each round read one choice of its pick.
 pub fn rounds_keep<'a, E: Equipment, P: EndlessPort, D: WatchPort, F: Files, K: Pick, G: Gate>(
     _crew: &Crew<'a, E, P, D, F, K, G>,
 )
@@ -26,4 +28,6 @@ pub fn rounds_keep<'a, E: Equipment, P: EndlessPort, D: WatchPort, F: Files, K: 
         K.tells K.ahead)) count before _crew.now →
         KeptByRounds (crew_told E.takes E.makes F.seen F.faults F.clashes F.first
         K.tells K.ahead) count before _crew.now }
-{}
+{
+    logger_laws::faults_noted();
+}

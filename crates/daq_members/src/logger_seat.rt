@@ -2,6 +2,7 @@
 ghost use Rattle.std.specs.Prelude.{◌≡◌, ◌≤◌, ℕ, length, map, IfSome, None};
 ghost use Rattle.daq_types.specs.Callers.{caller_of_client};
 ghost use Rattle.daq_model.specs.Events.{record_limit};
+ghost use Rattle.buffer_core.specs.Slots.{some_slot};
 ghost use Rattle.turn_lock.specs.Passes.{number_of, held_by, own_entries, IsOf};
 ghost use Rattle.transition_lock.specs.SharedEngines.{engine_lock_of};
 ghost use Rattle.member_model.specs.TurnCalls.{member_turns};
@@ -117,6 +118,13 @@ impl<'a, P: EndlessPort, F: Files> LoggerSeat<'a, P, F> {
         ensures seated { IsLoggerSeated F.seen self.now }
     {
         self.member.seat.client
+    }
+
+    /// Whether a call on the run files failed in a turn of the logger.
+    pub fn failed(&self) -> bool
+        ensures { result ≡ some_slot (λ c. c.failed) self.now.slots }
+    {
+        self.member.logger.failed()
     }
 
     /// What the logger called with, given back: its pass of the engine it is asking, its ports with the calls that it

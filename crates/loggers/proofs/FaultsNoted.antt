@@ -71,7 +71,7 @@ below_some f g h less = by_first (nat_lt f g) refl
 notes_same : (slots : List (Option Channel)) (faults : ℕ) → NotesFaults slots slots faults faults
 notes_same slots faults = record { count = inl refl; stays = λ h. h; each = λ less. absurd (omega (arith, less)); only = λ h. inl h }
 
-notes_then : (x y z : List (Option Channel)) (f g h : ℕ) → NotesFaults x y f g → NotesFaults y z g h → NotesFaults x z f h
+pub notes_then : (x y z : List (Option Channel)) (f g h : ℕ) → NotesFaults x y f g → NotesFaults y z g h → NotesFaults x z f h
 notes_then x y z f g h first second = record {
   count = counts_then f g h first.count second.count;
   stays = λ k. second.stays (first.stays k);

@@ -1,14 +1,16 @@
 -- What each call keeps of what a logger keeps between its calls.
-use Rattle.std.specs.Prelude.{◌≤◌, ℕ, List, [], ◌∷◌, length, unwrap_or}
+use Rattle.std.specs.Prelude.{◌≤◌, ℕ, List, [], ◌∷◌, length, unwrap_or, Option}
 use Rattle.daq_model.specs.Events.{record_limit}
 use Rattle.buffer_core.specs.Ports.{Access}
 use Rattle.member_model.specs.Turns.{MemberTurn, NoneOpen, latest_answered}
+use Rattle.mid_logger.specs.declared.channel.Channel.{Channel}
 use Rattle.mid_logger.specs.declared.pulled.Pulled.{Pulled}
 use Rattle.loggers.specs.Moments.{LoggerMoment, HaveFilesOpen, IsLoggerReady}
 use Rattle.loggers.specs.SlotPulls.{PullsNumbered}
 use Rattle.loggers.specs.Turning.{LoggerTurn, TakesTurn, IsIdleOutside}
 use Rattle.loggers.specs.Finishing.{LoggerFinish, FinishesLogger}
 use Rattle.loggers.specs.NewLoggers.{NoneTakenBack}
+use Rattle.loggers.specs.LoggerFaults.{NotesFaults}
 use Rattle.loggers.specs.LoggerStands.{logger_turn, LoggerStands}
 
 -- Behind a turn that comes once the latest was answered the logger stands with that turn and its answer, where no
@@ -37,3 +39,21 @@ TurnsLeaveKnown = (t : LoggerTurn) → TakesTurn t → NoneTakenBack t.after.por
 abbrev pub PullsLeaveKnown : Type 0
 PullsLeaveKnown = (number : ℕ) → (answer : Pulled) → (a b : LoggerMoment) → PullsNumbered number answer a b →
     NoneTakenBack b.ports → NoneTakenBack a.ports
+
+-- A turn, a pull and a call to finish each note the faults of the files.
+abbrev pub TurnsNote : Type 0
+TurnsNote = (t : LoggerTurn) → TakesTurn t →
+    NotesFaults t.before.slots t.after.slots t.before.files.faults t.after.files.faults
+
+abbrev pub PullsNote : Type 0
+PullsNote = (number : ℕ) → (answer : Pulled) → (a b : LoggerMoment) → PullsNumbered number answer a b →
+    NotesFaults a.slots b.slots a.files.faults b.files.faults
+
+abbrev pub FinishesNote : Type 0
+FinishesNote = (f : LoggerFinish) → FinishesLogger f →
+    NotesFaults f.slots f.later_slots f.files.faults f.later_files.faults
+
+-- What two calls note, one behind the other, they note together.
+abbrev pub NotesFollow : Type 0
+NotesFollow = (first second third : List (Option Channel)) → (f g h : ℕ) → NotesFaults first second f g →
+    NotesFaults second third g h → NotesFaults first third f h

@@ -1,6 +1,6 @@
 //! What a logger keeps: each function does nothing, and its contract is the law.
 
-ghost use Rattle.loggers.specs.LoggerLaws.{FinishesKeep, TurnsKeep, TurnsLeaveKnown, PullsLeaveKnown};
+ghost use Rattle.loggers.specs.LoggerLaws.{FinishesKeep, TurnsKeep, TurnsLeaveKnown, PullsLeaveKnown, TurnsNote, PullsNote, FinishesNote, NotesFollow};
 ghost use Rattle.loggers.specs.LoggerStands.{StandingLoggerKeeps};
 
 use mid_logger::laws as channel_laws;
@@ -39,4 +39,12 @@ pub fn finishes_keep()
 pub fn still_known()
     ensures turns { TurnsLeaveKnown }
     ensures pulls { PullsLeaveKnown }
+{}
+
+/// The faults of the files are noted by each call, and by several that follow one another.
+pub fn faults_noted()
+    ensures turns { TurnsNote }
+    ensures pulls { PullsNote }
+    ensures finishes { FinishesNote }
+    ensures follow { NotesFollow }
 {}
