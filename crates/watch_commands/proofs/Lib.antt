@@ -1,0 +1,4 @@
+pub mod WatchMade
+pub mod DumpMade
+pub mod CommandsMade
+mod Added

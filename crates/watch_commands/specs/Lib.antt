@@ -1,0 +1,4 @@
+pub mod WatchTexts
+pub mod WatchAnswers
+pub mod WatchCalls
+pub mod WatchPerforms
