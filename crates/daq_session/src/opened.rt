@@ -1,15 +1,16 @@
 // A session that a start opened.
-ghost use Rattle.std.specs.Prelude.{◌≡◌, true};
-ghost use Rattle.odb_lock.specs.SharedAccesses.{access_by_pass};
+ghost use Rattle.std.specs.Prelude.{◌≡◌, ◌≤◌, false, suc, zero};
+ghost use Rattle.session_engine.specs.MadeTransitions.{HadRounds};
 
-use crate::replying::reply_for;
-use daq_io::{Clock, Files, Gate, Pick};
+use crate::lasting::LastingPort;
+use crate::commands::{answer_pause, answer_resume, answer_start, answer_stop};
+use daq_io::{Clock, Files};
 use daq_types::NoMemory;
 use database_desk::DatabaseDesk;
 use odb_script::{Command, LineRefusal};
 use script_desk::Answerer;
 use session_engine::Rounds;
-use session_objects::SessionCrew;
+use session_lines::laws::{commands_keep, members_passed_over};
 use session_replies::Reply;
 use session_runs::Runs;
 use session_setup::{DeclaredLists, SetupRefusal};
@@ -18,10 +19,10 @@ use std::sync::Wait;
 
 /// A session that a start opened: what the main thread keeps of its runs, its members, and the online database.
 #[derive(Drop)]
-pub struct Opened<'a, E: Files, C: Clock, F: Files, K: Pick, G: Gate> {
+pub struct Opened<'a, D: LastingPort, M: Rounds, E: Files, C: Clock> {
     pub runs: Runs<'a>,
-    pub crew: SessionCrew<'a, F, K, G>,
-    pub database: DatabaseDesk<'a, E>,
+    pub crew: M,
+    pub database: DatabaseDesk<D, E>,
     pub clock: C,
     /// What was declared.
     pub lists: &'a DeclaredLists,
@@ -29,66 +30,29 @@ pub struct Opened<'a, E: Files, C: Clock, F: Files, K: Pick, G: Gate> {
     pub begun: bool,
 }
 
-impl<'a, E: Files, C: Clock, F: Files, K: Pick, G: Gate> Opened<'a, E, C, F, K, G> {
-    /// One round before a line, but for the line that opened the session.
-    fn begin_line<R: Wait>(&mut self, rt: &R) {
-        if self.begun {
-            self.crew.round(rt);
-        }
-        self.begun = true;
+/// One round before a line, but for the line that opened the session.
+fn begin_line<R: Wait, M: Rounds>(rt: &R, members: &mut M, begun: &mut bool)
+    ensures { (count : _) × (count ≤ 1) × HadRounds M.round count members.old members.new }
+{
+    if *begun {
+        members.round(rt);
     }
-
-    /// Answers `start`.
-    fn start<R: Wait>(&mut self, rt: &R, alloc: Global) -> Result<Reply, NoMemory> {
-        let answer = self.runs.start(
-            rt,
-            alloc,
-            &mut self.database.access,
-            &mut self.crew,
-            &mut self.clock,
-        )?;
-        reply_for(alloc, &self.runs, answer)
-    }
-
-    /// Answers `stop`.
-    fn stop<R: Wait>(&mut self, rt: &R, alloc: Global) -> Result<Reply, NoMemory> {
-        let answer = self.runs.stop(
-            rt,
-            alloc,
-            &mut self.database.access,
-            &mut self.crew,
-            &mut self.clock,
-        )?;
-        reply_for(alloc, &self.runs, answer)
-    }
-
-    /// Answers `pause`.
-    fn pause<R: Wait>(&mut self, rt: &R, alloc: Global) -> Result<Reply, NoMemory> {
-        let answer = self
-            .runs
-            .pause(rt, alloc, &mut self.database.access, &mut self.crew);
-        reply_for(alloc, &self.runs, answer)
-    }
-
-    /// Answers `resume`.
-    fn resume<R: Wait>(&mut self, rt: &R, alloc: Global) -> Result<Reply, NoMemory> {
-        let answer = self
-            .runs
-            .resume(rt, alloc, &mut self.database.access, &mut self.crew);
-        reply_for(alloc, &self.runs, answer)
-    }
+    *begun = true;
 }
 
-impl<'a, E: Files, C: Clock, F: Files, K: Pick, G: Gate> Answerer for Opened<'a, E, C, F, K, G> {
+impl<'a, D: LastingPort, M: Rounds, E: Files, C: Clock> Answerer for Opened<'a, D, M, E, C> {
     ghost use Rattle.session_lines.specs.Stages.{Stage, open_stage};
+    ghost use Rattle.session_objects.specs.Objects.{declared_by};
     ghost use Rattle.session_lines.specs.ScriptLines.{BreaksScriptLine, ClosesScript, DoesScriptLine, GivesUp};
     ghost use Rattle.database_desk.specs.DatabaseStages.{database_stage};
     ghost use Rattle.session_runs.specs.RunAnswers.{clock_of};
+    ghost use Rattle.daq_session.specs.Staying.{StaysOpen};
+    ghost use Rattle.daq_session.proofs.StayingLaws.{stays_open, stays_open_on};
 
     ghost Stage = { Stage };
 
-    ghost stage = { λ s. open_stage s.lists.now
-        (database_stage (access_by_pass s.database.access) (E.seen s.database.files)
+    ghost stage = { λ s. open_stage (declared_by s.lists.now)
+        (database_stage (D.access s.database.access) (E.seen s.database.files)
         (E.faults s.database.files) (E.clashes s.database.files) (E.first s.database.files)
         s.database.replies.replies)
         (clock_of (C.tells s.clock) (C.ahead s.clock)) s.runs };
@@ -103,6 +67,9 @@ impl<'a, E: Files, C: Clock, F: Files, K: Pick, G: Gate> Answerer for Opened<'a,
 
     ghost gives_up = { GivesUp };
 
+    ghost stays = { λ a b. StaysOpen M.round a.crew b.crew a.runs.main.engine b.runs.main.engine (D.access a.database.access)
+        (D.access b.database.access) a.lists.now b.lists.now };
+
     /// An open session answers each line.
     fn is_left(&self, _line: &Result<Command<'_>, LineRefusal>) -> bool {
         false
@@ -115,11 +82,15 @@ impl<'a, E: Files, C: Clock, F: Files, K: Pick, G: Gate> Answerer for Opened<'a,
         number: u64,
         line: Result<Command<'_>, LineRefusal>,
     ) -> Result<Reply, NoMemory> {
-        self.begin_line(rt);
+        begin_line(rt, &mut self.crew, &mut self.begun);
         let command = match line {
             Ok(command) => command,
             Err(LineRefusal::BadCommand { at }) => return Ok(Reply::BadCommand { at }),
         };
+        members_passed_over::<M>();
+        commands_keep::<M>();
+        let (runs, crew) = (&mut self.runs, &mut self.crew);
+        let access = &mut self.database.access;
         match command {
             Command::Nothing | Command::Exit => Ok(Reply::Silent),
             Command::Buffer { .. } | Command::Equip { .. } | Command::Channel { .. } => {
@@ -128,22 +99,37 @@ impl<'a, E: Files, C: Clock, F: Files, K: Pick, G: Gate> Answerer for Opened<'a,
                 })
             }
             Command::Events { count } => {
-                self.runs.set_quota(count);
+                runs.set_quota(count);
                 Ok(Reply::Silent)
             }
-            Command::Start => self.start(rt, alloc),
-            Command::Stop => self.stop(rt, alloc),
-            Command::Pause => self.pause(rt, alloc),
-            Command::Resume => self.resume(rt, alloc),
+            Command::Start => answer_start(rt, alloc, runs, access, crew, &mut self.clock),
+            Command::Stop => answer_stop(rt, alloc, runs, access, crew, &mut self.clock),
+            Command::Pause => Ok(answer_pause(rt, alloc, runs, access, crew)),
+            Command::Resume => Ok(answer_resume(rt, alloc, runs, access, crew)),
             command => self.database.answer(rt, alloc, number, &command),
         }
     }
 
     /// Where a run is on, it is stopped as by the command.
     fn close<R: Wait>(&mut self, rt: &R, alloc: Global) -> Result<Option<Reply>, NoMemory> {
-        match self.runs.on() {
-            None => Ok(None),
-            Some(_) => Ok(Some(self.stop(rt, alloc)?)),
+        members_passed_over::<M>();
+        commands_keep::<M>();
+        if self.runs.on().is_none() {
+            return Ok(None);
         }
+        let reply = answer_stop(
+            rt,
+            alloc,
+            &mut self.runs,
+            &mut self.database.access,
+            &mut self.crew,
+            &mut self.clock,
+        )?;
+        Ok(Some(reply))
     }
+
+    ghost stays_so = { λ a. stays_open a.crew a.runs.main.engine
+        (D.access a.database.access) a.lists.now };
+
+    ghost stays_on = { λ a b c ab bc. stays_open_on ab bc };
 }

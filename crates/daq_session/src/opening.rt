@@ -1,14 +1,27 @@
 // The opening of a session, with its first start.
+ghost use Rattle.std.specs.Prelude.{◌≡◌, ◌∷◌, [], ◌≤◌, None, Contains, IfErr, IfOk, OnErr, OnOk, length, map};
+ghost use Rattle.daq_types.specs.Callers.{main_caller};
+ghost use Rattle.turn_lock.specs.Passes.{number_of, own_entries, held_by, passes_of, IsOf};
+ghost use Rattle.turn_lock.specs.Roster.{IsFresh};
+ghost use Rattle.odb_runinfo.specs.RunKeys.{session_rows};
+ghost use Rattle.odb_watch.specs.Steps.{unwatched};
+ghost use Rattle.odb_lock.specs.SharedOdbs.{first_database, odb_lock_of};
+ghost use Rattle.transitions.specs.Engines.{engine_opening};
+ghost use Rattle.transition_lock.specs.SharedEngines.{engine_lock_of, first_engine};
+ghost use Rattle.session_lines.specs.Stages.{opened_runs};
+ghost use Rattle.session_objects.specs.Kept.{HasFreshBut, out_to_fronts, out_to_logger};
+ghost use Rattle.session_objects.specs.Members.{AreNewMembers, SuitMembers};
+ghost use Rattle.session_objects.specs.Objects.{declared_by};
+ghost use Rattle.session_objects.specs.Rosters.{KeepsFresh};
 
-use crate::opened::Opened;
-use daq_io::{Clock, Files, Gate, Pick};
+use crate::places::Places;
+use daq_io::{Files, Gate, Pick};
 use daq_types::{BoundedList, NoMemory};
-use database_desk::{DatabaseDesk, MainAccess};
 use loggers::ChannelSpecs;
 use mid_logger::ChannelSpec;
 use odb_arena::ArenaTree;
 use odb_lock::{OdbPass, OdbPasses, SharedOdb};
-use odb_runinfo::{open, open_front};
+use odb_runinfo::open;
 use session_engine::MainSeat;
 use session_objects::{SessionCrew, SessionObjects, SessionPasses, Unmanned, member_names, take_main};
 use session_runs::{FrontNames, Runs};
@@ -31,7 +44,15 @@ pub struct OpenDatabase {
 }
 
 /// The online database of a session that is not open: it has the run's parameters.
-pub fn open_database(alloc: Global) -> Result<OpenDatabase, NoMemory> {
+pub fn open_database(alloc: Global) -> Result<OpenDatabase, NoMemory>
+    ensures rows { IfOk result (λ d. first_database d.shared ≡ unwatched session_rows) }
+    ensures callers { IfOk result (λ d. passes_of (odb_lock_of d.shared) ≡ 33) }
+    ensures main { IfOk result (λ d. number_of d.main ≡ main_caller) }
+    ensures own { IfOk result (λ d. IsOf (odb_lock_of d.shared) d.main) }
+    ensures fresh { IfOk result (λ d. IsFresh d.main) }
+    ensures others { IfOk result (λ d. KeepsFresh (main_caller ∷ []) (odb_lock_of d.shared)
+        d.passes) }
+{
     let mut tree = ArenaTree::new(alloc);
     open(alloc, &mut tree)?;
     let (shared, mut passes) = SharedOdb::new(alloc, tree, DATABASE_PASSES)?;
@@ -43,39 +64,37 @@ pub fn open_database(alloc: Global) -> Result<OpenDatabase, NoMemory> {
     })
 }
 
-/// Makes the keys in which the front-ends say how many events they sent. Any refusal but want of memory is passed over.
-fn make_keys<R: Wait>(
-    rt: &R,
-    alloc: Global,
-    access: &mut MainAccess<'_>,
-    fronts: &[FrontDeclared],
-) -> Result<(), NoMemory> {
-    for front in fronts {
-        open_front(rt, alloc, access, front.name)?;
-    }
-    Ok(())
-}
-
 /// The names of the front-ends.
-fn front_names(alloc: Global, fronts: &[FrontDeclared]) -> Result<FrontNames, NoMemory> {
+pub fn front_names(alloc: Global, fronts: &[FrontDeclared]) -> Result<FrontNames, NoMemory>
+    ensures { IfOk result (λ names. names ≡ map (λ front. front.name) fronts.now) }
+{
     let mut names = BoundedList::new(alloc)?;
     for front in fronts {
-        names.push(front.name);
+        names.try_push(front.name)?;
     }
     Ok(names)
 }
 
+/// The channel once more.
+fn copied_channel(channel: &ChannelSpec) -> ChannelSpec
+    ensures { result ≡ channel.now }
+{
+    ChannelSpec {
+        number: channel.number,
+        pattern: channel.pattern.copy(),
+        buffer: channel.buffer,
+        id: channel.id,
+        mask: channel.mask,
+    }
+}
+
 /// The channels once more.
-fn copied_channels(alloc: Global, channels: &[ChannelSpec]) -> Result<ChannelSpecs, NoMemory> {
+fn copied_channels(alloc: Global, channels: &[ChannelSpec]) -> Result<ChannelSpecs, NoMemory>
+    ensures { IfOk result (λ copied. copied ≡ channels.now) }
+{
     let mut copied = BoundedList::new(alloc)?;
     for channel in channels {
-        copied.push(ChannelSpec {
-            number: channel.number,
-            pattern: channel.pattern.copy(),
-            buffer: channel.buffer,
-            id: channel.id,
-            mask: channel.mask,
-        });
+        copied.try_push(copied_channel(channel))?;
     }
     Ok(copied)
 }
@@ -88,7 +107,15 @@ fn open_runs<'a, R: Wait>(
     main: EnginePass,
     lists: &DeclaredLists,
     quota: u32,
-) -> Result<Runs<'a>, NoMemory> {
+) -> Result<Runs<'a>, NoMemory>
+    requires few { length lists.now.fronts ≤ 32 }
+    requires main { number_of main ≡ main_caller }
+    requires own { IsOf (engine_lock_of objects.now.engine) main }
+    requires fresh { IsFresh main }
+    requires opening { first_engine objects.now.engine ≡ engine_opening }
+    ensures { IfOk result (λ runs. runs ≡ opened_runs quota (declared_by lists.now)
+        objects.now.engine) }
+{
     let names = front_names(alloc, lists.fronts.as_slice())?;
     let members = member_names(alloc, lists.fronts.as_slice())?;
     let mut seat = MainSeat::new(&objects.engine, main);
@@ -96,26 +123,9 @@ fn open_runs<'a, R: Wait>(
     Runs::new(alloc, seat, quota, names, lists.channels.as_slice())
 }
 
-/// What a session is opened with, and what comes back where there is no memory for that.
-#[derive(Drop)]
-pub struct Unseated<'a, E: Files, C: Clock, F: Files, K: Pick> {
-    pub database: DatabaseDesk<'a, E>,
-    pub clock: C,
-    pub run_files: F,
-    pub pick: K,
-}
-
-/// The objects of a session with the passes that the main thread keeps.
-#[derive(Drop)]
-pub struct Places<'a, G: Gate> {
-    pub shared: &'a SharedOdb<ArenaTree>,
-    pub objects: &'a SessionObjects,
-    pub lists: &'a DeclaredLists,
-    pub gate: &'a G,
-}
-
-/// The members and the main thread's runs, or the run files and the pick where there is no memory for them.
-fn open_members<'a, R: Wait, F: Files, K: Pick, G: Gate>(
+/// The members of a session that opens, and what the main thread keeps of its runs; or the run files and the pick where there is
+/// no memory for them.
+pub fn open_members<'a, R: Wait, F: Files, K: Pick, G: Gate>(
     rt: &R,
     alloc: Global,
     places: &Places<'a, G>,
@@ -124,7 +134,27 @@ fn open_members<'a, R: Wait, F: Files, K: Pick, G: Gate>(
     quota: u32,
     run_files: F,
     pick: K,
-) -> Result<(Runs<'a>, SessionCrew<'a, F, K, G>), Unmanned<F, K>> {
+) -> Result<(Runs<'a>, SessionCrew<'a, F, K, G>), Unmanned<F, K>>
+    requires few { length places.now.lists.now.fronts ≤ 32 }
+    requires main { number_of main ≡ main_caller }
+    requires own { IsOf (engine_lock_of places.now.objects.now.engine) main }
+    requires fresh { IsFresh main }
+    requires opening { first_engine places.now.objects.now.engine ≡ engine_opening }
+    requires suit { SuitMembers places.now.lists.now.fronts places.now.lists.now.channels
+        places.now.objects.now places.now.shared.now }
+    requires out { HasFreshBut (out_to_fronts places.now.lists.now.fronts 0)
+        places.now.objects.now places.now.shared.now passes.old }
+    ensures runs { IfOk result (λ opened. opened.0 ≡ opened_runs quota
+        (declared_by places.now.lists.now) places.now.objects.now.engine) }
+    ensures members { IfOk result (λ opened. AreNewMembers places.now.lists.now.fronts
+        places.now.lists.now.channels places.now.objects.now places.now.shared.now run_files
+        pick opened.1) }
+    ensures out { OnOk result (HasFreshBut (out_to_logger places.now.lists.now.fronts
+        (length places.now.objects.now.buffers.items)) places.now.objects.now
+        places.now.shared.now passes.new) }
+    ensures files { IfErr result (λ unmanned. unmanned.files ≡ run_files) }
+    ensures pick { IfErr result (λ unmanned. unmanned.pick ≡ pick) }
+{
     let Ok(runs) = open_runs(rt, alloc, places.objects, main, places.lists, quota) else {
         return Err(Unmanned {
             files: run_files,
@@ -137,57 +167,10 @@ fn open_members<'a, R: Wait, F: Files, K: Pick, G: Gate>(
             pick,
         });
     };
-    let crew = places.objects.crew(
-        alloc,
-        places.shared,
-        places.lists.fronts.as_slice(),
-        channels,
-        passes,
-        run_files,
-        pick,
-        places.gate,
-    )?;
-    Ok((runs, crew))
-}
-
-/// Opens the session: makes the front-ends' keys, registers the members, and seats them.
-pub fn open_session<'a, R: Wait, E: Files, C: Clock, F: Files, K: Pick, G: Gate>(
-    rt: &R,
-    alloc: Global,
-    places: &Places<'a, G>,
-    main: EnginePass,
-    passes: &mut SessionPasses,
-    quota: u32,
-    with: Unseated<'a, E, C, F, K>,
-) -> Result<Opened<'a, E, C, F, K, G>, Unseated<'a, E, C, F, K>> {
-    let Unseated {
-        mut database,
-        clock,
-        run_files,
-        pick,
-    } = with;
-    if make_keys(rt, alloc, &mut database.access, places.lists.fronts.as_slice()).is_err() {
-        return Err(Unseated {
-            database,
-            clock,
-            run_files,
-            pick,
-        });
-    }
-    match open_members(rt, alloc, places, main, passes, quota, run_files, pick) {
-        Ok((runs, crew)) => Ok(Opened {
-            runs,
-            crew,
-            database,
-            clock,
-            lists: places.lists,
-            begun: false,
-        }),
-        Err(Unmanned { files, pick }) => Err(Unseated {
-            database,
-            clock,
-            run_files: files,
-            pick,
-        }),
+    let fronts = places.lists.fronts.as_slice();
+    let (objects, shared, gate) = (places.objects, places.shared, places.gate);
+    match objects.crew(alloc, shared, fronts, channels, passes, run_files, pick, gate) {
+        Ok(crew) => Ok((runs, crew)),
+        Err(unmanned) => Err(unmanned),
     }
 }

@@ -1,6 +1,7 @@
 // The replies to the commands of runs, with the names that were declared and what the records keep.
-ghost use Rattle.std.specs.Prelude.{◌≡◌, ◌++◌, map, IfOk};
+ghost use Rattle.std.specs.Prelude.{◌≡◌, ℕ, map, IfOk, IfSome, IfNone};
 ghost use Rattle.mid_logger.specs.ChannelTurns.{logger_name};
+ghost use Rattle.session_runs.specs.KeptRuns.{RunsSeen};
 ghost use Rattle.session_lines.specs.RunLines.{fronts_in, files_in, last_record, member_name, reply_for, sent_line};
 
 use daq_types::{BoundedList, Name, NoMemory};
@@ -79,21 +80,36 @@ fn stop_reply(
     Ok(Reply::Stopped { run, fronts, files })
 }
 
+/// The reply to a command of runs by which no run was stopped.
+pub fn plain_reply(fronts: &[Name], answer: RunReply) -> Option<Reply>
+    ensures reply { IfSome result (λ reply. (runs : RunsSeen) → runs.fronts ≡ fronts.now →
+        reply ≡ reply_for runs answer) }
+    ensures stopped { IfNone result ((run : ℕ) × (answer ≡ RunReply.Stopped run)) }
+{
+    match answer {
+        RunReply::WrongState { state } => Some(Reply::WrongState { state }),
+        RunReply::LastStart => Some(Reply::LastStart),
+        RunReply::RunNumber { have } => Some(Reply::RunNumber { have }),
+        RunReply::StartRefused { client, why } => {
+            let client = member_name(fronts, client);
+            Some(Reply::StartRefused { client, why })
+        }
+        RunReply::Started { run } => Some(Reply::Started { run }),
+        RunReply::Paused { run } => Some(Reply::Paused { run }),
+        RunReply::Resumed { run } => Some(Reply::Resumed { run }),
+        RunReply::Stopped { .. } => None,
+    }
+}
+
 /// The reply to a command of runs, behind which these are kept.
 pub fn reply_for(alloc: Global, runs: &Runs<'_>, answer: RunReply) -> Result<Reply, NoMemory>
     ensures { IfOk result (λ reply. reply ≡ reply_for runs.now answer) }
 {
-    match answer {
-        RunReply::WrongState { state } => Ok(Reply::WrongState { state }),
-        RunReply::LastStart => Ok(Reply::LastStart),
-        RunReply::RunNumber { have } => Ok(Reply::RunNumber { have }),
-        RunReply::StartRefused { client, why } => {
-            let client = member_name(runs.fronts(), client);
-            Ok(Reply::StartRefused { client, why })
-        }
-        RunReply::Started { run } => Ok(Reply::Started { run }),
-        RunReply::Paused { run } => Ok(Reply::Paused { run }),
-        RunReply::Resumed { run } => Ok(Reply::Resumed { run }),
-        RunReply::Stopped { run } => stop_reply(alloc, runs.fronts(), runs.records(), run),
+    if let RunReply::Stopped { run } = answer {
+        return stop_reply(alloc, runs.fronts(), runs.records(), run);
+    }
+    match plain_reply(runs.fronts(), answer) {
+        Some(reply) => Ok(reply),
+        None => unreachable!(),
     }
 }

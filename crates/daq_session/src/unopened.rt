@@ -1,8 +1,8 @@
 // A session that no start opened yet.
 ghost use Rattle.std.specs.Prelude.{◌≡◌, false, None};
-ghost use Rattle.odb_lock.specs.SharedAccesses.{access_by_pass};
 ghost use Rattle.session_setup.specs.Setup.{Declared};
 
+use crate::lasting::LastingPort;
 use crate::declaring::{declare_buffer, declare_channel, declare_front};
 use daq_io::{Clock, Files};
 use daq_types::{NoMemory, RunState};
@@ -16,25 +16,27 @@ use std::sync::Wait;
 
 /// A session that no start opened yet: what is declared so far, and the online database.
 #[derive(Drop)]
-pub struct Unopened<'a, E: Files, C: Clock> {
+pub struct Unopened<D: LastingPort, E: Files, C: Clock> {
     /// How many events each front-end has to send in the runs to come.
     pub quota: u32,
     pub declarations: Declarations,
-    pub database: DatabaseDesk<'a, E>,
+    pub database: DatabaseDesk<D, E>,
     pub clock: C,
     ghost closed: { declarations.opened ≡ false },
 }
 
-impl<'a, E: Files, C: Clock> Answerer for Unopened<'a, E, C> {
+impl<D: LastingPort, E: Files, C: Clock> Answerer for Unopened<D, E, C> {
     ghost use Rattle.session_lines.specs.Stages.{Stage, unopened_stage};
     ghost use Rattle.session_lines.specs.ScriptLines.{BreaksScriptLine, ClosesScript, DoesScriptLine, GivesUp, opens_session};
     ghost use Rattle.database_desk.specs.DatabaseStages.{database_stage};
     ghost use Rattle.session_runs.specs.RunAnswers.{clock_of};
+    ghost use Rattle.odb_port.specs.DatabasePorts.{IsSamePort};
+    ghost use Rattle.std.proofs.Common.{refl, ◌∙◌};
 
     ghost Stage = { Stage };
 
     ghost stage = { λ s. unopened_stage s.quota s.declarations
-        (database_stage (access_by_pass s.database.access) (E.seen s.database.files)
+        (database_stage (D.access s.database.access) (E.seen s.database.files)
         (E.faults s.database.files) (E.clashes s.database.files) (E.first s.database.files)
         s.database.replies.replies)
         (clock_of (C.tells s.clock) (C.ahead s.clock)) };
@@ -48,6 +50,9 @@ impl<'a, E: Files, C: Clock> Answerer for Unopened<'a, E, C> {
     ghost closes = { ClosesScript };
 
     ghost gives_up = { GivesUp };
+
+    ghost stays = { λ a b. IsSamePort (D.access a.database.access)
+        (D.access b.database.access) };
 
     /// The first start is left to the session that it opens.
     fn is_left(&self, line: &Result<Command<'_>, LineRefusal>) -> bool {
@@ -121,4 +126,12 @@ impl<'a, E: Files, C: Clock> Answerer for Unopened<'a, E, C> {
     fn close<R: Wait>(&mut self, _rt: &R, _alloc: Global) -> Result<Option<Reply>, NoMemory> {
         Ok(None)
     }
+
+    ghost stays_so = { λ a. record { database = refl; caller = refl; undisturbed = refl } };
+
+    ghost stays_on = { λ a b c ab bc. record {
+      database = bc.database ∙ ab.database;
+      caller = bc.caller ∙ ab.caller;
+      undisturbed = bc.undisturbed ∙ ab.undisturbed;
+    } };
 }

@@ -4,5 +4,6 @@
 
 mod desk;
 mod noting;
+mod probe;
 
-pub use desk::{DatabaseDesk, MainAccess};
+pub use desk::DatabaseDesk;

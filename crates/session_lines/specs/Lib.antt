@@ -3,3 +3,4 @@ pub mod Stages
 pub mod SetupReplies
 pub mod RunLines
 pub mod ScriptLines
+pub mod Keeping

@@ -1,12 +1,13 @@
 -- What the commands of runs do, and what they are answered.
-use Rattle.std.specs.Prelude.{◌≡◌, ℕ, ◌-◌, ◌⊎◌, List, [], ◌∷◌, map, length, slice_get, Option, Some, None, Result}
+use Rattle.std.specs.Prelude.{◌≡◌, ℕ, ◌-◌, ◌⊎◌, List, [], ◌∷◌, map, take, length, slice_get, Option, Some, None, Result, Err}
 use Rattle.std.specs.Option.{unwrap_or}
 use Rattle.daq_types.specs.declared.runs.RunState.TheVariants.{Stopped}
 use Rattle.daq_types.specs.declared.runs.Transition.TheVariants.{Pause, Resume}
 use Rattle.mid_logger.specs.ChannelTurns.{logger_name}
 use Rattle.odb_tree.specs.declared.entry.DatabaseEntry.{DatabaseEntry}
 use Rattle.odb_tree.specs.declared.refusals.OdbRefusal.{OdbRefusal}
-use Rattle.odb_port.specs.DatabasePorts.{AddsCalls, CutsCalls, DatabaseAccess, IsSettled}
+use Rattle.odb_tree.specs.declared.refusals.OdbRefusal.TheVariants.{NoMemory as no_memory}
+use Rattle.odb_port.specs.DatabasePorts.{AddsCall, AddsCalls, DatabaseAccess, IsSettled}
 use Rattle.odb_runinfo.specs.RunSets.{sent_key_made}
 use Rattle.transition_lock.specs.declared.shared.SharedEngine.{SharedEngine}
 use Rattle.transition_lock.specs.SharedEngines.{first_engine}
@@ -112,10 +113,21 @@ pub record OpensSession (old new : Stage) : Type 0 where
   pub files : new.database.files ≡ old.database.files
   pub replies : new.database.replies ≡ old.database.replies
 
--- Memory ended as the session was to open: the first of the calls that make the keys were made, and nothing else.
+-- Memory ended as the keys were made: those of the first so many front-ends were, and that of the next was maybe refused for
+-- want of memory.
+pub record CutsKeys (fronts : List (List ℕ)) (old new : DatabaseAccess) : Type 0 where
+  pub count : ℕ
+  pub keys : List DatabaseEntry
+  pub makes : MakesKeys (take count fronts) keys
+  pub between : DatabaseAccess
+  pub adds : AddsCalls old between keys
+  pub next : (new ≡ between)
+      ⊎ ((name : List ℕ) × (slice_get fronts count ≡ Some name) × AddsCall between new (sent_key_made name (Err no_memory)))
+
+-- Memory ended as the session was to open: the first of the keys were made, and nothing else.
 pub record CutsOpening (old new : Stage) : Type 0 where
   pub closed : old.runs ≡ None
-  pub keys : CutsCalls old.database.access new.database.access (MakesKeys (front_names (opened_with_defaults old.declared)))
+  pub keys : CutsKeys (front_names (opened_with_defaults old.declared)) old.database.access new.database.access
   pub same : new ≡ record old { database = record old.database { access = new.database.access } }
 
 -- The commands, by whether the session is open. One that is not open is stopped.

@@ -1,0 +1,33 @@
+// The keys in which the front-ends say how many events they sent.
+ghost use Rattle.std.specs.Prelude.{◌≡◌, ◌≤◌, ◌+◌, List, OnErr, OnOk, length};
+ghost use Rattle.daq_types.specs.Callers.{main_caller};
+ghost use Rattle.odb_tree.specs.declared.entry.DatabaseEntry.{DatabaseEntry};
+ghost use Rattle.odb_port.specs.DatabasePorts.{AddsCalls, IsSamePort};
+ghost use Rattle.session_lines.specs.RunLines.{CutsKeys, MakesKeys};
+
+use daq_types::{Name, NoMemory};
+use odb_port::DatabasePort;
+use odb_runinfo::open_front;
+use std::alloc::Global;
+use std::sync::Wait;
+
+/// Makes the keys of these front-ends, in order. Any refusal but want of memory is passed over.
+pub fn make_keys<R: Wait, D: DatabasePort>(
+    rt: &R,
+    alloc: Global,
+    access: &mut D,
+    fronts: &[Name],
+) -> Result<(), NoMemory>
+    requires main { (D.access access.old).caller ≡ main_caller }
+    requires room { length fronts.now ≤ (D.access access.old).room }
+    ensures made { OnOk result ((keys : List DatabaseEntry) × MakesKeys fronts.now keys
+        × AddsCalls (D.access access.old) (D.access access.new) keys) }
+    ensures cut { OnErr result (CutsKeys fronts.now (D.access access.old)
+        (D.access access.new)) }
+    ensures same { IsSamePort (D.access access.old) (D.access access.new) }
+{
+    for front in fronts {
+        open_front(rt, alloc, access, *front)?;
+    }
+    Ok(())
+}
