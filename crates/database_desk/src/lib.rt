@@ -4,6 +4,5 @@
 
 mod desk;
 mod noting;
-mod probe;
 
 pub use desk::DatabaseDesk;

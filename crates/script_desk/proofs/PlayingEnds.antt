@@ -25,7 +25,7 @@ use Rattle.session_replies.specs.Console.{text_of, console_text}
 use Rattle.session_replies.proofs.Refused.{counts_noted}
 use Rattle.script_desk.specs.Reading.{ReadsNext, ReadsOn}
 use Rattle.script_desk.specs.Playing.{AreFirst, AreLines, CutBy, DoesLine, HasLine, IsBetween, OpensAt, Played, PlaysFrom, Replied, Unanswered, Wrote}
-use Rattle.script_desk.proofs.PlayingLaws.{answered_more, between_more, wrote_more}
+use Rattle.script_desk.proofs.PlayingLaws.{answered_more, between_more, keeps_same, wrote_more}
 
 -- what was read of a source that told this text
 told_read : (first now : Option (List ℕ)) (reading : Reading) (lines : List (List ℕ)) (text : List ℕ) → first ≡ Some text → HasReadLines first now reading lines → HasReadLines (Some text) now reading lines
@@ -300,3 +300,15 @@ module _ {St : Type 0} (does : ℕ → Read Command → St → Reply → St → 
       → OpensAt does breaks leaves first source_first left told_first told_new reading_new last_new new now number_new
   left_next leaves last last_new first source_first left told_first told_old told_new reading reading_new old new was now number number_new has line_does same_reading same_last same_number =
       rw (same_reading, same_last, same_number) (left_at leaves last first source_first left told_first told_old told_new reading old new was now number has line_does)
+
+  -- the line that was read found no memory, and nothing was written of it
+  pub broken_at : (first now new : St) (source left told_first told : Option (List ℕ)) (reading : Reading) (last : Bool) (refusals : Refusals) (number : ℕ)
+      → (has : HasLine does breaks first source left told_first told reading last now refusals number) → breaks (number + 1) (command_of has.line) now new
+      → Played does breaks first (Halted NoMemory) source left told_first told new refusals
+  broken_at first now new source left told_first told reading last refusals number has broke =
+      broken_played last first source has.source_old left told_first told told has.reading_old reading has.stood new refusals refusals number (number + 1) has.line refl has.between has.next
+      (record {
+        broke = subst (λ (c : Read Command). breaks (number + 1) c has.stood new) (sym (command_of-kept has.line)) (has.breaks_so new broke);
+        same = refl;
+        kept = keeps_same told;
+      })

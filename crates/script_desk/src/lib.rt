@@ -9,11 +9,12 @@ mod desk;
 mod endings;
 mod going;
 mod halts;
+pub mod laws;
 mod play_end;
 mod playing;
 
 pub use answerer::Answerer;
-pub use closing::close_lines;
+pub use closing::{close_lines, play_out};
 pub use desk::Desk;
 pub use endings::Ending;
 pub use going::Going;

@@ -1,0 +1,5 @@
+use Rattle.std.proofs.Common.{◌≡◌, true, false, sym, ◌∙◌}
+use Rattle.script_desk.proofs.closing.play_out.Goals as goal
+
+pub returns-clause-stays : goal.returns-clause-stays
+returns-clause-stays g c = g.met.A.Answerer.stays_on _ _ _ c.play_on.ensures.stays c.close_lines-closing.ensures.stays
