@@ -1,5 +1,5 @@
 // The end of a lock.
-ghost use Rattle.std.specs.Prelude.{◌≡◌, ◌≢◌, ℕ, ◌+◌, ◌<◌, ◌≤◌, ◌∷◌, [], length, map, All, Contains, IfOk, IfErr, IfSome, IfNone, None, IsTrue, ◌↔◌, ◌==◌};
+ghost use Rattle.std.specs.Prelude.{◌≡◌, ℕ, ◌<◌, ◌≤◌, [], length, All, Contains, IfOk, IfErr, IfSome, IfNone, None, IsTrue, ◌↔◌, ◌==◌};
 ghost use Rattle.std.specs.List.{list_any};
 
 use crate::lock::{Pass, Turns};
@@ -50,25 +50,6 @@ impl<M: Machine> Passes<M> {
             }
         }
         None
-    }
-}
-
-impl<M: Machine> Pass<M> {
-    ghost use Rattle.turn_lock.specs.Passes.{number_of};
-    ghost use Rattle.turn_lock.specs.Closing.{TakesOut};
-
-    /// Takes the pass with number 0 out of the list.
-    fn take_zero(items: &mut Vec<Pass<M>>) -> Pass<M>
-        requires { Contains (map number_of items.old.items) 0 }
-        ensures zero { number_of result ≡ 0 }
-        ensures out { TakesOut items.old.items result items.new.items }
-    {
-        for index in 0..items.len() {
-            if items[index].number == 0 {
-                return items.remove(index);
-            }
-        }
-        unreachable!()
     }
 }
 
@@ -151,7 +132,7 @@ impl<M: Machine> Turns<M> {
             room: _,
             first,
         } = passes;
-        let mut zero = Pass::take_zero(&mut items);
+        let mut zero = Pass::take_numbered(&mut items, 0);
         self.absorb(&mut zero, items);
         let last = Snapshot::of(&zero);
         let value = self.finish(zero);

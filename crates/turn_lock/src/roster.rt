@@ -1,5 +1,5 @@
 // The passes of a lock, as a list.
-ghost use Rattle.std.specs.Prelude.{◌≡◌, ℕ, ◌+◌, ◌<◌, ◌≤◌, ◌++◌, ◌∷◌, [], length, vec_capacity, Some, None, IsTrue, ◌↔◌, IfSome, IfNone};
+ghost use Rattle.std.specs.Prelude.{◌≡◌, ℕ, ◌+◌, ◌<◌, ◌≤◌, ◌++◌, ◌∷◌, [], length, map, vec_capacity, Contains, Some, None, IsTrue, ◌↔◌, IfSome, IfNone};
 
 use crate::lock::Pass;
 use crate::object::Machine;
@@ -15,8 +15,29 @@ pub struct Passes<M: Machine> {
     ghost narrow: { room ≤ 256 },
 }
 
+impl<M: Machine> Pass<M> {
+    ghost use Rattle.turn_lock.specs.Passes.{number_of};
+    ghost use Rattle.turn_lock.specs.Closing.{TakesOut};
+
+    /// Takes the first pass with this number out of the list.
+    pub(crate) fn take_numbered(items: &mut Vec<Pass<M>>, number: u32) -> Pass<M>
+        requires { Contains (map number_of items.old.items) number }
+        ensures number { number_of result ≡ number }
+        ensures out { TakesOut items.old.items result items.new.items }
+        ensures room { vec_capacity items.new ≡ vec_capacity items.old }
+    {
+        for index in 0..items.len() {
+            if items[index].number == number {
+                return items.remove(index);
+            }
+        }
+        unreachable!()
+    }
+}
+
 impl<M: Machine> Passes<M> {
     ghost use Rattle.turn_lock.specs.Passes.{number_of, held_by, IsOf};
+    ghost use Rattle.turn_lock.specs.Closing.{TakesOut};
     ghost use Rattle.turn_lock.specs.Roster.{items_of, numbers_of, room_of, made_with, ArePassesOf, AreIdle, AreFresh, IsFresh};
 
     /// The number of passes in the list.
@@ -51,6 +72,26 @@ impl<M: Machine> Passes<M> {
         ensures first { made_with self.new ≡ made_with self.old }
     {
         self.items.pop()
+    }
+
+    /// Takes the pass with this number out of the list, in which it stands.
+    pub fn take(&mut self, number: u32) -> Pass<M>
+        requires { Contains (numbers_of self.old) number }
+        ensures number { number_of result ≡ number }
+        ensures out { TakesOut (items_of self.old) result (items_of self.new) }
+        ensures numbers { TakesOut (numbers_of self.old) number (numbers_of self.new) }
+
+        // What holds of all passes holds of those that are left, and of the one that was taken out.
+        ensures own { (lock : _) → ArePassesOf lock self.old → ArePassesOf lock self.new }
+        ensures idle { AreIdle self.old → AreIdle self.new }
+        ensures fresh { AreFresh self.old → AreFresh self.new }
+        ensures taken_own { (lock : _) → ArePassesOf lock self.old → IsOf lock result }
+        ensures taken_idle { AreIdle self.old → held_by result ≡ None }
+        ensures taken_fresh { AreFresh self.old → IsFresh result }
+        ensures room { room_of self.new ≡ room_of self.old }
+        ensures first { made_with self.new ≡ made_with self.old }
+    {
+        Pass::take_numbered(&mut self.items, number)
     }
 
     /// Puts a pass at the end of the list. It takes no memory: there is room for as many passes as the lock has.

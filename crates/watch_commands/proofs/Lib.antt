@@ -2,3 +2,5 @@ pub mod WatchMade
 pub mod DumpMade
 pub mod CommandsMade
 mod Added
+mod NumberStays
+mod Sparing

@@ -1,15 +1,23 @@
 //! What a command for watches or dumps tells by its answer.
 ghost use Rattle.std.specs.Prelude.{◌≡◌, ◌≢◌, ◌<◌, ℕ, List, [], ◌∷◌, length, true, IsTrue, IsSome, Some, None, Ok};
+ghost use Rattle.std.specs.List.{AllByRecursion};
 ghost use Rattle.daq_types.specs.Names.{IsFileName};
 ghost use Rattle.daq_io.specs.Seen.{Seen, Stored, Same, Stores};
 ghost use Rattle.odb_watch.specs.declared.entry.WatchEntry.{WatchEntry};
 ghost use Rattle.odb_watch.specs.declared.entry.WatchEntry.TheVariants.{Save as save_of};
+ghost use Rattle.odb_watch.specs.Steps.{LeadsDatabase};
+ghost use Rattle.odb_tree.specs.Noting.{Watched};
+ghost use Rattle.odb_runinfo.specs.RunNumberKept.{HasRunNumber};
 ghost use Rattle.odb_script.specs.declared.forms.Command.{Command};
 ghost use Rattle.odb_script.specs.declared.forms.Command.TheVariants.{Load, Save};
 ghost use Rattle.database_files.specs.declared.replies.FileReply.TheVariants.{Done, Clash, TooLong};
 ghost use Rattle.database_files.specs.WholeFiles.{file_limit};
 ghost use Rattle.watch_commands.specs.declared.replies.WatchAnswer.{WatchAnswer};
 ghost use Rattle.watch_commands.specs.WatchPerforms.{PerformsWatch, performs_watches, LoadsTextOf};
+ghost use Rattle.watch_commands.specs.WatchSpares.{SparesWatched, AllSpareWatched};
+
+use odb_ascii::laws::texts_are_calls;
+use odb_runinfo::laws::run_number_stays;
 
 /// Some calls and an answer do what a command for watches or dumps asks for, whatever the files tell.
 pub fn watch_commands_are_answered()
@@ -52,4 +60,21 @@ pub fn saves_by_file_reply()
     ensures short { (name : List ℕ) (old new : Seen) (calls : List WatchEntry)
         (answer : WatchAnswer) → PerformsWatch (Save name) old new calls answer
         → answer.file ≢ Some TooLong }
+{}
+
+/// The run number is there, an INT32 with an item 0, after every legal history of a watched database in which no call removes
+/// anything below `/Runinfo`, texts that are loaded not excepted.
+pub fn run_number_stays_watched()
+    ensures { (first : Watched) (h : List (ℕ × WatchEntry)) (last : Watched)
+        → LeadsDatabase first h last → AllSpareWatched h → HasRunNumber first.rows.rows
+        → HasRunNumber last.rows.rows }
+{
+    run_number_stays();
+    texts_are_calls();
+}
+
+/// No command for watches or dumps removes anything below `/Runinfo`, whatever its calls are answered.
+pub fn watch_commands_spare_runinfo()
+    ensures { (command : Command) (old new : Seen) (calls : List WatchEntry) (answer : WatchAnswer)
+        → PerformsWatch command old new calls answer → AllByRecursion SparesWatched calls }
 {}

@@ -1,0 +1,4 @@
+pub mod RosterLaws
+pub mod ClosingLaws
+pub mod OutLaws
+pub mod ChangeLaws

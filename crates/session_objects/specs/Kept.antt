@@ -1,0 +1,80 @@
+-- The passes that the main thread keeps of the session's objects, while others are with the members.
+use Rattle.std.specs.Prelude.{◌≡◌, ℕ, zero, suc, ◌==◌, ◌<◌, ◌++◌, ◌∷◌, [], Bool, false, if◌then◌else◌, nat_lt, List, slice_get, length, Option, Some, None}
+use Rattle.daq_types.specs.Callers.{main_caller}
+use Rattle.turn_lock.specs.declared.roster.Passes.{Passes}
+use Rattle.buffer_core.specs.Window.{Window}
+use Rattle.buffer_core.specs.declared.entry.BufferEntry.{BufferEntry}
+use Rattle.buffer_lock.specs.declared.locked.Locked.{Locked}
+use Rattle.buffer_lock.specs.SharedBuffers.{lock_of}
+use Rattle.transition_lock.specs.SharedEngines.{engine_lock_of}
+use Rattle.odb_tree.specs.Rows.{Rows}
+use Rattle.odb_lock.specs.declared.shared.SharedOdb.{SharedOdb}
+use Rattle.odb_lock.specs.SharedOdbs.{odb_lock_of}
+use Rattle.session_setup.specs.declared.declared.FrontDeclared.{FrontDeclared}
+use Rattle.session_objects.specs.declared.objects.SessionBuffer.{SessionBuffer}
+use Rattle.session_objects.specs.declared.objects.SessionObjects.{SessionObjects}
+use Rattle.session_objects.specs.declared.passes.SessionPasses.{SessionPasses}
+use Rattle.session_objects.specs.Rosters.{KeepsFresh}
+
+-- The numbers of the passes that are with those that call by them: of the engine; of each buffer, by its number; and of
+-- the database.
+pub record OutNumbers : Type 0 where
+  pub engine : List ℕ
+  pub buffers : ℕ → List ℕ
+  pub database : List ℕ
+
+-- the numbers of the main thread and of so many clients, the last one first
+abbrev pub callers_down : (clients : ℕ) → List ℕ
+callers_down zero = main_caller ∷ []
+callers_down (suc n) = suc n ∷ callers_down n
+
+-- the front-end sends into the buffer of this number
+abbrev pub sends_into : (buffer : ℕ) → Option FrontDeclared → Bool
+sends_into buffer None = false
+sends_into buffer (Some front) = front.buffer == buffer
+
+-- the callers of a buffer among so many front-ends, the last one first
+abbrev pub senders_down : List FrontDeclared → (clients : ℕ) → (buffer : ℕ) → List ℕ
+senders_down fronts zero buffer = []
+senders_down fronts (suc n) buffer =
+    if sends_into buffer (slice_get fronts n) then suc n ∷ senders_down fronts n buffer
+    else senders_down fronts n buffer
+
+-- The first so many front-ends have their passes, and the main thread has its own of engine and database.
+abbrev pub out_to_fronts : List FrontDeclared → (clients : ℕ) → OutNumbers
+out_to_fronts fronts clients = record {
+  engine = callers_down clients;
+  buffers = senders_down fronts clients;
+  database = callers_down clients;
+}
+
+-- the callers of a buffer, where the logger has its pass of each buffer with a number below this
+abbrev pub callers_with_logger : List FrontDeclared → (buffers : ℕ) → (number : ℕ) → List ℕ
+callers_with_logger fronts buffers number =
+    if nat_lt number buffers then suc (length fronts) ∷ senders_down fronts (length fronts) number
+    else senders_down fronts (length fronts) number
+
+-- All front-ends have their passes, and the logger has its pass of each buffer with a number below this;
+abbrev pub out_to_ports : List FrontDeclared → (buffers : ℕ) → OutNumbers
+out_to_ports fronts buffers = record {
+  engine = callers_down (length fronts);
+  buffers = callers_with_logger fronts buffers;
+  database = callers_down (length fronts);
+}
+
+-- and that of the engine.
+abbrev pub out_to_logger : List FrontDeclared → (buffers : ℕ) → OutNumbers
+out_to_logger fronts buffers = record {
+  engine = callers_down (suc (length fronts));
+  buffers = callers_with_logger fronts buffers;
+  database = callers_down (length fronts);
+}
+
+-- All passes of these objects are here but those with these numbers, and none of them made a call.
+pub record HasFreshBut (out : OutNumbers) (objects : SessionObjects) (shared : SharedOdb Rows) (passes : SessionPasses) : Type 0 where
+  pub engine : KeepsFresh out.engine (engine_lock_of objects.engine) passes.engine
+  pub many : length passes.buffers.items ≡ length objects.buffers.items
+  pub buffers : (number : ℕ) → (buffer : SessionBuffer) → (roster : _) →
+      slice_get objects.buffers.items number ≡ Some buffer → slice_get passes.buffers.items number ≡ Some roster →
+      KeepsFresh (out.buffers number) (lock_of buffer.shared) roster
+  pub database : KeepsFresh out.database (odb_lock_of shared) passes.database

@@ -1,0 +1,50 @@
+-- The objects of a session, as they open for what was declared.
+use Rattle.std.specs.Prelude.{◌≡◌, ℕ, ◌+◌, ◌<◌, true, List, slice_get, length, Some}
+use Rattle.turn_lock.specs.Passes.{passes_of}
+use Rattle.buffer_lock.specs.SharedBuffers.{lock_of}
+use Rattle.transitions.specs.Engines.{engine_opening}
+use Rattle.odb_tree.specs.Rows.{Rows}
+use Rattle.odb_lock.specs.declared.shared.SharedOdb.{SharedOdb}
+use Rattle.odb_lock.specs.SharedOdbs.{odb_lock_of}
+use Rattle.transition_lock.specs.SharedEngines.{engine_lock_of, first_engine}
+use Rattle.session_setup.specs.declared.declared.BufferDeclared.{BufferDeclared}
+use Rattle.session_setup.specs.declared.declared.FrontDeclared.{FrontDeclared}
+use Rattle.session_setup.specs.declared.declared.DeclaredLists.{DeclaredLists}
+use Rattle.session_setup.specs.Setup.{Declared}
+use Rattle.session_objects.specs.declared.objects.SessionBuffer.{SessionBuffer}
+use Rattle.session_objects.specs.declared.objects.SessionObjects.{SessionObjects}
+
+-- the declarations of these lists, with which a session opens
+abbrev pub declared_by : DeclaredLists → Declared
+declared_by lists = record { opened = true; buffers = lists.buffers; fronts = lists.fronts; channels = lists.channels }
+
+-- how many callers each object of a session with these front-ends has: the main thread, the front-ends and the logger
+abbrev pub caller_count : List FrontDeclared → ℕ
+caller_count fronts = length fronts + 2
+
+-- This buffer is the one that was declared, and so many callers share it.
+pub record IsBufferOf (declared : BufferDeclared) (count : ℕ) (buffer : SessionBuffer) : Type 0 where
+  pub name : buffer.name ≡ declared.name
+  pub size : buffer.size ≡ declared.size
+  pub callers : passes_of (lock_of buffer.shared) ≡ count
+
+-- The buffers are those that were declared, each at its number.
+pub record AreBuffersOf (declared : List BufferDeclared) (callers : ℕ) (buffers : List SessionBuffer) : Type 0 where
+  pub many : length buffers ≡ length declared
+  pub each : (number : ℕ) → (d : BufferDeclared) → (buffer : SessionBuffer) → slice_get declared number ≡ Some d →
+      slice_get buffers number ≡ Some buffer → IsBufferOf d callers buffer
+
+-- The objects are those of a session of these declarations: its buffers, and an engine that is new.
+pub record AreObjectsOf (lists : DeclaredLists) (objects : SessionObjects) : Type 0 where
+  pub buffers : AreBuffersOf lists.buffers (caller_count lists.fronts) objects.buffers.items
+  pub engine : first_engine objects.engine ≡ engine_opening
+  pub callers : passes_of (engine_lock_of objects.engine) ≡ caller_count lists.fronts
+
+-- Each object has so many callers as a session with these front-ends needs, and each front-end has a buffer to send into.
+pub record HaveCallers (fronts : List FrontDeclared) (objects : SessionObjects) (shared : SharedOdb Rows) : Type 0 where
+  pub engine : passes_of (engine_lock_of objects.engine) ≡ caller_count fronts
+  pub buffers : (number : ℕ) → (buffer : SessionBuffer) → slice_get objects.buffers.items number ≡ Some buffer →
+      passes_of (lock_of buffer.shared) ≡ caller_count fronts
+  pub database : length fronts < passes_of (odb_lock_of shared)
+  pub sent_into : (client : ℕ) → (front : FrontDeclared) → slice_get fronts client ≡ Some front →
+      front.buffer < length objects.buffers.items

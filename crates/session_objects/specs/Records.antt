@@ -1,0 +1,91 @@
+-- What is kept of a session once its objects are closed.
+use Rattle.std.specs.Prelude.{◌≡◌, ℕ, ◌≤◌, List, [], slice_get, length, Some, All}
+use Rattle.turn_lock.specs.declared.lock.Turns.{Turns}
+use Rattle.turn_lock.specs.declared.roster.Passes.{Passes}
+use Rattle.turn_lock.specs.declared.lock.Pass.{Pass}
+use Rattle.turn_lock.specs.History.{IsPartOf}
+use Rattle.turn_lock.specs.Passes.{number_of, seen_by, passes_of}
+use Rattle.daq_types.specs.Callers.{entries_by}
+use Rattle.turn_lock.specs.Roster.{numbers_of, ArePassesOf, AreIdle}
+use Rattle.turn_lock.specs.Closing.{AreComplete, history_of}
+use Rattle.buffer_core.specs.Window.{opening}
+use Rattle.buffer_core.specs.Histories.{IsLegal, replay}
+use Rattle.buffer_core.specs.Delivered.{Delivers}
+use Rattle.buffer_core.specs.Runs.{KeepsRuns}
+use Rattle.buffer_lock.specs.SharedBuffers.{lock_of}
+use Rattle.transitions.specs.EngineHistories.{IsLegalEngine, engine_replay}
+use Rattle.transition_lock.specs.SharedEngines.{engine_lock_of, first_engine}
+use Rattle.odb_tree.specs.Rows.{Rows}
+use Rattle.odb_watch.specs.Steps.{LeadsDatabase}
+use Rattle.odb_lock.specs.declared.shared.SharedOdb.{SharedOdb}
+use Rattle.odb_lock.specs.SharedOdbs.{odb_lock_of, first_database}
+use Rattle.session_setup.specs.declared.declared.FrontDeclared.{FrontDeclared}
+use Rattle.session_objects.specs.declared.objects.SessionBuffer.{SessionBuffer}
+use Rattle.session_objects.specs.declared.objects.SessionObjects.{SessionObjects}
+use Rattle.session_objects.specs.declared.passes.SessionPasses.{SessionPasses}
+use Rattle.session_objects.specs.declared.record.BufferRecord.{BufferRecord}
+use Rattle.session_objects.specs.declared.record.SessionRecord.{SessionRecord}
+use Rattle.session_objects.specs.Rosters.{KeepsPasses}
+use Rattle.session_objects.specs.Kept.{OutNumbers}
+use Rattle.session_objects.specs.Calls.{SessionCalls, told_of_engine, told_of_buffer, told_of_database, HoldsParts}
+
+-- All passes of the lock are here and idle.
+pub record AreAllPasses {M D E : Type 0} {g : _} (lock : Turns M D E) (passes : Passes M D E g) : Type 0 where
+  pub own : ArePassesOf lock passes
+  pub idle : AreIdle passes
+  pub complete : AreComplete (numbers_of passes) (passes_of lock)
+
+-- What each of these passes has seen is a beginning of this history, and the entries with the pass's number are its own.
+-- So many callers have passes, and there are no entries of others.
+pub record HoldsAllOf {M D E : Type 0} {g : _} (passes : List (Pass M D E g)) (callers : ℕ) (history : List (ℕ × E)) : Type 0 where
+  pub parts : All (λ pass. IsPartOf history (number_of pass) (seen_by pass)) passes
+  pub others : (number : ℕ) → callers ≤ number → entries_by number history ≡ []
+
+-- The passes of these objects are here but those with these numbers, and each tells of its caller what stands in these
+-- calls.
+pub record HasCallsBut (out : OutNumbers) (fronts : List FrontDeclared) (calls : SessionCalls) (objects : SessionObjects)
+    (shared : SharedOdb Rows) (passes : SessionPasses) : Type 0 where
+  pub engine : KeepsPasses (told_of_engine calls) out.engine (engine_lock_of objects.engine) passes.engine
+  pub many : length passes.buffers.items ≡ length objects.buffers.items
+  pub buffers : (number : ℕ) → (buffer : SessionBuffer) → (roster : _) →
+      slice_get objects.buffers.items number ≡ Some buffer → slice_get passes.buffers.items number ≡ Some roster →
+      KeepsPasses (told_of_buffer fronts calls number buffer.size) (out.buffers number) (lock_of buffer.shared) roster
+  pub database : KeepsPasses (told_of_database calls) out.database (odb_lock_of shared) passes.database
+
+-- All passes are here.
+abbrev pub none_out : OutNumbers
+none_out = record { engine = []; buffers = λ number. []; database = [] }
+
+abbrev pub HasCalls : List FrontDeclared → SessionCalls → SessionObjects → SharedOdb Rows → SessionPasses → Type 0
+HasCalls fronts calls objects shared passes = HasCallsBut none_out fronts calls objects shared passes
+
+-- The record of a buffer: its history is legal from the buffer as it opened, and led to what the buffer was left as; each
+-- client got what it is owed, and the events of runs stand between their marks.
+pub record IsRecordOf (buffer : SessionBuffer) (r : BufferRecord) : Type 0 where
+  pub name : r.name ≡ buffer.name
+  pub size : r.size ≡ buffer.size
+  pub legal : IsLegal (opening r.size) (history_of r.closed)
+  pub left : r.closed.value.buffer ≡ replay (opening r.size) (history_of r.closed)
+  pub delivers : Delivers r.size (history_of r.closed)
+  pub runs : KeepsRuns (history_of r.closed)
+
+-- The record of a session: the histories of its buffers, of its engine and of its database, each legal from the object as
+-- it was shared.
+pub record HoldsHistories (objects : SessionObjects) (shared : SharedOdb Rows) (r : SessionRecord) : Type 0 where
+  pub many : length r.buffers ≡ length objects.buffers.items
+  pub buffers : (number : ℕ) → (buffer : SessionBuffer) → (closed : BufferRecord) →
+      slice_get objects.buffers.items number ≡ Some buffer → slice_get r.buffers number ≡ Some closed →
+      IsRecordOf buffer closed
+  pub engine : IsLegalEngine (first_engine objects.engine) (history_of r.engine)
+  pub engine_left : r.engine.value.engine ≡ engine_replay (first_engine objects.engine) (history_of r.engine)
+  pub database : LeadsDatabase (first_database shared) (history_of r.database) r.database.value.database
+
+-- Each history of the record holds the calls of its callers, and no others.
+pub record HoldsCalls (fronts : List FrontDeclared) (calls : SessionCalls) (objects : SessionObjects)
+    (shared : SharedOdb Rows) (r : SessionRecord) : Type 0 where
+  pub engine : HoldsParts (told_of_engine calls) (passes_of (engine_lock_of objects.engine)) (history_of r.engine)
+  pub buffers : (number : ℕ) → (buffer : SessionBuffer) → (closed : BufferRecord) →
+      slice_get objects.buffers.items number ≡ Some buffer → slice_get r.buffers number ≡ Some closed →
+      HoldsParts (told_of_buffer fronts calls number buffer.size) (passes_of (lock_of buffer.shared))
+      (history_of closed.closed)
+  pub database : HoldsParts (told_of_database calls) (passes_of (odb_lock_of shared)) (history_of r.database)

@@ -1,0 +1,14 @@
+//! The objects that the members of a session share, and the members themselves: how they open for what a script declared,
+//! and what is kept of them once the session has ended.
+#![tactic(auto)]
+
+mod closing;
+mod objects;
+mod opening;
+mod passes;
+mod record;
+
+pub use objects::{SessionBuffer, SessionObjects};
+pub use opening::OpenedObjects;
+pub use passes::{SessionPasses, take_main};
+pub use record::{BufferRecord, BufferRecords, RunRecords, SessionRecord};

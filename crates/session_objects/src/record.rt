@@ -1,0 +1,31 @@
+// What is kept of a session once it has ended.
+use buffer_lock::BufferClosed;
+use daq_types::{BoundedList, Name};
+use odb_arena::ArenaTree;
+use odb_lock::OdbClosed;
+use ring_buffer::RingBuffer;
+use run_records::RunRecord;
+use transition_lock::EngineClosed;
+
+/// What is kept of a buffer of a session: its name, its size in bytes, and its closed history.
+#[derive(Drop)]
+pub struct BufferRecord {
+    pub name: Name,
+    pub size: u32,
+    pub closed: BufferClosed<RingBuffer>,
+}
+
+/// What is kept of the buffers of a session, in the order of their declaration.
+pub type BufferRecords = BoundedList<BufferRecord, 8>;
+
+/// What is kept of the runs of a session, one for each start that the engine began, in order.
+pub type RunRecords = BoundedList<RunRecord, 0>;
+
+/// What is kept of a session once it has ended.
+#[derive(Drop)]
+pub struct SessionRecord {
+    pub buffers: BufferRecords,
+    pub database: OdbClosed<ArenaTree>,
+    pub engine: EngineClosed,
+    pub runs: RunRecords,
+}

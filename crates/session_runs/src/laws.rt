@@ -1,0 +1,45 @@
+//! How the records of runs stand to the main thread's own calls: each function does nothing, and its contract is the law.
+ghost use Rattle.std.specs.Prelude.{◌≡◌, ◌++◌, List};
+ghost use Rattle.odb_port.specs.DatabasePorts.{own_watched};
+ghost use Rattle.odb_watch.specs.declared.entry.WatchEntry.{WatchEntry};
+ghost use Rattle.session_runs.specs.declared.replies.RunReply.{RunReply};
+ghost use Rattle.session_runs.specs.KeptRuns.{RunsSeen};
+ghost use Rattle.session_runs.specs.RunAnswers.{AnswersPause, AnswersResume, AnswersStart, AnswersStop, ClockTold, CommandPoint, CutsStart, StopsUnsaved};
+ghost use Rattle.session_runs.specs.RunsFit.{RunsFit};
+
+use odb_port::laws::{calls_add_up, entries_add_up};
+use session_engine::Rounds;
+
+/// Each run command keeps it that the records and the run that is on fit the main thread's own calls on the engine and on
+/// the database.
+pub fn commands_fit<M: Rounds>()
+    ensures start { (reply : RunReply) (before after : ClockTold) (old new : CommandPoint M)
+        → AnswersStart M.round reply before after old new
+        → RunsFit old.runs (own_watched old.database)
+        → RunsFit new.runs (own_watched new.database) }
+    ensures stop { (reply : RunReply) (before after : ClockTold) (old new : CommandPoint M)
+        → AnswersStop M.round reply before after old new
+        → RunsFit old.runs (own_watched old.database)
+        → RunsFit new.runs (own_watched new.database) }
+    ensures unsaved { (before after : ClockTold) (old new : CommandPoint M)
+        → StopsUnsaved M.round before after old new
+        → RunsFit old.runs (own_watched old.database)
+        → RunsFit new.runs (own_watched new.database) }
+    ensures pause { (reply : RunReply) (old new : CommandPoint M)
+        → AnswersPause M.round reply old new
+        → RunsFit old.runs (own_watched old.database)
+        → RunsFit new.runs (own_watched new.database) }
+    ensures resume { (reply : RunReply) (old new : CommandPoint M)
+        → AnswersResume M.round reply old new
+        → RunsFit old.runs (own_watched old.database)
+        → RunsFit new.runs (own_watched new.database) }
+{
+    calls_add_up();
+    entries_add_up();
+}
+
+/// Calls of other commands on the database, behind these, change nothing of that. Before the first run all fits.
+pub fn runs_fit()
+    ensures more { (s : RunsSeen) (own more : List WatchEntry) → RunsFit s own
+        → RunsFit s (own ++ more) }
+{}
