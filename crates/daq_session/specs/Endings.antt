@@ -1,26 +1,40 @@
 -- Why a script ended.
-use Rattle.std.specs.Prelude.{◌≡◌, ◌⊎◌, ℕ, ◌==◌, if◌then◌else◌, List, Option, Some, None}
+use Rattle.std.specs.Prelude.{◌≡◌, ◌≤◌, ◌⊎◌, ◌++◌, ◌∷◌, [], Ok, ℕ, Bool, true, false, ◌==◌, if◌then◌else◌, List, Option, Some, None}
 use Rattle.daq_io.specs.Counts.{Rose}
-use Rattle.loggers.specs.Moments.{RunFiles}
-use Rattle.database_desk.specs.DatabaseStages.{DumpFiles}
+use Rattle.transitions.specs.declared.entry.EngineEntry.{EngineEntry}
+use Rattle.transitions.specs.declared.entry.EngineEntry.TheVariants.{Close}
+use Rattle.database_files.specs.declared.replies.FileReply.{FileReply}
+use Rattle.database_files.specs.declared.replies.FileReply.TheVariants.{Done, Clash, Fault, TooLong as too_large}
 use Rattle.script_desk.specs.declared.endings.Ending.{Ending}
 use Rattle.script_desk.specs.declared.endings.Ending.TheVariants.{End, TooLong as too_long, SourceFault as source_fault, Halted}
 use Rattle.script_desk.specs.declared.halts.Halt.TheVariants.{NoMemory as no_memory, SinkFault as sink_fault}
 use Rattle.session_replies.specs.declared.refusals.Refusals.{Refusals}
 use Rattle.daq_session.specs.declared.ends.ScriptEnd.{ScriptEnd}
-use Rattle.daq_session.specs.declared.ends.ScriptEnd.TheVariants.{Done, CommandRefused, TooLong, SourceFault, SinkFault, FileFault, NoMemory}
+use Rattle.daq_session.specs.declared.ends.ScriptEnd.TheVariants.{Done as done, CommandRefused, TooLong, SourceFault, SinkFault, FileFault, NoMemory}
+
+-- whether this came of a line that called the files of the database
+abbrev pub is_fault : ℕ × FileReply → Bool
+is_fault (number, Done) = false
+is_fault (number, Clash) = false
+is_fault (number, Fault) = true
+is_fault (number, too_large) = false
+
+-- whether a call on files failed, against their count of faults
+abbrev pub NotesFailed : (failed : Bool) → (old new : ℕ) → Type 0
+NotesFailed true old new = Rose old new
+NotesFailed false old new = new ≤ old
 
 -- The file of this name is that of the first fault, of the run files where their count of faults rose, else of the files of the
--- database where theirs did; or neither rose.
-abbrev pub FaultedFile : (run run_later : RunFiles) → (odb odb_later : DumpFiles) → Option (List ℕ) → Type 0
-FaultedFile run run_later odb odb_later (Some name) =
-    (Rose run.faults run_later.faults × (run_later.first ≡ Some name))
-    ⊎ ((run_later.faults ≡ run.faults) × Rose odb.faults odb_later.faults × (odb_later.first ≡ Some name))
-FaultedFile run run_later odb odb_later None = (run_later.faults ≡ run.faults) × (odb_later.faults ≡ odb.faults)
+-- database where theirs did; or neither grew.
+abbrev pub FaultedFile : (run run_later : ℕ) → (run_first : Option (List ℕ)) → (odb odb_later : ℕ) → (odb_first : Option (List ℕ)) → Option (List ℕ) → Type 0
+FaultedFile run run_later run_first odb odb_later odb_first (Some name) =
+    (Rose run run_later × (run_first ≡ Some name))
+    ⊎ ((run_later ≤ run) × Rose odb odb_later × (odb_first ≡ Some name))
+FaultedFile run run_later run_first odb odb_later odb_first None = (run_later ≤ run) × (odb_later ≤ odb)
 
 -- the cause where no file failed: the script's length, or the lines that were refused
 abbrev pub end_by_refusals : Refusals → ScriptEnd
-end_by_refusals refusals = if refusals.count == 0 then Done else CommandRefused refusals.count refusals.first
+end_by_refusals refusals = if refusals.count == 0 then done else CommandRefused refusals.count refusals.first
 
 -- The cause of a script whose lines and what is behind them ended so: want of memory comes first, then the source, the sink, and
 -- the files, and last the script's length and its refusals.
@@ -32,3 +46,7 @@ script_end too_long None refusals = TooLong
 script_end source_fault faulted refusals = SourceFault
 script_end (Halted no_memory) faulted refusals = NoMemory
 script_end (Halted sink_fault) faulted refusals = SinkFault
+
+-- the main thread's calls on the engine, with which it is closed
+abbrev pub closing_calls : List EngineEntry → List EngineEntry
+closing_calls own = own ++ Close (Ok tt) ∷ []

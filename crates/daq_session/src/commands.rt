@@ -1,5 +1,6 @@
 // The commands of runs in an open session, with their replies.
-ghost use Rattle.std.specs.Prelude.{◌≡◌, ◌≤◌, ◌⊎◌, IfOk, OnErr};
+ghost use Rattle.std.specs.Prelude.{◌≡◌, ◌≤◌, ◌⊎◌, ℕ, IfOk, OnErr};
+ghost use Rattle.session_runs.specs.declared.replies.RunReply.TheVariants.{Stopped};
 ghost use Rattle.session_runs.specs.declared.replies.RunReply.{RunReply as Answer};
 ghost use Rattle.session_runs.specs.RunAnswers.{AnswersPause, AnswersResume, AnswersStart, AnswersStop, CutsStart, StopsUnsaved, clock_of, point_of};
 ghost use Rattle.session_lines.specs.RunLines.{reply_for};
@@ -64,7 +65,7 @@ pub fn answer_stop<R: Wait, D: WatchPort, M: Rounds, C: Clock>(
         (clock_of (C.tells clock.new) (C.ahead clock.new))
         (point_of runs.old (D.access access.old) members.old)
         (point_of runs.new (D.access access.new) members.new)
-        ⊎ ((answer : Answer) × AnswersStop M.round answer
+        ⊎ ((run : ℕ) × AnswersStop M.round (Stopped run)
         (clock_of (C.tells clock.old) (C.ahead clock.old))
         (clock_of (C.tells clock.new) (C.ahead clock.new))
         (point_of runs.old (D.access access.old) members.old)

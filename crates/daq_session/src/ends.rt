@@ -1,3 +1,9 @@
+// Why a script ended.
+ghost use Rattle.std.specs.Prelude.{◌≡◌, ℕ, true, List, Option, None};
+ghost use Rattle.std.specs.List.{list_any};
+ghost use Rattle.script_desk.specs.Closing.{prints};
+ghost use Rattle.daq_session.specs.Endings.{FaultedFile, NotesFailed, is_fault, script_end};
+
 use daq_io::Files;
 use daq_types::FileName;
 use database_files::FileReply;
@@ -24,26 +30,51 @@ pub enum ScriptEnd {
     NoMemory,
 }
 
-/// The name of the file of the first fault: of the run files where a call on them failed, else of the files of the database where one
-/// of theirs failed, by what came of the lines that called them.
+/// Whether this entry tells of a fault.
+fn is_fault(entry: &(u64, FileReply)) -> bool
+    ensures { result ≡ is_fault entry.now }
+{
+    match entry.1 {
+        FileReply::Fault => true,
+        FileReply::Done | FileReply::Clash | FileReply::TooLong => false,
+    }
+}
+
+/// Whether a line that called the files of the database came upon a fault.
+fn any_fault(replies: &[(u64, FileReply)]) -> bool
+    ensures { result ≡ list_any is_fault replies.now }
+{
+    replies.iter().any(|entry| is_fault(entry))
+}
+
+/// The name of the file of the first fault: of the run files where a call on them failed, else of the files of the database where
+/// one of theirs failed, by what came of the lines that called them.
 fn faulted_name<F: Files, E: Files>(
     failed: bool,
     run_files: &F,
     replies: &[(u64, FileReply)],
     odb_files: &E,
-) -> Option<FileName> {
+) -> Option<FileName>
+    ensures { (run odb : ℕ) → NotesFailed failed run (F.faults run_files.now)
+        → NotesFailed (list_any is_fault replies.now) odb (E.faults odb_files.now)
+        → FaultedFile run (F.faults run_files.now) (F.first run_files.now) odb
+        (E.faults odb_files.now) (E.first odb_files.now) result }
+{
     if failed {
         return run_files.first_fault();
     }
-    if replies.iter().any(|(_, came)| *came == FileReply::Fault) {
+    if any_fault(replies) {
         return odb_files.first_fault();
     }
     None
 }
 
 /// The cause where nothing failed but the script may be too long, or had lines that were refused.
-fn end_by_lines(ending: Ending, refusals: &Refusals) -> ScriptEnd {
-    if ending == Ending::TooLong {
+fn end_by_lines(ending: Ending, refusals: &Refusals) -> ScriptEnd
+    requires { prints ending ≡ true }
+    ensures { result ≡ script_end ending None refusals.now }
+{
+    if let Ending::TooLong = ending {
         return ScriptEnd::TooLong;
     }
     if refusals.count == 0 {
@@ -64,7 +95,13 @@ pub fn end_of<F: Files, E: Files>(
     run_files: &F,
     replies: &[(u64, FileReply)],
     odb_files: &E,
-) -> ScriptEnd {
+) -> ScriptEnd
+    ensures { (run odb : ℕ) → NotesFailed failed run (F.faults run_files.now)
+        → NotesFailed (list_any is_fault replies.now) odb (E.faults odb_files.now)
+        → (faulted : Option (List ℕ)) × FaultedFile run (F.faults run_files.now)
+        (F.first run_files.now) odb (E.faults odb_files.now) (E.first odb_files.now) faulted
+        × (result ≡ script_end ending faulted refusals.now) }
+{
     match ending {
         Ending::Halted {
             halt: Halt::NoMemory,

@@ -1,9 +1,8 @@
 // The keys in which the front-ends say how many events they sent.
-ghost use Rattle.std.specs.Prelude.{◌≡◌, ◌≤◌, ◌+◌, List, OnErr, OnOk, length};
+ghost use Rattle.std.specs.Prelude.{◌≡◌, ◌≤◌, OnErr, OnOk, length};
 ghost use Rattle.daq_types.specs.Callers.{main_caller};
-ghost use Rattle.odb_tree.specs.declared.entry.DatabaseEntry.{DatabaseEntry};
-ghost use Rattle.odb_port.specs.DatabasePorts.{AddsCalls, IsSamePort};
-ghost use Rattle.session_lines.specs.RunLines.{CutsKeys, MakesKeys};
+ghost use Rattle.odb_port.specs.DatabasePorts.{IsSamePort};
+ghost use Rattle.session_lines.specs.RunLines.{CutsKeys, KeysMade};
 
 use daq_types::{Name, NoMemory};
 use odb_port::DatabasePort;
@@ -20,8 +19,8 @@ pub fn make_keys<R: Wait, D: DatabasePort>(
 ) -> Result<(), NoMemory>
     requires main { (D.access access.old).caller ≡ main_caller }
     requires room { length fronts.now ≤ (D.access access.old).room }
-    ensures made { OnOk result ((keys : List DatabaseEntry) × MakesKeys fronts.now keys
-        × AddsCalls (D.access access.old) (D.access access.new) keys) }
+    ensures made { OnOk result (KeysMade fronts.now (D.access access.old)
+        (D.access access.new)) }
     ensures cut { OnErr result (CutsKeys fronts.now (D.access access.old)
         (D.access access.new)) }
     ensures same { IsSamePort (D.access access.old) (D.access access.new) }

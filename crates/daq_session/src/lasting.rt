@@ -1,6 +1,6 @@
-use odb_arena::ArenaTree;
 use odb_lock::SharedAccess;
 use odb_port::WatchPort;
+use odb_tree::Database;
 
 /// A port to the database that takes no room for its calls.
 pub trait LastingPort: WatchPort {
@@ -9,7 +9,7 @@ pub trait LastingPort: WatchPort {
     ghost lasts: { (port : Self) → IsLasting (Self.access port) };
 }
 
-impl<'a> LastingPort for SharedAccess<'a, ArenaTree> {
+impl<'a, D: Database> LastingPort for SharedAccess<'a, D> {
     ghost use Rattle.std.proofs.Common.{rules};
 
     ghost lasts = { λ port. Prim.search rules };

@@ -46,8 +46,8 @@ impl<'a, D: LastingPort, M: Rounds, E: Files, C: Clock> Answerer for Opened<'a, 
     ghost use Rattle.session_lines.specs.ScriptLines.{BreaksScriptLine, ClosesScript, DoesScriptLine, GivesUp};
     ghost use Rattle.database_desk.specs.DatabaseStages.{database_stage};
     ghost use Rattle.session_runs.specs.RunAnswers.{clock_of};
-    ghost use Rattle.daq_session.specs.Staying.{StaysOpen};
-    ghost use Rattle.daq_session.proofs.StayingLaws.{stays_open, stays_open_on};
+    ghost use Rattle.session_lines.specs.Staying.{StaysOpen};
+    ghost use Rattle.session_lines.proofs.StayingLaws.{stays_open, stays_open_on};
 
     ghost Stage = { Stage };
 

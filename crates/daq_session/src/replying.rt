@@ -1,5 +1,5 @@
 // The replies to the commands of runs, with the names that were declared and what the records keep.
-ghost use Rattle.std.specs.Prelude.{◌≡◌, ℕ, map, IfOk, IfSome, IfNone};
+ghost use Rattle.std.specs.Prelude.{◌≡◌, ℕ, map, IfOk, OnErr, IfSome, IfNone};
 ghost use Rattle.mid_logger.specs.ChannelTurns.{logger_name};
 ghost use Rattle.session_runs.specs.KeptRuns.{RunsSeen};
 ghost use Rattle.session_lines.specs.RunLines.{fronts_in, files_in, last_record, member_name, reply_for, sent_line};
@@ -103,7 +103,8 @@ pub fn plain_reply(fronts: &[Name], answer: RunReply) -> Option<Reply>
 
 /// The reply to a command of runs, behind which these are kept.
 pub fn reply_for(alloc: Global, runs: &Runs<'_>, answer: RunReply) -> Result<Reply, NoMemory>
-    ensures { IfOk result (λ reply. reply ≡ reply_for runs.now answer) }
+    ensures reply { IfOk result (λ reply. reply ≡ reply_for runs.now answer) }
+    ensures stopped { OnErr result ((run : ℕ) × (answer ≡ RunReply.Stopped run)) }
 {
     if let RunReply::Stopped { run } = answer {
         return stop_reply(alloc, runs.fronts(), runs.records(), run);

@@ -210,3 +210,8 @@ module _ {St : Type 0} (does : (number : ℕ) → Read Command → St → Reply 
 abbrev pub FitsOn : PlayEnd → (number taken : ℕ) → Type 0
 FitsOn (ends.Ended ending) number taken = ⊤
 FitsOn ends.Opens number taken = number + 1 ≤ taken
+
+-- where one is left to another, there is such a line
+abbrev pub LeftLine : (leaves : Read Command → Bool) → PlayEnd → Type 0
+LeftLine leaves (ends.Ended ending) = ⊤
+LeftLine leaves ends.Opens = (line : Read Command) × (leaves line ≡ true)

@@ -1,7 +1,7 @@
 ghost use Rattle.std.specs.Prelude.{◌≡◌, ◌≤◌, ◌+◌, ℕ, List, Option};
 ghost use Rattle.odb_script.specs.Lines.{no_line_read};
 ghost use Rattle.script_desk.specs.Endings.{SourceCounts, SinkCounts};
-ghost use Rattle.script_desk.specs.Playing.{PlaysTo, PlaysOn, FitsOn};
+ghost use Rattle.script_desk.specs.Playing.{PlaysTo, PlaysOn, FitsOn, LeftLine};
 
 use crate::answerer::Answerer;
 use crate::desk::Desk;
@@ -30,6 +30,7 @@ pub fn play_on<R: Wait, A: Answerer, S: Source, K: Sink>(
         desk.new.last (A.stage answerer.old) (A.stage answerer.new) desk.old.refusals
         desk.new.refusals desk.old.number desk.new.number }
     ensures fits { FitsOn result desk.new.number desk.new.reader.taken }
+    ensures left { LeftLine A.leaves result }
     ensures source { SourceCounts result (S.faults source.old) (S.faults source.new) }
     ensures sink { SinkCounts result (K.faults out.old) (K.faults out.new) }
     ensures stays { A.stays answerer.old answerer.new }

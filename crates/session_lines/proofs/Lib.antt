@@ -1,2 +1,3 @@
-mod PassedOver
+mod OverLaws
 mod Kept
+pub mod StayingLaws

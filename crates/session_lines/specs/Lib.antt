@@ -4,3 +4,4 @@ pub mod SetupReplies
 pub mod RunLines
 pub mod ScriptLines
 pub mod Keeping
+pub mod Staying

@@ -97,14 +97,16 @@ MakesKeys [] calls = calls ≡ []
 MakesKeys (name ∷ fronts) calls =
     (reply : Result ℕ OdbRefusal) × (rest : List DatabaseEntry) × IsSettled reply × (calls ≡ sent_key_made name reply ∷ rest) × MakesKeys fronts rest
 
+-- the keys of these front-ends were made
+abbrev pub KeysMade : (fronts : List (List ℕ)) → (old new : DatabaseAccess) → Type 0
+KeysMade fronts old new = (keys : List DatabaseEntry) × MakesKeys fronts keys × AddsCalls old new keys
+
 -- The session opens: what is declared is completed and stands from here on; the front-ends' keys are made; and the members are
 -- registered on an engine that is new.
 pub record OpensSession (old new : Stage) : Type 0 where
   pub closed : old.runs ≡ None
   pub declared : new.declared ≡ opened_with_defaults old.declared
-  pub keys : List DatabaseEntry
-  pub makes : MakesKeys (front_names new.declared) keys
-  pub adds : AddsCalls old.database.access new.database.access keys
+  pub keys : KeysMade (front_names new.declared) old.database.access new.database.access
   pub engine : SharedEngine
   pub fresh : first_engine engine ≡ engine_opening
   pub runs : new.runs ≡ Some (opened_runs old.quota new.declared engine)
@@ -162,13 +164,17 @@ BreaksStart None old new =
     CutsOpening old new ⊎ ((ready : Stage) × (opened : RunsSeen) × (ready.runs ≡ Some opened) × OpensSession old ready × CutsRun opened ready new)
 BreaksStart (Some runs) old new = CutsRun runs old new
 
+-- The stage with what a stop leaves of it.
+abbrev pub behind_command : (old new : Stage) → (after : RunsSeen) → Stage
+behind_command old new after = record old { clock = new.clock; database = record old.database { access = new.database.access }; runs = Some after }
+
 -- Memory ended in a stop: its dump was not saved, and it went on without; or it was made, and there was no memory for its
 -- reply.
 abbrev pub BreaksStop : Option RunsSeen → (old new : Stage) → Type 0
 BreaksStop None old new = ⊥
-BreaksStop (Some runs) old new = ((reply : Reply) × RunsCommand StopsBy runs old reply new)
-    ⊎ ((after : RunsSeen) × StopsUnsaved NothingSaid old.clock new.clock (own_point runs old.database.access) (own_point after new.database.access)
-    × (new ≡ record old { clock = new.clock; database = record old.database { access = new.database.access }; runs = Some after }))
+BreaksStop (Some runs) old new = (after : RunsSeen) × (new ≡ behind_command old new after)
+    × (((run : ℕ) × StopsBy (answer.Stopped run) old new runs after)
+    ⊎ StopsUnsaved NothingSaid old.clock new.clock (own_point runs old.database.access) (own_point after new.database.access))
 
 -- What is done behind all lines: where a run is on, it is stopped as by the command.
 

@@ -10,8 +10,8 @@ use Rattle.session_replies.specs.declared.replies.Reply.TheVariants.{Silent, Bad
 use Rattle.session_setup.specs.Setup.{Declared}
 use Rattle.session_lines.specs.Stages.{Stage, with_quota}
 use Rattle.session_lines.specs.SetupReplies.{DeclaresBuffer, DeclaresFront, DeclaresChannel}
-use Rattle.database_desk.specs.DatabaseLines.{BreaksDatabase, DoesDatabase}
-use Rattle.session_lines.specs.RunLines.{BreaksStart, BreaksStop, ClosesRun, DoesPause, DoesResume, DoesStart, DoesStop}
+use Rattle.database_desk.specs.DatabaseLines.{BreaksDatabase, DoesDatabase, calls_objects}
+use Rattle.session_lines.specs.RunLines.{BreaksStart, BreaksStop, ClosesRun, DoesPause, DoesResume, DoesStart, DoesStop, runs_on}
 
 
 -- a line that declares something
@@ -51,11 +51,13 @@ abbrev pub DoesScriptLine : (number : ℕ) → Read Command → (old : Stage) �
 DoesScriptLine number (Err (no_command at)) old reply new = (reply ≡ BadCommand at) × (new ≡ old)
 DoesScriptLine number (Ok command) old reply new = DoesCommand number command old reply new
 
--- Memory ended before the line of this number was answered, and so much was done of it. Other lines find none.
+-- Memory ended before the line of this number was answered, and so much was done of it. Only a start, a stop and the commands of
+-- the online database take memory.
 abbrev pub BreaksCommand : Command → (old new : Stage) → Type 0
 BreaksCommand Start old new = BreaksStart old.runs old new
 BreaksCommand Stop old new = BreaksStop old.runs old new
-BreaksCommand command old new = BreaksDatabase command old.database new.database × (new ≡ record old { database = new.database })
+BreaksCommand command old new =
+    (calls_objects command ≡ true) × BreaksDatabase command old.database new.database × (new ≡ record old { database = new.database })
 
 abbrev pub BreaksScriptLine : (number : ℕ) → Read Command → (old new : Stage) → Type 0
 BreaksScriptLine number (Err refusal) old new = ⊥
@@ -72,4 +74,4 @@ ClosesScript old reply new = ClosesRun old.runs old reply new
 
 -- and where memory ended in that
 abbrev pub GivesUp : (old new : Stage) → Type 0
-GivesUp old new = BreaksStop old.runs old new
+GivesUp old new = runs_on old.runs × BreaksStop old.runs old new

@@ -56,3 +56,9 @@ returns-in-Ok-End-clause-stays g c = g.met.A.Answerer.stays_on _ _ _ c.loop-line
 
 pub returns-in-Some-clause-stays : goal.returns-in-Some-clause-stays
 returns-in-Some-clause-stays g c = g.met.A.Answerer.stays_on _ _ _ c.loop-line.invariant.stays c.handle.ensures.stays
+
+pub returns-in-Ok-Opens-clause-left : goal.returns-in-Ok-Opens-clause-left
+returns-in-Ok-Opens-clause-left g c =
+    let opens = c.in-Ok-Opens.field-0-is in
+    let given : c.handle.result ≡ Ok going.Opens = c.in-Ok-Opens.is ∙ ap Ok opens in
+    (_, (rw given at c.handle.ensures.did).left)

@@ -1,4 +1,4 @@
-use Rattle.session_lines.proofs.PassedOver.{start_over, cut_over, stops_over, unsaved_over, pause_over, resume_over}
+use Rattle.session_lines.proofs.OverLaws.{start_over, cut_over, stops_over, unsaved_over, pause_over, resume_over}
 use Rattle.session_lines.proofs.laws.members_passed_over.Goals as goal
 
 pub returns-clause-start : goal.returns-clause-start

@@ -1,0 +1,42 @@
+//! What the lines of a script say together with the opening of a session. The function does nothing, and its contract is the law.
+ghost use Rattle.std.specs.Prelude.{◌≡◌, ℕ, Bool, List, Option, None};
+ghost use Rattle.odb_script.specs.Lines.{Reading};
+ghost use Rattle.session_replies.specs.declared.refusals.Refusals.{Refusals as Refused};
+ghost use Rattle.script_desk.specs.declared.endings.Ending.{Ending};
+ghost use Rattle.script_desk.specs.declared.endings.Ending.TheVariants.{Halted};
+ghost use Rattle.script_desk.specs.declared.halts.Halt.TheVariants.{NoMemory as no_memory};
+ghost use Rattle.script_desk.specs.Playing.{HasLine, OpensAt, Played};
+ghost use Rattle.script_desk.specs.Closing.{Finished};
+ghost use Rattle.session_lines.specs.Stages.{Stage};
+ghost use Rattle.session_lines.specs.RunLines.{CutsOpening, OpensSession};
+ghost use Rattle.session_lines.specs.ScriptLines.{BreaksScriptLine, ClosesScript, DoesScriptLine, GivesUp, opens_session};
+
+use crate::lasting::LastingPort;
+use crate::unopened::Unopened;
+use daq_io::{Clock, Files};
+use script_desk::laws::lines_end;
+
+/// What the first start does once its session is open it does from where the session was not open. Where there is no memory to
+/// open it, the script ended there. And behind a script that opened no session nothing is done.
+pub fn first_start_opens<D: LastingPort, E: Files, C: Clock>()
+    ensures ready { (first now ready : Stage) (source left told_first told : Option (List ℕ))
+        (reading : Reading) (last : Bool) (refusals : Refused) (number : ℕ)
+        → OpensAt DoesScriptLine BreaksScriptLine opens_session first source left told_first told
+        reading last now refusals number → OpensSession now ready
+        → HasLine DoesScriptLine BreaksScriptLine first source left told_first told reading last
+        ready refusals number }
+    ensures cut { (first now new : Stage) (source left told_first told : Option (List ℕ))
+        (reading : Reading) (last : Bool) (refusals : Refused) (number : ℕ)
+        → OpensAt DoesScriptLine BreaksScriptLine opens_session first source left told_first told
+        reading last now refusals number → CutsOpening now new
+        → Finished DoesScriptLine BreaksScriptLine ClosesScript GivesUp first (Halted no_memory)
+        None source left told_first told new refusals }
+    ensures unopened { (first now : Stage) (ending : Ending)
+        (source left told_first told : Option (List ℕ)) (refusals : Refused)
+        → Played DoesScriptLine BreaksScriptLine first ending source left told_first told now
+        refusals → now.runs ≡ None
+        → Finished DoesScriptLine BreaksScriptLine ClosesScript GivesUp first ending None source
+        left told_first told now refusals }
+{
+    lines_end::<Unopened<D, E, C>>();
+}
