@@ -8,7 +8,7 @@ use Rattle.session_lines.specs.Staying.{StaysOpen}
 
 pub rounds_more : {M : Type 0} (round : M → M → Type 0) (n : ℕ) (a b c : M) (m : ℕ) → HadRounds round n a b → HadRounds round m b c → (count : ℕ) × HadRounds round count a c
 rounds_more {M} round n a b c zero ab same = (n, subst (λ (x : M). HadRounds round n a x) (sym same) ab)
-rounds_more round n a b c (suc m) ab bc = let more = rounds_more round n a b bc.0 m ab bc.1 in (suc more.0, (bc.0, (more.1, bc.2)))
+rounds_more round n a b c (suc m) ab bc = let more = rounds_more round n a b bc.0 m ab bc.1 in (suc more.0, (bc.0, more.1, bc.2))
 
 pub stays_open : {M : Type 0} {round : M → M → Type 0} (members : M) (engine : SharedEngine) (access : DatabaseAccess) (lists : DeclaredLists) → StaysOpen round members members engine engine access access lists lists
 stays_open members engine access lists = record {
