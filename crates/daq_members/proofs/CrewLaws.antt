@@ -72,13 +72,15 @@ port_then a b c first then_ = record { database = then_.database ∙ first.datab
 -- Loggers.
 
 same_logger : {F : Type 0} (a : LoggerSeen F) → IsSameLogger a a
-same_logger a = record { engine = refl; client = refl; ports = same_ports a.ports }
+same_logger a = record { engine = refl; client = refl; ports = same_ports a.ports; specs = refl; first = refl }
 
 logger_then : {F : Type 0} (a b c : LoggerSeen F) → IsSameLogger a b → IsSameLogger b c → IsSameLogger a c
 logger_then a b c first then_ = record {
   engine = then_.engine ∙ first.engine;
   client = then_.client ∙ first.client;
   ports = same_then a.ports b.ports c.ports first.ports then_.ports;
+  specs = then_.specs ∙ first.specs;
+  first = then_.first ∙ first.first;
 }
 
 module _ {E F K : Type 0} (told : CrewTold E F K) where

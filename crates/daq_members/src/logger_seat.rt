@@ -19,6 +19,7 @@ use crate::turned::Turned;
 use daq_io::{Files, Gate};
 use loggers::{Ports, laws as logger_laws};
 use std::marker::Model;
+use std::snapshot::Snapshot;
 use std::sync::Wait;
 use transition_lock::EnginePass;
 
@@ -38,6 +39,7 @@ pub struct LoggerSeat<'a, P: EndlessPort, F: Files> {
     member: LoggerMember<'a>,
     ports: Ports<P>,
     files: F,
+    first: Snapshot<F>,
 }
 
 impl<'a, P: EndlessPort, F: Files> Model for LoggerSeat<'a, P, F> {
@@ -56,6 +58,7 @@ impl<'a, P: EndlessPort, F: Files> Model for LoggerSeat<'a, P, F> {
       slots = s.member.logger.channels;
       ports = map P.access s.ports;
       files = s.files;
+      first = s.first.value;
     } };
 
     ghost invariant = { λ s. IsLoggerSeated F.seen (record {
@@ -67,6 +70,7 @@ impl<'a, P: EndlessPort, F: Files> Model for LoggerSeat<'a, P, F> {
       slots = s.member.logger.channels;
       ports = map P.access s.ports;
       files = s.files;
+      first = s.first.value;
     }) };
 }
 
@@ -94,11 +98,14 @@ impl<'a, P: EndlessPort, F: Files> LoggerSeat<'a, P, F> {
         ensures slots { result.slots ≡ member.entry.logger.channels }
         ensures ports { result.ports ≡ map P.access ports }
         ensures files { result.files ≡ files }
+        ensures first { result.first ≡ files }
     {
+        let first = Snapshot::of(&files);
         LoggerSeat {
             member,
             ports,
             files,
+            first,
         }
     }
 
@@ -109,6 +116,7 @@ impl<'a, P: EndlessPort, F: Files> LoggerSeat<'a, P, F> {
         ensures same { IsSameLogger self.old self.new }
     {
         logger_laws::still_known();
+        logger_laws::other_files();
         self.member.turn(rt, &mut self.ports, &mut self.files, gate)
     }
 
@@ -142,6 +150,7 @@ impl<'a, P: EndlessPort, F: Files> LoggerSeat<'a, P, F> {
             member,
             ports,
             files,
+            first: _,
         } = self;
         let LoggerMember { seat, .. } = member;
         LoggerParts {

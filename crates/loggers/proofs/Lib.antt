@@ -28,3 +28,4 @@ pub mod OwnCalls
 pub mod TurnsOwn
 pub mod TurnUses
 pub mod FaultsNoted
+pub mod FilesLeft

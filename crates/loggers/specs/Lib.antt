@@ -8,3 +8,4 @@ pub mod SlotPulls
 pub mod LoggerLaws
 pub mod LoggerCalls
 pub mod LoggerFaults
+pub mod OtherFiles

@@ -2,6 +2,7 @@
 
 ghost use Rattle.loggers.specs.LoggerLaws.{FinishesKeep, TurnsKeep, TurnsLeaveKnown, PullsLeaveKnown, TurnsNote, PullsNote, FinishesNote, NotesFollow};
 ghost use Rattle.loggers.specs.LoggerStands.{StandingLoggerKeeps};
+ghost use Rattle.loggers.specs.OtherFiles.{TurnsLeaveFiles, PullsLeaveFiles, FinishesLeaveFiles};
 
 use mid_logger::laws as channel_laws;
 
@@ -40,6 +41,19 @@ pub fn still_known()
     ensures turns { TurnsLeaveKnown }
     ensures pulls { PullsLeaveKnown }
 {}
+
+/// A turn, a pull and a call to finish leave all files but those of the channels in the runs that the logger was told to
+/// start; and they leave what the channels are.
+pub fn other_files()
+    ensures turns { TurnsLeaveFiles }
+    ensures pulls { PullsLeaveFiles }
+    ensures finishes { FinishesLeaveFiles }
+{
+    channel_laws::opens_kept();
+    channel_laws::aborts_kept();
+    channel_laws::pulls_kept();
+    channel_laws::closes_kept();
+}
 
 /// The faults of the files are noted by each call, and by several that follow one another.
 pub fn faults_noted()

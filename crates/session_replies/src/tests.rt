@@ -4,8 +4,10 @@ use daq_text::TextBuffer;
 use daq_types::{BoundedList, ChannelState, FileName, Name, NameRefusal, NoMemory, RunState, Why};
 use run_records::{FileRecord, SentLine};
 use session_setup::SetupRefusal;
-use std::alloc::Global;
+use std::alloc::{AllocGlobal, Global};
+use std::process::Abort;
 use std::test::Fail;
+use watch_commands::{WatchCommandRefusal, WatchReply};
 
 fn name<R: Abort>(rt: &R, text: &str) -> Name {
     Name::new(text.as_bytes()).expect(rt, "a name")
@@ -71,6 +73,20 @@ fn other_replies(rt: HostRuntime) -> Result<(), Fail> {
         (Reply::Paused { run: 1 }, "run 1 paused\n"),
         (Reply::Resumed { run: 1 }, "run 1 resumed\n"),
         (Reply::LastStart, "refused 1: LastStart\n"),
+        (
+            Reply::Watch {
+                reply: WatchReply::Saved { bytes: 269 },
+            },
+            "saved 269\n",
+        ),
+        (
+            Reply::Watch {
+                reply: WatchReply::Refused {
+                    why: WatchCommandRefusal::NoWatch,
+                },
+            },
+            "refused 1: NoWatch\n",
+        ),
         (Reply::RunNumber { have: -1 }, "refused 1: RunNumber -1\n"),
         (
             Reply::WrongState {

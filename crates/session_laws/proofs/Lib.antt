@@ -1,0 +1,10 @@
+pub mod EachCaller
+pub mod Registrations
+pub mod MainFirst
+pub mod NoneTaken
+pub mod GotSent
+pub mod LoggerEnd
+pub mod FrontsEnd
+pub mod KeptTogether
+pub mod RunsMade
+pub mod NamesStay
