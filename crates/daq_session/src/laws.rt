@@ -11,14 +11,15 @@ ghost use Rattle.session_lines.specs.Stages.{Stage};
 ghost use Rattle.session_lines.specs.RunLines.{CutsOpening, OpensSession};
 ghost use Rattle.session_lines.specs.ScriptLines.{BreaksScriptLine, ClosesScript, DoesScriptLine, GivesUp, opens_session};
 
-use crate::lasting::LastingPort;
 use crate::unopened::Unopened;
 use daq_io::{Clock, Files};
+use odb_lock::{SharedAccess, SharedOdb};
+use odb_tree::Database;
 use script_desk::laws::lines_end;
 
 /// What the first start does once its session is open it does from where the session was not open. Where there is no memory to
 /// open it, the script ended there. And behind a script that opened no session nothing is done.
-pub fn first_start_opens<D: LastingPort, E: Files, C: Clock>()
+pub fn first_start_opens<'a, D: Database, E: Files, C: Clock>(_shared: &'a SharedOdb<D>)
     ensures ready { (first now ready : Stage) (source left told_first told : Option (List ℕ))
         (reading : Reading) (last : Bool) (refusals : Refused) (number : ℕ)
         → OpensAt DoesScriptLine BreaksScriptLine opens_session first source left told_first told
@@ -38,5 +39,5 @@ pub fn first_start_opens<D: LastingPort, E: Files, C: Clock>()
         → Finished DoesScriptLine BreaksScriptLine ClosesScript GivesUp first ending None source
         left told_first told now refusals }
 {
-    lines_end::<Unopened<D, E, C>>();
+    lines_end::<Unopened<SharedAccess<'a, D>, E, C>>();
 }
