@@ -1,1 +1,4 @@
 pub mod OpeningLaws
+pub mod SteeringLaws
+pub mod StageLaws
+pub mod FaultLaws

@@ -50,3 +50,10 @@ script_end (Halted sink_fault) faulted refusals = SinkFault
 -- the main thread's calls on the engine, with which it is closed
 abbrev pub closing_calls : List EngineEntry → List EngineEntry
 closing_calls own = own ++ Close (Ok tt) ∷ []
+
+-- whether the files are asked for a fault, as a script ended so: at its end, or where it is too long
+abbrev pub asks_files : Ending → Bool
+asks_files End = true
+asks_files too_long = true
+asks_files source_fault = false
+asks_files (Halted halt) = false

@@ -1,3 +1,4 @@
 pub mod Lasting
+pub mod Keeping
 pub mod Endings
 pub mod Environments

@@ -18,12 +18,13 @@ ghost use Rattle.script_desk.specs.Playing.{HasLine};
 ghost use Rattle.script_desk.specs.Closing.{Finished, MayFail, SinkBehind};
 ghost use Rattle.daq_session.specs.Endings.{NotesFailed, closing_calls};
 
+use crate::lasting::LastingPort;
 use crate::opened::Opened;
 use buffer_core::EventBuffer;
 use buffer_lock::SharedPort;
 use daq_io::{Clock, Files, Gate, Pick, Sink, Source};
 use daq_members::laws::rounds_keep;
-use daq_members::{Crew, CrewParts};
+use daq_members::{Crew, CrewParts, EndlessPort};
 use daq_types::Journal;
 use database_desk::DatabaseDesk;
 use database_files::FileReplies;
@@ -44,8 +45,8 @@ use transition_lock::EnginePass;
 pub struct CrewEnd<
     'a,
     X: Equipment,
-    B: EventBuffer,
-    D: Database,
+    P: EndlessPort,
+    D: LastingPort,
     E: Files,
     C: Clock,
     F: Files,
@@ -59,8 +60,8 @@ pub struct CrewEnd<
     /// The main thread's pass of the engine, by which this is closed.
     pub main: EnginePass,
     pub records: Journal<RunRecord>,
-    pub parts: CrewParts<'a, X, SharedPort<'a, B>, SharedAccess<'a, D>, F, K>,
-    pub access: SharedAccess<'a, D>,
+    pub parts: CrewParts<'a, X, P, D, F, K>,
+    pub access: D,
     /// The files of the dumps, and what came of the lines that called these.
     pub files: E,
     pub replies: FileReplies,
@@ -95,7 +96,7 @@ pub fn play_crew<
     desk: &mut Desk,
     src: &mut S,
     out: &mut O,
-) -> CrewEnd<'a, X, B, D, E, C, F, K>
+) -> CrewEnd<'a, X, SharedPort<'a, B>, SharedAccess<'a, D>, E, C, F, K>
     requires fits { desk.old.number + 1 ≤ desk.old.reader.taken }
     requires main { (access_by_pass access).caller ≡ main_caller }
     ensures played { (last : RunsSeen) × (result.records ≡ last.runs)
@@ -103,7 +104,7 @@ pub fn play_crew<
         × ((first : Stage) (source_first told_first : Option (List ℕ))
         → HasLine DoesScriptLine BreaksScriptLine first source_first (S.left src.old) told_first
         (O.written out.old) desk.old.reader desk.old.last
-        (open_stage (declared_by lists.now) (database_stage (access_by_pass access)
+        (open_stage (declared_by lists.now) (database_stage (access_by_pass access.entry)
         (E.seen files) (E.faults files) (E.clashes files) (E.first files) replies.replies)
         (clock_of (C.tells clock) (C.ahead clock)) runs.entry)
         desk.old.refusals desk.old.number
@@ -117,7 +118,7 @@ pub fn play_crew<
     ensures main { number_of result.main ≡ main_caller }
     ensures own { IsOf (engine_lock_of runs.entry.main.engine) result.main }
     ensures idle { held_by result.main ≡ None }
-    ensures same { IsSamePort (access_by_pass access) (access_by_pass result.access) }
+    ensures same { IsSamePort (access_by_pass access.entry) (access_by_pass result.access) }
     ensures members { (between : CrewSeen X F K)
         × IsSameCrew (crew_told X.takes X.makes F.seen F.faults F.clashes F.first K.tells K.ahead)
         crew.entry between

@@ -1,8 +1,7 @@
 // Why a script ended.
 ghost use Rattle.std.specs.Prelude.{◌≡◌, ℕ, true, List, Option, None};
 ghost use Rattle.std.specs.List.{list_any};
-ghost use Rattle.script_desk.specs.Closing.{prints};
-ghost use Rattle.daq_session.specs.Endings.{FaultedFile, NotesFailed, is_fault, script_end};
+ghost use Rattle.daq_session.specs.Endings.{FaultedFile, NotesFailed, asks_files, is_fault, script_end};
 
 use daq_io::Files;
 use daq_types::FileName;
@@ -71,7 +70,7 @@ fn faulted_name<F: Files, E: Files>(
 
 /// The cause where nothing failed but the script may be too long, or had lines that were refused.
 fn end_by_lines(ending: Ending, refusals: &Refusals) -> ScriptEnd
-    requires { prints ending ≡ true }
+    requires { asks_files ending ≡ true }
     ensures { result ≡ script_end ending None refusals.now }
 {
     if let Ending::TooLong = ending {
@@ -96,10 +95,12 @@ pub fn end_of<F: Files, E: Files>(
     replies: &[(u64, FileReply)],
     odb_files: &E,
 ) -> ScriptEnd
-    ensures { (run odb : ℕ) → NotesFailed failed run (F.faults run_files.now)
-        → NotesFailed (list_any is_fault replies.now) odb (E.faults odb_files.now)
-        → (faulted : Option (List ℕ)) × FaultedFile run (F.faults run_files.now)
-        (F.first run_files.now) odb (E.faults odb_files.now) (E.first odb_files.now) faulted
+    ensures { (run odb : ℕ)
+        → (asks_files ending ≡ true → NotesFailed failed run (F.faults run_files.now)
+        × NotesFailed (list_any is_fault replies.now) odb (E.faults odb_files.now))
+        → (faulted : Option (List ℕ))
+        × (asks_files ending ≡ true → FaultedFile run (F.faults run_files.now)
+        (F.first run_files.now) odb (E.faults odb_files.now) (E.first odb_files.now) faulted)
         × (result ≡ script_end ending faulted refusals.now) }
 {
     match ending {

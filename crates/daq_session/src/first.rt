@@ -14,6 +14,7 @@ ghost use Rattle.session_lines.specs.ScriptLines.{BreaksScriptLine, DoesScriptLi
 ghost use Rattle.script_desk.specs.Endings.{SinkCounts, SourceCounts};
 ghost use Rattle.script_desk.specs.Playing.{FitsOn, PlaysTo};
 
+use crate::lasting::LastingPort;
 use crate::unopened::Unopened;
 use daq_io::{Clock, Files, Sink, Source};
 use database_desk::DatabaseDesk;
@@ -27,12 +28,12 @@ use std::sync::Wait;
 
 /// What the lines before a first start came to, and what the main thread has then.
 #[derive(Drop)]
-pub struct FirstEnd<'a, D: Database, E: Files, C: Clock> {
+pub struct FirstEnd<D: LastingPort, E: Files, C: Clock> {
     pub end: PlayEnd,
     /// How many events each front-end has to send in the runs to come.
     pub quota: u32,
     pub declarations: Declarations,
-    pub access: SharedAccess<'a, D>,
+    pub access: D,
     /// The files of the dumps, and what came of the lines that called these.
     pub files: E,
     pub replies: FileReplies,
@@ -51,7 +52,7 @@ pub fn play_first<'a, R: Wait, D: Database, S: Source, O: Sink, E: Files, C: Clo
     desk: &mut Desk,
     src: &mut S,
     out: &mut O,
-) -> FirstEnd<'a, D, E, C>
+) -> FirstEnd<SharedAccess<'a, D>, E, C>
     requires main { number_of main ≡ main_caller }
     requires own { IsOf (odb_lock_of shared.now) main }
     requires idle { held_by main ≡ None }
