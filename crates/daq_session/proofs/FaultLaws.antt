@@ -32,12 +32,12 @@ use Rattle.script_desk.proofs.KeepingLaws.{plays_keep}
 use Rattle.daq_session.specs.Endings.{NotesFailed, asks_files, is_fault}
 
 -- A fault is among these where the count rose, and else the count is what it was.
-pub abbrev Tells : (any : Bool) → (old new : ℕ) → Type 0
+abbrev pub Tells : (any : Bool) → (old new : ℕ) → Type 0
 Tells true old new = Rose old new
 Tells false old new = new ≡ old
 
 -- So it is of what came of the lines so far.
-pub abbrev StageTells : (first : ℕ) → Stage → Type 0
+abbrev pub StageTells : (first : ℕ) → Stage → Type 0
 StageTells first s = Tells (list_any is_fault s.database.replies) first s.database.files.faults
 
 stays_told : (any : Bool) (first old new : ℕ) → new ≡ old → Tells any first old → Tells any first new

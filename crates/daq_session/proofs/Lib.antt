@@ -2,3 +2,8 @@ pub mod OpeningLaws
 pub mod SteeringLaws
 pub mod StageLaws
 pub mod FaultLaws
+pub mod CrewLaws
+pub mod EndingLaws
+pub mod KeyLaws
+pub mod DeclaringLaws
+pub mod OpenedLaws

@@ -16,9 +16,9 @@ opens_start (Ok Start) is = refl
 -- what the start does where its session is open it does from before its opening
 pub start_so : (now ready : Stage) → OpensSession now ready → (reply : Reply) → (new : Stage) → DoesStart ready.runs ready reply new → DoesStart now.runs now reply new
 start_so now ready opens reply new does =
-    let open = opens.runs in
-    let commanded = subst (λ (runs : Option RunsSeen). DoesStart runs ready reply new) open does in
-    subst (λ (runs : Option RunsSeen). DoesStart runs now reply new) (sym opens.closed) (ready, _, open, opens, commanded)
+    let there = opens.runs in
+    let commanded = subst (λ (runs : Option RunsSeen). DoesStart runs ready reply new) there does in
+    subst (λ (runs : Option RunsSeen). DoesStart runs now reply new) (sym opens.closed) (ready, _, there, opens, commanded)
 
 pub start_breaks_so : (now ready : Stage) → OpensSession now ready → (new : Stage) → BreaksStart ready.runs ready new → BreaksStart now.runs now new
 start_breaks_so now ready opens new broke =

@@ -199,8 +199,8 @@ resume_kept laws (Some runs) old reply new is does kept = resume_command laws ru
 setup_by : (runs : Option RunsSeen) (old new : Stage) (reply : Reply) (Then : Type 0) → old.runs ≡ runs → SetupUnless old.declared.opened Then old.declared reply new.declared → new ≡ record old { declared = new.declared } → StageKept old → StageKept new
 setup_by None old new reply Then is does same kept = kept_closed new (ap (λ (s : Stage). s.runs) same ∙ is)
 setup_by (Some runs) old new reply Then is does same kept =
-    let open = open_kept old runs is kept in
-    let refused = subst (λ (opened : Bool). SetupUnless opened Then old.declared reply new.declared) open.opened does in
+    let shown = open_kept old runs is kept in
+    let refused = subst (λ (opened : Bool). SetupUnless opened Then old.declared reply new.declared) shown.opened does in
     let nothing : new ≡ old = same ∙ ap (λ (d : Declared). record old { declared = d }) refused.1 in
     subst StageKept (sym nothing) kept
 
@@ -273,14 +273,14 @@ stop_breaks : FitLaws → (runs : Option RunsSeen) (old new : Stage) → old.run
 stop_breaks laws None old new is broke kept = absurd broke
 stop_breaks laws (Some runs) old new is broke kept =
     let after : RunsSeen = broke.0 in
-    let open : RunsKept old.declared (own_watched old.database.access) runs = open_kept old runs is kept in
+    let shown : RunsKept old.declared (own_watched old.database.access) runs = open_kept old runs is kept in
     let a : CommandPoint PassedOver = own_point runs old.database.access in
     let b : CommandPoint PassedOver = own_point after new.database.access in
     subst StageKept (sym broke.1) (⊎_elim
       (λ stopped. steered_kept old.declared runs after (own_watched old.database.access) (own_watched new.database.access)
-          (stops_steers NothingSaid _ old.clock new.clock a b stopped.1) (laws.stop _ old.clock new.clock a b stopped.1 open.fit) open)
+          (stops_steers NothingSaid _ old.clock new.clock a b stopped.1) (laws.stop _ old.clock new.clock a b stopped.1 shown.fit) shown)
       (λ unsaved. steered_kept old.declared runs after (own_watched old.database.access) (own_watched new.database.access)
-          (unsaved_steers NothingSaid old.clock new.clock a b unsaved) (laws.unsaved old.clock new.clock a b unsaved open.fit) open)
+          (unsaved_steers NothingSaid old.clock new.clock a b unsaved) (laws.unsaved old.clock new.clock a b unsaved shown.fit) shown)
       broke.2)
 
 other_breaks : FitLaws → (command : Command) (old new : Stage) → BreaksDatabase command old.database new.database → new ≡ record old { database = new.database } → StageKept old → StageKept new

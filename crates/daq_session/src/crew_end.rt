@@ -2,7 +2,6 @@
 ghost use Rattle.std.specs.Prelude.{◌≡◌, ◌≤◌, ◌+◌, ℕ, List, Option, None};
 ghost use Rattle.daq_types.specs.Callers.{main_caller};
 ghost use Rattle.turn_lock.specs.Passes.{IsOf, held_by, number_of, own_entries};
-ghost use Rattle.odb_lock.specs.SharedAccesses.{access_by_pass};
 ghost use Rattle.odb_port.specs.DatabasePorts.{IsSamePort};
 ghost use Rattle.transition_lock.specs.SharedEngines.{engine_lock_of};
 ghost use Rattle.loggers.specs.LoggerFaults.{HasFailed};
@@ -20,8 +19,6 @@ ghost use Rattle.daq_session.specs.Endings.{NotesFailed, closing_calls};
 
 use crate::lasting::LastingPort;
 use crate::opened::Opened;
-use buffer_core::EventBuffer;
-use buffer_lock::SharedPort;
 use daq_io::{Clock, Files, Gate, Pick, Sink, Source};
 use daq_members::laws::rounds_keep;
 use daq_members::{Crew, CrewParts, EndlessPort};
@@ -30,8 +27,6 @@ use database_desk::DatabaseDesk;
 use database_files::FileReplies;
 use front_ends::Equipment;
 use loggers::laws::faults_noted;
-use odb_lock::SharedAccess;
-use odb_tree::Database;
 use run_records::RunRecord;
 use script_desk::{Desk, Ending, Halt, play_out};
 use session_runs::Runs;
@@ -76,8 +71,8 @@ pub fn play_crew<
     S: Source,
     O: Sink,
     X: Equipment,
-    B: EventBuffer,
-    D: Database,
+    P: EndlessPort,
+    D: LastingPort,
     E: Files,
     C: Clock,
     F: Files,
@@ -88,29 +83,29 @@ pub fn play_crew<
     alloc: Global,
     lists: &'a DeclaredLists,
     runs: Runs<'a>,
-    crew: Crew<'a, X, SharedPort<'a, B>, SharedAccess<'a, D>, F, K, G>,
-    access: SharedAccess<'a, D>,
+    crew: Crew<'a, X, P, D, F, K, G>,
+    access: D,
     files: E,
     replies: FileReplies,
     clock: C,
     desk: &mut Desk,
     src: &mut S,
     out: &mut O,
-) -> CrewEnd<'a, X, SharedPort<'a, B>, SharedAccess<'a, D>, E, C, F, K>
+) -> CrewEnd<'a, X, P, D, E, C, F, K>
     requires fits { desk.old.number + 1 ≤ desk.old.reader.taken }
-    requires main { (access_by_pass access).caller ≡ main_caller }
+    requires main { (D.access access).caller ≡ main_caller }
     ensures played { (last : RunsSeen) × (result.records ≡ last.runs)
         × (own_entries result.main ≡ closing_calls last.main.own)
         × ((first : Stage) (source_first told_first : Option (List ℕ))
         → HasLine DoesScriptLine BreaksScriptLine first source_first (S.left src.old) told_first
         (O.written out.old) desk.old.reader desk.old.last
-        (open_stage (declared_by lists.now) (database_stage (access_by_pass access.entry)
+        (open_stage (declared_by lists.now) (database_stage (D.access access)
         (E.seen files) (E.faults files) (E.clashes files) (E.first files) replies.replies)
         (clock_of (C.tells clock) (C.ahead clock)) runs.entry)
         desk.old.refusals desk.old.number
         → Finished DoesScriptLine BreaksScriptLine ClosesScript GivesUp first result.ending
         result.closing source_first (S.left src.new) told_first (O.written out.new)
-        (open_stage (declared_by lists.now) (database_stage (access_by_pass result.access)
+        (open_stage (declared_by lists.now) (database_stage (D.access result.access)
         (E.seen result.files) (E.faults result.files) (E.clashes result.files)
         (E.first result.files) result.replies.replies)
         (clock_of (C.tells result.clock) (C.ahead result.clock)) last)
@@ -118,7 +113,7 @@ pub fn play_crew<
     ensures main { number_of result.main ≡ main_caller }
     ensures own { IsOf (engine_lock_of runs.entry.main.engine) result.main }
     ensures idle { held_by result.main ≡ None }
-    ensures same { IsSamePort (access_by_pass access.entry) (access_by_pass result.access) }
+    ensures same { IsSamePort (D.access access) (D.access result.access) }
     ensures members { (between : CrewSeen X F K)
         × IsSameCrew (crew_told X.takes X.makes F.seen F.faults F.clashes F.first K.tells K.ahead)
         crew.entry between
