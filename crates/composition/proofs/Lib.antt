@@ -1,5 +1,6 @@
 pub mod SessionTurns
 pub mod SentTogether
+pub mod SetsStand
 pub mod SetTogether
 pub mod FilesTogether
 pub mod SeenBy
@@ -9,3 +10,4 @@ pub mod NeededSessions
 pub mod CountedSampled
 pub mod PausedSampled
 pub mod PausedNeeded
+pub mod StartsTogether

@@ -7,3 +7,4 @@ pub mod LoggerSeatLaws
 pub mod TurnSets
 pub mod CrewLaws
 pub mod OtherFilesKept
+pub mod LoggerReasons

@@ -14,6 +14,7 @@ use Rattle.loggers.specs.NewLoggers.{NoneTakenBack}
 use Rattle.loggers.specs.SlotPulls.{HasEventRoom}
 use Rattle.loggers.specs.Turning.{IsIdleOutside, buffers_begun}
 use Rattle.loggers.specs.LoggerStands.{LoggerStands}
+use Rattle.loggers.specs.Reasons.{GivesReasons}
 use Rattle.loggers.specs.OtherFiles.{specs_in, KeepsOtherFiles}
 use Rattle.daq_members.specs.declared.turned.Turned.{Turned}
 use Rattle.daq_members.specs.OwnTurns.{are_calls_for}
@@ -58,6 +59,18 @@ pub record IsLoggerSeated {F : Type 0} (seen : F → Seen) (logger : LoggerSeen 
   pub others : NoneTakenBack logger.ports →
       KeepsOtherFiles (specs_in logger.slots) (started_runs (member_turns logger.client logger.calls))
       (seen logger.first) (seen logger.files)
+
+-- Each answer of the logger rests on the counts of the run files, as they were when it took its seat and as they are: a
+-- start was refused for a name only where a clash was counted, and for a fault only where one was; and a channel broke off
+-- only where a fault was counted.
+abbrev pub HasLoggerReasons : {F : Type 0} → (read : F → RunFiles) → LoggerSeen F → Type 0
+HasLoggerReasons read logger =
+    GivesReasons logger.slots (read logger.first) (read logger.files) (member_turns logger.client logger.calls)
+
+-- Both.
+pub record IsLoggerAtSeat {F : Type 0} (seen : F → Seen) (read : F → RunFiles) (logger : LoggerSeen F) : Type 0 where
+  pub seated : IsLoggerSeated seen logger
+  pub reasons : HasLoggerReasons read logger
 
 -- a turn of the logger, by what is seen of it before and behind
 abbrev pub logger_taken : {F : Type 0} → (read : F → RunFiles) → (before after : LoggerSeen F) → Turned → LoggerTaken

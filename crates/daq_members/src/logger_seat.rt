@@ -6,11 +6,12 @@ ghost use Rattle.buffer_core.specs.Slots.{some_slot};
 ghost use Rattle.turn_lock.specs.Passes.{number_of, held_by, own_entries, IsOf};
 ghost use Rattle.transition_lock.specs.SharedEngines.{engine_lock_of};
 ghost use Rattle.member_model.specs.TurnCalls.{member_turns};
-ghost use Rattle.loggers.specs.Moments.{IsLoggerReady};
+ghost use Rattle.loggers.specs.Moments.{RunFiles, IsLoggerReady};
 ghost use Rattle.loggers.specs.NewLoggers.{NoneTakenBack};
 ghost use Rattle.loggers.specs.SlotPulls.{HasEventRoom};
 ghost use Rattle.loggers.specs.Turning.{IsIdleOutside, buffers_begun};
 ghost use Rattle.loggers.specs.LoggerStands.{LoggerStands};
+ghost use Rattle.loggers.specs.Reasons.{GivesReasons};
 ghost use Rattle.daq_members.specs.LoggerTaken.{TakesLogger, HaveCaller};
 
 use crate::endless::EndlessPort;
@@ -45,7 +46,7 @@ pub struct LoggerSeat<'a, P: EndlessPort, F: Files> {
 impl<'a, P: EndlessPort, F: Files> Model for LoggerSeat<'a, P, F> {
     ghost use Rattle.std.specs.Prelude.{map};
     ghost use Rattle.turn_lock.specs.Passes.{own_entries};
-    ghost use Rattle.daq_members.specs.LoggerSeats.{LoggerSeen, IsLoggerSeated};
+    ghost use Rattle.daq_members.specs.LoggerSeats.{LoggerSeen, IsLoggerAtSeat, files_by};
 
     ghost Value = { LoggerSeen F };
 
@@ -61,7 +62,7 @@ impl<'a, P: EndlessPort, F: Files> Model for LoggerSeat<'a, P, F> {
       first = s.first.value;
     } };
 
-    ghost invariant = { λ s. IsLoggerSeated F.seen (record {
+    ghost invariant = { λ s. IsLoggerAtSeat F.seen (files_by F.seen F.faults F.clashes F.first) (record {
       engine = s.member.seat.engine.now;
       client = s.member.seat.client;
       run = s.member.logger.run;
@@ -75,7 +76,7 @@ impl<'a, P: EndlessPort, F: Files> Model for LoggerSeat<'a, P, F> {
 }
 
 impl<'a, P: EndlessPort, F: Files> LoggerSeat<'a, P, F> {
-    ghost use Rattle.daq_members.specs.LoggerSeats.{IsLoggerSeated, IsSameLogger, logger_taken, files_by};
+    ghost use Rattle.daq_members.specs.LoggerSeats.{IsLoggerSeated, HasLoggerReasons, IsSameLogger, logger_taken, files_by};
 
     /// A logger that is ready for its turns, with its own ports to the buffers and the run files.
     pub fn new(member: LoggerMember<'a>, ports: Ports<P>, files: F) -> LoggerSeat<'a, P, F>
@@ -90,6 +91,8 @@ impl<'a, P: EndlessPort, F: Files> LoggerSeat<'a, P, F> {
         requires idle { IsIdleOutside member.logger.run member.logger.channels }
         requires begun { buffers_begun member.logger.run ≤ length ports }
         requires small { IfSome member.logger.stop_dump (λ bytes. length bytes ≤ record_limit) }
+        requires reasons { (told : RunFiles) → GivesReasons member.logger.channels told told
+            (member_turns member.seat.client (own_entries member.seat.pass)) }
         ensures engine { result.engine ≡ member.entry.seat.engine.now }
         ensures client { result.client ≡ member.entry.seat.client }
         ensures run { result.run ≡ member.entry.logger.run }
@@ -117,6 +120,7 @@ impl<'a, P: EndlessPort, F: Files> LoggerSeat<'a, P, F> {
     {
         logger_laws::still_known();
         logger_laws::other_files();
+        logger_laws::reasons_given();
         self.member.turn(rt, &mut self.ports, &mut self.files, gate)
     }
 
@@ -124,6 +128,7 @@ impl<'a, P: EndlessPort, F: Files> LoggerSeat<'a, P, F> {
     pub fn client(&self) -> u32
         ensures number { result ≡ self.now.client }
         ensures seated { IsLoggerSeated F.seen self.now }
+        ensures reasons { HasLoggerReasons (files_by F.seen F.faults F.clashes F.first) self.now }
     {
         self.member.seat.client
     }
@@ -145,6 +150,8 @@ impl<'a, P: EndlessPort, F: Files> LoggerSeat<'a, P, F> {
         ensures ports { map P.access result.ports ≡ self.entry.ports }
         ensures files { result.files ≡ self.entry.files }
         ensures seated { IsLoggerSeated F.seen self.entry }
+        ensures reasons { HasLoggerReasons (files_by F.seen F.faults F.clashes F.first)
+            self.entry }
     {
         let LoggerSeat {
             member,

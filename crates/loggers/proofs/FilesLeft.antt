@@ -44,7 +44,7 @@ specs_set (o ∷ os) zero before after at spec =
     ap (λ (s : ChannelSpec). Some s ∷ specs_in os) spec ∙ sym (ap (λ (x : Option Channel). option_map (λ (c : Channel). c.spec) x ∷ specs_in os) at)
 specs_set (o ∷ os) (suc n) before after at spec = ap (λ (l : List (Option ChannelSpec)). option_map (λ (c : Channel). c.spec) o ∷ l) (specs_set os n before after at spec)
 
-noted_spec : (note : ChannelStage → ChannelStage) (buffer : ℕ) (c : Channel) → (noted_channel note buffer c).spec ≡ c.spec
+pub noted_spec : (note : ChannelStage → ChannelStage) (buffer : ℕ) (c : Channel) → (noted_channel note buffer c).spec ≡ c.spec
 noted_spec note buffer c = by_hit (c.spec.buffer == buffer)
   where
     by_hit : (hit : Bool) → (if hit then record c { stage = note c.stage } else c).spec ≡ c.spec
@@ -141,7 +141,7 @@ open_leaves : OpensChange → (runs : List ℕ) (order : Order) (dump : List ℕ
 open_leaves change runs order dump n None a b there among same held = same_leaves runs a b same held
 open_leaves change runs order dump n (Some before) a b there among s held = opened_leaves change runs order dump (Ok tt) n before a b there among s held
 
-no_run : (stage : ChannelStage) (opened : ChannelRun) → stage ≡ Idle → channel_run stage ≡ Some opened → ⊥
+pub no_run : (stage : ChannelStage) (opened : ChannelRun) → stage ≡ Idle → channel_run stage ≡ Some opened → ⊥
 no_run stage opened idle is = (let none : channel_run stage ≡ None = ap channel_run idle in absurd (cc (none, is)))
 
 abort_leaves : AbortsChange → (runs : List ℕ) (n : ℕ) (slot : Option Channel) (a b : LoggerMoment) → slot_at a.slots n ≡ slot → StepsSlot AbortsChannel n slot a b → HaveRunsAmong runs a.slots → Leaves runs a b
@@ -168,7 +168,7 @@ call_leaves runs entry buffer a b calls held = record {
   files = same_files (specs_in a.slots) runs a.files.seen b.files.seen (ap (λ (f : RunFiles). f.seen) calls.files);
 }
 
-noted_run : (runs : List ℕ) (note : ChannelStage → ChannelStage) (buffer : ℕ) (before : Channel) → ((stage : ChannelStage) → channel_run (note stage) ≡ channel_run stage) → channel_run (noted_channel note buffer before).stage ≡ channel_run before.stage
+pub noted_run : (runs : List ℕ) (note : ChannelStage → ChannelStage) (buffer : ℕ) (before : Channel) → ((stage : ChannelStage) → channel_run (note stage) ≡ channel_run stage) → channel_run (noted_channel note buffer before).stage ≡ channel_run before.stage
 noted_run runs note buffer before keeps = by_hit (before.spec.buffer == buffer)
   where
     by_hit : (hit : Bool) → channel_run (if hit then record before { stage = note before.stage } else before).stage ≡ channel_run before.stage
@@ -184,7 +184,7 @@ mark_leaves runs entry note buffer a b keeps marks held = record {
   files = same_files (specs_in a.slots) runs a.files.seen b.files.seen (ap (λ (f : RunFiles). f.seen) marks.marks.files);
 }
 
-begun_run : (place : ℕ) (stage : ChannelStage) → channel_run (stage_begun stage place) ≡ channel_run stage
+pub begun_run : (place : ℕ) (stage : ChannelStage) → channel_run (stage_begun stage place) ≡ channel_run stage
 begun_run place Idle = refl
 begun_run place (Asking opened) = refl
 begun_run place (Writing opened begun) = refl
@@ -192,7 +192,7 @@ begun_run place (Draining run) = refl
 begun_run place (Drained run) = refl
 begun_run place (Broken run) = refl
 
-ended_run : (place : Option ℕ) (stage : ChannelStage) → channel_run (stage_ended stage place) ≡ channel_run stage
+pub ended_run : (place : Option ℕ) (stage : ChannelStage) → channel_run (stage_ended stage place) ≡ channel_run stage
 ended_run place Idle = refl
 ended_run place (Asking opened) = refl
 ended_run place (Writing opened begun) = refl

@@ -29,3 +29,5 @@ pub mod TurnsOwn
 pub mod TurnUses
 pub mod FaultsNoted
 pub mod FilesLeft
+pub mod ReasonsKept
+pub mod NamesUndone

@@ -9,3 +9,5 @@ pub mod LoggerLaws
 pub mod LoggerCalls
 pub mod LoggerFaults
 pub mod OtherFiles
+pub mod Reasons
+pub mod LeftNames

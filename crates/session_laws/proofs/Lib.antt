@@ -8,3 +8,6 @@ pub mod FrontsEnd
 pub mod KeptTogether
 pub mod RunsMade
 pub mod NamesStay
+pub mod CountsTold
+pub mod RecordsMade
+pub mod ChannelsSame

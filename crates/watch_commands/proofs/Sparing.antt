@@ -1,5 +1,5 @@
 -- No command for watches or dumps removes anything.
-use Rattle.std.proofs.Common.{◌≡◌, ◌⊎◌, ℕ, List, [], ◌∷◌, map, Result, Ok, Err, refl, sym, subst, inl, inr}
+use Rattle.std.proofs.Common.{ℕ, List, [], ◌∷◌, map, Result, Ok, Err, sym, subst, inl, inr}
 use Rattle.std.specs.List.{AllByRecursion}
 use Rattle.daq_io.specs.Seen.{Seen}
 use Rattle.odb_path.specs.declared.refusals.PathRefusal.{PathRefusal}
