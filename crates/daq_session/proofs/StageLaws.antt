@@ -16,13 +16,15 @@ use Rattle.session_replies.specs.declared.replies.Reply.{Reply}
 use Rattle.session_setup.specs.Setup.{Declared}
 use Rattle.session_runs.specs.declared.replies.RunReply.{RunReply}
 use Rattle.session_runs.specs.KeptRuns.{RunsSeen}
-use Rattle.session_runs.specs.RunsFit.{RunsFit}
+use Rattle.session_runs.specs.RunsFit.{RunsFit, starts_begun}
+use Rattle.session_engine.specs.declared.opening.MemberName.{MemberName}
+use Rattle.session_engine.specs.Members.{registrations}
 use Rattle.session_runs.specs.RunAnswers.{AnswersPause, AnswersResume, AnswersStart, AnswersStop, ClockTold, CommandPoint, CutsBegin, CutsNumber, CutsStart, GotNumber, StopsUnsaved}
 use Rattle.database_desk.specs.DatabaseStages.{DatabaseStage}
 use Rattle.database_desk.specs.DatabaseLines.{BreaksDatabase, CutsDump, CutsRows, DoesDatabase, PerformsDump, PerformsRows}
 use Rattle.session_lines.specs.declared.passed_over.PassedOver.{PassedOver}
 use Rattle.session_lines.specs.NothingSaid.{NothingSaid, own_point}
-use Rattle.session_lines.specs.Stages.{Stage, opened_runs, runs_with_quota, with_quota}
+use Rattle.session_lines.specs.Stages.{Stage, front_names, members_named, opened_runs, runs_with_quota, with_quota}
 use Rattle.session_lines.specs.SetupReplies.{SetupUnless}
 use Rattle.session_lines.specs.RunLines.{BreaksStart, BreaksStop, ClosesRun, CutsOpening, CutsRun, behind_command, runs_on, DoesPause, DoesResume, DoesStart, DoesStop, IsStopped, OpensSession, PausesBy, ResumesBy, RunsCommand, StartsBy, StopsBy}
 use Rattle.session_lines.specs.ScriptLines.{BreaksCommand, BreaksScriptLine, CallsDatabase, ClosesScript, DoesCommand, DoesScriptLine, GivesUp, SetsUp}
@@ -36,6 +38,8 @@ pub record FitLaws : Type 0 where
   pub unsaved : (before after : ClockTold) → (old new : CommandPoint PassedOver) → StopsUnsaved NothingSaid before after old new → RunsFit old.runs (own_watched old.database) → RunsFit new.runs (own_watched new.database)
   pub pause : (reply : RunReply) → (old new : CommandPoint PassedOver) → AnswersPause NothingSaid reply old new → RunsFit old.runs (own_watched old.database) → RunsFit new.runs (own_watched new.database)
   pub resume : (reply : RunReply) → (old new : CommandPoint PassedOver) → AnswersResume NothingSaid reply old new → RunsFit old.runs (own_watched old.database) → RunsFit new.runs (own_watched new.database)
+  pub opening : (s : RunsSeen) → (own : List WatchEntry) → s.runs ≡ [] → s.on ≡ None → starts_begun s.main.own ≡ [] → RunsFit s own
+  pub registered : (first : ℕ) → (members : List MemberName) → starts_begun (registrations first members) ≡ []
   pub more : (s : RunsSeen) → (own more : List WatchEntry) → RunsFit s own → RunsFit s (own ++ more)
   pub entries : (a b : DatabaseAccess) → (entries : List WatchEntry) → AddsEntries a b entries → own_watched b ≡ own_watched a ++ entries
   pub calls : (a b : DatabaseAccess) → (calls : List DatabaseEntry) → AddsCalls a b calls → own_watched b ≡ own_watched a ++ row_calls calls
@@ -167,19 +171,19 @@ resume_command laws before old reply new c kept = command_kept ResumesBy before 
     (laws.resume c.answer (own_point before old.database.access) (own_point c.after new.database.access) c.does.0 kept.fit)
     kept
 
-opened_kept : (old ready : Stage) → OpensSession old ready → StageKept ready
-opened_kept old ready opens = kept_open ready (opened_runs old.quota ready.declared opens.engine) opens.runs (record {
+opened_kept : FitLaws → (old ready : Stage) → OpensSession old ready → StageKept ready
+opened_kept laws old ready opens = kept_open ready (opened_runs old.quota ready.declared opens.engine) opens.runs (record {
   opened = ap (λ (d : Declared). d.opened) opens.declared;
   fronts = refl;
   channels = refl;
   later = [];
   begins = sym (append-nil _);
   steers = tt;
-  fit = record { runs = tt; on = tt };
+  fit = laws.opening (opened_runs old.quota ready.declared opens.engine) (own_watched ready.database.access) refl refl (laws.registered 0 (members_named (front_names ready.declared)));
 })
 
 start_kept : FitLaws → (runs : Option RunsSeen) (old : Stage) (reply : Reply) (new : Stage) → old.runs ≡ runs → DoesStart runs old reply new → StageKept old → StageKept new
-start_kept laws None old reply new is does kept = start_command laws does.1 does.0 reply new does.4 (open_kept does.0 does.1 does.2 (opened_kept old does.0 does.3))
+start_kept laws None old reply new is does kept = start_command laws does.1 does.0 reply new does.4 (open_kept does.0 does.1 does.2 (opened_kept laws old does.0 does.3))
 start_kept laws (Some runs) old reply new is does kept = start_command laws runs old reply new does (open_kept old runs is kept)
 
 stop_kept : FitLaws → (runs : Option RunsSeen) (old : Stage) (reply : Reply) (new : Stage) → old.runs ≡ runs → DoesStop runs old reply new → StageKept old → StageKept new
@@ -216,7 +220,7 @@ quota_runs count d own (Some runs) kept = record {
   later = kept.later;
   begins = kept.begins;
   steers = kept.steers;
-  fit = record { runs = kept.fit.runs; on = kept.fit.on };
+  fit = record { each_start = kept.fit.each_start; runs = kept.fit.runs; on = kept.fit.on };
 }
 
 quota_kept : (count : ℕ) (old new : Stage) → new ≡ with_quota count old → StageKept old → StageKept new
@@ -265,7 +269,7 @@ cut_opening_kept old new cut = kept_closed new (ap (λ (s : Stage). s.runs) cut.
 start_breaks : FitLaws → (runs : Option RunsSeen) (old new : Stage) → old.runs ≡ runs → BreaksStart runs old new → StageKept old → StageKept new
 start_breaks laws None old new is broke kept = ⊎_elim
     (λ (cut : CutsOpening old new). cut_opening_kept old new cut)
-    (λ cut. cut_run_kept laws cut.1 cut.0 new cut.4 (opened_kept old cut.0 cut.3))
+    (λ cut. cut_run_kept laws cut.1 cut.0 new cut.4 (opened_kept laws old cut.0 cut.3))
     broke
 start_breaks laws (Some runs) old new is broke kept = cut_run_kept laws runs old new broke kept
 

@@ -20,7 +20,7 @@ use Rattle.session_runs.specs.declared.replies.RunReply.{RunReply}
 use Rattle.session_runs.specs.declared.replies.RunReply.TheVariants as answer
 use Rattle.session_runs.specs.KeptRuns.{RunsSeen, behind_start, with_calls}
 use Rattle.session_runs.specs.RunAnswers.{AnswersPause, AnswersResume, AnswersStart, AnswersStop, BeginsRun, ClockTold, CommandPoint, CutsBegin, CutsStart, MakesChange, MakesStart, MakesStop, StopsUnsaved}
-use Rattle.session_laws.specs.MembersEnd.{SteersEngine}
+use Rattle.session_laws.specs.MembersAtEnd.{SteersEngine}
 
 -- The names and the channels stay, and the new calls steer the engine.
 pub record SteersOn (old new : RunsSeen) : Type 0 where

@@ -8,7 +8,7 @@ use Rattle.session_engine.specs.Members.{registrations}
 use Rattle.session_setup.specs.Setup.{Declared}
 use Rattle.session_runs.specs.KeptRuns.{RunsSeen, channels_of}
 use Rattle.session_runs.specs.RunsFit.{RunsFit}
-use Rattle.session_laws.specs.MembersEnd.{SteersEngine}
+use Rattle.session_laws.specs.MembersAtEnd.{SteersEngine}
 use Rattle.session_lines.specs.Stages.{Stage, front_names, members_named}
 
 -- The main thread keeps the names of the declared front-ends and the declared channels; it registered the members on the engine,
