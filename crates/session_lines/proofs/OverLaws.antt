@@ -42,6 +42,7 @@ module _ {M : Type 0} (round : M → M → Type 0) where
   begins_over run outcome before after old new b = record {
     start = b.start;
     begins = b.begins;
+    idle = b.idle;
     time = b.time;
     reading = b.reading;
     dump = b.dump;
