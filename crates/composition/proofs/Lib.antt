@@ -8,6 +8,7 @@ pub mod ReportsTogether
 pub mod Sampled
 pub mod NeededSessions
 pub mod CountedSampled
+pub mod AskedTwice
 pub mod PausedSampled
 pub mod PausedNeeded
 pub mod StartsTogether

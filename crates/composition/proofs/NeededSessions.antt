@@ -485,6 +485,7 @@ analyzers_needed = record {
 idle_analyzer : KeepsAnalyzer (sample_analyzer 7).wanted [] [] []
 idle_analyzer = record {
   calls = record { only_reads = tt; own_calls = tt };
+  once = refl;
   reports = λ t report has. absurd has;
   starts = λ start answer has. absurd has;
   stops = λ are start begin stop answer accepted. absurd accepted.is_start.stands;

@@ -135,8 +135,8 @@ abbrev pub ReportsTold : Session → Type 0
 ReportsTold s = (r : SessionRun) → IsStoppedRun s r →
     (a : SessionAnalyzer) → HasAnalyzer s a → (report : Totals) × TellsTotals r a.client report
 
--- And that is the report of the events with the run's start number that its client got, in order, from its one request on
--- until it cancelled that: before then the buffer told it how many events it had taken, and it read all of these.
+-- And that is the report of the events with the run's start number that its client got, in order, from the request of the run's
+-- start on until it cancelled that: before then the buffer told it how many events it had taken, and it read all of these.
 abbrev pub ReportsSo : Session → Type 0
 ReportsSo s = (r : SessionRun) → IsStoppedRun s r →
     (a : SessionAnalyzer) → HasAnalyzer s a → (report : Totals) → TellsTotals r a.client report →

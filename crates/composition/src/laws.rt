@@ -6,7 +6,7 @@ ghost use Rattle.composition.specs.Sessions.{Session, MembersKeep};
 ghost use Rattle.composition.specs.SessionRuns.{IsStoppedRun, ToldState, ReportsRun, SawThrough};
 ghost use Rattle.composition.specs.SessionSamples.{sample_session, sample_run, sample_channel};
 ghost use Rattle.composition.specs.PausedSamples.{paused_session, pausing_run, paused_channel, early_pause};
-ghost use Rattle.composition.specs.CountedSamples.{counted_session, counted_run, counted_analyzer, counted_report};
+ghost use Rattle.composition.specs.CountedSamples.{counted_session, counted_run, counted_analyzer, counted_report, asked_twice};
 ghost use Rattle.buffer_core.specs.Samples.{sample_event, longer_event};
 ghost use Rattle.composition.specs.NeededSamples.{SessionPremise, LegalBuffers, LegalEngine, OwnNames, MemberCalls, KeptFronts, FrontMoments, FrontNumbers, KeptLogger, LoggerEvents, KeptAnalyzers, AnalyzerEvents, FrontsThere, AnalyzersThere, LoggerThere, OneDump, MeetsSession, FailsSession, unmarked_session, made_up, spoken_for, unknown_sender, other_made, early_session, nothing_set, watching_front, nothing_stored, other_told, front_for_analyzer, unknown_front, unknown_analyzer, unknown_logger, no_dump};
 
@@ -151,6 +151,7 @@ pub fn needs_each_premise()
     ensures logger { FailsSession KeptLogger nothing_stored FilesHoldRuns }
     ensures events { FailsSession LoggerEvents other_told FilesHoldRuns }
     ensures analyzers { FailsSession KeptAnalyzers front_for_analyzer ReportsTold }
+    ensures asked { FailsSession KeptAnalyzers asked_twice ReportsSo }
     ensures counted { FailsSession AnalyzerEvents (counted_session longer_event) ReportsWhole }
     ensures got { FailsSession AnalyzerEvents (counted_session longer_event) GotWhole }
     ensures fronts_there { FailsSession FrontsThere unknown_front FrontsTell }
