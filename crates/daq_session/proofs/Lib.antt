@@ -3,7 +3,6 @@ pub mod SteeringLaws
 pub mod StageLaws
 pub mod FaultLaws
 pub mod CrewLaws
-pub mod EndingLaws
 pub mod KeyLaws
 pub mod DeclaringLaws
 pub mod OpenedLaws
