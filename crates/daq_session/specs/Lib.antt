@@ -1,14 +1,4 @@
-pub mod FrontSets
-pub mod RunCalls
-pub mod RunTransitions
-pub mod Stages
-pub mod Halts
-pub mod BrokenRuns
-pub mod Standing
-pub mod Playing
+pub mod Lasting
+pub mod Keeping
 pub mod Endings
-pub mod Played
-pub mod Closing
-pub mod TakenNames
-pub mod RunRecordFits
-pub mod Sessions
+pub mod Environments

@@ -5,7 +5,8 @@ use Rattle.std.proofs.lemmas.List.{take-append-drop, take_all, append-nil}
 use Rattle.std.proofs.lemmas.List.Elements.{All-nil, All-head, All-tail, All-push}
 use Rattle.std.proofs.Math.Seq.{take-append_seam}
 use Rattle.odb_script.specs.Lines.{Reading, lines_of, kept, script_limit, ReadsLine, ReadsLast, ReadsNone, ReadsTooMuch}
-use Rattle.odb_script.proofs.ReadLines.{HasReadLines, has_read_line, lines_so_far, lines_at_end, lines_at_last, lines_at_limit}
+use Rattle.odb_script.specs.ReadLines.{HasReadLines}
+use Rattle.odb_script.proofs.ReadLines.{has_read_line, lines_so_far, lines_at_end, lines_at_last, lines_at_limit}
 use Rattle.odb_script.proofs.KeptForms.{command_of-kept}
 use Rattle.odb_script.specs.Exits.{is_exit, ends_script, until_exit, GoOn, StopAtExit}
 

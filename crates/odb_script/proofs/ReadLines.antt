@@ -8,7 +8,7 @@ use Rattle.std.proofs.Math.Logic.{⊎_elim}
 use Rattle.std.specs.Str.Lines.{strip_carriage_return}
 use Rattle.std.specs.Io.KnownBytes.{Consumes, IsAtEnd}
 use Rattle.odb_script.specs.Lines.{Reading, no_line_read, ended_lines, behind_lines, whole_lines, last_line, script_lines, lines_of, script_limit, ReadsLine, ReadsLast, ReadsNone, ReadsTooMuch, ReadsPart}
-use Rattle.odb_script.specs.ReadLines.{AreGivenLines}
+use Rattle.odb_script.specs.ReadLines.{AreGivenLines, AreWholeLines, HasReadLines}
 
 -- Lines of texts behind one another.
 
@@ -44,10 +44,6 @@ behind_lines-plain so_far (x ∷ xs) h = rw (plain-first x xs h) (behind_lines-p
 
 -- Whole lines, and then more.
 
--- a text of whole lines alone
-abbrev pub AreWholeLines : List ℕ → Type 0
-AreWholeLines text = behind_lines [] text ≡ []
-
 pub whole_lines-append : (done more : List ℕ) → AreWholeLines done → whole_lines (done ++ more) ≡ whole_lines done ++ whole_lines more
 whole_lines-append done more h =
     ap (map strip_carriage_return) (ended_lines-append [] done more ∙ ap (λ s. ended_lines [] done ++ ended_lines s more) h)
@@ -71,15 +67,6 @@ AreWholeLines-line done part h =
     behind_lines-append [] done (part ++ 10 ∷ []) ∙ ap (λ s. behind_lines s (part ++ 10 ∷ [])) h ∙ behind_lines-append [] part (10 ∷ [])
 
 -- What was read.
-
--- These lines were read, one at a time, from a source that told its bytes.
-pub record HasReadLines (first now : Option (List ℕ)) (reading : Reading) (given : List (List ℕ)) : Type 0 where
-  pub done : List ℕ
-  pub consumed : Consumes first now (done ++ reading.pending)
-  pub whole : AreWholeLines done
-  pub lines : given ≡ whole_lines done
-  pub taken : reading.taken ≡ length done
-  pub within : length done ≤ script_limit
 
 -- nothing yet
 pub has_read_none : (first : Option (List ℕ)) → HasReadLines first first no_line_read []

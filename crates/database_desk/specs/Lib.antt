@@ -1,0 +1,2 @@
+pub mod DatabaseStages
+pub mod DatabaseLines

@@ -1,0 +1,4 @@
+mod PlayingLaws
+mod PlayingEnds
+mod ClosingLaws
+pub mod KeepingLaws

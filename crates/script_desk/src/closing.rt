@@ -1,0 +1,84 @@
+ghost use Rattle.std.specs.Prelude.{◌≡◌, ◌≤◌, ◌+◌, ℕ, List, Option, false};
+ghost use Rattle.odb_script.specs.declared.forms.Command.{Command};
+ghost use Rattle.odb_script.specs.Forms.{Read};
+ghost use Rattle.script_desk.specs.Endings.{SinkByEnding, SourceByEnding};
+ghost use Rattle.script_desk.specs.Playing.{HasLine};
+ghost use Rattle.script_desk.specs.Closing.{Finished, Finishes, MayFail, SinkBehind};
+
+use crate::answerer::Answerer;
+use crate::console::print_reply;
+use crate::desk::Desk;
+use crate::endings::Ending;
+use crate::halts::Halt;
+use crate::play_end::PlayEnd;
+use crate::playing::play_on;
+use daq_io::{Sink, Source};
+use std::alloc::Global;
+use std::sync::Wait;
+
+/// Ends what is still on behind lines that ended so, and writes what that prints, unless the sink failed or there was no memory.
+/// Answers what failed in that.
+pub fn close_lines<R: Wait, A: Answerer, K: Sink>(
+    rt: &R,
+    alloc: Global,
+    desk: &mut Desk,
+    ending: Ending,
+    answerer: &mut A,
+    out: &mut K,
+) -> Option<Halt>
+    ensures finishes { Finishes A.does A.breaks A.closes A.gives_up ending result
+        (K.written out.old) (K.written out.new) (A.stage answerer.old) (A.stage answerer.new)
+        desk.old.refusals }
+    ensures refusals { desk.new.refusals ≡ desk.old.refusals }
+    ensures may { MayFail ending result }
+    ensures sink { SinkBehind result (K.faults out.old) (K.faults out.new) }
+    ensures stays { A.stays answerer.old answerer.new }
+{
+    match answerer.close(rt, alloc) {
+        Err(_) => Some(Halt::NoMemory),
+        Ok(None) => None,
+        Ok(Some(reply)) => {
+            if !ending.prints() {
+                return None;
+            }
+            match print_reply(&mut desk.text, 0, &reply, out) {
+                Ok(()) => None,
+                Err(halt) => Some(halt),
+            }
+        }
+    }
+}
+
+/// Answers the line that was read and all lines behind it, and ends then what is still on. Answers how the lines ended, and what
+/// failed behind them.
+pub fn play_out<R: Wait, A: Answerer, S: Source, K: Sink>(
+    rt: &R,
+    alloc: Global,
+    desk: &mut Desk,
+    answerer: &mut A,
+    source: &mut S,
+    out: &mut K,
+) -> (Ending, Option<Halt>)
+    requires fits { desk.old.number + 1 ≤ desk.old.reader.taken }
+    requires own { (line : Read Command) → A.leaves line ≡ false }
+    ensures finished { (first : A.Stage) (source_first told_first : Option (List ℕ))
+        → HasLine A.does A.breaks first source_first (S.left source.old) told_first
+        (K.written out.old) desk.old.reader desk.old.last (A.stage answerer.old)
+        desk.old.refusals desk.old.number
+        → Finished A.does A.breaks A.closes A.gives_up first result.0 result.1 source_first
+        (S.left source.new) told_first (K.written out.new) (A.stage answerer.new)
+        desk.new.refusals }
+    ensures may { MayFail result.0 result.1 }
+    ensures source { SourceByEnding result.0 (S.faults source.old) (S.faults source.new) }
+    ensures sink { (lines : ℕ) × SinkByEnding result.0 (K.faults out.old) lines
+        × SinkBehind result.1 lines (K.faults out.new) }
+    ensures stays { A.stays answerer.old answerer.new }
+{
+    match play_on(rt, alloc, desk, answerer, source, out) {
+        PlayEnd::Opens => unreachable!(),
+        PlayEnd::Ended { ending } => {
+            let closing = close_lines(rt, alloc, desk, ending, answerer, out);
+            (ending, closing)
+        }
+    }
+}

@@ -1,0 +1,3 @@
+mod OverLaws
+mod Kept
+pub mod StayingLaws

@@ -1,0 +1,31 @@
+-- What stays of an open session.
+use Rattle.std.proofs.Common.{◌≡◌, ℕ, zero, suc, ◌+◌, refl, subst, sym, ◌∙◌}
+use Rattle.odb_port.specs.DatabasePorts.{DatabaseAccess, IsSamePort}
+use Rattle.transition_lock.specs.declared.shared.SharedEngine.{SharedEngine}
+use Rattle.session_engine.specs.MadeTransitions.{HadRounds}
+use Rattle.session_setup.specs.declared.declared.DeclaredLists.{DeclaredLists}
+use Rattle.session_lines.specs.Staying.{StaysOpen}
+
+pub rounds_more : {M : Type 0} (round : M → M → Type 0) (n : ℕ) (a b c : M) (m : ℕ) → HadRounds round n a b → HadRounds round m b c → (count : ℕ) × HadRounds round count a c
+rounds_more {M} round n a b c zero ab same = (n, subst (λ (x : M). HadRounds round n a x) (sym same) ab)
+rounds_more round n a b c (suc m) ab bc = let more = rounds_more round n a b bc.0 m ab bc.1 in (suc more.0, (bc.0, more.1, bc.2))
+
+pub stays_open : {M : Type 0} {round : M → M → Type 0} (members : M) (engine : SharedEngine) (access : DatabaseAccess) (lists : DeclaredLists) → StaysOpen round members members engine engine access access lists lists
+stays_open members engine access lists = record {
+  count = 0;
+  rounds = refl;
+  same_engine = refl;
+  port = record { database = refl; caller = refl; undisturbed = refl };
+  same_lists = refl;
+}
+
+pub stays_open_on : {M : Type 0} {round : M → M → Type 0} {a b c : M} {d e f : SharedEngine} {g h i : DatabaseAccess} {j k l : DeclaredLists} → StaysOpen round a b d e g h j k → StaysOpen round b c e f h i k l → StaysOpen round a c d f g i j l
+stays_open_on {M} {round} {a} {b} {c} ab bc =
+    let more = rounds_more round ab.count a b c bc.count ab.rounds bc.rounds in
+    record {
+      count = more.0;
+      rounds = more.1;
+      same_engine = bc.same_engine ∙ ab.same_engine;
+      port = record { database = bc.port.database ∙ ab.port.database; caller = bc.port.caller ∙ ab.port.caller; undisturbed = bc.port.undisturbed ∙ ab.port.undisturbed };
+      same_lists = bc.same_lists ∙ ab.same_lists;
+    }

@@ -1,0 +1,16 @@
+-- Members of which nothing is said.
+use Rattle.std.specs.Prelude.{⊤}
+use Rattle.session_lines.specs.declared.passed_over.PassedOver.{PassedOver}
+use Rattle.odb_port.specs.DatabasePorts.{DatabaseAccess}
+use Rattle.session_runs.specs.KeptRuns.{RunsSeen}
+use Rattle.session_runs.specs.RunAnswers.{CommandPoint, point_of}
+
+abbrev pub NothingSaid : (before after : PassedOver) → Type 0
+NothingSaid before after = ⊤
+
+abbrev pub nobody : PassedOver
+nobody = record {}
+
+-- where the main thread stands, with the members passed over
+abbrev pub own_point : RunsSeen → DatabaseAccess → CommandPoint PassedOver
+own_point runs access = point_of runs access nobody

@@ -1,0 +1,48 @@
+-- What the lines that declare something do, and what they are answered.
+use Rattle.std.specs.Prelude.{◌≡◌, ℕ, Bool, true, false, List, Option, Some, None, Result, Ok, Err}
+use Rattle.mid_logger.specs.Patterns.{NamePattern}
+use Rattle.session_setup.specs.declared.refusals.SetupRefusal.{SetupRefusal}
+use Rattle.session_setup.specs.declared.refusals.SetupRefusal.TheVariants.{Opened}
+use Rattle.session_setup.specs.Setup.{Declared}
+use Rattle.session_setup.specs.Refusals.{NameRead, IsNameRead}
+use Rattle.session_setup.specs.SetupLines.{buffer_refusal, with_buffer, equip_refusal, with_front, IsPatternRead, channel_refusal, with_channel}
+use Rattle.session_replies.specs.declared.replies.Reply.{Reply}
+use Rattle.session_replies.specs.declared.replies.Reply.TheVariants.{Silent, Setup}
+
+-- the reply to a line that was taken or refused
+abbrev pub setup_reply : Result (Unit {0}) SetupRefusal → Reply
+setup_reply (Ok taken) = Silent
+setup_reply (Err refusal) = Setup refusal
+
+-- a line that is refused so changes nothing; one that is not declares what it does
+abbrev pub TakesSetup : Option SetupRefusal → (taken : Declared) → (old : Declared) → Reply → (new : Declared) → Type 0
+TakesSetup None taken old reply new = (reply ≡ Silent) × (new ≡ taken)
+TakesSetup (Some refusal) taken old reply new = (reply ≡ Setup refusal) × (new ≡ old)
+
+-- from the opening on every line that declares something is refused for that
+abbrev pub SetupUnless : (opened : Bool) → Type 0 → (old : Declared) → Reply → (new : Declared) → Type 0
+SetupUnless true Then old reply new = (reply ≡ Setup Opened) × (new ≡ old)
+SetupUnless false Then old reply new = Then
+
+-- `buffer NAME SIZE`
+abbrev pub DeclaresBuffer : (name : List ℕ) → (size : ℕ) → (old : Declared) → Reply → (new : Declared) → Type 0
+DeclaresBuffer name size old reply new = SetupUnless old.opened
+    ((read : NameRead) × IsNameRead name read × TakesSetup (buffer_refusal old read name size) (with_buffer old name size) old reply new)
+    old reply new
+
+-- `equip NAME ID MASK BUFFER LIMIT`
+abbrev pub DeclaresFront : (name : List ℕ) → (id mask : ℕ) → (buffer : List ℕ) → (limit : ℕ) → (old : Declared) → Reply → (new : Declared) → Type 0
+DeclaresFront name id mask buffer limit old reply new = SetupUnless old.opened
+    ((read : NameRead) × IsNameRead name read × TakesSetup (equip_refusal old read name id buffer) (with_front old name id mask buffer limit) old reply new)
+    old reply new
+
+-- `channel N PATTERN BUFFER ID MASK`
+abbrev pub TakesChannel : Option SetupRefusal → (number : ℕ) → (text buffer : List ℕ) → (id mask : ℕ) → (old : Declared) → Reply → (new : Declared) → Type 0
+TakesChannel None number text buffer id mask old reply new =
+    (pattern : NamePattern) × IsPatternRead text (Some pattern) × (reply ≡ Silent) × (new ≡ with_channel old number pattern buffer id mask)
+TakesChannel (Some refusal) number text buffer id mask old reply new = (reply ≡ Setup refusal) × (new ≡ old)
+
+abbrev pub DeclaresChannel : (number : ℕ) → (text buffer : List ℕ) → (id mask : ℕ) → (old : Declared) → Reply → (new : Declared) → Type 0
+DeclaresChannel number text buffer id mask old reply new = SetupUnless old.opened
+    ((read : Option NamePattern) × IsPatternRead text read × TakesChannel (channel_refusal old number read text buffer) number text buffer id mask old reply new)
+    old reply new

@@ -1,0 +1,84 @@
+-- Where a session stands between two lines of its script, by what its main thread did.
+use Rattle.std.specs.Prelude.{ℕ, List, [], ◌∷◌, ◌++◌, map, Option, Some, None}
+use Rattle.std.specs.Option.{option_map}
+use Rattle.run_states.specs.declared.sequences.Role.TheVariants.{FrontEnd, Logger}
+use Rattle.mid_logger.specs.ChannelTurns.{logger_name}
+use Rattle.transition_lock.specs.declared.shared.SharedEngine.{SharedEngine}
+use Rattle.odb_port.specs.DatabasePorts.{DatabaseAccess}
+use Rattle.database_desk.specs.DatabaseStages.{DatabaseStage, DumpFiles}
+use Rattle.session_engine.specs.declared.opening.MemberName.{MemberName}
+use Rattle.session_engine.specs.Members.{registrations}
+use Rattle.session_engine.specs.MainSeats.{MainSeen}
+use Rattle.session_setup.specs.Setup.{Declared, nothing_declared}
+use Rattle.session_runs.specs.KeptRuns.{RunsSeen, channels_of}
+use Rattle.session_runs.specs.RunAnswers.{ClockTold}
+
+-- Where a session stands.
+pub record Stage : Type 0 where
+  -- how many events each front-end has to send in the runs that are started from here on
+  pub quota : ℕ
+  -- what is declared, and whether a start opened the session
+  pub declared : Declared
+  -- the online database
+  pub database : DatabaseStage
+  -- the clock
+  pub clock : ClockTold
+  -- what the main thread keeps of the runs of an open session, with its own calls on the engine
+  pub runs : Option RunsSeen
+
+-- a session before its first line
+abbrev pub first_stage : DatabaseAccess → DumpFiles → ClockTold → Stage
+first_stage access files clock = record {
+  quota = 0;
+  declared = nothing_declared;
+  database = record { access = access; files = files; replies = [] };
+  clock = clock;
+  runs = None;
+}
+
+-- the stage of a session that is not open
+abbrev pub unopened_stage : (quota : ℕ) → Declared → DatabaseStage → ClockTold → Stage
+unopened_stage quota declared database clock = record {
+  quota = quota;
+  declared = declared;
+  database = database;
+  clock = clock;
+  runs = None;
+}
+
+-- the stage of an open session
+abbrev pub open_stage : Declared → DatabaseStage → ClockTold → RunsSeen → Stage
+open_stage declared database clock runs = record {
+  quota = runs.quota;
+  declared = declared;
+  database = database;
+  clock = clock;
+  runs = Some runs;
+}
+
+-- with another quota
+abbrev pub runs_with_quota : ℕ → RunsSeen → RunsSeen
+runs_with_quota count runs = record runs { quota = count }
+
+abbrev pub with_quota : ℕ → Stage → Stage
+with_quota count s = record s { quota = count; runs = option_map (runs_with_quota count) s.runs }
+
+-- how the members of a session with these front-ends are registered: the front-ends in order, and then the logger
+abbrev pub members_named : (fronts : List (List ℕ)) → List MemberName
+members_named fronts = map (λ (name : List ℕ). record { name = name; role = FrontEnd }) fronts ++ record { name = logger_name; role = Logger } ∷ []
+
+-- the names of the declared front-ends
+abbrev pub front_names : Declared → List (List ℕ)
+front_names d = map (λ front. front.name) d.fronts
+
+-- what the main thread keeps as a session opens: no run yet, the front-ends and channels as they were declared, and the
+-- engine, on which it registered the members
+abbrev pub opened_runs : (quota : ℕ) → Declared → SharedEngine → RunsSeen
+opened_runs quota d engine = record {
+  quota = quota;
+  runs = [];
+  fronts = front_names d;
+  channels = channels_of d.channels;
+  on = None;
+  main = record { engine = engine; own = registrations 0 (members_named (front_names d)) };
+}
