@@ -1,8 +1,18 @@
-pub mod OpeningLaws
-pub mod SteeringLaws
-pub mod StageLaws
-pub mod FaultLaws
-pub mod CrewLaws
-pub mod KeyLaws
-pub mod DeclaringLaws
-pub mod OpenedLaws
+mod Interrupting
+mod OwnCalls
+mod TransitionLaws
+mod Leading
+mod RunsBroken
+mod Starting
+mod Options
+mod GivenLines
+mod PlayingLaws
+mod PlayingEnds
+mod ClosingLaws
+mod RunLaws
+mod NumberLaws
+mod RunsFiled
+mod Answering
+mod PlayedLaws
+mod FrontLaws
+mod FitLaws

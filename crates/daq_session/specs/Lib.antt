@@ -1,4 +1,14 @@
-pub mod Lasting
-pub mod Keeping
+pub mod FrontSets
+pub mod RunCalls
+pub mod RunTransitions
+pub mod Stages
+pub mod Halts
+pub mod BrokenRuns
+pub mod Standing
+pub mod Playing
 pub mod Endings
-pub mod Environments
+pub mod Played
+pub mod Closing
+pub mod TakenNames
+pub mod RunRecordFits
+pub mod Sessions

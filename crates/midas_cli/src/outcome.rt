@@ -2,7 +2,7 @@ ghost use Rattle.std.specs.Prelude.{◌≡◌};
 ghost use Rattle.midas_cli.specs.Outcomes.{status_of};
 
 use crate::causes::Cause;
-use daq_session::{FileReplies, SessionRecord};
+use daq_session::SessionRecord;
 
 /// What a call of the program came to.
 #[derive(Drop)]
@@ -13,8 +13,6 @@ pub struct Outcome {
     pub cause: Cause,
     /// The record of the session, where a start opened one.
     pub session: Option<SessionRecord>,
-    /// What came of the script's lines that called the files of the database.
-    pub file_replies: FileReplies,
 }
 
 /// The status of a cause.
