@@ -6,7 +6,8 @@ use Rattle.std.specs.Io.KnownBytes.{Appends}
 use Rattle.daq_io.specs.Streams.{AppendsPart}
 use Rattle.daq_io.proofs.StreamsLaws.{Appends-kept}
 use Rattle.odb_script.specs.Lines.{Reading, kept, ReadsLine, ReadsLast, ReadsNone, ReadsTooMuch, ReadsPart}
-use Rattle.odb_script.proofs.ReadLines.{HasReadLines, lines_at_fault, text_within_end, text_within_last}
+use Rattle.odb_script.specs.ReadLines.{HasReadLines}
+use Rattle.odb_script.proofs.ReadLines.{lines_at_fault, text_within_end, text_within_last}
 use Rattle.odb_script.specs.Exits.{GoOn}
 use Rattle.odb_script.proofs.Exits.{stop_at_exit, lines_first, lines_first_line, lines_first_last, lines_at_exit, lines_until_end, lines_until_last, lines_until_limit}
 use Rattle.daq_session.specs.declared.desk.Going.{Going}

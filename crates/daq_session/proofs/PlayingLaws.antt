@@ -31,7 +31,8 @@ use Rattle.daq_session.specs.Stages.{Outset, Stage, opening_stage, DoesByLine, P
 use Rattle.daq_session.specs.RunTransitions.{CallsStand}
 use Rattle.daq_session.specs.Standing.{Course, behind_reply, order_in, stage_of, Handles, IsReady}
 use Rattle.odb_script.specs.Lines.{Reading, no_line_read, ReadsLine}
-use Rattle.odb_script.proofs.ReadLines.{HasReadLines, has_read_none, has_read_line}
+use Rattle.odb_script.specs.ReadLines.{HasReadLines}
+use Rattle.odb_script.proofs.ReadLines.{has_read_none, has_read_line}
 use Rattle.daq_session.specs.declared.desk.Going.TheVariants.{On, Exit}
 use Rattle.odb_tree.specs.Histories.{IsLegal}
 use Rattle.odb_runinfo.specs.RunKeys.{session_rows}

@@ -16,8 +16,6 @@ pub record HasReadLines (first now : Option (List ℕ)) (reading : Reading) (giv
   pub taken : reading.taken ≡ length done
   pub within : length done ≤ script_limit
 
--- A source failed.
-
 -- The text is what was given before that and what is left, and these are the lines that have an end in what was given.
 pub record AreGivenLines (text : List ℕ) (left : Option (List ℕ)) (lines : List (List ℕ)) : Type 0 where
   pub given : List ℕ
