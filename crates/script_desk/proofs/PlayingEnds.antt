@@ -188,7 +188,7 @@ module _ {St : Type 0} (does : ℕ → Read Command → St → Reply → St → 
       → (has : HasLine does breaks first source_first left told_first told_old reading last old was number) → Replied does reading.line (number + 1) reply old new was now → Replied does (kept has.line) (number + 1) reply has.stood new was now
   stood_replied first source_first left told_first told_old reading last old new was now number reply has replied =
       let same : command_of reading.line ≡ command_of has.line =
-          ap command_of (shown_next last has.reading_old reading has.source_old left has.line has.next) ∙ command_of-kept has.line in
+      ap command_of (shown_next last has.reading_old reading has.source_old left has.line has.next) ∙ command_of-kept has.line in
       record {
         answers = subst (λ (c : Read Command). does (number + 1) c has.stood reply new) (sym (command_of-kept has.line))
             (has.answers_so reply new (subst (λ (c : Read Command). does (number + 1) c old reply new) same replied.answers));
@@ -200,7 +200,7 @@ module _ {St : Type 0} (does : ℕ → Read Command → St → Reply → St → 
       → Unanswered does breaks (kept has.line) (number + 1) has.stood new told_old told_new was now
   stood_unanswered first source_first left told_first told_old told_new reading last old new was now number has unanswered =
       let same : command_of reading.line ≡ command_of has.line =
-          ap command_of (shown_next last has.reading_old reading has.source_old left has.line has.next) ∙ command_of-kept has.line in
+      ap command_of (shown_next last has.reading_old reading has.source_old left has.line has.next) ∙ command_of-kept has.line in
       record {
         broke = subst (λ (c : Read Command). breaks (number + 1) c has.stood new) (sym (command_of-kept has.line))
             (has.breaks_so new (subst (λ (c : Read Command). breaks (number + 1) c old new) same unanswered.broke));
@@ -279,7 +279,7 @@ module _ {St : Type 0} (does : ℕ → Read Command → St → Reply → St → 
       → HasLine does breaks first source_first source_new told_first told_new reading_new last_new new now number_new
   goes_next leaves last last_new first source_first source_old source_new told_first told_old told_new reading_old reading_mid reading_new old new was mid now number_old number_mid number_new has line_does same_reading is_mid reads is_number is_refusals =
       let between : IsBetween does first source_first source_old told_first told_new reading_old new mid (number_old + 1) =
-          goes_on_at leaves last first source_first source_old told_first told_old told_new reading_old old new was mid number_old has line_does in
+      goes_on_at leaves last first source_first source_old told_first told_old told_new reading_old old new was mid number_old has line_does in
       let moved : IsBetween does first source_first source_old told_first told_new reading_mid new now number_new = rw (same_reading, is_refusals, is_number, is_mid) between in
       line_behind last_new first source_first source_old source_new told_first told_new reading_mid reading_new new now number_new moved reads
 
@@ -290,7 +290,7 @@ module _ {St : Type 0} (does : ℕ → Read Command → St → Reply → St → 
       → Played does breaks first ending source_first source_new told_first told_new new now
   ends_next leaves ending last last_new first source_first source_old source_new told_first told_old told_new reading_old reading_mid reading_new old new was mid now number_old has line_does same_reading reads is_refusals =
       let between : IsBetween does first source_first source_old told_first told_new reading_old new mid (number_old + 1) =
-          goes_on_at leaves last first source_first source_old told_first told_old told_new reading_old old new was mid number_old has line_does in
+      goes_on_at leaves last first source_first source_old told_first told_old told_new reading_old old new was mid number_old has line_does in
       let moved : IsBetween does first source_first source_old told_first told_new reading_mid new now (number_old + 1) = rw (same_reading, is_refusals) between in
       ended_played ending last_new first source_first source_old source_new told_first told_new reading_mid reading_new new now (number_old + 1) moved reads
 

@@ -13,6 +13,7 @@ use std::sync::Wait;
 pub trait Answerer {
     // Where it stands between two lines.
     ghost Stage: { Type 0 };
+
     ghost stage: { Self → Stage };
 
     // The lines that it leaves to another.
@@ -20,10 +21,12 @@ pub trait Answerer {
 
     // What the line of this number does, with its reply; and what is done of it where there was no memory.
     ghost does: { ℕ → Read Command → Stage → Reply → Stage → Type 0 };
+
     ghost breaks: { ℕ → Read Command → Stage → Stage → Type 0 };
 
     // What is done behind all lines, with the reply of that, if anything is; and what of that where there was no memory.
     ghost closes: { Stage → Option Reply → Stage → Type 0 };
+
     ghost gives_up: { Stage → Stage → Type 0 };
 
     // What stays, whatever lines are answered.

@@ -40,13 +40,7 @@ fn going_behind(command: &Result<Command<'_>, LineRefusal>, last: bool) -> Going
 {
     match command {
         Ok(Command::Exit) => Going::End,
-        _ => {
-            if last {
-                Going::End
-            } else {
-                Going::On
-            }
-        }
+        _ => { if last { Going::End } else { Going::On } }
     }
 }
 

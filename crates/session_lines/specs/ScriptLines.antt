@@ -13,7 +13,6 @@ use Rattle.session_lines.specs.SetupReplies.{DeclaresBuffer, DeclaresFront, Decl
 use Rattle.database_desk.specs.DatabaseLines.{BreaksDatabase, DoesDatabase, calls_objects}
 use Rattle.session_lines.specs.RunLines.{BreaksStart, BreaksStop, ClosesRun, DoesPause, DoesResume, DoesStart, DoesStop, runs_on}
 
-
 -- a line that declares something
 abbrev pub SetsUp : (Declares : Declared → Reply → Declared → Type 0) → (old : Stage) → Reply → (new : Stage) → Type 0
 SetsUp Declares old reply new = Declares old.declared reply new.declared × (new ≡ record old { declared = new.declared })
