@@ -15,7 +15,6 @@ use Rattle.buffer_core.specs.Runs.{KeepsRuns}
 use Rattle.buffer_lock.specs.SharedBuffers.{lock_of}
 use Rattle.transitions.specs.EngineHistories.{IsLegalEngine, engine_replay}
 use Rattle.transition_lock.specs.SharedEngines.{engine_lock_of, first_engine}
-use Rattle.odb_tree.specs.Rows.{Rows}
 use Rattle.odb_watch.specs.Steps.{LeadsDatabase}
 use Rattle.odb_lock.specs.declared.shared.SharedOdb.{SharedOdb}
 use Rattle.odb_lock.specs.SharedOdbs.{odb_lock_of, first_database}
@@ -43,8 +42,8 @@ pub record HoldsAllOf {M D E : Type 0} {g : _} (passes : List (Pass M D E g)) (c
 
 -- The passes of these objects are here but those with these numbers, and each tells of its caller what stands in these
 -- calls.
-pub record HasCallsBut (out : OutNumbers) (fronts : List FrontDeclared) (calls : SessionCalls) (objects : SessionObjects)
-    (shared : SharedOdb Rows) (passes : SessionPasses) : Type 0 where
+pub record HasCallsBut {D : Type 0} {g : _} (out : OutNumbers) (fronts : List FrontDeclared) (calls : SessionCalls) (objects : SessionObjects)
+    (shared : SharedOdb D) (passes : SessionPasses D g) : Type 0 where
   pub engine : KeepsPasses (told_of_engine calls) out.engine (engine_lock_of objects.engine) passes.engine
   pub many : length passes.buffers.items ≡ length objects.buffers.items
   pub buffers : (number : ℕ) → (buffer : SessionBuffer) → (roster : _) →
@@ -56,7 +55,7 @@ pub record HasCallsBut (out : OutNumbers) (fronts : List FrontDeclared) (calls :
 abbrev pub none_out : OutNumbers
 none_out = record { engine = []; buffers = λ number. []; database = [] }
 
-abbrev pub HasCalls : List FrontDeclared → SessionCalls → SessionObjects → SharedOdb Rows → SessionPasses → Type 0
+abbrev pub HasCalls : {D : Type 0} {g : _} → List FrontDeclared → SessionCalls → SessionObjects → SharedOdb D → SessionPasses D g → Type 0
 HasCalls fronts calls objects shared passes = HasCallsBut none_out fronts calls objects shared passes
 
 -- The record of a buffer: its history is legal from the buffer as it opened, and led to what the buffer was left as; each
@@ -71,7 +70,7 @@ pub record IsRecordOf (buffer : SessionBuffer) (r : BufferRecord) : Type 0 where
 
 -- The record of a session: the histories of its buffers, of its engine and of its database, each legal from the object as
 -- it was shared.
-pub record HoldsHistories (objects : SessionObjects) (shared : SharedOdb Rows) (r : SessionRecord) : Type 0 where
+pub record HoldsHistories {D : Type 0} {g : _} (objects : SessionObjects) (shared : SharedOdb D) (r : SessionRecord D g) : Type 0 where
   pub many : length r.buffers ≡ length objects.buffers.items
   pub buffers : (number : ℕ) → (buffer : SessionBuffer) → (closed : BufferRecord) →
       slice_get objects.buffers.items number ≡ Some buffer → slice_get r.buffers number ≡ Some closed →
@@ -81,8 +80,8 @@ pub record HoldsHistories (objects : SessionObjects) (shared : SharedOdb Rows) (
   pub database : LeadsDatabase (first_database shared) (history_of r.database) r.database.value.database
 
 -- Each history of the record holds the calls of its callers, and no others.
-pub record HoldsCalls (fronts : List FrontDeclared) (calls : SessionCalls) (objects : SessionObjects)
-    (shared : SharedOdb Rows) (r : SessionRecord) : Type 0 where
+pub record HoldsCalls {D : Type 0} {g : _} (fronts : List FrontDeclared) (calls : SessionCalls) (objects : SessionObjects)
+    (shared : SharedOdb D) (r : SessionRecord D g) : Type 0 where
   pub engine : HoldsParts (told_of_engine calls) (passes_of (engine_lock_of objects.engine)) (history_of r.engine)
   pub buffers : (number : ℕ) → (buffer : SessionBuffer) → (closed : BufferRecord) →
       slice_get objects.buffers.items number ≡ Some buffer → slice_get r.buffers number ≡ Some closed →
