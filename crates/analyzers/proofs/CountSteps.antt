@@ -18,7 +18,7 @@ use Rattle.analyzers.specs.declared.analyzer_run.AnalyzerRun.{AnalyzerRun}
 use Rattle.analyzers.specs.AnalyzerPulls.{CountsOwn, CountsReply}
 use Rattle.member_model.specs.GotRuns.{events_of_start}
 use Rattle.member_model.proofs.GotRunLaws.{events_of_start-append}
-use Rattle.analyzers.specs.CountedRuns.{CountRequest, IsCounted, IsWhollyCounted}
+use Rattle.analyzers.specs.CountedRuns.{CountRequest, IsCounted, IsWhollyCounted, requests_made}
 use Rattle.analyzers.specs.AnalyzerKept.{AsksForNone, count_request}
 use Rattle.analyzers.proofs.OwnCallSteps.{none_left, calls_after-append, given_by_reply}
 
@@ -40,9 +40,9 @@ one_event client start place s e b is = elim (eqb_tells client client) as (λ w.
 
 -- a request that is made when the client has none
 pub count_made : (own : List BufferEntry) (got : List GotEvent) (wanted : EventRequest) (client number start : ℕ) → AsksForNone (Some client) own
-    → IsCounted (own ++ Request client wanted.id wanted.mask wanted.kind (Ok number) ∷ []) got (count_request wanted client number start) [] []
+    → IsCounted (own ++ Request client wanted.id wanted.mask wanted.kind (Ok number) ∷ []) got (count_request wanted client number start (requests_made own)) [] []
 count_made own got wanted client number start alone = record {
-  asked = record { before = own; whole = refl; alone = alone };
+  asked = record { before = own; whole = refl; alone = alone; requests = refl };
   asks_on = tt;
   earlier = got;
   given = [];
@@ -60,6 +60,7 @@ count_push own got q calls events e gs counted leaves named = record {
     whole = ap (λ (es : List BufferEntry). es ++ e ∷ []) counted.asked.whole
         ∙ append_assoc counted.asked.before (Request q.client q.wanted.id q.wanted.mask q.wanted.kind (Ok q.number) ∷ calls) (e ∷ []);
     alone = counted.asked.alone;
+    requests = counted.asked.requests;
   };
   asks_on = KeepsAsking-push q.client calls e counted.asks_on leaves;
   earlier = counted.earlier;

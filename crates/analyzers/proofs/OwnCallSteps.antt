@@ -1,6 +1,6 @@
 -- One call more among an analyzer's own calls.
-use Rattle.std.specs.Prelude.{◌≡◌, ℕ, true, false, List, [], ◌∷◌, ◌++◌, map, Result, Ok, Err, refl, ⊤}
-use Rattle.std.proofs.Common.{ap, sym, subst, ◌∙◌, inl, inr}
+use Rattle.std.specs.Prelude.{◌≡◌, ℕ, ◌+◌, true, false, List, [], ◌∷◌, ◌++◌, map, Result, Ok, Err, refl, ⊤}
+use Rattle.std.proofs.Common.{ap, sym, subst, ◌∙◌, inl, inr, arith}
 use Rattle.std.proofs.lemmas.Bool.Decides.{eqb_tells}
 use Rattle.std.proofs.lemmas.List.{append-nil}
 use Rattle.daq_types.specs.declared.events.Event.{Event}
@@ -14,6 +14,7 @@ use Rattle.buffer_core.specs.Ports.{GotEvent, name_of, name_given, got_after}
 use Rattle.member_model.proofs.SentLaws.{EachCall-push}
 use Rattle.member_model.specs.OwnCalls.{calls_after, gave_number, IsOwnCall, AreOwnCalls, asks, LeavesAsking, KeepsAsking}
 use Rattle.member_model.proofs.ReadLaws.{calls_after-push}
+use Rattle.analyzers.specs.CountedRuns.{requests_by, requests_made}
 use Rattle.analyzers.specs.AnalyzerKept.{IsReaderCall, KeepsReaderCalls}
 
 pub reader_push : (own : List BufferEntry) (e : BufferEntry) → KeepsReaderCalls own → IsReaderCall e → IsOwnCall e (calls_after [] own) → KeepsReaderCalls (own ++ e ∷ [])
@@ -21,6 +22,16 @@ reader_push own e keeps reads is_own = record {
   only_reads = EachCall-push IsReaderCall own e keeps.only_reads reads;
   own_calls = subst (λ (es : List BufferEntry). AreOwnCalls es) (sym (calls_after-push [] own e)) (is_own, keeps.own_calls);
 }
+
+-- Requests.
+
+pub requests-push : (own : List BufferEntry) (e : BufferEntry) → requests_made (own ++ e ∷ []) ≡ requests_made own + requests_by e
+requests-push [] e = omega arith
+requests-push (x ∷ own) e = omega (arith, requests-push own e)
+
+-- a call that makes none
+pub requests_stay : (own : List BufferEntry) (e : BufferEntry) (starts : ℕ) → requests_by e ≡ 0 → requests_made own ≡ starts → requests_made (own ++ e ∷ []) ≡ starts
+requests_stay own e starts none is = omega (arith, requests-push own e, none, is)
 
 -- Clients.
 

@@ -1,6 +1,6 @@
 -- What an analyzer keeps when it pulls and when it finishes.
 use Rattle.std.specs.Prelude.{◌≡◌, ◌≢◌, ℕ, Bool, true, false, List, [], ◌∷◌, ◌++◌, Option, Some, None, refl}
-use Rattle.std.proofs.Common.{ap, sym, subst, ◌∙◌, inl, inr, append_assoc}
+use Rattle.std.proofs.Common.{ap, sym, subst, ◌∙◌, inl, inr, arith, append_assoc}
 use Rattle.std.proofs.lemmas.Bool.{leb-true}
 use Rattle.daq_types.specs.declared.events.Event.{Event}
 use Rattle.daq_types.specs.declared.runs.Order.{Order}
@@ -25,9 +25,9 @@ use Rattle.analyzers.specs.Analyzers.{AnalyzerAt, run_at, CancelsRun}
 use Rattle.analyzers.specs.AnalyzerTurns.{analyzer_turn, report_in, report_answer, run_reported}
 use Rattle.analyzers.specs.AnalyzerPulls.{ReceivesFor, EndsReading, CountsOnce, CountsIn, PullsBy, drains_by, ends_by}
 use Rattle.member_model.specs.GotRuns.{events_of_start}
-use Rattle.analyzers.specs.CountedRuns.{CountRequest, IsCounted, IsWhollyCounted}
-use Rattle.analyzers.specs.AnalyzerKept.{KeepsReaderCalls, HasOwnClient, AsksForNone, IsReportOfRun, ReportsHold, IsStopOpen, StageCounts, CountsRun, AnalyzerStands, count_request}
-use Rattle.analyzers.proofs.OwnCallSteps.{reader_push, client_stays, given_by_reply, got_after_is, given_named}
+use Rattle.analyzers.specs.CountedRuns.{CountRequest, IsCounted, IsWhollyCounted, requests_made}
+use Rattle.analyzers.specs.AnalyzerKept.{KeepsReaderCalls, HasOwnClient, AsksForNone, starts_accepted, HasTurnBehind, IsReportOfRun, ReportsHold, IsStopOpen, StageCounts, CountsRun, AnalyzerStands, count_request}
+use Rattle.analyzers.proofs.OwnCallSteps.{reader_push, requests_stay, client_stays, given_by_reply, got_after_is, given_named}
 use Rattle.analyzers.proofs.CountSteps.{CountsGiven, given_counted, count_push, cancelled_asks_none, wholly_counted}
 use Rattle.analyzers.proofs.ReportSteps.{reports_calls, report_turns}
 use Rattle.analyzers.proofs.TurnSteps.{StandsBy, run_client, reports_quiet}
@@ -43,32 +43,38 @@ record ReceivedFor (wanted : EventRequest) (client : Option ℕ) (r counted : An
   pub events : List Event
   pub own_calls : KeepsReaderCalls own
   pub gave : HasOwnClient (Some r.client) own
+  pub once : requests_made own ≡ starts_accepted turns
   pub reports : ReportsHold wanted own got turns
   pub client_is : client ≡ Some r.client
   pub begin_turn : MemberTurn
   pub is_start : HasTurnOf turns Start r.start begin_turn
   pub accepted : begin_turn.answer ≡ Some (Yes Plain)
+  pub earlier : ℕ
+  pub of_start : HasTurnBehind turns begin_turn earlier
   pub run_is : CountsGiven r counted events
-  pub counts : IsCounted own got (count_request wanted r.client r.request r.start) calls events
+  pub counts : IsCounted own got (count_request wanted r.client r.request r.start earlier) calls events
 
 receive_lists : (wanted : EventRequest) (client : Option ℕ) (r counted : AnalyzerRun) (room : ℕ) (a b : Access) (turns : List MemberTurn) (reply : Received) (calls : List BufferEntry) → (stands : StandsBy wanted client (Some r) a turns) → (on : CountsRun wanted client r a.own a.got turns)
-    → IsCounted a.own a.got (count_request wanted r.client r.request r.start) calls on.events → ReceivesFor r counted room a b reply
+    → IsCounted a.own a.got (count_request wanted r.client r.request r.start on.earlier) calls on.events → ReceivesFor r counted room a b reply
     → ReceivedFor wanted client r counted b.own b.got turns (calls ++ Receive r.client room reply ∷ [])
 receive_lists wanted client r counted room a b turns reply calls stands on counts receives =
     let call : BufferEntry = Receive r.client room reply in
     let given : List GotEvent = given_by_reply r.client reply receives.event in
-    let q : CountRequest = count_request wanted r.client r.request r.start in
+    let q : CountRequest = count_request wanted r.client r.request r.start on.earlier in
     let gave : HasOwnClient (Some r.client) a.own = run_client wanted client r a.own a.got turns stands in
     let got_is : b.got ≡ a.got ++ given = receives.received.got_is ∙ got_after_is a.got r.client reply receives.event in
     let now : ReceivedFor wanted client r counted (a.own ++ call ∷ []) (a.got ++ given) turns (calls ++ call ∷ []) = record {
       events = on.events ++ events_of_start r.client r.start given;
       own_calls = reader_push a.own call stands.calls tt gave;
       gave = client_stays a.own call r.client gave;
+      once = requests_stay a.own call (starts_accepted turns) refl stands.once;
       reports = reports_calls wanted a.own a.got turns (call ∷ []) given stands.reports;
       client_is = on.client_is;
       begin_turn = on.begin_turn;
       is_start = on.is_start;
       accepted = on.accepted;
+      earlier = on.earlier;
+      of_start = on.of_start;
       run_is = given_counted r counted reply receives.event on.events receives.counts on.report_is;
       counts = count_push a.own a.got q calls on.events call given counts (leaves_receive r.client room reply) (given_named r.client room reply receives.event);
     } in
@@ -76,16 +82,19 @@ receive_lists wanted client r counted room a b turns reply calls stands on count
 
 -- the client reads on
 reads_on : (stage : AnalyzerStage) (wanted : EventRequest) (client : Option ℕ) (r counted : AnalyzerRun) (own : List BufferEntry) (got : List GotEvent) (turns : List MemberTurn) (calls : List BufferEntry) → r.stage ≡ stage
-    → (at : ReceivedFor wanted client r counted own got turns calls) → StageCounts stage own got turns (count_request wanted r.client r.request r.start) at.events → AnalyzerStands wanted client (Some counted) own got turns
+    → (at : ReceivedFor wanted client r counted own got turns calls) → StageCounts stage own got turns (count_request wanted r.client r.request r.start at.earlier) at.events → AnalyzerStands wanted client (Some counted) own got turns
 reads_on stage wanted client r counted own got turns calls is at counts = record {
   calls = at.own_calls;
   own_client = subst (λ (c : Option ℕ). HasOwnClient c own) (sym at.client_is) at.gave;
+  once = at.once;
   reports = at.reports;
   counts = record {
     client_is = rw at.run_is.client at.client_is;
     begin_turn = at.begin_turn;
     is_start = rw at.run_is.start at.is_start;
     accepted = at.accepted;
+    earlier = at.earlier;
+    of_start = at.of_start;
     events = at.events;
     report_is = at.run_is.report_is;
     stage_is = rw (at.run_is.start, at.run_is.client, at.run_is.request, at.run_is.stage, is) counts;
@@ -97,7 +106,7 @@ reads_no_more : (wanted : EventRequest) (client : Option ℕ) (r counted : Analy
     → ReceivedFor wanted client r counted a.own a.got turns (reading ++ Accepted accepted ∷ (draining ++ Receive r.client room reply ∷ [])) → CancelsRun counted a b
     → StandsBy wanted client (Some (run_at Drained counted)) b turns
 reads_no_more wanted client r counted a b turns room accepted reply reading draining stop drains at cancels =
-    let q : CountRequest = count_request wanted r.client r.request r.start in
+    let q : CountRequest = count_request wanted r.client r.request r.start at.earlier in
     let cancel : BufferEntry = Cancel r.client r.request cancels.0 in
     let cancel_is : Cancel counted.client counted.request cancels.0 ≡ cancel = rw (at.run_is.client, at.run_is.request) refl in
     let own_is : b.own ≡ a.own ++ cancel ∷ [] = cancels.1.own ∙ ap (λ (e : BufferEntry). a.own ++ e ∷ []) cancel_is in
@@ -107,12 +116,15 @@ reads_no_more wanted client r counted a b turns room accepted reply reading drai
     let now : AnalyzerStands wanted client (Some (run_at Drained counted)) (a.own ++ cancel ∷ []) a.got turns = record {
       calls = reader_push a.own cancel at.own_calls tt at.gave;
       own_client = subst (λ (c : Option ℕ). HasOwnClient c (a.own ++ cancel ∷ [])) (sym at.client_is) (client_stays a.own cancel r.client at.gave);
+      once = requests_stay a.own cancel (starts_accepted turns) refl at.once;
       reports = reports_quiet wanted a.own a.got turns cancel at.reports;
       counts = record {
         client_is = rw at.run_is.client at.client_is;
         begin_turn = at.begin_turn;
         is_start = rw at.run_is.start at.is_start;
         accepted = at.accepted;
+        earlier = at.earlier;
+        of_start = at.of_start;
         events = at.events;
         report_is = at.run_is.report_is;
         stage_is = rw (at.run_is.start, at.run_is.client, at.run_is.request) (stop, none, whole);
@@ -129,7 +141,7 @@ has_drained accepted (SmallBuf need) e = absurd (cc (e))
 -- One pull of a run that is read.
 
 counting_kept : (wanted : EventRequest) (client : Option ℕ) (r : AnalyzerRun) (room : ℕ) (port : Access) (b : AnalyzerAt) (answer : AnalyzerPull) (turns : List MemberTurn) → r.stage ≡ Counting → (on : CountsRun wanted client r port.own port.got turns)
-    → StageCounts Counting port.own port.got turns (count_request wanted r.client r.request r.start) on.events → CountsOnce r room (record { client = client; run = Some r; port = port }) b answer → StandsBy wanted client (Some r) port turns
+    → StageCounts Counting port.own port.got turns (count_request wanted r.client r.request r.start on.earlier) on.events → CountsOnce r room (record { client = client; run = Some r; port = port }) b answer → StandsBy wanted client (Some r) port turns
     → StandsBy wanted b.client b.run b.port turns
 counting_kept wanted client r room port b answer turns is on counts once stands =
     let calls : List BufferEntry = counts.1.0 in
@@ -155,7 +167,7 @@ received_calls : (wanted : EventRequest) (client : Option ℕ) (r counted : Anal
 received_calls wanted client r counted own got turns calls same is at = subst (λ (es : List BufferEntry). ReceivedFor wanted client r counted own got turns es) is at
 
 draining_kept : (wanted : EventRequest) (client : Option ℕ) (r : AnalyzerRun) (room accepted : ℕ) (port : Access) (b : AnalyzerAt) (answer : AnalyzerPull) (turns : List MemberTurn) → r.stage ≡ Draining accepted → (on : CountsRun wanted client r port.own port.got turns)
-    → StageCounts (Draining accepted) port.own port.got turns (count_request wanted r.client r.request r.start) on.events → CountsOnce r room (record { client = client; run = Some r; port = port }) b answer → StandsBy wanted client (Some r) port turns
+    → StageCounts (Draining accepted) port.own port.got turns (count_request wanted r.client r.request r.start on.earlier) on.events → CountsOnce r room (record { client = client; run = Some r; port = port }) b answer → StandsBy wanted client (Some r) port turns
     → StandsBy wanted b.client b.run b.port turns
 draining_kept wanted client r room accepted port b answer turns is on counts once stands =
     let reading : List BufferEntry = counts.1.0 in
@@ -169,7 +181,7 @@ draining_kept wanted client r room accepted port b answer turns is on counts onc
     ends
 
 pull_stage : (stage : AnalyzerStage) (wanted : EventRequest) (client : Option ℕ) (r : AnalyzerRun) (room : ℕ) (port : Access) (b : AnalyzerAt) (answer : AnalyzerPull) (turns : List MemberTurn) → r.stage ≡ stage → (on : CountsRun wanted client r port.own port.got turns)
-    → StageCounts stage port.own port.got turns (count_request wanted r.client r.request r.start) on.events → CountsIn stage r room (record { client = client; run = Some r; port = port }) b answer → StandsBy wanted client (Some r) port turns
+    → StageCounts stage port.own port.got turns (count_request wanted r.client r.request r.start on.earlier) on.events → CountsIn stage r room (record { client = client; run = Some r; port = port }) b answer → StandsBy wanted client (Some r) port turns
     → StandsBy wanted b.client b.run b.port turns
 pull_stage Counting wanted client r room port b answer turns is on counts pulls stands = counting_kept wanted client r room port b answer turns is on counts pulls stands
 pull_stage (Draining accepted) wanted client r room port b answer turns is on counts pulls stands = draining_kept wanted client r room accepted port b answer turns is on counts pulls stands
@@ -190,20 +202,35 @@ across before t earlier start u other of =
     let old : HasTurnOf earlier Start start u = HasTurnOf-earlier of other in
     record { stands = inr old.stands; is = old.is; of = old.of }
 
-reported : (dump : Option (List ℕ)) (wanted : EventRequest) (client : Option ℕ) (r : AnalyzerRun) (own : List BufferEntry) (got : List GotEvent) (order : Order) (earlier : List MemberTurn) (events : List Event) → order.start ≡ r.start
-    → AsksForNone (Some r.client) own → IsWhollyCounted own got (count_request wanted r.client r.request r.start) events → r.report ≡ report_of events → AnalyzerStands wanted client (Some r) own got (analyzer_turn dump Stop order None ∷ earlier)
+across_behind : (before t : MemberTurn) (earlier : List MemberTurn) (u : MemberTurn) (starts : ℕ) → before.transition ≢ Start → u.transition ≡ Start → HasTurnBehind (before ∷ earlier) u starts → HasTurnBehind (t ∷ earlier) u starts
+across_behind before t earlier u starts other is has = elim has as (λ w. HasTurnBehind (t ∷ earlier) u starts) [
+  | inl here ↦ absurd (other (ap (λ (v : MemberTurn). v.transition) here.0 ∙ is))
+  | inr old ↦ inr old
+]
+
+-- the start of the run, with how many were accepted before it
+record BeganBehind (turns : List MemberTurn) (start starts : ℕ) : Type 0 where
+  begin_turn : MemberTurn
+  is_start : HasTurnOf turns Start start begin_turn
+  accepted : begin_turn.answer ≡ Some (Yes Plain)
+  of_start : HasTurnBehind turns begin_turn starts
+
+reported : (dump : Option (List ℕ)) (wanted : EventRequest) (client : Option ℕ) (r : AnalyzerRun) (own : List BufferEntry) (got : List GotEvent) (order : Order) (earlier : List MemberTurn) (requests : ℕ) (events : List Event) → BeganBehind (analyzer_turn dump Stop order None ∷ earlier) r.start requests → order.start ≡ r.start
+    → AsksForNone (Some r.client) own → IsWhollyCounted own got (count_request wanted r.client r.request r.start requests) events → r.report ≡ report_of events → AnalyzerStands wanted client (Some r) own got (analyzer_turn dump Stop order None ∷ earlier)
     → AnalyzerStands wanted client None own got (analyzer_turn dump Stop order (Some (Yes (Report r.report))) ∷ earlier)
-reported dump wanted client r own got order earlier events same none whole report stands =
+reported dump wanted client r own got order earlier requests events began same none whole report stands =
     let before : MemberTurn = analyzer_turn dump Stop order None in
     let t : MemberTurn = analyzer_turn dump Stop order (Some (Yes (Report r.report))) in
     let on : CountsRun wanted client r own got (before ∷ earlier) = stands.counts in
     let other : before.transition ≢ Start = λ (e : Stop ≡ Start). cc (e) in
     let mine : IsReportOfRun wanted own got (t ∷ earlier) r.start r.report = record {
-      begin_turn = on.begin_turn;
-      is_start = across before t earlier r.start on.begin_turn other on.is_start;
-      accepted = on.accepted;
+      begin_turn = began.begin_turn;
+      is_start = across before t earlier r.start began.begin_turn other began.is_start;
+      accepted = began.accepted;
       client = r.client;
       number = r.request;
+      earlier = requests;
+      of_start = across_behind before t earlier began.begin_turn requests other began.is_start.is began.of_start;
       events = events;
       counted = whole;
       report_is = report;
@@ -211,6 +238,7 @@ reported dump wanted client r own got order earlier events same none whole repor
     record {
       calls = stands.calls;
       own_client = stands.own_client;
+      once = omega (arith, stands.once);
       reports = λ u told here is. elim here as (λ w. (u.transition ≡ Stop) × IsReportOfRun wanted own got (t ∷ earlier) u.order.start told) [
         | inl same_turn ↦
             let tells : Some (Yes (Report r.report)) ≡ Some (Yes (Report told)) = ap (λ (v : MemberTurn). v.answer) same_turn ∙ is in
@@ -221,19 +249,19 @@ reported dump wanted client r own got order earlier events same none whole repor
             )
         | inr old ↦
             let held = stands.reports u told (inr old) is in
-            (held.0, report_turns wanted own got (before ∷ earlier) (t ∷ earlier) u.order.start told (λ v has. across before t earlier u.order.start v other has) held.1)
+            (held.0, report_turns wanted own got (before ∷ earlier) (t ∷ earlier) u.order.start told (λ v has. across before t earlier u.order.start v other has) (λ v starts is_start has. across_behind before t earlier v starts other is_start has) held.1)
       ];
       counts = (tt, subst (λ (c : Option ℕ). AsksForNone c own) (sym on.client_is) none);
     }
 
-finish_stage : (stage : AnalyzerStage) (wanted : EventRequest) (client : Option ℕ) (r : AnalyzerRun) (own : List BufferEntry) (got : List GotEvent) (turns : List MemberTurn) (events : List Event) → StageCounts stage own got turns (count_request wanted r.client r.request r.start) events
+finish_stage : (stage : AnalyzerStage) (wanted : EventRequest) (client : Option ℕ) (r : AnalyzerRun) (own : List BufferEntry) (got : List GotEvent) (turns : List MemberTurn) (requests : ℕ) (events : List Event) → BeganBehind turns r.start requests → StageCounts stage own got turns (count_request wanted r.client r.request r.start requests) events
     → r.report ≡ report_of events → AnalyzerStands wanted client (Some r) own got turns → AnalyzerStands wanted client (run_reported (Some r) (report_in stage r.report)) own got (latest_answered turns (report_in stage r.report))
-finish_stage Counting wanted client r own got turns events counts report stands = stands
-finish_stage (Draining accepted) wanted client r own got turns events counts report stands = stands
-finish_stage Drained wanted client r own got turns events counts report stands =
+finish_stage Counting wanted client r own got turns requests events began counts report stands = stands
+finish_stage (Draining accepted) wanted client r own got turns requests events began counts report stands = stands
+finish_stage Drained wanted client r own got turns requests events began counts report stands =
     let stop : IsStopOpen r.start turns = counts.0 in
     subst (λ (ts : List MemberTurn). AnalyzerStands wanted client None own got (latest_answered ts (Some (Yes (Report r.report))))) (sym stop.latest)
-    (reported stop.dump wanted client r own got stop.order stop.earlier events stop.of counts.1 counts.2 report (subst (λ (ts : List MemberTurn). AnalyzerStands wanted client (Some r) own got ts) stop.latest stands))
+    (reported stop.dump wanted client r own got stop.order stop.earlier requests events (subst (λ (ts : List MemberTurn). BeganBehind ts r.start requests) stop.latest began) stop.of counts.1 counts.2 report (subst (λ (ts : List MemberTurn). AnalyzerStands wanted client (Some r) own got ts) stop.latest stands))
 
 -- what holds before a finish holds behind it, with the answer of the stop that waited
 pub finish_kept : (wanted : EventRequest) (client : Option ℕ) (run : Option AnalyzerRun) (own : List BufferEntry) (got : List GotEvent) (turns : List MemberTurn) → AnalyzerStands wanted client run own got turns
@@ -241,4 +269,5 @@ pub finish_kept : (wanted : EventRequest) (client : Option ℕ) (run : Option An
 finish_kept wanted client None own got turns stands = stands
 finish_kept wanted client (Some r) own got turns stands =
     let on : CountsRun wanted client r own got turns = stands.counts in
-    finish_stage r.stage wanted client r own got turns on.events on.stage_is on.report_is stands
+    finish_stage r.stage wanted client r own got turns on.earlier on.events
+    (record { begin_turn = on.begin_turn; is_start = on.is_start; accepted = on.accepted; of_start = on.of_start }) on.stage_is on.report_is stands

@@ -1,6 +1,6 @@
 -- The reports among more calls and more turns.
 use Rattle.std.specs.Prelude.{◌≡◌, ◌≢◌, ℕ, List, ◌∷◌, ◌++◌, Option, Some, None}
-use Rattle.std.proofs.Common.{ap, subst, ◌∙◌, inl, inr}
+use Rattle.std.proofs.Common.{ap, subst, ◌∙◌, inl, inr, arith}
 use Rattle.daq_types.specs.declared.events.Event.{Event}
 use Rattle.daq_types.specs.declared.runs.Transition.TheVariants.{Start, Stop}
 use Rattle.buffer_core.specs.declared.entry.BufferEntry.{BufferEntry}
@@ -15,7 +15,7 @@ use Rattle.analyzers.specs.declared.analyzer_run.AnalyzerRun.{AnalyzerRun}
 use Rattle.analyzers.specs.declared.analyzer_run.AnalyzerStage.{AnalyzerStage}
 use Rattle.analyzers.specs.declared.analyzer_run.AnalyzerStage.TheVariants.{Counting, Draining, Drained}
 use Rattle.analyzers.specs.CountedRuns.{CountRequest}
-use Rattle.analyzers.specs.AnalyzerKept.{IsReportOfRun, ReportsHold, IsStopOpen, StageCounts, RunCounts, AnalyzerStands, count_request}
+use Rattle.analyzers.specs.AnalyzerKept.{accepted_by, HasTurnBehind, IsReportOfRun, ReportsHold, IsStopOpen, StageCounts, RunCounts, AnalyzerStands, count_request}
 use Rattle.analyzers.proofs.CountSteps.{wholly_push}
 
 -- one report
@@ -28,19 +28,24 @@ report_calls wanted own got turns start report more gs is = record {
   accepted = is.accepted;
   client = is.client;
   number = is.number;
+  earlier = is.earlier;
+  of_start = is.of_start;
   events = is.events;
-  counted = wholly_push own got (count_request wanted is.client is.number start) is.events more gs is.counted;
+  counted = wholly_push own got (count_request wanted is.client is.number start is.earlier) is.events more gs is.counted;
   report_is = is.report_is;
 }
 
 pub report_turns : (wanted : EventRequest) (own : List BufferEntry) (got : List GotEvent) (turns later : List MemberTurn) (start : ℕ) (report : Totals) → ((t : MemberTurn) → HasTurnOf turns Start start t → HasTurnOf later Start start t)
+    → ((t : MemberTurn) (starts : ℕ) → t.transition ≡ Start → HasTurnBehind turns t starts → HasTurnBehind later t starts)
     → IsReportOfRun wanted own got turns start report → IsReportOfRun wanted own got later start report
-report_turns wanted own got turns later start report more is = record {
+report_turns wanted own got turns later start report more behind is = record {
   begin_turn = is.begin_turn;
   is_start = more is.begin_turn is.is_start;
   accepted = is.accepted;
   client = is.client;
   number = is.number;
+  earlier = is.earlier;
+  of_start = behind is.begin_turn is.earlier is.is_start.is is.of_start;
   events = is.events;
   counted = is.counted;
   report_is = is.report_is;
@@ -58,7 +63,7 @@ reports_more wanted own got turns t other hold = λ u report here is. elim here 
   | inl same ↦ absurd (other report (ap (λ (v : MemberTurn). v.answer) same ∙ is))
   | inr before ↦
       let old = hold u report before is in
-      (old.0, report_turns wanted own got turns (t ∷ turns) u.order.start report (λ v has. HasTurnOf-more t has) old.1)
+      (old.0, report_turns wanted own got turns (t ∷ turns) u.order.start report (λ v has. HasTurnOf-more t has) (λ v starts is_start has. inr has) old.1)
 ]
 
 -- Turns that leave the run.
@@ -81,17 +86,20 @@ run_more wanted client (Some r) own got turns t none answer counts = record {
   begin_turn = counts.begin_turn;
   is_start = HasTurnOf-more t counts.is_start;
   accepted = counts.accepted;
+  earlier = counts.earlier;
+  of_start = inr counts.of_start;
   events = counts.events;
   report_is = counts.report_is;
-  stage_is = stage_more r.stage own got turns t (count_request wanted r.client r.request r.start) counts.events none answer counts.stage_is;
+  stage_is = stage_more r.stage own got turns t (count_request wanted r.client r.request r.start counts.earlier) counts.events none answer counts.stage_is;
 }
 
--- a turn that is answered at once, without a report, and leaves the run
+-- a turn that is answered at once, without a report, and leaves the run; no start that is accepted
 pub plain_more : (wanted : EventRequest) (client : Option ℕ) (run : Option AnalyzerRun) (own : List BufferEntry) (got : List GotEvent) (turns : List MemberTurn) (t : MemberTurn) → NoneOpen turns → HasAnswer t.answer
-    → ((report : Totals) → t.answer ≢ Some (Yes (Report report))) → AnalyzerStands wanted client run own got turns → AnalyzerStands wanted client run own got (t ∷ turns)
-plain_more wanted client run own got turns t none answer other stands = record {
+    → accepted_by t.transition t.answer ≡ 0 → ((report : Totals) → t.answer ≢ Some (Yes (Report report))) → AnalyzerStands wanted client run own got turns → AnalyzerStands wanted client run own got (t ∷ turns)
+plain_more wanted client run own got turns t none answer begins other stands = record {
   calls = stands.calls;
   own_client = stands.own_client;
+  once = omega (arith, stands.once, begins);
   reports = reports_more wanted own got turns t other stands.reports;
   counts = run_more wanted client run own got turns t none answer stands.counts;
 }

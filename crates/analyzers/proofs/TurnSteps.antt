@@ -1,6 +1,6 @@
 -- What an analyzer keeps at a turn and when it finishes.
 use Rattle.std.specs.Prelude.{◌≡◌, ◌≢◌, ℕ, ◌==◌, Bool, true, false, List, [], ◌∷◌, ◌++◌, Option, Some, None, IfSome, Result, Ok, Err, refl, ⊤}
-use Rattle.std.proofs.Common.{sym, subst, inl}
+use Rattle.std.proofs.Common.{sym, subst, arith, inl, inr}
 use Rattle.std.proofs.lemmas.Bool.{eqb-true}
 use Rattle.std.proofs.lemmas.List.{append-nil}
 use Rattle.daq_types.specs.declared.events.Event.{Event}
@@ -26,9 +26,9 @@ use Rattle.analyzers.specs.declared.analyzer_run.AnalyzerStage.{AnalyzerStage}
 use Rattle.analyzers.specs.declared.analyzer_run.AnalyzerStage.TheVariants.{Counting, Draining, Drained}
 use Rattle.analyzers.specs.Analyzers.{AnalyzerAt, run_at}
 use Rattle.analyzers.specs.AnalyzerTurns.{analyzer_turn, analyzer_name, StaysAt, CancelsIn, DropsRun, GetsClient, BeginsBy, RequestsRun, StartsBy, StopsRun, StopsOwn, AnswersStop, TurnsBy, begun_count}
-use Rattle.analyzers.specs.CountedRuns.{CountRequest, IsCounted}
-use Rattle.analyzers.specs.AnalyzerKept.{HasOwnClient, AsksForNone, ReportsHold, StageCounts, CountsRun, AnalyzerStands, count_request}
-use Rattle.analyzers.proofs.OwnCallSteps.{reader_push, client_stays, none_stays, client_given, new_asks_none}
+use Rattle.analyzers.specs.CountedRuns.{CountRequest, IsCounted, requests_made}
+use Rattle.analyzers.specs.AnalyzerKept.{HasOwnClient, AsksForNone, accepted_by, starts_accepted, ReportsHold, StageCounts, CountsRun, AnalyzerStands, count_request}
+use Rattle.analyzers.proofs.OwnCallSteps.{reader_push, requests-push, requests_stay, client_stays, none_stays, client_given, new_asks_none}
 use Rattle.analyzers.proofs.CountSteps.{count_made, count_push, cancelled_asks_none}
 use Rattle.analyzers.proofs.ReportSteps.{reports_calls, reports_more, none_stops, plain_more}
 
@@ -56,31 +56,32 @@ count_quiet own got q calls events e counted leaves none =
 
 -- The run is dropped.
 
-drop_counting : (wanted : EventRequest) (client : Option ℕ) (r : AnalyzerRun) (own : List BufferEntry) (got : List GotEvent) (turns : List MemberTurn) (reply : Result ⊤ RequestRefusal) (calls : List BufferEntry) (events : List Event) → NoneOpen turns
-    → IsCounted own got (count_request wanted r.client r.request r.start) calls events → AnalyzerStands wanted client (Some r) own got turns → AnalyzerStands wanted client None (own ++ Cancel r.client r.request reply ∷ []) got turns
-drop_counting wanted client r own got turns reply calls events none counted stands =
+drop_counting : (wanted : EventRequest) (client : Option ℕ) (r : AnalyzerRun) (own : List BufferEntry) (got : List GotEvent) (turns : List MemberTurn) (reply : Result ⊤ RequestRefusal) (earlier : ℕ) (calls : List BufferEntry) (events : List Event) → NoneOpen turns
+    → IsCounted own got (count_request wanted r.client r.request r.start earlier) calls events → AnalyzerStands wanted client (Some r) own got turns → AnalyzerStands wanted client None (own ++ Cancel r.client r.request reply ∷ []) got turns
+drop_counting wanted client r own got turns reply earlier calls events none counted stands =
     let cancel : BufferEntry = Cancel r.client r.request reply in
     let on : CountsRun wanted client r own got turns = stands.counts in
     let gave : HasOwnClient (Some r.client) own = run_client wanted client r own got turns stands in
     record {
       calls = reader_push own cancel stands.calls tt gave;
       own_client = subst (λ (c : Option ℕ). HasOwnClient c (own ++ cancel ∷ [])) (sym on.client_is) (client_stays own cancel r.client gave);
+      once = requests_stay own cancel (starts_accepted turns) refl stands.once;
       reports = reports_quiet wanted own got turns cancel stands.reports;
-      counts = (none, subst (λ (c : Option ℕ). AsksForNone c (own ++ cancel ∷ [])) (sym on.client_is) (cancelled_asks_none own got (count_request wanted r.client r.request r.start) calls events reply counted));
+      counts = (none, subst (λ (c : Option ℕ). AsksForNone c (own ++ cancel ∷ [])) (sym on.client_is) (cancelled_asks_none own got (count_request wanted r.client r.request r.start earlier) calls events reply counted));
     }
 
-drop_stage : (stage : AnalyzerStage) (wanted : EventRequest) (client : Option ℕ) (r : AnalyzerRun) (a b : Access) (turns : List MemberTurn) (events : List Event) → NoneOpen turns → StageCounts stage a.own a.got turns (count_request wanted r.client r.request r.start) events → CancelsIn stage r a b
+drop_stage : (stage : AnalyzerStage) (wanted : EventRequest) (client : Option ℕ) (r : AnalyzerRun) (a b : Access) (turns : List MemberTurn) (earlier : ℕ) (events : List Event) → NoneOpen turns → StageCounts stage a.own a.got turns (count_request wanted r.client r.request r.start earlier) events → CancelsIn stage r a b
     → StandsBy wanted client (Some r) a turns → StandsBy wanted client None b turns
-drop_stage Counting wanted client r a b turns events none counts cancels stands =
-    rw (cancels.1.own, cancels.1.got_is) (drop_counting wanted client r a.own a.got turns cancels.0 counts.1.0 events none counts.1.1 stands)
-drop_stage (Draining accepted) wanted client r a b turns events none counts cancels stands = absurd (none_stops r.start turns none counts.0)
-drop_stage Drained wanted client r a b turns events none counts cancels stands = absurd (none_stops r.start turns none counts.0)
+drop_stage Counting wanted client r a b turns earlier events none counts cancels stands =
+    rw (cancels.1.own, cancels.1.got_is) (drop_counting wanted client r a.own a.got turns cancels.0 earlier counts.1.0 events none counts.1.1 stands)
+drop_stage (Draining accepted) wanted client r a b turns earlier events none counts cancels stands = absurd (none_stops r.start turns none counts.0)
+drop_stage Drained wanted client r a b turns earlier events none counts cancels stands = absurd (none_stops r.start turns none counts.0)
 
 drop_kept : (wanted : EventRequest) (client : Option ℕ) (run : Option AnalyzerRun) (a b : Access) (turns : List MemberTurn) → NoneOpen turns → DropsRun run a b → StandsBy wanted client run a turns → StandsBy wanted client None b turns
 drop_kept wanted client None a b turns none drops stands = rw drops stands
 drop_kept wanted client (Some r) a b turns none drops stands =
     let on : CountsRun wanted client r a.own a.got turns = stands.counts in
-    drop_stage r.stage wanted client r a b turns on.events none on.stage_is drops stands
+    drop_stage r.stage wanted client r a b turns on.earlier on.events none on.stage_is drops stands
 
 -- A client is attached.
 
@@ -91,6 +92,7 @@ client_kept wanted None (Some n) a b turns gets stands =
     let now : AnalyzerStands wanted (Some n) None (a.own ++ attach ∷ []) a.got turns = record {
       calls = reader_push a.own attach stands.calls tt tt;
       own_client = client_given a.own analyzer_name n;
+      once = requests_stay a.own attach (starts_accepted turns) refl stands.once;
       reports = reports_quiet wanted a.own a.got turns attach stands.reports;
       counts = (stands.counts.0, λ k. new_asks_none a.own analyzer_name n k stands.calls (stands.own_client n));
     } in
@@ -100,6 +102,7 @@ client_kept wanted None None a b turns gets stands =
     let now : AnalyzerStands wanted None None (a.own ++ attach ∷ []) a.got turns = record {
       calls = reader_push a.own attach stands.calls tt tt;
       own_client = none_stays a.own attach (λ past n. refl) stands.own_client;
+      once = requests_stay a.own attach (starts_accepted turns) refl stands.once;
       reports = reports_quiet wanted a.own a.got turns attach stands.reports;
       counts = (stands.counts.0, tt);
     } in
@@ -116,12 +119,15 @@ request_kept dump (Ok number) wanted order blank client run answer own got turns
     let now : AnalyzerStands wanted (Some client) (Some (begun_count order.start client number blank)) (own ++ request ∷ []) got (t ∷ turns) = record {
       calls = reader_push own request stands.calls tt stands.own_client;
       own_client = client_stays own request client stands.own_client;
+      once = omega (arith, requests-push own request, stands.once);
       reports = reports_more wanted (own ++ request ∷ []) got turns t (λ report tells. cc (tells)) (reports_quiet wanted own got turns request stands.reports);
       counts = record {
         client_is = refl;
         begin_turn = t;
         is_start = record { stands = inl refl; is = refl; of = refl };
         accepted = refl;
+        earlier = requests_made own;
+        of_start = inl (refl, sym stands.once);
         events = [];
         report_is = is_blank;
         stage_is = (tt, ([], count_made own got wanted client number order.start stands.counts.1));
@@ -134,6 +140,7 @@ request_kept dump (Err why) wanted order blank client run answer own got turns n
     let now : AnalyzerStands wanted (Some client) None (own ++ request ∷ []) got (t ∷ turns) = record {
       calls = reader_push own request stands.calls tt stands.own_client;
       own_client = client_stays own request client stands.own_client;
+      once = omega (arith, requests-push own request, stands.once);
       reports = reports_more wanted (own ++ request ∷ []) got turns t (λ report tells. cc (tells)) (reports_quiet wanted own got turns request stands.reports);
       counts = (tt, λ n. subst (λ (es : List BufferEntry). asks es client n ≡ false) (sym (calls_after-push [] own request)) (stands.counts.1 n));
     } in
@@ -143,17 +150,17 @@ begin_kept : (dump : Option (List ℕ)) (wanted : EventRequest) (order : Order) 
     → StandsBy wanted client None a turns → StandsBy wanted client run b (analyzer_turn dump Start order (Some answer) ∷ turns)
 begin_kept dump wanted order blank None run answer a b turns none is_blank requests stands =
     rw (requests.0, requests.1, requests.2)
-    (plain_more wanted None None a.own a.got turns (analyzer_turn dump Start order (Some (No BufferRefused))) none tt (λ report tells. cc (tells)) stands)
+    (plain_more wanted None None a.own a.got turns (analyzer_turn dump Start order (Some (No BufferRefused))) none tt refl (λ report tells. cc (tells)) stands)
 begin_kept dump wanted order blank (Some client) run answer a b turns none is_blank requests stands =
     rw (requests.1.own, requests.1.got_is) (request_kept dump requests.0 wanted order blank client run answer a.own a.got turns none is_blank requests.2 stands)
 
 -- Turns that change nothing.
 
-stays_kept : (wanted : EventRequest) (a b : AnalyzerAt) (turns : List MemberTurn) (t : MemberTurn) → StaysAt a b → NoneOpen turns → ((report : Totals) → t.answer ≢ Some (Yes (Report report))) → (given : Answer) → t.answer ≡ Some given
+stays_kept : (wanted : EventRequest) (a b : AnalyzerAt) (turns : List MemberTurn) (t : MemberTurn) → StaysAt a b → NoneOpen turns → accepted_by t.transition t.answer ≡ 0 → ((report : Totals) → t.answer ≢ Some (Yes (Report report))) → (given : Answer) → t.answer ≡ Some given
     → StandsBy wanted a.client a.run a.port turns → StandsBy wanted b.client b.run b.port (t ∷ turns)
-stays_kept wanted a b turns t stays none other given is stands =
+stays_kept wanted a b turns t stays none begins other given is stands =
     rw (stays.0, stays.1, stays.2)
-    (plain_more wanted a.client a.run a.port.own a.port.got turns t none (answers t.answer is) other stands)
+    (plain_more wanted a.client a.run a.port.own a.port.got turns t none (answers t.answer is) begins other stands)
   where
     answers : (answer : Option Answer) → answer ≡ Some given → NoneOpen (record t { answer = answer } ∷ turns)
     answers (Some x) e = tt
@@ -162,7 +169,7 @@ stays_kept wanted a b turns t stays none other given is stands =
 start_kept : (dump : Option (List ℕ)) (wanted : EventRequest) (order : Order) (blank : Option Totals) (a b : AnalyzerAt) (answer : Answer) (turns : List MemberTurn) → IfSome blank (λ (report : Totals). report ≡ report_of []) → NoneOpen turns → StartsBy blank wanted order.start a b answer
     → StandsBy wanted a.client a.run a.port turns → StandsBy wanted b.client b.run b.port (analyzer_turn dump Start order (Some answer) ∷ turns)
 start_kept dump wanted order None a b answer turns is_blank none starts stands =
-    rw starts.0 (stays_kept wanted a b turns (analyzer_turn dump Start order (Some (No NotReady))) starts.1 none (λ report tells. cc (tells)) (No NotReady) refl stands)
+    rw starts.0 (stays_kept wanted a b turns (analyzer_turn dump Start order (Some (No NotReady))) starts.1 none refl (λ report tells. cc (tells)) (No NotReady) refl stands)
 start_kept dump wanted order (Some blank) a b answer turns is_blank none starts stands =
     begin_kept dump wanted order blank b.client b.run answer starts.attached b.port turns none is_blank starts.request
     (client_kept wanted a.client b.client starts.dropped starts.attached turns starts.client
@@ -170,47 +177,49 @@ start_kept dump wanted order (Some blank) a b answer turns is_blank none starts 
 
 -- A stop.
 
-stop_stage : (dump : Option (List ℕ)) (stage : AnalyzerStage) (wanted : EventRequest) (client : Option ℕ) (r later : AnalyzerRun) (order : Order) (a b : Access) (turns : List MemberTurn) (events : List Event) → r.start ≡ order.start → NoneOpen turns
-    → StageCounts stage a.own a.got turns (count_request wanted r.client r.request r.start) events → r.report ≡ report_of events → StopsRun stage r later a b → StandsBy wanted client (Some r) a turns → StandsBy wanted client (Some later) b (analyzer_turn dump Stop order None ∷ turns)
-stop_stage dump Counting wanted client r later order a b turns events same none counts report stops stands =
-    let on : CountsRun wanted client r a.own a.got turns = stands.counts in
+stop_stage : (dump : Option (List ℕ)) (stage : AnalyzerStage) (wanted : EventRequest) (client : Option ℕ) (r later : AnalyzerRun) (order : Order) (a b : Access) (turns : List MemberTurn) → (on : CountsRun wanted client r a.own a.got turns) → r.start ≡ order.start → NoneOpen turns
+    → StageCounts stage a.own a.got turns (count_request wanted r.client r.request r.start on.earlier) on.events → r.report ≡ report_of on.events → StopsRun stage r later a b → StandsBy wanted client (Some r) a turns → StandsBy wanted client (Some later) b (analyzer_turn dump Stop order None ∷ turns)
+stop_stage dump Counting wanted client r later order a b turns on same none counts report stops stands =
     let call : BufferEntry = Accepted stops.0 in
     let t : MemberTurn = analyzer_turn dump Stop order None in
-    let q : CountRequest = count_request wanted r.client r.request r.start in
+    let q : CountRequest = count_request wanted r.client r.request r.start on.earlier in
     let gave : HasOwnClient (Some r.client) a.own = run_client wanted client r a.own a.got turns stands in
     let now : AnalyzerStands wanted client (Some (run_at (Draining stops.0) r)) (a.own ++ call ∷ []) a.got (t ∷ turns) = record {
       calls = reader_push a.own call stands.calls tt tt;
       own_client = subst (λ (c : Option ℕ). HasOwnClient c (a.own ++ call ∷ [])) (sym on.client_is) (client_stays a.own call r.client gave);
+      once = omega (arith, requests_stay a.own call (starts_accepted turns) refl stands.once);
       reports = reports_more wanted (a.own ++ call ∷ []) a.got turns t (λ report tells. cc (tells)) (reports_quiet wanted a.own a.got turns call stands.reports);
       counts = record {
         client_is = on.client_is;
         begin_turn = on.begin_turn;
         is_start = HasTurnOf-more t on.is_start;
         accepted = on.accepted;
-        events = events;
+        earlier = on.earlier;
+        of_start = inr on.of_start;
+        events = on.events;
         report_is = report;
-        stage_is = (record { order = order; dump = dump; earlier = turns; of = sym same; latest = refl }, (counts.1.0, [], count_quiet a.own a.got q counts.1.0 events call counts.1.1 tt refl));
+        stage_is = (record { order = order; dump = dump; earlier = turns; of = sym same; latest = refl }, (counts.1.0, [], count_quiet a.own a.got q counts.1.0 on.events call counts.1.1 tt refl));
       };
     } in
     rw (stops.2, stops.1.own, stops.1.got_is) now
-stop_stage dump (Draining accepted) wanted client r later order a b turns events same none counts report stops stands = absurd (none_stops r.start turns none counts.0)
-stop_stage dump Drained wanted client r later order a b turns events same none counts report stops stands = absurd (none_stops r.start turns none counts.0)
+stop_stage dump (Draining accepted) wanted client r later order a b turns on same none counts report stops stands = absurd (none_stops r.start turns none counts.0)
+stop_stage dump Drained wanted client r later order a b turns on same none counts report stops stands = absurd (none_stops r.start turns none counts.0)
 
 stop_own : (dump : Option (List ℕ)) (is_own : Bool) (wanted : EventRequest) (client : Option ℕ) (r : AnalyzerRun) (order : Order) (port : Access) (b : AnalyzerAt) (answer : Option Answer) (turns : List MemberTurn) → (is_own ≡ true → r.start ≡ order.start) → NoneOpen turns
     → StopsOwn is_own r (record { client = client; run = Some r; port = port }) b answer → StandsBy wanted client (Some r) port turns → StandsBy wanted b.client b.run b.port (analyzer_turn dump Stop order answer ∷ turns)
 stop_own dump true wanted client r order port b answer turns same none stops stands =
     let on : CountsRun wanted client r port.own port.got turns = stands.counts in
     rw (stops.answer_is, stops.client, stops.run)
-    (stop_stage dump r.stage wanted client r stops.later order port b.port turns on.events (same refl) none on.stage_is on.report_is stops.stops stands)
+    (stop_stage dump r.stage wanted client r stops.later order port b.port turns on (same refl) none on.stage_is on.report_is stops.stops stands)
 stop_own dump false wanted client r order port b answer turns same none stops stands =
     rw stops.0
-    (stays_kept wanted (record { client = client; run = Some r; port = port }) b turns (analyzer_turn dump Stop order (Some (Yes Plain))) stops.1 none (λ report tells. cc (tells)) (Yes Plain) refl stands)
+    (stays_kept wanted (record { client = client; run = Some r; port = port }) b turns (analyzer_turn dump Stop order (Some (Yes Plain))) stops.1 none refl (λ report tells. cc (tells)) (Yes Plain) refl stands)
 
 stop_kept : (dump : Option (List ℕ)) (wanted : EventRequest) (client : Option ℕ) (run : Option AnalyzerRun) (order : Order) (port : Access) (b : AnalyzerAt) (answer : Option Answer) (turns : List MemberTurn) → NoneOpen turns
     → AnswersStop run order.start (record { client = client; run = run; port = port }) b answer → StandsBy wanted client run port turns → StandsBy wanted b.client b.run b.port (analyzer_turn dump Stop order answer ∷ turns)
 stop_kept dump wanted client None order port b answer turns none stops stands =
     rw stops.0
-    (stays_kept wanted (record { client = client; run = None; port = port }) b turns (analyzer_turn dump Stop order (Some (Yes Plain))) stops.1 none (λ report tells. cc (tells)) (Yes Plain) refl stands)
+    (stays_kept wanted (record { client = client; run = None; port = port }) b turns (analyzer_turn dump Stop order (Some (Yes Plain))) stops.1 none refl (λ report tells. cc (tells)) (Yes Plain) refl stands)
 stop_kept dump wanted client (Some r) order port b answer turns none stops stands =
     stop_own dump (r.start == order.start) wanted client r order port b answer turns (λ e. eqb-true r.start order.start e) none stops stands
 
@@ -223,11 +232,11 @@ turn_kept dump Start wanted order blank client run port b answer turns is_blank 
 turn_kept dump Stop wanted order blank client run port b answer turns is_blank none by stands = stop_kept dump wanted client run order port b answer turns none by stands
 turn_kept dump Pause wanted order blank client run port b answer turns is_blank none by stands =
     rw by.0
-    (stays_kept wanted (record { client = client; run = run; port = port }) b turns (analyzer_turn dump Pause order (Some (Yes Plain))) by.1 none (λ report tells. cc (tells)) (Yes Plain) refl stands)
+    (stays_kept wanted (record { client = client; run = run; port = port }) b turns (analyzer_turn dump Pause order (Some (Yes Plain))) by.1 none refl (λ report tells. cc (tells)) (Yes Plain) refl stands)
 turn_kept dump Resume wanted order blank client run port b answer turns is_blank none by stands =
     rw by.0
-    (stays_kept wanted (record { client = client; run = run; port = port }) b turns (analyzer_turn dump Resume order (Some (Yes Plain))) by.1 none (λ report tells. cc (tells)) (Yes Plain) refl stands)
+    (stays_kept wanted (record { client = client; run = run; port = port }) b turns (analyzer_turn dump Resume order (Some (Yes Plain))) by.1 none refl (λ report tells. cc (tells)) (Yes Plain) refl stands)
 turn_kept dump StartAbort wanted order blank client run port b answer turns is_blank none by stands =
     let dropped : StandsBy wanted client None b.port turns = drop_kept wanted client run port b.port turns none by.3 stands in
     rw (by.0, by.1, by.2)
-    (plain_more wanted client None b.port.own b.port.got turns (analyzer_turn dump StartAbort order (Some (Yes Plain))) none tt (λ report tells. cc (tells)) dropped)
+    (plain_more wanted client None b.port.own b.port.got turns (analyzer_turn dump StartAbort order (Some (Yes Plain))) none tt refl (λ report tells. cc (tells)) dropped)

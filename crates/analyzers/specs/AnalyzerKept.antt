@@ -1,7 +1,8 @@
 -- What an analyzer keeps of its calls on a buffer and of its turns, whatever the buffer replies.
-use Rattle.std.specs.Prelude.{◌≡◌, ℕ, true, false, List, [], ◌∷◌, ◌++◌, Option, Some, None, ⊤}
+use Rattle.std.specs.Prelude.{◌≡◌, ℕ, ◌+◌, true, false, List, [], ◌∷◌, ◌++◌, Option, Some, None, ⊤, ◌⊎◌}
 use Rattle.daq_types.specs.declared.events.Event.{Event}
 use Rattle.daq_types.specs.declared.runs.Order.{Order}
+use Rattle.daq_types.specs.declared.runs.Transition.{Transition}
 use Rattle.daq_types.specs.declared.runs.Transition.TheVariants.{Start, Stop}
 use Rattle.buffer_core.specs.declared.entry.BufferEntry.{BufferEntry}
 use Rattle.buffer_core.specs.declared.entry.BufferEntry.TheVariants.{Attach, Request, Cancel, Receive, Accepted}
@@ -19,7 +20,7 @@ use Rattle.analyzers.specs.declared.analyzer_run.AnalyzerRun.{AnalyzerRun}
 use Rattle.analyzers.specs.declared.analyzer_run.AnalyzerStage.{AnalyzerStage}
 use Rattle.analyzers.specs.declared.analyzer_run.AnalyzerStage.TheVariants.{Counting, Draining, Drained}
 use Rattle.analyzers.specs.AnalyzerTurns.{analyzer_turn}
-use Rattle.analyzers.specs.CountedRuns.{CountRequest, IsCounted, IsWhollyCounted}
+use Rattle.analyzers.specs.CountedRuns.{CountRequest, IsCounted, IsWhollyCounted, requests_made}
 
 -- a call that sends nothing, makes no mark and detaches no client
 abbrev pub IsReaderCall : BufferEntry → Type 0
@@ -45,20 +46,39 @@ abbrev pub AsksForNone : Option ℕ → List BufferEntry → Type 0
 AsksForNone None own = ⊤
 AsksForNone (Some client) own = (n : ℕ) → asks (calls_after [] own) client n ≡ false
 
--- the request of a client for a run
-abbrev pub count_request : EventRequest → (client number start : ℕ) → CountRequest
-count_request wanted client number start = record { wanted = wanted; client = client; number = number; start = start }
+-- the request of a client for a run, behind so many earlier ones
+abbrev pub count_request : EventRequest → (client number start earlier : ℕ) → CountRequest
+count_request wanted client number start earlier =
+    record { wanted = wanted; client = client; number = number; start = start; earlier = earlier }
 
--- A report of a run: its start was accepted, a client counted it wholly by its one request, and the report is that of the
--- events with its start number that the client got, in order, from the request on.
+-- one, where the turn is a start that was accepted
+abbrev pub accepted_by : Transition → Option Answer → ℕ
+accepted_by Start (Some (Yes tally)) = 1
+accepted_by transition answer = 0
+
+-- how many starts among these turns were accepted
+abbrev pub starts_accepted : List MemberTurn → ℕ
+starts_accepted [] = 0
+starts_accepted (t ∷ turns) = accepted_by t.transition t.answer + starts_accepted turns
+
+-- the turn stands among these, and so many starts were accepted before it
+abbrev pub HasTurnBehind : List MemberTurn → MemberTurn → (starts : ℕ) → Type 0
+HasTurnBehind [] t starts = ⊥
+HasTurnBehind (u ∷ turns) t starts = ((u ≡ t) × (starts_accepted turns ≡ starts)) ⊎ HasTurnBehind turns t starts
+
+-- A report of a run: its start was accepted, a client counted it wholly by the request of this start, behind as many earlier ones
+-- as starts were accepted before this one; and the report is that of the events with its start number that the client got, in
+-- order, from the request on.
 pub record IsReportOfRun (wanted : EventRequest) (own : List BufferEntry) (got : List GotEvent) (turns : List MemberTurn) (start : ℕ) (report : Totals) : Type 0 where
   pub begin_turn : MemberTurn
   pub is_start : HasTurnOf turns Start start begin_turn
   pub accepted : begin_turn.answer ≡ Some (Yes Plain)
   pub client : ℕ
   pub number : ℕ
+  pub earlier : ℕ
+  pub of_start : HasTurnBehind turns begin_turn earlier
   pub events : List Event
-  pub counted : IsWhollyCounted own got (count_request wanted client number start) events
+  pub counted : IsWhollyCounted own got (count_request wanted client number start earlier) events
   pub report_is : report ≡ report_of events
 
 -- each turn that was answered with a report is a stop, and the report is that of its run
@@ -81,24 +101,28 @@ StageCounts (Draining accepted) own got turns q events =
     IsStopOpen q.start turns × ((reading : List BufferEntry) × (draining : List BufferEntry) × IsCounted own got q (reading ++ Accepted accepted ∷ draining) events)
 StageCounts Drained own got turns q events = IsStopOpen q.start turns × AsksForNone (Some q.client) own × IsWhollyCounted own got q events
 
--- The run is counted: its start was accepted, and the report is that of the events that were counted.
+-- The run is counted, by the request of its start: that was accepted, and the report is that of the events that were counted.
 pub record CountsRun (wanted : EventRequest) (client : Option ℕ) (r : AnalyzerRun) (own : List BufferEntry) (got : List GotEvent) (turns : List MemberTurn) : Type 0 where
   pub client_is : client ≡ Some r.client
   pub begin_turn : MemberTurn
   pub is_start : HasTurnOf turns Start r.start begin_turn
   pub accepted : begin_turn.answer ≡ Some (Yes Plain)
+  pub earlier : ℕ
+  pub of_start : HasTurnBehind turns begin_turn earlier
   pub events : List Event
   pub report_is : r.report ≡ report_of events
-  pub stage_is : StageCounts r.stage own got turns (count_request wanted r.client r.request r.start) events
+  pub stage_is : StageCounts r.stage own got turns (count_request wanted r.client r.request r.start earlier) events
 
 abbrev pub RunCounts : EventRequest → (client : Option ℕ) → Option AnalyzerRun → List BufferEntry → List GotEvent → List MemberTurn → Type 0
 RunCounts wanted client None own got turns = NoneOpen turns × AsksForNone client own
 RunCounts wanted client (Some r) own got turns = CountsRun wanted client r own got turns
 
--- an analyzer that wants these events, with its client, in this run or in none, with its own calls, what it got, and its turns
+-- An analyzer that wants these events, with its client, in this run or in none, with its own calls, what it got, and its turns: it
+-- has made one request for each start that it accepted, and no others.
 pub record AnalyzerStands (wanted : EventRequest) (client : Option ℕ) (run : Option AnalyzerRun) (own : List BufferEntry) (got : List GotEvent) (turns : List MemberTurn) : Type 0 where
   pub calls : KeepsReaderCalls own
   pub own_client : HasOwnClient client own
+  pub once : requests_made own ≡ starts_accepted turns
   pub reports : ReportsHold wanted own got turns
   pub counts : RunCounts wanted client run own got turns
 
@@ -130,9 +154,11 @@ pub record AnalyzerTells (run : Option AnalyzerRun) (turns : List MemberTurn) : 
   pub current : AreEngineTurns turns → CountsCurrent run turns
 
 -- What holds at every moment: on its port the analyzer sends nothing and makes no mark, and names only clients that an attach of
--- its own gave; each report that it told is that of a run whose start it accepted; and it told one at each stop of such a run.
+-- its own gave; it has made one request for each start that it accepted, and no others; each report that it told is that of a run
+-- whose start it accepted, from the request of that start on; and it told one at each stop of such a run.
 pub record KeepsAnalyzer (wanted : EventRequest) (own : List BufferEntry) (got : List GotEvent) (turns : List MemberTurn) : Type 0 where
   pub calls : KeepsReaderCalls own
+  pub once : requests_made own ≡ starts_accepted turns
   pub reports : ReportsHold wanted own got turns
   pub starts : StartsPlain turns
   pub stops : AreEngineTurns turns → StopsReported turns

@@ -1,6 +1,6 @@
 -- A client whose events of one run are counted, by its one request, until it has read all that the buffer told it had taken.
 -- What was got is read off the calls and the events that they gave; nothing is asked of the buffer.
-use Rattle.std.specs.Prelude.{◌≡◌, ℕ, false, List, [], ◌∷◌, ◌++◌, Result, Ok, ⊤}
+use Rattle.std.specs.Prelude.{◌≡◌, ℕ, ◌+◌, false, List, [], ◌∷◌, ◌++◌, Result, Ok, ⊤}
 use Rattle.daq_types.specs.declared.events.Event.{Event}
 use Rattle.buffer_core.specs.declared.replies.Received.{Received}
 use Rattle.buffer_core.specs.declared.replies.RequestRefusal.{RequestRefusal}
@@ -11,18 +11,31 @@ use Rattle.member_model.specs.OwnCalls.{calls_after, asks, KeepsAsking, HasDrain
 use Rattle.member_model.specs.GotRuns.{events_of_start}
 use Rattle.analyzers.specs.declared.analyzer_run.EventRequest.{EventRequest}
 
--- the request by which a run is counted: what is wanted, the client, the request's number, and the run's start number
+-- one, where the call is a request for events that was accepted
+abbrev pub requests_by : BufferEntry → ℕ
+requests_by (Request client id mask kind (Ok number)) = 1
+requests_by entry = 0
+
+-- how many requests for events these calls made
+abbrev pub requests_made : List BufferEntry → ℕ
+requests_made [] = 0
+requests_made (e ∷ es) = requests_by e + requests_made es
+
+-- the request by which a run is counted: what is wanted, the client, the request's number, the run's start number, and how
+-- many requests were made before it
 pub record CountRequest : Type 0 where
   pub wanted : EventRequest
   pub client : ℕ
   pub number : ℕ
   pub start : ℕ
+  pub earlier : ℕ
 
--- the client's request was made when it had no other, and these are the calls since
+-- the client's request was made when it had no other, behind so many earlier ones, and these are the calls since
 pub record AskedBy (own : List BufferEntry) (q : CountRequest) (calls : List BufferEntry) : Type 0 where
   pub before : List BufferEntry
   pub whole : own ≡ before ++ Request q.client q.wanted.id q.wanted.mask q.wanted.kind (Ok q.number) ∷ calls
   pub alone : (n : ℕ) → asks (calls_after [] before) q.client n ≡ false
+  pub requests : requests_made before ≡ q.earlier
 
 -- The request was made, and none of the client was made or cancelled since; these are the events of the run that the client
 -- got by the calls since.

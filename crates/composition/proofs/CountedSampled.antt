@@ -17,7 +17,7 @@ use Rattle.buffer_core.specs.declared.replies.Received.TheVariants.{Got, Empty}
 use Rattle.buffer_core.specs.declared.entry.BufferEntry.{BufferEntry}
 use Rattle.buffer_core.specs.declared.entry.BufferEntry.TheVariants.{Attach, Request, Cancel, Receive, Accepted}
 use Rattle.buffer_core.specs.Window.{opening, no_clients, no_requests, any}
-use Rattle.buffer_core.specs.Histories.{IsLegal}
+use Rattle.buffer_core.specs.Histories.{History, IsLegal}
 use Rattle.buffer_core.specs.Samples.{sample_event, longer_event}
 use Rattle.event_report.specs.Reports.{Totals, report_of}
 use Rattle.transitions.specs.declared.sheet.Sheet.{Sheet}
@@ -43,6 +43,7 @@ use Rattle.caller_laws.specs.OneCaller.{WasSentAt}
 use Rattle.caller_laws.specs.CallerSamples.{got_first}
 use Rattle.engine_laws.specs.BegunTurns.{IsRegisteredIn}
 use Rattle.composition.specs.SentSets.{AreTurnSets}
+use Rattle.caller_laws.specs.SeenRuns.{SeesRun}
 use Rattle.composition.specs.Sessions.{SessionFront, SessionAnalyzer, HasAnalyzer, IsMemberCaller, turns_of, buffer_calls, database_calls, IsRegistered, MembersKeep}
 use Rattle.composition.specs.SessionRuns.{IsStoppedRun, ReportsRun, SawThrough, analyzer_events}
 use Rattle.composition.specs.CompositionLaws.{ReportsWhole, GotWhole}
@@ -61,9 +62,9 @@ counted_legal (suc n) = tt
 counted_fair : IsSheet counted_sheet
 counted_fair = record { short = first_fair.short; blank = (refl, tt) }
 
-counted_engine_legal : (told : Event) → IsLegalEngine engine_opening (counted_engine told)
+pub counted_engine_legal : (report : Totals) → IsLegalEngine engine_opening (counted_engine report)
 unfolding called_list
-counted_engine_legal told =
+counted_engine_legal report =
     (refl, refl, (refl, refl, (refl, refl, ((refl, counted_fair), refl, (tt, refl, (tt, refl, (tt, refl, (tt, refl, (tt, refl, (tt, refl, (refl, (refl, refl), ((refl, last_fair), refl, (tt, refl, (tt, refl, (tt, refl, (tt, refl, (tt, refl, (tt, refl, (refl, (refl, refl), tt)))))))))))))))))))
 
 -- Its callers are its members.
@@ -82,11 +83,11 @@ counted_callers told zero caller =
     refl)
     refl
 
-the_front : (P : SessionFront → Type 0) → P sample_front → (f : SessionFront) → (at : (index : ℕ) × (slice_get (sample_front ∷ []) index ≡ Some f)) → P f
+pub the_front : (P : SessionFront → Type 0) → P sample_front → (f : SessionFront) → (at : (index : ℕ) × (slice_get (sample_front ∷ []) index ≡ Some f)) → P f
 the_front P it f (zero, e) = let same : sample_front ≡ f = cc (e) in subst P same it
 the_front P it f (suc n, e) = absurd (cc (e))
 
-the_analyzer : (P : SessionAnalyzer → Type 0) (b : SessionAnalyzer) → P b → (a : SessionAnalyzer) → (at : (index : ℕ) × (slice_get (b ∷ []) index ≡ Some a)) → P a
+pub the_analyzer : (P : SessionAnalyzer → Type 0) (b : SessionAnalyzer) → P b → (a : SessionAnalyzer) → (at : (index : ℕ) × (slice_get (b ∷ []) index ≡ Some a)) → P a
 the_analyzer P b it a (zero, e) = let same : b ≡ a = cc (e) in subst P same it
 the_analyzer P b it a (suc n, e) = absurd (cc (e))
 
@@ -101,8 +102,8 @@ marking_stop = record { transition = Stop; order = order_for last_sheet 1 Runnin
 abbrev marking_turns : List MemberTurn
 marking_turns = marking_stop ∷ marking_start ∷ []
 
-abbrev marking_port : (told : Event) → (buffer : ℕ) → LoggerPort
-marking_port told buffer = record { own = buffer_calls (counted_session told) buffer 0; got = [] }
+abbrev pub marking_port : (history : (buffer : ℕ) → History) → (buffer : ℕ) → LoggerPort
+marking_port history buffer = record { own = entries_by 1 (history buffer); got = [] }
 
 -- an answered start among two turns, of which the earlier is one, was accepted plainly
 start_answer : (stop start : MemberTurn) → stop.transition ≡ Stop → start.answer ≡ Some (Yes Plain) → (t : MemberTurn) (answer : ClientAnswer) → HasTurn (stop ∷ start ∷ []) t → t.transition ≡ Start → t.answer ≡ Some answer → IsStartAnswer answer
@@ -113,8 +114,9 @@ start_answer stop start stops accepted t answer (inr (inl same)) is told =
     subst IsStartAnswer f refl
 start_answer stop start stops accepted t answer (inr (inr none)) is told = absurd none
 
-marking_logger : (told : Event) → KeepsLogger [] (marking_port told) marking_turns sample_files
-marking_logger told = record {
+pub marking_logger : (history : (buffer : ℕ) → History) → ((buffer : ℕ) → EachCall SendsNone (entries_by 1 (history buffer))) → ((buffer : ℕ) → AreOwnCalls (calls_after [] (entries_by 1 (history buffer))))
+    → KeepsLogger [] (marking_port history) marking_turns sample_files
+marking_logger history silent own = record {
   sends_none = silent;
   own_calls = own;
   starts = start_answer marking_stop marking_start refl refl;
@@ -122,12 +124,15 @@ marking_logger told = record {
   ended = λ are stop index channel at tells. absurd (cc (at));
   broken = λ are stop index channel at tells. absurd (cc (at));
 }
+
+counted_logger : KeepsLogger [] (marking_port counted_history) marking_turns sample_files
+counted_logger = marking_logger counted_history silent own
   where
-    silent : (buffer : ℕ) → EachCall SendsNone (marking_port told buffer).own
+    silent : (buffer : ℕ) → EachCall SendsNone (entries_by 1 (counted_history buffer))
     silent zero = (tt, (tt, tt))
     silent (suc n) = tt
 
-    own : (buffer : ℕ) → AreOwnCalls (calls_after [] (marking_port told buffer).own)
+    own : (buffer : ℕ) → AreOwnCalls (calls_after [] (entries_by 1 (counted_history buffer)))
     own zero = (tt, (tt, tt))
     own (suc n) = tt
 
@@ -148,7 +153,7 @@ counting_by = Attach [] (Ok 0) ∷ Request 0 any any All (Ok 0) ∷ Receive 0 0 
 abbrev counting_calls : List BufferEntry
 counting_calls = counting_by ++ Cancel 0 0 (Ok tt) ∷ []
 
-abbrev wholly_counted : (told : Event) → IsWhollyCounted counting_calls (got_first told ∷ []) (count_request (counted_analyzer told).wanted 0 0 1) (told ∷ [])
+abbrev wholly_counted : (told : Event) → IsWhollyCounted counting_calls (got_first told ∷ []) (count_request (counted_analyzer told).wanted 0 0 1 0) (told ∷ [])
 wholly_counted told = record {
   accepted = 1;
   reading = Receive 0 0 (Got 0 1) ∷ [];
@@ -163,7 +168,7 @@ wholly_counted told = record {
   got_later = [];
   got_is = refl;
   counted = record {
-    asked = record { before = Attach [] (Ok 0) ∷ []; whole = refl; alone = λ n. refl };
+    asked = record { before = Attach [] (Ok 0) ∷ []; whole = refl; alone = λ n. refl; requests = refl };
     asks_on = (tt, (tt, (tt, tt)));
     earlier = [];
     given = got_first told ∷ [];
@@ -181,6 +186,8 @@ report_told told = record {
   accepted = refl;
   client = 0;
   number = 0;
+  earlier = 0;
+  of_start = inr (inl (refl, refl));
   events = told ∷ [];
   counted = wholly_counted told;
   report_is = refl;
@@ -189,6 +196,7 @@ report_told told = record {
 counting_keeps : (told : Event) → KeepsAnalyzer (counted_analyzer told).wanted counting_calls (got_first told ∷ []) (counting_turns told)
 counting_keeps told = record {
   calls = record { only_reads = (tt, (tt, (tt, (tt, (tt, (tt, tt)))))); own_calls = (refl, (refl, (tt, (refl, (refl, (tt, tt)))))) };
+  once = refl;
   reports = reports;
   starts = start_answer (counting_stop told) counting_start refl refl;
   stops = λ are start begin stop answer accepted stops is. told_so stop answer stops.stands stops.is is;
@@ -235,27 +243,27 @@ there t sequence client place dump report before after called = record {
   called = called;
 }
 
-logger_there : (told : Event) (t : Transition) (sequence : ℕ) (earlier later : EngineHistory) (caller : ℕ) (begun : Transition) (sheet : Sheet) (start : ℕ) → sequence_for (at_all 1) t ≡ Some sequence → counted_engine told ≡ earlier ++ (caller, Begin begun sheet (Ok start)) ∷ later
+pub logger_there : (report : Totals) (t : Transition) (sequence : ℕ) (earlier later : EngineHistory) (caller : ℕ) (begun : Transition) (sheet : Sheet) (start : ℕ) → sequence_for (at_all 1) t ≡ Some sequence → counted_engine report ≡ earlier ++ (caller, Begin begun sheet (Ok start)) ∷ later
     → IsRegisteredIn earlier 0 t
-logger_there told t sequence [] later caller begun sheet start called e = absurd (not_begun 1 true false 0 caller begun sheet start (cc (e)))
-logger_there told t sequence (x ∷ xs) later caller begun sheet start called e =
+logger_there report t sequence [] later caller begun sheet start called e = absurd (not_begun 1 true false 0 caller begun sheet start (cc (e)))
+logger_there report t sequence (x ∷ xs) later caller begun sheet start called e =
     let first : (0, Register [] (at_all 1) true false (Ok 0)) ≡ x = cc (e) in
     subst (λ (y : ℕ × EngineEntry). IsRegisteredIn (y ∷ xs) 0 t) first (there t sequence 0 1 true false [] xs called)
 
-front_there : (told : Event) (t : Transition) (sequence : ℕ) (earlier later : EngineHistory) (caller : ℕ) (begun : Transition) (sheet : Sheet) (start : ℕ) → sequence_for (at_all 2) t ≡ Some sequence → counted_engine told ≡ earlier ++ (caller, Begin begun sheet (Ok start)) ∷ later
+pub front_there : (report : Totals) (t : Transition) (sequence : ℕ) (earlier later : EngineHistory) (caller : ℕ) (begun : Transition) (sheet : Sheet) (start : ℕ) → sequence_for (at_all 2) t ≡ Some sequence → counted_engine report ≡ earlier ++ (caller, Begin begun sheet (Ok start)) ∷ later
     → IsRegisteredIn earlier 1 t
-front_there told t sequence [] later caller begun sheet start called e = absurd (not_begun 1 true false 0 caller begun sheet start (cc (e)))
-front_there told t sequence (x ∷ []) later caller begun sheet start called e = absurd (not_begun 2 false false 1 caller begun sheet start (cc (e)))
-front_there told t sequence (x ∷ y ∷ ys) later caller begun sheet start called e =
+front_there report t sequence [] later caller begun sheet start called e = absurd (not_begun 1 true false 0 caller begun sheet start (cc (e)))
+front_there report t sequence (x ∷ []) later caller begun sheet start called e = absurd (not_begun 2 false false 1 caller begun sheet start (cc (e)))
+front_there report t sequence (x ∷ y ∷ ys) later caller begun sheet start called e =
     let second : (0, Register [] (at_all 2) false false (Ok 1)) ≡ y = cc (e) in
     subst (λ (z : ℕ × EngineEntry). IsRegisteredIn (x ∷ z ∷ ys) 1 t) second (there t sequence 1 2 false false (x ∷ []) ys called)
 
-analyzer_there : (told : Event) (t : Transition) (sequence : ℕ) (earlier later : EngineHistory) (caller : ℕ) (begun : Transition) (sheet : Sheet) (start : ℕ) → sequence_for (at_all 3) t ≡ Some sequence → counted_engine told ≡ earlier ++ (caller, Begin begun sheet (Ok start)) ∷ later
+pub analyzer_there : (report : Totals) (t : Transition) (sequence : ℕ) (earlier later : EngineHistory) (caller : ℕ) (begun : Transition) (sheet : Sheet) (start : ℕ) → sequence_for (at_all 3) t ≡ Some sequence → counted_engine report ≡ earlier ++ (caller, Begin begun sheet (Ok start)) ∷ later
     → IsRegisteredIn earlier 2 t
-analyzer_there told t sequence [] later caller begun sheet start called e = absurd (not_begun 1 true false 0 caller begun sheet start (cc (e)))
-analyzer_there told t sequence (x ∷ []) later caller begun sheet start called e = absurd (not_begun 2 false false 1 caller begun sheet start (cc (e)))
-analyzer_there told t sequence (x ∷ y ∷ []) later caller begun sheet start called e = absurd (not_begun 3 false true 2 caller begun sheet start (cc (e)))
-analyzer_there told t sequence (x ∷ y ∷ z ∷ zs) later caller begun sheet start called e =
+analyzer_there report t sequence [] later caller begun sheet start called e = absurd (not_begun 1 true false 0 caller begun sheet start (cc (e)))
+analyzer_there report t sequence (x ∷ []) later caller begun sheet start called e = absurd (not_begun 2 false false 1 caller begun sheet start (cc (e)))
+analyzer_there report t sequence (x ∷ y ∷ []) later caller begun sheet start called e = absurd (not_begun 3 false true 2 caller begun sheet start (cc (e)))
+analyzer_there report t sequence (x ∷ y ∷ z ∷ zs) later caller begun sheet start called e =
     let third : (0, Register [] (at_all 3) false true (Ok 2)) ≡ z = cc (e) in
     subst (λ (w : ℕ × EngineEntry). IsRegisteredIn (x ∷ y ∷ w ∷ zs) 2 t) third (there t sequence 2 3 false true (x ∷ y ∷ []) zs called)
 
@@ -263,27 +271,27 @@ analyzer_there told t sequence (x ∷ y ∷ z ∷ zs) later caller begun sheet s
 
 others_of_counted : (told : Event) (other : SessionPremise) → other ≢ AnalyzerEvents → MeetsSession other (counted_session told)
 others_of_counted told LegalBuffers ne = counted_legal
-others_of_counted told LegalEngine ne = counted_engine_legal told
+others_of_counted told LegalEngine ne = counted_engine_legal (counted_report told)
 others_of_counted told OwnNames ne = (tt, (tt, (tt, (tt, (refl, (refl, (refl, (refl, (refl, (refl, (tt, (tt, (refl, (refl, (refl, (refl, (refl, (refl, (tt, tt)))))))))))))))))))
 others_of_counted told MemberCalls ne = counted_callers told
 others_of_counted told KeptFronts ne = the_front (λ (x : SessionFront). KeepsFront x.takes x.makes (buffer_calls (counted_session told) x.buffer x.client) (turns_of (counted_session told) x.client)) front_keeps
 others_of_counted told FrontMoments ne = the_front (λ (x : SessionFront). KeepsMoments (buffer_calls (counted_session told) x.buffer x.client) (turns_of (counted_session told) x.client) x.moments) front_moments
 others_of_counted told FrontNumbers ne = λ f has are. the_front (λ (x : SessionFront). AreTurnSets x.name (buffer_calls (counted_session told) x.buffer x.client) (turns_of (counted_session told) x.client) x.moments (database_calls (counted_session told) x.client)) front_set f has
-others_of_counted told KeptLogger ne = marking_logger told
+others_of_counted told KeptLogger ne = counted_logger
 others_of_counted told LoggerEvents ne = λ buffer. tt
 others_of_counted told KeptAnalyzers ne = the_analyzer (λ (x : SessionAnalyzer). KeepsAnalyzer x.wanted (buffer_calls (counted_session told) x.buffer x.client) x.got (turns_of (counted_session told) x.client)) (counted_analyzer told) (counting_keeps told)
 others_of_counted told AnalyzerEvents ne = absurd (ne refl)
 others_of_counted told FrontsThere ne = the_front (λ (x : SessionFront). IsRegistered (counted_session told) x.client Start × IsRegistered (counted_session told) x.client Stop) (
-  (λ earlier later caller begun sheet start e. front_there told Start 2 earlier later caller begun sheet start refl e),
-  (λ earlier later caller begun sheet start e. front_there told Stop 2 earlier later caller begun sheet start refl e),
+  (λ earlier later caller begun sheet start e. front_there (counted_report told) Start 2 earlier later caller begun sheet start refl e),
+  (λ earlier later caller begun sheet start e. front_there (counted_report told) Stop 2 earlier later caller begun sheet start refl e),
 )
 others_of_counted told AnalyzersThere ne = the_analyzer (λ (x : SessionAnalyzer). IsRegistered (counted_session told) x.client Start × IsRegistered (counted_session told) x.client Stop) (counted_analyzer told) (
-  (λ earlier later caller begun sheet start e. analyzer_there told Start 3 earlier later caller begun sheet start refl e),
-  (λ earlier later caller begun sheet start e. analyzer_there told Stop 3 earlier later caller begun sheet start refl e),
+  (λ earlier later caller begun sheet start e. analyzer_there (counted_report told) Start 3 earlier later caller begun sheet start refl e),
+  (λ earlier later caller begun sheet start e. analyzer_there (counted_report told) Stop 3 earlier later caller begun sheet start refl e),
 )
 others_of_counted told LoggerThere ne = (
-  (λ earlier later caller begun sheet start e. logger_there told Start 1 earlier later caller begun sheet start refl e),
-  (λ earlier later caller begun sheet start e. logger_there told Stop 1 earlier later caller begun sheet start refl e),
+  (λ earlier later caller begun sheet start e. logger_there (counted_report told) Start 1 earlier later caller begun sheet start refl e),
+  (λ earlier later caller begun sheet start e. logger_there (counted_report told) Stop 1 earlier later caller begun sheet start refl e),
 )
 others_of_counted told OneDump ne = (((λ e. refl), (λ e. refl)), (((λ (e : false ≡ true). absurd (cc (e))), (λ (e : 1 ≡ 0). absurd (omega (arith, e)))), (((λ (e : false ≡ true). absurd (cc (e))), (λ (e : 2 ≡ 0). absurd (omega (arith, e)))), (tt, (tt, (tt, (tt, (tt, (tt, (tt, (tt, (tt, (tt, (tt, (tt, (tt, (tt, (tt, (tt, tt)))))))))))))))))))
 
@@ -314,17 +322,17 @@ counted_keeps = record {
 pub counted_stopped : IsStoppedRun (counted_session sample_event) (counted_run sample_event)
 counted_stopped = record {
   started = record {
-    earlier = take 3 (counted_engine sample_event);
-    between = take 6 (drop 4 (counted_engine sample_event));
-    later = drop 11 (counted_engine sample_event);
+    earlier = take 3 (counted_engine (counted_report sample_event));
+    between = take 6 (drop 4 (counted_engine (counted_report sample_event)));
+    later = drop 11 (counted_engine (counted_report sample_event));
     opener = 0;
     closer = 0;
     whole = refl;
     on = (refl, (refl, (refl, (refl, (refl, (refl, tt))))));
   };
   stopped = record {
-    earlier = take 11 (counted_engine sample_event);
-    between = take 6 (drop 12 (counted_engine sample_event));
+    earlier = take 11 (counted_engine (counted_report sample_event));
+    between = take 6 (drop 12 (counted_engine (counted_report sample_event)));
     later = [];
     opener = 0;
     closer = 0;
@@ -339,25 +347,38 @@ pub saw_run : (told : Event) → (so : ReportsRun (counted_session told) (counte
 saw_run told = (
   report_told told,
   record {
+    before = (3, Attach [] (Ok 0)) ∷ [];
+    running = take 3 (drop 2 (counted_history 0));
+    draining = (3, Accepted 1) ∷ [];
+    after = (3, Cancel 0 0 (Ok tt)) ∷ [];
+    by = 1;
     ended = 1;
-    sees = record {
-      before = (3, Attach [] (Ok 0)) ∷ [];
-      running = take 3 (drop 2 (counted_history 0));
-      draining = (3, Accepted 1) ∷ [];
-      after = (3, Cancel 0 0 (Ok tt)) ∷ [];
-      number = 0;
-      by = 1;
-      room = 0;
-      gate = Shut;
-      last = 1;
-      whole = refl;
-      early = tt;
-      alone = λ n. refl;
-      keeps = (tt, (tt, tt));
-    };
+    room = 0;
+    gate = Shut;
+    last = 1;
+    whole = refl;
     by_request = refl;
+    early = tt;
+    lives = (tt, (tt, tt));
   },
 )
+
+counted_sees : SeesRun (counted_history 0) 3 0 any any 1 1
+counted_sees = record {
+  before = (3, Attach [] (Ok 0)) ∷ [];
+  running = take 3 (drop 2 (counted_history 0));
+  draining = (3, Accepted 1) ∷ [];
+  after = (3, Cancel 0 0 (Ok tt)) ∷ [];
+  number = 0;
+  by = 1;
+  room = 0;
+  gate = Shut;
+  last = 1;
+  whole = refl;
+  early = tt;
+  alone = λ n. refl;
+  keeps = (tt, (tt, tt));
+}
 
 -- What it was told is needed.
 
@@ -394,10 +415,7 @@ one_got : longer_event ∷ [] ≡ sample_event ∷ [] → ⊥
 one_got e = other_report (ap report_of e)
 
 pub got_needed : FailsSession AnalyzerEvents (counted_session longer_event) GotWhole
-unfolding saw_run
 got_needed = record {
   others = others_of_counted longer_event;
-  wrong = λ law.
-      let saw = saw_run longer_event in
-      one_got (law (counted_run longer_event) (counted_analyzer longer_event) (0, refl) 0 1 saw.1.sees ∙ one_event);
+  wrong = λ law. one_got (law (counted_run longer_event) (counted_analyzer longer_event) (0, refl) 0 1 counted_sees ∙ one_event);
 }

@@ -1,5 +1,6 @@
 pub mod SessionTurns
 pub mod SentTogether
+pub mod SetsStand
 pub mod SetTogether
 pub mod FilesTogether
 pub mod SeenBy
@@ -7,5 +8,7 @@ pub mod ReportsTogether
 pub mod Sampled
 pub mod NeededSessions
 pub mod CountedSampled
+pub mod AskedTwice
 pub mod PausedSampled
 pub mod PausedNeeded
+pub mod StartsTogether

@@ -1,6 +1,6 @@
 -- Where an analyzer saw a run through, the calls by which it counted the run are those up to a receive that found nothing,
 -- and maybe more: its next call behind them cancelled the request.
-use Rattle.std.specs.Prelude.{◌≡◌, ◌≢◌, ℕ, ◌==◌, true, false, List, [], ◌∷◌, ◌++◌, Result, Ok, refl, ⊤}
+use Rattle.std.specs.Prelude.{◌≡◌, ℕ, ◌==◌, true, false, List, [], ◌∷◌, ◌++◌, Result, Ok, refl, ⊤}
 use Rattle.std.proofs.Common.{ap, sym, ◌∙◌, subst, append_assoc, eq-eqb}
 use Rattle.daq_types.specs.Callers.{caller_of_client, entries_by}
 use Rattle.daq_types.proofs.CallersLaws.{entries_by-append, entries_by-own}
@@ -13,12 +13,13 @@ use Rattle.buffer_core.specs.declared.entry.BufferEntry.{BufferEntry}
 use Rattle.buffer_core.specs.declared.entry.BufferEntry.TheVariants.{Request, Cancel, Receive, End}
 use Rattle.buffer_core.specs.Histories.{History}
 use Rattle.event_report.specs.Reports.{Totals}
-use Rattle.member_model.specs.OwnCalls.{LeavesAsking, KeepsAsking}
+use Rattle.member_model.specs.SentCalls.{EachCall}
+use Rattle.member_model.specs.OwnCalls.{calls_after, asks, KeepsAsking}
 use Rattle.analyzers.specs.CountedRuns.{IsWhollyCounted, counted_calls}
 use Rattle.analyzers.specs.AnalyzerKept.{count_request}
 use Rattle.caller_laws.specs.SeenRuns.{SeesRun}
 use Rattle.composition.specs.Sessions.{Session, SessionAnalyzer, buffer_calls}
-use Rattle.composition.specs.SessionRuns.{SessionRun, ReportsRun, SawThrough}
+use Rattle.composition.specs.SessionRuns.{SessionRun, ReportsRun, CancelsNot, SawThrough}
 
 -- A history is cut where its calls by one caller are.
 
@@ -69,7 +70,7 @@ record FoundBefore (xs after counted later : List BufferEntry) (found cancel : B
   pub counted_is : counted ≡ xs ++ found ∷ rest
   pub after_is : after ≡ rest ++ cancel ∷ later
 
-found_before : (client room number : ℕ) (reply : Received) (cancelled : Result ⊤ RequestRefusal) (xs after counted later : List BufferEntry) → KeepsAsking client xs
+found_before : (client room number : ℕ) (reply : Received) (cancelled : Result ⊤ RequestRefusal) (xs after counted later : List BufferEntry) → EachCall (CancelsNot client number) xs
     → xs ++ Receive client room reply ∷ after ≡ counted ++ Cancel client number cancelled ∷ later → FoundBefore xs after counted later (Receive client room reply) (Cancel client number cancelled)
 found_before client room number reply cancelled [] after [] later keeps is =
     absurd (let never : Receive client room reply ≡ Cancel client number cancelled = cc (is) in cc (never))
@@ -79,8 +80,7 @@ found_before client room number reply cancelled [] after (c ∷ counted) later k
     record { rest = counted; counted_is = ap (λ (y : BufferEntry). y ∷ counted) (sym here); after_is = more }
 found_before client room number reply cancelled (x ∷ xs) after [] later keeps is =
     let here : x ≡ Cancel client number cancelled = cc (is) in
-    let other : client ≢ client = subst (LeavesAsking client) here keeps.0 in
-    absurd (other refl)
+    absurd (subst (CancelsNot client number) here keeps.0 (refl, refl))
 found_before client room number reply cancelled (x ∷ xs) after (c ∷ counted) later keeps is =
     let here : x ≡ c = cc (is) in
     let more : xs ++ Receive client room reply ∷ after ≡ counted ++ Cancel client number cancelled ∷ later = cc (is) in
@@ -90,6 +90,10 @@ found_before client room number reply cancelled (x ∷ xs) after (c ∷ counted)
       counted_is = ap (λ (y : BufferEntry). y ∷ counted) (sym here) ∙ ap (λ (l : List BufferEntry). x ∷ l) rest.counted_is;
       after_is = rest.after_is;
     }
+
+keeps_first : (client : ℕ) (xs ys : List BufferEntry) → KeepsAsking client (xs ++ ys) → KeepsAsking client xs
+keeps_first client [] ys keeps = tt
+keeps_first client (x ∷ xs) ys keeps = (keeps.0, keeps_first client xs ys keeps.1)
 
 same_tail : (b p q : List BufferEntry) → b ++ p ≡ b ++ q → p ≡ q
 same_tail [] p q is = is
@@ -121,23 +125,22 @@ pub saw_by : (s : Session) (r : SessionRun) (a : SessionAnalyzer) (report : Tota
 saw_by s r a report told saw =
     let c : ℕ = caller_of_client a.client in
     let h : History = s.history a.buffer in
-    let g : SeesRun h c told.client a.wanted.id a.wanted.mask r.start saw.ended = saw.sees in
-    let w : IsWhollyCounted (buffer_calls s a.buffer a.client) a.got (count_request a.wanted told.client told.number r.start) told.events = told.counted in
+    let w : IsWhollyCounted (buffer_calls s a.buffer a.client) a.got (count_request a.wanted told.client told.number r.start told.earlier) told.events = told.counted in
     let counts : List BufferEntry = counted_calls w in
-    let end : ℕ × BufferEntry = (g.by, End r.start (Ok saw.ended)) in
-    let request : BufferEntry = Request told.client a.wanted.id a.wanted.mask All (Ok g.number) in
+    let end : ℕ × BufferEntry = (saw.by, End r.start (Ok saw.ended)) in
+    let request : BufferEntry = Request told.client a.wanted.id a.wanted.mask All (Ok told.number) in
     let asked : BufferEntry = Request told.client a.wanted.id a.wanted.mask a.wanted.kind (Ok told.number) in
-    let found : BufferEntry = Receive told.client g.room (Empty g.gate g.last) in
+    let found : BufferEntry = Receive told.client saw.room (Empty saw.gate saw.last) in
     let cancel : BufferEntry = Cancel told.client told.number w.cancelled in
-    let front : History = g.before ++ (c, request) ∷ (g.running ++ end ∷ (g.draining ++ (c, found) ∷ [])) in
-    let b : List BufferEntry = entries_by c g.before in
-    let m : List BufferEntry = entries_by c (g.running ++ end ∷ g.draining) in
-    let rest : List BufferEntry = entries_by c g.after in
-    let own_front : entries_by c front ≡ b ++ request ∷ (m ++ found ∷ []) = own_up_to c g.before g.running g.draining end request found in
+    let front : History = saw.before ++ (c, request) ∷ (saw.running ++ end ∷ (saw.draining ++ (c, found) ∷ [])) in
+    let b : List BufferEntry = entries_by c saw.before in
+    let m : List BufferEntry = entries_by c (saw.running ++ end ∷ saw.draining) in
+    let rest : List BufferEntry = entries_by c saw.after in
+    let own_front : entries_by c front ≡ b ++ request ∷ (m ++ found ∷ []) = own_up_to c saw.before saw.running saw.draining end request found in
     let joined : (l : List BufferEntry) → (b ++ request ∷ (m ++ found ∷ [])) ++ l ≡ b ++ request ∷ (m ++ found ∷ l) = λ l.
     append_assoc b (request ∷ (m ++ found ∷ [])) l ∙ ap (λ (x : List BufferEntry). b ++ request ∷ x) (append_assoc m (found ∷ []) l) in
     let own_seen : entries_by c h ≡ b ++ request ∷ (m ++ found ∷ rest) =
-    ap (entries_by c) g.whole ∙ (entries_by-append c front g.after ∙ (ap (λ (x : List BufferEntry). x ++ rest) own_front ∙ joined rest)) in
+    ap (entries_by c) saw.whole ∙ (entries_by-append c front saw.after ∙ (ap (λ (x : List BufferEntry). x ++ rest) own_front ∙ joined rest)) in
     let own_counted : entries_by c h ≡ w.counted.asked.before ++ asked ∷ (counts ++ cancel ∷ w.later) =
     w.own_is ∙ (ap (λ (x : List BufferEntry). x ++ cancel ∷ w.later) w.counted.asked.whole ∙ append_assoc w.counted.asked.before (asked ∷ counts) (cancel ∷ w.later)) in
     let tails : request ∷ (m ++ found ∷ rest) ≡ asked ∷ (counts ++ cancel ∷ w.later) =
@@ -145,27 +148,27 @@ saw_by s r a report told saw =
     (sym own_seen ∙ (own_counted ∙ ap (λ (x : List BufferEntry). x ++ asked ∷ (counts ++ cancel ∷ w.later)) (sym saw.by_request))) in
     let more : m ++ found ∷ rest ≡ counts ++ cancel ∷ w.later = cc (tails) in
     let f : FoundBefore m rest counts w.later found cancel =
-    found_before told.client g.room told.number (Empty g.gate g.last) w.cancelled m rest counts w.later g.keeps more in
-    let cut : CutAt c g.after f.rest = cut_at c g.after f.rest (cancel ∷ w.later) f.after_is in
+    found_before told.client saw.room told.number (Empty saw.gate saw.last) w.cancelled m rest counts w.later saw.lives more in
+    let cut : CutAt c saw.after f.rest = cut_at c saw.after f.rest (cancel ∷ w.later) f.after_is in
     record {
       seen = front ++ cut.first;
       later = cut.last;
-      whole = g.whole ∙ (ap (λ (x : History). front ++ x) cut.whole ∙ sym (append_assoc front cut.first cut.last));
+      whole = saw.whole ∙ (ap (λ (x : History). front ++ x) cut.whole ∙ sym (append_assoc front cut.first cut.last));
       ended = saw.ended;
       sees = record {
-        before = g.before;
-        running = g.running;
-        draining = g.draining;
+        before = saw.before;
+        running = saw.running;
+        draining = saw.draining;
         after = cut.first;
-        number = g.number;
-        by = g.by;
-        room = g.room;
-        gate = g.gate;
-        last = g.last;
+        number = told.number;
+        by = saw.by;
+        room = saw.room;
+        gate = saw.gate;
+        last = saw.last;
         whole = refl;
-        early = g.early;
-        alone = g.alone;
-        keeps = g.keeps;
+        early = saw.early;
+        alone = subst (λ (l : List BufferEntry). (n : ℕ) → asks (calls_after [] l) told.client n ≡ false) (sym saw.by_request) w.counted.asked.alone;
+        keeps = keeps_first told.client m (found ∷ f.rest) (subst (KeepsAsking told.client) f.counted_is w.counted.asks_on);
       };
       since = entries_by-append c front cut.first
           ∙ (ap (λ (x : List BufferEntry). entries_by c front ++ x) cut.calls

@@ -1,15 +1,20 @@
 -- What the members' contracts and the histories of all objects tell together: what the laws say of a session whose members
 -- keep their contracts.
-use Rattle.std.specs.Prelude.{◌≡◌, ℕ, List, length, slice_get, Some}
+use Rattle.std.specs.Prelude.{◌≡◌, ℕ, true, false, List, length, slice_get, Some}
 use Rattle.daq_types.specs.Callers.{caller_of_client}
 use Rattle.daq_types.specs.declared.runs.ChannelState.{ChannelState}
 use Rattle.daq_types.specs.declared.runs.ChannelState.TheVariants.{Ended, Broken, NoMark}
 use Rattle.daq_types.specs.declared.runs.FrontEnded.{FrontEnded}
 use Rattle.daq_types.specs.declared.runs.StartOutcome.{StartOutcome}
-use Rattle.daq_types.specs.declared.runs.StartOutcome.TheVariants.{Completed}
-use Rattle.daq_types.specs.declared.runs.Transition.TheVariants.{Stop, Pause}
+use Rattle.daq_types.specs.declared.runs.StartOutcome.TheVariants.{Completed, Refused}
+use Rattle.daq_types.specs.declared.runs.RunState.TheVariants.{Stopped}
+use Rattle.daq_types.specs.declared.runs.Transition.TheVariants.{Start, Stop, Pause}
+use Rattle.daq_types.specs.declared.runs.Why.{Why}
+use Rattle.daq_types.specs.declared.runs.Why.TheVariants.{NotReady}
 use Rattle.transitions.specs.declared.sheet.Sheet.{Sheet}
 use Rattle.transitions.specs.declared.answers.ClientTally.{ClientTally}
+use Rattle.transitions.specs.EngineCalls.{order_for}
+use Rattle.transitions.specs.declared.answers.Tally.TheVariants.{Channels}
 use Rattle.engine_laws.specs.BegunTurns.{HasTransition}
 use Rattle.buffer_core.specs.declared.entry.BufferEntry.{BufferEntry}
 use Rattle.buffer_core.specs.Window.{Sent}
@@ -24,9 +29,9 @@ use Rattle.front_ends.specs.FrontKept.{made_events}
 use Rattle.caller_laws.specs.OneCaller.{events_in}
 use Rattle.caller_laws.specs.SeenRuns.{SeesRun}
 use Rattle.caller_laws.specs.SentRuns.{places_sent, events_at_places}
-use Rattle.composition.specs.SentSets.{sent_by_moment, AreTurnSets}
+use Rattle.composition.specs.SentSets.{AreTurnSets}
 use Rattle.composition.specs.Sessions.{Session, SessionFront, SessionAnalyzer, HasFront, HasAnalyzer, turns_of, buffer_calls, database_calls}
-use Rattle.composition.specs.SessionRuns.{SessionRun, IsStoppedRun, run_order, TellsFront, FrontSent, SetAtStop, IsOfFront, ToldState, HoldsRunFile, HoldsFilePart, TellsTotals, ReportsRun, analyzer_events, SawThrough}
+use Rattle.composition.specs.SessionRuns.{SessionRun, IsStoppedRun, run_order, TellsFront, FrontSent, SetAtStop, SetAtPause, IsOfFront, IsMadeInRun, ToldState, HoldsRunFile, HoldsFilePart, TellsTotals, ReportsRun, analyzer_events, SawThrough}
 
 -- Each front-end has told in the Done of the stop what it sent in the run.
 abbrev pub FrontsTell : Session → Type 0
@@ -49,25 +54,24 @@ FrontsStand s = (r : SessionRun) → IsStoppedRun s r →
     ≡ made_events f.makes (run_order r) sent)
 
 -- Each front-end set in the database, in its own key alone, 0 at each start, and at each pause and each stop how many
--- events it had sent in the run by then, in the order of these turns; and it made no other call on the database.
+-- events it had sent in the run by then, in the order of these turns; and it made no other call on the database. What it sets at a
+-- latest turn that has no answer may still be to come.
 abbrev pub FrontsSet : Session → Type 0
 FrontsSet s = (f : SessionFront) → HasFront s f →
     AreTurnSets f.name (buffer_calls s f.buffer f.client) (turns_of s f.client) f.moments (database_calls s f.client)
 
--- What it set at the stop of a run is what it told in the Done of the stop.
+-- Its set at the stop of a run stands in the database, and is of the number that it told in the Done of the stop.
 abbrev pub StopsSet : Session → Type 0
 StopsSet s = (r : SessionRun) → IsStoppedRun s r →
     (f : SessionFront) → HasFront s f → (sent : ℕ) → (ended : FrontEnded) → TellsFront r f.client sent ended →
     SetAtStop s r f sent
 
--- What it set at a pause is how many events it had sent in the run when it answered its next turn, or has sent so far, where
--- it answered none since.
+-- Its set at a pause that it answered stands in the database, and is of the number of events that it had sent in the run when it
+-- answered its next turn, or has sent so far, where it answered none since.
 abbrev pub PausesSet : Session → Type 0
 PausesSet s = (f : SessionFront) → HasFront s f → (t : MemberTurn) → (moment until : ℕ) →
-    (let own : List BufferEntry = buffer_calls s f.buffer f.client in
-    HasSpan (turns_of s f.client) f.moments (length own) t moment until →
-    t.transition ≡ Pause → HasAnswer t.answer →
-    sent_by_moment own t.order.start moment ≡ sent_by_moment own t.order.start until)
+    HasSpan (turns_of s f.client) f.moments (length (buffer_calls s f.buffer f.client)) t moment until →
+    t.transition ≡ Pause → HasAnswer t.answer → SetAtPause s f t moment until
 
 -- Each event between the marks of a run in a buffer was sent in that run by a front-end of that buffer.
 abbrev pub OnlyFrontsSent : Session → Type 0
@@ -75,11 +79,32 @@ OnlyFrontsSent s = (buffer start index place : ℕ) → (x : Sent) →
     slice_get (segment (s.history buffer) start) index ≡ Some (place, x) →
     IsOfFront s buffer start place x.event
 
+-- Where the run was not refused and was stopped, each event between its marks in a buffer is one of those that a front-end of
+-- that buffer told that it sent: one of the first events of that front-end's equipment in the order of the run.
+abbrev pub SegmentsAreMade : Session → Type 0
+SegmentsAreMade s = (r : SessionRun) → IsStoppedRun s r →
+    (buffer index place : ℕ) → (x : Sent) → slice_get (segment (s.history buffer) r.start) index ≡ Some (place, x) →
+    IsMadeInRun s r buffer x.event
+
 -- The logger has told in the Done of the stop what became of each channel, and that is so.
 abbrev pub ChannelsTold : Session → Type 0
 ChannelsTold s = (r : SessionRun) → IsStoppedRun s r →
     (index : ℕ) → (channel : LoggerChannel) → slice_get s.channels index ≡ Some channel →
     (state : ChannelState) × ToldState s r channel state ×
+    IsStateSo (buffer_calls s channel.buffer s.logger) r.start r.last.dump state
+
+-- Where the logger told states of channels there, a state of each channel is among them.
+abbrev pub StatesTold : Session → Type 0
+StatesTold s = (r : SessionRun) → IsStoppedRun s r → (place : ℕ) → (states : List ChannelState) →
+    slice_get r.last_tallies place ≡ Some (record { client = s.logger; tally = Channels states }) →
+    (index : ℕ) → (channel : LoggerChannel) → slice_get s.channels index ≡ Some channel →
+    (state : ChannelState) × (slice_get states channel.number ≡ Some state)
+
+-- Each state that it told of a channel there is so.
+abbrev pub StatesSo : Session → Type 0
+StatesSo s = (r : SessionRun) → IsStoppedRun s r →
+    (index : ℕ) → (channel : LoggerChannel) → slice_get s.channels index ≡ Some channel →
+    (state : ChannelState) → ToldState s r channel state →
     IsStateSo (buffer_calls s channel.buffer s.logger) r.start r.last.dump state
 
 -- The file of each channel that the logger told to have ended is the run file of the events that the channel asks for.
@@ -110,8 +135,8 @@ abbrev pub ReportsTold : Session → Type 0
 ReportsTold s = (r : SessionRun) → IsStoppedRun s r →
     (a : SessionAnalyzer) → HasAnalyzer s a → (report : Totals) × TellsTotals r a.client report
 
--- And that is the report of the events with the run's start number that its client got, in order, from its one request on
--- until it cancelled that: before then the buffer told it how many events it had taken, and it read all of these.
+-- And that is the report of the events with the run's start number that its client got, in order, from the request of the run's
+-- start on until it cancelled that: before then the buffer told it how many events it had taken, and it read all of these.
 abbrev pub ReportsSo : Session → Type 0
 ReportsSo s = (r : SessionRun) → IsStoppedRun s r →
     (a : SessionAnalyzer) → HasAnalyzer s a → (report : Totals) → TellsTotals r a.client report →
@@ -136,17 +161,35 @@ abbrev pub StopsComplete : Session → Type 0
 StopsComplete s = (sheet : Sheet) → (start : ℕ) → (outcome : StartOutcome) → (tallies : List ClientTally) →
     HasTransition s.engine Stop sheet start outcome tallies → outcome ≡ Completed
 
+-- A start that a front-end refused was refused as NotReady, and its equipment takes no part in the run.
+abbrev pub FrontsRefuse : Session → Type 0
+FrontsRefuse s = (f : SessionFront) → HasFront s f →
+    (sheet : Sheet) → (start : ℕ) → (why : Why) → (tallies : List ClientTally) →
+    HasTransition s.engine Start sheet start (Refused f.client why) tallies →
+    (why ≡ NotReady) × (f.takes (order_for sheet start Stopped) ≡ false)
+
+-- A start that was not refused is one of a run in which the equipment of each front-end takes part.
+abbrev pub FrontsTakePart : Session → Type 0
+FrontsTakePart s = (sheet : Sheet) → (start : ℕ) → (tallies : List ClientTally) →
+    HasTransition s.engine Start sheet start Completed tallies →
+    (f : SessionFront) → HasFront s f → f.takes (order_for sheet start Stopped) ≡ true
+
 -- All that these laws say of a session.
 pub record IsComposed (s : Session) : Type 0 where
   pub stops_complete : StopsComplete s
+  pub fronts_refuse : FrontsRefuse s
+  pub fronts_take : FrontsTakePart s
   pub fronts_tell : FrontsTell s
   pub fronts_sent : FrontsSent s
   pub fronts_stand : FrontsStand s
   pub only_fronts : OnlyFrontsSent s
+  pub segments_made : SegmentsAreMade s
   pub fronts_set : FrontsSet s
   pub stops_set : StopsSet s
   pub pauses_set : PausesSet s
   pub channels_told : ChannelsTold s
+  pub states_told : StatesTold s
+  pub states_so : StatesSo s
   pub runs_ended : RunsAreEnded s
   pub no_end_refused : NoEndRefused s
   pub files_hold : FilesHoldRuns s

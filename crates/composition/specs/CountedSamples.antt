@@ -40,13 +40,13 @@ counted_report told = report_of (told ∷ [])
 abbrev pub plain_by_three : List ClientTally
 plain_by_three = plain 0 ∷ plain 1 ∷ plain 2 ∷ []
 
-abbrev pub counted_tallies : (told : Event) → List ClientTally
-counted_tallies told =
+abbrev pub counted_tallies : (report : Totals) → List ClientTally
+counted_tallies report =
     record { client = 0; tally = Channels [] } ∷ record { client = 1; tally = Front 1 Quota }
-    ∷ record { client = 2; tally = Report (counted_report told) } ∷ []
+    ∷ record { client = 2; tally = Report report } ∷ []
 
-abbrev pub counted_engine : (told : Event) → EngineHistory
-counted_engine told =
+abbrev pub counted_engine : (report : Totals) → EngineHistory
+counted_engine report =
     (0, Register [] (at_all 1) true false (Ok 0)) ∷ (0, Register [] (at_all 2) false false (Ok 1))
     ∷ (0, Register [] (at_all 3) false true (Ok 2)) ∷ (0, Begin Start counted_sheet (Ok 1))
     ∷ (1, Poll 0 (Turn Start (order_for counted_sheet 1 Stopped) (Some (7 ∷ [])) None))
@@ -59,8 +59,8 @@ counted_engine told =
     ∷ (1, Answer 0 (Yes (Channels [])) (Ok tt))
     ∷ (2, Poll 1 (Turn Stop (order_for last_sheet 1 Running) None None)) ∷ (2, Answer 1 (Yes (Front 1 Quota)) (Ok tt))
     ∷ (3, Poll 2 (Turn Stop (order_for last_sheet 1 Running) None None))
-    ∷ (3, Answer 2 (Yes (Report (counted_report told))) (Ok tt))
-    ∷ (0, Check (Done Completed) (counted_tallies told)) ∷ []
+    ∷ (3, Answer 2 (Yes (Report report)) (Ok tt))
+    ∷ (0, Check (Done Completed) (counted_tallies report)) ∷ []
 
 -- the one buffer, in which the front-end's event is sent, and the analyzer gets what stands at its place
 abbrev pub counted_history : (buffer : ℕ) → History
@@ -82,7 +82,7 @@ abbrev pub counted_session : (told : Event) → Session
 counted_session told = record {
   size = λ buffer. 48;
   history = counted_history;
-  engine = counted_engine told;
+  engine = counted_engine (counted_report told);
   database = sample_database;
   fronts = sample_front ∷ [];
   logger = 0;
@@ -98,5 +98,20 @@ counted_run told = record {
   first = counted_sheet;
   last = last_sheet;
   first_tallies = plain_by_three;
-  last_tallies = counted_tallies told;
+  last_tallies = counted_tallies (counted_report told);
 }
+
+-- The analyzer asks a second time in the run, and reports what it got since: nothing.
+abbrev pub asked_history : (buffer : ℕ) → History
+asked_history zero =
+    (3, Attach [] (Ok 0)) ∷ (3, Request 0 any any All (Ok 0)) ∷ (1, BufferBegin 1 (Ok 0))
+    ∷ (2, SendInRun 1 0 sample_event (Ok 0)) ∷ (3, Receive 0 0 (Got 0 1)) ∷ (3, Cancel 0 0 (Ok tt))
+    ∷ (3, Request 0 any any All (Ok 0)) ∷ (1, BufferEnd 1 (Ok 1)) ∷ (3, Accepted 1)
+    ∷ (3, Receive 0 0 (Empty Shut 1)) ∷ (3, Cancel 0 0 (Ok tt)) ∷ []
+asked_history (suc n) = []
+
+abbrev pub asked_twice : Session
+asked_twice = record (counted_session sample_event) { history = asked_history; engine = counted_engine (report_of []) }
+
+abbrev pub asked_run : SessionRun
+asked_run = record (counted_run sample_event) { last_tallies = counted_tallies (report_of []) }

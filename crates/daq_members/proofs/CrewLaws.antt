@@ -1,19 +1,20 @@
 -- A session's members behind a turn of one of them, behind several, and behind rounds.
-use Rattle.std.specs.Prelude.{◌≡◌, ◌≢◌, ℕ, zero, suc, ◌+◌, ◌<◌, ◌≤◌, ◌%◌, Bool, IsTrue, List, [], ◌∷◌, slice_get, slice_set, length, Some, refl}
+use Rattle.std.specs.Prelude.{◌≡◌, ◌≢◌, ℕ, zero, suc, ◌+◌, ◌<◌, ◌%◌, Bool, IsTrue, List, [], ◌∷◌, slice_get, slice_set, length, Some, refl}
 use Rattle.std.proofs.Common.{ap, sym, subst, ◌∙◌, arith, inl, inr, get_or, add-one}
 use Rattle.std.proofs.Math.Nat.{mod-lt}
 use Rattle.std.proofs.lemmas.List.{length-set}
 use Rattle.std.proofs.lemmas.Option.{slice_get_within, slice_get_read}
 use Rattle.std.proofs.lemmas.Bool.Decides.{eqb_tells}
 use Rattle.buffer_core.specs.Ports.{Access}
-use Rattle.loggers.specs.Moments.{IsSameAccess, AreSamePorts}
+use Rattle.loggers.specs.Moments.{IsSameAccess}
 use Rattle.odb_port.specs.DatabasePorts.{DatabaseAccess, IsSamePort}
 use Rattle.session_engine.specs.MadeTransitions.{HadRounds}
 use Rattle.daq_members.specs.declared.turned.Turned.{Turned}
 use Rattle.daq_members.specs.FrontTaken.{TakesFront}
 use Rattle.daq_members.specs.FrontSeats.{FrontSeen, IsSameFront, front_taken}
 use Rattle.daq_members.specs.LoggerSeats.{LoggerSeen, IsSameLogger, logger_taken}
-use Rattle.daq_members.specs.Crews.{CrewSeen, CrewTold, AreMembers, TurnsFront, TurnsLogger, TurnsMember, TurnFrom, PicksMember, TakesRound, AreSameFronts, IsSameCrew, NotesRunFaults, KeptByRounds, member_count}
+use Rattle.daq_members.specs.Crews.{CrewSeen, CrewTold, TurnsFront, TurnsLogger, TurnsMember, TurnFrom, TakesRound, AreSameFronts, IsSameCrew, NotesRunFaults, KeptByRounds, member_count}
+use Rattle.daq_members.proofs.LoggerLaws.{same_ports, same_then}
 use Rattle.daq_members.proofs.LoggerSeatLaws.{NotedLaws, notes_same, taken_noted}
 
 -- Lists.
@@ -68,34 +69,18 @@ same_port a = record { database = refl; caller = refl; undisturbed = refl }
 port_then : (a b c : DatabaseAccess) → IsSamePort a b → IsSamePort b c → IsSamePort a c
 port_then a b c first then_ = record { database = then_.database ∙ first.database; caller = then_.caller ∙ first.caller; undisturbed = then_.undisturbed ∙ first.undisturbed }
 
-same_ports : (ports : List Access) → AreSamePorts ports ports
-same_ports ports = record {
-  many = refl;
-  there = λ buffer b at. (b, at);
-  same = λ buffer a b one other.
-      let is : a ≡ b = one_there ports ports buffer a b refl one other in
-      subst (λ (x : Access). IsSameAccess a x) is (same_access a);
-}
-
-ports_then : (a b c : List Access) → AreSamePorts a b → AreSamePorts b c → AreSamePorts a c
-ports_then a b c first then_ = record {
-  many = then_.many ∙ first.many;
-  there = λ buffer z at. let y : (y : Access) × (slice_get b buffer ≡ Some y) = then_.there buffer z at in first.there buffer y.0 y.1;
-  same = λ buffer x z at is.
-      let y : (y : Access) × (slice_get b buffer ≡ Some y) = then_.there buffer z is in
-      access_then x y.0 z (first.same buffer x y.0 at y.1) (then_.same buffer y.0 z y.1 is);
-}
-
 -- Loggers.
 
 same_logger : {F : Type 0} (a : LoggerSeen F) → IsSameLogger a a
-same_logger a = record { engine = refl; client = refl; ports = same_ports a.ports }
+same_logger a = record { engine = refl; client = refl; ports = same_ports a.ports; specs = refl; first = refl }
 
 logger_then : {F : Type 0} (a b c : LoggerSeen F) → IsSameLogger a b → IsSameLogger b c → IsSameLogger a c
 logger_then a b c first then_ = record {
   engine = then_.engine ∙ first.engine;
   client = then_.client ∙ first.client;
-  ports = ports_then a.ports b.ports c.ports first.ports then_.ports;
+  ports = same_then a.ports b.ports c.ports first.ports then_.ports;
+  specs = then_.specs ∙ first.specs;
+  first = then_.first ∙ first.first;
 }
 
 module _ {E F K : Type 0} (told : CrewTold E F K) where

@@ -6,3 +6,5 @@ pub mod LoggerLaws
 pub mod LoggerSeatLaws
 pub mod TurnSets
 pub mod CrewLaws
+pub mod OtherFilesKept
+pub mod LoggerReasons

@@ -1,5 +1,5 @@
 -- A front-end in a session, with its own port to its buffer and its own access to the database.
-use Rattle.std.specs.Prelude.{◌≡◌, ℕ, ◌≤◌, Bool, List, Option}
+use Rattle.std.specs.Prelude.{◌≡◌, ℕ, ◌≤◌, Bool, true, List, Option}
 use Rattle.daq_types.specs.Callers.{caller_of_client}
 use Rattle.daq_types.specs.declared.events.Event.{Event}
 use Rattle.daq_types.specs.declared.runs.Order.{Order}
@@ -10,6 +10,7 @@ use Rattle.transition_lock.specs.declared.shared.SharedEngine.{SharedEngine}
 use Rattle.front_ends.specs.declared.front_run.FrontRun.{FrontRun}
 use Rattle.loggers.specs.Moments.{IsSameAccess}
 use Rattle.daq_members.specs.declared.turned.Turned.{Turned}
+use Rattle.daq_members.specs.OwnTurns.{are_calls_for}
 use Rattle.daq_members.specs.FrontTaken.{FrontTaken, FrontMemberStands}
 
 -- A front-end in a session: the engine that it asks, its client number, its name, its equipment, and its run; its
@@ -24,9 +25,10 @@ pub record FrontSeen (E : Type 0) : Type 0 where
   pub port : Access
   pub database : DatabaseAccess
 
--- The port and the access are the client's own, an event fits into the buffer, and the front-end keeps its contract
--- over its own calls on engine, buffer and database.
+-- On the engine the front-end polls and answers for its own client alone; the port and the access are the client's own, an
+-- event fits into the buffer, and the front-end keeps its contract over its own calls on engine, buffer and database.
 pub record IsSeated {E : Type 0} (takes : E → Order → Bool) (makes : E → Order → ℕ → Event) (front : FrontSeen E) : Type 0 where
+  pub speaks : are_calls_for front.client front.calls ≡ true
   pub caller : front.port.caller ≡ caller_of_client front.client
   pub database_caller : front.database.caller ≡ caller_of_client front.client
   pub size : 104 ≤ front.port.size

@@ -4,5 +4,6 @@ pub mod FrontTaken
 pub mod LoggerTaken
 pub mod Endless
 pub mod FrontSeats
+pub mod StartedRuns
 pub mod LoggerSeats
 pub mod Crews

@@ -1,5 +1,5 @@
 -- The logger in a session, with its own ports to the buffers and the run files.
-use Rattle.std.specs.Prelude.{◌≡◌, ◌≤◌, ℕ, IfSome, List, length, Option}
+use Rattle.std.specs.Prelude.{◌≡◌, ◌≤◌, ℕ, true, IfSome, List, length, Option}
 use Rattle.daq_types.specs.Callers.{caller_of_client}
 use Rattle.daq_model.specs.Events.{record_limit}
 use Rattle.daq_io.specs.Seen.{Seen}
@@ -14,11 +14,16 @@ use Rattle.loggers.specs.NewLoggers.{NoneTakenBack}
 use Rattle.loggers.specs.SlotPulls.{HasEventRoom}
 use Rattle.loggers.specs.Turning.{IsIdleOutside, buffers_begun}
 use Rattle.loggers.specs.LoggerStands.{LoggerStands}
+use Rattle.loggers.specs.Reasons.{GivesReasons}
+use Rattle.loggers.specs.OtherFiles.{specs_in, KeepsOtherFiles}
 use Rattle.daq_members.specs.declared.turned.Turned.{Turned}
+use Rattle.daq_members.specs.OwnTurns.{are_calls_for}
+use Rattle.daq_members.specs.StartedRuns.{started_runs}
 use Rattle.daq_members.specs.LoggerTaken.{LoggerTaken, HaveCaller}
 
 -- A logger in a session: the engine that it asks, its client number, its run, and the dump of the stop that it has not
--- answered; its calls on the engine; and its channels, its access to each buffer, and the run files.
+-- answered; its calls on the engine; and its channels, its access to each buffer, and the run files, as they are and as
+-- they were when it took its seat.
 pub record LoggerSeen (F : Type 0) : Type 0 where
   pub engine : SharedEngine
   pub client : ℕ
@@ -28,6 +33,7 @@ pub record LoggerSeen (F : Type 0) : Type 0 where
   pub slots : List (Option Channel)
   pub ports : List Access
   pub files : F
+  pub first : F
 
 -- run files, by what is told of them, their counts of faults and of clashes, and the name of the first fault
 abbrev pub files_by : {F : Type 0} → (seen : F → Seen) → (faults clashes : F → ℕ) → (first : F → Option (List ℕ)) → F →
@@ -35,9 +41,12 @@ abbrev pub files_by : {F : Type 0} → (seen : F → Seen) → (faults clashes :
 files_by seen faults clashes first files =
     record { seen = seen files; faults = faults files; clashes = clashes files; first = first files }
 
--- The ports are the client's own, and the logger is ready for each turn; and it keeps its contract over its own calls
--- on engine, buffers and files, where no client of it is known to be detached by another.
+-- On the engine the logger polls and answers for its own client alone; the ports are the client's own, and it is ready for
+-- each turn. Where no client of it is known to be detached by another, it keeps its contract over its own calls on engine,
+-- buffers and files; and all files but those of its channels in the runs that it was told to start are as they were when
+-- it took its seat.
 pub record IsLoggerSeated {F : Type 0} (seen : F → Seen) (logger : LoggerSeen F) : Type 0 where
+  pub speaks : are_calls_for logger.client logger.calls ≡ true
   pub caller : HaveCaller (caller_of_client logger.client) logger.ports
   pub ready : IsLoggerReady logger.slots logger.ports (seen logger.files)
   pub room : (number : ℕ) → HasEventRoom number logger.slots logger.ports
@@ -47,6 +56,21 @@ pub record IsLoggerSeated {F : Type 0} (seen : F → Seen) (logger : LoggerSeen 
   pub stands : NoneTakenBack logger.ports →
       LoggerStands logger.run logger.stop_dump logger.slots logger.ports (member_turns logger.client logger.calls)
       (seen logger.files)
+  pub others : NoneTakenBack logger.ports →
+      KeepsOtherFiles (specs_in logger.slots) (started_runs (member_turns logger.client logger.calls))
+      (seen logger.first) (seen logger.files)
+
+-- Each answer of the logger rests on the counts of the run files, as they were when it took its seat and as they are: a
+-- start was refused for a name only where a clash was counted, and for a fault only where one was; and a channel broke off
+-- only where a fault was counted.
+abbrev pub HasLoggerReasons : {F : Type 0} → (read : F → RunFiles) → LoggerSeen F → Type 0
+HasLoggerReasons read logger =
+    GivesReasons logger.slots (read logger.first) (read logger.files) (member_turns logger.client logger.calls)
+
+-- Both.
+pub record IsLoggerAtSeat {F : Type 0} (seen : F → Seen) (read : F → RunFiles) (logger : LoggerSeen F) : Type 0 where
+  pub seated : IsLoggerSeated seen logger
+  pub reasons : HasLoggerReasons read logger
 
 -- a turn of the logger, by what is seen of it before and behind
 abbrev pub logger_taken : {F : Type 0} → (read : F → RunFiles) → (before after : LoggerSeen F) → Turned → LoggerTaken
@@ -63,8 +87,11 @@ logger_taken read before after turned = record {
   turned = turned;
 }
 
--- The same logger: it asks the same engine by the same client number, and leads to the same buffers.
+-- The same logger: it asks the same engine by the same client number, leads to the same buffers, has the same channels,
+-- and took its seat at the same files.
 pub record IsSameLogger {F : Type 0} (before after : LoggerSeen F) : Type 0 where
   pub engine : after.engine ≡ before.engine
   pub client : after.client ≡ before.client
   pub ports : AreSamePorts before.ports after.ports
+  pub specs : specs_in after.slots ≡ specs_in before.slots
+  pub first : after.first ≡ before.first

@@ -6,11 +6,12 @@ ghost use Rattle.buffer_core.specs.Slots.{some_slot};
 ghost use Rattle.turn_lock.specs.Passes.{number_of, held_by, own_entries, IsOf};
 ghost use Rattle.transition_lock.specs.SharedEngines.{engine_lock_of};
 ghost use Rattle.member_model.specs.TurnCalls.{member_turns};
-ghost use Rattle.loggers.specs.Moments.{IsLoggerReady};
+ghost use Rattle.loggers.specs.Moments.{RunFiles, IsLoggerReady};
 ghost use Rattle.loggers.specs.NewLoggers.{NoneTakenBack};
 ghost use Rattle.loggers.specs.SlotPulls.{HasEventRoom};
 ghost use Rattle.loggers.specs.Turning.{IsIdleOutside, buffers_begun};
 ghost use Rattle.loggers.specs.LoggerStands.{LoggerStands};
+ghost use Rattle.loggers.specs.Reasons.{GivesReasons};
 ghost use Rattle.daq_members.specs.LoggerTaken.{TakesLogger, HaveCaller};
 
 use crate::endless::EndlessPort;
@@ -19,6 +20,7 @@ use crate::turned::Turned;
 use daq_io::{Files, Gate};
 use loggers::{Ports, laws as logger_laws};
 use std::marker::Model;
+use std::snapshot::Snapshot;
 use std::sync::Wait;
 use transition_lock::EnginePass;
 
@@ -38,12 +40,13 @@ pub struct LoggerSeat<'a, P: EndlessPort, F: Files> {
     member: LoggerMember<'a>,
     ports: Ports<P>,
     files: F,
+    first: Snapshot<F>,
 }
 
 impl<'a, P: EndlessPort, F: Files> Model for LoggerSeat<'a, P, F> {
     ghost use Rattle.std.specs.Prelude.{map};
     ghost use Rattle.turn_lock.specs.Passes.{own_entries};
-    ghost use Rattle.daq_members.specs.LoggerSeats.{LoggerSeen, IsLoggerSeated};
+    ghost use Rattle.daq_members.specs.LoggerSeats.{LoggerSeen, IsLoggerAtSeat, files_by};
 
     ghost Value = { LoggerSeen F };
 
@@ -56,9 +59,10 @@ impl<'a, P: EndlessPort, F: Files> Model for LoggerSeat<'a, P, F> {
       slots = s.member.logger.channels;
       ports = map P.access s.ports;
       files = s.files;
+      first = s.first.value;
     } };
 
-    ghost invariant = { λ s. IsLoggerSeated F.seen (record {
+    ghost invariant = { λ s. IsLoggerAtSeat F.seen (files_by F.seen F.faults F.clashes F.first) (record {
       engine = s.member.seat.engine.now;
       client = s.member.seat.client;
       run = s.member.logger.run;
@@ -67,11 +71,12 @@ impl<'a, P: EndlessPort, F: Files> Model for LoggerSeat<'a, P, F> {
       slots = s.member.logger.channels;
       ports = map P.access s.ports;
       files = s.files;
+      first = s.first.value;
     }) };
 }
 
 impl<'a, P: EndlessPort, F: Files> LoggerSeat<'a, P, F> {
-    ghost use Rattle.daq_members.specs.LoggerSeats.{IsLoggerSeated, IsSameLogger, logger_taken, files_by};
+    ghost use Rattle.daq_members.specs.LoggerSeats.{IsLoggerSeated, HasLoggerReasons, IsSameLogger, logger_taken, files_by};
 
     /// A logger that is ready for its turns, with its own ports to the buffers and the run files.
     pub fn new(member: LoggerMember<'a>, ports: Ports<P>, files: F) -> LoggerSeat<'a, P, F>
@@ -86,6 +91,8 @@ impl<'a, P: EndlessPort, F: Files> LoggerSeat<'a, P, F> {
         requires idle { IsIdleOutside member.logger.run member.logger.channels }
         requires begun { buffers_begun member.logger.run ≤ length ports }
         requires small { IfSome member.logger.stop_dump (λ bytes. length bytes ≤ record_limit) }
+        requires reasons { (told : RunFiles) → GivesReasons member.logger.channels told told
+            (member_turns member.seat.client (own_entries member.seat.pass)) }
         ensures engine { result.engine ≡ member.entry.seat.engine.now }
         ensures client { result.client ≡ member.entry.seat.client }
         ensures run { result.run ≡ member.entry.logger.run }
@@ -94,11 +101,14 @@ impl<'a, P: EndlessPort, F: Files> LoggerSeat<'a, P, F> {
         ensures slots { result.slots ≡ member.entry.logger.channels }
         ensures ports { result.ports ≡ map P.access ports }
         ensures files { result.files ≡ files }
+        ensures first { result.first ≡ files }
     {
+        let first = Snapshot::of(&files);
         LoggerSeat {
             member,
             ports,
             files,
+            first,
         }
     }
 
@@ -109,6 +119,8 @@ impl<'a, P: EndlessPort, F: Files> LoggerSeat<'a, P, F> {
         ensures same { IsSameLogger self.old self.new }
     {
         logger_laws::still_known();
+        logger_laws::other_files();
+        logger_laws::reasons_given();
         self.member.turn(rt, &mut self.ports, &mut self.files, gate)
     }
 
@@ -116,6 +128,7 @@ impl<'a, P: EndlessPort, F: Files> LoggerSeat<'a, P, F> {
     pub fn client(&self) -> u32
         ensures number { result ≡ self.now.client }
         ensures seated { IsLoggerSeated F.seen self.now }
+        ensures reasons { HasLoggerReasons (files_by F.seen F.faults F.clashes F.first) self.now }
     {
         self.member.seat.client
     }
@@ -137,11 +150,14 @@ impl<'a, P: EndlessPort, F: Files> LoggerSeat<'a, P, F> {
         ensures ports { map P.access result.ports ≡ self.entry.ports }
         ensures files { result.files ≡ self.entry.files }
         ensures seated { IsLoggerSeated F.seen self.entry }
+        ensures reasons { HasLoggerReasons (files_by F.seen F.faults F.clashes F.first)
+            self.entry }
     {
         let LoggerSeat {
             member,
             ports,
             files,
+            first: _,
         } = self;
         let LoggerMember { seat, .. } = member;
         LoggerParts {

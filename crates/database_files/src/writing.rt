@@ -1,4 +1,4 @@
-ghost use Rattle.std.specs.Prelude.{◌≡◌, IsTrue, OnOk, OnErr};
+ghost use Rattle.std.specs.Prelude.{◌≡◌, ◌≤◌, IsTrue, OnOk, OnErr};
 ghost use Rattle.daq_io.specs.Counts.{CountsFault, NamesFirst};
 ghost use Rattle.daq_io.specs.Seen.{Closes};
 ghost use Rattle.database_files.specs.FileReplies.{FaultsOf, ClashesOf, NamesFault};
@@ -32,6 +32,7 @@ fn write_and_close<E: Files>(files: &mut E, file: u32, text: &[u8]) -> Result<()
 pub fn write_file<E: Files>(files: &mut E, name: &FileName, text: &[u8]) -> FileReply
     ensures written { WritesFile (E.seen files.old) (E.seen files.new) name.now text.now result }
     ensures faults { FaultsOf result (E.faults files.old) (E.faults files.new) }
+    ensures later { E.faults files.old ≤ E.faults files.new }
     ensures clashes { ClashesOf result (E.clashes files.old) (E.clashes files.new) }
     ensures first { NamesFault result name.now (E.first files.old) (E.first files.new) }
 {

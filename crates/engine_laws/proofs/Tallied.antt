@@ -8,10 +8,10 @@ use Rattle.daq_types.specs.Callers.{entries_by}
 use Rattle.daq_types.proofs.CallersLaws.{entries_by-append}
 use Rattle.daq_types.specs.declared.runs.Order.{Order}
 use Rattle.daq_types.specs.declared.runs.StartOutcome.{StartOutcome}
-use Rattle.daq_types.specs.declared.runs.StartOutcome.TheVariants.{Completed}
+use Rattle.daq_types.specs.declared.runs.StartOutcome.TheVariants.{Completed, Refused}
 use Rattle.daq_types.specs.declared.runs.RunState.{RunState}
 use Rattle.daq_types.specs.declared.runs.Transition.{Transition}
-use Rattle.daq_types.specs.declared.runs.Transition.TheVariants.{Start, StartAbort}
+use Rattle.daq_types.specs.declared.runs.Transition.TheVariants.{Start, Stop, Pause, Resume, StartAbort}
 use Rattle.daq_types.specs.declared.runs.Why.{Why}
 use Rattle.buffer_core.specs.SlotLaws.{split}
 use Rattle.transitions.specs.declared.client.Registered.{Registered}
@@ -37,8 +37,8 @@ use Rattle.transitions.specs.GivenTurns.{SpeaksFor}
 use Rattle.transitions.specs.Marks.{is_mark, HasNoMark, IsEndOf}
 use Rattle.member_model.specs.Turns.{MemberTurn, HasTurn, HasAnswer, NoneOpen}
 use Rattle.member_model.specs.TurnCalls.{turn_told, turn_answered, turns_with, member_turns}
-use Rattle.engine_laws.specs.BegunTurns.{IsOfBegin, WantsAlone, OneWantsDump, IsTallyOfTurn}
-use Rattle.engine_laws.specs.EngineLaws.{DonesHaveBegins, TalliesAreAnswers}
+use Rattle.engine_laws.specs.BegunTurns.{IsOfBegin, HasTransition, WantsAlone, OneWantsDump, IsTallyOfTurn}
+use Rattle.engine_laws.specs.EngineLaws.{DonesHaveBegins, TalliesAreAnswers, RefusalsAreAnswers}
 use Rattle.engine_laws.proofs.Replies.{Begins, begins, GivesTurn, gives_turn, Owes, owes, owes_none, Finishes, finishes}
 use Rattle.engine_laws.proofs.TurnLists.{IsIn, to_call, to_call_more, front_gone, front_in, with_answer, told_new}
 use Rattle.engine_laws.proofs.Gave.{OpenFor, RunsOn, StandsAt, CalledLists, Gave, GaveAt, gave_step, gave_all, gave_unaccepted, other_step, own_or_other, opening_gave}
@@ -189,6 +189,17 @@ record IsTold (since : List MemberTurn) (tally : Tally) : Type 0 where
   tally_is : tally ≡ tally_of answer
   accepted : turn.transition ≡ Start → answer ≡ Yes tally
 
+-- one of these turns is of a start, and was refused so
+record IsRefused (since : List MemberTurn) (why : Why) : Type 0 where
+  turn : MemberTurn
+  stands : HasTurn since turn
+  starts : turn.transition ≡ Start
+  answered : turn.answer ≡ Some (No why)
+
+-- where this client refused the start, that is what it answered to its turn
+abbrev RefusesMine : (client : ℕ) → List MemberTurn → Option Refusal → Type 0
+RefusesMine client since refusal = (r : Refusal) → refusal ≡ Some r → r.client ≡ client → IsRefused since r.why
+
 abbrev TellsMine : (client : ℕ) → List MemberTurn → ClientTally → Type 0
 TellsMine client since x = x.client ≡ client → IsTold since x.tally
 
@@ -203,6 +214,7 @@ record Since (wants : Type 0) (came : RunState) (transition : Transition) (sheet
   turns : AllByRecursion (SinceTurn wants came transition sheet start) since
   plain : u.refusal ≡ None → AllByRecursion (IsOfKind transition) since
   told : AllByRecursion (TellsMine client since) u.tallies
+  refused : RefusesMine client since u.refusal
   fresh : wants → u.refusal ≡ None → IsIn client (to_call u.has_polled u.called) → u.dump ≡ sheet.dump
 
 -- A poll.
@@ -247,6 +259,7 @@ since_fresh wants came transition sheet start client past ts u c dump s wish dum
       );
       plain = λ none. (ap (λ (r : Option Refusal). turn_kind u.transition r) none ∙ s.from.transition_is, s.plain none);
       told = told_weaker client s.since (t ∷ s.since) (λ v answer is has. inr has) u.tallies s.told;
+      refused = λ r is mine. let it : IsRefused s.since r.why = s.refused r is mine in record { turn = it.turn; stands = inr it.stands; starts = it.starts; answered = it.answered };
       fresh = λ w refusal is. absurd (gone is);
     }
 
@@ -259,6 +272,7 @@ since_again wants came transition sheet start client past ts later u c s same wi
   turns = s.turns;
   plain = s.plain;
   told = s.told;
+  refused = s.refused;
   fresh = λ w refusal is. none_taken c.wants_dump u.has_polled u.dump (wish w is) ∙ s.fresh w refusal (to_call_more u.has_polled client u.called is);
 }
 
@@ -304,6 +318,7 @@ record AnsweredSince (wants : Type 0) (came : RunState) (transition : Transition
   turns : AllByRecursion (SinceTurn wants came transition sheet start) since
   plain : refusal ≡ None → AllByRecursion (IsOfKind transition) since
   told : AllByRecursion (TellsMine client since) tallies
+  refused : RefusesMine client since refusal
   latest : MemberTurn
   stands : HasTurn since latest
   answered : latest.answer ≡ Some answer
@@ -322,6 +337,9 @@ answered_since wants came transition sheet start client past ts u answer s none 
       turns = (record { of_begin = of_begin_answered came transition sheet start t answer turns.0.of_begin; dump = turns.0.dump }, turns.1);
       plain = λ un. let all : AllByRecursion (IsOfKind transition) (t ∷ latest.rest) = subst (AllByRecursion (IsOfKind transition)) latest.is (s.plain un) in (all.0, all.1);
       told = told_weaker client (t ∷ latest.rest) (with_answer t answer ∷ latest.rest) stays u.tallies told_so;
+      refused = λ r is mine.
+          let it : IsRefused (t ∷ latest.rest) r.why = subst (λ (xs : List MemberTurn). IsRefused xs r.why) latest.is (s.refused r is mine) in
+          record { turn = it.turn; stands = stays it.turn (No r.why) it.answered it.stands; starts = it.starts; answered = it.answered };
       latest = with_answer t answer;
       stands = inl refl;
       answered = refl;
@@ -350,6 +368,7 @@ since_told wants came transition sheet start client other past ts later u answer
   plain = a.plain;
   told = all_push (TellsMine client a.since) u.tallies (record { client = other; tally = tally }) a.told
       (λ mine. record { turn = a.latest; stands = a.stands; answer = answer; answered = a.answered; tally_is = is; accepted = λ starts. accepted (sym a.of_kind ∙ starts) });
+  refused = a.refused;
   fresh = fresh_told wants client sheet u polled s.fresh;
 }
 since_told wants came transition sheet start client other past ts later u answer tally s polled is accepted (inr (differs, b)) = record {
@@ -359,15 +378,39 @@ since_told wants came transition sheet start client other past ts later u answer
   turns = b.turns;
   plain = b.plain;
   told = all_push (TellsMine client b.since) u.tallies (record { client = other; tally = tally }) b.told (λ mine. absurd (differs mine));
+  refused = b.refused;
   fresh = fresh_told wants client sheet u polled s.fresh;
 }
 
-since_refused : (wants : Type 0) (came : RunState) (transition : Transition) (sheet : Sheet) (start client other : ℕ) (past ts later : List MemberTurn) (u : Underway) (clients : List Registered) (answer : ClientAnswer) (why : Why) → Since wants came transition sheet start client past ts u
-    → is_start (turn_of u) ≡ true → Behind wants came transition sheet start client other past later u answer → Since wants came transition sheet start client past later (refused_by clients other why u)
-since_refused wants came transition sheet start client other past ts later u clients answer why s starts (inl (same, a)) =
-    record { from = from_refused came transition sheet start u clients other why starts s.from; since = a.since; ts_is = a.ts_is; turns = a.turns; plain = λ un. absurd (cc (un)); told = a.told; fresh = λ w refusal is. absurd (cc (refusal)) }
-since_refused wants came transition sheet start client other past ts later u clients answer why s starts (inr (differs, b)) =
-    record { from = from_refused came transition sheet start u clients other why starts s.from; since = b.since; ts_is = b.ts_is; turns = b.turns; plain = λ un. absurd (cc (un)); told = b.told; fresh = λ w refusal is. absurd (cc (refusal)) }
+start_kind : (k : Transition) → is_start k ≡ true → k ≡ Start
+start_kind Start is = refl
+start_kind Stop is = absurd (cc (is))
+start_kind Pause is = absurd (cc (is))
+start_kind Resume is = absurd (cc (is))
+start_kind StartAbort is = absurd (cc (is))
+
+since_refused : (wants : Type 0) (came : RunState) (transition : Transition) (sheet : Sheet) (start client other : ℕ) (past ts later : List MemberTurn) (u : Underway) (clients : List Registered) (why : Why) → Since wants came transition sheet start client past ts u
+    → is_start (turn_of u) ≡ true → Behind wants came transition sheet start client other past later u (No why) → Since wants came transition sheet start client past later (refused_by clients other why u)
+since_refused wants came transition sheet start client other past ts later u clients why s starts (inl (same, a)) = record {
+  from = from_refused came transition sheet start u clients other why starts s.from;
+  since = a.since;
+  ts_is = a.ts_is;
+  turns = a.turns;
+  plain = λ un. absurd (cc (un));
+  told = a.told;
+  refused = λ r is mine. (let why_is : why ≡ r.why = cc (is) in record { turn = a.latest; stands = a.stands; starts = a.of_kind ∙ start_kind (turn_of u) starts; answered = a.answered ∙ ap (λ (w : Why). Some (No w)) why_is });
+  fresh = λ w refusal is. absurd (cc (refusal));
+}
+since_refused wants came transition sheet start client other past ts later u clients why s starts (inr (differs, b)) = record {
+  from = from_refused came transition sheet start u clients other why starts s.from;
+  since = b.since;
+  ts_is = b.ts_is;
+  turns = b.turns;
+  plain = λ un. absurd (cc (un));
+  told = b.told;
+  refused = λ r is mine. absurd (let by : other ≡ r.client = cc (is) in differs (by ∙ mine));
+  fresh = λ w refusal is. absurd (cc (refusal));
+}
 
 not_start : (k : Transition) (answer : ClientAnswer) (tally : Tally) → is_start k ≡ false → k ≡ Start → answer ≡ Yes tally
 not_start k answer tally not starts = absurd (let e : is_start Start ≡ false = ap is_start (sym starts) ∙ not in cc (e))
@@ -377,7 +420,7 @@ since_by : (wants : Type 0) (came : RunState) (transition : Transition) (sheet :
 since_by wants came transition sheet start client other past ts later u clients (Yes tally) s polled behind = since_told wants came transition sheet start client other past ts later u (Yes tally) tally s polled refl (λ starts. refl) behind
 since_by wants came transition sheet start client other past ts later u clients (No why) s polled behind =
     split (is_start (turn_of u)) (λ b. is_start (turn_of u) ≡ b → Since wants came transition sheet start client past later (if b then refused_by clients other why u else told other Plain u))
-    (λ h e. since_refused wants came transition sheet start client other past ts later u clients (No why) why s e behind)
+    (λ h e. since_refused wants came transition sheet start client other past ts later u clients why s e behind)
     (λ h e. since_told wants came transition sheet start client other past ts later u (No why) Plain s polled refl (not_start (turn_of u) (No why) Plain e) behind)
     refl
 
@@ -471,7 +514,7 @@ goes_begun wants came client ts s t sheet n is b only = record {
   u = begun s t sheet n;
   underway_is = refl;
   only = only;
-  since = record { from = from_begun came s t sheet n is b.allowed; since = []; ts_is = refl; turns = tt; plain = λ un. tt; told = tt; fresh = λ w refusal is'. refl };
+  since = record { from = from_begun came s t sheet n is b.allowed; since = []; ts_is = refl; turns = tt; plain = λ un. tt; told = tt; refused = λ r is' mine. absurd (cc (is')); fresh = λ w refusal is'. refl };
 }
 
 -- the turns of the caller's calls in two parts
@@ -520,8 +563,18 @@ rests_none client ts s free g = (subst (StandsAt s.state s.start client ts) free
 opening_wants : (client : ℕ) → OnlyWants client []
 opening_wants client = λ other c at. absurd (cc (at))
 
-pub tallies_are_answers : Follows → CalledLists → TalliesAreAnswers
-tallies_are_answers follows lists by client history legal alone transition sheet start outcome tallies has index tally at =
+-- the client's turns since the begin, at the Done
+record AtDone (by client : ℕ) (history : EngineHistory) (transition : Transition) (sheet : Sheet) (start : ℕ) (outcome : StartOutcome) (tallies : List ClientTally) (has : HasTransition history transition sheet start outcome tallies) : Type 0 where
+  past : List MemberTurn
+  ts : List MemberTurn
+  engine : EngineState
+  goes : Goes (OneWantsDump client has.earlier) (state_at (engine_past has.earlier)) transition sheet start client past ts engine
+  reply : IsEngineReply engine (Check (Done outcome) tallies)
+  turns_are : member_turns client (entries_by by history) ≡ fold (turns_with client) ts (entries_by by ((has.closer, Check (Done outcome) tallies) ∷ has.later))
+
+at_done : Follows → CalledLists → (by client : ℕ) (history : EngineHistory) → IsLegalEngine engine_opening history → SpeaksFor by client history → (transition : Transition) (sheet : Sheet) (start : ℕ) (outcome : StartOutcome) (tallies : List ClientTally)
+    → (has : HasTransition history transition sheet start outcome tallies) → AtDone by client history transition sheet start outcome tallies has
+at_done follows lists by client history legal alone transition sheet start outcome tallies has =
     let wants : Type 0 = OneWantsDump client has.earlier in
     let came : RunState = state_at (engine_past has.earlier) in
     let begin : ℕ × EngineEntry = (has.opener, Begin transition sheet (Ok start)) in
@@ -539,15 +592,54 @@ tallies_are_answers follows lists by client history legal alone transition sheet
     let g2 : Gave s2 client ts1 = gave_step lists s1 client ts1 begin.1 g1 first.1.1 in
     let none : NoneOpen ts1 = rests_none client ts1 s1 b.free g1 in
     let goes2 : Goes wants came transition sheet start client ts1 ts1 s2 = goes_begun wants came client ts1 s1 transition sheet start (state_told follows has.earlier first.0 has.opener transition sheet start first.1.0 first.1.1) b (λ w. wants_all client engine_opening has.earlier first.0 w (opening_wants client)) in
-    let ts3 : List MemberTurn = fold (turns_with client) ts1 (entries_by by has.between) in
-    let goes3 : Goes wants came transition sheet start client ts1 ts3 (engine_replay s2 has.between) = goes_all lists wants came transition sheet start by client ts1 ts1 s2 has.between second.0 speaks_later.0 has.on none g2 goes2 in
-    let turns : List MemberTurn = member_turns client (entries_by by history) in
-    let turns_are : turns ≡ fold (turns_with client) ts3 (entries_by by (done ∷ has.later)) =
-    ap (λ (h : EngineHistory). member_turns client (entries_by by h)) has.whole
-    ∙ (turns_apart by client [] has.earlier (begin ∷ rest) ∙ (turns_begin by client ts1 has.opener transition sheet start rest ∙ turns_apart by client ts1 has.between (done ∷ has.later))) in
-    subst (λ (xs : List MemberTurn). IsTallyOfTurn history client xs came transition sheet start outcome tally) (sym turns_are)
-    (tally_told wants came transition sheet start by client ts1 ts3 (engine_replay s2 has.between) has.closer outcome tallies has.later index tally goes3 second.1.1 at history
+    record {
+      past = ts1;
+      ts = fold (turns_with client) ts1 (entries_by by has.between);
+      engine = engine_replay s2 has.between;
+      goes = goes_all lists wants came transition sheet start by client ts1 ts1 s2 has.between second.0 speaks_later.0 has.on none g2 goes2;
+      reply = second.1.1;
+      turns_are = ap (λ (h : EngineHistory). member_turns client (entries_by by h)) has.whole
+          ∙ (turns_apart by client [] has.earlier (begin ∷ rest) ∙ (turns_begin by client ts1 has.opener transition sheet start rest ∙ turns_apart by client ts1 has.between (done ∷ has.later)));
+    }
+
+pub tallies_are_answers : Follows → CalledLists → TalliesAreAnswers
+tallies_are_answers follows lists by client history legal alone transition sheet start outcome tallies has index tally at =
+    let d : AtDone by client history transition sheet start outcome tallies has = at_done follows lists by client history legal alone transition sheet start outcome tallies has in
+    let begin : ℕ × EngineEntry = (has.opener, Begin transition sheet (Ok start)) in
+    let rest : EngineHistory = has.between ++ (has.closer, Check (Done outcome) tallies) ∷ has.later in
+    subst (λ (xs : List MemberTurn). IsTallyOfTurn history client xs (state_at (engine_past has.earlier)) transition sheet start outcome tally) (sym d.turns_are)
+    (tally_told (OneWantsDump client has.earlier) (state_at (engine_past has.earlier)) transition sheet start by client d.past d.ts d.engine has.closer outcome tallies has.later index tally d.goes d.reply at history
     (λ one. all_front (WantsAlone client) has.earlier (begin ∷ rest) (subst (OneWantsDump client) has.whole one)))
+
+-- A refusal.
+
+refusal_is : (r : Option Refusal) (client : ℕ) (why : Why) → Refused client why ≡ outcome_of r → r ≡ Some (record { client = client; why = why })
+refusal_is None client why e = absurd (cc (e))
+refusal_is (Some refusal) client why e =
+    let client_is : refusal.client ≡ client = cc (e) in
+    let why_is : refusal.why ≡ why = cc (e) in
+    ap (λ (n : ℕ). Some (record { client = n; why = refusal.why })) client_is ∙ ap (λ (w : Why). Some (record { client = client; why = w })) why_is
+
+pub refusals_are_answers : Follows → CalledLists → RefusalsAreAnswers
+refusals_are_answers follows lists by client history legal alone sheet start why tallies has =
+    let outcome : StartOutcome = Refused client why in
+    let d : AtDone by client history Start sheet start outcome tallies has = at_done follows lists by client history legal alone Start sheet start outcome tallies has in
+    let came : RunState = state_at (engine_past has.earlier) in
+    let wants : Type 0 = OneWantsDump client has.earlier in
+    let f : Finishes d.engine outcome = finishes d.engine outcome d.reply.0 in
+    let said : f.u.refusal ≡ Some (record { client = client; why = why }) = refusal_is f.u.refusal client why f.outcome_is in
+    let refusal : d.goes.u.refusal ≡ Some (record { client = client; why = why }) = ap (λ (u : Underway). u.refusal) (same_underway d.engine d.goes.u f.u d.goes.underway_is f.underway_is) ∙ said in
+    let mine : IsRefused d.goes.since.since why = d.goes.since.refused (record { client = client; why = why }) refusal refl in
+    let turn : SinceTurn wants came Start sheet start mine.turn = at_turn (SinceTurn wants came Start sheet start) mine.turn d.goes.since.since d.goes.since.turns mine.stands in
+    let there : HasTurn d.ts mine.turn = subst (λ (xs : List MemberTurn). HasTurn xs mine.turn) (sym d.goes.since.ts_is) (has_front d.goes.since.since d.past mine.turn mine.stands) in
+    let done : ℕ × EngineEntry = (has.closer, Check (Done outcome) tallies) in
+    record {
+      turn = mine.turn;
+      stands = subst (λ (xs : List MemberTurn). HasTurn xs mine.turn) (sym d.turns_are) (all_stay client d.ts (entries_by by (done ∷ has.later)) (No why) mine.turn mine.answered there);
+      of_begin = turn.of_begin;
+      starts = mine.starts;
+      answered = mine.answered;
+    }
 
 -- Which begin.
 

@@ -7,11 +7,12 @@ use Rattle.daq_types.specs.declared.runs.RunState.{RunState}
 use Rattle.daq_types.specs.declared.runs.Transition.{Transition}
 use Rattle.daq_types.specs.declared.runs.Transition.TheVariants.{Start, StartAbort}
 use Rattle.daq_types.specs.declared.runs.StartOutcome.{StartOutcome}
+use Rattle.daq_types.specs.declared.runs.Why.{Why}
 use Rattle.daq_types.specs.declared.runs.StartOutcome.TheVariants.{Completed}
 use Rattle.run_states.specs.States.{is_allowed}
 use Rattle.transitions.specs.declared.sheet.Sheet.{Sheet}
 use Rattle.transitions.specs.declared.answers.Answer.{Answer}
-use Rattle.transitions.specs.declared.answers.Answer.TheVariants.{Yes}
+use Rattle.transitions.specs.declared.answers.Answer.TheVariants.{Yes, No}
 use Rattle.transitions.specs.declared.answers.Tally.{Tally}
 use Rattle.transitions.specs.declared.answers.ClientTally.{ClientTally}
 use Rattle.transitions.specs.declared.replies.Progress.TheVariants.{Done}
@@ -92,6 +93,14 @@ pub record IsTallyOfTurn (history : EngineHistory) (client : ℕ) (turns : List 
   pub accepted : turn.transition ≡ Start → answer ≡ Yes tally
   pub completed : outcome ≡ Completed → turn.transition ≡ transition
   pub dump : OneWantsDump client history → turn.transition ≡ transition → turn.dump ≡ sheet.dump
+
+-- One of these turns is of the start that was begun so, and No for this reason was answered to it.
+pub record IsRefusedTurn (turns : List MemberTurn) (from : RunState) (sheet : Sheet) (start : ℕ) (why : Why) : Type 0 where
+  pub turn : MemberTurn
+  pub stands : HasTurn turns turn
+  pub of_begin : IsOfBegin from Start sheet start turn
+  pub starts : turn.transition ≡ Start
+  pub answered : turn.answer ≡ Some (No why)
 
 -- none of these calls begins a transition or tells its end
 abbrev pub AreUnmarked : List EngineEntry → Type 0

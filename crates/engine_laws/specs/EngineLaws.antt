@@ -5,6 +5,7 @@ use Rattle.daq_types.specs.declared.runs.RunState.TheVariants.{Stopped}
 use Rattle.daq_types.specs.declared.runs.Transition.{Transition}
 use Rattle.daq_types.specs.declared.runs.Transition.TheVariants.{Start, Stop}
 use Rattle.daq_types.specs.declared.runs.StartOutcome.{StartOutcome}
+use Rattle.daq_types.specs.declared.runs.Why.{Why}
 use Rattle.transitions.specs.declared.sheet.Sheet.{Sheet}
 use Rattle.transitions.specs.declared.answers.Tally.{Tally}
 use Rattle.transitions.specs.declared.answers.ClientTally.{ClientTally}
@@ -17,8 +18,8 @@ use Rattle.transitions.specs.EngineHistories.{EngineHistory, IsLegalEngine}
 use Rattle.transitions.specs.GivenTurns.{SpeaksFor}
 use Rattle.member_model.specs.Turns.{MemberTurn, HasTurn, AreEngineTurns}
 use Rattle.member_model.specs.TurnCalls.{member_turns}
-use Rattle.daq_types.specs.declared.runs.StartOutcome.TheVariants.{Completed}
-use Rattle.engine_laws.specs.BegunTurns.{WasBegun, HasTransition, IsRegisteredIn, HasTally, IsTallyOfTurn, AreUnmarked}
+use Rattle.daq_types.specs.declared.runs.StartOutcome.TheVariants.{Completed, Refused}
+use Rattle.engine_laws.specs.BegunTurns.{WasBegun, HasTransition, IsRegisteredIn, HasTally, IsTallyOfTurn, IsRefusedTurn, AreUnmarked}
 
 -- The turns that the caller of a client reads off its own calls are turns as an engine gives them, where this caller alone
 -- polls and answers for the client.
@@ -71,6 +72,15 @@ TalliesAreAnswers = (by client : ℕ) → (history : EngineHistory) →
     (index : ℕ) → (tally : Tally) → slice_get tallies index ≡ Some (record { client = client; tally = tally }) →
     IsTallyOfTurn history client (member_turns client (entries_by by history)) (state_at (engine_past has.earlier))
     transition sheet start outcome tally
+
+-- Where the Done of a start says that a client refused it, that is what its caller answered to the client's turn of that
+-- start.
+abbrev pub RefusalsAreAnswers : Type 0
+RefusalsAreAnswers = (by client : ℕ) → (history : EngineHistory) →
+    IsLegalEngine engine_opening history → SpeaksFor by client history →
+    (sheet : Sheet) → (start : ℕ) → (why : Why) → (tallies : List ClientTally) →
+    (has : HasTransition history Start sheet start (Refused client why) tallies) →
+    IsRefusedTurn (member_turns client (entries_by by history)) (state_at (engine_past has.earlier)) sheet start why
 
 -- Where a transition was not refused, each client that is called for it has a tally in its Done.
 abbrev pub CalledAreTold : Type 0

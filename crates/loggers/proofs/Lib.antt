@@ -28,3 +28,6 @@ pub mod OwnCalls
 pub mod TurnsOwn
 pub mod TurnUses
 pub mod FaultsNoted
+pub mod FilesLeft
+pub mod ReasonsKept
+pub mod NamesUndone

@@ -1,5 +1,5 @@
 -- Each call keeps that the logger sends nothing on its ports, and names only clients that its own attach there gave.
-use Rattle.std.specs.Prelude.{◌≡◌, ◌≢◌, ◌==◌, ℕ, Bool, true, false, if◌then◌else◌, List, [], length, map, slice_get, slice_set, Option, Some, None, Result, Ok, Err, ⊤, refl}
+use Rattle.std.specs.Prelude.{◌≡◌, ◌==◌, ℕ, Bool, true, false, if◌then◌else◌, List, length, slice_get, slice_set, Option, Some, None, Result, Ok, Err, ⊤, refl}
 use Rattle.std.specs.List.{list_all}
 use Rattle.std.specs.Option.{option_map}
 use Rattle.std.proofs.Common.{ap, sym, subst, ◌∙◌, inl, inr}
@@ -15,11 +15,9 @@ use Rattle.member_model.specs.OwnCalls.{IsOwnCall, SendsNone}
 use Rattle.mid_logger.specs.declared.channel.Channel.{Channel}
 use Rattle.mid_logger.specs.declared.channel_spec.ChannelSpec.{ChannelSpec}
 use Rattle.mid_logger.specs.declared.pulled.Pulled.{Pulled}
-use Rattle.mid_logger.specs.declared.stage.ChannelRun.{ChannelRun}
 use Rattle.mid_logger.specs.declared.stage.ChannelStage.{ChannelStage}
 use Rattle.mid_logger.specs.Channels.{KeepsOwnCalls, IsOwnClient, stage_begun, stage_ended, place_marked}
 use Rattle.mid_logger.specs.ChannelTurns.{asking_run}
-use Rattle.mid_logger.specs.ChannelEnds.{stage_settled}
 use Rattle.loggers.specs.Moments.{LoggerMoment, ChannelStep, StepsChannel, StepsSlot, StepsAt, CallsBuffer, MarksBuffer, InTurn, noted_channel}
 use Rattle.loggers.specs.ChannelSteps.{OpensChannel, AbortsChannel, PullsChannel}
 use Rattle.loggers.specs.SlotPulls.{PullsSlot, PullsNumbered}

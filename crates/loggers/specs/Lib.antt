@@ -8,3 +8,6 @@ pub mod SlotPulls
 pub mod LoggerLaws
 pub mod LoggerCalls
 pub mod LoggerFaults
+pub mod OtherFiles
+pub mod Reasons
+pub mod LeftNames

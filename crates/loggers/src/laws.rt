@@ -2,6 +2,9 @@
 
 ghost use Rattle.loggers.specs.LoggerLaws.{FinishesKeep, TurnsKeep, TurnsLeaveKnown, PullsLeaveKnown, TurnsNote, PullsNote, FinishesNote, NotesFollow};
 ghost use Rattle.loggers.specs.LoggerStands.{StandingLoggerKeeps};
+ghost use Rattle.loggers.specs.Reasons.{TurnsGiveReasons, PullsGiveReasons, FinishesGiveReasons};
+ghost use Rattle.loggers.specs.LeftNames.{RefusedStartsLeave, AcceptedStartsLeave, CalledOffStartsLeave};
+ghost use Rattle.loggers.specs.OtherFiles.{TurnsLeaveFiles, PullsLeaveFiles, FinishesLeaveFiles};
 
 use mid_logger::laws as channel_laws;
 
@@ -41,10 +44,40 @@ pub fn still_known()
     ensures pulls { PullsLeaveKnown }
 {}
 
+/// A turn, a pull and a call to finish leave all files but those of the channels in the runs that the logger was told to
+/// start; and they leave what the channels are.
+pub fn other_files()
+    ensures turns { TurnsLeaveFiles }
+    ensures pulls { PullsLeaveFiles }
+    ensures finishes { FinishesLeaveFiles }
+{
+    channel_laws::opens_kept();
+    channel_laws::aborts_kept();
+    channel_laws::pulls_kept();
+    channel_laws::closes_kept();
+}
+
 /// The faults of the files are noted by each call, and by several that follow one another.
 pub fn faults_noted()
     ensures turns { TurnsNote }
     ensures pulls { PullsNote }
     ensures finishes { FinishesNote }
     ensures follow { NotesFollow }
+{}
+
+/// What a logger answers rests on the counts of the run files, and each call keeps that: a start is refused for a name only
+/// where a clash was counted, and for a fault only where one was; and a channel is told to be broken only where a fault was.
+pub fn reasons_given()
+    ensures turns { TurnsGiveReasons }
+    ensures pulls { PullsGiveReasons }
+    ensures finishes { FinishesGiveReasons }
+{}
+
+/// Where no call on the files failed, a start that does not come about leaves each file as it was before it: one that the
+/// logger refuses by itself; and one that it accepts adds at most files that its channels write, of which there were none,
+/// and they are gone once it is called off.
+pub fn starts_undone()
+    ensures refused { RefusedStartsLeave }
+    ensures accepted { AcceptedStartsLeave }
+    ensures called_off { CalledOffStartsLeave }
 {}

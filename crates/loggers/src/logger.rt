@@ -7,7 +7,7 @@ ghost use Rattle.member_model.specs.Turns.{MemberTurn, NoneOpen, latest_answered
 ghost use Rattle.daq_types.specs.declared.runs.Transition.TheVariants.{Start, Stop, Pause, Resume, StartAbort};
 ghost use Rattle.transitions.specs.declared.answers.Answer.TheVariants.{Yes};
 ghost use Rattle.transitions.specs.declared.answers.Tally.TheVariants.{Plain};
-ghost use Rattle.loggers.specs.Moments.{moment_of, IsLoggerReady, HaveFilesOpen, HaveEntries, UseEntries, AreIdle, AreSamePorts};
+ghost use Rattle.loggers.specs.Moments.{RunFiles, moment_of, IsLoggerReady, HaveFilesOpen, HaveEntries, UseEntries, AreIdle, AreSamePorts};
 ghost use Rattle.loggers.specs.Turning.{TakesTurn, TakesStart, TakesStop, TakesMark, TakesAbort, StartsLogger, PausesBuffer, ResumesBuffer, is_run_on, is_started, is_of_start, buffers_begun, IsIdleOutside, start_answer, start_part};
 ghost use Rattle.loggers.specs.Finishing.{FinishesLogger};
 ghost use Rattle.loggers.specs.SlotPulls.{HasEventRoom, PullsNumbered};
@@ -15,6 +15,7 @@ ghost use Rattle.loggers.specs.NewLoggers.{HaveNumbers, HasNewChannels, HavePort
 ghost use Rattle.loggers.specs.LoggerCalls.{KeepsLoggerCalls};
 ghost use Rattle.loggers.specs.LoggerFaults.{HasFailed, NotesFaults};
 ghost use Rattle.loggers.specs.LoggerStands.{LoggerStands, logger_turn};
+ghost use Rattle.loggers.specs.Reasons.{GivesReasons};
 
 use crate::endings::{end_files, stop_time};
 use crate::laws as logger_laws;
@@ -131,6 +132,8 @@ impl Logger {
         ensures own { IfOk result (λ logger. (ports : List Access) → AreUnused ports →
             KeepsLoggerCalls logger.channels ports) }
         ensures failed { IfOk result (λ logger. HasFailed logger.channels → ⊥) }
+        ensures reasons { IfOk result (λ logger. (files : RunFiles) →
+            GivesReasons logger.channels files files []) }
     {
         let channels = new_channels(alloc, specs, rooms)?;
         Ok(Logger {

@@ -15,12 +15,17 @@ use Rattle.odb_value.specs.declared.items.Item.TheVariants.{UInt8, Int8, Char, U
 use Rattle.odb_value.specs.Items.{IsItem}
 use Rattle.odb_value.specs.Values.{HeldValue, IsValue, size_limit, items_limit}
 use Rattle.odb_value.specs.ValueChanges.{size_with_item}
+use Rattle.daq_types.specs.Callers.{main_caller}
+use Rattle.odb_tree.specs.declared.entry.DatabaseEntry.{DatabaseEntry}
+use Rattle.odb_tree.specs.declared.entry.DatabaseEntry.TheVariants.{Create, SetAll}
 use Rattle.odb_tree.specs.declared.rows.NewKey.TheVariants.{Dir}
 use Rattle.odb_tree.specs.declared.refusals.OdbRefusal.{OdbRefusal}
 use Rattle.odb_tree.specs.declared.refusals.OdbRefusal.TheVariants.{Limit}
 use Rattle.odb_tree.specs.declared.refusals.What.TheVariants.{Items, Size}
-use Rattle.odb_tree.specs.Rows.{Rows}
-use Rattle.odb_tree.specs.Calls.{create_fault, set_all_fault, after_set_all}
+use Rattle.odb_tree.specs.Rows.{Rows, row_at}
+use Rattle.odb_tree.specs.Making.{new_number}
+use Rattle.odb_tree.specs.Calls.{reply_or, number_at, create_fault, set_all_fault, after_set_all, rows_after}
+use Rattle.odb_tree.specs.Histories.{IsLegal, replay}
 use Rattle.odb_tree.specs.Databases.{IsDatabase}
 use Rattle.odb_tree.proofs.Sound.{database_created, database_set_all}
 use Rattle.odb_lines.specs.ItemLines.{is_string, IsFrontNumber, IsItemLine, IsAloneText}
@@ -29,6 +34,7 @@ use Rattle.odb_ascii.specs.declared.acts.Act.{Act}
 use Rattle.odb_ascii.specs.declared.acts.Act.TheVariants.{Make, Write, Skip}
 use Rattle.odb_ascii.specs.TextSteps.{TextStep, after_make_by, many_fault, wide_fault, act_fault, after_act, or_refused, run_steps, dir_after}
 use Rattle.odb_ascii.specs.Grammar.{SizedItem, AreItemLines, size_given, size_for, held_with, IsSingleKey, IsArrayHead, IsKeptKey, SpellsAct, SpellsSteps}
+use Rattle.odb_ascii.specs.TextCalls.{IsTextCall, LeadTextCalls}
 use Rattle.odb_ascii.proofs.Written.{key_is_value}
 use Rattle.odb_ascii.proofs.ReadSound.{path_sound, item_sound}
 
@@ -199,3 +205,96 @@ root_is_path = record { short = omega arith; names = All-nil IsName }
 
 pub load_keeps : (s after : Rows) (lines : List (List ℕ)) (steps : List TextStep) → IsDatabase s → SpellsSteps 1 [] lines steps → run_steps steps s ≡ Ok after → IsDatabase after
 load_keeps s after lines steps h reads ran = steps_keep 1 [] lines steps s after h root_is_path reads ran
+
+-- What a step does is what some calls do.
+
+both_all : {X : Type 0} (P : X → Type 0) (xs ys : List X) → AllByRecursion P xs → AllByRecursion P ys → AllByRecursion P (xs ++ ys)
+both_all P [] ys h k = k
+both_all P (x ∷ xs) ys h k = (h.0, both_all P xs ys h.1 k)
+
+both_legal : (s : Rows) (xs ys : List (ℕ × DatabaseEntry)) → IsLegal s xs → IsLegal (replay s xs) ys → IsLegal s (xs ++ ys)
+both_legal s [] ys h k = k
+both_legal s (x ∷ xs) ys h k = (h.0, both_legal (rows_after s x.1) xs ys h.1 k)
+
+both_lead : (s : Rows) (xs ys : List (ℕ × DatabaseEntry)) → replay s (xs ++ ys) ≡ replay (replay s xs) ys
+both_lead s [] ys = refl
+both_lead s (x ∷ xs) ys = both_lead (rows_after s x.1) xs ys
+
+no_calls : (s : Rows) → LeadTextCalls s s
+no_calls s = record { calls = []; main = tt; plain = tt; legal = tt; leads = refl }
+
+calls_behind : (s mid after : Rows) → LeadTextCalls s mid → LeadTextCalls mid after → LeadTextCalls s after
+calls_behind s mid after h k = record {
+  calls = h.calls ++ k.calls;
+  main = both_all (λ (e : ℕ × DatabaseEntry). e.0 ≡ main_caller) h.calls k.calls h.main k.main;
+  plain = both_all (λ (e : ℕ × DatabaseEntry). IsTextCall e.1) h.calls k.calls h.plain k.plain;
+  legal = both_legal s h.calls k.calls h.legal (subst (λ (r : Rows). IsLegal r k.calls) (sym h.leads) k.legal);
+  leads = both_lead s h.calls k.calls ∙ (ap (λ (r : Rows). replay r k.calls) h.leads ∙ k.leads);
+}
+
+make_calls : (s : Rows) (p : List (List ℕ)) (o : Option OdbRefusal) → create_fault s p Dir ≡ o → IsPath p → LeadTextCalls s (after_make_by s p o)
+make_calls s p None e path = record {
+  calls = (0, Create p Dir (Ok (new_number s p))) ∷ [];
+  main = (refl, tt);
+  plain = (tt, tt);
+  legal = (record { may = λ _. refl; sound = path; reply = ap (λ (o : Option OdbRefusal). reply_or o (new_number s p)) e }, tt);
+  leads = refl;
+}
+make_calls s p (Some refusal) e path = no_calls s
+
+write_calls : (s : Rows) (dir : List (List ℕ)) (name : List ℕ) (type : Tid) (xs : List SizedItem) → IsPath dir → IsGoodKey dir name type xs → act_fault s (Write (dir ++ name ∷ []) (held_with type xs)) ≡ None
+    → LeadTextCalls s (after_set_all s (dir ++ name ∷ []) (held_with type xs))
+write_calls s dir name type xs path good free =
+    let p : List (List ℕ) = dir ++ name ∷ [] in
+    let v : HeldValue = held_with type xs in
+    let own : Option OdbRefusal = option_or (many_fault (length v.items)) (wide_fault v.size) in
+    let rows : Option OdbRefusal = set_all_fault s p v in
+    let n : ℕ = number_at s p (row_at s.rows p) in
+    record {
+      calls = (0, SetAll p v (Ok n)) ∷ [];
+      main = (refl, tt);
+      plain = (tt, tt);
+      legal = (
+        record {
+          may = λ _. refl;
+          sound = (is_path_push dir name path good.deep good.name_is, value_sound type xs good.read good.some (none_left own rows free));
+          reply = ap (λ (o : Option OdbRefusal). reply_or o n) (none_right own rows free);
+        },
+        tt,
+      );
+      leads = refl;
+    }
+
+record Calls (s : Rows) (dir : List (List ℕ)) (act : Act) : Type 0 where
+  calls : LeadTextCalls s (after_act s act)
+  path : IsPath (dir_after dir act)
+
+act_calls : (s : Rows) (dir own : List (List ℕ)) (act : Act) → IsPath dir → SpellsAct dir own act → act_fault s act ≡ None → Calls s dir act
+act_calls s dir own (Make p) path spells free =
+    let good : IsPath p = path_sound spells.2.text p spells.2.path in record { calls = make_calls s p (create_fault s p Dir) refl good; path = good }
+act_calls s dir own (Write p v) path spells free =
+    let name : List ℕ = spells.0 in
+    let type : Tid = spells.1 in
+    let xs : List SizedItem = spells.2 in
+    let is : Write p v ≡ Write (dir ++ name ∷ []) (held_with type xs) = ap (λ (q : List (List ℕ)). Write q v) spells.4 ∙ ap (λ (w : HeldValue). Write (dir ++ name ∷ []) w) spells.5 in
+    record {
+      calls = subst (λ (a : Act). LeadTextCalls s (after_act s a)) (sym is)
+          (write_calls s dir name type xs path (key_good dir own name type xs spells.3) (subst (λ (a : Act). act_fault s a ≡ None) is free));
+      path = path;
+    }
+act_calls s dir own (Skip items) path spells free = record { calls = no_calls s; path = path }
+
+steps_calls : (number : ℕ) (dir lines : List (List ℕ)) (steps : List TextStep) (s after : Rows) → IsPath dir → SpellsSteps number dir lines steps → run_steps steps s ≡ Ok after → LeadTextCalls s after
+steps_calls number dir lines [] s after path reads ran = (let same : s ≡ after = cc in subst (LeadTextCalls s) same (no_calls s))
+steps_calls number dir lines (step ∷ steps) s after path reads ran =
+    cases (act_fault s step.act) refl ran (λ (now : Calls s dir step.act) (k : run_steps steps (after_act s step.act) ≡ Ok after).
+    calls_behind s (after_act s step.act) after now.calls
+    (steps_calls (number + length reads.0 + length reads.1) (dir_after dir step.act) reads.2 steps (after_act s step.act) after now.path reads.7 k))
+  where
+    cases : (o : Option OdbRefusal) → act_fault s step.act ≡ o → or_refused step.line o (run_steps steps (after_act s step.act)) ≡ Ok after
+        → (Calls s dir step.act → run_steps steps (after_act s step.act) ≡ Ok after → LeadTextCalls s after) → LeadTextCalls s after
+    cases (Some why) e k rest = absurd (cc)
+    cases None e k rest = rest (act_calls s dir reads.1 step.act path reads.6 e) k
+
+pub text_calls : (s after : Rows) (lines : List (List ℕ)) (steps : List TextStep) → SpellsSteps 1 [] lines steps → run_steps steps s ≡ Ok after → LeadTextCalls s after
+text_calls s after lines steps reads ran = steps_calls 1 [] lines steps s after root_is_path reads ran

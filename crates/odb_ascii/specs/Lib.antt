@@ -6,3 +6,4 @@ pub mod TextFaults
 pub mod Blocks
 pub mod Loads
 pub mod DumpSteps
+pub mod TextCalls

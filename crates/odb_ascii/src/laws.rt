@@ -9,6 +9,7 @@ ghost use Rattle.odb_ascii.specs.declared.acts.LoadRefusal.{LoadRefusal};
 ghost use Rattle.odb_ascii.specs.declared.acts.LoadRefusal.TheVariants.{NoMemory as no_memory};
 ghost use Rattle.odb_ascii.specs.TextSteps.{TextStep, run_steps};
 ghost use Rattle.odb_ascii.specs.Grammar.{SpellsSteps};
+ghost use Rattle.odb_ascii.specs.TextCalls.{LeadTextCalls};
 ghost use Rattle.odb_ascii.specs.TextFaults.{IsTextFault};
 ghost use Rattle.odb_ascii.specs.DumpSteps.{DumpFollowsWalk, RemakesRows, LoadsAgain};
 
@@ -27,6 +28,13 @@ pub fn loading_keeps_a_database()
     ensures { (s : Rows) (after : Rows) (text : List (List ℕ)) (steps : List TextStep)
         → IsDatabase s → SpellsSteps 1 [] text steps → run_steps steps s ≡ Ok after
         → IsDatabase after }
+{}
+
+/// What a text asks for, where none of it is refused, is what some legal calls of the main thread do, each of which makes a
+/// directory or writes a key whole.
+pub fn texts_are_calls()
+    ensures { (s : Rows) (after : Rows) (text : List (List ℕ)) (steps : List TextStep)
+        → SpellsSteps 1 [] text steps → run_steps steps s ≡ Ok after → LeadTextCalls s after }
 {}
 
 /// A dump loads again: its lines ask for steps, and whatever steps they ask for lead from a new database to the same

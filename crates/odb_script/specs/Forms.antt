@@ -165,9 +165,9 @@ get_form ws = do
   index ← last_number (words_behind ws)
   Ok (Get path index)
 
--- The form that begins with a name, which stands at a place, and what is behind it: of the dump's files and of watches;
--- of keys, or one of those; of declarations, or one of those; of runs, or one of those.
+-- The form that begins with a name, which stands at a place, with what is behind it.
 
+-- a dump's or a watch's; none begins with another name
 unfoldable pub watching_form : ℕ → List ℕ → Words → Read Command
 watching_form at name ws =
     if is_text name (codes "load") then with_text Load ws
@@ -177,6 +177,7 @@ watching_form at name ws =
     else if is_text name (codes "unwatch") then with_number Unwatch ws
     else Err (BadCommand at)
 
+-- a key's, or one of those
 unfoldable pub key_form : ℕ → List ℕ → Words → Read Command
 key_form at name ws =
     if is_text name (codes "create") then create_form ws
@@ -186,6 +187,7 @@ key_form at name ws =
     else if is_text name (codes "rm") then with_text Remove ws
     else watching_form at name ws
 
+-- a declaration's, or one of those
 unfoldable pub declaring_form : ℕ → List ℕ → Words → Read Command
 declaring_form at name ws =
     if is_text name (codes "buffer") then buffer_form ws
@@ -193,6 +195,7 @@ declaring_form at name ws =
     else if is_text name (codes "channel") then channel_form ws
     else key_form at name ws
 
+-- a run's, that of `exit`, or one of those
 unfoldable pub named_form : ℕ → List ℕ → Words → Read Command
 named_form at name ws =
     if is_text name (codes "events") then with_number Events ws

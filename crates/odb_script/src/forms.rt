@@ -160,7 +160,8 @@ fn read_only<'a>(
     Ok(command)
 }
 
-/// The form that begins with this name, which stands at this place, where it is one of the last.
+/// The form that begins with this name, which stands at this place: that of a dump or of a watch. None begins with
+/// another name.
 #[tactic(auto, unfolding(crate::specs::Forms::watching_form))]
 fn read_watching<'a>(
     at: u32,
@@ -192,7 +193,7 @@ fn read_watching<'a>(
     Err(LineRefusal::BadCommand { at })
 }
 
-/// The form that begins with this name, where it is that of a key's command, or one of those behind it.
+/// The form that begins with this name: that of a command for a key, or what `read_watching` knows.
 #[tactic(auto, unfolding(crate::specs::Forms::key_form))]
 fn read_key<'a>(
     at: u32,
@@ -221,7 +222,7 @@ fn read_key<'a>(
     read_watching(at, name, words)
 }
 
-/// The form that begins with this name, where it is that of a declaration, or one of those behind it.
+/// The form that begins with this name: that of a declaration, or what `read_key` knows.
 #[tactic(auto, unfolding(crate::specs::Forms::declaring_form))]
 fn read_declaring<'a>(
     at: u32,
@@ -242,7 +243,8 @@ fn read_declaring<'a>(
     read_key(at, name, words)
 }
 
-/// The form that begins with this name, which stands at this place.
+/// The form that begins with this name, which stands at this place: that of a command for runs, `exit`, or what
+/// `read_declaring` knows.
 #[tactic(auto, unfolding(crate::specs::Forms::named_form))]
 fn read_form<'a>(
     at: u32,

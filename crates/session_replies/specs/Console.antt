@@ -16,6 +16,7 @@ use Rattle.session_setup.specs.declared.refusals.SetupRefusal.{SetupRefusal}
 use Rattle.session_setup.specs.declared.refusals.SetupRefusal.TheVariants as setup
 use Rattle.odb_value.specs.declared.items.Item.TheVariants.{Int32}
 use Rattle.odb_value.specs.ItemTexts.{item_text}
+use Rattle.watch_commands.specs.WatchTexts.{watch_reply_text, is_watch_refusal}
 use Rattle.odb_commands.specs.Texts.{refused_line, reply_text, is_refusal as is_refused}
 use Rattle.session_replies.specs.declared.replies.Reply.{Reply}
 use Rattle.session_replies.specs.declared.replies.Reply.TheVariants as reply
@@ -104,6 +105,7 @@ text_of line (reply.Paused run) = run_line run (codes "paused")
 text_of line (reply.Resumed run) = run_line run (codes "resumed")
 text_of line (reply.Stopped run fronts files) = stop_text run fronts files
 text_of line (reply.Database answer) = reply_text line answer
+text_of line (reply.Watch answer) = watch_reply_text line answer
 
 -- the text of replies, of which the first is to the line of this number
 abbrev pub console_text : (line : ℕ) → List Reply → List ℕ
@@ -124,6 +126,7 @@ refuses_line (reply.Paused run) = false
 refuses_line (reply.Resumed run) = false
 refuses_line (reply.Stopped run fronts files) = false
 refuses_line (reply.Database answer) = is_refused answer
+refuses_line (reply.Watch answer) = is_watch_refusal answer
 
 abbrev pub line_if : Bool → ℕ → List ℕ
 line_if true line = line ∷ []

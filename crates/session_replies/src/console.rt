@@ -267,6 +267,7 @@ impl Reply {
                 add_stop(text, *run, fronts.as_slice(), files.as_slice())
             }
             Reply::Database { reply } => reply.print(line, text),
+            Reply::Watch { reply } => reply.print(line, text),
         }
     }
 }

@@ -31,6 +31,7 @@ impl Reply {
             | Reply::Resumed { .. }
             | Reply::Stopped { .. } => false,
             Reply::Database { reply } => reply.is_refusal(),
+            Reply::Watch { reply } => reply.is_refusal(),
         }
     }
 }

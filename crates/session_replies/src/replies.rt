@@ -2,6 +2,7 @@ use daq_types::{Name, RunState, Why};
 use odb_commands::CommandReply;
 use run_records::{FileRecords, SentLines};
 use session_setup::SetupRefusal;
+use watch_commands::WatchReply;
 
 /// What a line of the script is answered.
 #[derive(Debug, Drop)]
@@ -49,8 +50,12 @@ pub enum Reply {
         fronts: SentLines,
         files: FileRecords,
     },
-    /// The answer of a command of the database.
+    /// The answer of a command on the rows of the database.
     Database {
         reply: CommandReply,
+    },
+    /// The answer of a command for watches or dumps of the database.
+    Watch {
+        reply: WatchReply,
     },
 }

@@ -4,33 +4,35 @@ use daq_text::TextBuffer;
 use daq_types::{BoundedList, ChannelState, FileName, Name, NameRefusal, NoMemory, RunState, Why};
 use run_records::{FileRecord, SentLine};
 use session_setup::SetupRefusal;
-use std::alloc::Global;
+use std::alloc::{AllocGlobal, Global};
+use std::process::Abort;
 use std::test::Fail;
+use watch_commands::{WatchCommandRefusal, WatchReply};
 
-fn name(text: &str) -> Name {
-    match Name::new(text.as_bytes()) {
-        Ok(name) => name,
-        Err(_) => unreachable!(),
-    }
+fn name<R: Abort>(rt: &R, text: &str) -> Name {
+    Name::new(text.as_bytes()).expect(rt, "a name")
 }
 
 /// The end of run 1, for front-ends with these names that sent so much, and one channel.
-fn stopped(alloc: Global, fronts: &[(&str, u64)], state: ChannelState) -> Result<Reply, NoMemory> {
+fn stopped<R: Abort + AllocGlobal>(
+    rt: &R,
+    fronts: &[(&str, u64)],
+    state: ChannelState,
+) -> Result<Reply, NoMemory> {
+    let alloc = rt.alloc();
     let mut lines = BoundedList::new(alloc)?;
     for (front, sent) in fronts {
         lines.try_push(SentLine {
-            name: name(front),
+            name: name(rt, front),
             sent: *sent,
         })?;
     }
     let mut files = BoundedList::new(alloc)?;
-    if let Ok(name) = FileName::new("run00001.mid") {
-        files.try_push(FileRecord {
-            channel: 0,
-            name,
-            state,
-        })?;
-    }
+    files.try_push(FileRecord {
+        channel: 0,
+        name: FileName::new("run00001.mid").expect(rt, "a file name"),
+        state,
+    })?;
     Ok(Reply::Stopped {
         run: 1,
         fronts: lines,
@@ -49,13 +51,13 @@ fn prints(alloc: Global, line: u64, reply: &Reply, wanted: &str) -> Result<bool,
 #[test]
 fn ends_of_runs(rt: HostRuntime) -> Result<(), Fail> {
     let alloc = rt.alloc();
-    let one = stopped(alloc, &[("FE", 0)], ChannelState::Ended)?;
+    let one = stopped(&rt, &[("FE", 0)], ChannelState::Ended)?;
     let wanted = "run 1 stopped\nFE sent 0\nrun00001.mid Ended\n";
     assert!(rt; prints(alloc, 3, &one, wanted)?);
-    let two = stopped(alloc, &[("A", 1), ("B", 1)], ChannelState::NoEnd)?;
+    let two = stopped(&rt, &[("A", 1), ("B", 1)], ChannelState::NoEnd)?;
     let wanted = "run 1 stopped\nA sent 1\nB sent 1\nrun00001.mid NoEnd\n";
     assert!(rt; prints(alloc, 6, &two, wanted)?);
-    let broken = stopped(alloc, &[("FE", 3)], ChannelState::Broken)?;
+    let broken = stopped(&rt, &[("FE", 3)], ChannelState::Broken)?;
     let wanted = "run 1 stopped\nFE sent 3\nrun00001.mid Broken\n";
     assert!(rt; prints(alloc, 3, &broken, wanted)?);
     Ok(())
@@ -71,6 +73,20 @@ fn other_replies(rt: HostRuntime) -> Result<(), Fail> {
         (Reply::Paused { run: 1 }, "run 1 paused\n"),
         (Reply::Resumed { run: 1 }, "run 1 resumed\n"),
         (Reply::LastStart, "refused 1: LastStart\n"),
+        (
+            Reply::Watch {
+                reply: WatchReply::Saved { bytes: 269 },
+            },
+            "saved 269\n",
+        ),
+        (
+            Reply::Watch {
+                reply: WatchReply::Refused {
+                    why: WatchCommandRefusal::NoWatch,
+                },
+            },
+            "refused 1: NoWatch\n",
+        ),
         (Reply::RunNumber { have: -1 }, "refused 1: RunNumber -1\n"),
         (
             Reply::WrongState {
@@ -80,14 +96,14 @@ fn other_replies(rt: HostRuntime) -> Result<(), Fail> {
         ),
         (
             Reply::StartRefused {
-                client: name("Logger"),
+                client: name(&rt, "Logger"),
                 why: Why::Exists { channel: 0 },
             },
             "refused 1: StartRefused Logger Exists 0\n",
         ),
         (
             Reply::StartRefused {
-                client: name("FE"),
+                client: name(&rt, "FE"),
                 why: Why::NotReady,
             },
             "refused 1: StartRefused FE NotReady\n",

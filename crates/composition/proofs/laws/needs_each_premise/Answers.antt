@@ -1,6 +1,7 @@
 use Rattle.composition.proofs.NeededSessions.{all_met, buffers_needed, engine_needed, names_needed, members_needed, fronts_needed, moments_needed, sets_needed, alone_needed, logger_needed, events_needed, analyzers_needed, fronts_there, analyzers_there, logger_there_needed, dump_needed}
 use Rattle.composition.proofs.PausedNeeded.{pauses_needed}
 use Rattle.composition.proofs.CountedSampled.{counted_needed, got_needed}
+use Rattle.composition.proofs.AskedTwice.{asked_needed}
 use Rattle.composition.proofs.laws.needs_each_premise.Goals as goal
 
 pub returns : goal.returns
@@ -19,6 +20,7 @@ returns c =
       logger = logger_needed;
       events = events_needed;
       analyzers = analyzers_needed;
+      asked = asked_needed;
       counted = counted_needed;
       got = got_needed;
       fronts_there = fronts_there;

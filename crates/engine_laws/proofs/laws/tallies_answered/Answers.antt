@@ -1,5 +1,5 @@
 use Rattle.engine_laws.proofs.StopsCompleted.{others_complete}
-use Rattle.engine_laws.proofs.Tallied.{dones_have_begins, tallies_are_answers}
+use Rattle.engine_laws.proofs.Tallied.{dones_have_begins, tallies_are_answers, refusals_are_answers}
 use Rattle.engine_laws.proofs.laws.tallies_answered.Goals as goal
 
 pub returns : goal.returns
@@ -8,4 +8,5 @@ returns c =
       begins = dones_have_begins c.tallies_belong.ensures;
       completed = others_complete c.follows.ensures;
       tallies = tallies_are_answers c.follows.ensures c.called_in_order.ensures;
+      refusals = refusals_are_answers c.follows.ensures c.called_in_order.ensures;
     }

@@ -4,4 +4,5 @@ pub returns-clause-keep : goal.returns-clause-keep
 returns-clause-keep g c = record {
   fronts = rw c.deref.ensures.value at c.ask_all.ensures;
   logger = c.client.ensures.seated;
+  reasons = c.client.ensures.reasons;
 }

@@ -1,4 +1,4 @@
-use Rattle.std.specs.Prelude.{is_some, unwrap_or, Option, None}
+use Rattle.std.specs.Prelude.{is_some, unwrap_or, None}
 use Rattle.std.proofs.Common.{ap, ◌∙◌}
 use Rattle.std.proofs.lemmas.Option.{unwrap_or-slice_get}
 use Rattle.daq_members.proofs.logger_member.LoggerMember.has_channel.Goals as goal

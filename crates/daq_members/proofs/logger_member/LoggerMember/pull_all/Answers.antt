@@ -1,7 +1,6 @@
-use Rattle.std.specs.Prelude.{ℕ, ◌-◌, ◌*◌, ◌+◌, map}
+use Rattle.std.specs.Prelude.{◌-◌, ◌*◌, map}
 use Rattle.loggers.specs.Moments.{moment_of}
-use Rattle.std.proofs.Common.{ap, sym, refl, arith, subst, add-one, ◌∙◌}
-use Rattle.daq_members.specs.LoggerTaken.{PullsBelow}
+use Rattle.std.proofs.Common.{refl, arith, ◌∙◌}
 use Rattle.daq_members.proofs.LoggerLaws.{entries_fewer, entries_left, pulls_more, as_many, same_ports, same_then}
 use Rattle.daq_members.proofs.logger_member.LoggerMember.pull_all.Goals as goal
 

@@ -2,7 +2,7 @@ use Rattle.std.proofs.Common.{ap, sym, refl, subst, ◌∙◌, arith}
 use Rattle.std.specs.Prelude.{◌||◌, ◌≤◌, Bool, IfSome, List, length, map}
 use Rattle.daq_model.specs.Events.{record_limit}
 use Rattle.turn_lock.specs.Passes.{own_entries}
-use Rattle.transitions.specs.declared.replies.Polled.TheVariants.{Turn, Idle, Closed, NoClient}
+use Rattle.transitions.specs.declared.replies.Polled.TheVariants.{Idle, Closed, NoClient}
 use Rattle.member_model.specs.Turns.{MemberTurn}
 use Rattle.member_model.specs.TurnCalls.{member_turns}
 use Rattle.loggers.specs.LoggerStands.{LoggerStands}

@@ -1,22 +1,63 @@
+use Rattle.std.specs.Prelude.{◌≡◌, map, refl}
+use Rattle.turn_lock.specs.Passes.{own_entries}
+use Rattle.std.proofs.Common.{subst}
+use Rattle.loggers.specs.OtherFiles.{specs_in}
+use Rattle.daq_members.specs.LoggerSeats.{LoggerSeen, IsSameLogger}
 use Rattle.daq_members.proofs.LoggerSeatLaws.{known_before, have_entries, caller_kept, begun_mapped, begun_read}
+use Rattle.daq_members.proofs.OtherFilesKept.{LoggerLeaves, specs_stay, others_kept}
+use Rattle.daq_members.proofs.LoggerReasons.{ReasonLaws, reasons_kept}
 use Rattle.daq_members.proofs.logger_seat.LoggerSeat.turn.Goals as goal
 
 pub turn-requires-clause-entries : goal.turn-requires-clause-entries
 turn-requires-clause-entries g c = have_entries g.P.BufferPort.access c.self.inside.ports g.met.P.EndlessPort.has_room
 
 pub turn-requires-clause-begun : goal.turn-requires-clause-begun
-turn-requires-clause-begun g c = begun_read g.P.BufferPort.access c.self.inside.ports _ c.self.invariant.begun
+turn-requires-clause-begun g c = begun_read g.P.BufferPort.access c.self.inside.ports _ c.self.invariant.seated.begun
+
+pub returns-clause-same : goal.returns-clause-same
+returns-clause-same g c =
+    let laws : LoggerLeaves = record { turns = c.other_files.ensures.turns; pulls = c.other_files.ensures.pulls; finishes = c.other_files.ensures.finishes } in
+    let stay : specs_in c.turn.new.self.logger.channels ≡ specs_in c.self.inside.member.logger.channels = specs_stay laws _ c.turn.ensures.takes c.self.invariant.seated.ready in
+    let member = c.turn.new.self in
+    let later : LoggerSeen _ = record {
+      engine = member.seat.engine.now;
+      client = member.seat.client;
+      run = member.logger.run;
+      stop_dump = member.logger.stop_dump;
+      calls = own_entries member.seat.pass;
+      slots = member.logger.channels;
+      ports = map g.P.BufferPort.access c.turn.new.ports;
+      files = c.turn.new.files;
+      first = c.self.inside.first.value;
+    } in
+    subst (λ (before : LoggerSeen _). IsSameLogger before later) c.self.view_is
+    (record {
+      engine = c.turn.ensures.engine;
+      client = c.turn.ensures.client;
+      ports = c.turn.ensures.same;
+      specs = stay;
+      first = refl;
+    })
 
 pub invariant_of-self : goal.invariant_of-self
 invariant_of-self g c =
-    let before = c.self.invariant in
+    let before = c.self.invariant.seated in
     let did = c.turn.ensures in
+    let laws : LoggerLeaves = record { turns = c.other_files.ensures.turns; pulls = c.other_files.ensures.pulls; finishes = c.other_files.ensures.finishes } in
+    let reasons : ReasonLaws = record { turns = c.reasons_given.ensures.turns; pulls = c.reasons_given.ensures.pulls; finishes = c.reasons_given.ensures.finishes } in
     record {
-      caller = rw did.client (caller_kept _ _ _ did.same before.caller);
-      ready = did.ready;
-      room = did.room;
-      idle = did.idle;
-      begun = begun_mapped g.P.BufferPort.access c.turn.new.ports _ did.begun;
-      small = did.small;
-      stands = λ none. rw did.client (did.keeps none (before.stands (known_before c.still_known.ensures.turns c.still_known.ensures.pulls _ did.takes none)));
+      seated = record {
+        speaks = c.turn.new.self.seat.calls_for;
+        caller = rw did.client (caller_kept _ _ _ did.same before.caller);
+        ready = did.ready;
+        room = did.room;
+        idle = did.idle;
+        begun = begun_mapped g.P.BufferPort.access c.turn.new.ports _ did.begun;
+        small = did.small;
+        stands = λ none. rw did.client (did.keeps none (before.stands (known_before c.still_known.ensures.turns c.still_known.ensures.pulls _ did.takes none)));
+        others = λ none.
+            let known = known_before c.still_known.ensures.turns c.still_known.ensures.pulls _ did.takes none in
+            rw did.client (others_kept laws _ _ did.takes before.ready (before.stands known) (before.others known));
+      };
+      reasons = rw did.client (reasons_kept reasons _ _ did.takes c.self.invariant.reasons);
     }

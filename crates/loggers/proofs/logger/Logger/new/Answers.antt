@@ -1,4 +1,5 @@
 use Rattle.loggers.proofs.NewStands.{new_stands, new_room, new_own, new_failed}
+use Rattle.loggers.proofs.ReasonsKept.{idle_reasons, new_idle}
 use Rattle.loggers.proofs.logger.Logger.new.Goals as goal
 
 pub returns-clause-stands : goal.returns-clause-stands
@@ -12,3 +13,6 @@ returns-clause-own c = λ ports unused. new_own c.args.specs c.args.rooms.now c.
 
 pub returns-clause-failed : goal.returns-clause-failed
 returns-clause-failed c = λ failed. new_failed c.args.specs c.args.rooms.now c.in_ok-channels.channels c.in_ok-channels.ensures failed
+
+pub returns-clause-reasons : goal.returns-clause-reasons
+returns-clause-reasons c = λ files. idle_reasons c.in_ok-channels.channels (new_idle c.args.specs c.args.rooms.now c.in_ok-channels.channels c.in_ok-channels.ensures) files

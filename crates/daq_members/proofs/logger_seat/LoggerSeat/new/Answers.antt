@@ -1,0 +1,19 @@
+use Rattle.std.specs.Prelude.{refl}
+use Rattle.daq_members.proofs.LoggerSeatLaws.{begun_mapped}
+use Rattle.daq_members.proofs.logger_seat.LoggerSeat.new.Goals as goal
+
+pub invariant_of-result : goal.invariant_of-result
+invariant_of-result g c = record {
+  seated = record {
+    speaks = c.args.member.seat.calls_for;
+    caller = c.requires.caller;
+    ready = c.requires.ready;
+    room = c.requires.room;
+    idle = c.requires.idle;
+    begun = begun_mapped g.P.BufferPort.access c.args.ports _ c.requires.begun;
+    small = c.requires.small;
+    stands = c.requires.stands;
+    others = λ none. rw c.of-first.ensures (record { tells = refl; others = λ name other. refl });
+  };
+  reasons = rw c.of-first.ensures (c.requires.reasons _);
+}

@@ -1,0 +1,5 @@
+use Rattle.loggers.proofs.ReasonsKept.{turn_reasons, pull_reasons, finish_reasons}
+use Rattle.loggers.proofs.laws.reasons_given.Goals as goal
+
+pub returns : goal.returns
+returns c = record { turns = turn_reasons; pulls = pull_reasons; finishes = finish_reasons }

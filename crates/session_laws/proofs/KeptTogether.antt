@@ -1,0 +1,163 @@
+-- What is known of a closed session is what the law of composition asks for.
+use Rattle.std.specs.Prelude.{◌≡◌, ℕ, suc, true, List, [], ◌∷◌, slice_get, Some, refl, ◌⊎◌}
+use Rattle.std.specs.List.{AllByRecursion}
+use Rattle.std.proofs.Common.{ap, sym, subst, arith, inl, inr}
+use Rattle.std.proofs.lemmas.Bool.{eqb-true}
+use Rattle.std.proofs.lemmas.Bool.Decides.{eqb_tells}
+use Rattle.daq_types.specs.Callers.{main_caller, caller_of_client}
+use Rattle.daq_types.specs.declared.runs.Transition.TheVariants.{Start, Stop}
+use Rattle.run_states.specs.declared.sequences.Role.{Role}
+use Rattle.run_states.specs.Sequences.{sequence_for, sequences_of}
+use Rattle.transitions.specs.declared.entry.EngineEntry.{EngineEntry}
+use Rattle.transitions.specs.declared.entry.EngineEntry.TheVariants.{Register, Begin, Poll, Answer, Check, Close}
+use Rattle.session_engine.specs.declared.opening.MemberName.{MemberName}
+use Rattle.session_engine.specs.Members.{registrations}
+use Rattle.loggers.specs.LoggerStands.{StandingLoggerKeeps}
+use Rattle.caller_laws.specs.CallerLaws.{PortTells}
+use Rattle.engine_laws.specs.BegunTurns.{WantsAlone, OneWantsDump}
+use Rattle.composition.specs.Sessions.{Session, SessionFront, HasFront, NamesOwnClient, IsMemberCaller, IsRegistered, MembersKeep}
+use Rattle.daq_members.specs.OwnTurns.{is_call_for}
+use Rattle.daq_members.specs.FrontTaken.{FrontKeeps}
+use Rattle.session_laws.specs.ClosedSessions.{ClosedFront, ClosedSession, logger_client, logger_caller, members_of, history_of_buffer, engine_calls, calls_on_buffer, session_front, session_of}
+use Rattle.session_laws.specs.MembersAtEnd.{FrontAtEnd, SteersEngine, MembersAtEnd}
+use Rattle.session_laws.proofs.EachCaller.{each_by, all_both, all_each, none_all, by_caller, each_for}
+use Rattle.session_laws.proofs.Registrations.{front_at, logger_at, wants_dump}
+use Rattle.session_laws.proofs.MainFirst.{registered}
+use Rattle.session_laws.proofs.GotSent.{got_sent, legal_buffer}
+use Rattle.session_laws.proofs.LoggerEnd.{GotAll, logger_keeps}
+use Rattle.session_laws.proofs.FrontsEnd.{FrontKept, front_kept, choose, IsFrontOf, front_of, front_listed}
+
+-- On the engine each names its own client.
+
+names_call : (client : ℕ) (e : EngineEntry) → is_call_for client e ≡ true → NamesOwnClient (caller_of_client client, e)
+names_call client (Register name sequences dump report reply) is = tt
+names_call client (Begin t sheet reply) is = tt
+names_call client (Poll n reply) is = ap caller_of_client (sym (eqb-true n client is))
+names_call client (Answer n answer reply) is = ap caller_of_client (sym (eqb-true n client is))
+names_call client (Check reply tallies) is = tt
+names_call client (Close reply) is = tt
+
+names_registered : (first : ℕ) (ms : List MemberName) → AllByRecursion (λ e. NamesOwnClient (main_caller, e)) (registrations first ms)
+names_registered first [] = tt
+names_registered first (m ∷ ms) = (tt, names_registered (suc first) ms)
+
+names_steered : (e : EngineEntry) → SteersEngine e → NamesOwnClient (main_caller, e)
+names_steered (Register name sequences dump report reply) is = tt
+names_steered (Begin t sheet reply) is = tt
+names_steered (Poll n reply) is = absurd is
+names_steered (Answer n answer reply) is = absurd is
+names_steered (Check reply tallies) is = tt
+names_steered (Close reply) is = tt
+
+-- what holds of the registrations and of what the main thread did behind them holds of its calls
+main_calls : (c : ClosedSession) (ends : MembersAtEnd c) (P : EngineEntry → Type 0) → AllByRecursion P (registrations 0 (members_of c.fronts)) → ((e : EngineEntry) → SteersEngine e → P e) → AllByRecursion P (engine_calls c main_caller)
+main_calls c ends P registered steered =
+    subst (AllByRecursion P) (sym ends.main.calls)
+    (all_both P (registrations 0 (members_of c.fronts)) ends.main.later registered (all_each SteersEngine P ends.main.later steered ends.main.steers))
+
+pub names_own : (c : ClosedSession) → MembersAtEnd c → AllByRecursion NamesOwnClient c.engine
+names_own c ends =
+    each_by (λ by e. NamesOwnClient (by, e)) c.engine
+    (by_caller (λ by. AllByRecursion (λ e. NamesOwnClient (by, e)) (engine_calls c by)) c
+    (main_calls c ends (λ e. NamesOwnClient (main_caller, e)) (names_registered 0 (members_of c.fronts)) names_steered)
+    (λ client f at. each_for client (λ e. NamesOwnClient (caller_of_client client, e)) (names_call client) (engine_calls c (caller_of_client client)) (ends.fronts client f at).speaks)
+    (each_for (logger_client c) (λ e. NamesOwnClient (logger_caller c, e)) (names_call (logger_client c)) (engine_calls c (logger_caller c)) ends.logger.speaks)
+    (λ by past. none_all (λ e. NamesOwnClient (by, e)) (engine_calls c by) (ends.others.engine by past)))
+
+-- The logger alone wants the dump.
+
+wants_call : (n by client : ℕ) (e : EngineEntry) → is_call_for client e ≡ true → WantsAlone n (by, e)
+wants_call n by client (Register name sequences dump report reply) is = absurd (cc (is))
+wants_call n by client (Begin t sheet reply) is = tt
+wants_call n by client (Poll m reply) is = tt
+wants_call n by client (Answer m answer reply) is = tt
+wants_call n by client (Check reply tallies) is = tt
+wants_call n by client (Close reply) is = tt
+
+wants_steered : (n by : ℕ) (e : EngineEntry) → SteersEngine e → WantsAlone n (by, e)
+wants_steered n by (Register name sequences dump report reply) is = absurd is
+wants_steered n by (Begin t sheet reply) is = tt
+wants_steered n by (Poll m reply) is = absurd is
+wants_steered n by (Answer m answer reply) is = absurd is
+wants_steered n by (Check reply tallies) is = tt
+wants_steered n by (Close reply) is = tt
+
+one_dump : (c : ClosedSession) → MembersAtEnd c → OneWantsDump (logger_client c) c.engine
+one_dump c ends =
+    let n : ℕ = logger_client c in
+    each_by (λ by e. WantsAlone n (by, e)) c.engine
+    (by_caller (λ by. AllByRecursion (λ e. WantsAlone n (by, e)) (engine_calls c by)) c
+    (main_calls c ends (λ e. WantsAlone n (main_caller, e)) (wants_dump 0 n c.fronts (omega arith)) (wants_steered n main_caller))
+    (λ client f at. each_for client (λ e. WantsAlone n (caller_of_client client, e)) (wants_call n (caller_of_client client) client) (engine_calls c (caller_of_client client)) (ends.fronts client f at).speaks)
+    (each_for n (λ e. WantsAlone n (logger_caller c, e)) (wants_call n (logger_caller c) n) (engine_calls c (logger_caller c)) ends.logger.speaks)
+    (λ by past. none_all (λ e. WantsAlone n (by, e)) (engine_calls c by) (ends.others.engine by past)))
+
+-- The callers of a buffer.
+
+abbrev MayCall : ClosedSession → (moments : ℕ → List ℕ) → (buffer by : ℕ) → Type 0
+MayCall c moments buffer by = (calls_on_buffer c by buffer ≡ []) ⊎ IsMemberCaller (session_of c moments) buffer by
+
+front_calls : (c : ClosedSession) (moments : ℕ → List ℕ) (client : ℕ) (f : ClosedFront) → slice_get c.fronts client ≡ Some f → FrontAtEnd c client f → (buffer : ℕ) → MayCall c moments buffer (caller_of_client client)
+front_calls c moments client f at ends buffer = elim (eqb_tells f.buffer buffer) as (λ w. MayCall c moments buffer (caller_of_client client)) [
+  | inl same ↦
+      inr (inr (inl (record { front = session_front client f (moments client); stands = (client, front_listed c moments client f at); buffer_is = same.1; caller_is = refl })))
+  | inr differs ↦ inl (ends.elsewhere buffer (λ is. differs.1 (sym is)))
+]
+
+member_callers : (c : ClosedSession) → MembersAtEnd c → (moments : ℕ → List ℕ) → (buffer by : ℕ) → MayCall c moments buffer by
+member_callers c ends moments buffer =
+    by_caller (MayCall c moments buffer) c
+    (inl (ends.main.buffers buffer))
+    (λ client f at. front_calls c moments client f at (ends.fronts client f at) buffer)
+    (inr (inl refl))
+    (λ by past. inl (ends.others.buffers by past buffer))
+
+-- The members are registered.
+
+front_registered : (c : ClosedSession) → MembersAtEnd c → (moments : ℕ → List ℕ) (client : ℕ) (f : ClosedFront) → slice_get c.fronts client ≡ Some f → IsRegistered (session_of c moments) client Start × IsRegistered (session_of c moments) client Stop
+front_registered c ends moments client f at =
+    let m = front_at c.fronts client f at in (
+      registered c ends client m.0 m.1 Start 500 (ap (λ (r : Role). sequence_for (sequences_of r) Start) m.2) moments,
+      registered c ends client m.0 m.1 Stop 500 (ap (λ (r : Role). sequence_for (sequences_of r) Stop) m.2) moments,
+    )
+
+logger_registered : (c : ClosedSession) → MembersAtEnd c → (moments : ℕ → List ℕ) → IsRegistered (session_of c moments) (logger_client c) Start × IsRegistered (session_of c moments) (logger_client c) Stop
+logger_registered c ends moments =
+    let m = logger_at c.fronts in (
+      registered c ends (logger_client c) m.0 m.1 Start 200 (ap (λ (r : Role). sequence_for (sequences_of r) Start) m.2) moments,
+      registered c ends (logger_client c) m.0 m.1 Stop 800 (ap (λ (r : Role). sequence_for (sequences_of r) Stop) m.2) moments,
+    )
+
+-- All together.
+
+-- what holds of each front-end, with its client number and its moments, holds of the session's
+each_front : (c : ClosedSession) (moments : ℕ → List ℕ) (P : SessionFront → Type 0) → ((client : ℕ) (f : ClosedFront) → slice_get c.fronts client ≡ Some f → P (session_front client f (moments client)))
+    → (f : SessionFront) → HasFront (session_of c moments) f → P f
+each_front c moments P each f has =
+    let of : IsFrontOf c moments f = front_of c moments f has in
+    subst P (sym of.is) (each of.client of.front of.at)
+
+pub members_keep : PortTells → GotAll → StandingLoggerKeeps → FrontKeeps → (c : ClosedSession) → MembersAtEnd c → (moments : ℕ → List ℕ) × MembersKeep (session_of c moments)
+members_keep tells all stands keeps c ends =
+    let chosen = choose c.fronts (FrontKept c) (λ client f at. front_kept keeps c client f (ends.fronts client f at)) in
+    let moments : ℕ → List ℕ = chosen.0 in
+    let s : Session = session_of c moments in (
+      moments,
+      record {
+        buffers_legal = legal_buffer c ends;
+        engine_legal = ends.engine;
+        own_clients = names_own c ends;
+        callers = member_callers c ends moments;
+        fronts_keep = each_front c moments (λ f. _) (λ client f at. (chosen.1 client f at).keeps);
+        fronts_moments = each_front c moments (λ f. _) (λ client f at. (chosen.1 client f at).kept);
+        fronts_set = each_front c moments (λ f. _) (λ client f at. (chosen.1 client f at).told);
+        logger_keeps = logger_keeps stands all c ends;
+        logger_got = λ buffer. got_sent tells _ (logger_caller c) (history_of_buffer c buffer) (legal_buffer c ends buffer);
+        analyzers_keep = λ a has. absurd (cc (has.1));
+        analyzers_got = λ a has. absurd (cc (has.1));
+        fronts_registered = each_front c moments (λ f. _) (front_registered c ends moments);
+        analyzers_registered = λ a has. absurd (cc (has.1));
+        logger_registered = logger_registered c ends moments;
+        one_dump = one_dump c ends;
+      },
+    )

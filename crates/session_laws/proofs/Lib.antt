@@ -1,0 +1,13 @@
+pub mod EachCaller
+pub mod Registrations
+pub mod MainFirst
+pub mod NoneTaken
+pub mod GotSent
+pub mod LoggerEnd
+pub mod FrontsEnd
+pub mod KeptTogether
+pub mod RunsMade
+pub mod NamesStay
+pub mod CountsTold
+pub mod RecordsMade
+pub mod ChannelsSame

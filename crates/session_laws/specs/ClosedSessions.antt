@@ -1,0 +1,121 @@
+-- A session whose objects are closed: the one history of each object, its members, and the run files.
+use Rattle.std.specs.Prelude.{ℕ, suc, Bool, List, [], ◌∷◌, length, slice_get, Option, Some, None}
+use Rattle.daq_types.specs.Callers.{caller_of_client, entries_by}
+use Rattle.daq_types.specs.declared.events.Event.{Event}
+use Rattle.daq_types.specs.declared.runs.Order.{Order}
+use Rattle.daq_io.specs.Seen.{Seen}
+use Rattle.run_states.specs.declared.sequences.Role.TheVariants.{FrontEnd, Logger}
+use Rattle.buffer_core.specs.declared.entry.BufferEntry.{BufferEntry}
+use Rattle.buffer_core.specs.Window.{opening}
+use Rattle.buffer_core.specs.Histories.{History}
+use Rattle.buffer_core.specs.Ports.{GotEvent}
+use Rattle.local_port.specs.Ported.{given_in}
+use Rattle.transitions.specs.declared.entry.EngineEntry.{EngineEntry}
+use Rattle.transitions.specs.EngineHistories.{EngineHistory}
+use Rattle.odb_tree.specs.Noting.{Watched}
+use Rattle.odb_watch.specs.declared.entry.WatchEntry.{WatchEntry}
+use Rattle.mid_logger.specs.declared.channel.Channel.{Channel}
+use Rattle.mid_logger.specs.ChannelTurns.{logger_name}
+use Rattle.loggers.specs.LoggerStands.{logger_channels}
+use Rattle.session_engine.specs.declared.opening.MemberName.{MemberName}
+use Rattle.composition.specs.Sessions.{Session, SessionFront}
+
+-- a buffer: its size, and all calls on it from its opening on
+pub record ClosedBuffer : Type 0 where
+  pub size : ℕ
+  pub history : History
+
+-- a front-end: its name, the number of its buffer, and what its equipment does
+pub record ClosedFront : Type 0 where
+  pub name : List ℕ
+  pub buffer : ℕ
+  pub takes : Order → Bool
+  pub makes : Order → ℕ → Event
+
+-- A session: its buffers, each at its number; the history of the engine; what the database opened with, and its history; the
+-- front-ends, each at its client number; the logger's channels, each at its number; and the run files, as they were at first
+-- and as they are. The logger's client number is the one behind those of the front-ends.
+pub record ClosedSession : Type 0 where
+  pub buffers : List ClosedBuffer
+  pub engine : EngineHistory
+  pub opened : Watched
+  pub database : List (ℕ × WatchEntry)
+  pub fronts : List ClosedFront
+  pub slots : List (Option Channel)
+  pub first_files : Seen
+  pub files : Seen
+
+-- the client numbers are those below the logger's and the logger's own
+abbrev pub logger_client : ClosedSession → ℕ
+logger_client c = length c.fronts
+
+abbrev pub logger_caller : ClosedSession → ℕ
+logger_caller c = caller_of_client (logger_client c)
+
+-- a number that no buffer has stands for one that has no room and no calls
+abbrev pub size_in : Option ClosedBuffer → ℕ
+size_in None = 0
+size_in (Some b) = b.size
+
+abbrev pub history_in : Option ClosedBuffer → History
+history_in None = []
+history_in (Some b) = b.history
+
+-- the size and the history of the buffer of this number
+abbrev pub size_of_buffer : ClosedSession → (buffer : ℕ) → ℕ
+size_of_buffer c buffer = size_in (slice_get c.buffers buffer)
+
+abbrev pub history_of_buffer : ClosedSession → (buffer : ℕ) → History
+history_of_buffer c buffer = history_in (slice_get c.buffers buffer)
+
+-- a caller's own calls on the engine, on the buffer of this number, and on the database
+abbrev pub engine_calls : ClosedSession → (by : ℕ) → List EngineEntry
+engine_calls c by = entries_by by c.engine
+
+abbrev pub calls_on_buffer : ClosedSession → (by buffer : ℕ) → List BufferEntry
+calls_on_buffer c by buffer = entries_by by (history_of_buffer c buffer)
+
+abbrev pub calls_on_database : ClosedSession → (by : ℕ) → List WatchEntry
+calls_on_database c by = entries_by by c.database
+
+-- the events that a caller's own calls on a buffer gave
+abbrev pub got_from_buffer : ClosedSession → (by buffer : ℕ) → List GotEvent
+got_from_buffer c by buffer = given_in by (opening (size_of_buffer c buffer)) (history_of_buffer c buffer)
+
+-- how the members are registered: the front-ends in order, and then the logger
+abbrev pub members_of : List ClosedFront → List MemberName
+members_of [] = record { name = logger_name; role = Logger } ∷ []
+members_of (f ∷ fs) = record { name = f.name; role = FrontEnd } ∷ members_of fs
+
+-- The session as the law of composition sees it.
+
+-- a front-end with its client number and the moments of its turns
+abbrev pub session_front : (client : ℕ) → ClosedFront → (moments : List ℕ) → SessionFront
+session_front client f moments = record {
+  name = f.name;
+  client = client;
+  buffer = f.buffer;
+  takes = f.takes;
+  makes = f.makes;
+  moments = moments;
+}
+
+-- the front-ends with the client numbers from this one on
+abbrev pub session_fronts : (client : ℕ) → List ClosedFront → (moments : (client : ℕ) → List ℕ) → List SessionFront
+session_fronts client [] moments = []
+session_fronts client (f ∷ fs) moments = session_front client f (moments client) ∷ session_fronts (suc client) fs moments
+
+-- A channel that has no client is listed with number 0 for it. There are no analyzers.
+abbrev pub session_of : ClosedSession → (moments : (client : ℕ) → List ℕ) → Session
+session_of c moments = record {
+  size = λ buffer. size_of_buffer c buffer;
+  history = λ buffer. history_of_buffer c buffer;
+  engine = c.engine;
+  database = c.database;
+  fronts = session_fronts 0 c.fronts moments;
+  logger = logger_client c;
+  channels = logger_channels (λ number. 0) c.slots;
+  got = λ buffer. got_from_buffer c (logger_caller c) buffer;
+  analyzers = [];
+  files = c.files;
+}

@@ -1,0 +1,7 @@
+pub mod ClosedSessions
+pub mod MembersAtEnd
+pub mod MadeRuns
+pub mod OtherNames
+pub mod EndLaws
+pub mod CountedFaults
+pub mod RecordedRuns

@@ -1,0 +1,46 @@
+-- A run that the main thread's own calls on the engine tell, and all that is so of it.
+use Rattle.std.specs.Prelude.{◌≡◌, ℕ, List, slice_get, Some, ⊤}
+use Rattle.daq_types.specs.declared.runs.ChannelState.{ChannelState}
+use Rattle.daq_types.specs.declared.runs.ChannelState.TheVariants.{Ended, Broken}
+use Rattle.daq_types.specs.declared.runs.FrontEnded.{FrontEnded}
+use Rattle.daq_types.specs.declared.runs.StartOutcome.TheVariants.{Completed}
+use Rattle.daq_types.specs.declared.runs.Transition.TheVariants.{Start, Stop}
+use Rattle.transitions.specs.declared.entry.EngineEntry.{EngineEntry}
+use Rattle.member_model.specs.LoggerKept.{LoggerChannel, IsStateSo}
+use Rattle.session_engine.specs.MadeTransitions.{TransitionIn}
+use Rattle.composition.specs.Sessions.{Session, SessionFront, HasFront, buffer_calls}
+use Rattle.composition.specs.SessionRuns.{SessionRun, IsStoppedRun, TellsFront, FrontSent, SetAtStop, ToldState, HoldsRunFile, HoldsFilePart}
+
+-- A run stands among these calls: its start, which was not refused, and a stop with its start number.
+pub record RunIn (own : List EngineEntry) (r : SessionRun) : Type 0 where
+  pub started : TransitionIn own Start r.first r.start Completed r.first_tallies
+  pub stopped : TransitionIn own Stop r.last r.start Completed r.last_tallies
+
+-- A front-end in the run: what it told at the stop is what it sent, the first events of its equipment; and that is what it
+-- set in the database.
+pub record FrontHolds (s : Session) (r : SessionRun) (f : SessionFront) : Type 0 where
+  pub sent : ℕ
+  pub ended : FrontEnded
+  pub told : TellsFront r f.client sent ended
+  pub sends : FrontSent s r f sent ended
+  pub set : SetAtStop s r f sent
+
+-- what the file of a channel with this state has
+abbrev pub IsFileSo : ChannelState → Session → SessionRun → LoggerChannel → Type 0
+IsFileSo Ended s r channel = HoldsRunFile s r channel
+IsFileSo Broken s r channel = (last_dump : List ℕ) → r.last.dump ≡ Some last_dump → HoldsFilePart s r channel last_dump
+IsFileSo state s r channel = ⊤
+
+-- A channel in the run: what was told of it at the stop is so; and where it ended, its file is the run file of all events of
+-- the run that it asks for, and where it broke off, a part of that.
+pub record ChannelHolds (s : Session) (r : SessionRun) (channel : LoggerChannel) : Type 0 where
+  pub state : ChannelState
+  pub told : ToldState s r channel state
+  pub so : IsStateSo (buffer_calls s channel.buffer s.logger) r.start r.last.dump state
+  pub file : IsFileSo state s r channel
+
+-- The run was not refused, and was stopped; and what holds of it in each front-end and each channel.
+pub record RunHolds (s : Session) (r : SessionRun) : Type 0 where
+  pub stopped : IsStoppedRun s r
+  pub fronts : (f : SessionFront) → HasFront s f → FrontHolds s r f
+  pub channels : (index : ℕ) → (channel : LoggerChannel) → slice_get s.channels index ≡ Some channel → ChannelHolds s r channel

@@ -1,0 +1,93 @@
+-- What is known of a session's members when its objects are closed: each history is legal, and each caller's calls are those
+-- of a member that keeps its contract, or of the main thread.
+use Rattle.std.specs.Prelude.{◌≡◌, ◌≢◌, ℕ, ◌<◌, true, List, [], ◌++◌, length, slice_get, Option, Some, ⊤}
+use Rattle.std.specs.List.{AllByRecursion}
+use Rattle.daq_types.specs.Callers.{caller_of_client, main_caller}
+use Rattle.buffer_core.specs.Window.{opening}
+use Rattle.buffer_core.specs.Histories.{History, IsLegal}
+use Rattle.buffer_core.specs.Ports.{Access}
+use Rattle.local_port.specs.Ported.{given_in, taken_back_in}
+use Rattle.transitions.specs.declared.entry.EngineEntry.{EngineEntry}
+use Rattle.transitions.specs.declared.entry.EngineEntry.TheVariants.{Begin, Check, Close}
+use Rattle.transitions.specs.Engines.{engine_opening}
+use Rattle.transitions.specs.EngineHistories.{IsLegalEngine}
+use Rattle.odb_watch.specs.Steps.{IsLegalDatabase}
+use Rattle.turn_lock.specs.History.{IsPartOf}
+use Rattle.daq_types.specs.Callers.{entries_by}
+use Rattle.member_model.specs.TurnCalls.{member_turns}
+use Rattle.front_ends.specs.declared.front_run.FrontRun.{FrontRun}
+use Rattle.loggers.specs.declared.logged_run.LoggedRun.{LoggedRun}
+use Rattle.loggers.specs.NewLoggers.{NoneTakenBack}
+use Rattle.loggers.specs.LoggerStands.{LoggerStands}
+use Rattle.loggers.specs.OtherFiles.{specs_in, KeepsOtherFiles}
+use Rattle.session_engine.specs.Members.{registrations}
+use Rattle.daq_members.specs.OwnTurns.{are_calls_for}
+use Rattle.daq_members.specs.StartedRuns.{started_runs}
+use Rattle.daq_members.specs.FrontTaken.{FrontMemberStands}
+use Rattle.session_laws.specs.ClosedSessions.{ClosedBuffer, ClosedFront, ClosedSession, logger_client, logger_caller, members_of, engine_calls, calls_on_buffer, calls_on_database}
+
+-- The front-end with this client number: on the engine it polls and answers for its own client alone; it keeps its contract
+-- over its calls on the engine, on its buffer and on the database; and it called on no other buffer.
+pub record FrontAtEnd (c : ClosedSession) (client : ℕ) (f : ClosedFront) : Type 0 where
+  pub speaks : are_calls_for client (engine_calls c (caller_of_client client)) ≡ true
+  pub run : Option FrontRun
+  pub stands : FrontMemberStands client f.name f.takes f.makes run (engine_calls c (caller_of_client client))
+      (calls_on_buffer c (caller_of_client client) f.buffer) (calls_on_database c (caller_of_client client))
+  pub elsewhere : (buffer : ℕ) → buffer ≢ f.buffer → calls_on_buffer c (caller_of_client client) buffer ≡ []
+
+-- What this caller's port to the buffer told it: a beginning of the buffer's history, with all of its own calls.
+pub record IsAccessTo (caller : ℕ) (b : ClosedBuffer) (a : Access) : Type 0 where
+  pub seen : History
+  pub part : IsPartOf b.history caller seen
+  pub own : a.own ≡ entries_by caller seen
+  pub got : a.got ≡ given_in caller (opening b.size) seen
+  pub known : a.taken_back ≡ taken_back_in caller 0 seen
+
+-- The logger: on the engine it polls and answers for its own client alone; and it has a port to each buffer. Where no client
+-- of it is known to be detached by another, it keeps its contract over its calls on the engine, what its ports told it, and
+-- the run files; and it left all files but those of its channels in the runs that it was told to start.
+pub record LoggerAtEnd (c : ClosedSession) : Type 0 where
+  pub speaks : are_calls_for (logger_client c) (engine_calls c (logger_caller c)) ≡ true
+  pub run : Option LoggedRun
+  pub stop_dump : Option (List ℕ)
+  pub ports : List Access
+  pub many : length ports ≡ length c.buffers
+  pub access : (buffer : ℕ) → (a : Access) → (b : ClosedBuffer) → slice_get ports buffer ≡ Some a →
+      slice_get c.buffers buffer ≡ Some b → IsAccessTo (logger_caller c) b a
+  pub stands : NoneTakenBack ports →
+      LoggerStands run stop_dump c.slots ports (member_turns (logger_client c) (engine_calls c (logger_caller c))) c.files
+  pub others : NoneTakenBack ports →
+      KeepsOtherFiles (specs_in c.slots) (started_runs (member_turns (logger_client c) (engine_calls c (logger_caller c))))
+      c.first_files c.files
+
+-- the call begins a transition, checks one, or closes the engine
+abbrev pub SteersEngine : EngineEntry → Type 0
+SteersEngine (Begin transition sheet reply) = ⊤
+SteersEngine (Check reply tallies) = ⊤
+SteersEngine (Close reply) = ⊤
+SteersEngine entry = ⊥
+
+-- The main thread: on the engine it registered the members, and then made and ended transitions; and it called on no buffer.
+pub record MainAtEnd (c : ClosedSession) : Type 0 where
+  pub later : List EngineEntry
+  pub calls : engine_calls c main_caller ≡ registrations 0 (members_of c.fronts) ++ later
+  pub steers : AllByRecursion SteersEngine later
+  pub buffers : (buffer : ℕ) → calls_on_buffer c main_caller buffer ≡ []
+
+-- There are no callers of the engine and of the buffers but the main thread and the members, and none of the database but the
+-- main thread and the front-ends, whose callers are the numbers from 1 on.
+pub record NoOthers (c : ClosedSession) : Type 0 where
+  pub engine : (by : ℕ) → logger_caller c < by → engine_calls c by ≡ []
+  pub buffers : (by : ℕ) → logger_caller c < by → (buffer : ℕ) → calls_on_buffer c by buffer ≡ []
+  pub database : (by : ℕ) → length c.fronts < by → calls_on_database c by ≡ []
+
+-- All that.
+pub record MembersAtEnd (c : ClosedSession) : Type 0 where
+  pub buffers : (number : ℕ) → (b : ClosedBuffer) → slice_get c.buffers number ≡ Some b →
+      IsLegal (opening b.size) b.history
+  pub engine : IsLegalEngine engine_opening c.engine
+  pub database : IsLegalDatabase c.opened c.database
+  pub fronts : (client : ℕ) → (f : ClosedFront) → slice_get c.fronts client ≡ Some f → FrontAtEnd c client f
+  pub logger : LoggerAtEnd c
+  pub main : MainAtEnd c
+  pub others : NoOthers c

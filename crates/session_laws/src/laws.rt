@@ -1,0 +1,90 @@
+//! Laws of closed sessions: each function does nothing, and its contract is the law.
+
+ghost use Rattle.session_laws.specs.CountedFaults.{CountsTell};
+ghost use Rattle.session_laws.specs.RecordedRuns.{ChannelsAgree, RecordsHold};
+ghost use Rattle.session_laws.specs.EndLaws.{EndsKeep, EndsComposed, MadeAreStopped, StoppedHold, OtherNamesStay, EndsHold};
+
+use buffer_lock::laws as buffers;
+use caller_laws::laws as callers;
+use composition::laws as sessions;
+use daq_members::laws as members;
+use engine_laws::laws as turns;
+use loggers::laws as loggers_laws;
+
+/// What is known when a session's objects are closed is all that the law of composition asks for: every history is legal, and
+/// each caller's calls are those of a member that keeps its contract, where the main thread registered the members first and
+/// called on no buffer.
+pub fn members_keep()
+    ensures { EndsKeep }
+{
+    callers::port_tells();
+    buffers::got_all();
+    loggers_laws::logger_keeps();
+    members::front_keeps();
+}
+
+/// So all that the law of composition says is so of a closed session.
+pub fn ends_composed()
+    ensures { EndsComposed }
+{
+    members_keep();
+    sessions::composed();
+}
+
+/// A run that the main thread's own calls on the engine tell, by its start and its stop with their replies, is one of the
+/// session that was not refused and was stopped.
+pub fn made_are_stopped()
+    ensures { MadeAreStopped }
+{
+    turns::main_has_transition();
+}
+
+/// Of a run that was not refused and was stopped: each front-end sent what it told at the stop, the first events of its
+/// equipment, and set that number in the database; and what was told of each channel is so: the file of one that ended is the
+/// run file of all events of the run that it asks for, that of one that broke off a part of it.
+pub fn stopped_hold()
+    ensures { StoppedHold }
+{}
+
+/// Each run file whose name no channel gives in a run that the main thread began is as it was at first: it is there where it
+/// was there, with the same bytes.
+pub fn other_names_stay()
+    ensures { OtherNamesStay }
+{
+    turns::turns_begun();
+}
+
+/// A closed session holds all that, of each run that the main thread made and of its run files.
+pub fn session_holds()
+    ensures { EndsHold }
+{
+    ends_composed();
+    made_are_stopped();
+    stopped_hold();
+    other_names_stay();
+}
+
+/// Where the logger's channels are those that were declared, the records of its runs name them in order of number.
+pub fn channels_agree()
+    ensures { ChannelsAgree }
+{}
+
+/// Of a closed session, by the counts of its run files: a start was refused by a front-end as NotReady, whose equipment takes
+/// no part in the run, or by the logger, for a name only where a clash was counted and for a fault only where one was; each
+/// front-end's equipment takes part in a run that was started; and where no fault was counted each channel of each run ended,
+/// or the stop's sheet had no dump.
+pub fn counts_tell()
+    ensures { CountsTell }
+{
+    turns::main_has_transition();
+    turns::tallies_answered();
+    ends_composed();
+    made_are_stopped();
+}
+
+/// The record of each run that was not refused, where it fits the main thread's own calls, has the numbers and the times of a
+/// run of the session, what each front-end told at the stop, which is what it sent, and what the logger told of each file: the
+/// file of a channel that ended is the run file of all events of the run that it asks for.
+pub fn records_hold()
+    ensures { RecordsHold }
+{}

@@ -1,0 +1,6 @@
+//! What follows once a session's objects are closed: from the one history of each object, each member's contract and the
+//! main thread's own calls to the law of composition, and to what each run of the session holds. Definitions in `specs/`,
+//! and the laws on them.
+#![tactic(auto)]
+
+pub mod laws;

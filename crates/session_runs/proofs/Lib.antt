@@ -1,0 +1,5 @@
+mod Calls
+mod Steps
+mod Fits
+mod Lists
+mod Made

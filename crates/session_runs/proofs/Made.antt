@@ -1,0 +1,184 @@
+-- A start and a stop, put together.
+use Rattle.std.specs.Prelude.{◌≡◌, ◌≢◌, ℕ, true, false, List, [], ◌∷◌, ◌++◌, length, Option, Some, None, Result, Ok, Err, is_err, IsOk, IfOk, OnErr, refl}
+use Rattle.std.proofs.Common.{ap, sym, subst, ◌∙◌, inr}
+use Rattle.daq_types.specs.declared.memory.NoMemory.{NoMemory}
+use Rattle.daq_types.specs.declared.runs.StartOutcome.{StartOutcome}
+use Rattle.daq_types.specs.declared.runs.StartOutcome.TheVariants.{Completed, Refused}
+use Rattle.daq_types.specs.declared.runs.RunState.{RunState}
+use Rattle.daq_types.specs.declared.runs.RunState.TheVariants.{Stopped}
+use Rattle.daq_types.specs.declared.runs.Transition.TheVariants.{Start, Stop}
+use Rattle.daq_types.specs.declared.runs.Why.{Why}
+use Rattle.odb_watch.specs.declared.entry.WatchEntry.{WatchEntry}
+use Rattle.odb_port.specs.DatabasePorts.{DatabaseAccess, AddsEntries}
+use Rattle.odb_runinfo.specs.RunSets.{SetsNumbers, state_set}
+use Rattle.transitions.specs.declared.sheet.Sheet.{Sheet}
+use Rattle.transitions.specs.declared.answers.ClientTally.{ClientTally}
+use Rattle.transitions.specs.declared.entry.EngineEntry.{EngineEntry}
+use Rattle.transition_lock.specs.declared.shared.SharedEngine.{SharedEngine}
+use Rattle.run_records.specs.declared.records.RunRecord.{RunRecord}
+use Rattle.session_engine.specs.MainKnowledge.{MainKnows, known_from, begin_known}
+use Rattle.session_engine.specs.MadeTransitions.{DrivesTransition}
+use Rattle.session_engine.specs.MainSeats.{StandsFree, MainSeen}
+use Rattle.session_runs.specs.declared.channels.RunChannel.{RunChannel}
+use Rattle.session_runs.specs.declared.on.CurrentRun.{CurrentRun}
+use Rattle.session_runs.specs.declared.replies.RunReply.{RunReply}
+use Rattle.session_runs.specs.declared.replies.RunReply.TheVariants.{WrongState, LastStart, RunNumber, StartRefused, Started as run_started, Paused as run_paused, Resumed as run_resumed, Stopped as run_stopped}
+use Rattle.session_runs.specs.KeptRuns.{RunsSeen, IsInStep, behind_start, behind_stop, record_of, refused_start, with_calls}
+use Rattle.session_runs.specs.RunEntries.{AnnounceCalls, AnnouncesStop, BeginCalls, StopCalls, dump_saved, later_sheet, outcome_sets, start_sheet}
+use Rattle.session_runs.specs.RunAnswers.{ClockTold, CommandPoint, ReadsClock, AnswersBegin, AnswersStart, AnswersStop, BeginsRun, CutsBegin, CutsStart, GotNumber, MakesStart, MakesStop, StopsUnsaved, point_of, run_begun}
+use Rattle.session_runs.proofs.Calls.{CallsAreEntries, begin_calls, stop_calls}
+use Rattle.session_runs.proofs.Steps.{stop_begins}
+
+-- what is seen of the runs, in parts
+abbrev pub seen_of : (quota : ℕ) → List RunRecord → List (List ℕ) → List RunChannel → Option CurrentRun → MainSeen → RunsSeen
+seen_of quota runs fronts channels on main = record { quota = quota; runs = runs; fronts = fronts; channels = channels; on = on; main = main }
+
+seen_same : (quota : ℕ) (runs later : List RunRecord) (fronts : List (List ℕ)) (channels : List RunChannel) (on then_on : Option CurrentRun) (main after : MainSeen) → runs ≡ later → on ≡ then_on → main ≡ after
+    → seen_of quota runs fronts channels on main ≡ seen_of quota later fronts channels then_on after
+seen_same quota runs later fronts channels on then_on main after are on_is is =
+    ap (λ (l : List RunRecord). seen_of quota l fronts channels on main) are
+    ∙ (ap (λ (o : Option CurrentRun). seen_of quota later fronts channels o main) on_is
+    ∙ ap (λ (m : MainSeen). seen_of quota later fronts channels then_on m) is)
+
+abbrev main_of : SharedEngine → List EngineEntry → MainSeen
+main_of engine own = record { engine = engine; own = own }
+
+-- the same engine, with the later calls
+main_same : (before after : MainSeen) → after.engine ≡ before.engine → after ≡ main_of before.engine after.own
+main_same before after is = ap (λ (e : SharedEngine). main_of e after.own) is
+
+-- a run is on
+pub kept_on : (quota : ℕ) (runs later : List RunRecord) (fronts : List (List ℕ)) (channels : List RunChannel) (on : Option CurrentRun) (main after : MainSeen) (r : CurrentRun) → later ≡ runs → after.engine ≡ main.engine
+    → seen_of quota later fronts channels (Some r) after ≡ with_calls (behind_start (seen_of quota runs fronts channels on main) r Completed) after.own
+kept_on quota runs later fronts channels on main after r are engine = seen_same quota later runs fronts channels (Some r) (Some r) after (main_of main.engine after.own) are refl (main_same main after engine)
+
+-- a start was refused
+pub kept_refused : (quota : ℕ) (runs between later : List RunRecord) (fronts : List (List ℕ)) (channels : List RunChannel) (on : Option CurrentRun) (main after : MainSeen) (r : CurrentRun) (outcome : StartOutcome) (client : ℕ) (why : Why)
+    (rec : RunRecord) → between ≡ runs → later ≡ between ++ rec ∷ [] → rec ≡ refused_start r outcome → outcome ≡ Refused client why → after.engine ≡ main.engine
+    → seen_of quota later fronts channels on after ≡ with_calls (behind_start (seen_of quota runs fronts channels on main) r (Refused client why)) after.own
+kept_refused quota runs between later fronts channels on main after r outcome client why rec same are is done engine =
+    let all : later ≡ runs ++ refused_start r (Refused client why) ∷ [] =
+    are ∙ (ap (λ (l : List RunRecord). l ++ rec ∷ []) same ∙ ap (λ (x : RunRecord). runs ++ x ∷ []) (is ∙ ap (refused_start r) done)) in
+    seen_same quota later (runs ++ refused_start r (Refused client why) ∷ []) fronts channels on on after (main_of main.engine after.own) all refl (main_same main after engine)
+
+-- a run was stopped
+pub kept_stopped : (quota : ℕ) (runs later : List RunRecord) (fronts : List (List ℕ)) (channels : List RunChannel) (on then_on : Option CurrentRun) (main after : MainSeen) (r : CurrentRun) (time : ℕ) (told : List ClientTally)
+    (rec : RunRecord) → later ≡ runs ++ rec ∷ [] → rec ≡ record_of (length fronts) channels r time told → then_on ≡ None → after.engine ≡ main.engine
+    → seen_of quota later fronts channels then_on after ≡ with_calls (behind_stop (seen_of quota runs fronts channels on main) r time told) after.own
+kept_stopped quota runs later fronts channels on then_on main after r time told rec are is off engine =
+    let whole : RunRecord = record_of (length fronts) channels r time told in
+    seen_same quota later (runs ++ whole ∷ []) fronts channels then_on None after (main_of main.engine after.own) (are ∙ ap (λ (x : RunRecord). runs ++ x ∷ []) is) off (main_same main after engine)
+
+-- the record, from what it was made of
+pub recorded : (count fronts : ℕ) (listed channels : List RunChannel) (r : CurrentRun) (time : ℕ) (told tallies : List ClientTally) (rec : RunRecord) → rec ≡ record_of count listed r time told → count ≡ fronts → listed ≡ channels
+    → told ≡ tallies → rec ≡ record_of fronts channels r time tallies
+recorded count fronts listed channels r time told tallies rec is count_is channels_are tallies_are =
+    is ∙ (ap (λ (n : ℕ). record_of n listed r time told) count_is
+    ∙ (ap (λ (l : List RunChannel). record_of fronts l r time told) channels_are ∙ ap (record_of fronts channels r time) tallies_are))
+
+-- the text was saved, or there was no memory for it
+
+pub saved_none : (saved : Result (List ℕ) NoMemory) → is_err saved ≡ true → saved ≡ Err (record {})
+saved_none (Ok dump) is = absurd (cc (is))
+saved_none (Err wanting) is = refl
+
+pub saved_some : (saved : Result (List ℕ) NoMemory) → is_err saved ≡ false → (dump : List ℕ) × (saved ≡ Ok dump)
+saved_some (Ok dump) is = (dump, refl)
+saved_some (Err wanting) is = absurd (cc (is))
+
+same_number : (start number : ℕ) (k : MainKnows) → begin_known k Stop ≡ Ok start → begin_known k Stop ≡ Ok number → start ≡ number
+same_number start number k is also = let both : Ok start ≡ Ok number = sym is ∙ also in cc (both)
+
+stop_is_none : Stop ≢ Start
+stop_is_none is = absurd (cc (is))
+
+module _ {M : Type 0} (round : M → M → Type 0) where
+  pub begins_run : CallsAreEntries → (run start time : ℕ) (outcome ended : StartOutcome) (dump : List ℕ) (saved : Result (List ℕ) NoMemory) (sheet : Sheet) (before after : ClockTold) (s later : RunsSeen)
+      (a b c : DatabaseAccess) (members turned : M) → s.on ≡ None → begin_known (known_from s.main.own) Start ≡ Ok start → ReadsClock before after time
+      → ((entries : List WatchEntry) × AnnounceCalls run time saved entries × AddsEntries a b entries) → saved ≡ Ok dump → SetsNumbers b c (outcome_sets run ended) → ended ≡ outcome
+      → sheet ≡ start_sheet run time s.quota dump
+      → ((told : List ClientTally) × DrivesTransition round Start sheet start ended told s.main.own later.main.own members turned)
+      → later ≡ with_calls (behind_start s (run_begun s run start time) outcome) later.main.own
+      → BeginsRun round run outcome before after (point_of s a members) (point_of later c turned)
+  begins_run are run start time outcome ended dump saved sheet before after s later a b c members turned idle begins reading announced is sets done sheet_is made kept =
+      let first : AnnounceCalls run time (Ok dump) announced.0 = subst (λ (r : Result (List ℕ) NoMemory). AnnounceCalls run time r announced.0) is announced.1 in
+      let last : SetsNumbers b c (outcome_sets run outcome) = subst (λ (o : StartOutcome). SetsNumbers b c (outcome_sets run o)) done sets in
+      let whole : (entries : List WatchEntry) × BeginCalls run time outcome dump entries × AddsEntries a c entries = begin_calls are a b c run time outcome dump announced.0 first announced.2 last in
+      let drives : DrivesTransition round Start (start_sheet run time s.quota dump) start ended made.0 s.main.own later.main.own members turned =
+      subst (λ (x : Sheet). DrivesTransition round Start x start ended made.0 s.main.own later.main.own members turned) sheet_is made.1 in
+      record {
+        idle = idle;
+        start = start;
+        begins = begins;
+        time = time;
+        reading = reading;
+        dump = dump;
+        entries = whole.0;
+        calls = whole.1;
+        adds = whole.2;
+        tallies = made.0;
+        drives = subst (λ (o : StartOutcome). DrivesTransition round Start (start_sheet run time s.quota dump) start o made.0 s.main.own later.main.own members turned) done drives;
+        kept = kept;
+      }
+
+  -- once the number was got, a start is answered so
+  pub start_answered : (run : ℕ) (reply : RunReply) (before after : ClockTold) (old ready new : CommandPoint M) → GotNumber run old ready → AnswersBegin round run reply before after ready new
+      → AnswersStart round reply before after old new
+  start_answered run (run_started number) before after old ready new got begins =
+      subst (λ (n : ℕ). MakesStart round n Completed before after old new) (sym begins.0) (ready, got, begins.1)
+  start_answered run (StartRefused client why) before after old ready new got begins = (run, (ready, got, begins))
+  start_answered run (RunNumber have) before after old ready new got begins = absurd begins
+  start_answered run (WrongState state) before after old ready new got begins = absurd begins
+  start_answered run LastStart before after old ready new got begins = absurd begins
+  start_answered run (run_paused number) before after old ready new got begins = absurd begins
+  start_answered run (run_resumed number) before after old ready new got begins = absurd begins
+  start_answered run (run_stopped number) before after old ready new got begins = absurd begins
+
+  pub start_answers : (result : Result RunReply NoMemory) (run : ℕ) (before after : ClockTold) (old ready new : CommandPoint M) → GotNumber run old ready
+      → IfOk result (λ reply. AnswersBegin round run reply before after ready new) → IfOk result (λ reply. AnswersStart round reply before after old new)
+  start_answers (Ok reply) run before after old ready new got begins = start_answered run reply before after old ready new got begins
+  start_answers (Err wanting) run before after old ready new got begins = tt
+
+  pub start_cut : (result : Result RunReply NoMemory) (run : ℕ) (before after : ClockTold) (old ready new : CommandPoint M) → IsOk (begin_known (known_from old.runs.main.own) Start) → GotNumber run old ready
+      → OnErr result (CutsBegin run before after ready new) → OnErr result (CutsStart before after old new)
+  start_cut (Ok reply) run before after old ready new begins got cut = tt
+  start_cut (Err wanting) run before after old ready new begins got cut = record { begins = begins; cut = inr (run, ready, got, cut) }
+
+  pub stops_run : CallsAreEntries → (r : CurrentRun) (start time : ℕ) (outcome : StartOutcome) (state : RunState) (saved : Result (List ℕ) NoMemory) (sheet : Sheet) (tallies : List ClientTally) (before after : ClockTold)
+      (s later : RunsSeen) (a b c : DatabaseAccess) (members turned : M) → s.on ≡ Some r → IsInStep s.on (known_from s.main.own) → StandsFree s.main.own → state ≡ (known_from s.main.own).state
+      → begin_known (known_from s.main.own) Stop ≡ Ok start → ReadsClock before after time → ((entries : List WatchEntry) × AnnouncesStop state time saved entries × AddsEntries a b entries)
+      → SetsNumbers b c (state_set Stopped) → sheet ≡ later_sheet r time (dump_saved saved) → DrivesTransition round Stop sheet start outcome tallies s.main.own later.main.own members turned
+      → (Stop ≢ Start → outcome ≡ Completed) → later ≡ with_calls (behind_stop s r time tallies) later.main.own
+      → MakesStop round r saved before after (point_of s a members) (point_of later c turned)
+  stops_run are r start time outcome state saved sheet tallies before after s later a b c members turned on step between state_is begun reading announced sets sheet_is made completed kept =
+      let k : MainKnows = known_from s.main.own in
+      let begins : begin_known k Stop ≡ Ok r.start = stop_begins r k between.open_yet between.none_going (subst (λ (o : Option CurrentRun). IsInStep o k) on step) in
+      let first : AnnouncesStop k.state time saved announced.0 = subst (λ (x : RunState). AnnouncesStop x time saved announced.0) state_is announced.1 in
+      let whole : (entries : List WatchEntry) × StopCalls k.state time saved entries × AddsEntries a c entries = stop_calls are a b c k.state time saved announced.0 first announced.2 sets in
+      let by_sheet : DrivesTransition round Stop (later_sheet r time (dump_saved saved)) start outcome tallies s.main.own later.main.own members turned =
+      subst (λ (x : Sheet). DrivesTransition round Stop x start outcome tallies s.main.own later.main.own members turned) sheet_is made in
+      let by_number : DrivesTransition round Stop (later_sheet r time (dump_saved saved)) r.start outcome tallies s.main.own later.main.own members turned =
+      subst (λ (n : ℕ). DrivesTransition round Stop (later_sheet r time (dump_saved saved)) n outcome tallies s.main.own later.main.own members turned) (same_number start r.start k begun begins) by_sheet in
+      record {
+        on = on;
+        begins = begins;
+        time = time;
+        reading = reading;
+        entries = whole.0;
+        calls = whole.1;
+        adds = whole.2;
+        tallies = tallies;
+        drives = subst (λ (o : StartOutcome). DrivesTransition round Stop (later_sheet r time (dump_saved saved)) r.start o tallies s.main.own later.main.own members turned) (completed stop_is_none) by_number;
+        kept = kept;
+      }
+
+  -- the same, where the text was saved or not
+  pub stop_unsaved : (r : CurrentRun) (saved : Result (List ℕ) NoMemory) (before after : ClockTold) (old new : CommandPoint M) → is_err saved ≡ true → MakesStop round r saved before after old new
+      → StopsUnsaved round before after old new
+  stop_unsaved r saved before after old new is makes = (r, subst (λ (x : Result (List ℕ) NoMemory). MakesStop round r x before after old new) (saved_none saved is) makes)
+
+  pub stop_answered : (r : CurrentRun) (saved : Result (List ℕ) NoMemory) (before after : ClockTold) (old new : CommandPoint M) → is_err saved ≡ false → MakesStop round r saved before after old new
+      → AnswersStop round (run_stopped r.run) before after old new
+  stop_answered r saved before after old new is makes =
+      let dump : (text : List ℕ) × (saved ≡ Ok text) = saved_some saved is in
+      (r, refl, dump.0, subst (λ (x : Result (List ℕ) NoMemory). MakesStop round r x before after old new) dump.1 makes)

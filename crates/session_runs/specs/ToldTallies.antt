@@ -1,0 +1,61 @@
+-- What clients told in the end of a transition, as the record of a run keeps it.
+use Rattle.std.specs.Prelude.{ℕ, zero, suc, ◌==◌, if◌then◌else◌, List, [], ◌∷◌, ◌++◌, slice_get, Option, Some, None}
+use Rattle.std.specs.Option.{option_map, option_or, option_to_list}
+use Rattle.daq_types.specs.declared.runs.ChannelState.{ChannelState}
+use Rattle.transitions.specs.declared.answers.Tally.{Tally}
+use Rattle.transitions.specs.declared.answers.Tally.TheVariants.{Front, Channels}
+use Rattle.transitions.specs.declared.answers.ClientTally.{ClientTally}
+use Rattle.mid_logger.specs.Patterns.{file_name_by}
+use Rattle.run_records.specs.declared.records.FrontTally.{FrontTally}
+use Rattle.run_records.specs.declared.records.FileRecord.{FileRecord}
+use Rattle.session_runs.specs.declared.channels.RunChannel.{RunChannel}
+
+-- what a front-end's tally tells
+abbrev pub front_in : (client : ℕ) → Tally → Option FrontTally
+front_in client (Front sent ended) = Some (record { client = client; sent = sent; ended = ended })
+front_in client tally = None
+
+-- what one told, where it is this client
+abbrev pub front_by : (client : ℕ) → ClientTally → Option FrontTally
+front_by client told = if told.client == client then front_in client told.tally else None
+
+-- what this client told that it sent: its first such tally
+abbrev pub front_told : (client : ℕ) → List ClientTally → Option FrontTally
+front_told client [] = None
+front_told client (told ∷ tallies) = option_or (front_by client told) (front_told client tallies)
+
+-- what the front-ends told, of which there are so many: they are the first clients
+abbrev pub fronts_told : (count : ℕ) → List ClientTally → List FrontTally
+fronts_told zero tallies = []
+fronts_told (suc n) tallies = fronts_told n tallies ++ option_to_list (front_told n tallies)
+
+-- what a logger's tally tells of its channels, by their numbers
+abbrev pub states_in : Tally → Option (List ChannelState)
+states_in (Channels states) = Some states
+states_in tally = None
+
+abbrev pub states_by : (client : ℕ) → ClientTally → Option (List ChannelState)
+states_by client told = if told.client == client then states_in told.tally else None
+
+-- what the logger told of its channels: its first such tally
+abbrev pub states_told : (logger : ℕ) → List ClientTally → Option (List ChannelState)
+states_told logger [] = None
+states_told logger (told ∷ tallies) = option_or (states_by logger told) (states_told logger tallies)
+
+-- a channel's file in the run of this number, which ended in this state
+abbrev pub file_in : (run : ℕ) → RunChannel → ChannelState → FileRecord
+file_in run channel state = record { channel = channel.number; name = file_name_by channel.pattern run; state = state }
+
+-- the channel's file, where the logger told of it
+abbrev pub file_told : List ChannelState → (run : ℕ) → RunChannel → Option FileRecord
+file_told states run channel = option_map (file_in run channel) (slice_get states channel.number)
+
+-- the files of these channels
+abbrev pub files_told : List ChannelState → (run : ℕ) → List RunChannel → List FileRecord
+files_told states run [] = []
+files_told states run (channel ∷ channels) = option_to_list (file_told states run channel) ++ files_told states run channels
+
+-- none, where the logger told nothing
+abbrev pub files_of : Option (List ChannelState) → (run : ℕ) → List RunChannel → List FileRecord
+files_of None run channels = []
+files_of (Some states) run channels = files_told states run channels

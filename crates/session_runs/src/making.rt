@@ -1,0 +1,63 @@
+// A transition, and what it is begun with.
+ghost use Rattle.std.specs.Prelude.{◌≡◌, ◌≢◌, ◌≤◌, [], List, length, Ok, IsOk, IfSome};
+ghost use Rattle.daq_types.specs.declared.runs.StartOutcome.TheVariants.{Completed};
+ghost use Rattle.daq_types.specs.declared.runs.Transition.TheVariants.{Start};
+ghost use Rattle.odb_ascii.specs.Dumps.{dump_limit};
+ghost use Rattle.transitions.specs.declared.answers.ClientTally.{ClientTally};
+ghost use Rattle.transitions.specs.EngineHistories.{IsSheet};
+ghost use Rattle.session_engine.specs.MainKnowledge.{known_from, begin_known, known_behind};
+ghost use Rattle.session_engine.specs.MadeTransitions.{DrivesTransition};
+
+use daq_types::{BoundedList, Bytes, Transition};
+use session_engine::{Made, MainSeat, Rounds};
+use std::alloc::Global;
+use std::sync::Wait;
+use transitions::{Sheet, Tallies};
+
+/// What a transition is begun with, where no member counts in a report. Takes no memory.
+pub(crate) fn sheet_for(
+    alloc: Global,
+    run: u32,
+    time: u32,
+    quota: u32,
+    dump: Option<Bytes>,
+) -> Sheet
+    requires { IfSome dump (λ text. length text ≤ dump_limit) }
+    ensures is { result ≡ record { run = run; time = time; quota = quota; dump = dump; blanks = [] } }
+    ensures sheet { IsSheet result }
+{
+    Sheet {
+        run,
+        time,
+        quota,
+        dump,
+        blanks: BoundedList::of(Vec::new(alloc)),
+    }
+}
+
+/// Makes a transition that would begin, as `MainSeat::make`. The tallies are not kept.
+pub(crate) fn make_untold<R: Wait, M: Rounds>(
+    rt: &R,
+    seat: &mut MainSeat<'_>,
+    transition: Transition,
+    sheet: Sheet,
+    tallies: &mut Tallies,
+    members: &mut M,
+) -> Made
+    requires begins { IsOk (begin_known (known_from seat.old.own) transition) }
+    requires sheet { IsSheet sheet }
+    requires empty { tallies.old ≡ [] }
+    ensures begun { begin_known (known_from seat.old.own) transition ≡ Ok result.start }
+    ensures made { (told : List ClientTally) × DrivesTransition M.round transition sheet result.start
+        result.outcome told seat.old.own seat.new.own members.old members.new }
+    ensures known { known_from seat.new.own
+        ≡ known_behind transition result.outcome (known_from seat.old.own) }
+    ensures last { (known_from seat.new.own).starts ≡ result.start }
+    ensures completed { transition ≢ Start → result.outcome ≡ Completed }
+    ensures engine { seat.new.engine ≡ seat.old.engine }
+    ensures empty { tallies.new ≡ [] }
+{
+    let made = seat.make(rt, transition, sheet, tallies, members);
+    tallies.clear();
+    made
+}

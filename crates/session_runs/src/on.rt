@@ -1,0 +1,51 @@
+// The run that is on, with all that its end needs.
+ghost use Rattle.std.specs.Prelude.{◌≡◌, [], IfOk};
+
+use daq_types::{BoundedList, NoMemory};
+use odb_runinfo::KeyPaths;
+use run_records::{FileRecords, FrontTallies};
+use std::alloc::Global;
+
+/// The run that is on.
+#[derive(Clone, Copy, Debug, PartialEq, Eq)]
+pub struct CurrentRun {
+    /// The run number.
+    pub run: u32,
+    /// The start number.
+    pub start: u32,
+    /// When it was started, in seconds since 1970.
+    pub time: u32,
+    /// How many events each front-end has to send.
+    pub quota: u32,
+}
+
+/// What a run needs that takes memory, made before it begins: the lists of its record, and the paths of what is set.
+#[derive(Drop)]
+pub(crate) struct RunRooms {
+    pub fronts: FrontTallies,
+    pub files: FileRecords,
+    pub paths: KeyPaths,
+    ghost no_fronts: { fronts ≡ [] },
+    ghost no_files: { files ≡ [] },
+}
+
+/// The run that is on, with these.
+#[derive(Drop)]
+pub(crate) struct OpenRun {
+    pub run: CurrentRun,
+    pub rooms: RunRooms,
+}
+
+impl RunRooms {
+    /// These rooms.
+    pub fn new(alloc: Global) -> Result<RunRooms, NoMemory> {
+        let fronts = BoundedList::new(alloc)?;
+        let files = BoundedList::new(alloc)?;
+        let paths = KeyPaths::new(alloc)?;
+        Ok(RunRooms {
+            fronts,
+            files,
+            paths,
+        })
+    }
+}

@@ -1,0 +1,192 @@
+// A start of a run.
+ghost use Rattle.std.specs.Prelude.{◌≡◌, ◌≤◌, ◌<◌, ◌^◌, ◌∷◌, ◌++◌, [], List, length, None, Some, Ok, IsOk, IfOk, OnErr, OnOk};
+ghost use Rattle.daq_types.specs.Callers.{main_caller};
+ghost use Rattle.odb_ascii.specs.Dumps.{dump_limit};
+ghost use Rattle.odb_watch.specs.declared.entry.WatchEntry.{WatchEntry};
+ghost use Rattle.odb_port.specs.DatabasePorts.{AddsEntries};
+ghost use Rattle.odb_runinfo.specs.RunSets.{SetsNumbers};
+ghost use Rattle.daq_types.specs.declared.runs.Transition.TheVariants.{Start};
+ghost use Rattle.session_engine.specs.MainKnowledge.{known_from, begin_known};
+ghost use Rattle.session_runs.specs.KeptRuns.{refused_start};
+ghost use Rattle.session_runs.specs.RunEntries.{AnnounceCalls, outcome_sets};
+ghost use Rattle.session_runs.specs.RunAnswers.{AnswersStart, CutsStart, AnswersBegin, CutsBegin, ReadsClock, clock_of, point_of};
+
+use crate::making::{make_untold, sheet_for};
+use crate::on::{CurrentRun, OpenRun, RunRooms};
+use crate::refusing::refusal_of;
+use crate::replies::RunReply;
+use crate::runs::Runs;
+use daq_io::Clock;
+use daq_types::{Bytes, NoMemory, RunState, StartOutcome, Transition};
+use odb_port::WatchPort;
+use odb_port::laws::{calls_add_up, entries_add_up};
+use odb_runinfo::{KeyPaths, RunNumber, next_run};
+use run_records::RunRecord;
+use session_engine::Rounds;
+use std::alloc::Global;
+use std::sync::Wait;
+
+/// Announces a run in the database, before it begins: reads the clock, sets the run's parameters, and takes the text of the
+/// database.
+fn announce<R: Wait, D: WatchPort, C: Clock>(
+    rt: &R,
+    alloc: Global,
+    paths: &KeyPaths,
+    database: &mut D,
+    clock: &mut C,
+    run: u32,
+) -> (u32, Result<Bytes, NoMemory>)
+    requires small { run < 2 ^ 31 }
+    ensures reading { ReadsClock (clock_of (C.tells clock.old) (C.ahead clock.old))
+        (clock_of (C.tells clock.new) (C.ahead clock.new)) result.0 }
+    ensures calls { (entries : List WatchEntry) × AnnounceCalls run result.0 result.1 entries
+        × AddsEntries (D.access database.old) (D.access database.new) entries }
+    ensures dump { IfOk result.1 (λ dump. length dump ≤ dump_limit) }
+{
+    calls_add_up();
+    let time = clock.now();
+    paths.set_starting(rt, alloc, database, run, time);
+    let saved = database.save(rt, alloc);
+    (time, saved)
+}
+
+/// Sets what a start that ended so sets last.
+fn set_outcome<R: Wait, D: WatchPort>(
+    rt: &R,
+    alloc: Global,
+    paths: &KeyPaths,
+    database: &mut D,
+    run: u32,
+    outcome: StartOutcome,
+)
+    requires first { 1 ≤ run }
+    requires small { run < 2 ^ 31 }
+    ensures { SetsNumbers (D.access database.old) (D.access database.new)
+        (outcome_sets run outcome) }
+{
+    match outcome {
+        StartOutcome::Completed => paths.set_state(rt, alloc, database, RunState::Running),
+        StartOutcome::Refused { .. } => paths.set_back(rt, alloc, database, run),
+    }
+}
+
+/// The record of a start that was refused, in the room that was taken for it.
+fn refused_record(rooms: RunRooms, run: CurrentRun, outcome: StartOutcome) -> RunRecord
+    ensures { result ≡ refused_start run outcome }
+{
+    let RunRooms { fronts, files, .. } = rooms;
+    RunRecord {
+        run: run.run,
+        start: run.start,
+        time0: run.time,
+        time1: 0,
+        outcome,
+        fronts,
+        files,
+    }
+}
+
+/// What `start` is answered where the database has no next run number.
+fn no_number(refusal: RunNumber) -> RunReply
+    ensures { result ≡ RunReply.RunNumber refusal.have }
+{
+    RunReply::RunNumber { have: refusal.have }
+}
+
+impl<'a> Runs<'a> {
+    /// Starts the run of this number, where the engine allows it.
+    fn start_run<R: Wait, D: WatchPort, M: Rounds, C: Clock>(
+        &mut self,
+        rt: &R,
+        alloc: Global,
+        database: &mut D,
+        members: &mut M,
+        clock: &mut C,
+        run: u32,
+    ) -> Result<RunReply, NoMemory>
+        requires begins { IsOk (begin_known (known_from self.old.main.own) Start) }
+        requires idle { self.old.on ≡ None }
+        requires first { 1 ≤ run }
+        requires small { run < 2 ^ 31 }
+        ensures did { IfOk result (λ reply. AnswersBegin M.round run reply
+            (clock_of (C.tells clock.old) (C.ahead clock.old))
+            (clock_of (C.tells clock.new) (C.ahead clock.new))
+            (point_of self.old (D.access database.old) members.old)
+            (point_of self.new (D.access database.new) members.new)) }
+        ensures interrupted { OnErr result (CutsBegin run
+            (clock_of (C.tells clock.old) (C.ahead clock.old))
+            (clock_of (C.tells clock.new) (C.ahead clock.new))
+            (point_of self.old (D.access database.old) members.old)
+            (point_of self.new (D.access database.new) members.new)) }
+    {
+        self.runs.reserve(1)?;
+        let rooms = RunRooms::new(alloc)?;
+        calls_add_up();
+        let (time, saved) = announce(rt, alloc, &rooms.paths, database, clock, run);
+        let Ok(dump) = saved else {
+            return Err(NoMemory);
+        };
+        let quota = self.quota;
+        let sheet = sheet_for(alloc, run, time, quota, Some(dump));
+        let made = make_untold(
+            rt,
+            &mut self.seat,
+            Transition::Start,
+            sheet,
+            &mut self.tallies,
+            members,
+        );
+        set_outcome(rt, alloc, &rooms.paths, database, run, made.outcome);
+        let current = CurrentRun {
+            run,
+            start: made.start,
+            time,
+            quota,
+        };
+        match made.outcome {
+            StartOutcome::Completed => {
+                self.on = Some(OpenRun {
+                    run: current,
+                    rooms,
+                });
+                Ok(RunReply::Started { run })
+            }
+            StartOutcome::Refused { client, why } => {
+                self.runs
+                    .push_reserved(refused_record(rooms, current, made.outcome));
+                Ok(RunReply::StartRefused { client, why })
+            }
+        }
+    }
+
+    /// Answers `start`. All memory that the run needs up to its end is taken before it is announced in the database, but for
+    /// the text of the database.
+    pub fn start<R: Wait, D: WatchPort, M: Rounds, C: Clock>(
+        &mut self,
+        rt: &R,
+        alloc: Global,
+        database: &mut D,
+        members: &mut M,
+        clock: &mut C,
+    ) -> Result<RunReply, NoMemory>
+        requires room { 1 ≤ (D.access database.old).room }
+        ensures did { IfOk result (λ reply. AnswersStart M.round reply
+            (clock_of (C.tells clock.old) (C.ahead clock.old))
+            (clock_of (C.tells clock.new) (C.ahead clock.new))
+            (point_of self.old (D.access database.old) members.old)
+            (point_of self.new (D.access database.new) members.new)) }
+        ensures interrupted { OnErr result (CutsStart
+            (clock_of (C.tells clock.old) (C.ahead clock.old))
+            (clock_of (C.tells clock.new) (C.ahead clock.new))
+            (point_of self.old (D.access database.old) members.old)
+            (point_of self.new (D.access database.new) members.new)) }
+    {
+        if let Some(reply) = refusal_of(&self.seat, Transition::Start) {
+            return Ok(reply);
+        }
+        match next_run(rt, alloc, database)? {
+            Err(refusal) => Ok(no_number(refusal)),
+            Ok(run) => self.start_run(rt, alloc, database, members, clock, run),
+        }
+    }
+}

@@ -1,0 +1,142 @@
+// A stop of the run that is on.
+ghost use Rattle.std.specs.Prelude.{◌≡◌, ◌≤◌, List, length, IfOk, OnErr};
+ghost use Rattle.odb_ascii.specs.Dumps.{dump_limit};
+ghost use Rattle.odb_watch.specs.declared.entry.WatchEntry.{WatchEntry};
+ghost use Rattle.odb_port.specs.DatabasePorts.{AddsEntries};
+ghost use Rattle.session_runs.specs.KeptRuns.{record_of};
+ghost use Rattle.session_runs.specs.RunEntries.{AnnouncesStop, dump_saved};
+ghost use Rattle.session_runs.specs.RunAnswers.{AnswersStop, StopsUnsaved, ReadsClock, clock_of, point_of};
+
+use crate::channels::RunChannel;
+use crate::making::sheet_for;
+use crate::on::{CurrentRun, OpenRun, RunRooms};
+use crate::replies::RunReply;
+use crate::runs::Runs;
+use crate::tallied::{take_files, take_fronts};
+use daq_io::Clock;
+use daq_types::{Bytes, NoMemory, RunState, StartOutcome, Transition};
+use odb_port::WatchPort;
+use odb_port::laws::{calls_add_up, entries_add_up};
+use odb_runinfo::KeyPaths;
+use run_records::RunRecord;
+use session_engine::Rounds;
+use std::alloc::Global;
+use std::sync::Wait;
+use transitions::ClientTally;
+
+/// Announces a stop in the database, before it begins: reads the clock, sets the run's parameters, and takes the text of the
+/// database.
+fn announce_stop<R: Wait, D: WatchPort, C: Clock>(
+    rt: &R,
+    alloc: Global,
+    paths: &KeyPaths,
+    database: &mut D,
+    clock: &mut C,
+    state: RunState,
+) -> (u32, Result<Bytes, NoMemory>)
+    ensures reading { ReadsClock (clock_of (C.tells clock.old) (C.ahead clock.old))
+        (clock_of (C.tells clock.new) (C.ahead clock.new)) result.0 }
+    ensures calls { (entries : List WatchEntry) × AnnouncesStop state result.0 result.1 entries
+        × AddsEntries (D.access database.old) (D.access database.new) entries }
+    ensures dump { IfOk result.1 (λ dump. length dump ≤ dump_limit) }
+{
+    calls_add_up();
+    let time = clock.now();
+    paths.set_stopping(rt, alloc, database, state, time);
+    let saved = database.save(rt, alloc);
+    (time, saved)
+}
+
+/// The text that was saved, if there was memory for it.
+fn dump_saved(saved: Result<Bytes, NoMemory>) -> Option<Bytes>
+    ensures { result ≡ dump_saved saved }
+{
+    match saved {
+        Ok(dump) => Some(dump),
+        Err(_) => None,
+    }
+}
+
+/// The record of a run that was stopped at this time, by what the clients told, in the room that was taken for it.
+fn record_of(
+    ended: OpenRun,
+    time: u32,
+    count: u32,
+    channels: &[RunChannel],
+    tallies: &[ClientTally],
+) -> RunRecord
+    requires fronts { count ≤ 32 }
+    requires channels { length channels.now ≤ 16 }
+    ensures { result ≡ record_of count channels.now ended.run time tallies.now }
+{
+    let OpenRun { run, rooms } = ended;
+    let RunRooms {
+        mut fronts,
+        mut files,
+        ..
+    } = rooms;
+    take_fronts(&mut fronts, count, tallies);
+    take_files(&mut files, run.run, channels, count, tallies);
+    RunRecord {
+        run: run.run,
+        start: run.start,
+        time0: run.time,
+        time1: time,
+        outcome: StartOutcome::Completed,
+        fronts,
+        files,
+    }
+}
+
+impl<'a> Runs<'a> {
+    /// Answers `stop`. Where there is no memory for the text of the database, the run is stopped all the same, without it,
+    /// and then the answer is that memory was wanting.
+    pub fn stop<R: Wait, D: WatchPort, M: Rounds, C: Clock>(
+        &mut self,
+        rt: &R,
+        alloc: Global,
+        database: &mut D,
+        members: &mut M,
+        clock: &mut C,
+    ) -> Result<RunReply, NoMemory>
+        ensures did { IfOk result (λ reply. AnswersStop M.round reply
+            (clock_of (C.tells clock.old) (C.ahead clock.old))
+            (clock_of (C.tells clock.new) (C.ahead clock.new))
+            (point_of self.old (D.access database.old) members.old)
+            (point_of self.new (D.access database.new) members.new)) }
+        ensures unsaved { OnErr result (StopsUnsaved M.round
+            (clock_of (C.tells clock.old) (C.ahead clock.old))
+            (clock_of (C.tells clock.new) (C.ahead clock.new))
+            (point_of self.old (D.access database.old) members.old)
+            (point_of self.new (D.access database.new) members.new)) }
+    {
+        calls_add_up();
+        let state = self.seat.state();
+        let Some(open) = self.on.take() else {
+            return Ok(RunReply::WrongState { state });
+        };
+        let CurrentRun { run, quota, .. } = open.run;
+        let (time, saved) = announce_stop(rt, alloc, &open.rooms.paths, database, clock, state);
+        let lacking = saved.is_err();
+        let sheet = sheet_for(alloc, run, time, quota, dump_saved(saved));
+        let _ = self
+            .seat
+            .make(rt, Transition::Stop, sheet, &mut self.tallies, members);
+        open.rooms
+            .paths
+            .set_state(rt, alloc, database, RunState::Stopped);
+        let count = self.fronts.len() as u32;
+        self.runs.push_reserved(record_of(
+            open,
+            time,
+            count,
+            self.channels.as_slice(),
+            self.tallies.as_slice(),
+        ));
+        self.tallies.clear();
+        if lacking {
+            return Err(NoMemory);
+        }
+        Ok(RunReply::Stopped { run })
+    }
+}

@@ -1,0 +1,121 @@
+// What the clients told in the end of a transition, taken into the record of a run.
+ghost use Rattle.std.specs.Prelude.{◌≡◌, ◌≤◌, ◌<◌, ◌+◌, ◌++◌, [], length};
+ghost use Rattle.std.specs.Option.{option_map, option_to_list};
+ghost use Rattle.session_runs.specs.ToldTallies.{front_told, fronts_told, states_told, files_of, files_told, file_told, front_by, states_by};
+
+use crate::channels::RunChannel;
+use daq_types::ChannelState;
+use run_records::{FileRecord, FileRecords, FrontTallies, FrontTally};
+use transitions::{ClientTally, Tally};
+
+/// What this client told that it sent.
+fn front_told(client: u32, tallies: &[ClientTally]) -> Option<FrontTally>
+    ensures { result ≡ front_told client tallies.now }
+{
+    for told in tallies {
+        if let Some(front) = front_by(client, told) {
+            return Some(front);
+        }
+    }
+    None
+}
+
+/// What one told that it sent, where it is this client.
+fn front_by(client: u32, told: &ClientTally) -> Option<FrontTally>
+    ensures { result ≡ front_by client told.now }
+{
+    match &told.tally {
+        Tally::Front { sent, ended } if told.client == client => Some(FrontTally {
+            client,
+            sent: *sent,
+            ended: *ended,
+        }),
+        _ => None,
+    }
+}
+
+/// Takes in what the first so many clients told that they sent.
+pub(crate) fn take_fronts(fronts: &mut FrontTallies, count: u32, tallies: &[ClientTally])
+    requires empty { fronts.old ≡ [] }
+    requires few { count ≤ 32 }
+    ensures { fronts.new ≡ fronts_told count tallies.now }
+{
+    for client in 0..count {
+        if let Some(front) = front_told(client, tallies) {
+            fronts.push(front);
+        }
+    }
+}
+
+/// What one told of the logger's channels, where it is this client.
+fn states_by(client: u32, told: &ClientTally) -> Option<&[ChannelState; 16]>
+    ensures { option_map (λ states. states.now) result ≡ states_by client told.now }
+{
+    match &told.tally {
+        Tally::Channels(states) if told.client == client => Some(states),
+        _ => None,
+    }
+}
+
+/// What this client told of the logger's channels.
+fn states_told(logger: u32, tallies: &[ClientTally]) -> Option<&[ChannelState; 16]>
+    ensures { option_map (λ states. states.now) result ≡ states_told logger tallies.now }
+{
+    for told in tallies {
+        if let Some(states) = states_by(logger, told) {
+            return Some(states);
+        }
+    }
+    None
+}
+
+/// The file of a channel in the run of this number, where its state is told.
+fn file_told(states: &[ChannelState], run: u32, channel: &RunChannel) -> Option<FileRecord>
+    ensures { result ≡ file_told states.now run channel.now }
+{
+    let state = states.get(channel.number as usize)?;
+    Some(FileRecord {
+        channel: channel.number,
+        name: channel.pattern.name(run),
+        state: *state,
+    })
+}
+
+/// Takes in a file, if there is one.
+fn take_file(files: &mut FileRecords, file: Option<FileRecord>)
+    requires { length files.old < 16 }
+    ensures taken { files.new ≡ files.old ++ option_to_list file }
+    ensures one { length files.new ≤ length files.old + 1 }
+{
+    if let Some(file) = file {
+        files.push(file);
+    }
+}
+
+/// Takes in the files of these channels.
+fn take_told(files: &mut FileRecords, run: u32, channels: &[RunChannel], states: &[ChannelState])
+    requires empty { files.old ≡ [] }
+    requires few { length channels.now ≤ 16 }
+    ensures { files.new ≡ files_told states.now run channels.now }
+{
+    for channel in channels {
+        take_file(files, file_told(states, run, channel));
+    }
+}
+
+/// Takes in the files of the logger's channels in the run of this number, by what the logger told of them.
+pub(crate) fn take_files(
+    files: &mut FileRecords,
+    run: u32,
+    channels: &[RunChannel],
+    logger: u32,
+    tallies: &[ClientTally],
+)
+    requires empty { files.old ≡ [] }
+    requires few { length channels.now ≤ 16 }
+    ensures { files.new ≡ files_of (states_told logger tallies.now) run channels.now }
+{
+    if let Some(states) = states_told(logger, tallies) {
+        take_told(files, run, channels, states);
+    }
+}

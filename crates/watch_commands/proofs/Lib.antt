@@ -1,0 +1,6 @@
+pub mod WatchMade
+pub mod DumpMade
+pub mod CommandsMade
+mod Added
+mod NumberStays
+mod Sparing

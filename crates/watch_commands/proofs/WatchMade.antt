@@ -1,0 +1,248 @@
+-- Calls that a command for watches made, and where memory cut them short.
+use Rattle.std.proofs.Common.{◌≡◌, ◌≢◌, ℕ, zero, suc, ◌+◌, ◌<◌, ◌≤◌, List, [], ◌∷◌, ◌++◌, length, map, take, drop, get_or, Option, None, Result, Ok, Err, refl, ap, sym, subst, ◌∙◌, inl, inr, arith}
+use Rattle.std.specs.Prelude.{IfOk, OnErr}
+use Rattle.std.proofs.lemmas.Result.{IfOk-weaker, on_err_weaker}
+use Rattle.daq_types.specs.declared.memory.NoMemory.{NoMemory}
+use Rattle.odb_path.specs.declared.refusals.PathRefusal.{PathRefusal}
+use Rattle.odb_tree.specs.declared.notes.Note.{Note}
+use Rattle.odb_tree.specs.declared.refusals.OdbRefusal.{OdbRefusal}
+use Rattle.odb_tree.specs.declared.refusals.OdbRefusal.TheVariants as odb
+use Rattle.odb_tree.specs.declared.entry.DatabaseEntry.TheVariants.{Find, PathOf}
+use Rattle.odb_watch.specs.declared.notes.NoWatch.{NoWatch as no_watch}
+use Rattle.odb_watch.specs.declared.notes.WatchRefusal.{WatchRefusal}
+use Rattle.odb_watch.specs.declared.notes.WatchRefusal.TheVariants as watch
+use Rattle.odb_watch.specs.declared.entry.WatchEntry.{WatchEntry}
+use Rattle.odb_watch.specs.declared.entry.WatchEntry.TheVariants as call
+use Rattle.odb_watch.specs.Steps.{moved_out}
+use Rattle.odb_port.specs.DatabasePorts.{DatabaseAccess, IsSamePort, AddsEntry, AddsEntries, IsSettled}
+use Rattle.watch_commands.specs.declared.replies.ToldNote.{ToldNote}
+use Rattle.watch_commands.specs.declared.replies.WatchCommandRefusal.TheVariants.{Path, Database, NoWatch}
+use Rattle.watch_commands.specs.declared.replies.WatchReply.TheVariants.{Told}
+use Rattle.watch_commands.specs.declared.replies.WatchAnswer.{WatchAnswer}
+use Rattle.watch_commands.specs.WatchAnswers.{said, refused_for, watching_or, ended_or, note_told, path_asked}
+use Rattle.watch_commands.specs.WatchCalls.{OnPath, IsWatchSettled, WatchesRow, WatchesFound, WatchesPath, TellsNotes, TellsTaken, TakesNotes, EndsWatch, AnswersWatch, BreaksOff, CutsWatch}
+
+-- there is something that the command can do
+abbrev pub Some_does : (List WatchEntry → WatchAnswer → Type 0) → Type 0
+Some_does D = (calls : List WatchEntry) × (answer : WatchAnswer) × D calls answer
+
+on_err : {T E : Type 0} (P : Type 0) (result : Result T E) → P → OnErr result P
+on_err P (Ok x) holds = tt
+on_err P (Err why) holds = holds
+
+-- memory ended before any call
+pub not_begun_at : (a : DatabaseAccess) (D : List WatchEntry → WatchAnswer → Type 0) → Some_does D → CutsWatch a a D
+not_begun_at a D some = record { calls = some.0; answer = some.1; does = some.2; made = []; short = tt; adds = refl }
+
+pub not_begun : {T E : Type 0} (result : Result T E) (a : DatabaseAccess) (D : List WatchEntry → WatchAnswer → Type 0) → Some_does D → OnErr result (CutsWatch a a D)
+not_begun result a D some = on_err (CutsWatch a a D) result (not_begun_at a D some)
+
+-- it ended at the first call
+pub cut_at_first : {T E : Type 0} (result : Result T E) (a b : DatabaseAccess) (D : List WatchEntry → WatchAnswer → Type 0) (entry wanted : WatchEntry) (answer : WatchAnswer) → D (wanted ∷ []) answer → BreaksOff (wanted ∷ []) (entry ∷ []) → AddsEntry a b entry
+    → OnErr result (CutsWatch a b D)
+cut_at_first result a b D entry wanted answer does short called =
+    on_err (CutsWatch a b D) result (record { calls = wanted ∷ []; answer = answer; does = does; made = entry ∷ []; short = short; adds = (b, called, refl) })
+
+-- The same with what the files of the database tell, which stay.
+
+pub files_stay : {S E : Type 0} (s : S) (result : Result WatchAnswer E) (a b : DatabaseAccess) (D : List WatchEntry → WatchAnswer → Type 0) → IfOk result (AnswersWatch a b D)
+    → IfOk result (AnswersWatch a b (λ calls answer. (s ≡ s) × D calls answer))
+files_stay s result a b D did =
+    IfOk-weaker result (AnswersWatch a b D) (AnswersWatch a b (λ calls answer. (s ≡ s) × D calls answer))
+    (λ answer some. record { calls = some.calls; made = some.made; does = (refl, some.does) }) did
+
+pub files_stay_cut : {S T E : Type 0} (s : S) (result : Result T E) (a b : DatabaseAccess) (D : List WatchEntry → WatchAnswer → Type 0) → OnErr result (CutsWatch a b D)
+    → OnErr result (CutsWatch a b (λ calls answer. (s ≡ s) × D calls answer))
+files_stay_cut s result a b D cut =
+    on_err_weaker result (λ (some : CutsWatch a b D). record { calls = some.calls; answer = some.answer; does = (refl, some.does); made = some.made; short = some.short; adds = some.adds }) cut
+
+-- `watch`.
+
+pub no_slot : watch.NoWatchSlot ≢ watch.NoMemory
+no_slot e = cc
+
+pub no_key : odb.NoKey ≢ odb.NoMemory
+no_key e = cc
+
+pub row_watched : (a b : DatabaseAccess) (row : ℕ) (given got : Result ℕ WatchRefusal) (answer : WatchAnswer) → AddsEntry a b (call.Watch row given) → got ≡ given → IsWatchSettled got → answer ≡ watching_or got
+    → AnswersWatch a b (WatchesRow row) answer
+row_watched a b row given got answer called same settled is = record {
+  calls = call.Watch row got ∷ [];
+  made = (b, subst (λ (r : Result ℕ WatchRefusal). AddsEntry a b (call.Watch row r)) (sym same) called, refl);
+  does = (got, refl, settled, is);
+}
+
+pub row_cut : {T E : Type 0} (result : Result T E) (a b : DatabaseAccess) (row : ℕ) (got : Result ℕ WatchRefusal) → AddsEntry a b (call.Watch row got) → got ≡ Err watch.NoMemory → OnErr result (CutsWatch a b (WatchesRow row))
+row_cut result a b row got called wanting =
+    cut_at_first result a b (WatchesRow row) (call.Watch row got) (call.Watch row (Err watch.NoWatchSlot)) (watching_or (Err watch.NoWatchSlot)) (Err watch.NoWatchSlot, refl, no_slot, refl)
+    (inr (ap (λ (r : Result ℕ WatchRefusal). call.Watch row r) wanting, refl)) called
+
+settled_by : {X : Type 0} (got : Result X OdbRefusal) → got ≢ Err odb.NoMemory → IsSettled got
+settled_by (Ok x) found = tt
+settled_by (Err refusal) found = λ is. found (ap (λ (r : OdbRefusal). Err r) is)
+
+path_watched : (a b c : DatabaseAccess) (p : List (List ℕ)) (found : Result ℕ OdbRefusal) (answer : WatchAnswer) → AddsEntry a b (call.Call (Find p found)) → found ≢ Err odb.NoMemory → AnswersWatch b c (WatchesFound found) answer
+    → AnswersWatch a c (WatchesPath p) answer
+path_watched a b c p found answer called settled rest = record {
+  calls = call.Call (Find p found) ∷ rest.calls;
+  made = (b, called, rest.made);
+  does = (found, rest.calls, refl, settled_by found settled, rest.does);
+}
+
+pub path_watched_if : (a b c : DatabaseAccess) (p : List (List ℕ)) (found : Result ℕ OdbRefusal) (result : Result WatchAnswer NoMemory) → AddsEntry a b (call.Call (Find p found)) → found ≢ Err odb.NoMemory → IfOk result (AnswersWatch b c (WatchesFound found))
+    → IfOk result (AnswersWatch a c (WatchesPath p))
+path_watched_if a b c p found result called settled rest =
+    IfOk-weaker result (AnswersWatch b c (WatchesFound found)) (AnswersWatch a c (WatchesPath p)) (λ answer some. path_watched a b c p found answer called settled some) rest
+
+path_cut : (a b c : DatabaseAccess) (p : List (List ℕ)) (found : Result ℕ OdbRefusal) → AddsEntry a b (call.Call (Find p found)) → found ≢ Err odb.NoMemory → CutsWatch b c (WatchesFound found) → CutsWatch a c (WatchesPath p)
+path_cut a b c p found called settled rest = record {
+  calls = call.Call (Find p found) ∷ rest.calls;
+  answer = rest.answer;
+  does = (found, rest.calls, refl, settled_by found settled, rest.does);
+  made = call.Call (Find p found) ∷ rest.made;
+  short = inl (refl, rest.short);
+  adds = (b, called, rest.adds);
+}
+
+pub path_cut_if : (a b c : DatabaseAccess) (p : List (List ℕ)) (found : Result ℕ OdbRefusal) (result : Result WatchAnswer NoMemory) → AddsEntry a b (call.Call (Find p found)) → found ≢ Err odb.NoMemory → OnErr result (CutsWatch b c (WatchesFound found))
+    → OnErr result (CutsWatch a c (WatchesPath p))
+path_cut_if a b c p found result called settled rest = on_err_weaker result (path_cut a b c p found called settled) rest
+
+abbrev pub some_watch : (p : List (List ℕ)) → Some_does (WatchesPath p)
+some_watch p = (call.Call (Find p (Err odb.NoKey)) ∷ [], refused_for (Database odb.NoKey), (Err odb.NoKey, [], refl, no_key, (refl, refl)))
+
+abbrev pub some_on_path : (read : Result (List (List ℕ)) PathRefusal) → Some_does (OnPath read WatchesPath)
+some_on_path (Err why) = ([], refused_for (Path why), (refl, refl))
+some_on_path (Ok p) = some_watch p
+
+-- `notes`.
+
+abbrev pub some_notes : (w : ℕ) → Some_does (TakesNotes w)
+some_notes w = (call.Notes w (Err (record {})) ∷ [], refused_for NoWatch, (Err (record {}), [], refl, (refl, refl)))
+
+notes_taken : (a b c : DatabaseAccess) (w : ℕ) (got : Result (List Note × ℕ) no_watch) (answer : WatchAnswer) → AddsEntry a b (call.Notes w got) → AnswersWatch b c (TellsTaken got) answer → AnswersWatch a c (TakesNotes w) answer
+notes_taken a b c w got answer called rest = record {
+  calls = call.Notes w got ∷ rest.calls;
+  made = (b, called, rest.made);
+  does = (got, rest.calls, refl, rest.does);
+}
+
+-- the notes that a watch gave are told as they stand in a slice
+told_as : (w : ℕ) (kept slice : List Note) (taken : Result ℕ no_watch) (a b : DatabaseAccess) → slice ≡ kept → AddsEntry a b (call.Notes w (moved_out kept taken)) → AddsEntry a b (call.Notes w (moved_out slice taken))
+told_as w kept slice taken a b same called = subst (λ (n : List Note). AddsEntry a b (call.Notes w (moved_out n taken))) (sym same) called
+
+pub notes_taken_if : (a b c : DatabaseAccess) (w : ℕ) (kept slice : List Note) (taken : Result ℕ no_watch) (result : Result WatchAnswer NoMemory) → AddsEntry a b (call.Notes w (moved_out kept taken)) → slice ≡ kept
+    → IfOk result (AnswersWatch b c (TellsTaken (moved_out slice taken))) → IfOk result (AnswersWatch a c (TakesNotes w))
+notes_taken_if a b c w kept slice taken result called same rest =
+    IfOk-weaker result (AnswersWatch b c (TellsTaken (moved_out slice taken))) (AnswersWatch a c (TakesNotes w))
+    (λ answer some. notes_taken a b c w (moved_out slice taken) answer (told_as w kept slice taken a b same called) some) rest
+
+notes_cut : (a b c : DatabaseAccess) (w : ℕ) (got : Result (List Note × ℕ) no_watch) → AddsEntry a b (call.Notes w got) → CutsWatch b c (TellsTaken got) → CutsWatch a c (TakesNotes w)
+notes_cut a b c w got called rest = record {
+  calls = call.Notes w got ∷ rest.calls;
+  answer = rest.answer;
+  does = (got, rest.calls, refl, rest.does);
+  made = call.Notes w got ∷ rest.made;
+  short = inl (refl, rest.short);
+  adds = (b, called, rest.adds);
+}
+
+pub notes_cut_if : {T E : Type 0} (a b c : DatabaseAccess) (w : ℕ) (kept slice : List Note) (taken : Result ℕ no_watch) (result : Result T E) → AddsEntry a b (call.Notes w (moved_out kept taken)) → slice ≡ kept
+    → OnErr result (CutsWatch b c (TellsTaken (moved_out slice taken))) → OnErr result (CutsWatch a c (TakesNotes w))
+notes_cut_if a b c w kept slice taken result called same rest =
+    on_err_weaker result (notes_cut a b c w (moved_out slice taken) (told_as w kept slice taken a b same called)) rest
+
+-- The paths of the notes are asked for, one after the other.
+
+same_on : (a b c : DatabaseAccess) → IsSamePort a b → IsSamePort b c → IsSamePort a c
+same_on a b c p q = record { database = q.database ∙ p.database; caller = q.caller ∙ p.caller; undisturbed = q.undisturbed ∙ p.undisturbed }
+
+adds_more : (a b c : DatabaseAccess) (calls : List WatchEntry) (entry : WatchEntry) → AddsEntries a b calls → AddsEntry b c entry → AddsEntries a c (calls ++ entry ∷ [])
+adds_more a b c [] entry before more = (c, subst (λ (x : DatabaseAccess). AddsEntry x c entry) before more, refl)
+adds_more a b c (e ∷ es) entry before more = (before.0, before.1, adds_more before.0 b c es entry before.2 more)
+
+-- so many of the notes have their path
+pub record IsTelling (a b : DatabaseAccess) (notes : List Note) (told : List ToldNote) (i : ℕ) : Type 0 where
+  pub are : map note_told told ≡ take i notes
+  pub adds : AddsEntries a b (map path_asked told)
+  pub same : IsSamePort a b
+  pub room : a.room ≤ b.room + i
+
+map_more : {X Y : Type 0} (f : X → Y) (xs : List X) (x : X) → map f (xs ++ x ∷ []) ≡ map f xs ++ f x ∷ []
+map_more f [] x = refl
+map_more f (y ∷ ys) x = ap (λ l. f y ∷ l) (map_more f ys x)
+
+take_one_more : (notes : List Note) (i : ℕ) (d : Note) → i < length notes → take (suc i) notes ≡ take i notes ++ get_or notes i d ∷ []
+take_one_more [] i d h = absurd (omega (arith, h))
+take_one_more (n ∷ ns) zero d h = refl
+take_one_more (n ∷ ns) (suc i) d h = ap (λ (l : List Note). n ∷ l) (take_one_more ns i d (omega (arith, h)))
+
+pub telling_more : (a b c : DatabaseAccess) (notes : List Note) (told after : List ToldNote) (i : ℕ) (d : Note) (path : Option (List (List ℕ))) (got : Result (Option (List (List ℕ))) NoMemory) → IsTelling a b notes told i → i < length notes
+    → AddsEntry b c (call.Call (PathOf (get_or notes i d).row got)) → got ≡ Ok path → after ≡ told ++ record { note = get_or notes i d; path = path } ∷ [] → IsTelling a c notes after (i + 1)
+telling_more a b c notes told after i d path got before within called is more =
+    (let note : Note = get_or notes i d in
+    let new : ToldNote = record { note = note; path = path } in
+    let asked : AddsEntry b c (path_asked new) = subst (λ (r : Result (Option (List (List ℕ))) NoMemory). AddsEntry b c (call.Call (PathOf note.row r))) is called in
+    subst (λ (t : List ToldNote). IsTelling a c notes t (i + 1)) (sym more) (record {
+      are = map_more note_told told new ∙ (ap (λ (l : List Note). l ++ note ∷ []) before.are ∙ (sym (take_one_more notes i d within) ∙ ap (λ (n : ℕ). take n notes) {x = suc i} {y = i + 1} (omega arith)));
+      adds = subst (AddsEntries a c) (sym (map_more path_asked told new)) (adds_more a b c (map path_asked told) (path_asked new) before.adds asked);
+      same = same_on a b c before.same asked.same;
+      room = omega (arith, before.room, asked.room);
+    }))
+
+-- Memory ended while they were asked for.
+
+untold : Note → ToldNote
+untold note = record { note = note; path = None }
+
+breaks_behind : (front calls made : List WatchEntry) → BreaksOff calls made → BreaksOff (front ++ calls) (front ++ made)
+breaks_behind [] calls made short = short
+breaks_behind (e ∷ front) calls made short = inl (refl, breaks_behind front calls made short)
+
+map_both : {X Y : Type 0} (f : X → Y) (xs ys : List X) → map f (xs ++ ys) ≡ map f xs ++ map f ys
+map_both f [] ys = refl
+map_both f (x ∷ xs) ys = ap (λ l. f x ∷ l) (map_both f xs ys)
+
+notes_untold : (notes : List Note) → map note_told (map untold notes) ≡ notes
+unfolding untold
+notes_untold [] = refl
+notes_untold (n ∷ ns) = ap (λ (l : List Note). n ∷ l) (notes_untold ns)
+
+take_and_rest : (notes : List Note) (i : ℕ) (d : Note) → i < length notes → take i notes ++ get_or notes i d ∷ drop (suc i) notes ≡ notes
+take_and_rest [] i d h = absurd (omega (arith, h))
+take_and_rest (n ∷ ns) zero d h = refl
+take_and_rest (n ∷ ns) (suc i) d h = ap (λ (l : List Note). n ∷ l) (take_and_rest ns i d (omega (arith, h)))
+
+telling_cut_at : (a b c : DatabaseAccess) (notes : List Note) (lost : ℕ) (told : List ToldNote) (i : ℕ) (d : Note) (got : Result (Option (List (List ℕ))) NoMemory) (memory : NoMemory) → IsTelling a b notes told i → i < length notes
+    → AddsEntry b c (call.Call (PathOf (get_or notes i d).row got)) → got ≡ Err memory → CutsWatch a c (TellsNotes notes lost)
+unfolding untold
+telling_cut_at a b c notes lost told i d got memory now within called wanting =
+    let note : Note = get_or notes i d in
+    let rest : List ToldNote = untold note ∷ map untold (drop (suc i) notes) in
+    let failed : WatchEntry = call.Call (PathOf note.row got) in
+    let whole : map note_told (told ++ rest) ≡ notes =
+    map_both note_told told rest
+    ∙ (ap (λ (l : List Note). l ++ note ∷ map note_told (map untold (drop (suc i) notes))) now.are
+    ∙ (ap (λ (l : List Note). take i notes ++ note ∷ l) (notes_untold (drop (suc i) notes)) ∙ take_and_rest notes i d within)) in
+    let first : BreaksOff (map path_asked rest) (failed ∷ []) = inr (ap (λ (r : Result (Option (List (List ℕ))) NoMemory). call.Call (PathOf note.row r)) wanting, refl) in
+    record {
+      calls = map path_asked (told ++ rest);
+      answer = said (Told (told ++ rest) lost);
+      does = (told ++ rest, (whole, refl), refl);
+      made = map path_asked told ++ failed ∷ [];
+      short = subst (λ (l : List WatchEntry). BreaksOff l (map path_asked told ++ failed ∷ [])) (sym (map_both path_asked told rest)) (breaks_behind (map path_asked told) (map path_asked rest) (failed ∷ []) first);
+      adds = adds_more a b c (map path_asked told) failed now.adds called;
+    }
+
+pub telling_cut : {T E : Type 0} (result : Result T E) (a b c : DatabaseAccess) (notes : List Note) (lost : ℕ) (told : List ToldNote) (i : ℕ) (d : Note) (got : Result (Option (List (List ℕ))) NoMemory) (memory : NoMemory) → IsTelling a b notes told i
+    → i < length notes → AddsEntry b c (call.Call (PathOf (get_or notes i d).row got)) → got ≡ Err memory → OnErr result (CutsWatch a c (TellsNotes notes lost))
+telling_cut result a b c notes lost told i d got memory now within called wanting =
+    on_err (CutsWatch a c (TellsNotes notes lost)) result (telling_cut_at a b c notes lost told i d got memory now within called wanting)
+
+-- `unwatch`.
+
+pub watch_ended : (a b : DatabaseAccess) (w : ℕ) (got : Result (Unit {0}) no_watch) (answer : WatchAnswer) → AddsEntry a b (call.Unwatch w got) → answer ≡ ended_or got → AnswersWatch a b (EndsWatch w) answer
+watch_ended a b w got answer called is = record { calls = call.Unwatch w got ∷ []; made = (b, called, refl); does = (got, refl, is) }
+
+abbrev pub some_unwatch : (w : ℕ) → Some_does (EndsWatch w)
+some_unwatch w = (call.Unwatch w (Err (record {})) ∷ [], refused_for NoWatch, (Err (record {}), refl, refl))

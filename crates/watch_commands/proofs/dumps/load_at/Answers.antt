@@ -1,0 +1,27 @@
+use Rattle.watch_commands.proofs.WatchMade.{not_begun}
+use Rattle.watch_commands.proofs.DumpMade.{loadable, some_loads, file_loaded_if, file_cut_if, faults_if, clashes_if, names_fault_if, unclashed_if}
+use Rattle.watch_commands.proofs.dumps.load_at.Goals as goal
+
+pub load_read-requires-clause-small : goal.load_read-requires-clause-small
+load_read-requires-clause-small g c = loadable _ _ _ c.in_ok-read.ensures.read
+
+pub returns-in_err-read-clause-interrupted : goal.returns-in_err-read-clause-interrupted
+returns-in_err-read-clause-interrupted g c = not_begun _ _ _ (some_loads _ _ _ c.read_file.ensures.same)
+
+pub returns-clause-did : goal.returns-clause-did
+returns-clause-did g c = file_loaded_if _ _ _ _ _ _ _ c.read_file.ensures.same c.in_ok-read.ensures.read c.load_read.ensures.did
+
+pub returns-clause-interrupted : goal.returns-clause-interrupted
+returns-clause-interrupted g c = file_cut_if _ _ _ _ _ _ _ c.read_file.ensures.same c.in_ok-read.ensures.read c.load_read.ensures.interrupted
+
+pub returns-clause-faults : goal.returns-clause-faults
+returns-clause-faults g c = faults_if _ _ _ _ c.load_read.ensures.file c.in_ok-read.ensures.faults
+
+pub returns-clause-clashes : goal.returns-clause-clashes
+returns-clause-clashes g c = clashes_if _ _ _ _ c.load_read.ensures.file c.in_ok-read.ensures.clashes
+
+pub returns-clause-first : goal.returns-clause-first
+returns-clause-first g c = names_fault_if _ _ _ _ _ c.load_read.ensures.file c.in_ok-read.ensures.first
+
+pub returns-clause-unclashed : goal.returns-clause-unclashed
+returns-clause-unclashed g c = unclashed_if _ _ _ _ c.load_read.ensures.whole c.in_ok-read.ensures.clashes

@@ -1,0 +1,72 @@
+ghost use Rattle.std.specs.Prelude.{◌≡◌, ◌≤◌, ◌+◌, IfOk, OnErr};
+ghost use Rattle.daq_types.specs.Callers.{main_caller};
+ghost use Rattle.daq_io.specs.Seen.{Same};
+ghost use Rattle.odb_port.specs.DatabasePorts.{IsSamePort};
+ghost use Rattle.watch_commands.specs.WatchCalls.{CutsWatch, FaultsIf, ClashesIf, NamesFaultIf};
+ghost use Rattle.watch_commands.specs.WatchPerforms.{AnswersWatchIf, PerformsWatch, came_of, file_word};
+
+use crate::dumps::{load, save};
+use crate::replies::WatchAnswer;
+use crate::watches::{notes, unwatch, watch};
+use daq_io::Files;
+use daq_types::NoMemory;
+use odb_port::WatchPort;
+use odb_script::Command;
+use std::alloc::Global;
+use std::sync::Wait;
+
+/// For how many calls on the rows of the database a command has room at most: one for the path of each note.
+pub const WATCH_CALLS: u32 = 256;
+
+/// Performs a command for watches or dumps, by the main thread: makes its calls on the database and on its files, each once
+/// and in order, and gives the answer. None for any other command. Where memory ends, the first of its calls on the database
+/// were made, the last of them maybe with that reply, and no file changed.
+pub fn run_watch_command<R: Wait, P: WatchPort, E: Files>(
+    rt: &R,
+    alloc: Global,
+    port: &mut P,
+    files: &mut E,
+    command: &Command<'_>,
+) -> Result<Option<WatchAnswer>, NoMemory>
+    requires main { (P.access port.old).caller ≡ main_caller }
+    requires room { WATCH_CALLS ≤ (P.access port.old).room }
+    ensures did { IfOk result (AnswersWatchIf (P.access port.old) (P.access port.new) command.now
+        (E.seen files.old) (E.seen files.new)) }
+    ensures interrupted { OnErr result (CutsWatch (P.access port.old) (P.access port.new)
+        (PerformsWatch command.now (E.seen files.old) (E.seen files.new))) }
+    ensures kept { OnErr result (Same (E.seen files.old) (E.seen files.new)) }
+    ensures faults { IfOk result (λ answer. FaultsIf (came_of answer) (E.faults files.old)
+        (E.faults files.new)) }
+    ensures clashes { IfOk result (λ answer. ClashesIf (came_of answer) (E.clashes files.old)
+        (E.clashes files.new)) }
+    ensures first { IfOk result (λ answer. NamesFaultIf (came_of answer) (file_word command.now)
+        (E.first files.old) (E.first files.new)) }
+    ensures later { E.faults files.old ≤ E.faults files.new }
+    ensures unclashed { OnErr result (E.clashes files.new ≡ E.clashes files.old) }
+    ensures same { IsSamePort (P.access port.old) (P.access port.new) }
+    ensures room { (P.access port.old).room ≤ (P.access port.new).room + WATCH_CALLS }
+{
+    match command {
+        Command::Load { file } => Ok(Some(load(rt, alloc, port, files, file.as_slice())?)),
+        Command::Save { file } => Ok(Some(save(rt, alloc, port, files, file.as_slice())?)),
+        Command::Watch { path } => Ok(Some(watch(rt, alloc, port, path.as_slice())?)),
+        Command::Notes { watch } => Ok(Some(notes(rt, alloc, port, *watch)?)),
+        Command::Unwatch { watch } => Ok(Some(unwatch(rt, port, *watch))),
+        Command::Nothing
+        | Command::Buffer { .. }
+        | Command::Equip { .. }
+        | Command::Channel { .. }
+        | Command::Events { .. }
+        | Command::Start
+        | Command::Stop
+        | Command::Pause
+        | Command::Resume
+        | Command::Create { .. }
+        | Command::CreateDir { .. }
+        | Command::Set { .. }
+        | Command::Get { .. }
+        | Command::List { .. }
+        | Command::Remove { .. }
+        | Command::Exit => Ok(None),
+    }
+}

@@ -1,0 +1,15 @@
+//! The script's commands for watches and dumps of the online database: which calls on the database and its files each
+//! makes, what it is answered, and the text that the console shows.
+#![tactic(auto)]
+
+mod commands;
+mod dumps;
+pub mod laws;
+mod replies;
+mod texts;
+mod watches;
+
+pub use commands::{WATCH_CALLS, run_watch_command};
+pub use dumps::{load, save};
+pub use replies::{FileReplies, ToldNote, ToldNotes, WatchAnswer, WatchCommandRefusal, WatchReply};
+pub use watches::{notes, unwatch, watch};
