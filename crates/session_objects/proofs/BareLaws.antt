@@ -35,7 +35,11 @@ module _ (bs : List SessionBuffer) (caller : ℕ) where
   have_rooms channels place room s a at_s at_room at_a =
       let b = port_made bs s.buffer a at_a in
       let given : event_room_of (slice_get bs s.buffer) ≡ room = some_same (event_room_of (slice_get bs s.buffer)) room
-          (ap (option_map (λ (c : ChannelSpec). event_room_of (slice_get bs c.buffer))) (sym at_s) ∙ sym (slice_get-map (λ (c : ChannelSpec). event_room_of (slice_get bs c.buffer)) channels place) ∙ at_room) in
+      (ap (option_map (λ (c : ChannelSpec). event_room_of (slice_get bs c.buffer))) (sym at_s) ∙ sym (slice_get-map (λ (c : ChannelSpec). event_room_of (slice_get bs c.buffer)) channels place) ∙ at_room) in
       let is : min event_limit (b.0.size - 24) ≡ room = ap event_room_of (sym b.1) ∙ given in
       let size : a.size ≡ b.0.size = ap (λ (z : Access). z.size) (sym b.2) ∙ ap (λ (w : Window). w.size) b.0.opens in
       let same : min event_limit (a.size - 24) ≡ room = ap (λ (n : ℕ). min event_limit (n - 24)) size ∙ is in omega arith
+
+-- new ports are their caller's
+pub new_port_callers : (bs : List SessionBuffer) (caller buffer : ℕ) (a : Access) → slice_get (map (λ (b : SessionBuffer). new_port b.shared caller) bs) buffer ≡ Some a → a.caller ≡ caller
+new_port_callers bs caller buffer a at = let b = port_made bs caller bs buffer a at in ap (λ (z : Access). z.caller) (sym b.2)

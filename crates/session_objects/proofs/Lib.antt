@@ -10,3 +10,4 @@ pub mod StayLaws
 pub mod SuitLaws
 pub mod BareLaws
 pub mod SeatLaws
+pub mod CrewedLaws

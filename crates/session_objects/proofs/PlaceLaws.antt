@@ -66,11 +66,11 @@ module _ {D : Type 0} {gd : _} (objects : SessionObjects) (database : SharedOdb 
         (λ m r. (b : SessionBuffer) → slice_get objects.buffers.items m ≡ Some b → KeepsFresh (later m) (lock_of b.shared) r)
         place before.buffers.items after.buffers.items takes
         (λ x y was held change b2 at2.
-            let P : List ℕ → Type 0 = λ ns. KeepsFresh ns (lock_of b2.shared) y in
-            subst P (sym e) (change.left (lock_of b2.shared) (out.buffers place) (held b2 at2)))
+        let P : List ℕ → Type 0 = λ ns. KeepsFresh ns (lock_of b2.shared) y in
+        subst P (sym e) (change.left (lock_of b2.shared) (out.buffers place) (held b2 at2)))
         (λ other x apart held b2 at2.
-            let P : List ℕ → Type 0 = λ ns. KeepsFresh ns (lock_of b2.shared) x in
-            subst P (sym (others other apart)) (held b2 at2))
+        let P : List ℕ → Type 0 = λ ns. KeepsFresh ns (lock_of b2.shared) x in
+        subst P (sym (others other apart)) (held b2 at2))
         (λ other x was b2 at2. k.buffers other b2 x at2 was)
         n roster there b at;
     database = (let P : _ → Type 0 = λ db. KeepsFresh out.database (odb_lock_of database) db in subst P (sym database_same) k.database);
@@ -103,7 +103,7 @@ module _ {D : Type 0} {gd : _} (objects : SessionObjects) (database : SharedOdb 
         let later : ℕ → List ℕ = senders_down fronts (client + 1) in
         let sends : sends_into declared.buffer (slice_get fronts client) ≡ true = ap (sends_into declared.buffer) d ∙ eq-eqb declared.buffer declared.buffer refl in
         let k1 = buffer_out out later declared.buffer (client + 1) passes s1 pb (senders_next fronts declared.buffer client sends)
-            (λ other apart. senders_still fronts other client (ap (sends_into other) d ∙ ne_eqb declared.buffer other (λ e. apart (sym e)))) k takes_b eb db in
+        (λ other apart. senders_still fronts other client (ap (sends_into other) d ∙ ne_eqb declared.buffer other (λ e. apart (sym e)))) k takes_b eb db in
         let out1 : OutNumbers = record out { buffers = later } in
         let k2 = database_out out1 (client + 1) s1 s2 pd k1 takes_d bd ed in
         let out2 : OutNumbers = record out1 { database = (client + 1) ∷ callers_down client } in
@@ -123,7 +123,7 @@ module _ {D : Type 0} {gd : _} (objects : SessionObjects) (database : SharedOdb 
     port_has buffer roster at there below =
         is_kept nothing_seen (callers_with_logger fronts place place) (lock_of buffer.shared) roster (length fronts + 1) (k.buffers place buffer roster at there).keeps below
         (λ has. let P : List ℕ → Type 0 = λ ns. Contains ns (length fronts + 1) in
-            let l : length fronts + 1 < suc (length fronts) = senders_only fronts place (length fronts) (length fronts + 1) (subst P (logger_lacks fronts place place (omega arith)) has) in omega arith)
+        let l : length fronts + 1 < suc (length fronts) = senders_only fronts place (length fronts) (length fronts + 1) (subst P (logger_lacks fronts place place (omega arith)) has) in omega arith)
 
     -- and where it is taken out, the logger has that of one buffer more
     pub port_out : (after : SessionPasses D gd) (pb : _) → ChangesAt (λ b a. TakesFresh (length fronts + 1) b pb a) place passes.buffers.items after.buffers.items →

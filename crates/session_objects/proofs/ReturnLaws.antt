@@ -83,13 +83,13 @@ module _ {D : Type 0} {gd : _} (fronts : List FrontDeclared) (calls : SessionCal
         (λ m r. (b : SessionBuffer) → slice_get objects.buffers.items m ≡ Some b → KeepsPasses (told_of_buffer fronts calls m b.size) (later m) (lock_of b.shared) r)
         place before.buffers.items after.buffers.items put
         (λ x y was held change b2 at2.
-            let Q : SessionBuffer → Type 0 = λ z. KeepsPasses (told_of_buffer fronts calls place z.size) (later place) (lock_of z.shared) y in
-            let P : List ℕ → Type 0 = λ ns. KeepsPasses (told_of_buffer fronts calls place buffer.size) ns (lock_of buffer.shared) x in
-            subst Q (some_same buffer b2 (sym here ∙ at2))
-            (puts_keep (told_of_buffer fronts calls place buffer.size) (lock_of buffer.shared) x y pass number (later place) change is own idle told (subst P e (held buffer here))))
+        let Q : SessionBuffer → Type 0 = λ z. KeepsPasses (told_of_buffer fronts calls place z.size) (later place) (lock_of z.shared) y in
+        let P : List ℕ → Type 0 = λ ns. KeepsPasses (told_of_buffer fronts calls place buffer.size) ns (lock_of buffer.shared) x in
+        subst Q (some_same buffer b2 (sym here ∙ at2))
+        (puts_keep (told_of_buffer fronts calls place buffer.size) (lock_of buffer.shared) x y pass number (later place) change is own idle told (subst P e (held buffer here))))
         (λ other x apart held b2 at2.
-            let P : List ℕ → Type 0 = λ ns. KeepsPasses (told_of_buffer fronts calls other b2.size) ns (lock_of b2.shared) x in
-            subst P (sym (others other apart)) (held b2 at2))
+        let P : List ℕ → Type 0 = λ ns. KeepsPasses (told_of_buffer fronts calls other b2.size) ns (lock_of b2.shared) x in
+        subst P (sym (others other apart)) (held b2 at2))
         (λ other x was b2 at2. k.buffers other b2 x at2 was)
         n roster there b at;
     database = (let P : _ → Type 0 = λ db. KeepsPasses (told_of_database calls) out.database (odb_lock_of database) db in subst P (sym database_same) k.database);
@@ -120,17 +120,17 @@ module _ {D : Type 0} {gd : _} (fronts : List FrontDeclared) (calls : SessionCal
   front_back client declared buffer front s0 s1 s2 s3 pe pd pb d b f k put_e be de ne oe he me put_d bd ed nd od hd sd put_b eb db nb ob hb tb =
       let out : OutNumbers = out_to_fronts fronts (client + 1) in
       let k1 = engine_back out (suc client) (callers_down client) s0 s1 pe (ap callers_down (add-one client)) k put_e be de (ne ∙ add-one client) oe he
-          (engine_told calls client front.engine pe ne me (ap (engine_calls_by calls.logger_engine) f)) in
+      (engine_told calls client front.engine pe ne me (ap (engine_calls_by calls.logger_engine) f)) in
       let out1 : OutNumbers = record out { engine = callers_down client } in
       let k2 = database_back out1 (suc client) (callers_down client) s1 s2 pd (ap callers_down (add-one client)) k1 put_d bd ed (nd ∙ add-one client) od hd
-          (sd ∙ sym (ap database_seen_by f)) in
+      (sd ∙ sym (ap database_seen_by f)) in
       let out2 : OutNumbers = record out1 { database = callers_down client } in
       let sends : sends_into declared.buffer (slice_get fronts client) ≡ true = ap (sends_into declared.buffer) d ∙ eq-eqb declared.buffer declared.buffer refl in
       buffer_back out2 (senders_down fronts client) declared.buffer (suc client) buffer s2 s3 pb b
-          (ap (λ (n : ℕ). senders_down fronts n declared.buffer) (add-one client) ∙ senders_with fronts declared.buffer client sends)
-          (λ other apart. sym (ap (λ (n : ℕ). senders_down fronts n other) (add-one client)
-              ∙ senders_without fronts other client (ap (sends_into other) d ∙ ne_eqb declared.buffer other (λ e. apart (sym e)))))
-          k2 put_b eb db (nb ∙ add-one client) ob hb (front_tells fronts calls client declared front buffer.size (seen_by pb) d f tb)
+      (ap (λ (n : ℕ). senders_down fronts n declared.buffer) (add-one client) ∙ senders_with fronts declared.buffer client sends)
+      (λ other apart. sym (ap (λ (n : ℕ). senders_down fronts n other) (add-one client)
+      ∙ senders_without fronts other client (ap (sends_into other) d ∙ ne_eqb declared.buffer other (λ e. apart (sym e)))))
+      k2 put_b eb db (nb ∙ add-one client) ob hb (front_tells fronts calls client declared front buffer.size (seen_by pb) d f tb)
 
   -- there is room for them
   pub front_room : (client : ℕ) (declared : FrontDeclared) (buffer : SessionBuffer) (passes : SessionPasses D gd) (roster : _) →

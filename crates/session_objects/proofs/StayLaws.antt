@@ -1,7 +1,7 @@
 -- The members of a session stay the same over their turns.
-use Rattle.std.proofs.Common.{◌≡◌, ℕ, ◌<◌, List, length, get_or, sym, ap, ◌∙◌, refl, subst, arith}
-use Rattle.std.specs.Prelude.{slice_get, Option, Some, None}
-use Rattle.std.proofs.lemmas.Option.{slice_get-get_or, slice_get_within, slice_get-map}
+use Rattle.std.proofs.Common.{◌≡◌, ℕ, zero, suc, ◌<◌, ◌≤◌, List, [], ◌∷◌, length, get_or, sym, ap, ◌∙◌, refl, subst, arith}
+use Rattle.std.specs.Prelude.{slice_get, Option, Some, None, Contains}
+use Rattle.std.proofs.lemmas.Option.{slice_get-get_or, slice_get_within, slice_get-map, get_or_from_slice_get}
 use Rattle.odb_lock.specs.declared.shared.SharedOdb.{SharedOdb}
 use Rattle.buffer_core.specs.Ports.{Access}
 use Rattle.frontend_kit.specs.declared.generator.Generator.{Generator}
@@ -10,7 +10,11 @@ use Rattle.mid_logger.specs.declared.channel_spec.ChannelSpec.{ChannelSpec}
 use Rattle.daq_members.specs.FrontSeats.{FrontSeen, IsSameFront}
 use Rattle.daq_members.specs.LoggerSeats.{LoggerSeen, IsSameLogger}
 use Rattle.daq_members.specs.Crews.{CrewSeen, CrewTold, IsSameCrew}
-use Rattle.loggers.specs.Moments.{IsSameAccess}
+use Rattle.loggers.specs.Moments.{IsSameAccess, channel_limit}
+use Rattle.loggers.specs.OtherFiles.{specs_in}
+use Rattle.loggers.specs.NewLoggers.{new_channel, IsNewChannel}
+use Rattle.buffer_core.specs.Slots.{slot_at}
+use Rattle.mid_logger.specs.declared.channel.Channel.{Channel}
 use Rattle.session_objects.specs.declared.objects.SessionBuffer.{SessionBuffer}
 use Rattle.session_objects.specs.declared.objects.SessionObjects.{SessionObjects}
 use Rattle.std.proofs.Common.{map}
@@ -18,7 +22,7 @@ use Rattle.std.specs.Option.{option_map}
 use Rattle.std.proofs.lemmas.List.{length-map}
 use Rattle.daq_types.specs.Callers.{caller_of_client}
 use Rattle.session_objects.proofs.ChangeLaws.{some_same}
-use Rattle.session_objects.specs.Members.{ring_identity, generator_of, generator_takes, generator_makes, IsFrontOf, IsLoggerOf, ArePortsTo, AreMembersOf, IsNewFront, IsNewLogger, AreNewMembers, new_front, new_port}
+use Rattle.session_objects.specs.Members.{ring_identity, generator_of, generator_takes, generator_makes, IsFrontOf, IsLoggerOf, ArePortsTo, AreMembersOf, IsNewFront, IsNewLogger, AreNewMembers, HasDeclaredChannels, new_front, new_port, event_rooms, event_room_of}
 
 module _ {D : Type 0} (objects : SessionObjects) (database : SharedOdb D) where
   front_stays : (client : ℕ) (declared : FrontDeclared) (before after : FrontSeen Generator) →
@@ -92,18 +96,18 @@ module _ {D : Type 0} (objects : SessionObjects) (database : SharedOdb D) where
           IsFrontOf objects database client declared front
       new_is client declared front f = let P : FrontSeen Generator → Type 0 = λ seen. IsFrontOf objects database client declared seen in
           subst P (sym f.is) (record {
-        is = refl;
-        name = refl;
-        takes = refl;
-        makes = refl;
-        engine = refl;
-        buffer = f.buffer;
-        has_buffer = f.has_buffer;
-        port = refl;
-        port_caller = refl;
-        access = refl;
-        access_caller = refl;
-      })
+            is = refl;
+            name = refl;
+            takes = refl;
+            makes = refl;
+            engine = refl;
+            buffer = f.buffer;
+            has_buffer = f.has_buffer;
+            port = refl;
+            port_caller = refl;
+            access = refl;
+            access_caller = refl;
+          })
 
       new_port_is : (number : ℕ) (buffer : SessionBuffer) (port : Access) → slice_get objects.buffers.items number ≡ Some buffer →
           slice_get (map (λ (b : SessionBuffer). new_port b.shared (caller_of_client (length fronts))) objects.buffers.items) number ≡ Some port →
@@ -112,3 +116,57 @@ module _ {D : Type 0} (objects : SessionObjects) (database : SharedOdb D) where
           let made : Access = new_port buffer.shared (caller_of_client (length fronts)) in
           let is : made ≡ port = some_same made port (ap (option_map (λ (b : SessionBuffer). new_port b.shared (caller_of_client (length fronts)))) (sym at) ∙ sym (slice_get-map (λ (b : SessionBuffer). new_port b.shared (caller_of_client (length fronts))) objects.buffers.items number) ∙ there) in
           (ap (λ (a : Access). a.buffer) (sym is), ap (λ (a : Access). a.caller) (sym is))
+
+-- The logger keeps its channels.
+pub channels_stay : {F : Type 0} (channels : List ChannelSpec) (before after : LoggerSeen F) → IsSameLogger before after →
+    HasDeclaredChannels channels before → HasDeclaredChannels channels after
+channels_stay channels before after same d =
+    let P : List (Option ChannelSpec) → (number : ℕ) → (spec : ChannelSpec) → Type 0 = λ specs number spec. slot_at specs number ≡ Some spec in
+    let count : length after.slots ≡ length before.slots =
+    sym (length-map after.slots (option_map (λ (c : Channel). c.spec))) ∙ ap length same.specs ∙ length-map before.slots (option_map (λ (c : Channel). c.spec)) in
+    let few : length before.slots ≤ channel_limit = d.few in record {
+      few = omega arith;
+      each = λ number spec at. d.each number spec (ap (λ (specs : List (Option ChannelSpec)). slot_at specs number) (sym same.specs) ∙ at);
+      all = λ spec has. ap (λ (specs : List (Option ChannelSpec)). slot_at specs spec.number) same.specs ∙ d.all spec has;
+    }
+
+-- A new logger has the channels that were declared.
+spec_of_slot : (slots : List (Option Channel)) (n : ℕ) → slot_at (specs_in slots) n ≡ option_map (λ (c : Channel). c.spec) (slot_at slots n)
+spec_of_slot [] n = refl
+spec_of_slot (o ∷ os) zero = refl
+spec_of_slot (o ∷ os) (suc n) = spec_of_slot os n
+
+channel_there : (o : Option Channel) (spec : ChannelSpec) → option_map (λ (c : Channel). c.spec) o ≡ Some spec → (c : Channel) × (o ≡ Some c) × (c.spec ≡ spec)
+channel_there None spec e = absurd (cc)
+channel_there (Some c) spec e = (c, refl, some_same c.spec spec e)
+
+pub new_channels_are : {F : Type 0} (objects : SessionObjects) (client : ℕ) (channels : List ChannelSpec) (files : F) (logger : LoggerSeen F) →
+    IsNewLogger objects client channels files logger → HasDeclaredChannels channels logger
+new_channels_are objects client channels files logger n =
+    let many : length logger.slots ≡ channel_limit = n.slots.many in record {
+      few = omega arith;
+      each = λ number spec at. each number spec at;
+      all = λ spec has. all spec has;
+    }
+  where
+    each : (number : ℕ) (spec : ChannelSpec) → slot_at (specs_in logger.slots) number ≡ Some spec → Contains channels spec × (spec.number ≡ number)
+    each number spec at =
+        let found = channel_there (slot_at logger.slots number) spec (sym (spec_of_slot logger.slots number) ∙ at) in
+        let only = n.slots.only number found.0 found.1 in
+        let new = only.1.1 in
+        let same : new.spec ≡ spec = ap (λ (c : Channel). c.spec) (sym new.is) ∙ found.2 in
+        let P : ChannelSpec → Type 0 = λ s. Contains channels s in (
+          subst P same (only.1.0, slice_get_within channels only.1.0 new.spec new.has_spec, get_or_from_slice_get channels only.1.0 new.spec new.spec new.has_spec),
+          ap (λ (s : ChannelSpec). s.number) (sym found.2) ∙ only.0,
+        )
+
+    all : (spec : ChannelSpec) → Contains channels spec → slot_at (specs_in logger.slots) spec.number ≡ Some spec
+    all spec has =
+        let at : slice_get channels has.0 ≡ Some spec = slice_get-get_or channels has.0 spec has.1 ∙ ap (λ (s : ChannelSpec). Some s) has.2 in
+        let rooms : List ℕ = event_rooms objects.buffers.items channels in
+        let room : ℕ = event_room_of (slice_get objects.buffers.items spec.buffer) in
+        let has_room : slice_get rooms has.0 ≡ Some room = slice_get-map (λ (c : ChannelSpec). event_room_of (slice_get objects.buffers.items c.buffer)) channels has.0
+        ∙ ap (option_map (λ (c : ChannelSpec). event_room_of (slice_get objects.buffers.items c.buffer))) at in
+        let c : Channel = new_channel spec room in
+        let is : IsNewChannel channels rooms has.0 c = record { spec = spec; room = room; has_spec = at; has_room = has_room; is = refl } in
+        spec_of_slot logger.slots spec.number ∙ ap (option_map (λ (d : Channel). d.spec)) (n.slots.each has.0 c is)

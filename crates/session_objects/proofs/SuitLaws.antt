@@ -53,25 +53,25 @@ pub suits : {D : Type 0} (lists : DeclaredLists) (objects : SessionObjects) (sha
     length lists.fronts < passes_of (odb_lock_of shared) → SuitMembers lists.fronts lists.channels objects shared
 suits lists objects shared sound o below =
     let many : length objects.buffers.items ≡ length lists.buffers = o.buffers.many in record {
-  callers = record {
-    engine = o.callers;
-    buffers = λ number buffer at. count number buffer at;
-    database = below;
-    sent_into = λ client front at.
-        let P : FrontDeclared → Type 0 = λ f. f.buffer < length lists.buffers in
-        let l : front.buffer < length lists.buffers = at_place P lists.fronts client front sound.front_buffers at in omega arith;
-  };
-  few = sound.few_fronts;
-  ids = λ client front at. is_id front.id
-      (let P : FrontDeclared → Type 0 = λ f. IsTrue (is_front_id f.id) in at_place P lists.fronts client front sound.front_ids at);
-  numbers = record {
-    below = λ i s at. (let P : ChannelSpec → Type 0 = λ c. c.number < 16 in at_place P lists.channels i s sound.channel_numbers at);
-    differ = λ i j s t at there ne. apart lists.channels i j s t sound.numbers_differ at there ne;
-  };
-  read = λ place channel at.
-      let P : ChannelSpec → Type 0 = λ c. c.buffer < length lists.buffers in
-      let l : channel.buffer < length lists.buffers = at_place P lists.channels place channel sound.channel_buffers at in omega arith;
-}
+      callers = record {
+        engine = o.callers;
+        buffers = λ number buffer at. count number buffer at;
+        database = below;
+        sent_into = λ client front at.
+            let P : FrontDeclared → Type 0 = λ f. f.buffer < length lists.buffers in
+            let l : front.buffer < length lists.buffers = at_place P lists.fronts client front sound.front_buffers at in omega arith;
+      };
+      few = sound.few_fronts;
+      ids = λ client front at. is_id front.id
+          (let P : FrontDeclared → Type 0 = λ f. IsTrue (is_front_id f.id) in at_place P lists.fronts client front sound.front_ids at);
+      numbers = record {
+        below = λ i s at. (let P : ChannelSpec → Type 0 = λ c. c.number < 16 in at_place P lists.channels i s sound.channel_numbers at);
+        differ = λ i j s t at there ne. apart lists.channels i j s t sound.numbers_differ at there ne;
+      };
+      read = λ place channel at.
+          let P : ChannelSpec → Type 0 = λ c. c.buffer < length lists.buffers in
+          let l : channel.buffer < length lists.buffers = at_place P lists.channels place channel sound.channel_buffers at in omega arith;
+    }
   where
     count : (number : ℕ) (buffer : SessionBuffer) → slice_get objects.buffers.items number ≡ Some buffer →
         passes_of (lock_of buffer.shared) ≡ caller_count lists.fronts

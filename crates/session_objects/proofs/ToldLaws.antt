@@ -22,7 +22,7 @@ port_tells port told shared size client pass is identity opens number back =
     let seen : List (ℕ × BufferEntry) = seen_by pass in
     let same_seen : seen_by pass ≡ seen_by (pass_of port) = ap (λ p. seen_by p) back in
     let at_first : first_buffer (buffer_of port) ≡ opening size =
-        ap (λ (a : Access). a.buffer.opened) is ∙ ap (λ (i : BufferIdentity). i.opened) identity ∙ opens in
+    ap (λ (a : Access). a.buffer.opened) is ∙ ap (λ (i : BufferIdentity). i.opened) identity ∙ opens in
     let by : number_of (pass_of port) ≡ suc client = ap (λ (a : Access). a.caller) is ∙ number ∙ add-one client in
     let P : Access → Type 0 = λ a. a ≡ access_to a.buffer (ported_by (suc client) (opening size) seen) in
     let Q : ℕ → Type 0 = λ n. access_by ring_window port ≡ access_to (access_by ring_window port).buffer (ported_by n (opening size) seen) in

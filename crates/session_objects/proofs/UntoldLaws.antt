@@ -48,7 +48,7 @@ module _ (fronts : List FrontDeclared) (calls : SessionCalls) (same : length cal
   buffer_untold buffer size m l zero below absent = refl
   buffer_untold buffer size m l (suc client) below absent = dite (dec_le (length fronts) client)
       (λ over. let P : List ℕ → Type 0 = λ ns. Contains ns (suc client) in absurd (absent (subst P (sym (logger_has fronts buffer m l))
-          (at_first (suc (length fronts)) (senders_down fronts (length fronts) buffer) (suc client) (omega arith)))))
+      (at_first (suc (length fronts)) (senders_down fronts (length fronts) buffer) (suc client) (omega arith)))))
       (λ within. as_declared (slice_get fronts client) refl (sends_into buffer (slice_get fronts client)) refl (omega arith))
     where
       not_out : ¬ Contains (senders_down fronts (length fronts) buffer) (suc client)
@@ -72,7 +72,7 @@ module _ (fronts : List FrontDeclared) (calls : SessionCalls) (same : length cal
     buffers = λ number buffer roster at there.
         fresh_tells (told_of_buffer fronts calls number buffer.size) (callers_with_logger fronts (length objects.buffers.items) number) (lock_of buffer.shared) roster
         (λ k below absent. buffer_untold number buffer.size (length objects.buffers.items) (slice_get_within objects.buffers.items number buffer at) k
-            (let c : passes_of (lock_of buffer.shared) ≡ length fronts + 2 = have.buffers number buffer at in omega arith) absent)
+        (let c : passes_of (lock_of buffer.shared) ≡ length fronts + 2 = have.buffers number buffer at in omega arith) absent)
         (fresh.buffers number buffer roster at there);
     database = fresh_tells (told_of_database calls) (callers_down (length fronts)) (odb_lock_of database) passes.database
         (λ k below absent. database_untold k absent) fresh.database;

@@ -1,5 +1,5 @@
 -- The members of a session, as their seats show them.
-use Rattle.std.specs.Prelude.{◌≡◌, ℕ, ◌-◌, min, Bool, nat_le, List, [], map, slice_get, length, Option, Some, None}
+use Rattle.std.specs.Prelude.{◌≡◌, ◌≤◌, ℕ, ◌-◌, min, Bool, nat_le, List, [], map, slice_get, length, Contains, Option, Some, None}
 use Rattle.daq_types.specs.Callers.{caller_of_client}
 use Rattle.daq_types.specs.declared.events.Event.{Event}
 use Rattle.daq_types.specs.declared.runs.Order.{Order}
@@ -7,12 +7,17 @@ use Rattle.daq_model.specs.Events.{event_limit}
 use Rattle.daq_model.specs.Generator.{generated_event}
 use Rattle.mid_logger.specs.declared.channel_spec.ChannelSpec.{ChannelSpec}
 use Rattle.loggers.specs.NewLoggers.{HasNewChannels}
-use Rattle.loggers.specs.Moments.{AreIdle, IsLoggerReady}
+use Rattle.loggers.specs.Moments.{RunFiles, channel_limit, AreIdle, IsLoggerReady}
+use Rattle.loggers.specs.LoggerFaults.{HasFailed}
+use Rattle.loggers.specs.OtherFiles.{specs_in}
+use Rattle.loggers.specs.Reasons.{GivesReasons}
+use Rattle.loggers.specs.declared.logger.Logger.{Logger}
+use Rattle.turn_lock.specs.Passes.{own_entries}
+use Rattle.daq_members.specs.declared.logger_member.LoggerMember.{LoggerMember}
+use Rattle.buffer_core.specs.Slots.{slot_at}
 use Rattle.loggers.specs.SlotPulls.{HasEventRoom}
 use Rattle.loggers.specs.LoggerStands.{LoggerStands}
 use Rattle.daq_io.specs.Seen.{Seen}
-use Rattle.turn_lock.specs.Passes.{own_entries}
-use Rattle.daq_members.specs.declared.logger_member.LoggerMember.{LoggerMember}
 use Rattle.buffer_core.specs.Window.{Window}
 use Rattle.buffer_core.specs.Ports.{Access, BufferIdentity}
 use Rattle.buffer_lock.specs.declared.shared.SharedBuffer.{SharedBuffer}
@@ -114,6 +119,10 @@ new_port shared caller = access_to (ring_identity shared) (ported_by caller (fir
 abbrev pub new_access : {D : Type 0} → SharedOdb D → (caller : ℕ) → DatabaseAccess
 new_access shared caller = shared_access (odb_identity shared) caller []
 
+-- the ports of a caller that made no call, one to each buffer
+abbrev pub new_ports : List SessionBuffer → (caller : ℕ) → List Access
+new_ports buffers caller = map (λ buffer. new_port buffer.shared caller) buffers
+
 -- the room for an event that a channel may get from its buffer
 abbrev pub event_room_of : Option SessionBuffer → ℕ
 event_room_of None = 0
@@ -152,23 +161,24 @@ pub record IsNewLogger {F : Type 0} (objects : SessionObjects) (client : ℕ) (c
   pub stop_dump : logger.stop_dump ≡ None
   pub calls : logger.calls ≡ []
   pub slots : HasNewChannels channels (event_rooms objects.buffers.items channels) logger.slots
-  pub ports : logger.ports ≡ map (λ buffer. new_port buffer.shared (caller_of_client client)) objects.buffers.items
+  pub failed : HasFailed logger.slots → ⊥
+  pub ports : logger.ports ≡ new_ports objects.buffers.items (caller_of_client client)
   pub has_files : logger.files ≡ files
+  pub had_files : logger.first ≡ files
 
--- The logger with its place at the engine and its ports is such a one, whatever its run files are.
-pub record IsBareLogger (objects : SessionObjects) (client : ℕ) (channels : List ChannelSpec) (logger : LoggerMember)
-    (accesses : List Access) : Type 0 where
-  pub engine : logger.seat.engine.now ≡ objects.engine
-  pub is : logger.seat.client ≡ client
-  pub calls : own_entries logger.seat.pass ≡ []
-  pub run : logger.logger.run ≡ None
-  pub stop_dump : logger.logger.stop_dump ≡ None
-  pub slots : HasNewChannels channels (event_rooms objects.buffers.items channels) logger.logger.channels
-  pub ports : accesses ≡ map (λ buffer. new_port buffer.shared (caller_of_client client)) objects.buffers.items
-  pub idle : AreIdle logger.logger.channels
-  pub ready : (seen : Seen) → IsLoggerReady logger.logger.channels accesses seen
-  pub stands : (seen : Seen) → LoggerStands None None logger.logger.channels accesses [] seen
-  pub room : (number : ℕ) → HasEventRoom number logger.logger.channels accesses
+-- A logger that was made for these channels is ready for its turns at new ports to these buffers, whatever its run files
+-- are: it has a channel for each that was declared, with room for each event of its buffer, and no run is on.
+pub record IsMadeLogger (buffers : List SessionBuffer) (declared : List ChannelSpec) (logger : Logger) : Type 0 where
+  pub run : logger.run ≡ None
+  pub stop_dump : logger.stop_dump ≡ None
+  pub slots : HasNewChannels declared (event_rooms buffers declared) logger.channels
+  pub idle : AreIdle logger.channels
+  pub failed : HasFailed logger.channels → ⊥
+  pub reasons : (files : RunFiles) → GivesReasons logger.channels files files []
+  pub ready : (caller : ℕ) → (seen : Seen) → IsLoggerReady logger.channels (new_ports buffers caller) seen
+  pub stands : (caller : ℕ) → (seen : Seen) →
+      LoggerStands None None logger.channels (new_ports buffers caller) [] seen
+  pub room : (caller number : ℕ) → HasEventRoom number logger.channels (new_ports buffers caller)
 
 -- The members are those of a session of these declarations, and none made a call.
 pub record AreNewMembers {D F K : Type 0} (fronts : List FrontDeclared) (channels : List ChannelSpec) (objects : SessionObjects)
@@ -179,3 +189,24 @@ pub record AreNewMembers {D F K : Type 0} (fronts : List FrontDeclared) (channel
       IsNewFront objects shared client declared front
   pub logger : IsNewLogger objects (length fronts) channels files crew.logger
   pub has_pick : crew.pick ≡ pick
+
+-- The members, before the run files are the logger's: the front-ends; the logger with its place at the engine; and what its
+-- ports tell.
+pub record AreBareMembers {D : Type 0} (fronts : List FrontDeclared) (channels : List ChannelSpec) (objects : SessionObjects)
+    (shared : SharedOdb D) (seats : List (FrontSeen Generator)) (logger : LoggerMember) (accesses : List Access) : Type 0 where
+  pub many : length seats ≡ length fronts
+  pub each : (client : ℕ) → (declared : FrontDeclared) → (front : FrontSeen Generator) →
+      slice_get fronts client ≡ Some declared → slice_get seats client ≡ Some front →
+      IsNewFront objects shared client declared front
+  pub made : IsMadeLogger objects.buffers.items channels logger.logger
+  pub engine : logger.seat.engine.now ≡ objects.engine
+  pub is : logger.seat.client ≡ length fronts
+  pub calls : own_entries logger.seat.pass ≡ []
+  pub ports : accesses ≡ new_ports objects.buffers.items (caller_of_client (length fronts))
+
+-- The logger's channels are those that were declared, each at its number.
+pub record HasDeclaredChannels {F : Type 0} (declared : List ChannelSpec) (logger : LoggerSeen F) : Type 0 where
+  pub few : length logger.slots ≤ channel_limit
+  pub each : (number : ℕ) → (spec : ChannelSpec) → slot_at (specs_in logger.slots) number ≡ Some spec →
+      Contains declared spec × (spec.number ≡ number)
+  pub all : (spec : ChannelSpec) → Contains declared spec → slot_at (specs_in logger.slots) spec.number ≡ Some spec

@@ -20,8 +20,10 @@ use crate::record::{BufferRecord, BufferRecords, RunRecords, SessionRecord};
 use buffer_lock::BufferPasses;
 use odb_lock::{OdbClosed, OdbPasses, SharedOdb};
 use odb_tree::Database;
+use odb_watch::laws::notes_are_due;
 use ring_buffer::RingBuffer;
 use transition_lock::{EngineClosed, EnginePasses, SharedEngine};
+use transitions::laws::follows;
 
 /// Closes a buffer, whose passes are all here.
 fn close_buffer(buffer: SessionBuffer, passes: BufferPasses<RingBuffer>) -> BufferRecord
@@ -112,6 +114,8 @@ impl SessionObjects {
             HasCalls fronts calls self database passes → HoldsCalls fronts calls self database result }
         ensures runs { result.runs ≡ runs }
     {
+        follows();
+        notes_are_due();
         let SessionObjects {
             buffers,
             engine,

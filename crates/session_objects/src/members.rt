@@ -7,9 +7,10 @@ ghost use Rattle.turn_lock.specs.Passes.{own_entries};
 ghost use Rattle.buffer_lock.specs.SharedPorts.{access_by};
 ghost use Rattle.odb_lock.specs.SharedAccesses.{access_by_pass};
 ghost use Rattle.front_ends.specs.FrontIds.{IsFrontId};
+ghost use Rattle.loggers.specs.NewLoggers.{HaveNumbers};
 ghost use Rattle.session_objects.specs.Objects.{HaveCallers, SuitMembers};
 ghost use Rattle.session_objects.specs.Kept.{out_to_fronts, out_to_ports, out_to_logger, HasFreshBut};
-ghost use Rattle.session_objects.specs.Members.{ring_window, new_port, new_access, generator_of, event_room_of, event_rooms, IsNewFront, IsBareLogger, AreNewMembers, AreMembersOf};
+ghost use Rattle.session_objects.specs.Members.{ring_window, new_port, new_access, generator_of, event_room_of, event_rooms, IsNewFront, IsMadeLogger, AreBareMembers, AreNewMembers, AreMembersOf, HasDeclaredChannels};
 
 use crate::objects::{SessionBuffer, SessionObjects};
 use crate::passes::{SessionPasses, take_fresh};
@@ -96,6 +97,22 @@ fn event_rooms(
     Ok(rooms)
 }
 
+/// A logger of these channels, with room for the events of these buffers.
+fn make_logger(
+    alloc: Global,
+    buffers: &[SessionBuffer],
+    channels: ChannelSpecs,
+) -> Result<Logger, NoMemory>
+    requires numbers { HaveNumbers channels }
+    requires read { (place : ℕ) → (channel : _) → slice_get channels place ≡ Some channel →
+        channel.buffer < length buffers.now }
+    ensures { IfOk result (IsMadeLogger buffers.now channels) }
+{
+    let rooms = event_rooms(alloc, buffers, channels.as_slice())?;
+    let logger = Logger::new(alloc, channels, &rooms)?;
+    Ok(logger)
+}
+
 impl SessionObjects {
     /// The places of the front-end with this client number, with its passes of its objects.
     fn place_front<'a, D: Database>(
@@ -151,8 +168,9 @@ impl SessionObjects {
         ensures front { IfOk result (λ front. (d : _) → slice_get declared.now client ≡ Some d →
             IsNewFront self.now database.now client d front) }
     {
-        let FrontPlaces { seat, port, access } =
-            self.place_front(database, declared, client, passes);
+        let FrontPlaces { seat, port, access } = self.place_front(
+            database, declared, client, passes,
+        );
         let front = &declared[client as usize];
         let member = FrontMember::new(alloc, seat, front.name, generator_of(front))?;
         Ok(FrontSeat::new(member, port, access))
@@ -202,7 +220,7 @@ impl SessionObjects {
             (length self.now.buffers.items)) self.now database.now passes.new) }
         ensures ports { IfOk result (λ ports. map (access_by ring_window) ports
             ≡ map (λ buffer. new_port buffer.shared (caller_of_client (length declared.now)))
-                self.now.buffers.items) }
+            self.now.buffers.items) }
     {
         let caller = declared.len() as u32 + 1;
         let mut ports = BoundedList::new(alloc)?;
@@ -213,8 +231,29 @@ impl SessionObjects {
         Ok(ports)
     }
 
+    /// The logger's place at the engine, with its pass of that.
+    fn place_logger<'a, D: Database>(
+        &'a self,
+        database: &SharedOdb<D>,
+        declared: &[FrontDeclared],
+        passes: &mut SessionPasses<D>,
+    ) -> Seat<'a>
+        requires few { length declared.now ≤ 32 }
+        requires callers { HaveCallers declared.now self.now database.now }
+        requires out { HasFreshBut (out_to_ports declared.now (length self.now.buffers.items))
+            self.now database.now passes.old }
+        ensures out { HasFreshBut (out_to_logger declared.now (length self.now.buffers.items))
+            self.now database.now passes.new }
+        ensures client { result.client ≡ length declared.now }
+        ensures engine { result.engine.now ≡ self.now.engine }
+        ensures calls { own_entries result.pass ≡ [] }
+    {
+        let client = declared.len() as u32;
+        let pass = take_fresh(&mut passes.engine, client + 1);
+        Seat::new(&self.engine, pass, client)
+    }
+
     /// The members, but for the run files and the pick. All memory that they need is taken here.
-    #[tactic(none)]
     fn bare_members<'a, D: Database>(
         &'a self,
         alloc: Global,
@@ -228,20 +267,13 @@ impl SessionObjects {
             passes.old }
         ensures out { OnOk result (HasFreshBut (out_to_logger declared.now
             (length self.now.buffers.items)) self.now database.now passes.new) }
-        ensures many { IfOk result (λ bare. length bare.fronts.items ≡ length declared.now) }
-        ensures each { IfOk result (λ bare. (client : ℕ) → (d front : _) →
-            slice_get declared.now client ≡ Some d →
-            slice_get bare.fronts.items client ≡ Some front →
-            IsNewFront self.now database.now client d front) }
-        ensures logger { IfOk result (λ bare. IsBareLogger self.now (length declared.now) channels
-            bare.logger (map (access_by ring_window) bare.ports)) }
+        ensures members { IfOk result (λ bare. AreBareMembers declared.now channels self.now
+            database.now bare.fronts.items bare.logger (map (access_by ring_window) bare.ports)) }
     {
-        let rooms = event_rooms(alloc, &self.buffers, channels.as_slice())?;
-        let logger = Logger::new(alloc, channels, &rooms)?;
+        let logger = make_logger(alloc, &self.buffers, channels)?;
         let fronts = self.seat_fronts(alloc, database, declared, passes)?;
         let ports = self.open_ports(alloc, database, declared, passes)?;
-        let client = declared.len() as u32;
-        let seat = Seat::new(&self.engine, take_fresh(&mut passes.engine, client + 1), client);
+        let seat = self.place_logger(database, declared, passes);
         Ok(BareMembers {
             fronts,
             logger: LoggerMember::new(seat, logger),
@@ -252,7 +284,6 @@ impl SessionObjects {
     /// The members of a session of these declarations, none of which made a call: its front-ends, in their order, and the
     /// logger with these channels. Their passes are taken out of those that are kept. The run files and the pick come back
     /// where memory is wanting for the members.
-    #[tactic(none)]
     pub fn crew<'a, D: Database, F: Files, K: Pick, G: Gate>(
         &'a self,
         alloc: Global,
@@ -271,6 +302,7 @@ impl SessionObjects {
             database.now files pick crew) }
         ensures are { IfOk result (λ crew. AreMembersOf declared.now self.now database.now
             crew.fronts crew.logger) }
+        ensures channels { IfOk result (λ crew. HasDeclaredChannels channels crew.logger) }
         ensures out { OnOk result (HasFreshBut (out_to_logger declared.now
             (length self.now.buffers.items)) self.now database.now passes.new) }
         ensures files { IfErr result (λ unmanned. unmanned.files ≡ files) }

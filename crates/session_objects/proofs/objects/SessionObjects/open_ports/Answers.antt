@@ -61,8 +61,8 @@ loop-number-preserved g c =
     let caller : ℕ = length c.args.declared.now + 1 in
     let made : SessionBuffer → Access = λ z. new_port z.shared caller in
     let is : access_by ring_window port ≡ made b = new_port_is port b.shared caller c.new-in-loop-number.ensures.buffer
-        (ap (λ p. number_of p) c.new-in-loop-number.ensures.pass ∙ taken.2.is)
-        (ap (λ p. seen_by p) c.new-in-loop-number.ensures.pass ∙ (taken.2.fresh (k.buffers n b r.0 at_b r.1).fresh).seen) in
+    (ap (λ p. number_of p) c.new-in-loop-number.ensures.pass ∙ taken.2.is)
+    (ap (λ p. seen_by p) c.new-in-loop-number.ensures.pass ∙ (taken.2.fresh (k.buffers n b r.0 at_b r.1).fresh).seen) in
     let pushed : c.push.new.self ≡ c.loop-number.ports ++ port ∷ [] = c.push.ensures in
     let count : length c.loop-number.ports ≡ n = inv.0 in
     let more : take (n + 1) bs ≡ take n bs ++ b ∷ [] = take_more bs n b l ∙ ap (λ (z : SessionBuffer). take n bs ++ z ∷ []) (sym c.index.ensures) in (

@@ -108,9 +108,9 @@ returns-clause-port g c =
     let k = c.requires.out.buffers d0.buffer b0 r.0 at_b r.1 in
     let taken = c.take_of_buffer-pass.ensures.taken.there r.0 r.1 in
     λ d buffer at there.
-        let same_d : d0 ≡ d = some_same d0 d (sym at0 ∙ at) in
-        let same_b : b0 ≡ buffer = some_same b0 buffer (sym at_b ∙ ap (λ (z : FrontDeclared). slice_get c.args.self.now.buffers.items z.buffer) same_d ∙ there) in
-        new_port_is c.new-port.result buffer.shared (c.args.client + 1)
-        (c.new-port.ensures.buffer ∙ ap (λ (z : SessionBuffer). z.shared) same_b)
-        (ap (λ p. number_of p) c.new-port.ensures.pass ∙ taken.2.is)
-        (ap (λ p. seen_by p) c.new-port.ensures.pass ∙ (taken.2.fresh k.fresh).seen)
+    let same_d : d0 ≡ d = some_same d0 d (sym at0 ∙ at) in
+    let same_b : b0 ≡ buffer = some_same b0 buffer (sym at_b ∙ ap (λ (z : FrontDeclared). slice_get c.args.self.now.buffers.items z.buffer) same_d ∙ there) in
+    new_port_is c.new-port.result buffer.shared (c.args.client + 1)
+    (c.new-port.ensures.buffer ∙ ap (λ (z : SessionBuffer). z.shared) same_b)
+    (ap (λ p. number_of p) c.new-port.ensures.pass ∙ taken.2.is)
+    (ap (λ p. seen_by p) c.new-port.ensures.pass ∙ (taken.2.fresh k.fresh).seen)

@@ -34,7 +34,7 @@ new-requires-2-clause-stands g c =
     (ap (λ s. s.client) e.seat) e.front (ap (λ s. own_entries s.pass) e.seat ∙ place.calls)
     (ap (λ (a : Access). a.own) (place.port d b.0 at b.1)) (ap own_watched place.access)
     (let N : List ℕ → Type 0 = λ n. FrontMemberStands c.place_front-seat.result.seat.client n (generator_takes c.generator_of.result) (generator_makes c.generator_of.result) None [] [] [] in
-        subst N (sym e.name) e.stands)
+    subst N (sym e.name) e.stands)
 
 pub new-requires-2-clause-caller : goal.new-requires-2-clause-caller
 new-requires-2-clause-caller g c =

@@ -19,8 +19,8 @@ loop-client-preserved g c =
     let IsOne : ℕ → FrontSeen Generator → Type 0 = λ m f. (d : FrontDeclared) → slice_get c.args.declared.now m ≡ Some d → IsNewFront c.args.self.now c.args.database.now m d f in
     let At : List (FrontSeen Generator) → Type 0 = λ zs. (client : ℕ) → (front : FrontSeen Generator) → slice_get zs client ≡ Some front → IsOne client front in
     let one : IsOne (length xs) x = λ d at.
-        let P : ℕ → Type 0 = λ m. IsNewFront c.args.self.now c.args.database.now m d x in
-        subst P (sym many) (c.in_ok-front.ensures.front d (ap (λ (m : ℕ). slice_get c.args.declared.now m) (sym many) ∙ at)) in (
+    let P : ℕ → Type 0 = λ m. IsNewFront c.args.self.now c.args.database.now m d x in
+    subst P (sym many) (c.in_ok-front.ensures.front d (ap (λ (m : ℕ). slice_get c.args.declared.now m) (sym many) ∙ at)) in (
       ap length pushed ∙ length-append xs (x ∷ []) ∙ ap (λ (m : ℕ). m + 1) many,
       c.in_ok-front.ensures.out,
       subst At (sym pushed) (each_pushed IsOne xs x inv.2 one),

@@ -11,4 +11,4 @@ abbrev pub invariant-loop-client : goal.invariant-loop-client
 invariant-loop-client g l = (length l.fronts.items ≡ l.client)
     × HasFreshBut (out_to_fronts l.declared l.client) l.self l.database l.passes
     × ((client : ℕ) → (front : FrontSeen Generator) → slice_get l.fronts.items client ≡ Some front →
-        (d : FrontDeclared) → slice_get l.declared client ≡ Some d → IsNewFront l.self l.database client d front)
+    (d : FrontDeclared) → slice_get l.declared client ≡ Some d → IsNewFront l.self l.database client d front)

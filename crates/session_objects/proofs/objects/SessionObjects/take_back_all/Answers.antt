@@ -16,8 +16,25 @@ take_back_logger-files-requires g c =
     let calls = c.requires.1.1.1.0 in
     let members = c.requires.1.1.1.1.1.0 in
     let same : length g.calls.fronts ≡ length c.args.declared.now = ap (λ (k : SessionCalls). length k.fronts) calls ∙ length-map c.args.parts.fronts.items front_calls ∙ members.many in
-    λ κs bounds. (bounds.0, (bounds.1, (members.logger, (same, (ap (λ (k : SessionCalls). k.logger_engine) calls, (ap (λ (k : SessionCalls). k.logger_ports) calls,
-      untold c.args.declared.now g.calls same c.args.self.now c.args.database.now c.args.passes c.requires.1.1.1.1.0 c.requires.1.1.1.1.1.1.0))))))
+    λ κs bounds. (
+      bounds.0,
+      (
+        bounds.1,
+        (
+          members.logger,
+          (
+            same,
+            (
+              ap (λ (k : SessionCalls). k.logger_engine) calls,
+              (
+                ap (λ (k : SessionCalls). k.logger_ports) calls,
+                untold c.args.declared.now g.calls same c.args.self.now c.args.database.now c.args.passes c.requires.1.1.1.1.0 c.requires.1.1.1.1.1.1.0,
+              ),
+            ),
+          ),
+        ),
+      ),
+    )
 
 pub take_back_fronts-requires : goal.take_back_fronts-requires
 take_back_fronts-requires g c =

@@ -25,7 +25,7 @@ put_to_buffer-requires-clause-room g c =
     let same : d ≡ d0 = some_same d d0 (sym at ∙ at0) in
     λ roster there. front_room c.args.declared.now g.calls c.args.self.now c.args.database.now c.args.client d is.buffer c.args.passes.now roster at is.has_buffer c.requires.1.1.1
     (ap (λ bs. slice_get bs.items d.buffer) (sym (c.put_to_database.ensures.buffers ∙ c.put_to_engine.ensures.buffers))
-        ∙ ap (λ (z : FrontDeclared). slice_get c.put_to_database.new.self.buffers.items z.buffer) same ∙ there)
+    ∙ ap (λ (z : FrontDeclared). slice_get c.put_to_database.new.self.buffers.items z.buffer) same ∙ there)
 
 pub returns : goal.returns
 returns g c =

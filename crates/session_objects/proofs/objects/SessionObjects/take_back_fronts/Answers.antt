@@ -31,8 +31,13 @@ take_back_front-requires g c =
     let d = there_below c.args.declared.now n (omega arith) in
     let count : length left ≡ n + 1 = ap length popped ∙ length-append new (x ∷ []) ∙ ap (λ m. m + 1) (sym same) in
     let P : ℕ → Type 0 = λ m. HasCallsBut (out_to_fronts c.args.declared.now m) c.args.declared.now g.calls c.args.self.now c.args.database.now c.loop-front.passes in
-    λ κs lives. (lives, ((d.0, d.1, c.requires.1.1.0 n d.0 x d.1 at),
-        (ap (λ zs. slice_get zs n) c.requires.1.1.1.0 ∙ slice_get-map front_calls all n ∙ ap (option_map front_calls) at, subst P count inv.1)))
+    λ κs lives. (
+      lives,
+      (
+        (d.0, d.1, c.requires.1.1.0 n d.0 x d.1 at),
+        (ap (λ zs. slice_get zs n) c.requires.1.1.1.0 ∙ slice_get-map front_calls all n ∙ ap (option_map front_calls) at, subst P count inv.1),
+      ),
+    )
 
 pub loop-front-preserved : goal.loop-front-preserved
 loop-front-preserved g c =

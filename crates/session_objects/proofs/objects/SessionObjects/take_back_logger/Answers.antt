@@ -25,13 +25,22 @@ take_back_ports-requires g c =
     let is = c.requires.1.1.0 in
     let P : List Access → Type 0 = λ ps. ArePortsTo c.args.self.now.buffers.items (caller_of_client (length c.args.declared.now)) ps in
     let Q : SharedEngine → Type 0 = λ e. IsOf (engine_lock_of e) c.into_parts-pass.result.pass in
-    λ κs lives. (lives, (sym (length-map ports (access_by ring_window)) ∙ ap length parts.ports ∙ is.ports.many,
-      (subst P (sym parts.ports) is.ports,
-      (c.requires.1.1.1.1.1.0 ∙ sym parts.ports,
-      logger_engine_back c.args.declared.now g.calls c.args.self.now c.args.database.now c.args.passes.now c.put_to_engine.new.self c.into_parts-pass.result.pass
-          c.requires.1.1.1.0 c.requires.1.1.1.1.1.1
-          c.put_to_engine.ensures.put c.put_to_engine.ensures.buffers c.put_to_engine.ensures.database
-          (parts.number ∙ ap (λ (n : ℕ). n + 1) is.is) (subst Q is.engine parts.own) parts.idle (parts.calls ∙ sym c.requires.1.1.1.1.0)))))
+    λ κs lives. (
+      lives,
+      (
+        sym (length-map ports (access_by ring_window)) ∙ ap length parts.ports ∙ is.ports.many,
+        (
+          subst P (sym parts.ports) is.ports,
+          (
+            c.requires.1.1.1.1.1.0 ∙ sym parts.ports,
+            logger_engine_back c.args.declared.now g.calls c.args.self.now c.args.database.now c.args.passes.now c.put_to_engine.new.self c.into_parts-pass.result.pass
+                c.requires.1.1.1.0 c.requires.1.1.1.1.1.1
+                c.put_to_engine.ensures.put c.put_to_engine.ensures.buffers c.put_to_engine.ensures.database
+                (parts.number ∙ ap (λ (n : ℕ). n + 1) is.is) (subst Q is.engine parts.own) parts.idle (parts.calls ∙ sym c.requires.1.1.1.1.0),
+          ),
+        ),
+      ),
+    )
 
 pub returns-clause-files : goal.returns-clause-files
 returns-clause-files g c = c.into_parts-pass.ensures.files

@@ -64,13 +64,14 @@ loop-port-preserved g c =
     let Q : ℕ → Type 0 = λ m. HasCallsBut (out_to_ports c.args.declared.now m) c.args.declared.now g.calls c.args.self.now c.args.database.now c.put_to_buffer.new.self in
     let told : Access = access_by ring_window x in
     let at_told : slice_get (map (access_by ring_window) c.args.ports) n ≡ Some told = slice_get-map (access_by ring_window) c.args.ports n ∙ ap (option_map (access_by ring_window)) at in
-    let is = c.requires.1.1.0.each n b.0 told b.1 at_told in
-    ((x ∷ inv.0.0, inv.0.1 ∙ ap (λ zs. zs ++ inv.0.0) popped ∙ append_assoc new (x ∷ []) inv.0.0),
+    let is = c.requires.1.1.0.each n b.0 told b.1 at_told in (
+      (x ∷ inv.0.0, inv.0.1 ∙ ap (λ zs. zs ++ inv.0.0) popped ∙ append_assoc new (x ∷ []) inv.0.0),
       subst Q same (logger_port_back c.args.declared.now g.calls c.args.self.now c.args.database.now n b.0 told c.loop-port.passes c.put_to_buffer.new.self c.into_pass.result
-        b.1 (ap (λ zs. slice_get zs n) c.requires.1.1.1.0 ∙ at_told) (subst P count inv.1)
-        c.put_to_buffer.ensures.put c.put_to_buffer.ensures.engine c.put_to_buffer.ensures.database
-        (ap (λ p. number_of p) c.into_pass.ensures.pass ∙ is.1) (c.into_pass.ensures.told b.0.shared is.0) c.into_pass.ensures.idle
-        (port_tells x told b.0.shared b.0.size (length c.args.declared.now) c.into_pass.result refl is.0 b.0.opens is.1 c.into_pass.ensures.pass)))
+          b.1 (ap (λ zs. slice_get zs n) c.requires.1.1.1.0 ∙ at_told) (subst P count inv.1)
+          c.put_to_buffer.ensures.put c.put_to_buffer.ensures.engine c.put_to_buffer.ensures.database
+          (ap (λ p. number_of p) c.into_pass.ensures.pass ∙ is.1) (c.into_pass.ensures.told b.0.shared is.0) c.into_pass.ensures.idle
+          (port_tells x told b.0.shared b.0.size (length c.args.declared.now) c.into_pass.result refl is.0 b.0.opens is.1 c.into_pass.ensures.pass)),
+    )
 
 pub returns : goal.returns
 returns g c =
