@@ -110,3 +110,8 @@ module _ {X Y : Type 0} (Holds : X → Y → Type 0) where
 pub first_removed : {X : Type 0} → (all left : List X) (n : ℕ) (x : X) → left ≡ drop n all → 0 < length left → x ≡ get_or left 0 x →
     slice_get all n ≡ Some x
 first_removed all left n x e l is = sym (get_drop all n) ∙ ap (λ xs. slice_get xs 0) (sym e) ∙ slice_get_read left (length left) 0 x refl l is
+
+-- the item between two parts of a list
+pub get_seam : {X : Type 0} → (xs ys : List X) (x : X) → slice_get ((xs ++ x ∷ []) ++ ys) (length xs) ≡ Some x
+get_seam [] ys x = refl
+get_seam (z ∷ xs) ys x = get_seam xs ys x

@@ -2,3 +2,12 @@ pub mod RosterLaws
 pub mod ClosingLaws
 pub mod OutLaws
 pub mod ChangeLaws
+pub mod UntoldLaws
+pub mod ToldLaws
+pub mod ReturnLaws
+pub mod PlaceLaws
+pub mod StayLaws
+pub mod SuitLaws
+pub mod BareLaws
+pub mod SeatLaws
+pub mod CrewedLaws

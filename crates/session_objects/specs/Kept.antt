@@ -7,7 +7,6 @@ use Rattle.buffer_core.specs.declared.entry.BufferEntry.{BufferEntry}
 use Rattle.buffer_lock.specs.declared.locked.Locked.{Locked}
 use Rattle.buffer_lock.specs.SharedBuffers.{lock_of}
 use Rattle.transition_lock.specs.SharedEngines.{engine_lock_of}
-use Rattle.odb_tree.specs.Rows.{Rows}
 use Rattle.odb_lock.specs.declared.shared.SharedOdb.{SharedOdb}
 use Rattle.odb_lock.specs.SharedOdbs.{odb_lock_of}
 use Rattle.session_setup.specs.declared.declared.FrontDeclared.{FrontDeclared}
@@ -71,7 +70,7 @@ out_to_logger fronts buffers = record {
 }
 
 -- All passes of these objects are here but those with these numbers, and none of them made a call.
-pub record HasFreshBut (out : OutNumbers) (objects : SessionObjects) (shared : SharedOdb Rows) (passes : SessionPasses) : Type 0 where
+pub record HasFreshBut {D : Type 0} {g : _} (out : OutNumbers) (objects : SessionObjects) (shared : SharedOdb D) (passes : SessionPasses D g) : Type 0 where
   pub engine : KeepsFresh out.engine (engine_lock_of objects.engine) passes.engine
   pub many : length passes.buffers.items ≡ length objects.buffers.items
   pub buffers : (number : ℕ) → (buffer : SessionBuffer) → (roster : _) →

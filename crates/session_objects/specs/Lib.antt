@@ -3,3 +3,5 @@ pub mod Objects
 pub mod Kept
 pub mod Calls
 pub mod Records
+pub mod Members
+pub mod Names

@@ -1,12 +1,14 @@
 -- The objects of a session, as they open for what was declared.
-use Rattle.std.specs.Prelude.{◌≡◌, ℕ, ◌+◌, ◌<◌, true, List, slice_get, length, Some}
+use Rattle.std.specs.Prelude.{◌≡◌, ℕ, ◌+◌, ◌<◌, ◌≤◌, true, List, slice_get, length, Some}
 use Rattle.turn_lock.specs.Passes.{passes_of}
 use Rattle.buffer_lock.specs.SharedBuffers.{lock_of}
 use Rattle.transitions.specs.Engines.{engine_opening}
-use Rattle.odb_tree.specs.Rows.{Rows}
 use Rattle.odb_lock.specs.declared.shared.SharedOdb.{SharedOdb}
 use Rattle.odb_lock.specs.SharedOdbs.{odb_lock_of}
 use Rattle.transition_lock.specs.SharedEngines.{engine_lock_of, first_engine}
+use Rattle.mid_logger.specs.declared.channel_spec.ChannelSpec.{ChannelSpec}
+use Rattle.front_ends.specs.FrontIds.{IsFrontId}
+use Rattle.loggers.specs.NewLoggers.{HaveNumbers}
 use Rattle.session_setup.specs.declared.declared.BufferDeclared.{BufferDeclared}
 use Rattle.session_setup.specs.declared.declared.FrontDeclared.{FrontDeclared}
 use Rattle.session_setup.specs.declared.declared.DeclaredLists.{DeclaredLists}
@@ -41,10 +43,20 @@ pub record AreObjectsOf (lists : DeclaredLists) (objects : SessionObjects) : Typ
   pub callers : passes_of (engine_lock_of objects.engine) ≡ caller_count lists.fronts
 
 -- Each object has so many callers as a session with these front-ends needs, and each front-end has a buffer to send into.
-pub record HaveCallers (fronts : List FrontDeclared) (objects : SessionObjects) (shared : SharedOdb Rows) : Type 0 where
+pub record HaveCallers {D : Type 0} (fronts : List FrontDeclared) (objects : SessionObjects) (shared : SharedOdb D) : Type 0 where
   pub engine : passes_of (engine_lock_of objects.engine) ≡ caller_count fronts
   pub buffers : (number : ℕ) → (buffer : SessionBuffer) → slice_get objects.buffers.items number ≡ Some buffer →
       passes_of (lock_of buffer.shared) ≡ caller_count fronts
   pub database : length fronts < passes_of (odb_lock_of shared)
   pub sent_into : (client : ℕ) → (front : FrontDeclared) → slice_get fronts client ≡ Some front →
       front.buffer < length objects.buffers.items
+
+-- These members can be had for these objects.
+pub record SuitMembers {D : Type 0} (fronts : List FrontDeclared) (channels : List ChannelSpec) (objects : SessionObjects)
+    (shared : SharedOdb D) : Type 0 where
+  pub callers : HaveCallers fronts objects shared
+  pub few : length fronts ≤ 32
+  pub ids : (client : ℕ) → (front : FrontDeclared) → slice_get fronts client ≡ Some front → IsFrontId front.id
+  pub numbers : HaveNumbers channels
+  pub read : (place : ℕ) → (channel : ChannelSpec) → slice_get channels place ≡ Some channel →
+      channel.buffer < length objects.buffers.items

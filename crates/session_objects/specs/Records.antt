@@ -1,5 +1,5 @@
 -- What is kept of a session once its objects are closed.
-use Rattle.std.specs.Prelude.{◌≡◌, ℕ, ◌≤◌, List, [], slice_get, length, Some, All}
+use Rattle.std.specs.Prelude.{◌≡◌, ℕ, ◌≤◌, List, [], ◌∷◌, ◌++◌, slice_get, length, Some, Ok, All}
 use Rattle.turn_lock.specs.declared.lock.Turns.{Turns}
 use Rattle.turn_lock.specs.declared.roster.Passes.{Passes}
 use Rattle.turn_lock.specs.declared.lock.Pass.{Pass}
@@ -13,10 +13,16 @@ use Rattle.buffer_core.specs.Histories.{IsLegal, replay}
 use Rattle.buffer_core.specs.Delivered.{Delivers}
 use Rattle.buffer_core.specs.Runs.{KeepsRuns}
 use Rattle.buffer_lock.specs.SharedBuffers.{lock_of}
+use Rattle.transitions.specs.Engines.{engine_opening}
 use Rattle.transitions.specs.EngineHistories.{IsLegalEngine, engine_replay}
+use Rattle.transitions.specs.TurnOrder.{TurnsInOrder}
 use Rattle.transition_lock.specs.SharedEngines.{engine_lock_of, first_engine}
 use Rattle.odb_tree.specs.Rows.{Rows}
-use Rattle.odb_watch.specs.Steps.{LeadsDatabase}
+use Rattle.odb_tree.specs.declared.notes.Note.{Note}
+use Rattle.odb_watch.specs.declared.entry.WatchEntry.{WatchEntry}
+use Rattle.odb_watch.specs.declared.entry.WatchEntry.TheVariants.{Notes}
+use Rattle.odb_watch.specs.Steps.{LeadsDatabase, unwatched}
+use Rattle.odb_watch.specs.History.{AreDue, calls_made}
 use Rattle.odb_lock.specs.declared.shared.SharedOdb.{SharedOdb}
 use Rattle.odb_lock.specs.SharedOdbs.{odb_lock_of, first_database}
 use Rattle.session_setup.specs.declared.declared.FrontDeclared.{FrontDeclared}
@@ -43,8 +49,8 @@ pub record HoldsAllOf {M D E : Type 0} {g : _} (passes : List (Pass M D E g)) (c
 
 -- The passes of these objects are here but those with these numbers, and each tells of its caller what stands in these
 -- calls.
-pub record HasCallsBut (out : OutNumbers) (fronts : List FrontDeclared) (calls : SessionCalls) (objects : SessionObjects)
-    (shared : SharedOdb Rows) (passes : SessionPasses) : Type 0 where
+pub record HasCallsBut {D : Type 0} {g : _} (out : OutNumbers) (fronts : List FrontDeclared) (calls : SessionCalls) (objects : SessionObjects)
+    (shared : SharedOdb D) (passes : SessionPasses D g) : Type 0 where
   pub engine : KeepsPasses (told_of_engine calls) out.engine (engine_lock_of objects.engine) passes.engine
   pub many : length passes.buffers.items ≡ length objects.buffers.items
   pub buffers : (number : ℕ) → (buffer : SessionBuffer) → (roster : _) →
@@ -56,7 +62,7 @@ pub record HasCallsBut (out : OutNumbers) (fronts : List FrontDeclared) (calls :
 abbrev pub none_out : OutNumbers
 none_out = record { engine = []; buffers = λ number. []; database = [] }
 
-abbrev pub HasCalls : List FrontDeclared → SessionCalls → SessionObjects → SharedOdb Rows → SessionPasses → Type 0
+abbrev pub HasCalls : {D : Type 0} {g : _} → List FrontDeclared → SessionCalls → SessionObjects → SharedOdb D → SessionPasses D g → Type 0
 HasCalls fronts calls objects shared passes = HasCallsBut none_out fronts calls objects shared passes
 
 -- The record of a buffer: its history is legal from the buffer as it opened, and led to what the buffer was left as; each
@@ -69,20 +75,29 @@ pub record IsRecordOf (buffer : SessionBuffer) (r : BufferRecord) : Type 0 where
   pub delivers : Delivers r.size (history_of r.closed)
   pub runs : KeepsRuns (history_of r.closed)
 
+-- each answer of a call for a watch's notes tells the changes that are due, where the database had these rows and no watch
+-- at first
+abbrev pub TellsNotes : Rows → List (ℕ × WatchEntry) → Type 0
+TellsNotes rows history = (before more : List (ℕ × WatchEntry)) → (caller watch lost : ℕ) → (notes : List Note) →
+    history ≡ before ++ (caller, Notes watch (Ok (notes, lost))) ∷ more → AreDue rows (calls_made before) watch notes lost
+
 -- The record of a session: the histories of its buffers, of its engine and of its database, each legal from the object as
--- it was shared.
-pub record HoldsHistories (objects : SessionObjects) (shared : SharedOdb Rows) (r : SessionRecord) : Type 0 where
+-- it was shared. Where the engine was new, each client's turns follow its transitions; and where the database had no watch,
+-- each watch was told the changes that it was due.
+pub record HoldsHistories {D : Type 0} {g : _} (objects : SessionObjects) (shared : SharedOdb D) (r : SessionRecord D g) : Type 0 where
   pub many : length r.buffers ≡ length objects.buffers.items
   pub buffers : (number : ℕ) → (buffer : SessionBuffer) → (closed : BufferRecord) →
       slice_get objects.buffers.items number ≡ Some buffer → slice_get r.buffers number ≡ Some closed →
       IsRecordOf buffer closed
   pub engine : IsLegalEngine (first_engine objects.engine) (history_of r.engine)
   pub engine_left : r.engine.value.engine ≡ engine_replay (first_engine objects.engine) (history_of r.engine)
+  pub follows : first_engine objects.engine ≡ engine_opening → TurnsInOrder (history_of r.engine)
   pub database : LeadsDatabase (first_database shared) (history_of r.database) r.database.value.database
+  pub notes : (rows : Rows) → first_database shared ≡ unwatched rows → TellsNotes rows (history_of r.database)
 
 -- Each history of the record holds the calls of its callers, and no others.
-pub record HoldsCalls (fronts : List FrontDeclared) (calls : SessionCalls) (objects : SessionObjects)
-    (shared : SharedOdb Rows) (r : SessionRecord) : Type 0 where
+pub record HoldsCalls {D : Type 0} {g : _} (fronts : List FrontDeclared) (calls : SessionCalls) (objects : SessionObjects)
+    (shared : SharedOdb D) (r : SessionRecord D g) : Type 0 where
   pub engine : HoldsParts (told_of_engine calls) (passes_of (engine_lock_of objects.engine)) (history_of r.engine)
   pub buffers : (number : ℕ) → (buffer : SessionBuffer) → (closed : BufferRecord) →
       slice_get objects.buffers.items number ≡ Some buffer → slice_get r.buffers number ≡ Some closed →

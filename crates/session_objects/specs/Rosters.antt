@@ -1,5 +1,6 @@
 -- The passes of one lock, of which some are with those that call by them.
 use Rattle.std.specs.Prelude.{◌≡◌, ◌≢◌, ℕ, ◌+◌, ◌<◌, ◌++◌, ◌∷◌, [], List, slice_get, length, Contains, Some, None}
+use Rattle.daq_types.specs.Callers.{main_caller}
 use Rattle.turn_lock.specs.declared.lock.Turns.{Turns}
 use Rattle.turn_lock.specs.declared.lock.Pass.{Pass}
 use Rattle.turn_lock.specs.declared.roster.Passes.{Passes}
@@ -49,3 +50,9 @@ pub record ChangesAt {X : Type 0} (Change : X → X → Type 0) (number : ℕ) (
   pub many : length after ≡ length before
   pub there : (x : X) → slice_get before number ≡ Some x → (y : X) × (slice_get after number ≡ Some y) × Change x y
   pub others : (other : ℕ) → other ≢ number → slice_get after other ≡ slice_get before other
+
+-- The pass is the main thread's, of this lock, and does not hold the turn.
+pub record IsMainPass {M D E : Type 0} {g : _} (lock : Turns M D E) (pass : Pass M D E g) : Type 0 where
+  pub is : number_of pass ≡ main_caller
+  pub own : IsOf lock pass
+  pub idle : held_by pass ≡ None

@@ -18,10 +18,12 @@ use crate::objects::{SessionBuffer, SessionObjects};
 use crate::passes::SessionPasses;
 use crate::record::{BufferRecord, BufferRecords, RunRecords, SessionRecord};
 use buffer_lock::BufferPasses;
-use odb_arena::ArenaTree;
 use odb_lock::{OdbClosed, OdbPasses, SharedOdb};
+use odb_tree::Database;
+use odb_watch::laws::notes_are_due;
 use ring_buffer::RingBuffer;
 use transition_lock::{EngineClosed, EnginePasses, SharedEngine};
+use transitions::laws::follows;
 
 /// Closes a buffer, whose passes are all here.
 fn close_buffer(buffer: SessionBuffer, passes: BufferPasses<RingBuffer>) -> BufferRecord
@@ -53,10 +55,7 @@ fn close_engine(engine: SharedEngine, passes: EnginePasses) -> EngineClosed
 }
 
 /// Closes the database, whose passes are all here.
-fn close_database(
-    database: SharedOdb<ArenaTree>,
-    passes: OdbPasses<ArenaTree>,
-) -> OdbClosed<ArenaTree>
+fn close_database<D: Database>(database: SharedOdb<D>, passes: OdbPasses<D>) -> OdbClosed<D>
     requires { AreAllPasses (odb_lock_of database) passes }
     ensures leads { LeadsDatabase (first_database database) (history_of result)
         result.value.database }
@@ -103,18 +102,20 @@ fn close_buffers(
 
 impl SessionObjects {
     /// Ends the session, once the passes of all its objects are back: what is kept of it. No pass is missing. Takes no memory.
-    pub fn close(
+    pub fn close<D: Database>(
         self,
-        database: SharedOdb<ArenaTree>,
-        passes: SessionPasses,
+        database: SharedOdb<D>,
+        passes: SessionPasses<D>,
         runs: RunRecords,
-    ) -> SessionRecord
+    ) -> SessionRecord<D>
         requires { (fronts : List Fronts) × (calls : SessionCalls) × HasCalls fronts calls self database passes }
         ensures histories { HoldsHistories self database result }
         ensures calls { (fronts : List Fronts) → (calls : SessionCalls) →
             HasCalls fronts calls self database passes → HoldsCalls fronts calls self database result }
         ensures runs { result.runs ≡ runs }
     {
+        follows();
+        notes_are_due();
         let SessionObjects {
             buffers,
             engine,

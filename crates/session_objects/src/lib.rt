@@ -3,12 +3,21 @@
 #![tactic(auto)]
 
 mod closing;
+pub mod laws;
+mod members;
+mod names;
 mod objects;
 mod opening;
 mod passes;
 mod record;
+mod returning;
+mod seats;
 
+pub use members::Unmanned;
+pub use names::member_names;
 pub use objects::{SessionBuffer, SessionObjects};
 pub use opening::OpenedObjects;
 pub use passes::{SessionPasses, take_main};
 pub use record::{BufferRecord, BufferRecords, RunRecords, SessionRecord};
+pub use returning::Returned;
+pub use seats::{SessionCrew, SessionFront, SessionLogger, SessionParts};

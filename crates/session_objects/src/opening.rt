@@ -5,7 +5,6 @@ ghost use Rattle.turn_lock.specs.Passes.{number_of, IsOf};
 ghost use Rattle.turn_lock.specs.Roster.{IsFresh};
 ghost use Rattle.buffer_lock.specs.SharedBuffers.{lock_of};
 ghost use Rattle.transition_lock.specs.SharedEngines.{engine_lock_of};
-ghost use Rattle.odb_tree.specs.Rows.{Rows};
 ghost use Rattle.odb_lock.specs.declared.shared.SharedOdb.{SharedOdb as DatabaseShared};
 ghost use Rattle.odb_lock.specs.SharedOdbs.{odb_lock_of};
 ghost use Rattle.session_setup.specs.Setup.{is_buffer_size, AreSound};
@@ -17,24 +16,29 @@ use crate::objects::{SessionBuffer, SessionObjects};
 use crate::passes::{SessionPasses, take_main};
 use buffer_lock::{BufferPasses, SharedBuffer};
 use daq_types::{BoundedList, NoMemory};
-use odb_arena::ArenaTree;
-use odb_lock::OdbPasses;
+use odb_lock::{LockedDatabase, OdbPasses, WatchedSeen};
+use odb_tree::Database;
+use odb_watch::WatchEntry;
 use ring_buffer::RingBuffer;
 use ring_bytes::Ring;
 use session_setup::{BufferDeclared, DeclaredLists};
 use std::alloc::Global;
 use transition_lock::{EnginePass, SharedEngine};
 use transitions::Engine;
+use turn_lock::Machine;
 
 /// How many callers an object has besides the front-ends: the main thread and the logger.
 const OTHER_CALLERS: u32 = 2;
 
 /// The objects of a session, as they open.
 #[derive(Drop)]
-pub struct OpenedObjects {
+pub struct OpenedObjects<D: Database>
+where
+    LockedDatabase<D>: Machine<State = WatchedSeen, Entry = WatchEntry>,
+{
     pub objects: SessionObjects,
     /// All passes of the objects but the main thread's.
-    pub passes: SessionPasses,
+    pub passes: SessionPasses<D>,
     /// The main thread's pass of the engine.
     pub main: EnginePass,
 }
@@ -99,14 +103,14 @@ impl SessionObjects {
     /// The objects of a session of these declarations, which its main thread, its front-ends and its logger call. All memory
     /// that they need is taken here. The passes of the database, of which the main thread has its own, are kept with the
     /// others.
-    pub fn open(
+    pub fn open<D: Database>(
         alloc: Global,
         lists: &DeclaredLists,
-        database: OdbPasses<ArenaTree>,
-    ) -> Result<OpenedObjects, NoMemory>
+        database: OdbPasses<D>,
+    ) -> Result<OpenedObjects<D>, NoMemory>
         requires { AreSound (declared_by lists.now) }
         ensures objects { IfOk result (λ opened. AreObjectsOf lists.now opened.objects) }
-        ensures passes { IfOk result (λ opened. (shared : DatabaseShared Rows) →
+        ensures passes { IfOk result (λ opened. (shared : DatabaseShared D) →
             KeepsFresh (main_caller ∷ []) (odb_lock_of shared) database →
             HasFreshBut (out_to_fronts lists.now.fronts 0) opened.objects shared opened.passes) }
 

@@ -6,8 +6,9 @@ ghost use Rattle.turn_lock.specs.Roster.{items_of, numbers_of, numbers_below, ro
 ghost use Rattle.session_objects.specs.Rosters.{KeepsFresh, TakesFresh, PutsBack, ChangesAt};
 
 use buffer_lock::{BufferPass, BufferPasses};
-use odb_arena::ArenaTree;
-use odb_lock::{OdbPass, OdbPasses};
+use odb_lock::{LockedDatabase, OdbPass, OdbPasses, WatchedSeen};
+use odb_tree::Database;
+use odb_watch::WatchEntry;
 use ring_buffer::RingBuffer;
 use transition_lock::{EnginePass, EnginePasses};
 use turn_lock::{Machine, Pass, Passes};
@@ -18,11 +19,14 @@ const MAIN: u32 = 0;
 /// The passes of a session's objects that are not with those that call by them. The main thread keeps them, and gets the
 /// others back as the session ends.
 #[derive(Drop)]
-pub struct SessionPasses {
+pub struct SessionPasses<D: Database>
+where
+    LockedDatabase<D>: Machine<State = WatchedSeen, Entry = WatchEntry>,
+{
     /// The passes of each buffer, at the buffer's number.
     pub buffers: Vec<BufferPasses<RingBuffer>>,
     pub engine: EnginePasses,
-    pub database: OdbPasses<ArenaTree>,
+    pub database: OdbPasses<D>,
 }
 
 /// The pass of the main thread, taken out of those with which a lock was made.
@@ -54,7 +58,7 @@ fn put_back<M: Machine>(passes: &mut Passes<M>, pass: Pass<M>)
     passes.push(pass);
 }
 
-impl SessionPasses {
+impl<D: Database> SessionPasses<D> {
     /// Takes the pass of this caller out of those of this buffer.
     pub(crate) fn take_of_buffer(&mut self, buffer: usize, caller: u32) -> BufferPass<RingBuffer>
         requires within { buffer < length self.old.buffers.items }
@@ -92,7 +96,7 @@ impl SessionPasses {
     }
 
     /// Puts a pass back to those of the database.
-    pub(crate) fn put_to_database(&mut self, pass: OdbPass<ArenaTree>)
+    pub(crate) fn put_to_database(&mut self, pass: OdbPass<D>)
         requires { length (items_of self.old.database) < room_of self.old.database }
         ensures put { PutsBack self.old.database pass self.new.database }
         ensures buffers { self.new.buffers ≡ self.old.buffers }

@@ -1,11 +1,13 @@
 // What is kept of a session once it has ended.
 use buffer_lock::BufferClosed;
 use daq_types::{BoundedList, Name};
-use odb_arena::ArenaTree;
-use odb_lock::OdbClosed;
+use odb_lock::{LockedDatabase, OdbClosed, WatchedSeen};
+use odb_tree::Database;
+use odb_watch::WatchEntry;
 use ring_buffer::RingBuffer;
 use run_records::RunRecord;
 use transition_lock::EngineClosed;
+use turn_lock::Machine;
 
 /// What is kept of a buffer of a session: its name, its size in bytes, and its closed history.
 #[derive(Drop)]
@@ -23,9 +25,12 @@ pub type RunRecords = BoundedList<RunRecord, 0>;
 
 /// What is kept of a session once it has ended.
 #[derive(Drop)]
-pub struct SessionRecord {
+pub struct SessionRecord<D: Database>
+where
+    LockedDatabase<D>: Machine<State = WatchedSeen, Entry = WatchEntry>,
+{
     pub buffers: BufferRecords,
-    pub database: OdbClosed<ArenaTree>,
+    pub database: OdbClosed<D>,
     pub engine: EngineClosed,
     pub runs: RunRecords,
 }

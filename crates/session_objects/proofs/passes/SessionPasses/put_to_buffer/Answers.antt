@@ -7,7 +7,7 @@ use Rattle.session_objects.proofs.ChangeLaws.{sets_one, some_same}
 use Rattle.session_objects.proofs.passes.SessionPasses.put_to_buffer.Goals as goal
 
 pub returns-clause-put : goal.returns-clause-put
-returns-clause-put c =
+returns-clause-put g c =
     let xs = c.args.self.now.buffers.items in
     let roster = c.index_mut.result.now in
     let at : slice_get xs c.args.buffer ≡ Some roster = slice_get_read xs (length xs) c.args.buffer roster refl c.requires.within c.index_mut.ensures.value in

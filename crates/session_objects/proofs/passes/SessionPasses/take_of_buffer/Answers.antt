@@ -7,13 +7,13 @@ use Rattle.session_objects.proofs.ChangeLaws.{sets_one, some_same}
 use Rattle.session_objects.proofs.passes.SessionPasses.take_of_buffer.Goals as goal
 
 pub take_fresh-requires : goal.take_fresh-requires
-take_fresh-requires c =
+take_fresh-requires g c =
     let xs = c.args.self.now.buffers.items in
     let roster = c.index_mut.result.now in
     c.requires.there roster (slice_get_read xs (length xs) c.args.buffer roster refl c.requires.within c.index_mut.ensures.value)
 
 pub returns-clause-taken : goal.returns-clause-taken
-returns-clause-taken c =
+returns-clause-taken g c =
     let xs = c.args.self.now.buffers.items in
     let roster = c.index_mut.result.now in
     let at : slice_get xs c.args.buffer ≡ Some roster = slice_get_read xs (length xs) c.args.buffer roster refl c.requires.within c.index_mut.ensures.value in

@@ -1,0 +1,112 @@
+-- The members of a session as their crew is made.
+use Rattle.std.proofs.Common.{◌≡◌, ◌∙◌, ℕ, zero, suc, ◌<◌, ◌≤◌, ◌+◌, Bool, false, List, [], ◌∷◌, length, get_or, map, ap, sym, refl, subst, arith}
+use Rattle.std.specs.Prelude.{slice_get, Option, Some, None, IfSome}
+use Rattle.std.proofs.lemmas.Option.{slice_get_within}
+use Rattle.daq_types.specs.Callers.{caller_of_client}
+use Rattle.daq_io.specs.Seen.{Seen}
+use Rattle.daq_model.specs.Events.{record_limit}
+use Rattle.buffer_core.specs.Ports.{Access}
+use Rattle.turn_lock.specs.Passes.{own_entries}
+use Rattle.transitions.specs.declared.entry.EngineEntry.{EngineEntry}
+use Rattle.member_model.specs.Turns.{MemberTurn}
+use Rattle.member_model.specs.TurnCalls.{member_turns}
+use Rattle.odb_lock.specs.declared.shared.SharedOdb.{SharedOdb}
+use Rattle.mid_logger.specs.declared.channel.Channel.{Channel}
+use Rattle.mid_logger.specs.declared.channel_spec.ChannelSpec.{ChannelSpec}
+use Rattle.loggers.specs.declared.logged_run.LoggedRun.{LoggedRun}
+use Rattle.loggers.specs.Moments.{RunFiles, IsLoggerReady}
+use Rattle.loggers.specs.SlotPulls.{HasEventRoom}
+use Rattle.loggers.specs.LoggerStands.{LoggerStands}
+use Rattle.loggers.specs.Reasons.{GivesReasons}
+use Rattle.loggers.specs.NewLoggers.{HasNewChannels}
+use Rattle.loggers.specs.LoggerFaults.{HasFailed}
+use Rattle.frontend_kit.specs.declared.generator.Generator.{Generator}
+use Rattle.session_setup.specs.declared.declared.FrontDeclared.{FrontDeclared}
+use Rattle.daq_members.specs.declared.logger_member.LoggerMember.{LoggerMember}
+use Rattle.daq_members.specs.FrontSeats.{FrontSeen}
+use Rattle.daq_members.specs.LoggerSeats.{LoggerSeen}
+use Rattle.daq_members.specs.LoggerTaken.{HaveCaller}
+use Rattle.daq_members.specs.Crews.{CrewSeen, crew_seen, AreMembers}
+use Rattle.session_objects.specs.declared.objects.SessionBuffer.{SessionBuffer}
+use Rattle.session_objects.specs.declared.objects.SessionObjects.{SessionObjects}
+use Rattle.session_objects.specs.Members.{new_front, new_ports, event_rooms, IsNewFront, IsNewLogger, AreBareMembers, AreNewMembers}
+use Rattle.session_objects.proofs.BareLaws.{new_port_callers}
+use Rattle.session_objects.proofs.ChangeLaws.{there_below}
+
+module _ {D : Type 0} (fronts : List FrontDeclared) (channels : List ChannelSpec) (objects : SessionObjects) (shared : SharedOdb D)
+    (seats : List (FrontSeen Generator)) (member : LoggerMember) (accesses : List Access)
+    (bare : AreBareMembers fronts channels objects shared seats member accesses) where
+  -- it made no call, so it had no turn
+  no_turns : member_turns member.seat.client (own_entries member.seat.pass) ≡ []
+  no_turns = ap (λ (es : List EngineEntry). member_turns member.seat.client es) bare.calls
+
+  -- The logger is ready for its seat, whatever its run files are.
+  pub stands_bare : (seen : Seen) → LoggerStands member.logger.run member.logger.stop_dump member.logger.channels accesses
+      (member_turns member.seat.client (own_entries member.seat.pass)) seen
+  stands_bare seen =
+      let A : List Access → Type 0 = λ ps. LoggerStands member.logger.run member.logger.stop_dump member.logger.channels ps (member_turns member.seat.client (own_entries member.seat.pass)) seen in
+      let B : List MemberTurn → Type 0 = λ ts. LoggerStands member.logger.run member.logger.stop_dump member.logger.channels (new_ports objects.buffers.items (caller_of_client (length fronts))) ts seen in
+      let C : Option LoggedRun → Type 0 = λ run. LoggerStands run member.logger.stop_dump member.logger.channels (new_ports objects.buffers.items (caller_of_client (length fronts))) [] seen in
+      let D' : Option (List ℕ) → Type 0 = λ dump. LoggerStands None dump member.logger.channels (new_ports objects.buffers.items (caller_of_client (length fronts))) [] seen in
+      subst A (sym bare.ports) (subst B (sym no_turns) (subst C (sym bare.made.run) (subst D' (sym bare.made.stop_dump) (bare.made.stands (caller_of_client (length fronts)) seen))))
+
+  pub caller_bare : HaveCaller (caller_of_client member.seat.client) accesses
+  caller_bare buffer a at =
+      new_port_callers objects.buffers.items (caller_of_client (length fronts)) buffer a (ap (λ (ps : List Access). slice_get ps buffer) (sym bare.ports) ∙ at)
+      ∙ ap caller_of_client (sym bare.is)
+
+  pub ready_bare : (seen : Seen) → IsLoggerReady member.logger.channels accesses seen
+  ready_bare seen = let P : List Access → Type 0 = λ ps. IsLoggerReady member.logger.channels ps seen in
+      subst P (sym bare.ports) (bare.made.ready (caller_of_client (length fronts)) seen)
+
+  pub room_bare : (number : ℕ) → HasEventRoom number member.logger.channels accesses
+  room_bare number = let P : List Access → Type 0 = λ ps. HasEventRoom number member.logger.channels ps in
+      subst P (sym bare.ports) (bare.made.room (caller_of_client (length fronts)) number)
+
+  pub small_bare : IfSome member.logger.stop_dump (λ bytes. length bytes ≤ record_limit)
+  small_bare = let P : Option (List ℕ) → Type 0 = λ dump. IfSome dump (λ bytes. length bytes ≤ record_limit) in subst P (sym bare.made.stop_dump) tt
+
+  pub reasons_bare : (told : RunFiles) → GivesReasons member.logger.channels told told (member_turns member.seat.client (own_entries member.seat.pass))
+  reasons_bare told = let P : List MemberTurn → Type 0 = λ ts. GivesReasons member.logger.channels told told ts in subst P (sym no_turns) (bare.made.reasons told)
+
+  front_at : (number : ℕ) (front : FrontSeen Generator) → slice_get seats number ≡ Some front → (d : FrontDeclared) × IsNewFront objects shared number d front
+  front_at number front at =
+      let l : number < length seats = slice_get_within seats number front at in
+      let many : length seats ≡ length fronts = bare.many in
+      let d = there_below fronts number (omega arith) in (d.0, bare.each number d.0 front d.1 at)
+
+  -- And with it the members are a crew.
+  pub members_bare : {F : Type 0} (logger : LoggerSeen F) → length fronts ≤ 32 → logger.engine ≡ member.seat.engine.now → logger.client ≡ member.seat.client → AreMembers seats logger
+  members_bare logger few engine client =
+      let many : length seats ≡ length fronts = bare.many in record {
+        few = omega arith;
+        numbers = λ number front at. (let f = front_at number front at in ap (λ (z : FrontSeen Generator). z.client) f.1.is);
+        logger_number = client ∙ bare.is ∙ sym many;
+        engine = λ number front at. (let f = front_at number front at in ap (λ (z : FrontSeen Generator). z.engine) f.1.is ∙ sym (engine ∙ bare.engine));
+      }
+
+  pub logger_bare : {F : Type 0} (files : F) (logger : LoggerSeen F) → logger.engine ≡ member.seat.engine.now → logger.client ≡ member.seat.client →
+      logger.run ≡ member.logger.run → logger.stop_dump ≡ member.logger.stop_dump → logger.calls ≡ own_entries member.seat.pass →
+      logger.slots ≡ member.logger.channels → logger.ports ≡ accesses → logger.files ≡ files → logger.first ≡ files →
+      IsNewLogger objects (length fronts) channels files logger
+  logger_bare files logger engine client run dump calls slots ports has had =
+      let P : List (Option Channel) → Type 0 = λ cs. HasNewChannels channels (event_rooms objects.buffers.items channels) cs in
+      let Q : List (Option Channel) → Type 0 = λ cs. HasFailed cs → ⊥ in record {
+        engine = engine ∙ bare.engine;
+        is = client ∙ bare.is;
+        run = run ∙ bare.made.run;
+        stop_dump = dump ∙ bare.made.stop_dump;
+        calls = calls ∙ bare.calls;
+        slots = subst P (sym slots) bare.made.slots;
+        failed = subst Q (sym slots) bare.made.failed;
+        ports = ports ∙ bare.ports;
+        has_files = has;
+        had_files = had;
+      }
+
+  -- So are the members of the crew that is made of them.
+  pub crewed : {F K : Type 0} (files : F) (pick : K) (logger : LoggerSeen F) (crew : CrewSeen Generator F K) → crew ≡ crew_seen seats logger pick →
+      IsNewLogger objects (length fronts) channels files logger → AreNewMembers fronts channels objects shared files pick crew
+  crewed files pick logger crew is new =
+      let P : CrewSeen Generator _ _ → Type 0 = λ c. AreNewMembers fronts channels objects shared files pick c in
+      subst P (sym is) (record { many = bare.many; each = bare.each; logger = new; has_pick = refl })

@@ -1,0 +1,48 @@
+-- A front-end as it takes its seat.
+use Rattle.std.proofs.Common.{◌≡◌, ◌∙◌, ℕ, ◌≤◌, List, [], ap, sym, refl, subst, arith}
+use Rattle.std.specs.Prelude.{Option, Some, None, IsTrue}
+use Rattle.std.proofs.lemmas.Grind.{common_steps}
+use Rattle.buffer_core.specs.declared.entry.BufferEntry.{BufferEntry}
+use Rattle.buffer_core.specs.Ports.{Access}
+use Rattle.odb_watch.specs.declared.entry.WatchEntry.{WatchEntry}
+use Rattle.odb_port.specs.DatabasePorts.{DatabaseAccess}
+use Rattle.transitions.specs.declared.entry.EngineEntry.{EngineEntry}
+use Rattle.transition_lock.specs.declared.shared.SharedEngine.{SharedEngine}
+use Rattle.front_ends.specs.declared.front_run.FrontRun.{FrontRun}
+use Rattle.front_ends.specs.Fronts.{FrontState}
+use Rattle.frontend_kit.specs.declared.generator.Generator.{Generator}
+use Rattle.daq_members.specs.FrontSeats.{FrontSeen}
+use Rattle.daq_members.specs.FrontTaken.{FrontMemberStands}
+use Rattle.session_setup.specs.Setup.{is_buffer_size}
+use Rattle.session_objects.specs.Members.{generator_takes, generator_makes}
+
+-- what is seen of a front-end is told by its parts
+pub seen_same : (f g : FrontSeen Generator) → f.engine ≡ g.engine → f.client ≡ g.client → f.name ≡ g.name → f.equipment ≡ g.equipment →
+    f.run ≡ g.run → f.calls ≡ g.calls → f.port ≡ g.port → f.database ≡ g.database → f ≡ g
+seen_same f g engine client name equipment run calls port database = λ j. record {
+  engine = engine j;
+  client = client j;
+  name = name j;
+  equipment = equipment j;
+  run = run j;
+  calls = calls j;
+  port = port j;
+  database = database j;
+}
+
+-- a front-end that made no call stands for its contract, however its parts are called
+pub stands_yet : (client later : ℕ) (name : List ℕ) (equipment : Generator) (front : FrontState Generator) (calls : List EngineEntry) (own : List BufferEntry)
+    (sets : List WatchEntry) → later ≡ client → front ≡ record { equipment = equipment; run = None } → calls ≡ [] → own ≡ [] → sets ≡ [] →
+    FrontMemberStands client name (generator_takes equipment) (generator_makes equipment) None [] [] [] →
+    FrontMemberStands later name (generator_takes front.equipment) (generator_makes front.equipment) front.run calls own sets
+stands_yet client later name equipment front calls own sets same is none_called none_own none_set stands =
+    let A : ℕ → Type 0 = λ n. FrontMemberStands n name (generator_takes front.equipment) (generator_makes front.equipment) front.run calls own sets in
+    let B : FrontState Generator → Type 0 = λ f. FrontMemberStands client name (generator_takes f.equipment) (generator_makes f.equipment) f.run calls own sets in
+    let C : List EngineEntry → Type 0 = λ cs. FrontMemberStands client name (generator_takes equipment) (generator_makes equipment) None cs own sets in
+    let D : List BufferEntry → Type 0 = λ bs. FrontMemberStands client name (generator_takes equipment) (generator_makes equipment) None [] bs sets in
+    let E : List WatchEntry → Type 0 = λ ws. FrontMemberStands client name (generator_takes equipment) (generator_makes equipment) None [] [] ws in
+    subst A (sym same) (subst B (sym is) (subst C (sym none_called) (subst D (sym none_own) (subst E (sym none_set) stands))))
+
+-- an event of a generator fits into each buffer
+pub wide_enough : (size : ℕ) → IsTrue (is_buffer_size size) → 104 ≤ size
+wide_enough size sound = let l : 256 ≤ size = grind (arith, common_steps, sound) in omega arith

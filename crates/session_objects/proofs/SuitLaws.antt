@@ -1,0 +1,82 @@
+-- Sound declarations give members that can be had.
+use Rattle.std.proofs.Common.{◌≡◌, ◌≢◌, ℕ, zero, suc, ◌+◌, ◌<◌, ◌≤◌, Bool, true, false, List, [], ◌∷◌, length, map, sym, ap, ◌∙◌, refl, subst, arith, eq-eqb}
+use Rattle.std.specs.Prelude.{All, Contains, IsTrue, nat_eq, slice_get, Some, None}
+use Rattle.std.specs.List.{IsDistinct, AllByRecursion}
+use Rattle.std.proofs.lemmas.List.Elements.{All-contains}
+use Rattle.std.proofs.lemmas.Map.Keys.{IsDistinct-head, IsDistinct-tail}
+use Rattle.std.proofs.lemmas.Option.{slice_get_within, get_or_from_slice_get}
+use Rattle.std.proofs.lemmas.Grind.{common_steps}
+use Rattle.turn_lock.specs.Passes.{passes_of}
+use Rattle.buffer_lock.specs.SharedBuffers.{lock_of}
+use Rattle.odb_lock.specs.declared.shared.SharedOdb.{SharedOdb}
+use Rattle.odb_lock.specs.SharedOdbs.{odb_lock_of}
+use Rattle.mid_logger.specs.declared.channel_spec.ChannelSpec.{ChannelSpec}
+use Rattle.front_ends.specs.FrontIds.{IsFrontId}
+use Rattle.loggers.specs.NewLoggers.{HaveNumbers}
+use Rattle.session_setup.specs.declared.declared.BufferDeclared.{BufferDeclared}
+use Rattle.session_setup.specs.declared.declared.FrontDeclared.{FrontDeclared}
+use Rattle.session_setup.specs.declared.declared.DeclaredLists.{DeclaredLists}
+use Rattle.session_setup.specs.Setup.{AreSound, is_front_id}
+use Rattle.session_objects.specs.declared.objects.SessionBuffer.{SessionBuffer}
+use Rattle.session_objects.specs.declared.objects.SessionObjects.{SessionObjects}
+use Rattle.session_objects.specs.Objects.{declared_by, caller_count, AreObjectsOf, HaveCallers, SuitMembers}
+use Rattle.session_objects.proofs.ChangeLaws.{some_same, there_below}
+
+-- what holds of all holds of the one at a place
+at_place : {X : Type 0} (P : X → Type 0) (xs : List X) (i : ℕ) (x : X) → All P xs → slice_get xs i ≡ Some x → P x
+at_place P xs i x all at = All-contains P xs x all (i, slice_get_within xs i x at, get_or_from_slice_get xs i x x at)
+
+apart_from : (k : ℕ) (xs : List ChannelSpec) (j : ℕ) (t : ChannelSpec) → AllByRecursion (λ y. nat_eq k y ≡ false) (map (λ (s : ChannelSpec). s.number) xs) →
+    slice_get xs j ≡ Some t → k ≢ t.number
+apart_from k [] j t all at = absurd (cc)
+apart_from k (x ∷ xs) zero t all at = λ e.
+    let same : x ≡ t = some_same x t at in
+    let yes : nat_eq k x.number ≡ true = eq-eqb k x.number (e ∙ sym (ap (λ (s : ChannelSpec). s.number) same)) in
+    let no : nat_eq k x.number ≡ false = all.0 in absurd (let f : true ≡ false = sym yes ∙ no in cc)
+apart_from k (x ∷ xs) (suc j) t all at = apart_from k xs j t all.1 at
+
+apart : (xs : List ChannelSpec) (i j : ℕ) (s t : ChannelSpec) → IsDistinct nat_eq (map (λ (c : ChannelSpec). c.number) xs) → slice_get xs i ≡ Some s →
+    slice_get xs j ≡ Some t → i ≢ j → s.number ≢ t.number
+apart [] i j s t d at there ne = absurd (cc)
+apart (x ∷ xs) zero zero s t d at there ne = absurd (ne refl)
+apart (x ∷ xs) zero (suc j) s t d at there ne = λ e. apart_from x.number xs j t
+    (IsDistinct-head nat_eq x.number (map (λ (c : ChannelSpec). c.number) xs) d) there (ap (λ (c : ChannelSpec). c.number) (some_same x s at) ∙ e)
+apart (x ∷ xs) (suc i) zero s t d at there ne = λ e. apart_from x.number xs i s
+    (IsDistinct-head nat_eq x.number (map (λ (c : ChannelSpec). c.number) xs) d) at (ap (λ (c : ChannelSpec). c.number) (some_same x t there) ∙ sym e)
+apart (x ∷ xs) (suc i) (suc j) s t d at there ne = apart xs i j s t
+    (IsDistinct-tail nat_eq x.number (map (λ (c : ChannelSpec). c.number) xs) d) at there (λ e. ne (ap suc e))
+
+is_id : (id : ℕ) → IsTrue (is_front_id id) → IsFrontId id
+is_id id h = record { least = grind (arith, common_steps, h); most = grind (arith, common_steps, h) }
+
+pub suits : {D : Type 0} (lists : DeclaredLists) (objects : SessionObjects) (shared : SharedOdb D) → AreSound (declared_by lists) → AreObjectsOf lists objects →
+    length lists.fronts < passes_of (odb_lock_of shared) → SuitMembers lists.fronts lists.channels objects shared
+suits lists objects shared sound o below =
+    let many : length objects.buffers.items ≡ length lists.buffers = o.buffers.many in record {
+      callers = record {
+        engine = o.callers;
+        buffers = λ number buffer at. count number buffer at;
+        database = below;
+        sent_into = λ client front at.
+            let P : FrontDeclared → Type 0 = λ f. f.buffer < length lists.buffers in
+            let l : front.buffer < length lists.buffers = at_place P lists.fronts client front sound.front_buffers at in omega arith;
+      };
+      few = sound.few_fronts;
+      ids = λ client front at. is_id front.id
+          (let P : FrontDeclared → Type 0 = λ f. IsTrue (is_front_id f.id) in at_place P lists.fronts client front sound.front_ids at);
+      numbers = record {
+        below = λ i s at. (let P : ChannelSpec → Type 0 = λ c. c.number < 16 in at_place P lists.channels i s sound.channel_numbers at);
+        differ = λ i j s t at there ne. apart lists.channels i j s t sound.numbers_differ at there ne;
+      };
+      read = λ place channel at.
+          let P : ChannelSpec → Type 0 = λ c. c.buffer < length lists.buffers in
+          let l : channel.buffer < length lists.buffers = at_place P lists.channels place channel sound.channel_buffers at in omega arith;
+    }
+  where
+    count : (number : ℕ) (buffer : SessionBuffer) → slice_get objects.buffers.items number ≡ Some buffer →
+        passes_of (lock_of buffer.shared) ≡ caller_count lists.fronts
+    count number buffer at =
+        let l : number < length objects.buffers.items = slice_get_within objects.buffers.items number buffer at in
+        let many : length objects.buffers.items ≡ length lists.buffers = o.buffers.many in
+        let d = there_below lists.buffers number (omega arith) in
+        (o.buffers.each number d.0 buffer d.1 at).callers

@@ -1,0 +1,116 @@
+use Rattle.std.proofs.Common.{rules, ◌≡◌, ◌∙◌, ◌<◌, ◌+◌, ℕ, List, length, ap, sym, refl, subst, arith, get_or}
+use Rattle.std.specs.Prelude.{slice_get, Some, Contains}
+use Rattle.std.proofs.lemmas.Option.{slice_get-get_or, slice_get_read}
+use Rattle.session_objects.proofs.ToldLaws.{new_port_is}
+use Rattle.turn_lock.specs.Passes.{passes_of, number_of, seen_by, IsOf}
+use Rattle.turn_lock.specs.Roster.{numbers_of, ArePassesOf, AreFresh}
+use Rattle.turn_lock.specs.declared.roster.Passes.{Passes}
+use Rattle.buffer_lock.specs.SharedBuffers.{lock_of}
+use Rattle.transition_lock.specs.SharedEngines.{engine_lock_of}
+use Rattle.odb_lock.specs.SharedOdbs.{odb_lock_of}
+use Rattle.session_setup.specs.declared.declared.FrontDeclared.{FrontDeclared}
+use Rattle.session_objects.specs.declared.objects.SessionBuffer.{SessionBuffer}
+use Rattle.session_objects.specs.declared.passes.SessionPasses.{SessionPasses}
+use Rattle.session_objects.specs.Rosters.{TakesFresh, KeepsFresh}
+use Rattle.session_objects.proofs.ChangeLaws.{there_below, some_same}
+use Rattle.session_objects.proofs.PlaceLaws.{buffer_has, engine_has, database_has, front_out}
+use Rattle.session_objects.proofs.objects.SessionObjects.place_front.Goals as goal
+
+pub take_of_buffer-pass-requires-clause-there : goal.take_of_buffer-pass-requires-clause-there
+take_of_buffer-pass-requires-clause-there g c =
+    let d : FrontDeclared = get_or c.args.declared.now c.args.client c.index-declared-client.result in
+    let at_d : slice_get c.args.declared.now c.args.client ≡ Some d = slice_get-get_or c.args.declared.now c.args.client c.index-declared-client.result c.requires.client in
+    let b = there_below c.args.self.now.buffers.items d.buffer (c.requires.callers.sent_into c.args.client d at_d) in
+    let count : passes_of (lock_of b.0.shared) ≡ length c.args.declared.now + 2 = c.requires.callers.buffers d.buffer b.0 b.1 in
+    let within : c.args.client < length c.args.declared.now = c.requires.client in
+    λ roster at. buffer_has c.args.self.now c.args.database.now c.args.declared.now c.args.client c.args.passes.now c.requires.out d.buffer b.0 roster b.1 at (omega arith)
+
+pub index-requires : goal.index-requires
+index-requires g c =
+    let d : FrontDeclared = get_or c.args.declared.now c.args.client c.index-declared-client.result in
+    let at_d : slice_get c.args.declared.now c.args.client ≡ Some d = slice_get-get_or c.args.declared.now c.args.client c.index-declared-client.result c.requires.client in
+    let l : d.buffer < length c.args.self.now.buffers.items = c.requires.callers.sent_into c.args.client d at_d in search rules
+
+pub new-port-requires-clause-own : goal.new-port-requires-clause-own
+new-port-requires-clause-own g c =
+    let d : FrontDeclared = get_or c.args.declared.now c.args.client c.index-declared-client.result in
+    let at_d : slice_get c.args.declared.now c.args.client ≡ Some d = slice_get-get_or c.args.declared.now c.args.client c.index-declared-client.result c.requires.client in
+    let l : d.buffer < length c.args.self.now.buffers.items = c.requires.callers.sent_into c.args.client d at_d in
+    let many : length c.args.passes.now.buffers.items ≡ length c.args.self.now.buffers.items = c.requires.out.many in
+    let at_b : slice_get c.args.self.now.buffers.items d.buffer ≡ Some c.index.result.now = slice_get_read c.args.self.now.buffers.items (length c.args.self.now.buffers.items) d.buffer c.index.result.now refl l c.index.ensures in
+    let r = there_below c.args.passes.now.buffers.items d.buffer (omega arith) in
+    let k = c.requires.out.buffers d.buffer c.index.result.now r.0 at_b r.1 in
+    let taken = c.take_of_buffer-pass.ensures.taken.there r.0 r.1 in taken.2.own (lock_of c.index.result.now.shared) k.keeps.own
+
+pub new-port-requires-clause-idle : goal.new-port-requires-clause-idle
+new-port-requires-clause-idle g c =
+    let d : FrontDeclared = get_or c.args.declared.now c.args.client c.index-declared-client.result in
+    let at_d : slice_get c.args.declared.now c.args.client ≡ Some d = slice_get-get_or c.args.declared.now c.args.client c.index-declared-client.result c.requires.client in
+    let l : d.buffer < length c.args.self.now.buffers.items = c.requires.callers.sent_into c.args.client d at_d in
+    let many : length c.args.passes.now.buffers.items ≡ length c.args.self.now.buffers.items = c.requires.out.many in
+    let at_b : slice_get c.args.self.now.buffers.items d.buffer ≡ Some c.index.result.now = slice_get_read c.args.self.now.buffers.items (length c.args.self.now.buffers.items) d.buffer c.index.result.now refl l c.index.ensures in
+    let r = there_below c.args.passes.now.buffers.items d.buffer (omega arith) in
+    let k = c.requires.out.buffers d.buffer c.index.result.now r.0 at_b r.1 in
+    let taken = c.take_of_buffer-pass.ensures.taken.there r.0 r.1 in (taken.2.fresh k.fresh).idle
+
+pub take_fresh-requires : goal.take_fresh-requires
+take_fresh-requires g c =
+    let within : c.args.client < length c.args.declared.now = c.requires.client in
+    let more : length c.args.declared.now < passes_of (odb_lock_of c.args.database.now) = c.requires.callers.database in
+    let P : Passes _ _ _ _ → Type 0 = λ db. Contains (numbers_of db) (c.args.client + 1) in
+    subst P (sym c.take_of_buffer-pass.ensures.database)
+    (database_has c.args.self.now c.args.database.now c.args.declared.now c.args.client c.args.passes.now c.requires.out (omega arith))
+
+pub new-access-requires-clause-own : goal.new-access-requires-clause-own
+new-access-requires-clause-own g c =
+    let P : Passes _ _ _ _ → Type 0 = λ db. ArePassesOf (odb_lock_of c.args.database.now) db in
+    c.take_fresh.ensures.own (odb_lock_of c.args.database.now) (subst P (sym c.take_of_buffer-pass.ensures.database) c.requires.out.database.keeps.own)
+
+pub new-access-requires-clause-idle : goal.new-access-requires-clause-idle
+new-access-requires-clause-idle g c =
+    let P : Passes _ _ _ _ → Type 0 = λ db. AreFresh db in
+    (c.take_fresh.ensures.fresh (subst P (sym c.take_of_buffer-pass.ensures.database) c.requires.out.database.fresh)).idle
+
+pub take_fresh-requires-2 : goal.take_fresh-requires-2
+take_fresh-requires-2 g c =
+    let within : c.args.client < length c.args.declared.now = c.requires.client in
+    let count : passes_of (engine_lock_of c.args.self.now.engine) ≡ length c.args.declared.now + 2 = c.requires.callers.engine in
+    let P : Passes _ _ _ _ → Type 0 = λ en. Contains (numbers_of en) (c.args.client + 1) in
+    subst P (sym c.take_of_buffer-pass.ensures.engine)
+    (engine_has c.args.self.now c.args.database.now c.args.declared.now c.args.client c.args.passes.now c.requires.out (omega arith))
+
+pub new-seat-requires-clause-own : goal.new-seat-requires-clause-own
+new-seat-requires-clause-own g c =
+    let P : Passes _ _ _ _ → Type 0 = λ en. ArePassesOf (engine_lock_of c.args.self.now.engine) en in
+    c.take_fresh-2.ensures.own (engine_lock_of c.args.self.now.engine) (subst P (sym c.take_of_buffer-pass.ensures.engine) c.requires.out.engine.keeps.own)
+
+pub returns-clause-out : goal.returns-clause-out
+returns-clause-out g c =
+    let d : FrontDeclared = get_or c.args.declared.now c.args.client c.index-declared-client.result in
+    let at_d : slice_get c.args.declared.now c.args.client ≡ Some d = slice_get-get_or c.args.declared.now c.args.client c.index-declared-client.result c.requires.client in
+    let s1 = c.take_of_buffer-pass.new.self in
+    let s2 : SessionPasses _ _ = record s1 { database = c.take_fresh.new.passes } in
+    let s3 : SessionPasses _ _ = record s2 { engine = c.take_fresh-2.new.passes } in
+    front_out c.args.self.now c.args.database.now c.args.declared.now c.args.client c.args.passes.now c.requires.out d s1 s2 s3
+    c.take_of_buffer-pass.result c.take_fresh.result c.take_fresh-2.result at_d
+    c.take_of_buffer-pass.ensures.taken c.take_of_buffer-pass.ensures.engine c.take_of_buffer-pass.ensures.database
+    c.take_fresh.ensures refl refl c.take_fresh-2.ensures refl refl
+
+pub returns-clause-port : goal.returns-clause-port
+returns-clause-port g c =
+    let d0 : FrontDeclared = get_or c.args.declared.now c.args.client c.index-declared-client.result in
+    let at0 : slice_get c.args.declared.now c.args.client ≡ Some d0 = slice_get-get_or c.args.declared.now c.args.client c.index-declared-client.result c.requires.client in
+    let l : d0.buffer < length c.args.self.now.buffers.items = c.requires.callers.sent_into c.args.client d0 at0 in
+    let many : length c.args.passes.now.buffers.items ≡ length c.args.self.now.buffers.items = c.requires.out.many in
+    let b0 : SessionBuffer = c.index.result.now in
+    let at_b : slice_get c.args.self.now.buffers.items d0.buffer ≡ Some b0 = slice_get_read c.args.self.now.buffers.items (length c.args.self.now.buffers.items) d0.buffer b0 refl l c.index.ensures in
+    let r = there_below c.args.passes.now.buffers.items d0.buffer (omega arith) in
+    let k = c.requires.out.buffers d0.buffer b0 r.0 at_b r.1 in
+    let taken = c.take_of_buffer-pass.ensures.taken.there r.0 r.1 in
+    λ d buffer at there.
+    let same_d : d0 ≡ d = some_same d0 d (sym at0 ∙ at) in
+    let same_b : b0 ≡ buffer = some_same b0 buffer (sym at_b ∙ ap (λ (z : FrontDeclared). slice_get c.args.self.now.buffers.items z.buffer) same_d ∙ there) in
+    new_port_is c.new-port.result buffer.shared (c.args.client + 1)
+    (c.new-port.ensures.buffer ∙ ap (λ (z : SessionBuffer). z.shared) same_b)
+    (ap (λ p. number_of p) c.new-port.ensures.pass ∙ taken.2.is)
+    (ap (λ p. seen_by p) c.new-port.ensures.pass ∙ (taken.2.fresh k.fresh).seen)

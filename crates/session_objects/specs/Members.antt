@@ -1,0 +1,212 @@
+-- The members of a session, as their seats show them.
+use Rattle.std.specs.Prelude.{◌≡◌, ◌≤◌, ℕ, ◌-◌, min, Bool, nat_le, List, [], map, slice_get, length, Contains, Option, Some, None}
+use Rattle.daq_types.specs.Callers.{caller_of_client}
+use Rattle.daq_types.specs.declared.events.Event.{Event}
+use Rattle.daq_types.specs.declared.runs.Order.{Order}
+use Rattle.daq_model.specs.Events.{event_limit}
+use Rattle.daq_model.specs.Generator.{generated_event}
+use Rattle.mid_logger.specs.declared.channel_spec.ChannelSpec.{ChannelSpec}
+use Rattle.loggers.specs.NewLoggers.{HasNewChannels}
+use Rattle.loggers.specs.Moments.{RunFiles, channel_limit, AreIdle, IsLoggerReady}
+use Rattle.loggers.specs.LoggerFaults.{HasFailed}
+use Rattle.loggers.specs.OtherFiles.{specs_in}
+use Rattle.loggers.specs.Reasons.{GivesReasons}
+use Rattle.loggers.specs.declared.logger.Logger.{Logger}
+use Rattle.turn_lock.specs.Passes.{own_entries}
+use Rattle.daq_members.specs.declared.logger_member.LoggerMember.{LoggerMember}
+use Rattle.buffer_core.specs.Slots.{slot_at}
+use Rattle.loggers.specs.SlotPulls.{HasEventRoom}
+use Rattle.loggers.specs.LoggerStands.{LoggerStands}
+use Rattle.daq_io.specs.Seen.{Seen}
+use Rattle.buffer_core.specs.Window.{Window}
+use Rattle.buffer_core.specs.Ports.{Access, BufferIdentity}
+use Rattle.buffer_lock.specs.declared.shared.SharedBuffer.{SharedBuffer}
+use Rattle.buffer_lock.specs.SharedBuffers.{first_buffer}
+use Rattle.buffer_lock.specs.SharedPorts.{identity_by, access_to, ported_by}
+use Rattle.transitions.specs.declared.entry.EngineEntry.{EngineEntry}
+use Rattle.odb_watch.specs.declared.entry.WatchEntry.{WatchEntry}
+use Rattle.odb_port.specs.DatabasePorts.{DatabaseAccess}
+use Rattle.odb_lock.specs.declared.shared.SharedOdb.{SharedOdb}
+use Rattle.odb_lock.specs.SharedAccesses.{shared_access, odb_identity}
+use Rattle.frontend_kit.specs.declared.generator.Generator.{Generator}
+use Rattle.session_setup.specs.declared.declared.FrontDeclared.{FrontDeclared}
+use Rattle.session_setup.specs.declared.declared.DeclaredLists.{DeclaredLists}
+use Rattle.daq_members.specs.FrontSeats.{FrontSeen}
+use Rattle.daq_members.specs.LoggerSeats.{LoggerSeen}
+use Rattle.daq_members.specs.Crews.{CrewSeen}
+use Rattle.session_objects.specs.declared.objects.SessionBuffer.{SessionBuffer}
+use Rattle.session_objects.specs.declared.objects.SessionObjects.{SessionObjects}
+use Rattle.session_objects.specs.Calls.{FrontCalls, SessionCalls}
+
+-- a ring's value is its window
+abbrev pub ring_window : Window → Window
+ring_window window = window
+
+-- which buffer a shared ring is
+abbrev pub ring_identity : SharedBuffer Window → BufferIdentity
+ring_identity shared = identity_by ring_window shared
+
+-- the equipment that was declared
+abbrev pub generator_of : FrontDeclared → Generator
+generator_of front = record { id = front.id; mask = front.mask; limit = front.limit }
+
+-- in which runs it takes part, and which events it makes
+abbrev pub generator_takes : Generator → Order → Bool
+generator_takes g order = nat_le order.quota g.limit
+
+abbrev pub generator_makes : Generator → Order → ℕ → Event
+generator_makes g order number = generated_event order g.id g.mask number
+
+-- The front-end with this client number is the one that was declared: its equipment does the same; it asks the session's
+-- engine, sends into its own buffer and calls the session's database, each as its own caller.
+pub record IsFrontOf {D : Type 0} (objects : SessionObjects) (shared : SharedOdb D) (client : ℕ) (declared : FrontDeclared)
+    (front : FrontSeen Generator) : Type 0 where
+  pub is : front.client ≡ client
+  pub name : front.name ≡ declared.name
+  pub takes : generator_takes front.equipment ≡ generator_takes (generator_of declared)
+  pub makes : generator_makes front.equipment ≡ generator_makes (generator_of declared)
+  pub engine : front.engine ≡ objects.engine
+  pub buffer : SessionBuffer
+  pub has_buffer : slice_get objects.buffers.items declared.buffer ≡ Some buffer
+  pub port : front.port.buffer ≡ ring_identity buffer.shared
+  pub port_caller : front.port.caller ≡ caller_of_client client
+  pub access : front.database.database ≡ odb_identity shared
+  pub access_caller : front.database.caller ≡ caller_of_client client
+
+-- These are ports of one caller, each to the buffer of its number.
+pub record ArePortsTo (buffers : List SessionBuffer) (caller : ℕ) (ports : List Access) : Type 0 where
+  pub many : length ports ≡ length buffers
+  pub each : (number : ℕ) → (buffer : SessionBuffer) → (port : Access) → slice_get buffers number ≡ Some buffer →
+      slice_get ports number ≡ Some port → (port.buffer ≡ ring_identity buffer.shared) × (port.caller ≡ caller)
+
+-- The logger, which has this client number, asks the session's engine and has a port of its own to each buffer.
+pub record IsLoggerOf {F : Type 0} (objects : SessionObjects) (client : ℕ) (logger : LoggerSeen F) : Type 0 where
+  pub is : logger.client ≡ client
+  pub engine : logger.engine ≡ objects.engine
+  pub ports : ArePortsTo objects.buffers.items (caller_of_client client) logger.ports
+
+-- The members are those of a session of these declarations: the front-ends, in their order, and behind them the logger.
+pub record AreMembersOf {D F : Type 0} (fronts : List FrontDeclared) (objects : SessionObjects) (shared : SharedOdb D)
+    (seats : List (FrontSeen Generator)) (last : LoggerSeen F) : Type 0 where
+  pub many : length seats ≡ length fronts
+  pub each : (client : ℕ) → (declared : FrontDeclared) → (front : FrontSeen Generator) →
+      slice_get fronts client ≡ Some declared → slice_get seats client ≡ Some front →
+      IsFrontOf objects shared client declared front
+  pub logger : IsLoggerOf objects (length fronts) last
+
+-- what the seat of a front-end shows of its calls
+abbrev pub front_calls : FrontSeen Generator → FrontCalls
+front_calls front = record { engine = front.calls; port = front.port; database = front.database.seen }
+
+-- all calls of a session, by what the main thread and the members know
+abbrev pub session_calls : {F : Type 0} → (engine : List EngineEntry) → (database : List (ℕ × WatchEntry)) →
+    List (FrontSeen Generator) → LoggerSeen F → SessionCalls
+session_calls engine database seats logger = record {
+  main_engine = engine;
+  main_database = database;
+  fronts = map front_calls seats;
+  logger_engine = logger.calls;
+  logger_ports = logger.ports;
+}
+
+-- As they are at first.
+
+-- what a port to a shared buffer tells before its caller called
+abbrev pub new_port : SharedBuffer Window → (caller : ℕ) → Access
+new_port shared caller = access_to (ring_identity shared) (ported_by caller (first_buffer shared) [])
+
+-- what the access to a shared database tells before its caller called
+abbrev pub new_access : {D : Type 0} → SharedOdb D → (caller : ℕ) → DatabaseAccess
+new_access shared caller = shared_access (odb_identity shared) caller []
+
+-- the ports of a caller that made no call, one to each buffer
+abbrev pub new_ports : List SessionBuffer → (caller : ℕ) → List Access
+new_ports buffers caller = map (λ buffer. new_port buffer.shared caller) buffers
+
+-- the room for an event that a channel may get from its buffer
+abbrev pub event_room_of : Option SessionBuffer → ℕ
+event_room_of None = 0
+event_room_of (Some buffer) = min event_limit (buffer.size - 24)
+
+abbrev pub event_rooms : List SessionBuffer → List ChannelSpec → List ℕ
+event_rooms buffers channels = map (λ channel. event_room_of (slice_get buffers channel.buffer)) channels
+
+-- the seat of a front-end that made no call
+abbrev pub new_front : {D : Type 0} → SessionObjects → SharedOdb D → (client : ℕ) → FrontDeclared → SessionBuffer → FrontSeen Generator
+new_front objects shared client declared buffer = record {
+  engine = objects.engine;
+  client = client;
+  name = declared.name;
+  equipment = generator_of declared;
+  run = None;
+  calls = [];
+  port = new_port buffer.shared (caller_of_client client);
+  database = new_access shared (caller_of_client client);
+}
+
+-- The front-end with this client number is the one that was declared, with a port to its buffer, and made no call.
+pub record IsNewFront {D : Type 0} (objects : SessionObjects) (shared : SharedOdb D) (client : ℕ) (declared : FrontDeclared)
+    (front : FrontSeen Generator) : Type 0 where
+  pub buffer : SessionBuffer
+  pub has_buffer : slice_get objects.buffers.items declared.buffer ≡ Some buffer
+  pub is : front ≡ new_front objects shared client declared buffer
+
+-- The logger has this client number, a port to each buffer, and a channel for each that was declared, with room for each
+-- event of its buffer; and it made no call.
+pub record IsNewLogger {F : Type 0} (objects : SessionObjects) (client : ℕ) (channels : List ChannelSpec) (files : F)
+    (logger : LoggerSeen F) : Type 0 where
+  pub engine : logger.engine ≡ objects.engine
+  pub is : logger.client ≡ client
+  pub run : logger.run ≡ None
+  pub stop_dump : logger.stop_dump ≡ None
+  pub calls : logger.calls ≡ []
+  pub slots : HasNewChannels channels (event_rooms objects.buffers.items channels) logger.slots
+  pub failed : HasFailed logger.slots → ⊥
+  pub ports : logger.ports ≡ new_ports objects.buffers.items (caller_of_client client)
+  pub has_files : logger.files ≡ files
+  pub had_files : logger.first ≡ files
+
+-- A logger that was made for these channels is ready for its turns at new ports to these buffers, whatever its run files
+-- are: it has a channel for each that was declared, with room for each event of its buffer, and no run is on.
+pub record IsMadeLogger (buffers : List SessionBuffer) (declared : List ChannelSpec) (logger : Logger) : Type 0 where
+  pub run : logger.run ≡ None
+  pub stop_dump : logger.stop_dump ≡ None
+  pub slots : HasNewChannels declared (event_rooms buffers declared) logger.channels
+  pub idle : AreIdle logger.channels
+  pub failed : HasFailed logger.channels → ⊥
+  pub reasons : (files : RunFiles) → GivesReasons logger.channels files files []
+  pub ready : (caller : ℕ) → (seen : Seen) → IsLoggerReady logger.channels (new_ports buffers caller) seen
+  pub stands : (caller : ℕ) → (seen : Seen) →
+      LoggerStands None None logger.channels (new_ports buffers caller) [] seen
+  pub room : (caller number : ℕ) → HasEventRoom number logger.channels (new_ports buffers caller)
+
+-- The members are those of a session of these declarations, and none made a call.
+pub record AreNewMembers {D F K : Type 0} (fronts : List FrontDeclared) (channels : List ChannelSpec) (objects : SessionObjects)
+    (shared : SharedOdb D) (files : F) (pick : K) (crew : CrewSeen Generator F K) : Type 0 where
+  pub many : length crew.fronts ≡ length fronts
+  pub each : (client : ℕ) → (declared : FrontDeclared) → (front : FrontSeen Generator) →
+      slice_get fronts client ≡ Some declared → slice_get crew.fronts client ≡ Some front →
+      IsNewFront objects shared client declared front
+  pub logger : IsNewLogger objects (length fronts) channels files crew.logger
+  pub has_pick : crew.pick ≡ pick
+
+-- The members, before the run files are the logger's: the front-ends; the logger with its place at the engine; and what its
+-- ports tell.
+pub record AreBareMembers {D : Type 0} (fronts : List FrontDeclared) (channels : List ChannelSpec) (objects : SessionObjects)
+    (shared : SharedOdb D) (seats : List (FrontSeen Generator)) (logger : LoggerMember) (accesses : List Access) : Type 0 where
+  pub many : length seats ≡ length fronts
+  pub each : (client : ℕ) → (declared : FrontDeclared) → (front : FrontSeen Generator) →
+      slice_get fronts client ≡ Some declared → slice_get seats client ≡ Some front →
+      IsNewFront objects shared client declared front
+  pub made : IsMadeLogger objects.buffers.items channels logger.logger
+  pub engine : logger.seat.engine.now ≡ objects.engine
+  pub is : logger.seat.client ≡ length fronts
+  pub calls : own_entries logger.seat.pass ≡ []
+  pub ports : accesses ≡ new_ports objects.buffers.items (caller_of_client (length fronts))
+
+-- The logger's channels are those that were declared, each at its number.
+pub record HasDeclaredChannels {F : Type 0} (declared : List ChannelSpec) (logger : LoggerSeen F) : Type 0 where
+  pub few : length logger.slots ≤ channel_limit
+  pub each : (number : ℕ) → (spec : ChannelSpec) → slot_at (specs_in logger.slots) number ≡ Some spec →
+      Contains declared spec × (spec.number ≡ number)
+  pub all : (spec : ChannelSpec) → Contains declared spec → slot_at (specs_in logger.slots) spec.number ≡ Some spec

@@ -1,0 +1,17 @@
+-- How the members of a session are registered.
+use Rattle.std.specs.Prelude.{List, [], ◌∷◌, ◌++◌, map, codes}
+use Rattle.run_states.specs.declared.sequences.Role.TheVariants.{FrontEnd, Logger}
+use Rattle.session_engine.specs.declared.opening.MemberName.{MemberName}
+use Rattle.session_setup.specs.declared.declared.FrontDeclared.{FrontDeclared}
+
+-- a front-end by its name
+abbrev pub front_member_name : FrontDeclared → MemberName
+front_member_name front = record { name = front.name; role = FrontEnd }
+
+-- the logger by its name
+abbrev pub logger_member_name : MemberName
+logger_member_name = record { name = codes "Logger"; role = Logger }
+
+-- the front-ends in the order of their declaration, and behind them the logger
+abbrev pub member_names : List FrontDeclared → List MemberName
+member_names fronts = map front_member_name fronts ++ logger_member_name ∷ []

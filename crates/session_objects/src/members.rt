@@ -1,0 +1,319 @@
+// Making the members of a session.
+ghost use Rattle.std.specs.Prelude.{◌≡◌, ◌≤◌, ◌<◌, ◌+◌, ◌-◌, [], ℕ, List, None, Some, length, map, min, slice_get, IfOk, OnOk, IfErr};
+ghost use Rattle.daq_types.specs.Callers.{caller_of_client};
+ghost use Rattle.daq_model.specs.Events.{event_limit};
+ghost use Rattle.daq_io.specs.Seen.{Seen};
+ghost use Rattle.turn_lock.specs.Passes.{own_entries};
+ghost use Rattle.buffer_lock.specs.SharedPorts.{access_by};
+ghost use Rattle.odb_lock.specs.SharedAccesses.{access_by_pass};
+ghost use Rattle.front_ends.specs.FrontIds.{IsFrontId};
+ghost use Rattle.loggers.specs.NewLoggers.{HaveNumbers};
+ghost use Rattle.session_objects.specs.Objects.{HaveCallers, SuitMembers};
+ghost use Rattle.session_objects.specs.Kept.{out_to_fronts, out_to_ports, out_to_logger, HasFreshBut};
+ghost use Rattle.session_objects.specs.Members.{ring_window, new_port, new_access, generator_of, event_room_of, event_rooms, IsNewFront, IsMadeLogger, AreBareMembers, AreNewMembers, AreMembersOf, HasDeclaredChannels};
+
+use crate::objects::{SessionBuffer, SessionObjects};
+use crate::passes::{SessionPasses, take_fresh};
+use crate::seats::{SessionCrew, SessionFront};
+use buffer_lock::SharedPort;
+use daq_io::{Files, Gate, Pick};
+use daq_members::{Crew, EndlessPort, FrontMember, FrontSeat, LoggerMember, LoggerSeat, Seat};
+use daq_types::{BoundedList, NoMemory};
+use event_header::MAX_DATA;
+use frontend_kit::Generator;
+use loggers::{ChannelSpecs, Logger, Ports};
+use mid_logger::ChannelSpec;
+use odb_lock::{LockedDatabase, SharedAccess, SharedOdb, WatchedSeen};
+use odb_port::WatchPort;
+use odb_tree::Database;
+use odb_watch::WatchEntry;
+use ring_buffer::RingBuffer;
+use session_setup::FrontDeclared;
+use std::alloc::Global;
+use turn_lock::Machine;
+
+/// How many bytes of its slot in a buffer are not an event's data.
+const SLOT_HEAD: u32 = 24;
+
+/// The members could not be made for want of memory: what they were to have.
+#[derive(Drop)]
+pub struct Unmanned<F: Files, K: Pick> {
+    pub files: F,
+    pub pick: K,
+}
+
+/// What a front-end calls by: its place at the engine, its port to its buffer, and its access to the database.
+#[derive(Drop)]
+struct FrontPlaces<'a, D: Database>
+where
+    LockedDatabase<D>: Machine<State = WatchedSeen, Entry = WatchEntry>,
+{
+    seat: Seat<'a>,
+    port: SharedPort<'a, RingBuffer>,
+    access: SharedAccess<'a, D>,
+}
+
+/// The members, but for the run files and the pick.
+#[derive(Drop)]
+struct BareMembers<'a, P: EndlessPort, A: WatchPort> {
+    fronts: Vec<FrontSeat<'a, Generator, P, A>>,
+    logger: LoggerMember<'a>,
+    ports: Ports<P>,
+}
+
+/// The equipment that was declared.
+fn generator_of(front: &FrontDeclared) -> Generator
+    ensures { result ≡ generator_of front.now }
+{
+    Generator {
+        id: front.id,
+        mask: front.mask,
+        limit: front.limit,
+    }
+}
+
+/// The room for an event from this buffer.
+fn event_room_of(buffers: &[SessionBuffer], buffer: usize) -> u32
+    requires { buffer < length buffers.now }
+    ensures { result ≡ event_room_of (slice_get buffers.now buffer) }
+{
+    MAX_DATA.min(buffers[buffer].size - SLOT_HEAD)
+}
+
+/// The room for an event of each of these channels, by the buffer that it reads.
+fn event_rooms(
+    alloc: Global,
+    buffers: &[SessionBuffer],
+    channels: &[ChannelSpec],
+) -> Result<Vec<u32>, NoMemory>
+    requires { (place : ℕ) → (channel : _) → slice_get channels.now place ≡ Some channel →
+        channel.buffer < length buffers.now }
+    ensures { IfOk result (λ rooms. rooms.items ≡ event_rooms buffers.now channels.now) }
+{
+    let mut rooms = Vec::new(alloc);
+    for channel in channels {
+        rooms.push(event_room_of(buffers, channel.buffer as usize))?;
+    }
+    Ok(rooms)
+}
+
+/// A logger of these channels, with room for the events of these buffers.
+fn make_logger(
+    alloc: Global,
+    buffers: &[SessionBuffer],
+    channels: ChannelSpecs,
+) -> Result<Logger, NoMemory>
+    requires numbers { HaveNumbers channels }
+    requires read { (place : ℕ) → (channel : _) → slice_get channels place ≡ Some channel →
+        channel.buffer < length buffers.now }
+    ensures { IfOk result (IsMadeLogger buffers.now channels) }
+{
+    let rooms = event_rooms(alloc, buffers, channels.as_slice())?;
+    let logger = Logger::new(alloc, channels, &rooms)?;
+    Ok(logger)
+}
+
+impl SessionObjects {
+    /// The places of the front-end with this client number, with its passes of its objects.
+    fn place_front<'a, D: Database>(
+        &'a self,
+        database: &'a SharedOdb<D>,
+        declared: &[FrontDeclared],
+        client: u32,
+        passes: &mut SessionPasses<D>,
+    ) -> FrontPlaces<'a, D>
+        requires client { client < length declared.now }
+        requires few { length declared.now ≤ 32 }
+        requires callers { HaveCallers declared.now self.now database.now }
+        requires out { HasFreshBut (out_to_fronts declared.now client) self.now database.now
+            passes.old }
+        ensures out { HasFreshBut (out_to_fronts declared.now (client + 1)) self.now database.now
+            passes.new }
+        ensures client { result.seat.client ≡ client }
+        ensures engine { result.seat.engine.now ≡ self.now.engine }
+        ensures calls { own_entries result.seat.pass ≡ [] }
+        ensures port { (d buffer : _) → slice_get declared.now client ≡ Some d →
+            slice_get self.now.buffers.items d.buffer ≡ Some buffer →
+            access_by ring_window result.port ≡ new_port buffer.shared (caller_of_client client) }
+        ensures access { access_by_pass result.access
+            ≡ new_access database.now (caller_of_client client) }
+    {
+        let caller = client + 1;
+        let number = declared[client as usize].buffer as usize;
+        let pass = passes.take_of_buffer(number, caller);
+        let port = SharedPort::new(&self.buffers[number].shared, pass);
+        let access = SharedAccess::new(database, take_fresh(&mut passes.database, caller));
+        let seat = Seat::new(&self.engine, take_fresh(&mut passes.engine, caller), client);
+        FrontPlaces { seat, port, access }
+    }
+
+    /// The front-end with this client number.
+    fn seat_front<'a, D: Database>(
+        &'a self,
+        alloc: Global,
+        database: &'a SharedOdb<D>,
+        declared: &[FrontDeclared],
+        client: u32,
+        passes: &mut SessionPasses<D>,
+    ) -> Result<SessionFront<'a, D>, NoMemory>
+        requires client { client < length declared.now }
+        requires few { length declared.now ≤ 32 }
+        requires ids { (client : ℕ) → (d : _) → slice_get declared.now client ≡ Some d →
+            IsFrontId d.id }
+        requires callers { HaveCallers declared.now self.now database.now }
+        requires out { HasFreshBut (out_to_fronts declared.now client) self.now database.now
+            passes.old }
+        ensures out { OnOk result (HasFreshBut (out_to_fronts declared.now (client + 1)) self.now
+            database.now passes.new) }
+        ensures front { IfOk result (λ front. (d : _) → slice_get declared.now client ≡ Some d →
+            IsNewFront self.now database.now client d front) }
+    {
+        let FrontPlaces { seat, port, access } = self.place_front(
+            database, declared, client, passes,
+        );
+        let front = &declared[client as usize];
+        let member = FrontMember::new(alloc, seat, front.name, generator_of(front))?;
+        Ok(FrontSeat::new(member, port, access))
+    }
+
+    /// All front-ends.
+    fn seat_fronts<'a, D: Database>(
+        &'a self,
+        alloc: Global,
+        database: &'a SharedOdb<D>,
+        declared: &[FrontDeclared],
+        passes: &mut SessionPasses<D>,
+    ) -> Result<Vec<SessionFront<'a, D>>, NoMemory>
+        requires few { length declared.now ≤ 32 }
+        requires ids { (client : ℕ) → (d : _) → slice_get declared.now client ≡ Some d →
+            IsFrontId d.id }
+        requires callers { HaveCallers declared.now self.now database.now }
+        requires out { HasFreshBut (out_to_fronts declared.now 0) self.now database.now
+            passes.old }
+        ensures out { OnOk result (HasFreshBut (out_to_fronts declared.now (length declared.now))
+            self.now database.now passes.new) }
+        ensures many { IfOk result (λ fronts. length fronts.items ≡ length declared.now) }
+        ensures each { IfOk result (λ fronts. (client : ℕ) → (d front : _) →
+            slice_get declared.now client ≡ Some d → slice_get fronts.items client ≡ Some front →
+            IsNewFront self.now database.now client d front) }
+    {
+        let mut fronts = Vec::new(alloc);
+        for client in 0..declared.len() as u32 {
+            let front = self.seat_front(alloc, database, declared, client, passes)?;
+            fronts.push(front)?;
+        }
+        Ok(fronts)
+    }
+
+    /// The logger's ports, one to each buffer.
+    fn open_ports<'a, D: Database>(
+        &'a self,
+        alloc: Global,
+        database: &SharedOdb<D>,
+        declared: &[FrontDeclared],
+        passes: &mut SessionPasses<D>,
+    ) -> Result<Ports<SharedPort<'a, RingBuffer>>, NoMemory>
+        requires few { length declared.now ≤ 32 }
+        requires callers { HaveCallers declared.now self.now database.now }
+        requires out { HasFreshBut (out_to_ports declared.now 0) self.now database.now passes.old }
+        ensures out { OnOk result (HasFreshBut (out_to_ports declared.now
+            (length self.now.buffers.items)) self.now database.now passes.new) }
+        ensures ports { IfOk result (λ ports. map (access_by ring_window) ports
+            ≡ map (λ buffer. new_port buffer.shared (caller_of_client (length declared.now)))
+            self.now.buffers.items) }
+    {
+        let caller = declared.len() as u32 + 1;
+        let mut ports = BoundedList::new(alloc)?;
+        for number in 0..self.buffers.len() {
+            let pass = passes.take_of_buffer(number, caller);
+            ports.push(SharedPort::new(&self.buffers[number].shared, pass));
+        }
+        Ok(ports)
+    }
+
+    /// The logger's place at the engine, with its pass of that.
+    fn place_logger<'a, D: Database>(
+        &'a self,
+        database: &SharedOdb<D>,
+        declared: &[FrontDeclared],
+        passes: &mut SessionPasses<D>,
+    ) -> Seat<'a>
+        requires few { length declared.now ≤ 32 }
+        requires callers { HaveCallers declared.now self.now database.now }
+        requires out { HasFreshBut (out_to_ports declared.now (length self.now.buffers.items))
+            self.now database.now passes.old }
+        ensures out { HasFreshBut (out_to_logger declared.now (length self.now.buffers.items))
+            self.now database.now passes.new }
+        ensures client { result.client ≡ length declared.now }
+        ensures engine { result.engine.now ≡ self.now.engine }
+        ensures calls { own_entries result.pass ≡ [] }
+    {
+        let client = declared.len() as u32;
+        let pass = take_fresh(&mut passes.engine, client + 1);
+        Seat::new(&self.engine, pass, client)
+    }
+
+    /// The members, but for the run files and the pick. All memory that they need is taken here.
+    fn bare_members<'a, D: Database>(
+        &'a self,
+        alloc: Global,
+        database: &'a SharedOdb<D>,
+        declared: &[FrontDeclared],
+        channels: ChannelSpecs,
+        passes: &mut SessionPasses<D>,
+    ) -> Result<BareMembers<'a, SharedPort<'a, RingBuffer>, SharedAccess<'a, D>>, NoMemory>
+        requires suit { SuitMembers declared.now channels self.now database.now }
+        requires out { HasFreshBut (out_to_fronts declared.now 0) self.now database.now
+            passes.old }
+        ensures out { OnOk result (HasFreshBut (out_to_logger declared.now
+            (length self.now.buffers.items)) self.now database.now passes.new) }
+        ensures members { IfOk result (λ bare. AreBareMembers declared.now channels self.now
+            database.now bare.fronts.items bare.logger (map (access_by ring_window) bare.ports)) }
+    {
+        let logger = make_logger(alloc, &self.buffers, channels)?;
+        let fronts = self.seat_fronts(alloc, database, declared, passes)?;
+        let ports = self.open_ports(alloc, database, declared, passes)?;
+        let seat = self.place_logger(database, declared, passes);
+        Ok(BareMembers {
+            fronts,
+            logger: LoggerMember::new(seat, logger),
+            ports,
+        })
+    }
+
+    /// The members of a session of these declarations, none of which made a call: its front-ends, in their order, and the
+    /// logger with these channels. Their passes are taken out of those that are kept. The run files and the pick come back
+    /// where memory is wanting for the members.
+    pub fn crew<'a, D: Database, F: Files, K: Pick, G: Gate>(
+        &'a self,
+        alloc: Global,
+        database: &'a SharedOdb<D>,
+        declared: &[FrontDeclared],
+        channels: ChannelSpecs,
+        passes: &mut SessionPasses<D>,
+        files: F,
+        pick: K,
+        gate: &'a G,
+    ) -> Result<SessionCrew<'a, D, F, K, G>, Unmanned<F, K>>
+        requires suit { SuitMembers declared.now channels self.now database.now }
+        requires out { HasFreshBut (out_to_fronts declared.now 0) self.now database.now
+            passes.old }
+        ensures members { IfOk result (λ crew. AreNewMembers declared.now channels self.now
+            database.now files pick crew) }
+        ensures are { IfOk result (λ crew. AreMembersOf declared.now self.now database.now
+            crew.fronts crew.logger) }
+        ensures channels { IfOk result (λ crew. HasDeclaredChannels channels crew.logger) }
+        ensures out { OnOk result (HasFreshBut (out_to_logger declared.now
+            (length self.now.buffers.items)) self.now database.now passes.new) }
+        ensures files { IfErr result (λ unmanned. unmanned.files ≡ files) }
+        ensures pick { IfErr result (λ unmanned. unmanned.pick ≡ pick) }
+    {
+        match self.bare_members(alloc, database, declared, channels, passes) {
+            Ok(bare) => {
+                let logger = LoggerSeat::new(bare.logger, bare.ports, files);
+                Ok(Crew::new(bare.fronts, logger, pick, gate))
+            }
+            Err(NoMemory) => Err(Unmanned { files, pick }),
+        }
+    }
+}

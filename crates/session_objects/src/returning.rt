@@ -1,0 +1,216 @@
+// Taking the passes of a session's objects back from its members.
+ghost use Rattle.std.specs.Prelude.{◌≡◌, ◌≢◌, ◌<◌, ◌+◌, ◌++◌, ◌∷◌, [], ℕ, None, Some, length, slice_get, map};
+ghost use Rattle.daq_types.specs.Callers.{caller_of_client};
+ghost use Rattle.turn_lock.specs.Passes.{seen_by, own_entries};
+ghost use Rattle.buffer_lock.specs.SharedPorts.{access_by};
+ghost use Rattle.transition_lock.specs.SharedEngines.{engine_lock_of};
+ghost use Rattle.odb_lock.specs.SharedOdbs.{odb_lock_of};
+ghost use Rattle.session_objects.specs.Rosters.{IsMainPass};
+ghost use Rattle.session_objects.specs.Calls.{SessionCalls};
+ghost use Rattle.session_objects.specs.Objects.{HaveCallers};
+ghost use Rattle.session_objects.specs.Kept.{out_to_fronts, out_to_ports, out_to_logger, HasFreshBut};
+ghost use Rattle.session_objects.specs.Records.{HasCallsBut, HasCalls};
+ghost use Rattle.session_objects.specs.Members.{ring_window, ArePortsTo, IsFrontOf, IsLoggerOf, AreMembersOf, front_calls, session_calls};
+
+use crate::objects::SessionObjects;
+use crate::passes::SessionPasses;
+use crate::seats::{SessionFront, SessionLogger, SessionParts};
+use buffer_lock::SharedPort;
+use daq_io::{Files, Pick};
+use daq_members::{CrewParts, FrontParts, LoggerParts};
+use loggers::Ports;
+use odb_lock::{LockedDatabase, OdbPass, SharedOdb, WatchedSeen};
+use odb_tree::Database;
+use odb_watch::WatchEntry;
+use ring_buffer::RingBuffer;
+use session_setup::FrontDeclared;
+use transition_lock::EnginePass;
+use turn_lock::Machine;
+
+/// What comes back from the members of a session: all passes of its objects, the run files and the pick.
+#[derive(Drop)]
+pub struct Returned<D: Database, F: Files, K: Pick>
+where
+    LockedDatabase<D>: Machine<State = WatchedSeen, Entry = WatchEntry>,
+{
+    pub passes: SessionPasses<D>,
+    pub files: F,
+    pub pick: K,
+}
+
+impl SessionObjects {
+    /// Takes the passes of the front-end with this client number back, which is the last one that has them.
+    fn take_back_front<'a, D: Database>(
+        &self,
+        database: &SharedOdb<D>,
+        declared: &[FrontDeclared],
+        client: usize,
+        front: SessionFront<'a, D>,
+        passes: &mut SessionPasses<D>,
+    )
+        ghost calls: { SessionCalls }
+        requires client { (d : _) × (slice_get declared.now client ≡ Some d)
+            × IsFrontOf self.now database.now client d front }
+        requires calls { slice_get calls.fronts client ≡ Some (front_calls front) }
+        requires out { HasCallsBut (out_to_fronts declared.now (client + 1)) declared.now calls
+            self.now database.now passes.old }
+        ensures { HasCallsBut (out_to_fronts declared.now client) declared.now calls self.now
+            database.now passes.new }
+    {
+        let FrontParts {
+            pass,
+            port,
+            database: access,
+            ..
+        } = front.into_parts();
+        passes.put_to_engine(pass);
+        passes.put_to_database(access.into_pass());
+        passes.put_to_buffer(declared[client].buffer as usize, port.into_pass());
+    }
+
+    /// Takes the passes of all front-ends back.
+    fn take_back_fronts<'a, D: Database>(
+        &self,
+        database: &SharedOdb<D>,
+        declared: &[FrontDeclared],
+        mut fronts: Vec<SessionFront<'a, D>>,
+        passes: &mut SessionPasses<D>,
+    )
+        ghost calls: { SessionCalls }
+        requires many { length fronts.items ≡ length declared.now }
+        requires each { (client : ℕ) → (d front : _) → slice_get declared.now client ≡ Some d →
+            slice_get fronts.items client ≡ Some front →
+            IsFrontOf self.now database.now client d front }
+        requires calls { calls.fronts ≡ map front_calls fronts.items }
+        requires out { HasCallsBut (out_to_fronts declared.now (length declared.now))
+            declared.now calls self.now database.now passes.old }
+        ensures { HasCallsBut (out_to_fronts declared.now 0) declared.now calls self.now
+            database.now passes.new }
+    {
+        while let Some(front) = fronts.pop() {
+            self.take_back_front(database, declared, fronts.len(), front, passes);
+        }
+    }
+
+    /// Takes the passes of the logger back.
+    fn take_back_logger<'a, D: Database, F: Files>(
+        &self,
+        database: &SharedOdb<D>,
+        declared: &[FrontDeclared],
+        logger: SessionLogger<'a, F>,
+        passes: &mut SessionPasses<D>,
+    ) -> F
+        ghost calls: { SessionCalls }
+        requires logger { IsLoggerOf self.now (length declared.now) logger }
+        requires fronts { length calls.fronts ≡ length declared.now }
+        requires engine { calls.logger_engine ≡ logger.calls }
+        requires ports { calls.logger_ports ≡ logger.ports }
+        requires out { HasCallsBut (out_to_logger declared.now (length self.now.buffers.items))
+            declared.now calls self.now database.now passes.old }
+        ensures files { result ≡ logger.entry.files }
+        ensures out { HasCallsBut (out_to_fronts declared.now (length declared.now)) declared.now
+            calls self.now database.now passes.new }
+    {
+        let LoggerParts { pass, ports, files } = logger.into_parts();
+        passes.put_to_engine(pass);
+        self.take_back_ports(database, declared, ports, passes);
+        files
+    }
+
+    /// Takes the passes of the logger's ports back, each to those of its buffer.
+    fn take_back_ports<'a, D: Database>(
+        &self,
+        database: &SharedOdb<D>,
+        declared: &[FrontDeclared],
+        mut ports: Ports<SharedPort<'a, RingBuffer>>,
+        passes: &mut SessionPasses<D>,
+    )
+        ghost calls: { SessionCalls }
+        requires many { length ports ≡ length self.now.buffers.items }
+        requires ports { ArePortsTo self.now.buffers.items (caller_of_client (length declared.now))
+            (map (access_by ring_window) ports) }
+        requires calls { calls.logger_ports ≡ map (access_by ring_window) ports }
+        requires out { HasCallsBut (out_to_ports declared.now (length self.now.buffers.items))
+            declared.now calls self.now database.now passes.old }
+        ensures { HasCallsBut (out_to_fronts declared.now (length declared.now)) declared.now calls
+            self.now database.now passes.new }
+    {
+        while let Some(port) = ports.pop() {
+            passes.put_to_buffer(ports.len(), port.into_pass());
+        }
+    }
+
+    /// Takes all passes back, by which these calls were made.
+    fn take_back_all<'a, D: Database, F: Files, K: Pick>(
+        &self,
+        database: &SharedOdb<D>,
+        declared: &[FrontDeclared],
+        mut passes: SessionPasses<D>,
+        parts: SessionParts<'a, D, F, K>,
+        main_engine: EnginePass,
+        main_database: OdbPass<D>,
+    ) -> Returned<D, F, K>
+        ghost calls: { SessionCalls }
+        requires calls { calls ≡ session_calls (own_entries main_engine) (seen_by main_database)
+            parts.fronts.items parts.logger }
+        requires callers { HaveCallers declared.now self.now database.now }
+        requires members { AreMembersOf declared.now self.now database.now parts.fronts.items
+            parts.logger }
+        requires out { HasFreshBut (out_to_logger declared.now (length self.now.buffers.items))
+            self.now database.now passes }
+        requires engine { IsMainPass (engine_lock_of self.now.engine) main_engine }
+        requires database { IsMainPass (odb_lock_of database.now) main_database }
+        ensures calls { HasCalls declared.now calls self.now database.now result.passes }
+        ensures files { result.files ≡ parts.entry.logger.files }
+        ensures pick { result.pick ≡ parts.entry.pick }
+    {
+        let CrewParts {
+            fronts,
+            logger,
+            pick,
+        } = parts;
+        let files = self.take_back_logger(database, declared, logger, &mut passes);
+        self.take_back_fronts(database, declared, fronts, &mut passes);
+        passes.put_to_engine(main_engine);
+        passes.put_to_database(main_database);
+        Returned {
+            passes,
+            files,
+            pick,
+        }
+    }
+
+    /// Takes all passes of the session's objects back: from the members, which are behind their last turns, and the main
+    /// thread's own. Takes no memory.
+    pub fn take_back<'a, D: Database, F: Files, K: Pick>(
+        &self,
+        database: &SharedOdb<D>,
+        declared: &[FrontDeclared],
+        passes: SessionPasses<D>,
+        parts: SessionParts<'a, D, F, K>,
+        main_engine: EnginePass,
+        main_database: OdbPass<D>,
+    ) -> Returned<D, F, K>
+        requires callers { HaveCallers declared.now self.now database.now }
+        requires members { AreMembersOf declared.now self.now database.now parts.fronts.items
+            parts.logger }
+        requires out { HasFreshBut (out_to_logger declared.now (length self.now.buffers.items))
+            self.now database.now passes }
+        requires engine { IsMainPass (engine_lock_of self.now.engine) main_engine }
+        requires database { IsMainPass (odb_lock_of database.now) main_database }
+        ensures calls { HasCalls declared.now (session_calls (own_entries main_engine)
+            (seen_by main_database) parts.entry.fronts.items parts.entry.logger) self.now
+            database.now result.passes }
+        ensures files { result.files ≡ parts.entry.logger.files }
+        ensures pick { result.pick ≡ parts.entry.pick }
+    {
+        self.take_back_all(
+            database,
+            declared,
+            passes,
+            parts,
+            main_engine,
+            main_database,
+        )
+    }
+}
