@@ -1,0 +1,3 @@
+pub mod EndsMet
+pub mod ChannelsMet
+pub mod RecordsMet
