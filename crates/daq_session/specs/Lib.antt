@@ -2,3 +2,4 @@ pub mod Lasting
 pub mod Keeping
 pub mod Endings
 pub mod Environments
+pub mod Sessions

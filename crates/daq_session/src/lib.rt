@@ -11,5 +11,15 @@ mod keys;
 mod lasting;
 mod laws;
 mod opened;
+mod opening;
+mod places;
 mod replying;
+mod run;
 mod unopened;
+
+pub use daq_types::{FrontEnded, StartOutcome, Why};
+pub use database_files::{FileReplies, FileReply};
+pub use ends::ScriptEnd;
+pub use run::run_script;
+pub use run_records::{FileRecord, FrontTally, RunRecord};
+pub use session_objects::{BufferRecord, SessionRecord};
