@@ -30,7 +30,7 @@ use Rattle.caller_laws.specs.CallerLaws.{ReadPlaces, ReadEvents, CutEvents, CutF
 use Rattle.engine_laws.specs.BegunTurns.{HasTally}
 use Rattle.composition.specs.Sessions.{Session, turns_of, buffer_calls, MembersKeep}
 use Rattle.composition.specs.SessionRuns.{SessionRun, IsStoppedRun, run_order, ToldState, channel_events, begin_dump}
-use Rattle.composition.specs.CompositionLaws.{ChannelsTold, FilesHoldRuns, FilesHoldParts, RunsAreEnded, NoEndRefused}
+use Rattle.composition.specs.CompositionLaws.{ChannelsTold, StatesTold, FilesHoldRuns, FilesHoldParts, RunsAreEnded, NoEndRefused}
 use Rattle.composition.proofs.SessionTurns.{EngineFacts, are_turns, start_turn, one_start, StopTally, number_of, stop_tally, HasStartTally, start_tally, last_tally}
 use Rattle.composition.proofs.SentTogether.{each_reads_or_sends}
 
@@ -167,6 +167,19 @@ channels_told laws s keep r run index channel at =
       },
       subst (λ (d : Option (List ℕ)). IsStateSo own r.start d told.0) (t1.dump keep.one_dump (t1.completed refl)) (subst (λ (n : ℕ). IsStateSo own n t1.turn.dump told.0) number told.2),
     )
+
+-- And each list of states that it told there has a state of each channel.
+pub states_told : EngineFacts → (s : Session) → MembersKeep s → StatesTold s
+states_told laws s keep r run place states there index channel at =
+    let turns : List MemberTurn = turns_of s s.logger in
+    let begin : (turn : MemberTurn) × IsAcceptedStart turns r.start turn = accepted_start laws s keep r run in
+    let t1 : StopTally s r run s.logger (Channels states) = stop_tally laws s keep r run s.logger place (Channels states) there in
+    let number : t1.turn.order.start ≡ r.start = number_of Stop r.last r.start t1.turn t1.of_begin in
+    let told = keep.logger_keeps.stops (are_turns laws s keep s.logger) begin.0 t1.turn (subst (λ (n : ℕ). IsAcceptedStart turns n begin.0) (sym number) begin.1)
+    t1.stands (t1.completed refl) (subst HasAnswer (sym t1.answered) tt) index channel at in
+    let tally : Channels states ≡ Channels told.1.states = told_channels (Channels states) t1.turn.answer t1.answer told.1.states t1.tally_is t1.answered told.1.answered in
+    let same : states ≡ told.1.states = cc (tally) in
+    (told.0, subst (λ (l : List ChannelState). slice_get l channel.number ≡ Some told.0) (sym same) told.1.told)
 
 -- One state was told of a channel.
 

@@ -10,6 +10,7 @@ use Rattle.daq_types.specs.declared.runs.StartOutcome.TheVariants.{Completed}
 use Rattle.daq_types.specs.declared.runs.Transition.TheVariants.{Stop, Pause}
 use Rattle.transitions.specs.declared.sheet.Sheet.{Sheet}
 use Rattle.transitions.specs.declared.answers.ClientTally.{ClientTally}
+use Rattle.transitions.specs.declared.answers.Tally.TheVariants.{Channels}
 use Rattle.engine_laws.specs.BegunTurns.{HasTransition}
 use Rattle.buffer_core.specs.declared.entry.BufferEntry.{BufferEntry}
 use Rattle.buffer_core.specs.Window.{Sent}
@@ -82,6 +83,13 @@ ChannelsTold s = (r : SessionRun) → IsStoppedRun s r →
     (state : ChannelState) × ToldState s r channel state ×
     IsStateSo (buffer_calls s channel.buffer s.logger) r.start r.last.dump state
 
+-- Where the logger told states of channels there, a state of each channel is among them.
+abbrev pub StatesTold : Session → Type 0
+StatesTold s = (r : SessionRun) → IsStoppedRun s r → (place : ℕ) → (states : List ChannelState) →
+    slice_get r.last_tallies place ≡ Some (record { client = s.logger; tally = Channels states }) →
+    (index : ℕ) → (channel : LoggerChannel) → slice_get s.channels index ≡ Some channel →
+    (state : ChannelState) × (slice_get states channel.number ≡ Some state)
+
 -- The file of each channel that the logger told to have ended is the run file of the events that the channel asks for.
 abbrev pub FilesHoldRuns : Session → Type 0
 FilesHoldRuns s = (r : SessionRun) → IsStoppedRun s r →
@@ -147,6 +155,7 @@ pub record IsComposed (s : Session) : Type 0 where
   pub stops_set : StopsSet s
   pub pauses_set : PausesSet s
   pub channels_told : ChannelsTold s
+  pub states_told : StatesTold s
   pub runs_ended : RunsAreEnded s
   pub no_end_refused : NoEndRefused s
   pub files_hold : FilesHoldRuns s

@@ -1,6 +1,6 @@
 //! Laws of a session's members together: each function does nothing, and its contract is the law.
 
-ghost use Rattle.composition.specs.CompositionLaws.{FrontsTell, FrontsSent, FrontsStand, FrontsSet, StopsSet, PausesSet, OnlyFrontsSent, ChannelsTold, RunsAreEnded, NoEndRefused, FilesHoldRuns, FilesHoldParts, ReportsTold, ReportsSo, ReportsWhole, GotWhole, StopsComplete, IsComposed};
+ghost use Rattle.composition.specs.CompositionLaws.{FrontsTell, FrontsSent, FrontsStand, FrontsSet, StopsSet, PausesSet, OnlyFrontsSent, ChannelsTold, StatesTold, RunsAreEnded, NoEndRefused, FilesHoldRuns, FilesHoldParts, ReportsTold, ReportsSo, ReportsWhole, GotWhole, StopsComplete, IsComposed};
 ghost use Rattle.daq_types.specs.declared.runs.ChannelState.TheVariants.{Ended};
 ghost use Rattle.composition.specs.Sessions.{Session, MembersKeep};
 ghost use Rattle.composition.specs.SessionRuns.{IsStoppedRun, ToldState, ReportsRun, SawThrough};
@@ -56,6 +56,7 @@ pub fn sets()
 /// stop's sheet has a dump.
 pub fn files()
     ensures told { (s : Session) → MembersKeep s → ChannelsTold s }
+    ensures states { (s : Session) → MembersKeep s → StatesTold s }
     ensures ended { (s : Session) → MembersKeep s → RunsAreEnded s }
     ensures unrefused { (s : Session) → MembersKeep s → NoEndRefused s }
     ensures hold { (s : Session) → MembersKeep s → FilesHoldRuns s }

@@ -39,7 +39,8 @@ pub trait WatchPort: DatabasePort {
 
     /// Begins to watch a row, 0 for the root, and what is below it, as `Watches::watch`.
     fn watch<R: Wait>(&mut self, rt: &R, alloc: Global, row: u32) -> Result<u32, WatchRefusal>
-        ensures called { AddsEntry (Self.access self.old) (Self.access self.new) (Watch row result) }
+        ensures called { AddsEntry (Self.access self.old) (Self.access self.new)
+            (Watch row result) }
         ensures room { (Self.access self.old).room ≤ (Self.access self.new).room };
 
     /// Moves out all notes that a watch has kept, at most 256, as `Watches::notes`. Takes no memory.

@@ -10,6 +10,6 @@ pub record MainSeen : Type 0 where
   pub own : List EngineEntry
 
 -- The main thread stands between two transitions: by its own calls none is in progress, and the engine is open.
-pub record IsBetween (own : List EngineEntry) : Type 0 where
+pub record StandsFree (own : List EngineEntry) : Type 0 where
   pub open_yet : (known_from own).closed ≡ false
   pub none_going : (known_from own).going ≡ None

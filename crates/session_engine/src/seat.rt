@@ -69,7 +69,7 @@ fn state_after(state: RunState, transition: Transition, outcome: StartOutcome) -
 }
 
 impl<'a> MainSeat<'a> {
-    ghost use Rattle.session_engine.specs.MainSeats.{IsBetween};
+    ghost use Rattle.session_engine.specs.MainSeats.{StandsFree};
 
     /// The place of the main thread at an engine that has made no transition, by the pass of number 0, which made no call
     /// yet. Takes no memory.
@@ -93,7 +93,7 @@ impl<'a> MainSeat<'a> {
     /// The run state, which stands until the next transition. Calls nothing.
     pub fn state(&self) -> RunState
         ensures state { result ≡ (known_from self.now.own).state }
-        ensures between { IsBetween self.now.own }
+        ensures between { StandsFree self.now.own }
     {
         self.state
     }

@@ -9,7 +9,7 @@ use Rattle.composition.specs.SentSets.{AreTurnSets}
 use Rattle.composition.specs.Sessions.{SessionFront}
 use Rattle.daq_members.specs.FrontTaken.{KeepsFrontMember, FrontKeeps}
 use Rattle.session_laws.specs.ClosedSessions.{ClosedFront, ClosedSession, engine_calls, calls_on_buffer, calls_on_database, session_front, session_fronts}
-use Rattle.session_laws.specs.MembersEnd.{FrontEnds}
+use Rattle.session_laws.specs.MembersAtEnd.{FrontAtEnd}
 
 -- what the front-end with this client number keeps, with these moments
 pub record FrontKept (c : ClosedSession) (client : ℕ) (f : ClosedFront) (moments : List ℕ) : Type 0 where
@@ -18,7 +18,7 @@ pub record FrontKept (c : ClosedSession) (client : ℕ) (f : ClosedFront) (momen
   pub told : AreEngineTurns (member_turns client (engine_calls c (caller_of_client client)))
       → AreTurnSets f.name (calls_on_buffer c (caller_of_client client) f.buffer) (member_turns client (engine_calls c (caller_of_client client))) moments (calls_on_database c (caller_of_client client))
 
-pub front_kept : FrontKeeps → (c : ClosedSession) (client : ℕ) (f : ClosedFront) → FrontEnds c client f → (moments : List ℕ) × FrontKept c client f moments
+pub front_kept : FrontKeeps → (c : ClosedSession) (client : ℕ) (f : ClosedFront) → FrontAtEnd c client f → (moments : List ℕ) × FrontKept c client f moments
 front_kept law c client f ends =
     let keeps : KeepsFrontMember f.name f.takes f.makes (member_turns client (engine_calls c (caller_of_client client))) (calls_on_buffer c (caller_of_client client) f.buffer) (calls_on_database c (caller_of_client client)) =
     law client f.name f.takes f.makes ends.run (engine_calls c (caller_of_client client)) (calls_on_buffer c (caller_of_client client) f.buffer) (calls_on_database c (caller_of_client client)) ends.stands in

@@ -8,7 +8,7 @@ use Rattle.local_port.specs.Ported.{Ported, given_in}
 use Rattle.caller_laws.specs.OneCaller.{WasSentAt}
 use Rattle.caller_laws.specs.CallerLaws.{PortTells}
 use Rattle.session_laws.specs.ClosedSessions.{ClosedBuffer, ClosedSession, size_in, history_in, size_of_buffer, history_of_buffer}
-use Rattle.session_laws.specs.MembersEnd.{MembersEnd}
+use Rattle.session_laws.specs.MembersAtEnd.{MembersAtEnd}
 
 -- a port that this caller had from the opening on
 port_of : (size by : ℕ) → History → Ported
@@ -22,5 +22,5 @@ legal_in : (o : Option ClosedBuffer) → ((b : ClosedBuffer) → o ≡ Some b �
 legal_in None legal = tt
 legal_in (Some b) legal = legal b refl
 
-pub legal_buffer : (c : ClosedSession) → MembersEnd c → (buffer : ℕ) → IsLegal (opening (size_of_buffer c buffer)) (history_of_buffer c buffer)
+pub legal_buffer : (c : ClosedSession) → MembersAtEnd c → (buffer : ℕ) → IsLegal (opening (size_of_buffer c buffer)) (history_of_buffer c buffer)
 legal_buffer c ends buffer = legal_in (slice_get c.buffers buffer) (λ b at. ends.buffers buffer b at)

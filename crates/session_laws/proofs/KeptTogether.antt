@@ -19,7 +19,7 @@ use Rattle.composition.specs.Sessions.{Session, SessionFront, HasFront, NamesOwn
 use Rattle.daq_members.specs.OwnTurns.{is_call_for}
 use Rattle.daq_members.specs.FrontTaken.{FrontKeeps}
 use Rattle.session_laws.specs.ClosedSessions.{ClosedFront, ClosedSession, logger_client, logger_caller, members_of, history_of_buffer, engine_calls, calls_on_buffer, session_front, session_of}
-use Rattle.session_laws.specs.MembersEnd.{FrontEnds, SteersEngine, MembersEnd}
+use Rattle.session_laws.specs.MembersAtEnd.{FrontAtEnd, SteersEngine, MembersAtEnd}
 use Rattle.session_laws.proofs.EachCaller.{each_by, all_both, all_each, none_all, by_caller, each_for}
 use Rattle.session_laws.proofs.Registrations.{front_at, logger_at, wants_dump}
 use Rattle.session_laws.proofs.MainFirst.{registered}
@@ -50,12 +50,12 @@ names_steered (Check reply tallies) is = tt
 names_steered (Close reply) is = tt
 
 -- what holds of the registrations and of what the main thread did behind them holds of its calls
-main_calls : (c : ClosedSession) (ends : MembersEnd c) (P : EngineEntry → Type 0) → AllByRecursion P (registrations 0 (members_of c.fronts)) → ((e : EngineEntry) → SteersEngine e → P e) → AllByRecursion P (engine_calls c main_caller)
+main_calls : (c : ClosedSession) (ends : MembersAtEnd c) (P : EngineEntry → Type 0) → AllByRecursion P (registrations 0 (members_of c.fronts)) → ((e : EngineEntry) → SteersEngine e → P e) → AllByRecursion P (engine_calls c main_caller)
 main_calls c ends P registered steered =
     subst (AllByRecursion P) (sym ends.main.calls)
     (all_both P (registrations 0 (members_of c.fronts)) ends.main.later registered (all_each SteersEngine P ends.main.later steered ends.main.steers))
 
-pub names_own : (c : ClosedSession) → MembersEnd c → AllByRecursion NamesOwnClient c.engine
+pub names_own : (c : ClosedSession) → MembersAtEnd c → AllByRecursion NamesOwnClient c.engine
 names_own c ends =
     each_by (λ by e. NamesOwnClient (by, e)) c.engine
     (by_caller (λ by. AllByRecursion (λ e. NamesOwnClient (by, e)) (engine_calls c by)) c
@@ -82,7 +82,7 @@ wants_steered n by (Answer m answer reply) is = absurd is
 wants_steered n by (Check reply tallies) is = tt
 wants_steered n by (Close reply) is = tt
 
-one_dump : (c : ClosedSession) → MembersEnd c → OneWantsDump (logger_client c) c.engine
+one_dump : (c : ClosedSession) → MembersAtEnd c → OneWantsDump (logger_client c) c.engine
 one_dump c ends =
     let n : ℕ = logger_client c in
     each_by (λ by e. WantsAlone n (by, e)) c.engine
@@ -97,14 +97,14 @@ one_dump c ends =
 abbrev MayCall : ClosedSession → (moments : ℕ → List ℕ) → (buffer by : ℕ) → Type 0
 MayCall c moments buffer by = (calls_on_buffer c by buffer ≡ []) ⊎ IsMemberCaller (session_of c moments) buffer by
 
-front_calls : (c : ClosedSession) (moments : ℕ → List ℕ) (client : ℕ) (f : ClosedFront) → slice_get c.fronts client ≡ Some f → FrontEnds c client f → (buffer : ℕ) → MayCall c moments buffer (caller_of_client client)
+front_calls : (c : ClosedSession) (moments : ℕ → List ℕ) (client : ℕ) (f : ClosedFront) → slice_get c.fronts client ≡ Some f → FrontAtEnd c client f → (buffer : ℕ) → MayCall c moments buffer (caller_of_client client)
 front_calls c moments client f at ends buffer = elim (eqb_tells f.buffer buffer) as (λ w. MayCall c moments buffer (caller_of_client client)) [
   | inl same ↦
       inr (inr (inl (record { front = session_front client f (moments client); stands = (client, front_listed c moments client f at); buffer_is = same.1; caller_is = refl })))
   | inr differs ↦ inl (ends.elsewhere buffer (λ is. differs.1 (sym is)))
 ]
 
-member_callers : (c : ClosedSession) → MembersEnd c → (moments : ℕ → List ℕ) → (buffer by : ℕ) → MayCall c moments buffer by
+member_callers : (c : ClosedSession) → MembersAtEnd c → (moments : ℕ → List ℕ) → (buffer by : ℕ) → MayCall c moments buffer by
 member_callers c ends moments buffer =
     by_caller (MayCall c moments buffer) c
     (inl (ends.main.buffers buffer))
@@ -114,14 +114,14 @@ member_callers c ends moments buffer =
 
 -- The members are registered.
 
-front_registered : (c : ClosedSession) → MembersEnd c → (moments : ℕ → List ℕ) (client : ℕ) (f : ClosedFront) → slice_get c.fronts client ≡ Some f → IsRegistered (session_of c moments) client Start × IsRegistered (session_of c moments) client Stop
+front_registered : (c : ClosedSession) → MembersAtEnd c → (moments : ℕ → List ℕ) (client : ℕ) (f : ClosedFront) → slice_get c.fronts client ≡ Some f → IsRegistered (session_of c moments) client Start × IsRegistered (session_of c moments) client Stop
 front_registered c ends moments client f at =
     let m = front_at c.fronts client f at in (
       registered c ends client m.0 m.1 Start 500 (ap (λ (r : Role). sequence_for (sequences_of r) Start) m.2) moments,
       registered c ends client m.0 m.1 Stop 500 (ap (λ (r : Role). sequence_for (sequences_of r) Stop) m.2) moments,
     )
 
-logger_registered : (c : ClosedSession) → MembersEnd c → (moments : ℕ → List ℕ) → IsRegistered (session_of c moments) (logger_client c) Start × IsRegistered (session_of c moments) (logger_client c) Stop
+logger_registered : (c : ClosedSession) → MembersAtEnd c → (moments : ℕ → List ℕ) → IsRegistered (session_of c moments) (logger_client c) Start × IsRegistered (session_of c moments) (logger_client c) Stop
 logger_registered c ends moments =
     let m = logger_at c.fronts in (
       registered c ends (logger_client c) m.0 m.1 Start 200 (ap (λ (r : Role). sequence_for (sequences_of r) Start) m.2) moments,
@@ -137,7 +137,7 @@ each_front c moments P each f has =
     let of : IsFrontOf c moments f = front_of c moments f has in
     subst P (sym of.is) (each of.client of.front of.at)
 
-pub members_keep : PortTells → GotAll → StandingLoggerKeeps → FrontKeeps → (c : ClosedSession) → MembersEnd c → (moments : ℕ → List ℕ) × MembersKeep (session_of c moments)
+pub members_keep : PortTells → GotAll → StandingLoggerKeeps → FrontKeeps → (c : ClosedSession) → MembersAtEnd c → (moments : ℕ → List ℕ) × MembersKeep (session_of c moments)
 members_keep tells all stands keeps c ends =
     let chosen = choose c.fronts (FrontKept c) (λ client f at. front_kept keeps c client f (ends.fronts client f at)) in
     let moments : ℕ → List ℕ = chosen.0 in

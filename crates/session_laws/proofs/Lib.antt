@@ -8,3 +8,4 @@ pub mod FrontsEnd
 pub mod KeptTogether
 pub mod RunsMade
 pub mod NamesStay
+pub mod RecordsMade

@@ -17,7 +17,7 @@ use Rattle.member_model.specs.LoggerKept.{LoggerChannel, LoggerPort, KeepsLogger
 use Rattle.loggers.specs.NewLoggers.{NoneTakenBack}
 use Rattle.loggers.specs.LoggerStands.{logger_channels, logger_port, logger_ports, StandingLoggerKeeps}
 use Rattle.session_laws.specs.ClosedSessions.{ClosedBuffer, ClosedFront, ClosedSession, logger_client, logger_caller, size_in, history_in, history_of_buffer, engine_calls, calls_on_buffer, got_from_buffer}
-use Rattle.session_laws.specs.MembersEnd.{FrontEnds, IsAccessTo, MembersEnd}
+use Rattle.session_laws.specs.MembersAtEnd.{FrontAtEnd, IsAccessTo, MembersAtEnd}
 use Rattle.session_laws.proofs.EachCaller.{each_by, none_all, by_caller}
 use Rattle.session_laws.proofs.NoneTaken.{OthersKeep, none_taken_first}
 
@@ -53,7 +53,7 @@ own_keep : (by : ℕ) (es : List BufferEntry) → AllByRecursion (DetachesNone b
 own_keep by [] = tt
 own_keep by (e ∷ es) = ((λ differs client. absurd (differs refl)), own_keep by es)
 
-front_keeps : (c : ClosedSession) (client : ℕ) (f : ClosedFront) → FrontEnds c client f → (buffer : ℕ) → AllByRecursion (DetachesNone (logger_caller c) (caller_of_client client)) (calls_on_buffer c (caller_of_client client) buffer)
+front_keeps : (c : ClosedSession) (client : ℕ) (f : ClosedFront) → FrontAtEnd c client f → (buffer : ℕ) → AllByRecursion (DetachesNone (logger_caller c) (caller_of_client client)) (calls_on_buffer c (caller_of_client client) buffer)
 front_keeps c client f ends buffer = elim (eqb_tells f.buffer buffer) as (λ w. AllByRecursion (DetachesNone (logger_caller c) (caller_of_client client)) (calls_on_buffer c (caller_of_client client) buffer)) [
   | inl same ↦
       subst (λ (n : ℕ). AllByRecursion (DetachesNone (logger_caller c) (caller_of_client client)) (calls_on_buffer c (caller_of_client client) n)) same.1
@@ -61,7 +61,7 @@ front_keeps c client f ends buffer = elim (eqb_tells f.buffer buffer) as (λ w. 
   | inr differs ↦ none_all (DetachesNone (logger_caller c) (caller_of_client client)) (calls_on_buffer c (caller_of_client client) buffer) (ends.elsewhere buffer (λ is. differs.1 (sym is)))
 ]
 
-others_keep : (c : ClosedSession) → MembersEnd c → (buffer : ℕ) → OthersKeep (logger_caller c) (history_of_buffer c buffer)
+others_keep : (c : ClosedSession) → MembersAtEnd c → (buffer : ℕ) → OthersKeep (logger_caller c) (history_of_buffer c buffer)
 others_keep c ends buffer =
     each_by (DetachesNone (logger_caller c)) (history_of_buffer c buffer)
     (by_caller (λ by. AllByRecursion (DetachesNone (logger_caller c) by) (calls_on_buffer c by buffer)) c
@@ -87,14 +87,14 @@ both_at (x ∷ xs) [] k same = absurd (omega arith)
 both_at (x ∷ xs) (y ∷ ys) zero same = Both x y refl refl
 both_at (x ∷ xs) (y ∷ ys) (suc k) same = next_both x xs y ys k (both_at xs ys k (omega arith))
 
-not_taken_at : (c : ClosedSession) (ends : MembersEnd c) (buffer : ℕ) (a : Access) → slice_get ends.logger.ports buffer ≡ Some a → BothAt ends.logger.ports c.buffers buffer → a.taken_back ≡ []
+not_taken_at : (c : ClosedSession) (ends : MembersAtEnd c) (buffer : ℕ) (a : Access) → slice_get ends.logger.ports buffer ≡ Some a → BothAt ends.logger.ports c.buffers buffer → a.taken_back ≡ []
 not_taken_at c ends buffer a at (Both x b here there) =
     let access : IsAccessTo (logger_caller c) b a = ends.logger.access buffer a b at there in
     let keep : OthersKeep (logger_caller c) b.history = subst (λ (o : Option ClosedBuffer). OthersKeep (logger_caller c) (history_in o)) there (others_keep c ends buffer) in
     access.known ∙ none_taken_first (logger_caller c) access.seen b.history access.part.begins keep
 not_taken_at c ends buffer a at (Neither none nor) = absurd (cc (at, none))
 
-pub none_taken_back : (c : ClosedSession) (ends : MembersEnd c) → NoneTakenBack ends.logger.ports
+pub none_taken_back : (c : ClosedSession) (ends : MembersAtEnd c) → NoneTakenBack ends.logger.ports
 none_taken_back c ends buffer a at = not_taken_at c ends buffer a at (both_at ends.logger.ports c.buffers buffer ends.logger.many)
 
 -- What the ports told is what the histories tell.
@@ -109,14 +109,14 @@ port_so all by b a access =
     let got : a.got ≡ given_in by (opening b.size) b.history = access.got ∙ sym (all b.history access.seen by (opening b.size) access.part) in
     ap (λ (l : List BufferEntry). record { own = l; got = a.got }) own ∙ ap (λ (g : List GotEvent). record { own = entries_by by b.history; got = g }) got
 
-port_at : GotAll → (c : ClosedSession) (ends : MembersEnd c) (buffer : ℕ) → BothAt ends.logger.ports c.buffers buffer → logger_ports ends.logger.ports buffer ≡ port_to (logger_caller c) (slice_get c.buffers buffer)
+port_at : GotAll → (c : ClosedSession) (ends : MembersAtEnd c) (buffer : ℕ) → BothAt ends.logger.ports c.buffers buffer → logger_ports ends.logger.ports buffer ≡ port_to (logger_caller c) (slice_get c.buffers buffer)
 unfolding port_to
 port_at all c ends buffer (Both a b at there) =
     ap logger_port at
     ∙ (port_so all (logger_caller c) b a (ends.logger.access buffer a b at there) ∙ sym (ap (port_to (logger_caller c)) there))
 port_at all c ends buffer (Neither none nor) = ap logger_port none ∙ sym (ap (port_to (logger_caller c)) nor)
 
-pub logger_keeps : StandingLoggerKeeps → GotAll → (c : ClosedSession) → MembersEnd c
+pub logger_keeps : StandingLoggerKeeps → GotAll → (c : ClosedSession) → MembersAtEnd c
     → KeepsLogger (logger_channels (λ number. 0) c.slots) (λ buffer. record { own = calls_on_buffer c (logger_caller c) buffer; got = got_from_buffer c (logger_caller c) buffer })
     (member_turns (logger_client c) (engine_calls c (logger_caller c))) c.files
 unfolding port_to

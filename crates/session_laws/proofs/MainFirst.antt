@@ -15,7 +15,7 @@ use Rattle.session_engine.specs.declared.opening.MemberName.{MemberName}
 use Rattle.session_engine.specs.Members.{gets_dumps, gets_reports, registration, registrations}
 use Rattle.composition.specs.Sessions.{IsRegistered}
 use Rattle.session_laws.specs.ClosedSessions.{ClosedSession, members_of, session_of}
-use Rattle.session_laws.specs.MembersEnd.{MembersEnd}
+use Rattle.session_laws.specs.MembersAtEnd.{MembersAtEnd}
 use Rattle.session_laws.proofs.EachCaller.{own_around}
 use Rattle.session_laws.proofs.Registrations.{Among, registered_at, behind_all}
 
@@ -26,7 +26,7 @@ may_call s (y ∷ xs) x ys legal = may_call (engine_after s y.1) xs x ys legal.2
 no_begin : (t : Transition) (sheet : Sheet) (start : ℕ) (k : ℕ) (m : MemberName) → Begin t sheet (Ok start) ≡ registration k m → ⊥
 no_begin t sheet start k m is = absurd (cc (is))
 
-pub registered : (c : ClosedSession) → MembersEnd c → (client : ℕ) (m : MemberName) → slice_get (members_of c.fronts) client ≡ Some m
+pub registered : (c : ClosedSession) → MembersAtEnd c → (client : ℕ) (m : MemberName) → slice_get (members_of c.fronts) client ≡ Some m
     → (transition : Transition) (sequence : ℕ) → sequence_for (sequences_of m.role) transition ≡ Some sequence → (moments : ℕ → List ℕ) → IsRegistered (session_of c moments) client transition
 registered c ends client m at transition sequence called moments earlier later caller begun sheet start whole =
     let members : List MemberName = members_of c.fronts in

@@ -22,7 +22,7 @@ use Rattle.engine_laws.specs.EngineLaws.{TurnsWereBegun}
 use Rattle.composition.proofs.SessionTurns.{speaks}
 use Rattle.daq_members.specs.StartedRuns.{runs_with, started_runs}
 use Rattle.session_laws.specs.ClosedSessions.{ClosedSession, logger_client, logger_caller, engine_calls}
-use Rattle.session_laws.specs.MembersEnd.{MembersEnd}
+use Rattle.session_laws.specs.MembersAtEnd.{MembersAtEnd}
 use Rattle.session_laws.specs.OtherNames.{BeginsStartOf}
 use Rattle.session_laws.specs.EndLaws.{OtherNamesStay}
 use Rattle.session_laws.proofs.EachCaller.{own_around}
@@ -59,7 +59,7 @@ of_start : (t : Transition) (turn : MemberTurn) → (turn.transition ≡ t) ⊎ 
 of_start t turn (inl same) starts = sym same ∙ starts
 of_start t turn (inr off) starts = off.0
 
-starts_run : TurnsWereBegun → (c : ClosedSession) → MembersEnd c → (run : ℕ) → StartTurn (member_turns (logger_client c) (engine_calls c (logger_caller c))) run → BeginsStartOf (engine_calls c main_caller) run
+starts_run : TurnsWereBegun → (c : ClosedSession) → MembersAtEnd c → (run : ℕ) → StartTurn (member_turns (logger_client c) (engine_calls c (logger_caller c))) run → BeginsStartOf (engine_calls c main_caller) run
 starts_run law c ends run started =
     let was : WasBegun c.engine started.turn = law (logger_caller c) (logger_client c) c.engine ends.engine (speaks (logger_client c) c.engine (names_own c ends)) started.turn started.stands in
     let start : ℕ = started.turn.order.start in

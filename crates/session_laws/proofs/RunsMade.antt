@@ -1,6 +1,5 @@
 -- The runs that the main thread's own calls tell.
 use Rattle.std.specs.Prelude.{◌≡◌, ℕ, List, slice_get, Some}
-use Rattle.std.proofs.Common.{subst}
 use Rattle.daq_types.specs.Callers.{entries_by, main_caller}
 use Rattle.daq_types.specs.declared.runs.ChannelState.{ChannelState}
 use Rattle.daq_types.specs.declared.runs.ChannelState.TheVariants.{Idle, Writing, Broken, Ended, NoEnd, NoMark}
@@ -14,28 +13,22 @@ use Rattle.transitions.specs.EngineHistories.{EngineHistory, IsLegalEngine}
 use Rattle.transitions.specs.Engines.{engine_opening}
 use Rattle.member_model.specs.LoggerKept.{LoggerChannel}
 use Rattle.engine_laws.specs.BegunTurns.{HasTransition}
-use Rattle.engine_laws.specs.EngineLaws.{MainHasTransition, OthersComplete}
+use Rattle.engine_laws.specs.EngineLaws.{MainHasTransition}
 use Rattle.composition.specs.Sessions.{Session, SessionFront, HasFront}
 use Rattle.composition.specs.SessionRuns.{SessionRun, IsStoppedRun, ToldState}
 use Rattle.composition.specs.CompositionLaws.{IsComposed}
-use Rattle.session_laws.specs.MadeRuns.{MakesIn, FrontHolds, IsFileSo, ChannelHolds}
+use Rattle.session_laws.specs.MadeRuns.{TransitionIn, FrontHolds, IsFileSo, ChannelHolds}
 use Rattle.session_laws.specs.EndLaws.{MadeAreStopped, StoppedHold}
 
 has_made : MainHasTransition → (history : EngineHistory) (t : Transition) (sheet : Sheet) (start : ℕ) (outcome : StartOutcome) (tallies : List ClientTally) → IsLegalEngine engine_opening history
-    → MakesIn (entries_by main_caller history) t sheet start outcome tallies → HasTransition history t sheet start outcome tallies
+    → TransitionIn (entries_by main_caller history) t sheet start outcome tallies → HasTransition history t sheet start outcome tallies
 has_made law history t sheet start outcome tallies legal made = (law history made.before made.between made.after t sheet start outcome tallies legal made.whole made.on).0
 
-stop_is_none : Stop ≡ Start → ⊥
-stop_is_none is = absurd (cc (is))
-
-pub made_are_stopped : MainHasTransition → OthersComplete → MadeAreStopped
-made_are_stopped law complete s legal r made =
-    let stopped : HasTransition s.engine Stop r.last r.start made.outcome r.last_tallies = has_made law s.engine Stop r.last r.start made.outcome r.last_tallies legal made.stopped in
-    let done : made.outcome ≡ Completed = complete s.engine legal Stop r.last r.start made.outcome r.last_tallies stopped stop_is_none in
-    record {
-      started = has_made law s.engine Start r.first r.start Completed r.first_tallies legal made.started;
-      stopped = subst (λ (o : StartOutcome). HasTransition s.engine Stop r.last r.start o r.last_tallies) done stopped;
-    }
+pub made_are_stopped : MainHasTransition → MadeAreStopped
+made_are_stopped law s legal r made = record {
+  started = has_made law s.engine Start r.first r.start Completed r.first_tallies legal made.started;
+  stopped = has_made law s.engine Stop r.last r.start Completed r.last_tallies legal made.stopped;
+}
 
 front_holds : (s : Session) → IsComposed s → (r : SessionRun) → IsStoppedRun s r → (f : SessionFront) → HasFront s f → FrontHolds s r f
 front_holds s composed r run f has =
@@ -48,7 +41,7 @@ front_holds s composed r run f has =
       set = composed.stops_set r run f has told.0 told.1 told.2;
     }
 
-file_so : (s : Session) → IsComposed s → (r : SessionRun) → IsStoppedRun s r → (index : ℕ) (channel : LoggerChannel) → slice_get s.channels index ≡ Some channel → (state : ChannelState) → ToldState s r channel state → IsFileSo state s r channel
+pub file_so : (s : Session) → IsComposed s → (r : SessionRun) → IsStoppedRun s r → (index : ℕ) (channel : LoggerChannel) → slice_get s.channels index ≡ Some channel → (state : ChannelState) → ToldState s r channel state → IsFileSo state s r channel
 file_so s composed r run index channel at Idle told = tt
 file_so s composed r run index channel at Writing told = tt
 file_so s composed r run index channel at Broken told = composed.parts_hold r run index channel at told
@@ -62,4 +55,4 @@ channel_holds s composed r run index channel at =
     record { state = told.0; told = told.1; so = told.2; file = file_so s composed r run index channel at told.0 told.1 }
 
 pub stopped_hold : StoppedHold
-stopped_hold s composed r run = record { fronts = front_holds s composed r run; channels = channel_holds s composed r run }
+stopped_hold s composed r run = record { stopped = run; fronts = front_holds s composed r run; channels = channel_holds s composed r run }

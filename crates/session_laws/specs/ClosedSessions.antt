@@ -12,6 +12,7 @@ use Rattle.buffer_core.specs.Ports.{GotEvent}
 use Rattle.local_port.specs.Ported.{given_in}
 use Rattle.transitions.specs.declared.entry.EngineEntry.{EngineEntry}
 use Rattle.transitions.specs.EngineHistories.{EngineHistory}
+use Rattle.odb_tree.specs.Noting.{Watched}
 use Rattle.odb_watch.specs.declared.entry.WatchEntry.{WatchEntry}
 use Rattle.mid_logger.specs.declared.channel.Channel.{Channel}
 use Rattle.mid_logger.specs.ChannelTurns.{logger_name}
@@ -31,12 +32,13 @@ pub record ClosedFront : Type 0 where
   pub takes : Order → Bool
   pub makes : Order → ℕ → Event
 
--- A session: its buffers, each at its number; the history of the engine, and that of the database; the front-ends, each at
--- its client number; the logger's channels, each at its number; and the run files, as they were at first and as they are. The
--- logger's client number is the one behind those of the front-ends.
+-- A session: its buffers, each at its number; the history of the engine; what the database opened with, and its history; the
+-- front-ends, each at its client number; the logger's channels, each at its number; and the run files, as they were at first
+-- and as they are. The logger's client number is the one behind those of the front-ends.
 pub record ClosedSession : Type 0 where
   pub buffers : List ClosedBuffer
   pub engine : EngineHistory
+  pub opened : Watched
   pub database : List (ℕ × WatchEntry)
   pub fronts : List ClosedFront
   pub slots : List (Option Channel)

@@ -1,28 +1,28 @@
 -- What a closed session's histories tell: statements of the laws.
-use Rattle.std.specs.Prelude.{◌≡◌, ℕ, List}
+use Rattle.std.specs.Prelude.{◌≡◌, ◌<◌, ℕ, List, [], length}
 use Rattle.daq_types.specs.Callers.{entries_by, main_caller}
 use Rattle.composition.specs.Sessions.{Session, EngineLegal, MembersKeep}
 use Rattle.composition.specs.SessionRuns.{SessionRun, IsStoppedRun}
 use Rattle.composition.specs.CompositionLaws.{IsComposed}
-use Rattle.session_laws.specs.ClosedSessions.{ClosedSession, session_of}
-use Rattle.session_laws.specs.MembersEnd.{MembersEnd}
-use Rattle.session_laws.specs.MadeRuns.{MakesRun, RunHolds}
+use Rattle.session_laws.specs.ClosedSessions.{ClosedSession, calls_on_database, session_of}
+use Rattle.session_laws.specs.MembersAtEnd.{MembersAtEnd}
+use Rattle.session_laws.specs.MadeRuns.{RunIn, RunHolds}
 use Rattle.session_laws.specs.OtherNames.{IsOtherName}
 
 -- What is known of a session when its objects are closed is all that the law of composition asks for: there are moments of
 -- the front-ends' turns for which each member keeps its contract.
 abbrev pub EndsKeep : Type 0
-EndsKeep = (c : ClosedSession) → MembersEnd c →
+EndsKeep = (c : ClosedSession) → MembersAtEnd c →
     (moments : (client : ℕ) → List ℕ) × MembersKeep (session_of c moments)
 
 -- So all that it says is so.
 abbrev pub EndsComposed : Type 0
-EndsComposed = (c : ClosedSession) → MembersEnd c →
+EndsComposed = (c : ClosedSession) → MembersAtEnd c →
     (moments : (client : ℕ) → List ℕ) × IsComposed (session_of c moments)
 
 -- A run that the main thread's own calls tell is one of the session that was not refused and was stopped.
 abbrev pub MadeAreStopped : Type 0
-MadeAreStopped = (s : Session) → EngineLegal s → (r : SessionRun) → MakesRun (entries_by main_caller s.engine) r →
+MadeAreStopped = (s : Session) → EngineLegal s → (r : SessionRun) → RunIn (entries_by main_caller s.engine) r →
     IsStoppedRun s r
 
 -- Of such a run each front-end's sends and each channel's file are as the members told.
@@ -31,16 +31,17 @@ StoppedHold = (s : Session) → IsComposed s → (r : SessionRun) → IsStoppedR
 
 -- Each file whose name no channel gives in a run that the main thread began is as it was at first.
 abbrev pub OtherNamesStay : Type 0
-OtherNamesStay = (c : ClosedSession) → MembersEnd c → (name : List ℕ) → IsOtherName c name →
+OtherNamesStay = (c : ClosedSession) → MembersAtEnd c → (name : List ℕ) → IsOtherName c name →
     c.files.at name ≡ c.first_files.at name
 
--- A closed session: the law of composition for its histories; all runs that the main thread made; and the files of other
--- names, which are as they were at first.
+-- A closed session: the law of composition for its histories; all runs that the main thread made; the files of other names,
+-- which are as they were at first; and the callers of the database, which are the main thread and the front-ends alone.
 pub record SessionHolds (c : ClosedSession) : Type 0 where
   pub moments : (client : ℕ) → List ℕ
   pub composed : IsComposed (session_of c moments)
-  pub runs : (r : SessionRun) → MakesRun (entries_by main_caller c.engine) r → RunHolds (session_of c moments) r
+  pub runs : (r : SessionRun) → RunIn (entries_by main_caller c.engine) r → RunHolds (session_of c moments) r
   pub others : (name : List ℕ) → IsOtherName c name → c.files.at name ≡ c.first_files.at name
+  pub callers : (by : ℕ) → length c.fronts < by → calls_on_database c by ≡ []
 
 abbrev pub EndsHold : Type 0
-EndsHold = (c : ClosedSession) → MembersEnd c → SessionHolds c
+EndsHold = (c : ClosedSession) → MembersAtEnd c → SessionHolds c

@@ -1,5 +1,6 @@
 pub mod ClosedSessions
-pub mod MembersEnd
+pub mod MembersAtEnd
 pub mod MadeRuns
 pub mod OtherNames
 pub mod EndLaws
+pub mod RecordedRuns

@@ -15,10 +15,10 @@ use Rattle.transitions.specs.declared.entry.EngineEntry.TheVariants.{Begin, Chec
 use Rattle.member_model.specs.LoggerKept.{LoggerChannel, IsStateSo}
 use Rattle.engine_laws.specs.BegunTurns.{AreUnmarked}
 use Rattle.composition.specs.Sessions.{Session, SessionFront, HasFront, buffer_calls}
-use Rattle.composition.specs.SessionRuns.{SessionRun, TellsFront, FrontSent, SetAtStop, ToldState, HoldsRunFile, HoldsFilePart}
+use Rattle.composition.specs.SessionRuns.{SessionRun, IsStoppedRun, TellsFront, FrontSent, SetAtStop, ToldState, HoldsRunFile, HoldsFilePart}
 
 -- A transition stands among these calls, from its begin to its Done: no other begins or ends between the two.
-pub record MakesIn (own : List EngineEntry) (transition : Transition) (sheet : Sheet) (start : ℕ) (outcome : StartOutcome) (tallies : List ClientTally) : Type 0 where
+pub record TransitionIn (own : List EngineEntry) (transition : Transition) (sheet : Sheet) (start : ℕ) (outcome : StartOutcome) (tallies : List ClientTally) : Type 0 where
   pub before : List EngineEntry
   pub between : List EngineEntry
   pub after : List EngineEntry
@@ -26,10 +26,9 @@ pub record MakesIn (own : List EngineEntry) (transition : Transition) (sheet : S
   pub on : AreUnmarked between
 
 -- A run stands among these calls: its start, which was not refused, and a stop with its start number.
-pub record MakesRun (own : List EngineEntry) (r : SessionRun) : Type 0 where
-  pub started : MakesIn own Start r.first r.start Completed r.first_tallies
-  pub outcome : StartOutcome
-  pub stopped : MakesIn own Stop r.last r.start outcome r.last_tallies
+pub record RunIn (own : List EngineEntry) (r : SessionRun) : Type 0 where
+  pub started : TransitionIn own Start r.first r.start Completed r.first_tallies
+  pub stopped : TransitionIn own Stop r.last r.start Completed r.last_tallies
 
 -- A front-end in the run: what it told at the stop is what it sent, the first events of its equipment; and that is what it
 -- set in the database.
@@ -54,7 +53,8 @@ pub record ChannelHolds (s : Session) (r : SessionRun) (channel : LoggerChannel)
   pub so : IsStateSo (buffer_calls s channel.buffer s.logger) r.start r.last.dump state
   pub file : IsFileSo state s r channel
 
--- The run, in each front-end and each channel.
+-- The run was not refused, and was stopped; and what holds of it in each front-end and each channel.
 pub record RunHolds (s : Session) (r : SessionRun) : Type 0 where
+  pub stopped : IsStoppedRun s r
   pub fronts : (f : SessionFront) → HasFront s f → FrontHolds s r f
   pub channels : (index : ℕ) → (channel : LoggerChannel) → slice_get s.channels index ≡ Some channel → ChannelHolds s r channel

@@ -1,5 +1,6 @@
 //! Laws of closed sessions: each function does nothing, and its contract is the law.
 
+ghost use Rattle.session_laws.specs.RecordedRuns.{RecordsHold};
 ghost use Rattle.session_laws.specs.EndLaws.{EndsKeep, EndsComposed, MadeAreStopped, StoppedHold, OtherNamesStay, EndsHold};
 
 use buffer_lock::laws as buffers;
@@ -35,7 +36,6 @@ pub fn made_are_stopped()
     ensures { MadeAreStopped }
 {
     turns::main_has_transition();
-    turns::tallies_answered();
 }
 
 /// Of a run that was not refused and was stopped: each front-end sent what it told at the stop, the first events of its
@@ -62,3 +62,10 @@ pub fn session_holds()
     stopped_hold();
     other_names_stay();
 }
+
+/// The record of each run that was not refused, where it fits the main thread's own calls, has the numbers and the times of a
+/// run of the session, what each front-end told at the stop, which is what it sent, and what the logger told of each file: the
+/// file of a channel that ended is the run file of all events of the run that it asks for.
+pub fn records_hold()
+    ensures { RecordsHold }
+{}

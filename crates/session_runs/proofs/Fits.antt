@@ -1,8 +1,10 @@
 -- Records of runs go on fitting where calls come behind, and a run command's calls fit its record.
-use Rattle.std.specs.Prelude.{◌≡◌, ℕ, List, [], ◌∷◌, ◌++◌, length, Option, Some, None, Result, Ok, refl}
+use Rattle.std.specs.Prelude.{◌≡◌, ℕ, zero, suc, List, [], ◌∷◌, ◌++◌, length, map, Option, Some, None, Result, Ok, refl}
 use Rattle.std.specs.List.{AllByRecursion}
+use Rattle.std.specs.Option.{option_map, option_to_list}
 use Rattle.std.proofs.Common.{ap, sym, subst, ◌∙◌, append_assoc, append-nil}
 use Rattle.daq_types.specs.declared.memory.NoMemory.{NoMemory}
+use Rattle.daq_types.specs.declared.runs.RunState.{RunState}
 use Rattle.daq_types.specs.declared.runs.StartOutcome.{StartOutcome}
 use Rattle.daq_types.specs.declared.runs.StartOutcome.TheVariants.{Completed, Refused}
 use Rattle.daq_types.specs.declared.runs.Transition.{Transition}
@@ -16,7 +18,10 @@ use Rattle.transitions.specs.declared.answers.ClientTally.{ClientTally}
 use Rattle.transitions.specs.declared.entry.EngineEntry.{EngineEntry}
 use Rattle.transitions.specs.declared.entry.EngineEntry.TheVariants.{Begin}
 use Rattle.run_records.specs.declared.records.RunRecord.{RunRecord}
+use Rattle.session_engine.specs.MainKnowledge.{known_from}
 use Rattle.session_engine.specs.MadeTransitions.{going_checks, done_check, DrivesTransition}
+use Rattle.session_engine.specs.declared.opening.MemberName.{MemberName}
+use Rattle.session_engine.specs.Members.{registrations}
 use Rattle.session_runs.specs.declared.channels.RunChannel.{RunChannel}
 use Rattle.session_runs.specs.declared.on.CurrentRun.{CurrentRun}
 use Rattle.session_runs.specs.declared.replies.RunReply.{RunReply}
@@ -24,11 +29,11 @@ use Rattle.session_runs.specs.declared.replies.RunReply.TheVariants.{WrongState,
 use Rattle.session_runs.specs.KeptRuns.{RunsSeen, record_of, refused_start, behind_start, with_calls}
 use Rattle.session_runs.specs.RunAnswers.{ClockTold, CommandPoint, GotNumber, LacksNumber, BeginsRun, MakesStop, MakesChange, AnswersStart, AnswersStop, AnswersPause, AnswersResume, run_begun}
 use Rattle.session_runs.specs.RunEntries.{StartCalls, StopCalls, start_sheet, later_sheet, dump_saved}
-use Rattle.session_runs.specs.RunsFit.{MainOwn, calls_joined, StandsMade, StandCalls, FitsStart, FitsStop, FitsWhole, FitsOutcome, FitsRun, FitsOn, RunsFit, run_of}
+use Rattle.session_runs.specs.RunsFit.{MainOwn, calls_joined, StandsMade, StandCalls, FitsStart, FitsStop, FitsWhole, FitsOutcome, FitsRun, FitsOn, RunsFit, run_of, start_begun, start_of, start_on, starts_begun}
 
 -- Calls behind.
 
-made_more : (own more : List EngineEntry) (t : Transition) (sheet : Sheet) (start : ℕ) (outcome : StartOutcome) (tallies : List ClientTally) → StandsMade own t sheet start outcome tallies
+abbrev made_more : (own more : List EngineEntry) (t : Transition) (sheet : Sheet) (start : ℕ) (outcome : StartOutcome) (tallies : List ClientTally) → StandsMade own t sheet start outcome tallies
     → StandsMade (own ++ more) t sheet start outcome tallies
 made_more own more t sheet start outcome tallies made =
     let checks : List EngineEntry = going_checks made.rounds in
@@ -43,7 +48,7 @@ made_more own more t sheet start outcome tallies made =
           ∙ ap (λ (l : List EngineEntry). made.before ++ begin ∷ l) (append_assoc checks done more));
     }
 
-stand_more : (entries own more : List WatchEntry) → StandCalls entries own → StandCalls entries (own ++ more)
+abbrev stand_more : (entries own more : List WatchEntry) → StandCalls entries own → StandCalls entries (own ++ more)
 stand_more entries own more stand = record {
   before = stand.before;
   after = stand.after ++ more;
@@ -52,7 +57,7 @@ stand_more entries own more stand = record {
       ∙ ap (λ (l : List WatchEntry). stand.before ++ l) (append_assoc entries stand.after more));
 }
 
-start_more : (own more : MainOwn) (r : CurrentRun) (outcome : StartOutcome) → FitsStart own r outcome → FitsStart (calls_joined own more) r outcome
+abbrev start_more : (own more : MainOwn) (r : CurrentRun) (outcome : StartOutcome) → FitsStart own r outcome → FitsStart (calls_joined own more) r outcome
 start_more own more r outcome fits = record {
   dump = fits.dump;
   tallies = fits.tallies;
@@ -62,7 +67,7 @@ start_more own more r outcome fits = record {
   stand = stand_more fits.entries own.database more.database fits.stand;
 }
 
-stop_more : (fronts : ℕ) (channels : List RunChannel) (own more : MainOwn) (begun : CurrentRun) (r : RunRecord) → FitsStop fronts channels own begun r → FitsStop fronts channels (calls_joined own more) begun r
+abbrev stop_more : (fronts : ℕ) (channels : List RunChannel) (own more : MainOwn) (begun : CurrentRun) (r : RunRecord) → FitsStop fronts channels own begun r → FitsStop fronts channels (calls_joined own more) begun r
 stop_more fronts channels own more begun r fits = record {
   state = fits.state;
   saved = fits.saved;
@@ -91,6 +96,7 @@ outcome_more fronts channels own more begun r Completed fits = record {
   calls = ap (λ (o : MainOwn). calls_joined o more) fits.calls ∙ joined_again fits.early fits.late more;
   start = fits.start;
   stop = stop_more fronts channels fits.late more begun r fits.stop;
+  state_is = fits.state_is;
 }
 outcome_more fronts channels own more begun r (Refused client why) fits = record {
   start = start_more own more begun r.outcome fits.start;
@@ -124,18 +130,56 @@ more_fit s own more fits =
     let silent : MainOwn = record { engine = []; database = more } in
     let is : calls_joined (own_of s own) silent ≡ own_of s (own ++ more) = same_own _ _ _ _ (append-nil s.main.own) refl in
     record {
+      each_start = fits.each_start;
       runs = subst (λ (o : MainOwn). AllByRecursion (FitsRun (length s.fronts) s.channels o) s.runs) is (all_more (length s.fronts) s.channels (own_of s own) silent s.runs fits.runs);
       on = subst (λ (o : MainOwn). FitsOn o s.on) is (on_more (own_of s own) silent s.on fits.on);
     }
+
+-- before the first run all fits
+pub opening_fits : (s : RunsSeen) (own : List WatchEntry) → s.runs ≡ [] → s.on ≡ None → starts_begun s.main.own ≡ [] → RunsFit s own
+opening_fits s own empty idle none = record {
+  each_start = ap (λ (rs : List RunRecord). map start_of rs ++ option_to_list (option_map start_on s.on)) empty
+      ∙ (ap (λ (o : Option CurrentRun). option_to_list (option_map start_on o)) idle ∙ sym none);
+  runs = subst (λ (rs : List RunRecord). AllByRecursion (FitsRun (length s.fronts) s.channels (own_of s own)) rs) (sym empty) tt;
+  on = subst (λ (o : Option CurrentRun). FitsOn (own_of s own) o) (sym idle) tt;
+}
+
+-- registrations begin no start
+pub registered_none : (first : ℕ) (ms : List MemberName) → starts_begun (registrations first ms) ≡ []
+registered_none first [] = refl
+registered_none first (m ∷ ms) = registered_none (suc first) ms
 
 -- A transition.
 
 abbrev made_calls : Transition → Sheet → (start : ℕ) → StartOutcome → List ClientTally → (rounds : ℕ) → List EngineEntry
 made_calls t sheet start outcome tallies rounds = Begin t sheet (Ok start) ∷ (going_checks rounds ++ done_check outcome tallies ∷ [])
 
--- how the own calls go on
-pub record GoesOn (database : List WatchEntry) (later : List WatchEntry) (entries : List WatchEntry) : Type 0 where
-  pub is : later ≡ database ++ entries
+-- Starts that were begun.
+
+starts_joined : (own more : List EngineEntry) → starts_begun (own ++ more) ≡ starts_begun own ++ starts_begun more
+starts_joined [] more = refl
+starts_joined (e ∷ own) more =
+    ap (λ (l : List ℕ). start_begun e ++ l) (starts_joined own more) ∙ sym (append_assoc (start_begun e) (starts_begun own) (starts_begun more))
+
+no_starts : (rounds : ℕ) (outcome : StartOutcome) (tallies : List ClientTally) → starts_begun (going_checks rounds ++ done_check outcome tallies ∷ []) ≡ []
+no_starts zero outcome tallies = refl
+no_starts (suc n) outcome tallies = no_starts n outcome tallies
+
+-- a start begins one, and no other transition any
+starts_made : (t : Transition) (sheet : Sheet) (start : ℕ) (outcome : StartOutcome) (tallies : List ClientTally) (rounds : ℕ)
+    → starts_begun (made_calls t sheet start outcome tallies rounds) ≡ start_begun (Begin t sheet (Ok start))
+starts_made t sheet start outcome tallies rounds =
+    ap (λ (l : List ℕ). start_begun (Begin t sheet (Ok start)) ++ l) (no_starts rounds outcome tallies) ∙ append-nil (start_begun (Begin t sheet (Ok start)))
+
+starts_behind : (own later : List EngineEntry) (t : Transition) (sheet : Sheet) (start : ℕ) (outcome : StartOutcome) (tallies : List ClientTally) (rounds : ℕ)
+    → later ≡ own ++ made_calls t sheet start outcome tallies rounds → starts_begun later ≡ starts_begun own ++ start_begun (Begin t sheet (Ok start))
+starts_behind own later t sheet start outcome tallies rounds is =
+    ap starts_begun is ∙ (starts_joined own (made_calls t sheet start outcome tallies rounds)
+    ∙ ap (λ (l : List ℕ). starts_begun own ++ l) (starts_made t sheet start outcome tallies rounds))
+
+starts_snoc : (rs : List RunRecord) (r : RunRecord) → map start_of (rs ++ r ∷ []) ≡ map start_of rs ++ r.start ∷ []
+starts_snoc [] r = refl
+starts_snoc (x ∷ rs) r = ap (λ (l : List ℕ). x.start ∷ l) (starts_snoc rs r)
 
 -- the law of ports: the entries are the caller's own
 abbrev pub OwnGrows : Type 0
@@ -163,19 +207,31 @@ module _ {M : Type 0} (round : M → M → Type 0) where
     stand = record { before = own.database; after = []; calls = ap (λ (l : List WatchEntry). own.database ++ l) (sym (append-nil entries)) };
   }
 
+  -- where no run is on, the records have the starts so far
+  so_far : (s : RunsSeen) (own : List WatchEntry) → s.on ≡ None → RunsFit s own → map start_of s.runs ≡ starts_begun s.main.own
+  so_far s own idle fits =
+      sym (append-nil (map start_of s.runs))
+      ∙ (ap (λ (o : Option CurrentRun). map start_of s.runs ++ option_to_list (option_map start_on o)) (sym idle) ∙ fits.each_start)
+
   -- behind a start that ended so all fit
-  started : (s : RunsSeen) (own : List WatchEntry) (r : CurrentRun) (outcome : StartOutcome) (later : MainOwn) (more : MainOwn) → later ≡ calls_joined (own_of s own) more
-      → FitsStart (calls_joined (own_of s own) more) r outcome → RunsFit s own → RunsFit (with_calls (behind_start s r outcome) later.engine) later.database
-  started s own r Completed later more is start fits = record {
+  started : (s : RunsSeen) (own : List WatchEntry) (r : CurrentRun) (outcome : StartOutcome) (later : MainOwn) (more : MainOwn) → later ≡ calls_joined (own_of s own) more → s.on ≡ None
+      → starts_begun later.engine ≡ starts_begun s.main.own ++ r.start ∷ [] → FitsStart (calls_joined (own_of s own) more) r outcome → RunsFit s own
+      → RunsFit (with_calls (behind_start s r outcome) later.engine) later.database
+  started s own r Completed later more is idle starts start fits = record {
+    each_start = ap (λ (l : List ℕ). l ++ r.start ∷ []) (so_far s own idle fits) ∙ sym starts;
     runs = subst (λ (o : MainOwn). AllByRecursion (FitsRun (length s.fronts) s.channels o) s.runs) (sym is) (all_more (length s.fronts) s.channels (own_of s own) more s.runs fits.runs);
     on = subst (λ (o : MainOwn). FitsStart o r Completed) (sym is) start;
   }
-  started s own r (Refused client why) later more is start fits =
-      let all : AllByRecursion (FitsRun (length s.fronts) s.channels (calls_joined (own_of s own) more)) (s.runs ++ refused_start r (Refused client why) ∷ []) =
-      all_one (FitsRun (length s.fronts) s.channels (calls_joined (own_of s own) more)) s.runs (refused_start r (Refused client why)) (all_more (length s.fronts) s.channels (own_of s own) more s.runs fits.runs)
+  started s own r (Refused client why) later more is idle starts start fits =
+      let rec : RunRecord = refused_start r (Refused client why) in
+      let all : AllByRecursion (FitsRun (length s.fronts) s.channels (calls_joined (own_of s own) more)) (s.runs ++ rec ∷ []) =
+      all_one (FitsRun (length s.fronts) s.channels (calls_joined (own_of s own) more)) s.runs rec (all_more (length s.fronts) s.channels (own_of s own) more s.runs fits.runs)
       (r.quota, record { start = start; time = refl; fronts = refl; files = refl }) in
       record {
-        runs = subst (λ (o : MainOwn). AllByRecursion (FitsRun (length s.fronts) s.channels o) (s.runs ++ refused_start r (Refused client why) ∷ [])) (sym is) all;
+        each_start = ap (λ (o : Option CurrentRun). map start_of (s.runs ++ rec ∷ []) ++ option_to_list (option_map start_on o)) idle
+            ∙ (append-nil (map start_of (s.runs ++ rec ∷ []))
+            ∙ (starts_snoc s.runs rec ∙ (ap (λ (l : List ℕ). l ++ r.start ∷ []) (so_far s own idle fits) ∙ sym starts)));
+        runs = subst (λ (o : MainOwn). AllByRecursion (FitsRun (length s.fronts) s.channels o) (s.runs ++ rec ∷ [])) (sym is) all;
         on = subst (λ (o : MainOwn). FitsOn o s.on) (sym is) (on_more (own_of s own) more s.on fits.on);
       }
 
@@ -197,7 +253,8 @@ module _ {M : Type 0} (round : M → M → Type 0) where
       let more : MainOwn = fresh Start sheet begins.start outcome begins.tallies begins.drives.rounds entries in
       let is : own_of new.runs (own_watched new.database) ≡ calls_joined (own_of s own) more = same_own _ _ _ _ begins.drives.calls (grows old.database new.database entries whole) in
       subst (λ (x : RunsSeen). RunsFit x (own_watched new.database)) (sym begins.kept)
-      (started s own r outcome (own_of new.runs (own_watched new.database)) more is (start_fits (own_of s own) r outcome begins.dump begins.tallies begins.drives.rounds entries are) (got_fits grows run old ready got fits))
+      (started s own r outcome (own_of new.runs (own_watched new.database)) more is begins.idle
+      (starts_behind s.main.own new.runs.main.own Start sheet begins.start outcome begins.tallies begins.drives.rounds begins.drives.calls) (start_fits (own_of s own) r outcome begins.dump begins.tallies begins.drives.rounds entries are) (got_fits grows run old ready got fits))
 
   lacks_fits : OwnGrows → (have : _) (old new : CommandPoint M) → LacksNumber have old new → RunsFit old.runs (own_watched old.database) → RunsFit new.runs (own_watched new.database)
   lacks_fits grows have old new lacks fits =
@@ -225,7 +282,7 @@ module _ {M : Type 0} (round : M → M → Type 0) where
   on_start : (own : MainOwn) (on : Option CurrentRun) (r : CurrentRun) → on ≡ Some r → FitsOn own on → FitsStart own r Completed
   on_start own on r is fits = subst (FitsOn own) is fits
 
-  stop_fits : (fronts : ℕ) (channels : List RunChannel) (r : CurrentRun) (time : ℕ) (tallies : List ClientTally) (state : _) (saved : Result (List ℕ) NoMemory) (rounds : ℕ) (entries : List WatchEntry)
+  abbrev stop_fits : (fronts : ℕ) (channels : List RunChannel) (r : CurrentRun) (time : ℕ) (tallies : List ClientTally) (state : _) (saved : Result (List ℕ) NoMemory) (rounds : ℕ) (entries : List WatchEntry)
       → StopCalls state time saved entries
       → FitsStop fronts channels (fresh Stop (later_sheet r time (dump_saved saved)) r.start Completed tallies rounds entries) r (record_of fronts channels r time tallies)
   stop_fits fronts channels r time tallies state saved rounds entries are = record {
@@ -249,16 +306,23 @@ module _ {M : Type 0} (round : M → M → Type 0) where
       let later : MainOwn = own_of new.runs (own_watched new.database) in
       let is : later ≡ calls_joined own more = grown grows old new Stop (later_sheet r stops.time (dump_saved saved)) r.start Completed stops.tallies stops.entries stops.drives stops.adds in
       let rec : RunRecord = record_of fronts s.channels r stops.time stops.tallies in
+      let state : RunState = (known_from s.main.own).state in
       let whole : FitsWhole fronts s.channels (calls_joined own more) r rec = record {
         early = own;
         late = more;
         calls = refl;
         start = on_start own s.on r stops.on fits.on;
-        stop = stop_fits fronts s.channels r stops.time stops.tallies _ saved stops.drives.rounds stops.entries stops.calls;
+        stop = stop_fits fronts s.channels r stops.time stops.tallies state saved stops.drives.rounds stops.entries stops.calls;
+        state_is = ap (λ (l : List EngineEntry). (known_from l).state) (sym (append-nil s.main.own));
       } in
+      let starts : starts_begun new.runs.main.own ≡ starts_begun s.main.own ++ [] =
+      starts_behind s.main.own new.runs.main.own Stop (later_sheet r stops.time (dump_saved saved)) r.start Completed stops.tallies stops.drives.rounds stops.drives.calls in
+      let before : map start_of s.runs ++ r.start ∷ [] ≡ starts_begun s.main.own =
+      ap (λ (o : Option CurrentRun). map start_of s.runs ++ option_to_list (option_map start_on o)) (sym stops.on) ∙ fits.each_start in
       let all : AllByRecursion (FitsRun fronts s.channels (calls_joined own more)) (s.runs ++ rec ∷ []) =
       all_one (FitsRun fronts s.channels (calls_joined own more)) s.runs rec (all_more fronts s.channels own more s.runs fits.runs) (r.quota, whole) in
       subst (λ (x : RunsSeen). RunsFit x (own_watched new.database)) (sym stops.kept) (record {
+        each_start = append-nil (map start_of (s.runs ++ rec ∷ [])) ∙ (starts_snoc s.runs rec ∙ (before ∙ sym (starts ∙ append-nil (starts_begun s.main.own))));
         runs = subst (λ (o : MainOwn). AllByRecursion (FitsRun fronts s.channels o) (s.runs ++ rec ∷ [])) (sym is) all;
         on = tt;
       })
@@ -276,20 +340,24 @@ module _ {M : Type 0} (round : M → M → Type 0) where
 
   -- Pauses and resumes.
 
-  changed_fits : OwnGrows → (t : Transition) (r : CurrentRun) (old new : CommandPoint M) → MakesChange round t r old new → RunsFit old.runs (own_watched old.database) → RunsFit new.runs (own_watched new.database)
-  changed_fits grows t r old new makes fits =
+  changed_fits : OwnGrows → (t : Transition) (r : CurrentRun) (old new : CommandPoint M) → ((sheet : Sheet) (start : ℕ) → start_begun (Begin t sheet (Ok start)) ≡ []) → MakesChange round t r old new → RunsFit old.runs (own_watched old.database) → RunsFit new.runs (own_watched new.database)
+  changed_fits grows t r old new none makes fits =
       let s : RunsSeen = old.runs in
       let own : MainOwn = own_of s (own_watched old.database) in
       let sheet : Sheet = later_sheet r r.time None in
       let more : MainOwn = fresh t sheet r.start Completed makes.tallies makes.drives.rounds (row_calls makes.sets) in
       let is : own_of new.runs (own_watched new.database) ≡ calls_joined own more = grown grows old new t sheet r.start Completed makes.tallies (row_calls makes.sets) makes.drives makes.adds in
+      let starts : starts_begun new.runs.main.own ≡ starts_begun s.main.own =
+      starts_behind s.main.own new.runs.main.own t sheet r.start Completed makes.tallies makes.drives.rounds makes.drives.calls
+      ∙ (ap (λ (l : List ℕ). starts_begun s.main.own ++ l) (none sheet r.start) ∙ append-nil (starts_begun s.main.own)) in
       subst (λ (x : RunsSeen). RunsFit x (own_watched new.database)) (sym makes.kept) (record {
+        each_start = fits.each_start ∙ sym starts;
         runs = subst (λ (o : MainOwn). AllByRecursion (FitsRun (length s.fronts) s.channels o) s.runs) (sym is) (all_more (length s.fronts) s.channels own more s.runs fits.runs);
         on = subst (λ (o : MainOwn). FitsOn o s.on) (sym is) (on_more own more s.on fits.on);
       })
 
   pub answered_pause : OwnGrows → (reply : RunReply) (old new : CommandPoint M) → AnswersPause round reply old new → RunsFit old.runs (own_watched old.database) → RunsFit new.runs (own_watched new.database)
-  answered_pause grows (run_paused run) old new does fits = changed_fits grows Pause does.0 old new does.2 fits
+  answered_pause grows (run_paused run) old new does fits = changed_fits grows Pause does.0 old new (λ sheet start. refl) does.2 fits
   answered_pause grows (WrongState state) old new does fits = same_fits old new does.1 fits
   answered_pause grows LastStart old new does fits = same_fits old new does.1 fits
   answered_pause grows (RunNumber have) old new does fits = absurd does.0
@@ -299,7 +367,7 @@ module _ {M : Type 0} (round : M → M → Type 0) where
   answered_pause grows (run_stopped run) old new does fits = absurd does.0
 
   pub answered_resume : OwnGrows → (reply : RunReply) (old new : CommandPoint M) → AnswersResume round reply old new → RunsFit old.runs (own_watched old.database) → RunsFit new.runs (own_watched new.database)
-  answered_resume grows (run_resumed run) old new does fits = changed_fits grows Resume does.0 old new does.2 fits
+  answered_resume grows (run_resumed run) old new does fits = changed_fits grows Resume does.0 old new (λ sheet start. refl) does.2 fits
   answered_resume grows (WrongState state) old new does fits = same_fits old new does.1 fits
   answered_resume grows LastStart old new does fits = same_fits old new does.1 fits
   answered_resume grows (RunNumber have) old new does fits = absurd does.0

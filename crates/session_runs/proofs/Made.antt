@@ -18,7 +18,7 @@ use Rattle.transition_lock.specs.declared.shared.SharedEngine.{SharedEngine}
 use Rattle.run_records.specs.declared.records.RunRecord.{RunRecord}
 use Rattle.session_engine.specs.MainKnowledge.{MainKnows, known_from, begin_known}
 use Rattle.session_engine.specs.MadeTransitions.{DrivesTransition}
-use Rattle.session_engine.specs.MainSeats.{IsBetween, MainSeen}
+use Rattle.session_engine.specs.MainSeats.{StandsFree, MainSeen}
 use Rattle.session_runs.specs.declared.channels.RunChannel.{RunChannel}
 use Rattle.session_runs.specs.declared.on.CurrentRun.{CurrentRun}
 use Rattle.session_runs.specs.declared.replies.RunReply.{RunReply}
@@ -94,19 +94,20 @@ stop_is_none is = absurd (cc (is))
 
 module _ {M : Type 0} (round : M → M → Type 0) where
   pub begins_run : CallsAreEntries → (run start time : ℕ) (outcome ended : StartOutcome) (dump : List ℕ) (saved : Result (List ℕ) NoMemory) (sheet : Sheet) (before after : ClockTold) (s later : RunsSeen)
-      (a b c : DatabaseAccess) (members turned : M) → begin_known (known_from s.main.own) Start ≡ Ok start → ReadsClock before after time
+      (a b c : DatabaseAccess) (members turned : M) → s.on ≡ None → begin_known (known_from s.main.own) Start ≡ Ok start → ReadsClock before after time
       → ((entries : List WatchEntry) × AnnounceCalls run time saved entries × AddsEntries a b entries) → saved ≡ Ok dump → SetsNumbers b c (outcome_sets run ended) → ended ≡ outcome
       → sheet ≡ start_sheet run time s.quota dump
       → ((told : List ClientTally) × DrivesTransition round Start sheet start ended told s.main.own later.main.own members turned)
       → later ≡ with_calls (behind_start s (run_begun s run start time) outcome) later.main.own
       → BeginsRun round run outcome before after (point_of s a members) (point_of later c turned)
-  begins_run are run start time outcome ended dump saved sheet before after s later a b c members turned begins reading announced is sets done sheet_is made kept =
+  begins_run are run start time outcome ended dump saved sheet before after s later a b c members turned idle begins reading announced is sets done sheet_is made kept =
       let first : AnnounceCalls run time (Ok dump) announced.0 = subst (λ (r : Result (List ℕ) NoMemory). AnnounceCalls run time r announced.0) is announced.1 in
       let last : SetsNumbers b c (outcome_sets run outcome) = subst (λ (o : StartOutcome). SetsNumbers b c (outcome_sets run o)) done sets in
       let whole : (entries : List WatchEntry) × BeginCalls run time outcome dump entries × AddsEntries a c entries = begin_calls are a b c run time outcome dump announced.0 first announced.2 last in
       let drives : DrivesTransition round Start (start_sheet run time s.quota dump) start ended made.0 s.main.own later.main.own members turned =
       subst (λ (x : Sheet). DrivesTransition round Start x start ended made.0 s.main.own later.main.own members turned) sheet_is made.1 in
       record {
+        idle = idle;
         start = start;
         begins = begins;
         time = time;
@@ -144,7 +145,7 @@ module _ {M : Type 0} (round : M → M → Type 0) where
   start_cut (Err wanting) run before after old ready new begins got cut = record { begins = begins; cut = inr (run, ready, got, cut) }
 
   pub stops_run : CallsAreEntries → (r : CurrentRun) (start time : ℕ) (outcome : StartOutcome) (state : RunState) (saved : Result (List ℕ) NoMemory) (sheet : Sheet) (tallies : List ClientTally) (before after : ClockTold)
-      (s later : RunsSeen) (a b c : DatabaseAccess) (members turned : M) → s.on ≡ Some r → IsInStep s.on (known_from s.main.own) → IsBetween s.main.own → state ≡ (known_from s.main.own).state
+      (s later : RunsSeen) (a b c : DatabaseAccess) (members turned : M) → s.on ≡ Some r → IsInStep s.on (known_from s.main.own) → StandsFree s.main.own → state ≡ (known_from s.main.own).state
       → begin_known (known_from s.main.own) Stop ≡ Ok start → ReadsClock before after time → ((entries : List WatchEntry) × AnnouncesStop state time saved entries × AddsEntries a b entries)
       → SetsNumbers b c (state_set Stopped) → sheet ≡ later_sheet r time (dump_saved saved) → DrivesTransition round Stop sheet start outcome tallies s.main.own later.main.own members turned
       → (Stop ≢ Start → outcome ≡ Completed) → later ≡ with_calls (behind_stop s r time tallies) later.main.own

@@ -96,9 +96,10 @@ pub record CutsStart {M : Type 0} (before after : ClockTold) (old new : CommandP
       ⊎ ((run : ℕ) × (ready : CommandPoint M) × GotNumber run old ready × CutsBegin run before after ready new)
 
 module _ {M : Type 0} (round : M → M → Type 0) where
-  -- The run of this number was begun, and its start ended so. It is begun with the number, the time that the clock gave, the
+  -- The run of this number was begun where none was on, and its start ended so. It is begun with the number, the time that the clock gave, the
   -- quota, and the text of the database behind the first sets; and the last sets come behind its end.
   pub record BeginsRun (run : ℕ) (outcome : StartOutcome) (before after : ClockTold) (old new : CommandPoint M) : Type 0 where
+    pub idle : old.runs.on ≡ None
     pub start : ℕ
     pub begins : begin_known (known_at_point old) Start ≡ Ok start
     pub time : ℕ

@@ -1,5 +1,6 @@
 -- How the record of a run stands to the main thread's own calls on the engine and on the online database.
-use Rattle.std.specs.Prelude.{◌≡◌, ℕ, List, [], ◌∷◌, ◌++◌, length, Option, Some, None, Result, Ok, ⊤}
+use Rattle.std.specs.Prelude.{◌≡◌, ℕ, List, [], ◌∷◌, ◌++◌, length, map, Option, Some, None, Result, Ok, ⊤}
+use Rattle.std.specs.Option.{option_map, option_to_list}
 use Rattle.std.specs.List.{AllByRecursion}
 use Rattle.daq_types.specs.declared.memory.NoMemory.{NoMemory}
 use Rattle.daq_types.specs.declared.runs.RunState.{RunState}
@@ -13,6 +14,7 @@ use Rattle.transitions.specs.declared.answers.ClientTally.{ClientTally}
 use Rattle.transitions.specs.declared.entry.EngineEntry.{EngineEntry}
 use Rattle.transitions.specs.declared.entry.EngineEntry.TheVariants.{Begin}
 use Rattle.run_records.specs.declared.records.RunRecord.{RunRecord}
+use Rattle.session_engine.specs.MainKnowledge.{known_from}
 use Rattle.session_engine.specs.MadeTransitions.{going_checks, done_check}
 use Rattle.session_runs.specs.declared.channels.RunChannel.{RunChannel}
 use Rattle.session_runs.specs.declared.on.CurrentRun.{CurrentRun}
@@ -74,13 +76,15 @@ pub record FitsStop (fronts : ℕ) (channels : List RunChannel) (own : MainOwn) 
 abbrev pub run_of : RunRecord → (quota : ℕ) → CurrentRun
 run_of r quota = record { run = r.run; start = r.start; time = r.time0; quota = quota }
 
--- A run that came about was started and, behind that, stopped.
+-- A run that came about was started and, behind that, stopped; the state that its stop sets as it begins is the one that the
+-- main thread's calls before tell.
 pub record FitsWhole (fronts : ℕ) (channels : List RunChannel) (own : MainOwn) (begun : CurrentRun) (r : RunRecord) : Type 0 where
   pub early : MainOwn
   pub late : MainOwn
   pub calls : own ≡ calls_joined early late
   pub start : FitsStart early begun Completed
   pub stop : FitsStop fronts channels late begun r
+  pub state_is : stop.state ≡ (known_from (early.engine ++ stop.made.before)).state
 
 -- of a start that was refused the record has nothing more
 pub record FitsRefused (own : MainOwn) (begun : CurrentRun) (r : RunRecord) : Type 0 where
@@ -93,7 +97,8 @@ abbrev pub FitsOutcome : (fronts : ℕ) → List RunChannel → MainOwn → Curr
 FitsOutcome fronts channels own begun r Completed = FitsWhole fronts channels own begun r
 FitsOutcome fronts channels own begun r (Refused client why) = FitsRefused own begun r
 
--- The record of a run against the main thread's own calls, by its outcome, with the quota of its start.
+-- The record of a run against the main thread's own calls, by its outcome, with the quota of its start, which the record does
+-- not have: it is that of the `events` line before the start.
 abbrev pub FitsRun : (fronts : ℕ) → List RunChannel → MainOwn → RunRecord → Type 0
 FitsRun fronts channels own r = (quota : ℕ) × FitsOutcome fronts channels own (run_of r quota) r r.outcome
 
@@ -102,7 +107,25 @@ abbrev pub FitsOn : MainOwn → Option CurrentRun → Type 0
 FitsOn own None = ⊤
 FitsOn own (Some r) = FitsStart own r Completed
 
--- All records fit, and so does the run that is on.
+-- the start numbers of the starts that were begun by these calls, in order
+abbrev pub start_begun : EngineEntry → List ℕ
+start_begun (Begin Start sheet (Ok start)) = start ∷ []
+start_begun entry = []
+
+abbrev pub starts_begun : List EngineEntry → List ℕ
+starts_begun [] = []
+starts_begun (entry ∷ own) = start_begun entry ++ starts_begun own
+
+-- those of the records
+abbrev pub start_of : RunRecord → ℕ
+start_of r = r.start
+
+abbrev pub start_on : CurrentRun → ℕ
+start_on r = r.start
+
+-- There is one record for each start that was begun, in order, but for that of the run that is on, which was begun last. All
+-- records fit, and so does that run.
 pub record RunsFit (s : RunsSeen) (database : List WatchEntry) : Type 0 where
+  pub each_start : map start_of s.runs ++ option_to_list (option_map start_on s.on) ≡ starts_begun s.main.own
   pub runs : AllByRecursion (FitsRun (length s.fronts) s.channels (record { engine = s.main.own; database = database })) s.runs
   pub on : FitsOn (record { engine = s.main.own; database = database }) s.on

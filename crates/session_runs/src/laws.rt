@@ -1,11 +1,13 @@
 //! How the records of runs stand to the main thread's own calls: each function does nothing, and its contract is the law.
-ghost use Rattle.std.specs.Prelude.{◌≡◌, ◌++◌, List};
+ghost use Rattle.std.specs.Prelude.{◌≡◌, ◌++◌, [], ℕ, List, None};
 ghost use Rattle.odb_port.specs.DatabasePorts.{own_watched};
 ghost use Rattle.odb_watch.specs.declared.entry.WatchEntry.{WatchEntry};
+ghost use Rattle.session_engine.specs.declared.opening.MemberName.{MemberName};
+ghost use Rattle.session_engine.specs.Members.{registrations};
 ghost use Rattle.session_runs.specs.declared.replies.RunReply.{RunReply};
 ghost use Rattle.session_runs.specs.KeptRuns.{RunsSeen};
 ghost use Rattle.session_runs.specs.RunAnswers.{AnswersPause, AnswersResume, AnswersStart, AnswersStop, ClockTold, CommandPoint, CutsStart, StopsUnsaved};
-ghost use Rattle.session_runs.specs.RunsFit.{RunsFit};
+ghost use Rattle.session_runs.specs.RunsFit.{RunsFit, starts_begun};
 
 use odb_port::laws::{calls_add_up, entries_add_up};
 use session_engine::Rounds;
@@ -38,8 +40,13 @@ pub fn commands_fit<M: Rounds>()
     entries_add_up();
 }
 
-/// Calls of other commands on the database, behind these, change nothing of that. Before the first run all fits.
+/// Before the first start all fits, and registrations begin none. Calls of other commands on the database, behind these, change
+/// nothing of what fits.
 pub fn runs_fit()
+    ensures opening { (s : RunsSeen) (own : List WatchEntry) → s.runs ≡ [] → s.on ≡ None
+        → starts_begun s.main.own ≡ [] → RunsFit s own }
+    ensures registered { (first : ℕ) (members : List MemberName)
+        → starts_begun (registrations first members) ≡ [] }
     ensures more { (s : RunsSeen) (own more : List WatchEntry) → RunsFit s own
         → RunsFit s (own ++ more) }
 {}

@@ -1,7 +1,7 @@
 // What the main thread's own calls on the engine refuse.
 ghost use Rattle.std.specs.Prelude.{◌≡◌, IsOk, IfNone, IfSome};
 ghost use Rattle.session_engine.specs.MainKnowledge.{known_from, begin_known};
-ghost use Rattle.session_engine.specs.MainSeats.{IsBetween};
+ghost use Rattle.session_engine.specs.MainSeats.{StandsFree};
 ghost use Rattle.session_runs.specs.RunAnswers.{RefusesKnown};
 
 use crate::replies::RunReply;
@@ -14,7 +14,7 @@ pub(crate) fn refusal_of(seat: &MainSeat<'_>, transition: Transition) -> Option<
     ensures refused { IfSome result (λ reply. RefusesKnown reply (known_from seat.now.own)
         transition) }
     ensures begins { IfNone result (IsOk (begin_known (known_from seat.now.own) transition)) }
-    ensures between { IsBetween seat.now.own }
+    ensures between { StandsFree seat.now.own }
 {
     let _state = seat.state();
     match seat.begins(transition) {

@@ -1,10 +1,8 @@
 //! A run from its start to its stop, with one front-end, over a shared engine and a shared database.
-ghost use Rattle.std.specs.Prelude.{◌≡◌, [], ◌∷◌, None, ⊤};
+ghost use Rattle.std.specs.Prelude.{◌≡◌, [], ◌∷◌, None, IfOk};
 ghost use Rattle.daq_types.specs.Callers.{main_caller};
 ghost use Rattle.daq_types.specs.declared.runs.RunState.TheVariants.{Stopped};
-ghost use Rattle.odb_tree.specs.Rows.{Rows};
 ghost use Rattle.odb_lock.specs.SharedOdbs.{odb_lock_of};
-ghost use Rattle.odb_port.specs.DatabasePorts.{DatabaseAccess};
 ghost use Rattle.transition_lock.specs.SharedEngines.{engine_lock_of, first_engine};
 ghost use Rattle.transitions.specs.Engines.{engine_opening};
 ghost use Rattle.turn_lock.specs.Passes.{number_of, held_by, own_entries, IsOf};
@@ -16,7 +14,7 @@ use daq_mem::MemClock;
 use daq_types::{FrontEnded, Name, NoMemory, RunState};
 use odb_lock::{OdbPasses, SharedAccess, SharedOdb};
 use odb_runinfo::open;
-use odb_tree::PlainTree;
+use odb_tree::{Database, PlainTree};
 use run_states::Role;
 use session_engine::{MainSeat, MemberName, Rounds};
 use std::alloc::Global;
@@ -93,56 +91,159 @@ fn seated<'a, R: Wait>(rt: &R, engine: &'a SharedEngine, main: EnginePass) -> Ma
     seat
 }
 
+/// A session's database, with one pass.
+fn session_database(alloc: Global) -> Result<(SharedOdb<PlainTree>, OdbPasses<PlainTree>), NoMemory>
+    ensures own { IfOk result (λ made. ArePassesOf (odb_lock_of made.0) made.1) }
+    ensures fresh { IfOk result (λ made. AreFresh made.1) }
+    ensures numbers { IfOk result (λ made. numbers_of made.1 ≡ 0 ∷ []) }
+{
+    let mut tree = PlainTree::new(alloc);
+    open(alloc, &mut tree)?;
+    SharedOdb::new(alloc, tree, 1)
+}
+
+/// The access by the one pass.
+fn main_access<'a, D: Database>(
+    odb: &'a SharedOdb<D>,
+    passes: &mut OdbPasses<D>,
+) -> SharedAccess<'a, D>
+    requires own { ArePassesOf (odb_lock_of odb.now) passes.old }
+    requires fresh { AreFresh passes.old }
+    requires numbers { numbers_of passes.old ≡ 0 ∷ [] }
+{
+    let Some(pass) = passes.pop() else {
+        unreachable!()
+    };
+    SharedAccess::new(odb, pass)
+}
+
+/// A start, a pause, a resume and a stop.
+fn play<R: Wait, D: Database>(
+    rt: &R,
+    alloc: Global,
+    runs: &mut Runs<'_>,
+    database: &mut SharedAccess<'_, D>,
+    client: &mut OneClient<'_>,
+    clock: &mut MemClock,
+) -> Result<[RunReply; 4], NoMemory> {
+    let started = runs.start(rt, alloc, database, client, clock)?;
+    let paused = runs.pause(rt, alloc, database, client);
+    let resumed = runs.resume(rt, alloc, database, client);
+    let stopped = runs.stop(rt, alloc, database, client, clock)?;
+    Ok([started, paused, resumed, stopped])
+}
+
+/// A pause, a resume and a stop where no run is on, and a start where one is.
+fn refuse<R: Wait, D: Database>(
+    rt: &R,
+    alloc: Global,
+    runs: &mut Runs<'_>,
+    database: &mut SharedAccess<'_, D>,
+    client: &mut OneClient<'_>,
+    clock: &mut MemClock,
+) -> Result<[RunReply; 4], NoMemory> {
+    let paused = runs.pause(rt, alloc, database, client);
+    let resumed = runs.resume(rt, alloc, database, client);
+    let _ = runs.start(rt, alloc, database, client, clock)?;
+    let started = runs.start(rt, alloc, database, client, clock)?;
+    let _ = runs.stop(rt, alloc, database, client, clock)?;
+    let stopped = runs.stop(rt, alloc, database, client, clock)?;
+    Ok([paused, resumed, started, stopped])
+}
+
+/// The times of the one record, and how many front-ends it has.
+fn recorded(runs: &Runs<'_>) -> Option<(u32, u32, usize)> {
+    match runs.records() {
+        [record] => Some((record.time0, record.time1, record.fronts.len())),
+        _ => None,
+    }
+}
+
+/// The main thread's runs, with one front-end and no channel.
+fn runs_of<'a, R: Wait>(
+    rt: &R,
+    alloc: Global,
+    engine: &'a SharedEngine,
+    main: EnginePass,
+) -> Result<Runs<'a>, NoMemory>
+    requires main { number_of main ≡ main_caller }
+    requires own { IsOf (engine_lock_of engine.now) main }
+    requires fresh { IsFresh main }
+    requires opening { first_engine engine.now ≡ engine_opening }
+{
+    let seat = seated(rt, engine, main);
+    let mut names = FrontNames::new(alloc)?;
+    names.push(front());
+    Runs::new(alloc, seat, 3, names, &[])
+}
+
+/// A clock that gives these two times, the second again and again.
+fn two_times(alloc: Global) -> Result<MemClock, NoMemory> {
+    let mut times = Vec::with_capacity(alloc, 2)?;
+    times.push_reserved(1000);
+    times.push_reserved(2000);
+    Ok(MemClock::new(times))
+}
+
 #[test]
 fn a_run_from_its_start_to_its_stop(rt: HostRuntime) -> Result<(), Fail> {
     let alloc = rt.alloc();
     let (engine, mut passes) = SharedEngine::new(alloc, Engine::new(alloc)?, 2)?;
-    let (main, other) = two_passes(&engine, &mut passes);
-    let seat = seated(&rt, &engine, main);
+    let (main, pass) = two_passes(&engine, &mut passes);
+    let mut runs = runs_of(&rt, alloc, &engine, main)?;
     let mut client = OneClient {
         engine: &engine,
-        pass: other,
+        pass,
     };
-    let mut tree = PlainTree::new(alloc);
-    open(alloc, &mut tree)?;
-    let (odb, mut odb_passes) = SharedOdb::new(alloc, tree, 1)?;
-    let Some(pass) = odb_passes.pop() else {
-        panic!(rt; "the main thread's pass is there")
+    let (odb, mut odb_passes) = session_database(alloc)?;
+    let mut database = main_access(&odb, &mut odb_passes);
+    let mut clock = two_times(alloc)?;
+    let replies = play(
+        &rt,
+        alloc,
+        &mut runs,
+        &mut database,
+        &mut client,
+        &mut clock,
+    )?;
+    assert_eq!(rt; replies[0], RunReply::Started { run: 1 });
+    assert_eq!(rt; replies[1], RunReply::Paused { run: 1 });
+    assert_eq!(rt; replies[2], RunReply::Resumed { run: 1 });
+    assert_eq!(rt; replies[3], RunReply::Stopped { run: 1 });
+    assert_eq!(rt; recorded(&runs), Some((1000, 2000, 1)));
+    Ok(())
+}
+
+#[test]
+fn commands_in_a_wrong_state(rt: HostRuntime) -> Result<(), Fail> {
+    let alloc = rt.alloc();
+    let (engine, mut passes) = SharedEngine::new(alloc, Engine::new(alloc)?, 2)?;
+    let (main, pass) = two_passes(&engine, &mut passes);
+    let mut runs = runs_of(&rt, alloc, &engine, main)?;
+    let mut client = OneClient {
+        engine: &engine,
+        pass,
     };
-    let mut database = SharedAccess::new(&odb, pass);
-    let mut names = FrontNames::new(alloc)?;
-    names.push(front());
-    let mut runs = Runs::new(alloc, seat, 3, names, &[])?;
-    let mut clock = MemClock::new(vec![in alloc; 1000, 2000]?);
-
-    let stopped = runs.stop(&rt, alloc, &mut database, &mut client, &mut clock)?;
-    assert_eq!(rt;
-        stopped,
-        RunReply::WrongState {
-            state: RunState::Stopped
-        }
-    );
-    let started = runs.start(&rt, alloc, &mut database, &mut client, &mut clock)?;
-    assert_eq!(rt; started, RunReply::Started { run: 1 });
-    let paused = runs.pause(&rt, alloc, &mut database, &mut client);
-    assert_eq!(rt; paused, RunReply::Paused { run: 1 });
-    let again = runs.start(&rt, alloc, &mut database, &mut client, &mut clock)?;
-    assert_eq!(rt;
-        again,
-        RunReply::WrongState {
-            state: RunState::Paused
-        }
-    );
-    let resumed = runs.resume(&rt, alloc, &mut database, &mut client);
-    assert_eq!(rt; resumed, RunReply::Resumed { run: 1 });
-    let stopped = runs.stop(&rt, alloc, &mut database, &mut client, &mut clock)?;
-    assert_eq!(rt; stopped, RunReply::Stopped { run: 1 });
-    let started = runs.start(&rt, alloc, &mut database, &mut client, &mut clock)?;
-    assert_eq!(rt; started, RunReply::Started { run: 2 });
-
-    assert_eq!(rt; runs.records().len(), 1);
-    let record = &runs.records()[0];
-    assert_eq!(rt; (record.time0, record.time1), (1000, 2000));
-    assert_eq!(rt; record.fronts.as_slice().len(), 1);
+    let (odb, mut odb_passes) = session_database(alloc)?;
+    let mut database = main_access(&odb, &mut odb_passes);
+    let mut clock = two_times(alloc)?;
+    let replies = refuse(
+        &rt,
+        alloc,
+        &mut runs,
+        &mut database,
+        &mut client,
+        &mut clock,
+    )?;
+    let stopped = RunReply::WrongState {
+        state: RunState::Stopped,
+    };
+    let running = RunReply::WrongState {
+        state: RunState::Running,
+    };
+    assert_eq!(rt; replies[0], stopped);
+    assert_eq!(rt; replies[1], stopped);
+    assert_eq!(rt; replies[2], running);
+    assert_eq!(rt; replies[3], stopped);
     Ok(())
 }

@@ -11,6 +11,7 @@ returns c s keep = record {
   stops_set = c.sets.ensures.stop s keep;
   pauses_set = c.sets.ensures.pause s keep;
   channels_told = c.files.ensures.told s keep;
+  states_told = c.files.ensures.states s keep;
   runs_ended = c.files.ensures.ended s keep;
   no_end_refused = c.files.ensures.unrefused s keep;
   files_hold = c.files.ensures.hold s keep;

@@ -1,5 +1,5 @@
 use Rattle.composition.proofs.SessionTurns.{EngineFacts}
-use Rattle.composition.proofs.FilesTogether.{CallerFacts, channels_told, files_hold_runs, files_hold_parts, runs_are_ended, no_end_refused}
+use Rattle.composition.proofs.FilesTogether.{CallerFacts, channels_told, states_told, files_hold_runs, files_hold_parts, runs_are_ended, no_end_refused}
 use Rattle.composition.proofs.laws.files.Goals as goal
 
 pub returns : goal.returns
@@ -23,6 +23,7 @@ returns c =
     } in
     record {
       told = channels_told laws;
+      states = states_told laws;
       ended = runs_are_ended laws callers;
       unrefused = no_end_refused laws callers;
       hold = files_hold_runs laws callers;

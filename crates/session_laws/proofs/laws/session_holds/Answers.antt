@@ -9,4 +9,5 @@ returns c = λ closed ends.
       composed = composed.1;
       runs = λ r made. c.stopped_hold.ensures (session_of closed composed.0) composed.1 r (c.made_are_stopped.ensures (session_of closed composed.0) ends.engine r made);
       others = λ name other. c.other_names_stay.ensures closed ends name other;
+      callers = ends.others.database;
     }

@@ -1,6 +1,6 @@
-use Rattle.std.specs.Prelude.{Option, Some, refl}
+use Rattle.std.specs.Prelude.{◌≡◌, Option, Some, None, refl}
 use Rattle.std.specs.Option.{option_map}
-use Rattle.std.proofs.Common.{subst}
+use Rattle.std.proofs.Common.{ap, subst, ◌∙◌}
 use Rattle.daq_types.specs.declared.runs.StartOutcome.TheVariants.{Completed, Refused}
 use Rattle.session_runs.specs.declared.on.CurrentRun.{CurrentRun}
 use Rattle.session_runs.specs.KeptRuns.{RunsSeen}
@@ -22,8 +22,9 @@ returns-in-Completed-clause-did g c =
     let s : RunsSeen = seen_of inside.quota inside.runs.items inside.fronts inside.channels on inside.seat in
     let later : RunsSeen = seen_of inside.quota c.reserve.new.self.items inside.fronts inside.channels (Some current) seat in
     let kept = kept_on inside.quota inside.runs.items c.reserve.new.self.items inside.fronts inside.channels on inside.seat seat current c.reserve.ensures.items made.engine in
+    let idle : on ≡ None = ap (λ (x : RunsSeen). x.on) c.self.view_is ∙ c.requires.idle in
     let does = begins_run g.M.Rounds.round c.calls_add_up.ensures.are c.args.run c.make_untold-made.result.start time Completed c.make_untold-made.result.outcome c.in-Ok.dump c.announce-time.result.1 c.sheet_for-sheet.result before after s later
-    (access c.args.database.now) (access c.announce-time.new.database) (access c.set_outcome.new.database) c.args.members.now c.make_untold-made.new.members made.begun c.announce-time.ensures.reading c.announce-time.ensures.calls c.in-Ok.is c.set_outcome.ensures
+    (access c.args.database.now) (access c.announce-time.new.database) (access c.set_outcome.new.database) c.args.members.now c.make_untold-made.new.members idle made.begun c.announce-time.ensures.reading c.announce-time.ensures.calls c.in-Ok.is c.set_outcome.ensures
     c.in-Completed.is c.sheet_for-sheet.ensures.is made.made kept in (
       refl,
       subst (λ (x : RunsSeen). BeginsRun g.M.Rounds.round c.args.run Completed before after (point_of x (access c.args.database.now) c.args.members.now) (point_of later (access c.set_outcome.new.database) c.make_untold-made.new.members))
@@ -46,8 +47,9 @@ returns-in-Refused-clause-did g c =
     let later : RunsSeen = seen_of inside.quota c.push_reserved.new.self.items inside.fronts inside.channels on seat in
     let kept = kept_refused inside.quota inside.runs.items c.reserve.new.self.items c.push_reserved.new.self.items inside.fronts inside.channels on inside.seat seat current outcome c.in-Refused.client c.in-Refused.why c.refused_record.result
     c.reserve.ensures.items c.push_reserved.ensures.items c.refused_record.ensures c.in-Refused.is made.engine in
+    let idle : on ≡ None = ap (λ (x : RunsSeen). x.on) c.self.view_is ∙ c.requires.idle in
     let does = begins_run g.M.Rounds.round c.calls_add_up.ensures.are c.args.run c.make_untold-made.result.start time (Refused c.in-Refused.client c.in-Refused.why) outcome c.in-Ok.dump c.announce-time.result.1 c.sheet_for-sheet.result before
-    after s later (access c.args.database.now) (access c.announce-time.new.database) (access c.set_outcome.new.database) c.args.members.now c.make_untold-made.new.members made.begun c.announce-time.ensures.reading c.announce-time.ensures.calls
+    after s later (access c.args.database.now) (access c.announce-time.new.database) (access c.set_outcome.new.database) c.args.members.now c.make_untold-made.new.members idle made.begun c.announce-time.ensures.reading c.announce-time.ensures.calls
     c.in-Ok.is c.set_outcome.ensures c.in-Refused.is c.sheet_for-sheet.ensures.is made.made kept in
     subst (λ (x : RunsSeen). BeginsRun g.M.Rounds.round c.args.run (Refused c.in-Refused.client c.in-Refused.why) before after (point_of x (access c.args.database.now) c.args.members.now)
     (point_of later (access c.set_outcome.new.database) c.make_untold-made.new.members)) c.self.view_is does

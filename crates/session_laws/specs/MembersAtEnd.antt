@@ -11,6 +11,7 @@ use Rattle.transitions.specs.declared.entry.EngineEntry.{EngineEntry}
 use Rattle.transitions.specs.declared.entry.EngineEntry.TheVariants.{Begin, Check, Close}
 use Rattle.transitions.specs.Engines.{engine_opening}
 use Rattle.transitions.specs.EngineHistories.{IsLegalEngine}
+use Rattle.odb_watch.specs.Steps.{IsLegalDatabase}
 use Rattle.turn_lock.specs.History.{IsPartOf}
 use Rattle.daq_types.specs.Callers.{entries_by}
 use Rattle.member_model.specs.TurnCalls.{member_turns}
@@ -27,7 +28,7 @@ use Rattle.session_laws.specs.ClosedSessions.{ClosedBuffer, ClosedFront, ClosedS
 
 -- The front-end with this client number: on the engine it polls and answers for its own client alone; it keeps its contract
 -- over its calls on the engine, on its buffer and on the database; and it called on no other buffer.
-pub record FrontEnds (c : ClosedSession) (client : ℕ) (f : ClosedFront) : Type 0 where
+pub record FrontAtEnd (c : ClosedSession) (client : ℕ) (f : ClosedFront) : Type 0 where
   pub speaks : are_calls_for client (engine_calls c (caller_of_client client)) ≡ true
   pub run : Option FrontRun
   pub stands : FrontMemberStands client f.name f.takes f.makes run (engine_calls c (caller_of_client client))
@@ -45,7 +46,7 @@ pub record IsAccessTo (caller : ℕ) (b : ClosedBuffer) (a : Access) : Type 0 wh
 -- The logger: on the engine it polls and answers for its own client alone; and it has a port to each buffer. Where no client
 -- of it is known to be detached by another, it keeps its contract over its calls on the engine, what its ports told it, and
 -- the run files; and it left all files but those of its channels in the runs that it was told to start.
-pub record LoggerEnds (c : ClosedSession) : Type 0 where
+pub record LoggerAtEnd (c : ClosedSession) : Type 0 where
   pub speaks : are_calls_for (logger_client c) (engine_calls c (logger_caller c)) ≡ true
   pub run : Option LoggedRun
   pub stop_dump : Option (List ℕ)
@@ -67,23 +68,26 @@ SteersEngine (Close reply) = ⊤
 SteersEngine entry = ⊥
 
 -- The main thread: on the engine it registered the members, and then made and ended transitions; and it called on no buffer.
-pub record MainEnds (c : ClosedSession) : Type 0 where
+pub record MainAtEnd (c : ClosedSession) : Type 0 where
   pub later : List EngineEntry
   pub calls : engine_calls c main_caller ≡ registrations 0 (members_of c.fronts) ++ later
   pub steers : AllByRecursion SteersEngine later
   pub buffers : (buffer : ℕ) → calls_on_buffer c main_caller buffer ≡ []
 
--- there are no callers of the engine and of the buffers but the main thread and the members
+-- There are no callers of the engine and of the buffers but the main thread and the members, and none of the database but the
+-- main thread and the front-ends, whose callers are the numbers from 1 on.
 pub record NoOthers (c : ClosedSession) : Type 0 where
   pub engine : (by : ℕ) → logger_caller c < by → engine_calls c by ≡ []
   pub buffers : (by : ℕ) → logger_caller c < by → (buffer : ℕ) → calls_on_buffer c by buffer ≡ []
+  pub database : (by : ℕ) → length c.fronts < by → calls_on_database c by ≡ []
 
 -- All that.
-pub record MembersEnd (c : ClosedSession) : Type 0 where
+pub record MembersAtEnd (c : ClosedSession) : Type 0 where
   pub buffers : (number : ℕ) → (b : ClosedBuffer) → slice_get c.buffers number ≡ Some b →
       IsLegal (opening b.size) b.history
   pub engine : IsLegalEngine engine_opening c.engine
-  pub fronts : (client : ℕ) → (f : ClosedFront) → slice_get c.fronts client ≡ Some f → FrontEnds c client f
-  pub logger : LoggerEnds c
-  pub main : MainEnds c
+  pub database : IsLegalDatabase c.opened c.database
+  pub fronts : (client : ℕ) → (f : ClosedFront) → slice_get c.fronts client ≡ Some f → FrontAtEnd c client f
+  pub logger : LoggerAtEnd c
+  pub main : MainAtEnd c
   pub others : NoOthers c

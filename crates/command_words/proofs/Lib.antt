@@ -1,0 +1,4 @@
+mod Stray
+mod Levels
+mod Reading
+mod Texts

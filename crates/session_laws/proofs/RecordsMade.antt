@@ -1,0 +1,396 @@
+-- The records of a session's runs against its histories and its run files.
+use Rattle.std.specs.Prelude.{◌≡◌, ◌+◌, ◌<◌, ◌⊎◌, ℕ, zero, suc, Bool, if◌then◌else◌, List, [], ◌∷◌, ◌++◌, length, slice_get, Option, Some, None, Ok, refl}
+use Rattle.std.specs.Option.{option_map, option_or, option_to_list}
+use Rattle.std.proofs.Common.{ap, sym, subst, ◌∙◌, arith, inl, inr, append_assoc, length-append}
+use Rattle.std.proofs.lemmas.Bool.Decides.{eqb_tells}
+use Rattle.daq_types.specs.Callers.{main_caller}
+use Rattle.daq_types.specs.declared.runs.ChannelState.{ChannelState}
+use Rattle.daq_types.specs.declared.runs.FrontEnded.{FrontEnded}
+use Rattle.daq_types.specs.declared.runs.StartOutcome.{StartOutcome}
+use Rattle.daq_types.specs.declared.runs.StartOutcome.TheVariants.{Completed}
+use Rattle.daq_types.specs.declared.runs.Transition.{Transition}
+use Rattle.daq_types.specs.declared.runs.Transition.TheVariants.{Start, Stop}
+use Rattle.transitions.specs.declared.sheet.Sheet.{Sheet}
+use Rattle.transitions.specs.declared.answers.Tally.{Tally}
+use Rattle.transitions.specs.declared.answers.Tally.TheVariants.{Plain, Front, Channels, Report}
+use Rattle.transitions.specs.declared.answers.ClientTally.{ClientTally}
+use Rattle.transitions.specs.declared.replies.Progress.TheVariants.{Done}
+use Rattle.transitions.specs.declared.entry.EngineEntry.{EngineEntry}
+use Rattle.transitions.specs.declared.entry.EngineEntry.TheVariants.{Begin, Check}
+use Rattle.member_model.specs.LoggerKept.{LoggerChannel}
+use Rattle.engine_laws.specs.BegunTurns.{AreUnmarked}
+use Rattle.mid_logger.specs.declared.channel.Channel.{Channel}
+use Rattle.mid_logger.specs.Patterns.{file_name_by}
+use Rattle.loggers.specs.LoggerStands.{logger_channels}
+use Rattle.session_engine.specs.MadeTransitions.{going_checks}
+use Rattle.run_records.specs.declared.records.FrontTally.{FrontTally}
+use Rattle.run_records.specs.declared.records.FileRecord.{FileRecord}
+use Rattle.run_records.specs.declared.records.RunRecord.{RunRecord}
+use Rattle.session_runs.specs.declared.channels.RunChannel.{RunChannel}
+use Rattle.session_runs.specs.declared.on.CurrentRun.{CurrentRun}
+use Rattle.session_runs.specs.KeptRuns.{run_channel}
+use Rattle.session_runs.specs.ToldTallies.{front_in, front_by, front_told, fronts_told, states_in, states_by, states_told, file_in, files_told, files_of}
+use Rattle.session_runs.specs.RunEntries.{start_sheet, later_sheet, dump_saved}
+use Rattle.session_runs.specs.RunsFit.{MainOwn, StandsMade, run_of}
+use Rattle.composition.specs.Sessions.{Session, SessionFront}
+use Rattle.composition.specs.SessionRuns.{SessionRun, IsStoppedRun, TellsFront, ToldState}
+use Rattle.session_laws.specs.ClosedSessions.{ClosedFront, ClosedSession, logger_client, engine_calls, session_front, session_fronts, session_of}
+use Rattle.session_laws.specs.MadeRuns.{TransitionIn, RunIn, RunHolds}
+use Rattle.session_laws.specs.EndLaws.{SessionHolds}
+use Rattle.session_laws.specs.RecordedRuns.{FrontRecordHolds, FileRecordHolds, run_channels, RecordsHold}
+use Rattle.session_laws.proofs.RunsMade.{file_so}
+
+-- The transitions of a run that was made.
+
+going_unmarked : (n : ℕ) → AreUnmarked (going_checks n)
+going_unmarked zero = tt
+going_unmarked (suc n) = (refl, going_unmarked n)
+
+made : (own : List EngineEntry) (t : Transition) (sheet : Sheet) (start : ℕ) (outcome : StartOutcome) (tallies : List ClientTally) → StandsMade own t sheet start outcome tallies → TransitionIn own t sheet start outcome tallies
+made own t sheet start outcome tallies stands = record { before = stands.before; between = going_checks stands.rounds; after = stands.after; whole = stands.calls; on = going_unmarked stands.rounds }
+
+made_then : (own more : List EngineEntry) (t : Transition) (sheet : Sheet) (start : ℕ) (outcome : StartOutcome) (tallies : List ClientTally) → TransitionIn own t sheet start outcome tallies → TransitionIn (own ++ more) t sheet start outcome tallies
+made_then own more t sheet start outcome tallies m =
+    let begin : EngineEntry = Begin t sheet (Ok start) in
+    let done : EngineEntry = Check (Done outcome) tallies in
+    record {
+      before = m.before;
+      between = m.between;
+      after = m.after ++ more;
+      whole = ap (λ (l : List EngineEntry). l ++ more) m.whole
+          ∙ (append_assoc m.before (begin ∷ (m.between ++ done ∷ m.after)) more
+          ∙ ap (λ (l : List EngineEntry). m.before ++ begin ∷ l) (append_assoc m.between (done ∷ m.after) more));
+      on = m.on;
+    }
+
+made_behind : (first own : List EngineEntry) (t : Transition) (sheet : Sheet) (start : ℕ) (outcome : StartOutcome) (tallies : List ClientTally) → TransitionIn own t sheet start outcome tallies → TransitionIn (first ++ own) t sheet start outcome tallies
+made_behind first own t sheet start outcome tallies m = record {
+  before = first ++ m.before;
+  between = m.between;
+  after = m.after;
+  whole = ap (λ (l : List EngineEntry). first ++ l) m.whole ∙ sym (append_assoc first m.before (Begin t sheet (Ok start) ∷ (m.between ++ Check (Done outcome) tallies ∷ m.after)));
+  on = m.on;
+}
+
+-- What was told of front-ends.
+
+front_in_so : (client : ℕ) (tally : Tally) (t : FrontTally) → front_in client tally ≡ Some t → (t.client ≡ client) × (tally ≡ Front t.sent t.ended)
+front_in_so client (Front sent ended) t is =
+    let same : record { client = client; sent = sent; ended = ended } ≡ t = cc (is) in
+    (sym (ap (λ (x : FrontTally). x.client) same), ap (λ (x : FrontTally). Front x.sent x.ended) same)
+front_in_so client Plain t is = absurd (cc (is))
+front_in_so client (Channels states) t is = absurd (cc (is))
+front_in_so client (Report report) t is = absurd (cc (is))
+
+-- what this client told, by one tally
+pub record SaysFront (client : ℕ) (told : ClientTally) (t : FrontTally) : Type 0 where
+  pub of : t.client ≡ client
+  pub is : told ≡ record { client = client; tally = Front t.sent t.ended }
+
+tally_is : (told : ClientTally) (client : ℕ) (tally : Tally) → told.client ≡ client → told.tally ≡ tally → told ≡ record { client = client; tally = tally }
+tally_is told client tally of is = ap (λ (n : ℕ). record { client = n; tally = told.tally }) of ∙ ap (λ (y : Tally). record { client = client; tally = y }) is
+
+front_by_so : (client : ℕ) (told : ClientTally) (t : FrontTally) → front_by client told ≡ Some t → SaysFront client told t
+front_by_so client told t is = elim (eqb_tells told.client client) as (λ w. SaysFront client told t) [
+  | inl same ↦
+      let so = front_in_so client told.tally t (sym (ap (λ (b : Bool). if b then front_in client told.tally else None) same.0) ∙ is) in
+      record { of = so.0; is = tally_is told client (Front t.sent t.ended) same.1 so.1 }
+  | inr differs ↦ (let none : front_by client told ≡ None = ap (λ (b : Bool). if b then front_in client told.tally else None) differs.0 in absurd (cc (none, is)))
+]
+
+-- the client told this among the tallies
+pub record ToldFront (client : ℕ) (tallies : List ClientTally) (t : FrontTally) : Type 0 where
+  pub of : t.client ≡ client
+  pub index : ℕ
+  pub at : slice_get tallies index ≡ Some (record { client = client; tally = Front t.sent t.ended })
+
+first_told : (client : ℕ) (x : ClientTally) (xs : List ClientTally) (t : FrontTally) (o : Option FrontTally) → front_by client x ≡ o → option_or o (front_told client xs) ≡ Some t → (front_told client xs ≡ Some t → ToldFront client xs t) → ToldFront client (x ∷ xs) t
+first_told client x xs t None by is later = (let found : ToldFront client xs t = later is in record { of = found.of; index = suc found.index; at = found.at })
+first_told client x xs t (Some u) by is later =
+    let same : u ≡ t = cc (is) in
+    let says : SaysFront client x t = front_by_so client x t (by ∙ ap Some same) in
+    record { of = says.of; index = 0; at = ap Some says.is }
+
+told_so : (client : ℕ) (tallies : List ClientTally) (t : FrontTally) → front_told client tallies ≡ Some t → ToldFront client tallies t
+told_so client [] t is = absurd (cc (is))
+told_so client (x ∷ xs) t is = first_told client x xs t (front_by client x) refl is (λ later. told_so client xs t later)
+
+or_there : {X : Type 0} (o rest : Option X) (x : X) → rest ≡ Some x → (y : X) × (option_or o rest ≡ Some y)
+or_there None rest x is = (x, is)
+or_there (Some y) rest x is = (y, refl)
+
+by_itself : (client sent : ℕ) (ended : FrontEnded) → front_by client (record { client = client; tally = Front sent ended }) ≡ Some (record { client = client; sent = sent; ended = ended })
+by_itself client sent ended = elim (eqb_tells client client) as (λ w. front_by client (record { client = client; tally = Front sent ended }) ≡ Some (record { client = client; sent = sent; ended = ended })) [
+  | inl same ↦ ap (λ (b : Bool). if b then Some (record { client = client; sent = sent; ended = ended }) else None) same.0
+  | inr differs ↦ absurd (differs.1 refl)
+]
+
+told_there : (client : ℕ) (tallies : List ClientTally) (index sent : ℕ) (ended : FrontEnded) → slice_get tallies index ≡ Some (record { client = client; tally = Front sent ended }) → (t : FrontTally) × (front_told client tallies ≡ Some t)
+told_there client [] index sent ended at = absurd (cc (at))
+told_there client (x ∷ xs) zero sent ended at =
+    let same : x ≡ record { client = client; tally = Front sent ended } = cc (at) in
+    (record { client = client; sent = sent; ended = ended }, ap (λ (o : Option FrontTally). option_or o (front_told client xs)) (ap (front_by client) same ∙ by_itself client sent ended))
+told_there client (x ∷ xs) (suc index) sent ended at =
+    let rest = told_there client xs index sent ended at in
+    or_there (front_by client x) (front_told client xs) rest.0 rest.1
+
+-- The front-ends of a record, at their client numbers.
+
+got_before : {X : Type 0} (xs ys : List X) (k : ℕ) (x : X) → slice_get xs k ≡ Some x → slice_get (xs ++ ys) k ≡ Some x
+got_before [] ys k x at = absurd (cc (at))
+got_before (y ∷ xs) ys zero x at = at
+got_before (y ∷ xs) ys (suc k) x at = got_before xs ys k x at
+
+got_last : {X : Type 0} (xs : List X) (x : X) (k : ℕ) → length xs ≡ k → slice_get (xs ++ x ∷ []) k ≡ Some x
+got_last [] x zero is = refl
+got_last [] x (suc k) is = absurd (omega arith)
+got_last (y ∷ xs) x zero is = absurd (omega arith)
+got_last (y ∷ xs) x (suc k) is = got_last xs x k (omega arith)
+
+-- each client below this number told
+abbrev AllTold : (n : ℕ) → List ClientTally → Type 0
+AllTold n tallies = (k : ℕ) → k < n → (t : FrontTally) × (front_told k tallies ≡ Some t)
+
+one_listed : (n : ℕ) (tallies : List ClientTally) (t : FrontTally) → front_told n tallies ≡ Some t → fronts_told (suc n) tallies ≡ fronts_told n tallies ++ t ∷ []
+one_listed n tallies t is = ap (λ (o : Option FrontTally). fronts_told n tallies ++ option_to_list o) is
+
+many_told : (n : ℕ) (tallies : List ClientTally) → AllTold n tallies → length (fronts_told n tallies) ≡ n
+many_told zero tallies all = refl
+many_told (suc n) tallies all =
+    let last = all n (omega arith) in
+    let before : length (fronts_told n tallies) ≡ n = many_told n tallies (λ k less. all k (omega arith)) in
+    ap length (one_listed n tallies last.0 last.1) ∙ (length-append (fronts_told n tallies) (last.0 ∷ []) ∙ omega arith)
+
+same_or_less : (k n : ℕ) → k < suc n → (k ≡ n) ⊎ (k < n)
+same_or_less k n less = elim (eqb_tells k n) as (λ w. (k ≡ n) ⊎ (k < n)) [ inl same ↦ inl same.1 | inr differs ↦ inr (let ne : k ≡ n → ⊥ = differs.1 in omega arith) ]
+
+listed_at : (n : ℕ) (tallies : List ClientTally) → AllTold n tallies → (k : ℕ) → k < n → (t : FrontTally) → front_told k tallies ≡ Some t → slice_get (fronts_told n tallies) k ≡ Some t
+listed_at zero tallies all k less t is = absurd (omega arith)
+listed_at (suc n) tallies all k less t is =
+    let before : AllTold n tallies = λ j below. all j (omega arith) in
+    let last = all n (omega arith) in
+    let whole : fronts_told (suc n) tallies ≡ fronts_told n tallies ++ last.0 ∷ [] = one_listed n tallies last.0 last.1 in
+    elim (same_or_less k n less) as (λ w. slice_get (fronts_told (suc n) tallies) k ≡ Some t) [
+      | inl same ↦
+          let at_n : front_told n tallies ≡ Some t = ap (λ (j : ℕ). front_told j tallies) (sym same) ∙ is in
+          let one : last.0 ≡ t = cc (last.1, at_n) in
+          subst (λ (l : List FrontTally). slice_get l k ≡ Some t) (sym whole)
+          (subst (λ (x : FrontTally). slice_get (fronts_told n tallies ++ last.0 ∷ []) k ≡ Some x) one (got_last (fronts_told n tallies) last.0 k (many_told n tallies before ∙ sym same)))
+      | inr below ↦ subst (λ (l : List FrontTally). slice_get l k ≡ Some t) (sym whole) (got_before (fronts_told n tallies) (last.0 ∷ []) k t (listed_at n tallies before k below t is))
+    ]
+
+-- What was told of channels.
+
+-- the logger told this among the tallies
+pub record ToldStates (client : ℕ) (tallies : List ClientTally) (states : List ChannelState) : Type 0 where
+  pub index : ℕ
+  pub at : slice_get tallies index ≡ Some (record { client = client; tally = Channels states })
+
+states_in_so : (tally : Tally) (states : List ChannelState) → states_in tally ≡ Some states → tally ≡ Channels states
+states_in_so (Channels s) states is = (let same : s ≡ states = cc (is) in ap Channels same)
+states_in_so Plain states is = absurd (cc (is))
+states_in_so (Front sent ended) states is = absurd (cc (is))
+states_in_so (Report report) states is = absurd (cc (is))
+
+states_by_so : (client : ℕ) (told : ClientTally) (states : List ChannelState) → states_by client told ≡ Some states → told ≡ record { client = client; tally = Channels states }
+states_by_so client told states is = elim (eqb_tells told.client client) as (λ w. told ≡ record { client = client; tally = Channels states }) [
+  | inl same ↦ tally_is told client (Channels states) same.1 (states_in_so told.tally states (sym (ap (λ (b : Bool). if b then states_in told.tally else None) same.0) ∙ is))
+  | inr differs ↦ (let none : states_by client told ≡ None = ap (λ (b : Bool). if b then states_in told.tally else None) differs.0 in absurd (cc (none, is)))
+]
+
+first_states : (client : ℕ) (x : ClientTally) (xs : List ClientTally) (states : List ChannelState) (o : Option (List ChannelState)) → states_by client x ≡ o → option_or o (states_told client xs) ≡ Some states → (states_told client xs ≡ Some states → ToldStates client xs states)
+    → ToldStates client (x ∷ xs) states
+first_states client x xs states None by is later = (let found : ToldStates client xs states = later is in record { index = suc found.index; at = found.at })
+first_states client x xs states (Some s) by is later =
+    let same : s ≡ states = cc (is) in
+    record { index = 0; at = ap Some (states_by_so client x states (by ∙ ap Some same)) }
+
+states_so : (client : ℕ) (tallies : List ClientTally) (states : List ChannelState) → states_told client tallies ≡ Some states → ToldStates client tallies states
+states_so client [] states is = absurd (cc (is))
+states_so client (x ∷ xs) states is = first_states client x xs states (states_by client x) refl is (λ later. states_so client xs states later)
+
+-- the file is that of a channel of these, of which a state was told
+pub record FileTold (states : List ChannelState) (run : ℕ) (channels : List RunChannel) (file : FileRecord) : Type 0 where
+  pub place : ℕ
+  pub channel : RunChannel
+  pub at : slice_get channels place ≡ Some channel
+  pub state : slice_get states channel.number ≡ Some file.state
+  pub is : file ≡ file_in run channel file.state
+
+file_here : (states : List ChannelState) (run : ℕ) (ch : RunChannel) (chs : List RunChannel) (o : Option ChannelState) (place : ℕ) (file : FileRecord) → slice_get states ch.number ≡ o → slice_get (option_to_list (option_map (file_in run ch) o) ++ files_told states run chs) place ≡ Some file
+    → ((k : ℕ) → slice_get (files_told states run chs) k ≡ Some file → FileTold states run chs file) → FileTold states run (ch ∷ chs) file
+file_here states run ch chs None place file told at later = (let found : FileTold states run chs file = later place at in record { place = suc found.place; channel = found.channel; at = found.at; state = found.state; is = found.is })
+file_here states run ch chs (Some s) zero file told at later =
+    let same : file_in run ch s ≡ file = cc (at) in
+    let state : s ≡ file.state = ap (λ (f : FileRecord). f.state) same in
+    record { place = 0; channel = ch; at = refl; state = told ∙ ap Some state; is = sym same ∙ ap (file_in run ch) state }
+file_here states run ch chs (Some s) (suc place) file told at later = (let found : FileTold states run chs file = later place at in record { place = suc found.place; channel = found.channel; at = found.at; state = found.state; is = found.is })
+
+file_so_told : (states : List ChannelState) (run : ℕ) (channels : List RunChannel) (place : ℕ) (file : FileRecord) → slice_get (files_told states run channels) place ≡ Some file → FileTold states run channels file
+file_so_told states run [] place file at = absurd (cc (at))
+file_so_told states run (ch ∷ chs) place file at = file_here states run ch chs (slice_get states ch.number) place file refl at (λ k there. file_so_told states run chs k file there)
+
+-- the channel of a record among those of the logger
+pub record IsLoggerChannel (slots : List (Option Channel)) (place : ℕ) (channel : RunChannel) : Type 0 where
+  pub logger : LoggerChannel
+  pub at : slice_get (logger_channels (λ n. 0) slots) place ≡ Some logger
+  pub number : channel.number ≡ logger.number
+  pub name : (run : ℕ) → file_name_by channel.pattern run ≡ logger.name run
+
+logger_channel_at : (slots : List (Option Channel)) (place : ℕ) (channel : RunChannel) → slice_get (run_channels slots) place ≡ Some channel → IsLoggerChannel slots place channel
+logger_channel_at [] place channel at = absurd (cc (at))
+logger_channel_at (None ∷ slots) place channel at = (let found : IsLoggerChannel slots place channel = logger_channel_at slots place channel at in record { logger = found.logger; at = found.at; number = found.number; name = found.name })
+logger_channel_at (Some c ∷ slots) zero channel at =
+    let same : run_channel c.spec ≡ channel = cc (at) in
+    record { logger = _; at = refl; number = sym (ap (λ (x : RunChannel). x.number) same); name = λ run. sym (ap (λ (x : RunChannel). file_name_by x.pattern run) same) }
+logger_channel_at (Some c ∷ slots) (suc place) channel at = (let found : IsLoggerChannel slots place channel = logger_channel_at slots place channel at in record { logger = found.logger; at = found.at; number = found.number; name = found.name })
+
+-- A record.
+
+abbrev record_run : (r : RunRecord) (quota : ℕ) (dump : List ℕ) (last_dump : Option (List ℕ)) (first_tallies last_tallies : List ClientTally) → SessionRun
+record_run r quota dump last_dump first_tallies last_tallies = record {
+  start = r.start;
+  first = start_sheet r.run r.time0 quota dump;
+  last = later_sheet (run_of r quota) r.time1 last_dump;
+  first_tallies = first_tallies;
+  last_tallies = last_tallies;
+}
+
+many_fronts : (first : ℕ) (fs : List ClosedFront) (moments : ℕ → List ℕ) (k : ℕ) → k < length fs → (f : SessionFront) × (slice_get (session_fronts first fs moments) k ≡ Some f) × (f.client ≡ first + k)
+many_fronts first [] moments k less = absurd (omega arith)
+many_fronts first (f ∷ fs) moments zero less = (_, refl, omega arith)
+many_fronts first (f ∷ fs) moments (suc k) less =
+    let rest = many_fronts (suc first) fs moments k (omega arith) in
+    (rest.0, rest.1, rest.2 ∙ omega arith)
+
+number_at : (first k : ℕ) (fs : List ClosedFront) (moments : ℕ → List ℕ) (f : SessionFront) → slice_get (session_fronts first fs moments) k ≡ Some f → (k < length fs) × (f.client ≡ first + k)
+number_at first k [] moments f at = absurd (cc (at))
+number_at first zero (g ∷ fs) moments f at = (let same : session_front first g (moments first) ≡ f = cc (at) in (omega arith, sym (ap (λ (x : SessionFront). x.client) same) ∙ omega arith))
+number_at first (suc k) (g ∷ fs) moments f at =
+    let rest = number_at (suc first) k fs moments f at in
+    (omega (arith, rest.0), rest.1 ∙ omega arith)
+
+all_told : (c : ClosedSession) (holds : SessionHolds c) (run : SessionRun) → IsStoppedRun (session_of c holds.moments) run → AllTold (length c.fronts) run.last_tallies
+all_told c holds run stopped k less =
+    let f = many_fronts 0 c.fronts holds.moments k less in
+    let tells = holds.composed.fronts_tell run stopped f.0 (k, f.1) in
+    let number : f.0.client ≡ k = f.2 ∙ omega arith in
+    let at : slice_get run.last_tallies tells.2.0 ≡ Some (record { client = k; tally = Front tells.0 tells.1 }) =
+    tells.2.1 ∙ ap (λ (n : ℕ). Some (record { client = n; tally = Front tells.0 tells.1 })) number in
+    told_there k run.last_tallies tells.2.0 tells.0 tells.1 at
+
+front_record : (c : ClosedSession) (holds : SessionHolds c) (run : SessionRun) (stopped : IsStoppedRun (session_of c holds.moments) run) (fronts : List FrontTally) → fronts ≡ fronts_told (length c.fronts) run.last_tallies
+    → (client : ℕ) (f : SessionFront) → slice_get (session_fronts 0 c.fronts holds.moments) client ≡ Some f → (tally : FrontTally) × (slice_get fronts client ≡ Some tally) × FrontRecordHolds (session_of c holds.moments) run f tally
+front_record c holds run stopped fronts is client f at =
+    let tallies : List ClientTally = run.last_tallies in
+    let place = number_at 0 client c.fronts holds.moments f at in
+    let all : AllTold (length c.fronts) tallies = all_told c holds run stopped in
+    let t = all client place.0 in
+    let says : ToldFront client tallies t.0 = told_so client tallies t.0 t.1 in
+    let number : f.client ≡ client = place.1 ∙ omega arith in
+    let tells : TellsFront run f.client t.0.sent t.0.ended = (says.index, says.at ∙ ap (λ (n : ℕ). Some (record { client = n; tally = Front t.0.sent t.0.ended })) (sym number)) in (
+      t.0,
+      subst (λ (l : List FrontTally). slice_get l client ≡ Some t.0) (sym is) (listed_at (length c.fronts) tallies all client place.0 t.0 t.1),
+      record {
+        client = says.of ∙ sym number;
+        told = tells;
+        sends = holds.composed.fronts_sent run stopped f (client, at) t.0.sent t.0.ended tells;
+        set = holds.composed.stops_set run stopped f (client, at) t.0.sent t.0.ended tells;
+      },
+    )
+
+file_record : (c : ClosedSession) (holds : SessionHolds c) (run : SessionRun) (stopped : IsStoppedRun (session_of c holds.moments) run) (number : ℕ) → run.first.run ≡ number → (o : Option (List ChannelState)) → states_told (logger_client c) run.last_tallies ≡ o
+    → (place : ℕ) (file : FileRecord) → slice_get (files_of o number (run_channels c.slots)) place ≡ Some file → FileRecordHolds (session_of c holds.moments) run file
+file_record c holds run stopped number is None told place file at = absurd (cc (at))
+file_record c holds run stopped number is (Some states) told place file at =
+    let s : Session = session_of c holds.moments in
+    let found : FileTold states number (run_channels c.slots) file = file_so_told states number (run_channels c.slots) place file at in
+    let ch : IsLoggerChannel c.slots found.place found.channel = logger_channel_at c.slots found.place found.channel found.at in
+    let says : ToldStates (logger_client c) run.last_tallies states = states_so (logger_client c) run.last_tallies states told in
+    let state : ToldState s run ch.logger file.state = record {
+      index = says.index;
+      states = states;
+      told = says.at;
+      state_is = subst (λ (n : ℕ). slice_get states n ≡ Some file.state) ch.number found.state;
+    } in
+    record {
+      index = found.place;
+      channel = ch.logger;
+      at = ch.at;
+      number = ap (λ (f : FileRecord). f.channel) found.is ∙ ch.number;
+      name = ap (λ (f : FileRecord). f.name) found.is ∙ (ch.name number ∙ ap ch.logger.name (sym is));
+      told = state;
+      has = file_so s holds.composed run stopped found.place ch.logger ch.at file.state state;
+    }
+
+-- All of them.
+
+states_in_tally : (client : ℕ) (states : List ChannelState) → states_by client (record { client = client; tally = Channels states }) ≡ Some states
+states_in_tally client states = elim (eqb_tells client client) as (λ w. states_by client (record { client = client; tally = Channels states }) ≡ Some states) [
+  | inl same ↦ ap (λ (b : Bool). if b then Some states else None) same.0
+  | inr differs ↦ absurd (differs.1 refl)
+]
+
+states_there : (client : ℕ) (tallies : List ClientTally) (index : ℕ) (states : List ChannelState) → slice_get tallies index ≡ Some (record { client = client; tally = Channels states }) → (found : List ChannelState) × (states_told client tallies ≡ Some found)
+states_there client [] index states at = absurd (cc (at))
+states_there client (x ∷ xs) zero states at =
+    let same : x ≡ record { client = client; tally = Channels states } = cc (at) in
+    (states, ap (λ (o : Option (List ChannelState)). option_or o (states_told client xs)) (ap (states_by client) same ∙ states_in_tally client states))
+states_there client (x ∷ xs) (suc index) states at =
+    let rest = states_there client xs index states at in
+    or_there (states_by client x) (states_told client xs) rest.0 rest.1
+
+-- a state of each channel is among these
+abbrev AllStates : List ChannelState → List LoggerChannel → Type 0
+AllStates states channels = (index : ℕ) → (channel : LoggerChannel) → slice_get channels index ≡ Some channel → (state : ChannelState) × (slice_get states channel.number ≡ Some state)
+
+as_many : (slots : List (Option Channel)) (states : List ChannelState) (run : ℕ) → AllStates states (logger_channels (λ n. 0) slots) → length (files_told states run (run_channels slots)) ≡ length (logger_channels (λ n. 0) slots)
+as_many [] states run all = refl
+as_many (None ∷ slots) states run all = as_many slots states run all
+as_many (Some c ∷ slots) states run all =
+    let here = all 0 _ refl in
+    let rest : length (files_told states run (run_channels slots)) ≡ length (logger_channels (λ n. 0) slots) = as_many slots states run (λ index channel at. all (suc index) channel at) in
+    ap (λ (o : Option ChannelState). length (option_to_list (option_map (file_in run (run_channel c.spec)) o) ++ files_told states run (run_channels slots))) here.1 ∙ ap suc rest
+
+many_files : (c : ClosedSession) (holds : SessionHolds c) (run : SessionRun) → IsStoppedRun (session_of c holds.moments) run → (number : ℕ) (o : Option (List ChannelState)) → states_told (logger_client c) run.last_tallies ≡ o
+    → length (files_of o number (run_channels c.slots)) ≡ length (logger_channels (λ n. 0) c.slots)
+many_files c holds run stopped number None none = no_channels (logger_channels (λ n. 0) c.slots) refl
+  where
+    no_channels : (channels : List LoggerChannel) → logger_channels (λ n. 0) c.slots ≡ channels → 0 ≡ length (logger_channels (λ n. 0) c.slots)
+    no_channels [] is = sym (ap length is)
+    no_channels (ch ∷ chs) is =
+        let told = holds.composed.channels_told run stopped 0 ch (ap (λ (l : List LoggerChannel). slice_get l 0) is) in
+        let found = states_there (logger_client c) run.last_tallies told.1.index told.1.states told.1.told in
+        absurd (cc (none, found.1))
+many_files c holds run stopped number (Some states) told =
+    let says : ToldStates (logger_client c) run.last_tallies states = states_so (logger_client c) run.last_tallies states told in
+    as_many c.slots states number (λ index channel at. holds.composed.states_told run stopped says.index states says.at index channel at)
+
+many_listed : (first : ℕ) (fs : List ClosedFront) (moments : ℕ → List ℕ) → length (session_fronts first fs moments) ≡ length fs
+many_listed first [] moments = refl
+many_listed first (f ∷ fs) moments = ap suc (many_listed (suc first) fs moments)
+
+pub records_hold : RecordsHold
+records_hold c holds own same r quota fits =
+    let n : ℕ = logger_client c in
+    let begun : CurrentRun = run_of r quota in
+    let run : SessionRun = record_run r quota fits.start.dump (dump_saved fits.stop.saved) fits.start.tallies fits.stop.tallies in
+    let joined : fits.early.engine ++ fits.late.engine ≡ engine_calls c main_caller = sym (ap (λ (o : MainOwn). o.engine) fits.calls) ∙ same in
+    let makes : RunIn (fits.early.engine ++ fits.late.engine) run = record {
+      started = made_then fits.early.engine fits.late.engine Start run.first r.start Completed fits.start.tallies (made fits.early.engine Start run.first r.start Completed fits.start.tallies fits.start.made);
+      stopped = made_behind fits.early.engine fits.late.engine Stop run.last r.start Completed fits.stop.tallies (made fits.late.engine Stop run.last r.start Completed fits.stop.tallies fits.stop.made);
+    } in
+    let all : RunHolds (session_of c holds.moments) run = holds.runs run (subst (λ (l : List EngineEntry). RunIn l run) joined makes) in
+    let tells = fits.stop.tells in
+    record {
+      run = run;
+      stopped = all.stopped;
+      start = refl;
+      first_is = refl;
+      last_is = refl;
+      many_fronts = ap length tells.sent ∙ (many_told (length c.fronts) fits.stop.tallies (all_told c holds run all.stopped) ∙ sym (many_listed 0 c.fronts holds.moments));
+      fronts = front_record c holds run all.stopped r.fronts tells.sent;
+      many_files = ap length tells.files ∙ many_files c holds run all.stopped r.run (states_told n fits.stop.tallies) refl;
+      files = λ place file at.
+          file_record c holds run all.stopped r.run refl (states_told n fits.stop.tallies) refl place file (subst (λ (l : List FileRecord). slice_get l place ≡ Some file) tells.files at);
+    }

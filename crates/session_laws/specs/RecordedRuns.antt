@@ -1,0 +1,66 @@
+-- What a closed session's histories and run files hold of the records of its runs.
+use Rattle.std.specs.Prelude.{◌≡◌, ℕ, List, [], ◌∷◌, length, slice_get, Option, Some, None}
+use Rattle.daq_types.specs.Callers.{main_caller}
+use Rattle.member_model.specs.LoggerKept.{LoggerChannel}
+use Rattle.transitions.specs.declared.sheet.Sheet.{Sheet}
+use Rattle.mid_logger.specs.declared.channel.Channel.{Channel}
+use Rattle.run_records.specs.declared.records.FrontTally.{FrontTally}
+use Rattle.run_records.specs.declared.records.FileRecord.{FileRecord}
+use Rattle.run_records.specs.declared.records.RunRecord.{RunRecord}
+use Rattle.session_runs.specs.declared.channels.RunChannel.{RunChannel}
+use Rattle.session_runs.specs.KeptRuns.{run_channel}
+use Rattle.session_runs.specs.RunEntries.{start_sheet, later_sheet, dump_saved}
+use Rattle.session_runs.specs.RunsFit.{MainOwn, FitsWhole, run_of}
+use Rattle.composition.specs.Sessions.{Session, SessionFront}
+use Rattle.composition.specs.SessionRuns.{SessionRun, IsStoppedRun, TellsFront, FrontSent, SetAtStop, ToldState}
+use Rattle.session_laws.specs.ClosedSessions.{ClosedSession, logger_client, engine_calls, session_of}
+use Rattle.session_laws.specs.MadeRuns.{IsFileSo}
+use Rattle.session_laws.specs.EndLaws.{SessionHolds}
+
+-- What the record has of a front-end is what this told at the stop; it sent that, the first events of its equipment, and set
+-- that number in the database.
+pub record FrontRecordHolds (s : Session) (run : SessionRun) (f : SessionFront) (tally : FrontTally) : Type 0 where
+  pub client : tally.client ≡ f.client
+  pub told : TellsFront run f.client tally.sent tally.ended
+  pub sends : FrontSent s run f tally.sent tally.ended
+  pub set : SetAtStop s run f tally.sent
+
+-- What the record has of a file is what the logger told of its channel at the stop; and the file of a channel that ended is the
+-- run file of all events of the run that it asks for, that of one that broke off a part of it.
+pub record FileRecordHolds (s : Session) (run : SessionRun) (file : FileRecord) : Type 0 where
+  pub index : ℕ
+  pub channel : LoggerChannel
+  pub at : slice_get s.channels index ≡ Some channel
+  pub number : file.channel ≡ channel.number
+  pub name : file.name ≡ channel.name run.first.run
+  pub told : ToldState s run channel file.state
+  pub has : IsFileSo file.state s run channel
+
+-- The record of a run that was not refused, which was started with the first and stopped with the last of these sheets: it is
+-- that of a run of the session, and so is what it has of each front-end, at the place of its client number, and of each file.
+-- It has all front-ends, and a file for each channel.
+pub record RecordHolds (s : Session) (r : RunRecord) (first last : Sheet) : Type 0 where
+  pub run : SessionRun
+  pub stopped : IsStoppedRun s run
+  pub start : run.start ≡ r.start
+  pub first_is : run.first ≡ first
+  pub last_is : run.last ≡ last
+  pub many_fronts : length r.fronts ≡ length s.fronts
+  pub fronts : (client : ℕ) → (f : SessionFront) → slice_get s.fronts client ≡ Some f →
+      (tally : FrontTally) × (slice_get r.fronts client ≡ Some tally) × FrontRecordHolds s run f tally
+  pub many_files : length r.files ≡ length s.channels
+  pub files : (place : ℕ) → (file : FileRecord) → slice_get r.files place ≡ Some file → FileRecordHolds s run file
+
+-- the channels of a logger, as the records of its runs name them, in order of number
+abbrev pub run_channels : List (Option Channel) → List RunChannel
+run_channels [] = []
+run_channels (None ∷ slots) = run_channels slots
+run_channels (Some c ∷ slots) = run_channel c.spec ∷ run_channels slots
+
+-- The record of each run that was not refused holds so, where it fits the main thread's own calls, with the sheets that these
+-- calls tell: the dumps are what the database's text was saved as.
+abbrev pub RecordsHold : Type 0
+RecordsHold = (c : ClosedSession) → (holds : SessionHolds c) → (own : MainOwn) → own.engine ≡ engine_calls c main_caller →
+    (r : RunRecord) → (quota : ℕ) → (fits : FitsWhole (logger_client c) (run_channels c.slots) own (run_of r quota) r) →
+    RecordHolds (session_of c holds.moments) r
+    (start_sheet r.run r.time0 quota fits.start.dump) (later_sheet (run_of r quota) r.time1 (dump_saved fits.stop.saved))
