@@ -1,3 +1,17 @@
+ghost use Rattle.std.specs.Prelude.{◌≡◌, ◌↔◌, ◌⊎◌, ℕ, List, [], None};
+ghost use Rattle.std.specs.Io.KnownBytes.{Appends};
+ghost use Rattle.daq_io.specs.Counts.{Rose};
+ghost use Rattle.daq_io.specs.Seen.{Same};
+ghost use Rattle.daq_io.specs.Streams.{AppendsPart};
+ghost use Rattle.command_words.specs.CommandLine.{HasForm, IsGenerate, IsOnFile, IsRunWords};
+ghost use Rattle.command_words.specs.declared.forms.Tool.{Tool};
+ghost use Rattle.daq_session.specs.Sessions.{RunsScript};
+ghost use Rattle.daq_session.specs.declared.ends.ScriptEnd.{ScriptEnd};
+ghost use Rattle.midas_cli.specs.Generating.{Generates};
+ghost use Rattle.midas_cli.specs.Outcomes.{script_cause, status_of};
+ghost use Rattle.midas_cli.specs.Tools.{ToolRan};
+ghost use Rattle.midas_cli.specs.Usages.{usage_line};
+
 use crate::causes::Cause;
 use crate::generating::generate;
 use crate::outcome::{Outcome, status};
@@ -5,6 +19,7 @@ use crate::tools::run_tool;
 use crate::usage::refuse_words;
 use command_words::{Form, form_of};
 use daq_io::{Clock, Files, Gate, Outside, Pick, Sink, Source};
+use daq_session::laws::nothing_done;
 use daq_session::run_script;
 use daq_types::{NoMemory, Words};
 use std::alloc::Global;
@@ -27,7 +42,66 @@ pub fn midas<
     words: &Words,
     outside: Outside<S, K, F, E, C, P>,
     gate: &G,
-) -> (Outcome, Outside<S, K, F, E, C, P>) {
+) -> (Outcome, Outside<S, K, F, E, C, P>)
+    ensures status { result.0.status ≡ status_of result.0.cause }
+    // The words are refused exactly where they have no form. Then only the usage line is written.
+    ensures usage { (result.0.cause ≡ Cause.Usage) ↔ ¬ HasForm words.now }
+    ensures usage_line { ¬ HasForm words.now → ¬ Rose (K.faults outside.out)
+        (K.faults result.1.out) → Appends (K.written outside.out) (K.written result.1.out)
+        usage_line }
+    ensures usage_part { ¬ HasForm words.now → AppendsPart (K.written outside.out)
+        (K.written result.1.out) usage_line }
+    ensures usage_files { ¬ HasForm words.now → result.1.run_files ≡ outside.run_files }
+    // The words of a tool: what it found and wrote, and why it ended; or nothing was done where the words found no memory.
+    // Every name and byte of the run files stays.
+    ensures tool { (tool : Tool) → (name : List ℕ) → IsOnFile tool name words.now
+        → ToolRan tool (F.seen outside.run_files) name (K.written outside.out)
+        (K.written result.1.out) (record {
+          sink_old = K.faults outside.out;
+          sink_new = K.faults
+              result.1.out;
+          files_old = F.faults outside.run_files;
+          files_new = F.faults
+              result.1.run_files;
+          clashes_old = F.clashes outside.run_files;
+          clashes_new = F.clashes
+              result.1.run_files;
+        }) (F.first result.1.run_files) result.0.cause
+        ⊎ ((result.0.cause ≡ Cause.NoMemory) × (result.1 ≡ outside)) }
+    // The words `gen N`: the script of N is written.
+    ensures generated { (number : ℕ) → IsGenerate number words.now → Generates number
+        (K.written outside.out) (K.written result.1.out) (K.faults outside.out)
+        (K.faults result.1.out) result.0.cause }
+    ensures generated_files { (number : ℕ) → IsGenerate number words.now
+        → result.1.run_files ≡ outside.run_files }
+    // Words that run no session: no script is read, and the outside but for the output stays.
+    ensures files { ¬ IsRunWords words.now → Same (F.seen outside.run_files)
+        (F.seen result.1.run_files) }
+    ensures database_files { ¬ IsRunWords words.now → result.1.odb_files ≡ outside.odb_files }
+    ensures source { ¬ IsRunWords words.now → result.1.src ≡ outside.src }
+    ensures clock { ¬ IsRunWords words.now → result.1.clock ≡ outside.clock }
+    ensures picks { ¬ IsRunWords words.now → result.1.pick ≡ outside.pick }
+    ensures session { ¬ IsRunWords words.now → result.0.session ≡ None }
+    ensures file_replies { ¬ IsRunWords words.now → result.0.file_replies.replies ≡ [] }
+    // The word `run`: what the session made of the script, why that ended, and what its record says.
+    ensures ran { IsRunWords words.now → (end : ScriptEnd) × (result.0.cause ≡ script_cause end)
+        × RunsScript
+        (record {
+          source = S.left outside.src;
+          source_faults = S.faults outside.src;
+          written = K.written outside.out;
+          sink_faults = K.faults outside.out;
+          run_seen = F.seen outside.run_files;
+        })
+        (record {
+          source = S.left result.1.src;
+          source_faults = S.faults result.1.src;
+          written = K.written result.1.out;
+          sink_faults = K.faults result.1.out;
+          run_seen = F.seen result.1.run_files;
+        })
+        end result.0.session result.0.file_replies.replies }
+{
     match form_of(alloc, words) {
         Err(NoMemory) => (Outcome::without_script(alloc, Cause::NoMemory), outside),
         Ok(None) => refuse_words(alloc, outside),

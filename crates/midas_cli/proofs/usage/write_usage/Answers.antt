@@ -1,7 +1,7 @@
 use Rattle.std.proofs.Common.{ℕ, List, subst}
 use Rattle.daq_io.specs.Streams.{AppendsPart}
-use Rattle.midas_cli.proofs.OneWord.{part_either}
-use Rattle.midas_cli.proofs.top.write_usage.Goals as goal
+use Rattle.midas_cli.proofs.Parts.{part_either}
+use Rattle.midas_cli.proofs.usage.write_usage.Goals as goal
 
 pub returns-clause-part : goal.returns-clause-part
 returns-clause-part g c =
