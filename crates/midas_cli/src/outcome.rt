@@ -4,6 +4,7 @@ ghost use Rattle.midas_cli.specs.Outcomes.{status_of};
 use crate::causes::Cause;
 use daq_session::SessionRecord;
 use database_files::FileReplies;
+use odb_arena::ArenaTree;
 use std::alloc::Global;
 
 /// What a call of the program came to.
@@ -14,7 +15,7 @@ pub struct Outcome {
     /// Why it ended.
     pub cause: Cause,
     /// The record of the session, where a start opened one.
-    pub session: Option<SessionRecord>,
+    pub session: Option<SessionRecord<ArenaTree>>,
     /// What came of the lines of the script that called the files of the database, in order.
     pub file_replies: FileReplies,
 }

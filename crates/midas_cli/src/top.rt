@@ -5,7 +5,13 @@ ghost use Rattle.daq_io.specs.Seen.{Same};
 ghost use Rattle.daq_io.specs.Streams.{AppendsPart};
 ghost use Rattle.command_words.specs.CommandLine.{HasForm, IsGenerate, IsOnFile, IsRunWords};
 ghost use Rattle.command_words.specs.declared.forms.Tool.{Tool};
-ghost use Rattle.daq_session.specs.Sessions.{RunsScript};
+ghost use Rattle.daq_members.specs.Crews.{crew_told};
+ghost use Rattle.daq_session.specs.Environments.{environment_of, run_files_of};
+ghost use Rattle.daq_session.specs.Sessions.{PlaysScript, SessionKept};
+ghost use Rattle.database_desk.specs.DatabaseStages.{dump_files};
+ghost use Rattle.session_lines.specs.Stages.{Stage};
+ghost use Rattle.session_objects.specs.Members.{generator_makes, generator_takes};
+ghost use Rattle.session_runs.specs.RunAnswers.{clock_of};
 ghost use Rattle.daq_session.specs.declared.ends.ScriptEnd.{ScriptEnd};
 ghost use Rattle.midas_cli.specs.Generating.{Generates};
 ghost use Rattle.midas_cli.specs.Outcomes.{script_cause, status_of};
@@ -19,7 +25,6 @@ use crate::tools::run_tool;
 use crate::usage::refuse_words;
 use command_words::{Form, form_of};
 use daq_io::{Clock, Files, Gate, Outside, Pick, Sink, Source};
-use daq_session::laws::nothing_done;
 use daq_session::run_script;
 use daq_types::{NoMemory, Words};
 use std::alloc::Global;
@@ -83,24 +88,29 @@ pub fn midas<
     ensures picks { ¬ IsRunWords words.now → result.1.pick ≡ outside.pick }
     ensures session { ¬ IsRunWords words.now → result.0.session ≡ None }
     ensures file_replies { ¬ IsRunWords words.now → result.0.file_replies.replies ≡ [] }
-    // The word `run`: what the session made of the script, why that ended, and what its record says.
-    ensures ran { IsRunWords words.now → (end : ScriptEnd) × (result.0.cause ≡ script_cause end)
-        × RunsScript
-        (record {
-          source = S.left outside.src;
-          source_faults = S.faults outside.src;
-          written = K.written outside.out;
-          sink_faults = K.faults outside.out;
-          run_seen = F.seen outside.run_files;
-        })
-        (record {
-          source = S.left result.1.src;
-          source_faults = S.faults result.1.src;
-          written = K.written result.1.out;
-          sink_faults = K.faults result.1.out;
-          run_seen = F.seen result.1.run_files;
-        })
-        end result.0.session result.0.file_replies.replies }
+    // The words of a session: what it made of the script, why that ended, and what its record says; or nothing was done
+    // where the words found no memory.
+    ensures ran { IsRunWords words.now → ((end : ScriptEnd) × (result.0.cause ≡ script_cause end)
+        × ((final : Stage) × PlaysScript
+        (environment_of (S.left outside.src) (S.faults outside.src) (K.written outside.out)
+        (K.faults outside.out)
+        (run_files_of (F.seen outside.run_files) (F.faults outside.run_files)
+        (F.clashes outside.run_files) (F.first outside.run_files))
+        (dump_files (E.seen outside.odb_files) (E.faults outside.odb_files)
+        (E.clashes outside.odb_files) (E.first outside.odb_files))
+        (clock_of (C.tells outside.clock) (C.ahead outside.clock)))
+        (environment_of (S.left result.1.src) (S.faults result.1.src) (K.written result.1.out)
+        (K.faults result.1.out)
+        (run_files_of (F.seen result.1.run_files) (F.faults result.1.run_files)
+        (F.clashes result.1.run_files) (F.first result.1.run_files))
+        (dump_files (E.seen result.1.odb_files) (E.faults result.1.odb_files)
+        (E.clashes result.1.odb_files) (E.first result.1.odb_files))
+        (clock_of (C.tells result.1.clock) (C.ahead result.1.clock)))
+        end result.0.file_replies.replies final
+        × SessionKept (crew_told generator_takes generator_makes F.seen F.faults F.clashes F.first
+        P.tells P.ahead) outside.run_files final result.1.run_files result.0.session))
+        ⊎ ((result.0.cause ≡ Cause.NoMemory) × (result.0.session ≡ None)
+        × (result.0.file_replies.replies ≡ []) × (result.1 ≡ outside)) }
 {
     match form_of(alloc, words) {
         Err(NoMemory) => (Outcome::without_script(alloc, Cause::NoMemory), outside),

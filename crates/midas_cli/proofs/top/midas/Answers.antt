@@ -1,3 +1,4 @@
+use Rattle.std.proofs.Common.{◌⊎◌, inl, inr}
 use Rattle.command_words.specs.declared.forms.Form.TheVariants.{Run, OnFile, Generate}
 use Rattle.midas_cli.proofs.Forms.{no_form}
 use Rattle.midas_cli.proofs.top.midas.Goals as goal
@@ -13,3 +14,6 @@ returns-in-Ok-None-clause-generated g c = λ number is.
 pub returns-in-Ok-None-clause-ran : goal.returns-in-Ok-None-clause-ran
 returns-in-Ok-None-clause-ran g c = λ is.
     absurd (no_form c.in-Ok-None.field-0 c.in-Ok-None.field-0-is c.in-Ok-None.ensures.form (Run is.0, is.1))
+
+pub returns-in-Ok-Some-Run-clause-ran : goal.returns-in-Ok-Some-Run-clause-ran
+returns-in-Ok-Some-Run-clause-ran g c = λ is. inl (c.run_script-end.result.0, c.from-cause.ensures, c.run_script-end.ensures)
