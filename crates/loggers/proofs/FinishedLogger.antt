@@ -229,17 +229,17 @@ all_settled (o ∷ os) zero c all stood = subst (λ (x : Option Channel). is_set
 all_settled (o ∷ os) (suc n) c all stood = all_settled os n c (and_both (is_settled_slot o) (list_all is_settled_slot os) all).1 stood
 
 -- the run whose stop waits
-record Waits (run : Option LoggedRun) (time : ℕ) : Type 0 where
-  r : LoggedRun
-  is : run ≡ Some r
-  part : r.part ≡ Stopping time
+pub record Waits (run : Option LoggedRun) (time : ℕ) : Type 0 where
+  pub r : LoggedRun
+  pub is : run ≡ Some r
+  pub part : r.part ≡ Stopping time
 
 part_waits : (part : RunPart) (r : LoggedRun) (time : ℕ) → r.part ≡ part → waiting_stop (Some (record r { part = part })) ≡ Some time → Waits (Some r) time
 part_waits Refused r time is waits = absurd (cc (waits))
 part_waits Started r time is waits = absurd (cc (waits))
 part_waits (Stopping at) r time is waits = let same : at ≡ time = cc (waits) in record { r = r; is = refl; part = is ∙ ap (λ (t : ℕ). Stopping t) same }
 
-run_waits : (run : Option LoggedRun) (time : ℕ) → waiting_stop run ≡ Some time → Waits run time
+pub run_waits : (run : Option LoggedRun) (time : ℕ) → waiting_stop run ≡ Some time → Waits run time
 run_waits None time waits = absurd (cc (waits))
 run_waits (Some r) time waits = part_waits r.part r time refl waits
 

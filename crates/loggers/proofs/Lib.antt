@@ -31,3 +31,4 @@ pub mod FaultsNoted
 pub mod FilesLeft
 pub mod ReasonsKept
 pub mod NamesUndone
+pub mod NamesKept
