@@ -10,6 +10,7 @@ pub mod FirstParts
 pub mod RunsCut
 pub mod Sending
 pub mod SentThere
+pub mod FileSizes
 pub mod RunsSeen
 pub mod RunsSince
 pub mod GoingOn

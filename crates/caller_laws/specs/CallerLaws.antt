@@ -1,11 +1,12 @@
 -- What the calls of one caller tell of the history of all callers: statements of the laws.
-use Rattle.std.specs.Prelude.{◌≡◌, ℕ, List, [], ◌∷◌, ◌++◌, slice_get, Contains, Some, Ok, ◌⊎◌}
+use Rattle.std.specs.Prelude.{◌≡◌, ℕ, ◌≤◌, List, [], ◌∷◌, ◌++◌, All, length, slice_get, Contains, Some, Ok, ◌⊎◌}
 use Rattle.std.specs.List.{AllByRecursion}
 use mathlib.Core.List.{IsPrefix}
 use Rattle.daq_types.specs.Callers.{entries_by}
 use Rattle.daq_types.specs.declared.events.Event.{Event}
-use Rattle.daq_types.specs.declared.runs.Kind.TheVariants.{All}
-use Rattle.daq_model.specs.RunFile.{begun_file, run_file}
+use Rattle.daq_types.specs.declared.runs.Kind.TheVariants.{All as KindAll}
+use Rattle.daq_model.specs.Events.{record_limit}
+use Rattle.daq_model.specs.RunFile.{begun_file, run_file, IsFileEvent, IsRunFile}
 use Rattle.buffer_core.specs.declared.entry.BufferEntry.{BufferEntry}
 use Rattle.buffer_core.specs.declared.entry.BufferEntry.TheVariants.{Request, SendInRun}
 use Rattle.buffer_core.specs.Window.{Sent, opening}
@@ -55,6 +56,17 @@ CutFile = (run time0 time1 : ℕ) → (dump0 dump1 bytes : List ℕ) → (events
     IsPrefix bytes (begun_file run time0 dump0 events) →
     IsPrefix bytes (run_file run time0 dump0 more time1 dump1)
 
+-- Where a client got of a run just the places of the events that it asked for, these and dumps that a record may have are a run
+-- file, of at most 2^62 bytes.
+abbrev pub RunFileFits : Type 0
+RunFileFits = (size : ℕ) → (history : History) → IsLegal (opening size) history →
+    (client id mask start : ℕ) →
+    among (segment history start) (places_got history client) ≡ places_of (wanted id mask (segment history start)) →
+    (run time0 time1 : ℕ) → (dump0 dump1 : List ℕ) → length dump0 ≤ record_limit → length dump1 ≤ record_limit →
+    (let events : List Event = events_in (wanted id mask (segment history start)) in
+    All IsFileEvent events →
+    IsRunFile (run_file run time0 dump0 events time1 dump1) run time0 dump0 events time1 dump1)
+
 -- A client that sees a run through, which another caller may begin and end, got under the run's start number just the events
 -- between the marks that it asked for.
 abbrev pub SeenEvents : Type 0
@@ -71,7 +83,7 @@ SeenSince = (size : ℕ) → (history later : History) → (caller : ℕ) → (g
     IsLegal (opening size) (history ++ later) → HaveOwnClients (history ++ later) → HaveRunSends (history ++ later) →
     AreGivenBy (entries_by caller (history ++ later)) got → AllByRecursion (WasSentAt (history ++ later)) got →
     (client id mask start ended : ℕ) → (sees : SeesRun history caller client id mask start ended) → (calls : List BufferEntry) →
-    entries_by caller history ≡ entries_by caller sees.before ++ Request client id mask All (Ok sees.number) ∷ calls →
+    entries_by caller history ≡ entries_by caller sees.before ++ Request client id mask KindAll (Ok sees.number) ∷ calls →
     AreGivenBy calls given → AllByRecursion (WasSentAt (history ++ later)) given →
     events_of_start client start given ≡ events_in (wanted id mask (segment (history ++ later) start))
 

@@ -1,23 +1,36 @@
 -- What the run files have, by the engine's history and the buffers'.
 use mathlib.Core.List.{IsPrefix}
-use Rattle.std.specs.Prelude.{◌≡◌, ℕ, List, [], ◌∷◌, All, slice_get, unwrap_or, Option, Some, refl}
-use Rattle.std.proofs.Common.{ap, sym, ◌∙◌, subst, inl, inr}
+use Rattle.std.specs.Prelude.{◌≡◌, ℕ, ◌≤◌, List, [], ◌∷◌, ◌++◌, All, length, slice_get, unwrap_or, Option, Some, None, Ok, refl}
+use Rattle.std.proofs.Common.{ap, sym, ◌∙◌, subst, arith, inl, inr}
 use Rattle.daq_types.specs.Callers.{caller_of_client, entries_by}
 use Rattle.daq_types.specs.declared.events.Event.{Event}
 use Rattle.daq_types.specs.declared.runs.ChannelState.{ChannelState}
 use Rattle.daq_types.specs.declared.runs.ChannelState.TheVariants.{Idle, Writing, Broken, Ended, NoEnd, NoMark}
 use Rattle.daq_types.specs.declared.runs.Order.{Order}
+use Rattle.daq_types.specs.declared.runs.StartOutcome.{StartOutcome}
+use Rattle.daq_types.specs.declared.runs.StartOutcome.TheVariants.{Completed}
+use Rattle.daq_types.specs.declared.runs.Transition.{Transition}
 use Rattle.daq_types.specs.declared.runs.Transition.TheVariants.{Start, Stop}
+use Rattle.daq_model.specs.Events.{record_limit}
 use Rattle.daq_model.specs.RunFile.{begun_file, run_file, IsFileEvent}
 use Rattle.daq_io.specs.Seen.{IsStored}
 use Rattle.buffer_core.specs.declared.entry.BufferEntry.{BufferEntry}
-use Rattle.buffer_core.specs.declared.entry.BufferEntry.TheVariants.{Begin, Pause, Resume, End}
+use Rattle.buffer_core.specs.declared.entry.BufferEntry.TheVariants.{Begin as BufferBegin, Pause, Resume, End}
 use Rattle.buffer_core.specs.Histories.{History}
+use Rattle.buffer_core.specs.Runs.{segment}
+use Rattle.buffer_core.specs.Readers.{among, places_got, places_of, wanted}
+use Rattle.transitions.specs.declared.sheet.Sheet.{Sheet}
+use Rattle.transitions.specs.declared.answers.ClientTally.{ClientTally}
 use Rattle.transitions.specs.declared.answers.Answer.{Answer}
 use Rattle.transitions.specs.declared.answers.Answer.TheVariants.{Yes, No}
 use Rattle.transitions.specs.declared.answers.Tally.{Tally}
 use Rattle.transitions.specs.declared.answers.Tally.TheVariants.{Plain, Channels}
+use Rattle.transitions.specs.declared.replies.Progress.TheVariants.{Done}
+use Rattle.transitions.specs.declared.entry.EngineEntry.TheVariants.{Begin, Check}
+use Rattle.transitions.specs.Engines.{EngineState, engine_opening}
+use Rattle.transitions.specs.EngineCalls.{engine_after}
 use Rattle.transitions.specs.EnginePoints.{tally_of}
+use Rattle.transitions.specs.EngineHistories.{EngineHistory, IsLegalEngine, IsShort, IsSheet}
 use Rattle.member_model.specs.Turns.{MemberTurn, HasTurnOf, IsAcceptedStart, HasAnswer}
 use Rattle.member_model.specs.ReadRuns.{HasReadRun}
 use Rattle.member_model.specs.SentCalls.{EachCall}
@@ -26,8 +39,8 @@ use Rattle.member_model.specs.EndedRuns.{EndsBegun, MakesNoMark}
 use Rattle.member_model.specs.LoggerKept.{LoggerChannel, HasWritten, HasWrittenPart, TellsState, IsStartAnswer, IsStateSo}
 use Rattle.analyzers.specs.AnalyzerKept.{IsReaderCall}
 use Rattle.caller_laws.specs.OneCaller.{IsCallersPart, HaveOwnClients, MarksAlone}
-use Rattle.caller_laws.specs.CallerLaws.{ReadPlaces, ReadEvents, CutEvents, CutFile, MembersFit, BegunIsEnded, SenderMakesNoMark}
-use Rattle.engine_laws.specs.BegunTurns.{HasTally}
+use Rattle.caller_laws.specs.CallerLaws.{ReadPlaces, ReadEvents, CutEvents, CutFile, RunFileFits, MembersFit, BegunIsEnded, SenderMakesNoMark}
+use Rattle.engine_laws.specs.BegunTurns.{HasTransition, HasTally}
 use Rattle.composition.specs.Sessions.{Session, turns_of, buffer_calls, MembersKeep}
 use Rattle.composition.specs.SessionRuns.{SessionRun, IsStoppedRun, run_order, ToldState, channel_events, begin_dump}
 use Rattle.composition.specs.CompositionLaws.{ChannelsTold, StatesTold, StatesSo, FilesHoldRuns, FilesHoldParts, RunsAreEnded, NoEndRefused}
@@ -40,6 +53,7 @@ pub record CallerFacts : Type 0 where
   pub events : ReadEvents
   pub cut : CutEvents
   pub file : CutFile
+  pub fits_file : RunFileFits
   pub fits : MembersFit
   pub ends : BegunIsEnded
   pub senders : SenderMakesNoMark
@@ -95,6 +109,20 @@ logger_run laws s keep r run channel state told =
 dump_as : (d first : Option (List ℕ)) → d ≡ first → unwrap_or d [] ≡ unwrap_or first []
 dump_as d first e = ap (λ (o : Option (List ℕ)). unwrap_or o []) e
 
+-- The dumps of sheets are short.
+
+begins_with : (state : EngineState) (before : EngineHistory) (caller : ℕ) (t : Transition) (sheet : Sheet) (start : ℕ) (after : EngineHistory) → IsLegalEngine state (before ++ (caller, Begin t sheet (Ok start)) ∷ after) → IsSheet sheet
+begins_with state [] caller t sheet start after legal = legal.0.1
+begins_with state (e ∷ before) caller t sheet start after legal = begins_with (engine_after state e.1) before caller t sheet start after legal.2
+
+begun_sheet : (s : Session) → MembersKeep s → (t : Transition) (sheet : Sheet) (start : ℕ) (outcome : StartOutcome) (tallies : List ClientTally) → HasTransition s.engine t sheet start outcome tallies → IsSheet sheet
+begun_sheet s keep t sheet start outcome tallies has =
+    begins_with engine_opening has.earlier has.opener t sheet start (has.between ++ (has.closer, Check (Done outcome) tallies) ∷ has.later) (subst (IsLegalEngine engine_opening) has.whole keep.engine_legal)
+
+short_dump : (dump : Option (List ℕ)) → IsShort dump → length (unwrap_or dump []) ≤ record_limit
+short_dump None short = omega arith
+short_dump (Some bytes) short = short bytes refl
+
 -- A channel that ended.
 
 pub files_hold_runs : EngineFacts → CallerFacts → (s : Session) → MembersKeep s → FilesHoldRuns s
@@ -111,15 +139,22 @@ files_hold_runs laws callers s keep r run index channel at told =
     callers.events (s.size b) h (caller_of_client s.logger) own (s.got b) (keep.buffers_legal b) (own_clients callers s keep b) (logger_part s keep b) channel.client channel.id channel.mask w.number r.start w.begun w.ended w.events reads in
     let dump : List ℕ = begin_dump r in
     let first_dump : unwrap_or w.start.dump [] ≡ dump = dump_as w.start.dump r.first.dump first.1 in
+    let has_last : r.last.dump ≡ Some w.dump = sym l.dump ∙ w.has_dump in
+    let got : among (segment h r.start) (places_got h channel.client) ≡ places_of (wanted channel.id channel.mask (segment h r.start)) =
+    callers.places (s.size b) h (caller_of_client s.logger) own (s.got b) (keep.buffers_legal b) (own_clients callers s keep b) (logger_part s keep b) channel.client channel.id channel.mask w.number r.start w.begun w.ended w.events reads in
     record {
       last_dump = w.dump;
-      has_dump = sym l.dump ∙ w.has_dump;
-      fine = subst (All IsFileEvent) events w.fine;
+      has_dump = has_last;
+      bytes = run_file r.first.run r.first.time dump (channel_events s r channel) r.last.time w.dump;
+      is = callers.fits_file (s.size b) h (keep.buffers_legal b) channel.client channel.id channel.mask r.start got r.first.run r.first.time r.last.time dump w.dump
+          (short_dump r.first.dump (begun_sheet s keep Start r.first r.start Completed r.first_tallies run.started).short)
+          ((begun_sheet s keep Stop r.last r.start Completed r.last_tallies run.stopped).short w.dump has_last)
+          (subst (All IsFileEvent) events w.fine);
       stored = subst (λ (time : ℕ). IsStored s.files (channel.name r.first.run) (run_file r.first.run r.first.time dump (channel_events s r channel) time w.dump)) l.time
           (subst (λ (es : List Event). IsStored s.files (channel.name r.first.run) (run_file r.first.run r.first.time dump es l.stop.order.time w.dump)) events
           (subst (λ (d : List ℕ). IsStored s.files (channel.name r.first.run) (run_file r.first.run r.first.time d w.events l.stop.order.time w.dump)) first_dump
           (subst (λ (o : Order). IsStored s.files (channel.name o.run) (run_file o.run o.time (unwrap_or w.start.dump []) w.events l.stop.order.time w.dump)) first.0 w.stored)));
-      got = callers.places (s.size b) h (caller_of_client s.logger) own (s.got b) (keep.buffers_legal b) (own_clients callers s keep b) (logger_part s keep b) channel.client channel.id channel.mask w.number r.start w.begun w.ended w.events reads;
+      got = got;
     }
 
 -- What the logger told.
@@ -213,7 +248,7 @@ states_so laws s keep r run index channel at state told = state_so laws s keep r
 -- The logger alone makes marks.
 
 reader_no_mark : (e : BufferEntry) → IsReaderCall e → MakesNoMark e
-reader_no_mark (Begin start reply) reads = reads
+reader_no_mark (BufferBegin start reply) reads = reads
 reader_no_mark (Pause start reply) reads = reads
 reader_no_mark (Resume start reply) reads = reads
 reader_no_mark (End start reply) reads = reads

@@ -1,5 +1,6 @@
 pub mod SessionTurns
 pub mod SentTogether
+pub mod SetsStand
 pub mod SetTogether
 pub mod FilesTogether
 pub mod SeenBy

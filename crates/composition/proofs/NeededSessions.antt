@@ -428,7 +428,7 @@ events_needed = record {
   others = others_of_told;
   wrong = λ law.
       let held = law sample_run (stopped_in other_told refl) 0 sample_channel refl (ended_told_in other_told refl) in
-      other_file (channel_events other_told sample_run sample_channel) one_event (of_last (channel_events other_told sample_run sample_channel) held.last_dump held.has_dump (held.stored.holds refl));
+      other_file (channel_events other_told sample_run sample_channel) one_event (of_last (channel_events other_told sample_run sample_channel) held.last_dump held.has_dump (held.stored.holds refl ∙ ap (λ (bytes : List ℕ). Some (stored_closed bytes)) held.is.is_file));
 }
   where
     of_last : (events : List Event) (dump : List ℕ) → Some (8 ∷ []) ≡ Some dump

@@ -52,7 +52,7 @@ others_of_early_pause LoggerThere ne = paused_keeps.logger_registered
 others_of_early_pause OneDump ne = paused_keeps.one_dump
 
 pub pauses_needed : FailsSession FrontMoments early_pause PausesSet
-pauses_needed = record { others = others_of_early_pause; wrong = λ law. wrong (law early_second (1, refl) paused_turn 0 1 (inr (inl (refl, refl, refl))) refl tt) }
+pauses_needed = record { others = others_of_early_pause; wrong = λ law. wrong (law early_second (1, refl) paused_turn 0 1 (inr (inl (refl, refl, refl))) refl tt).number }
   where
     wrong : ◌≡◌ {A = ℕ} 0 1 → ⊥
     wrong e = omega (arith, e)

@@ -1,5 +1,5 @@
 -- What front-ends sent in a run, by the engine's history and the buffers'.
-use Rattle.std.specs.Prelude.{◌≡◌, ℕ, zero, suc, Bool, true, false, if◌then◌else◌, List, [], ◌∷◌, ◌++◌, length, slice_get, Some, Ok, refl}
+use Rattle.std.specs.Prelude.{◌≡◌, ℕ, zero, suc, Bool, true, false, if◌then◌else◌, List, [], ◌∷◌, ◌++◌, length, slice_get, Contains, Some, Ok, refl}
 use Rattle.std.proofs.Common.{ap, sym, ◌∙◌, subst, arith, inl, inr, length-append}
 use Rattle.daq_types.specs.Callers.{caller_of_client, entries_by}
 use Rattle.daq_types.specs.declared.events.Event.{Event}
@@ -25,11 +25,11 @@ use Rattle.member_model.specs.OwnCalls.{SendsNone}
 use Rattle.front_ends.specs.FrontKept.{made_events, EndedSo, IsFrontTally, KeepsFront}
 use Rattle.analyzers.specs.AnalyzerKept.{IsReaderCall}
 use Rattle.caller_laws.specs.OneCaller.{HaveRunSends}
-use Rattle.caller_laws.specs.CallerLaws.{IsSendOf, SendsStandInOrder, SentByCaller, SendsOrReads, MembersFit}
+use Rattle.caller_laws.specs.CallerLaws.{IsSendOf, SendsStandInOrder, SentByCaller, SendIsAmong, SendsOrReads, MembersFit}
 use Rattle.engine_laws.specs.BegunTurns.{HasTally}
 use Rattle.composition.specs.Sessions.{Session, SessionFront, turns_of, buffer_calls, MembersKeep}
 use Rattle.composition.specs.SessionRuns.{SessionRun, IsStoppedRun, run_order, TellsFront, EndedIn, IsOfFront}
-use Rattle.composition.specs.CompositionLaws.{FrontsTell, FrontsSent, FrontsStand, OnlyFrontsSent}
+use Rattle.composition.specs.CompositionLaws.{FrontsTell, FrontsSent, FrontsStand, OnlyFrontsSent, SegmentsAreMade}
 use Rattle.composition.proofs.SessionTurns.{EngineFacts, are_turns, start_turn, StopTally, number_of, stop_tally, HasStartTally, start_tally, last_tally}
 
 -- What a front-end told at the stop.
@@ -181,3 +181,23 @@ only_fronts_sent sent fit s keep buffer start index place x at =
         ]
       ]
     ]
+
+-- And it is one of the events that this front-end told.
+
+pub segments_are_made : EngineFacts → SentByCaller → SendIsAmong → MembersFit → (s : Session) → MembersKeep s → SegmentsAreMade s
+segments_are_made laws sent among fit s keep r run buffer index place x at =
+    let by : IsOfFront s buffer r.start place x.event = only_fronts_sent sent fit s keep buffer r.start index place x at in
+    let f : SessionFront = by.front in
+    let tells = fronts_tell laws s keep r run f by.stands in
+    let is_sent : Contains (own_sent (buffer_calls s buffer f.client) r.start) x.event = among (buffer_calls s buffer f.client) r.start place x.event by.send in
+    let own : List Event = own_sent (buffer_calls s f.buffer f.client) r.start in
+    let here : Contains own x.event = subst (λ (b : ℕ). Contains (own_sent (buffer_calls s b f.client) r.start) x.event) (sym by.buffer_is) is_sent in
+    record {
+      front = f;
+      stands = by.stands;
+      buffer_is = by.buffer_is;
+      sent = tells.0;
+      ended = tells.1;
+      told = tells.2;
+      made = subst (λ (es : List Event). Contains es x.event) (fronts_sent laws s keep r run f by.stands tells.0 tells.1 tells.2).events here;
+    }

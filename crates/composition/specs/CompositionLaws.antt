@@ -29,9 +29,9 @@ use Rattle.front_ends.specs.FrontKept.{made_events}
 use Rattle.caller_laws.specs.OneCaller.{events_in}
 use Rattle.caller_laws.specs.SeenRuns.{SeesRun}
 use Rattle.caller_laws.specs.SentRuns.{places_sent, events_at_places}
-use Rattle.composition.specs.SentSets.{sent_by_moment, AreTurnSets}
+use Rattle.composition.specs.SentSets.{AreTurnSets}
 use Rattle.composition.specs.Sessions.{Session, SessionFront, SessionAnalyzer, HasFront, HasAnalyzer, turns_of, buffer_calls, database_calls}
-use Rattle.composition.specs.SessionRuns.{SessionRun, IsStoppedRun, run_order, TellsFront, FrontSent, SetAtStop, IsOfFront, ToldState, HoldsRunFile, HoldsFilePart, TellsTotals, ReportsRun, analyzer_events, SawThrough}
+use Rattle.composition.specs.SessionRuns.{SessionRun, IsStoppedRun, run_order, TellsFront, FrontSent, SetAtStop, SetAtPause, IsOfFront, IsMadeInRun, ToldState, HoldsRunFile, HoldsFilePart, TellsTotals, ReportsRun, analyzer_events, SawThrough}
 
 -- Each front-end has told in the Done of the stop what it sent in the run.
 abbrev pub FrontsTell : Session → Type 0
@@ -54,31 +54,37 @@ FrontsStand s = (r : SessionRun) → IsStoppedRun s r →
     ≡ made_events f.makes (run_order r) sent)
 
 -- Each front-end set in the database, in its own key alone, 0 at each start, and at each pause and each stop how many
--- events it had sent in the run by then, in the order of these turns; and it made no other call on the database.
+-- events it had sent in the run by then, in the order of these turns; and it made no other call on the database. What it sets at a
+-- latest turn that has no answer may still be to come.
 abbrev pub FrontsSet : Session → Type 0
 FrontsSet s = (f : SessionFront) → HasFront s f →
     AreTurnSets f.name (buffer_calls s f.buffer f.client) (turns_of s f.client) f.moments (database_calls s f.client)
 
--- What it set at the stop of a run is what it told in the Done of the stop.
+-- Its set at the stop of a run stands in the database, and is of the number that it told in the Done of the stop.
 abbrev pub StopsSet : Session → Type 0
 StopsSet s = (r : SessionRun) → IsStoppedRun s r →
     (f : SessionFront) → HasFront s f → (sent : ℕ) → (ended : FrontEnded) → TellsFront r f.client sent ended →
     SetAtStop s r f sent
 
--- What it set at a pause is how many events it had sent in the run when it answered its next turn, or has sent so far, where
--- it answered none since.
+-- Its set at a pause that it answered stands in the database, and is of the number of events that it had sent in the run when it
+-- answered its next turn, or has sent so far, where it answered none since.
 abbrev pub PausesSet : Session → Type 0
 PausesSet s = (f : SessionFront) → HasFront s f → (t : MemberTurn) → (moment until : ℕ) →
-    (let own : List BufferEntry = buffer_calls s f.buffer f.client in
-    HasSpan (turns_of s f.client) f.moments (length own) t moment until →
-    t.transition ≡ Pause → HasAnswer t.answer →
-    sent_by_moment own t.order.start moment ≡ sent_by_moment own t.order.start until)
+    HasSpan (turns_of s f.client) f.moments (length (buffer_calls s f.buffer f.client)) t moment until →
+    t.transition ≡ Pause → HasAnswer t.answer → SetAtPause s f t moment until
 
 -- Each event between the marks of a run in a buffer was sent in that run by a front-end of that buffer.
 abbrev pub OnlyFrontsSent : Session → Type 0
 OnlyFrontsSent s = (buffer start index place : ℕ) → (x : Sent) →
     slice_get (segment (s.history buffer) start) index ≡ Some (place, x) →
     IsOfFront s buffer start place x.event
+
+-- Where the run was not refused and was stopped, each event between its marks in a buffer is one of those that a front-end of
+-- that buffer told that it sent: one of the first events of that front-end's equipment in the order of the run.
+abbrev pub SegmentsAreMade : Session → Type 0
+SegmentsAreMade s = (r : SessionRun) → IsStoppedRun s r →
+    (buffer index place : ℕ) → (x : Sent) → slice_get (segment (s.history buffer) r.start) index ≡ Some (place, x) →
+    IsMadeInRun s r buffer x.event
 
 -- The logger has told in the Done of the stop what became of each channel, and that is so.
 abbrev pub ChannelsTold : Session → Type 0
@@ -177,6 +183,7 @@ pub record IsComposed (s : Session) : Type 0 where
   pub fronts_sent : FrontsSent s
   pub fronts_stand : FrontsStand s
   pub only_fronts : OnlyFrontsSent s
+  pub segments_made : SegmentsAreMade s
   pub fronts_set : FrontsSet s
   pub stops_set : StopsSet s
   pub pauses_set : PausesSet s

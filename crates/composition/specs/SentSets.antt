@@ -5,8 +5,9 @@ use Rattle.daq_types.specs.declared.runs.Transition.TheVariants.{Start, Stop, Pa
 use Rattle.buffer_core.specs.declared.entry.BufferEntry.{BufferEntry}
 use Rattle.odb_tree.specs.declared.entry.DatabaseEntry.{DatabaseEntry}
 use Rattle.odb_watch.specs.declared.entry.WatchEntry.{WatchEntry}
+use Rattle.odb_watch.specs.declared.entry.WatchEntry.TheVariants.{Call}
 use Rattle.odb_port.specs.DatabasePorts.{row_calls}
-use Rattle.odb_runinfo.specs.RunSets.{AreSets, sent_set}
+use Rattle.odb_runinfo.specs.RunSets.{IsSet, AreSets, sent_set}
 use Rattle.member_model.specs.Turns.{MemberTurn}
 use Rattle.member_model.specs.SentCalls.{own_sent}
 
@@ -46,3 +47,23 @@ AreTurnSets name own (t ∷ turns) [] calls = ⊥
 AreTurnSets name own (t ∷ turns) (moment ∷ moments) calls =
     AreSetsAlone name (numbers_set own (t ∷ turns) (moment ∷ moments)) calls
     ⊎ ((t.answer ≡ None) × AreSetsAlone name (numbers_set own turns moments) calls)
+
+-- Among these calls on a database stands the set of this number in the own key of the front-end with this name, whatever it was
+-- replied; and all calls before it are the sets of those numbers.
+pub record IsSetBehind (name : List ℕ) (numbers : List ℕ) (sent : ℕ) (calls : List WatchEntry) : Type 0 where
+  pub before : List WatchEntry
+  pub entry : DatabaseEntry
+  pub after : List WatchEntry
+  pub whole : calls ≡ before ++ Call entry ∷ after
+  pub set : IsSet (sent_set name sent) entry
+  pub sets_before : AreSetsAlone name numbers before
+
+-- The turn stands among these, and this is its moment. And among these calls on the database stands its set, which is of this
+-- number: all calls before it are the sets of the turns before this one.
+abbrev pub HasTurnSet : (name : List ℕ) → List BufferEntry → List MemberTurn → (moments : List ℕ) → List WatchEntry →
+    MemberTurn → (moment sent : ℕ) → Type 0
+HasTurnSet name own [] moments calls t moment sent = ⊥
+HasTurnSet name own (u ∷ turns) [] calls t moment sent = ⊥
+HasTurnSet name own (u ∷ turns) (m ∷ moments) calls t moment sent =
+    ((u ≡ t) × (m ≡ moment) × IsSetBehind name (numbers_set own turns moments) sent calls)
+    ⊎ HasTurnSet name own turns moments calls t moment sent

@@ -1,6 +1,6 @@
 -- A run of a session, and what is so of it.
 use mathlib.Core.List.{IsPrefix}
-use Rattle.std.specs.Prelude.{◌≡◌, ℕ, List, [], ◌∷◌, ◌++◌, All, slice_get, unwrap_or, Some, Ok}
+use Rattle.std.specs.Prelude.{◌≡◌, ℕ, List, [], ◌∷◌, ◌++◌, slice_get, unwrap_or, Contains, Some, Ok}
 use Rattle.daq_types.specs.Callers.{caller_of_client, entries_by}
 use Rattle.daq_types.specs.declared.events.Event.{Event}
 use Rattle.daq_types.specs.declared.runs.ChannelState.{ChannelState}
@@ -10,7 +10,7 @@ use Rattle.daq_types.specs.declared.runs.Order.{Order}
 use Rattle.daq_types.specs.declared.runs.RunState.TheVariants.{Stopped, Paused}
 use Rattle.daq_types.specs.declared.runs.StartOutcome.TheVariants.{Completed}
 use Rattle.daq_types.specs.declared.runs.Transition.TheVariants.{Start, Stop}
-use Rattle.daq_model.specs.RunFile.{run_file, IsFileEvent}
+use Rattle.daq_model.specs.RunFile.{run_file, IsRunFile}
 use Rattle.daq_io.specs.Seen.{IsStored}
 use Rattle.buffer_core.specs.Runs.{segment}
 use Rattle.event_report.specs.Reports.{Totals}
@@ -32,8 +32,8 @@ use Rattle.analyzers.specs.AnalyzerKept.{IsReportOfRun}
 use Rattle.caller_laws.specs.SeenRuns.{SeesRun}
 use Rattle.caller_laws.specs.CallerLaws.{IsSendOf}
 use Rattle.engine_laws.specs.BegunTurns.{HasTransition}
-use Rattle.composition.specs.SentSets.{sent_by_moment}
-use Rattle.composition.specs.Sessions.{Session, SessionFront, SessionAnalyzer, HasFront, turns_of, buffer_calls}
+use Rattle.composition.specs.SentSets.{sent_by_moment, HasTurnSet}
+use Rattle.composition.specs.Sessions.{Session, SessionFront, SessionAnalyzer, HasFront, turns_of, buffer_calls, database_calls}
 
 -- A run: its start number, the sheets that its start and its stop were begun with, and the tallies in their Dones.
 pub record SessionRun : Type 0 where
@@ -80,8 +80,8 @@ pub record FrontSent (s : Session) (r : SessionRun) (f : SessionFront) (sent : �
   pub events : own_sent (buffer_calls s f.buffer f.client) r.start ≡ made_events f.makes (run_order r) sent
   pub ended_so : EndedIn s r f sent ended
 
--- Behind its answer to the stop of the run the front-end had sent so many events in it, which is what it set at that
--- turn.
+-- The front-end has a turn of the stop of the run, and its set at this turn stands in the database, of this number: so many events it
+-- had sent in the run behind its answer to the turn.
 pub record SetAtStop (s : Session) (r : SessionRun) (f : SessionFront) (sent : ℕ) : Type 0 where
   pub turn : MemberTurn
   pub moment : ℕ
@@ -89,6 +89,17 @@ pub record SetAtStop (s : Session) (r : SessionRun) (f : SessionFront) (sent : �
   pub is : turn.transition ≡ Stop
   pub of : turn.order.start ≡ r.start
   pub number : sent_by_moment (buffer_calls s f.buffer f.client) turn.order.start moment ≡ sent
+  pub set : HasTurnSet f.name (buffer_calls s f.buffer f.client) (turns_of s f.client) f.moments
+      (database_calls s f.client) turn moment sent
+
+-- The front-end's set at this turn, which has this moment, stands in the database, of the number of events that it had sent in the
+-- run by then; and when it had made so many calls it had sent no more.
+pub record SetAtPause (s : Session) (f : SessionFront) (turn : MemberTurn) (moment until : ℕ) : Type 0 where
+  pub number : sent_by_moment (buffer_calls s f.buffer f.client) turn.order.start moment
+      ≡ sent_by_moment (buffer_calls s f.buffer f.client) turn.order.start until
+  pub set : HasTurnSet f.name (buffer_calls s f.buffer f.client) (turns_of s f.client) f.moments
+      (database_calls s f.client) turn moment
+      (sent_by_moment (buffer_calls s f.buffer f.client) turn.order.start moment)
 
 -- a front-end of the buffer sent the event in the run with this start number, at this place
 pub record IsOfFront (s : Session) (buffer start place : ℕ) (event : Event) : Type 0 where
@@ -96,6 +107,17 @@ pub record IsOfFront (s : Session) (buffer start place : ℕ) (event : Event) : 
   pub stands : HasFront s front
   pub buffer_is : front.buffer ≡ buffer
   pub send : IsSendOf (buffer_calls s buffer front.client) start place event
+
+-- a front-end of the buffer told in the Done of the stop how many events it sent in the run, and the event is one of these:
+-- one of the first events of its equipment, so many as it told
+pub record IsMadeInRun (s : Session) (r : SessionRun) (buffer : ℕ) (event : Event) : Type 0 where
+  pub front : SessionFront
+  pub stands : HasFront s front
+  pub buffer_is : front.buffer ≡ buffer
+  pub sent : ℕ
+  pub ended : FrontEnded
+  pub told : TellsFront r front.client sent ended
+  pub made : Contains (made_events front.makes (run_order r) sent) event
 
 -- Channels.
 
@@ -114,14 +136,15 @@ channel_events s r channel = events_in (wanted channel.id channel.mask (segment 
 abbrev pub begin_dump : SessionRun → List ℕ
 begin_dump r = unwrap_or r.first.dump []
 
--- The channel's file of the run is closed, and is the run file of these events with the dumps of both sheets; and the channel's
--- client got, of the places between the marks, just those of these events.
+-- The channel's file of the run is closed, and is the run file of these events with the dumps of both sheets: its dumps and events
+-- are not too large, and it has at most 2^62 bytes. And the channel's client got, of the places between the marks, just those of
+-- these events.
 pub record HoldsRunFile (s : Session) (r : SessionRun) (channel : LoggerChannel) : Type 0 where
   pub last_dump : List ℕ
   pub has_dump : r.last.dump ≡ Some last_dump
-  pub fine : All IsFileEvent (channel_events s r channel)
-  pub stored : IsStored s.files (channel.name r.first.run)
-      (run_file r.first.run r.first.time (begin_dump r) (channel_events s r channel) r.last.time last_dump)
+  pub bytes : List ℕ
+  pub is : IsRunFile bytes r.first.run r.first.time (begin_dump r) (channel_events s r channel) r.last.time last_dump
+  pub stored : IsStored s.files (channel.name r.first.run) bytes
   pub got : among (segment (s.history channel.buffer) r.start) (places_got (s.history channel.buffer) channel.client)
       ≡ places_of (wanted channel.id channel.mask (segment (s.history channel.buffer) r.start))
 

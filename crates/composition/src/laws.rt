@@ -1,6 +1,6 @@
-//! Laws of a session's members together: each function does nothing, and its contract is the law.
+//! Laws of a session's members together: each function does nothing but call other laws, and its contract is the law.
 
-ghost use Rattle.composition.specs.CompositionLaws.{FrontsTell, FrontsSent, FrontsStand, FrontsSet, StopsSet, PausesSet, OnlyFrontsSent, ChannelsTold, StatesTold, StatesSo, RunsAreEnded, NoEndRefused, FilesHoldRuns, FilesHoldParts, ReportsTold, ReportsSo, ReportsWhole, GotWhole, StopsComplete, FrontsRefuse, FrontsTakePart, IsComposed};
+ghost use Rattle.composition.specs.CompositionLaws.{FrontsTell, FrontsSent, FrontsStand, FrontsSet, StopsSet, PausesSet, OnlyFrontsSent, SegmentsAreMade, ChannelsTold, StatesTold, RunsAreEnded, NoEndRefused, FilesHoldRuns, FilesHoldParts, ReportsTold, ReportsSo, ReportsWhole, GotWhole, StopsComplete, StatesSo, FrontsRefuse, FrontsTakePart, IsComposed};
 ghost use Rattle.daq_types.specs.declared.runs.ChannelState.TheVariants.{Ended};
 ghost use Rattle.composition.specs.Sessions.{Session, MembersKeep};
 ghost use Rattle.composition.specs.SessionRuns.{IsStoppedRun, ToldState, ReportsRun, SawThrough};
@@ -17,12 +17,13 @@ use transitions::laws as engine;
 
 /// In a run that was not refused and was stopped each front-end told in the Done of the stop what it sent, and that is what
 /// it sent: the first events of its equipment, in order. They all stand between the marks of the run. Each event between the
-/// marks of a run was sent in that run by a front-end of that buffer.
+/// marks of a run was sent in that run by a front-end of that buffer, and is one of those that this told.
 pub fn fronts()
     ensures tell { (s : Session) → MembersKeep s → FrontsTell s }
     ensures sent { (s : Session) → MembersKeep s → FrontsSent s }
     ensures stand { (s : Session) → MembersKeep s → FrontsStand s }
     ensures only { (s : Session) → MembersKeep s → OnlyFrontsSent s }
+    ensures made { (s : Session) → MembersKeep s → SegmentsAreMade s }
 {
     callers::sent_by();
     callers::fits_members();
@@ -34,8 +35,9 @@ pub fn fronts()
 }
 
 /// Each front-end set in the database, in its own key alone, 0 at each start, and at each pause and each stop how many
-/// events it had sent in the run by then, and made no other call there. At the stop of a run that was not refused that is
-/// what it told in the Done. At a pause it is also how many it had sent when it answered its next turn.
+/// events it had sent in the run by then, and made no other call there; what it sets at a latest turn that it has not answered may
+/// be to come. Its set at the stop of a run that was not refused stands there, and is what it told in the Done. Its set at a pause
+/// stands there, and is also how many it had sent when it answered its next turn.
 pub fn sets()
     ensures set { (s : Session) → MembersKeep s → FrontsSet s }
     ensures stop { (s : Session) → MembersKeep s → StopsSet s }
@@ -52,8 +54,8 @@ pub fn sets()
 /// In a run that was not refused and was stopped the logger told in the Done of the stop what became of each channel: that it
 /// ended or broke off, or that the stop had no dump. It ended the run in the buffer of each channel: never was that refused.
 /// The file of each channel that the logger told to have ended is the run file of all events between the marks of the run
-/// that the channel asks for, with the dumps of the two sheets; the file of one that was told to be broken begins so, where the
-/// stop's sheet has a dump.
+/// that the channel asks for, with the dumps of the two sheets, and has at most 2^62 bytes; the file of one that was told to be
+/// broken begins so, where the stop's sheet has a dump.
 pub fn files()
     ensures told { (s : Session) → MembersKeep s → ChannelsTold s }
     ensures states { (s : Session) → MembersKeep s → StatesTold s }
@@ -67,6 +69,7 @@ pub fn files()
     callers::reads_events();
     callers::cut_short();
     callers::cut_file();
+    callers::file_fits();
     callers::fits_members();
     callers::ends_runs();
     turns::gives_turns();

@@ -7,6 +7,7 @@ use Rattle.transitions.specs.declared.answers.ClientTally.{ClientTally}
 use Rattle.transitions.specs.declared.replies.Progress.TheVariants.{Going, Done}
 use Rattle.transitions.specs.declared.entry.EngineEntry.{EngineEntry}
 use Rattle.transitions.specs.declared.entry.EngineEntry.TheVariants.{Begin, Check}
+use Rattle.engine_laws.specs.BegunTurns.{AreUnmarked}
 
 -- so many checks, each of which tells that the transition is going on
 abbrev pub going_checks : (count : ℕ) → List EngineEntry
@@ -15,6 +16,14 @@ going_checks count = replicate count (Check Going [])
 -- the check that tells the end, and the tallies
 abbrev pub done_check : StartOutcome → List ClientTally → EngineEntry
 done_check outcome tallies = Check (Done outcome) tallies
+
+-- A transition stands among these calls, from its begin to its Done: no other begins or ends between the two.
+pub record TransitionIn (own : List EngineEntry) (transition : Transition) (sheet : Sheet) (start : ℕ) (outcome : StartOutcome) (tallies : List ClientTally) : Type 0 where
+  pub before : List EngineEntry
+  pub between : List EngineEntry
+  pub after : List EngineEntry
+  pub whole : own ≡ before ++ Begin transition sheet (Ok start) ∷ (between ++ Check (Done outcome) tallies ∷ after)
+  pub on : AreUnmarked between
 
 module _ {M : Type 0} (round : M → M → Type 0) where
   -- the members had so many rounds, one behind the other

@@ -10,3 +10,4 @@ pub mod RunsMade
 pub mod NamesStay
 pub mod CountsTold
 pub mod RecordsMade
+pub mod ChannelsSame

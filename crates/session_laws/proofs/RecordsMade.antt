@@ -18,11 +18,10 @@ use Rattle.transitions.specs.declared.replies.Progress.TheVariants.{Done}
 use Rattle.transitions.specs.declared.entry.EngineEntry.{EngineEntry}
 use Rattle.transitions.specs.declared.entry.EngineEntry.TheVariants.{Begin, Check}
 use Rattle.member_model.specs.LoggerKept.{LoggerChannel}
-use Rattle.engine_laws.specs.BegunTurns.{AreUnmarked}
 use Rattle.mid_logger.specs.declared.channel.Channel.{Channel}
 use Rattle.mid_logger.specs.Patterns.{file_name_by}
 use Rattle.loggers.specs.LoggerStands.{logger_channels}
-use Rattle.session_engine.specs.MadeTransitions.{going_checks}
+use Rattle.session_engine.specs.MadeTransitions.{TransitionIn}
 use Rattle.run_records.specs.declared.records.FrontTally.{FrontTally}
 use Rattle.run_records.specs.declared.records.FileRecord.{FileRecord}
 use Rattle.run_records.specs.declared.records.RunRecord.{RunRecord}
@@ -31,23 +30,16 @@ use Rattle.session_runs.specs.declared.on.CurrentRun.{CurrentRun}
 use Rattle.session_runs.specs.KeptRuns.{run_channel}
 use Rattle.session_runs.specs.ToldTallies.{front_in, front_by, front_told, fronts_told, states_in, states_by, states_told, file_in, files_told, files_of}
 use Rattle.session_runs.specs.RunEntries.{start_sheet, later_sheet, dump_saved}
-use Rattle.session_runs.specs.RunsFit.{MainOwn, StandsMade, run_of}
+use Rattle.session_runs.specs.RunsFit.{MainOwn, run_of}
 use Rattle.composition.specs.Sessions.{Session, SessionFront}
 use Rattle.composition.specs.SessionRuns.{SessionRun, IsStoppedRun, TellsFront, ToldState}
 use Rattle.session_laws.specs.ClosedSessions.{ClosedFront, ClosedSession, logger_client, engine_calls, session_front, session_fronts, session_of}
-use Rattle.session_laws.specs.MadeRuns.{TransitionIn, RunIn, RunHolds}
+use Rattle.session_laws.specs.MadeRuns.{RunIn, RunHolds}
 use Rattle.session_laws.specs.EndLaws.{SessionHolds}
 use Rattle.session_laws.specs.RecordedRuns.{FrontRecordHolds, FileRecordHolds, run_channels, RecordsHold}
 use Rattle.session_laws.proofs.RunsMade.{file_so}
 
 -- The transitions of a run that was made.
-
-going_unmarked : (n : ℕ) → AreUnmarked (going_checks n)
-going_unmarked zero = tt
-going_unmarked (suc n) = (refl, going_unmarked n)
-
-made : (own : List EngineEntry) (t : Transition) (sheet : Sheet) (start : ℕ) (outcome : StartOutcome) (tallies : List ClientTally) → StandsMade own t sheet start outcome tallies → TransitionIn own t sheet start outcome tallies
-made own t sheet start outcome tallies stands = record { before = stands.before; between = going_checks stands.rounds; after = stands.after; whole = stands.calls; on = going_unmarked stands.rounds }
 
 made_then : (own more : List EngineEntry) (t : Transition) (sheet : Sheet) (start : ℕ) (outcome : StartOutcome) (tallies : List ClientTally) → TransitionIn own t sheet start outcome tallies → TransitionIn (own ++ more) t sheet start outcome tallies
 made_then own more t sheet start outcome tallies m =
@@ -371,14 +363,18 @@ many_listed first [] moments = refl
 many_listed first (f ∷ fs) moments = ap suc (many_listed (suc first) fs moments)
 
 pub records_hold : RecordsHold
-records_hold c holds own same r quota fits =
+records_hold c holds own more same r quota fits =
     let n : ℕ = logger_client c in
     let begun : CurrentRun = run_of r quota in
     let run : SessionRun = record_run r quota fits.start.dump (dump_saved fits.stop.saved) fits.start.tallies fits.stop.tallies in
-    let joined : fits.early.engine ++ fits.late.engine ≡ engine_calls c main_caller = sym (ap (λ (o : MainOwn). o.engine) fits.calls) ∙ same in
-    let makes : RunIn (fits.early.engine ++ fits.late.engine) run = record {
-      started = made_then fits.early.engine fits.late.engine Start run.first r.start Completed fits.start.tallies (made fits.early.engine Start run.first r.start Completed fits.start.tallies fits.start.made);
-      stopped = made_behind fits.early.engine fits.late.engine Stop run.last r.start Completed fits.stop.tallies (made fits.late.engine Stop run.last r.start Completed fits.stop.tallies fits.stop.made);
+    let early : List EngineEntry = fits.early.engine in
+    let late : List EngineEntry = fits.late.engine in
+    let joined : (early ++ late) ++ more ≡ engine_calls c main_caller = sym (same ∙ ap (λ (o : MainOwn). o.engine ++ more) fits.calls) in
+    let makes : RunIn ((early ++ late) ++ more) run = record {
+      started = made_then (early ++ late) more Start run.first r.start Completed fits.start.tallies
+          (made_then early late Start run.first r.start Completed fits.start.tallies fits.start.made);
+      stopped = made_then (early ++ late) more Stop run.last r.start Completed fits.stop.tallies
+          (made_behind early late Stop run.last r.start Completed fits.stop.tallies fits.stop.made);
     } in
     let all : RunHolds (session_of c holds.moments) run = holds.runs run (subst (λ (l : List EngineEntry). RunIn l run) joined makes) in
     let tells = fits.stop.tells in

@@ -17,7 +17,8 @@ use Rattle.engine_laws.specs.EngineLaws.{MainHasTransition}
 use Rattle.composition.specs.Sessions.{Session, SessionFront, HasFront}
 use Rattle.composition.specs.SessionRuns.{SessionRun, IsStoppedRun, ToldState}
 use Rattle.composition.specs.CompositionLaws.{IsComposed}
-use Rattle.session_laws.specs.MadeRuns.{TransitionIn, FrontHolds, IsFileSo, ChannelHolds}
+use Rattle.session_engine.specs.MadeTransitions.{TransitionIn}
+use Rattle.session_laws.specs.MadeRuns.{FrontHolds, IsFileSo, ChannelHolds}
 use Rattle.session_laws.specs.EndLaws.{MadeAreStopped, StoppedHold}
 
 pub has_made : MainHasTransition → (history : EngineHistory) (t : Transition) (sheet : Sheet) (start : ℕ) (outcome : StartOutcome) (tallies : List ClientTally) → IsLegalEngine engine_opening history

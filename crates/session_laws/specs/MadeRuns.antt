@@ -1,29 +1,15 @@
 -- A run that the main thread's own calls on the engine tell, and all that is so of it.
-use Rattle.std.specs.Prelude.{◌≡◌, ℕ, List, ◌∷◌, ◌++◌, slice_get, Some, Ok, ⊤}
+use Rattle.std.specs.Prelude.{◌≡◌, ℕ, List, slice_get, Some, ⊤}
 use Rattle.daq_types.specs.declared.runs.ChannelState.{ChannelState}
 use Rattle.daq_types.specs.declared.runs.ChannelState.TheVariants.{Ended, Broken}
 use Rattle.daq_types.specs.declared.runs.FrontEnded.{FrontEnded}
-use Rattle.daq_types.specs.declared.runs.StartOutcome.{StartOutcome}
 use Rattle.daq_types.specs.declared.runs.StartOutcome.TheVariants.{Completed}
-use Rattle.daq_types.specs.declared.runs.Transition.{Transition}
 use Rattle.daq_types.specs.declared.runs.Transition.TheVariants.{Start, Stop}
-use Rattle.transitions.specs.declared.sheet.Sheet.{Sheet}
-use Rattle.transitions.specs.declared.answers.ClientTally.{ClientTally}
-use Rattle.transitions.specs.declared.replies.Progress.TheVariants.{Done}
 use Rattle.transitions.specs.declared.entry.EngineEntry.{EngineEntry}
-use Rattle.transitions.specs.declared.entry.EngineEntry.TheVariants.{Begin, Check}
 use Rattle.member_model.specs.LoggerKept.{LoggerChannel, IsStateSo}
-use Rattle.engine_laws.specs.BegunTurns.{AreUnmarked}
+use Rattle.session_engine.specs.MadeTransitions.{TransitionIn}
 use Rattle.composition.specs.Sessions.{Session, SessionFront, HasFront, buffer_calls}
 use Rattle.composition.specs.SessionRuns.{SessionRun, IsStoppedRun, TellsFront, FrontSent, SetAtStop, ToldState, HoldsRunFile, HoldsFilePart}
-
--- A transition stands among these calls, from its begin to its Done: no other begins or ends between the two.
-pub record TransitionIn (own : List EngineEntry) (transition : Transition) (sheet : Sheet) (start : ℕ) (outcome : StartOutcome) (tallies : List ClientTally) : Type 0 where
-  pub before : List EngineEntry
-  pub between : List EngineEntry
-  pub after : List EngineEntry
-  pub whole : own ≡ before ++ Begin transition sheet (Ok start) ∷ (between ++ Check (Done outcome) tallies ∷ after)
-  pub on : AreUnmarked between
 
 -- A run stands among these calls: its start, which was not refused, and a stop with its start number.
 pub record RunIn (own : List EngineEntry) (r : SessionRun) : Type 0 where

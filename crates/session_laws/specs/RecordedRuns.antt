@@ -1,14 +1,19 @@
 -- What a closed session's histories and run files hold of the records of its runs.
-use Rattle.std.specs.Prelude.{◌≡◌, ℕ, List, [], ◌∷◌, length, slice_get, Option, Some, None}
+use Rattle.std.specs.Prelude.{◌≡◌, ◌≤◌, ℕ, List, [], ◌∷◌, ◌++◌, length, slice_get, Contains, Option, Some, None}
 use Rattle.daq_types.specs.Callers.{main_caller}
 use Rattle.member_model.specs.LoggerKept.{LoggerChannel}
 use Rattle.transitions.specs.declared.sheet.Sheet.{Sheet}
+use Rattle.transitions.specs.declared.entry.EngineEntry.{EngineEntry}
+use Rattle.buffer_core.specs.Slots.{slot_at}
 use Rattle.mid_logger.specs.declared.channel.Channel.{Channel}
+use Rattle.mid_logger.specs.declared.channel_spec.ChannelSpec.{ChannelSpec}
+use Rattle.loggers.specs.Moments.{channel_limit}
+use Rattle.loggers.specs.OtherFiles.{specs_in}
 use Rattle.run_records.specs.declared.records.FrontTally.{FrontTally}
 use Rattle.run_records.specs.declared.records.FileRecord.{FileRecord}
 use Rattle.run_records.specs.declared.records.RunRecord.{RunRecord}
 use Rattle.session_runs.specs.declared.channels.RunChannel.{RunChannel}
-use Rattle.session_runs.specs.KeptRuns.{run_channel}
+use Rattle.session_runs.specs.KeptRuns.{run_channel, channels_of}
 use Rattle.session_runs.specs.RunEntries.{start_sheet, later_sheet, dump_saved}
 use Rattle.session_runs.specs.RunsFit.{MainOwn, FitsWhole, run_of}
 use Rattle.composition.specs.Sessions.{Session, SessionFront}
@@ -57,10 +62,22 @@ run_channels [] = []
 run_channels (None ∷ slots) = run_channels slots
 run_channels (Some c ∷ slots) = run_channel c.spec ∷ run_channels slots
 
--- The record of each run that was not refused holds so, where it fits the main thread's own calls, with the sheets that these
--- calls tell: the dumps are what the database's text was saved as.
+-- The channels of these slots are those that were declared, each at its number.
+pub record AreDeclared (specs : List ChannelSpec) (slots : List (Option Channel)) : Type 0 where
+  pub few : length slots ≤ channel_limit
+  pub each : (number : ℕ) → (spec : ChannelSpec) → slot_at (specs_in slots) number ≡ Some spec →
+      Contains specs spec × (spec.number ≡ number)
+  pub all : (spec : ChannelSpec) → Contains specs spec → slot_at (specs_in slots) spec.number ≡ Some spec
+
+-- Then the records name the channels that were declared, in order of number.
+abbrev pub ChannelsAgree : Type 0
+ChannelsAgree = (specs : List ChannelSpec) → (slots : List (Option Channel)) → AreDeclared specs slots →
+    run_channels slots ≡ channels_of specs
+
+-- The record of each run that was not refused holds so, where it fits the main thread's own calls up to some point, with the
+-- sheets that these calls tell: the dumps are what the database's text was saved as.
 abbrev pub RecordsHold : Type 0
-RecordsHold = (c : ClosedSession) → (holds : SessionHolds c) → (own : MainOwn) → own.engine ≡ engine_calls c main_caller →
-    (r : RunRecord) → (quota : ℕ) → (fits : FitsWhole (logger_client c) (run_channels c.slots) own (run_of r quota) r) →
+RecordsHold = (c : ClosedSession) → (holds : SessionHolds c) → (own : MainOwn) → (more : List EngineEntry) →
+    engine_calls c main_caller ≡ own.engine ++ more → (r : RunRecord) → (quota : ℕ) → (fits : FitsWhole (logger_client c) (run_channels c.slots) own (run_of r quota) r) →
     RecordHolds (session_of c holds.moments) r
     (start_sheet r.run r.time0 quota fits.start.dump) (later_sheet (run_of r quota) r.time1 (dump_saved fits.stop.saved))

@@ -1,7 +1,7 @@
 //! Laws of closed sessions: each function does nothing, and its contract is the law.
 
 ghost use Rattle.session_laws.specs.CountedFaults.{CountsTell};
-ghost use Rattle.session_laws.specs.RecordedRuns.{RecordsHold};
+ghost use Rattle.session_laws.specs.RecordedRuns.{ChannelsAgree, RecordsHold};
 ghost use Rattle.session_laws.specs.EndLaws.{EndsKeep, EndsComposed, MadeAreStopped, StoppedHold, OtherNamesStay, EndsHold};
 
 use buffer_lock::laws as buffers;
@@ -64,6 +64,11 @@ pub fn session_holds()
     other_names_stay();
 }
 
+/// Where the logger's channels are those that were declared, the records of its runs name them in order of number.
+pub fn channels_agree()
+    ensures { ChannelsAgree }
+{}
+
 /// Of a closed session, by the counts of its run files: a start was refused by a front-end as NotReady, whose equipment takes
 /// no part in the run, or by the logger, for a name only where a clash was counted and for a fault only where one was; each
 /// front-end's equipment takes part in a run that was started; and where no fault was counted each channel of each run ended,
@@ -76,6 +81,7 @@ pub fn counts_tell()
     ends_composed();
     made_are_stopped();
 }
+
 /// The record of each run that was not refused, where it fits the main thread's own calls, has the numbers and the times of a
 /// run of the session, what each front-end told at the stop, which is what it sent, and what the logger told of each file: the
 /// file of a channel that ended is the run file of all events of the run that it asks for.

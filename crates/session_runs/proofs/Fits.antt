@@ -17,9 +17,10 @@ use Rattle.transitions.specs.declared.sheet.Sheet.{Sheet}
 use Rattle.transitions.specs.declared.answers.ClientTally.{ClientTally}
 use Rattle.transitions.specs.declared.entry.EngineEntry.{EngineEntry}
 use Rattle.transitions.specs.declared.entry.EngineEntry.TheVariants.{Begin}
+use Rattle.engine_laws.specs.BegunTurns.{AreUnmarked}
 use Rattle.run_records.specs.declared.records.RunRecord.{RunRecord}
 use Rattle.session_engine.specs.MainKnowledge.{known_from}
-use Rattle.session_engine.specs.MadeTransitions.{going_checks, done_check, DrivesTransition}
+use Rattle.session_engine.specs.MadeTransitions.{TransitionIn, going_checks, done_check, DrivesTransition}
 use Rattle.session_engine.specs.declared.opening.MemberName.{MemberName}
 use Rattle.session_engine.specs.Members.{registrations}
 use Rattle.session_runs.specs.declared.channels.RunChannel.{RunChannel}
@@ -29,23 +30,23 @@ use Rattle.session_runs.specs.declared.replies.RunReply.TheVariants.{WrongState,
 use Rattle.session_runs.specs.KeptRuns.{RunsSeen, record_of, refused_start, behind_start, with_calls}
 use Rattle.session_runs.specs.RunAnswers.{ClockTold, CommandPoint, GotNumber, LacksNumber, BeginsRun, MakesStop, MakesChange, AnswersStart, AnswersStop, AnswersPause, AnswersResume, run_begun}
 use Rattle.session_runs.specs.RunEntries.{StartCalls, StopCalls, start_sheet, later_sheet, dump_saved}
-use Rattle.session_runs.specs.RunsFit.{MainOwn, calls_joined, StandsMade, StandCalls, FitsStart, FitsStop, FitsWhole, FitsOutcome, FitsRun, FitsOn, RunsFit, run_of, start_begun, start_of, start_on, starts_begun}
+use Rattle.session_runs.specs.RunsFit.{MainOwn, RecordsFit, calls_joined, StandCalls, FitsStart, FitsStop, FitsWhole, FitsOutcome, FitsRun, FitsCurrent, RunsFit, run_of, start_begun, start_of, start_on, starts_begun}
 
 -- Calls behind.
 
-abbrev made_more : (own more : List EngineEntry) (t : Transition) (sheet : Sheet) (start : ℕ) (outcome : StartOutcome) (tallies : List ClientTally) → StandsMade own t sheet start outcome tallies
-    → StandsMade (own ++ more) t sheet start outcome tallies
+abbrev made_more : (own more : List EngineEntry) (t : Transition) (sheet : Sheet) (start : ℕ) (outcome : StartOutcome) (tallies : List ClientTally) → TransitionIn own t sheet start outcome tallies
+    → TransitionIn (own ++ more) t sheet start outcome tallies
 made_more own more t sheet start outcome tallies made =
-    let checks : List EngineEntry = going_checks made.rounds in
     let done : List EngineEntry = done_check outcome tallies ∷ made.after in
     let begin : EngineEntry = Begin t sheet (Ok start) in
     record {
       before = made.before;
-      rounds = made.rounds;
+      between = made.between;
       after = made.after ++ more;
-      calls = ap (λ (l : List EngineEntry). l ++ more) made.calls
-          ∙ (append_assoc made.before (begin ∷ (checks ++ done)) more
-          ∙ ap (λ (l : List EngineEntry). made.before ++ begin ∷ l) (append_assoc checks done more));
+      whole = ap (λ (l : List EngineEntry). l ++ more) made.whole
+          ∙ (append_assoc made.before (begin ∷ (made.between ++ done)) more
+          ∙ ap (λ (l : List EngineEntry). made.before ++ begin ∷ l) (append_assoc made.between done more));
+      on = made.on;
     }
 
 abbrev stand_more : (entries own more : List WatchEntry) → StandCalls entries own → StandCalls entries (own ++ more)
@@ -116,7 +117,7 @@ all_one : (P : RunRecord → Type 0) (rs : List RunRecord) (r : RunRecord) → A
 all_one P [] r all one = (one, all)
 all_one P (x ∷ rs) r all one = (all.0, all_one P rs r all.1 one)
 
-on_more : (own more : MainOwn) (on : Option CurrentRun) → FitsOn own on → FitsOn (calls_joined own more) on
+on_more : (own more : MainOwn) (on : Option CurrentRun) → FitsCurrent own on → FitsCurrent (calls_joined own more) on
 on_more own more None fits = fits
 on_more own more (Some r) fits = start_more own more r Completed fits
 
@@ -132,8 +133,15 @@ more_fit s own more fits =
     record {
       each_start = fits.each_start;
       runs = subst (λ (o : MainOwn). AllByRecursion (FitsRun (length s.fronts) s.channels o) s.runs) is (all_more (length s.fronts) s.channels (own_of s own) silent s.runs fits.runs);
-      on = subst (λ (o : MainOwn). FitsOn o s.on) is (on_more (own_of s own) silent s.on fits.on);
+      on = subst (λ (o : MainOwn). FitsCurrent o s.on) is (on_more (own_of s own) silent s.on fits.on);
     }
+
+-- where no run is on, the records alone fit
+pub records_fit : (s : RunsSeen) (own : List WatchEntry) → RunsFit s own → s.on ≡ None → RecordsFit (length s.fronts) s.channels (own_of s own) s.runs
+records_fit s own fits idle = record {
+  each_start = sym (append-nil (map start_of s.runs)) ∙ (ap (λ (o : Option CurrentRun). map start_of s.runs ++ option_to_list (option_map start_on o)) (sym idle) ∙ fits.each_start);
+  runs = fits.runs;
+}
 
 -- before the first run all fits
 pub opening_fits : (s : RunsSeen) (own : List WatchEntry) → s.runs ≡ [] → s.on ≡ None → starts_begun s.main.own ≡ [] → RunsFit s own
@@ -141,7 +149,7 @@ opening_fits s own empty idle none = record {
   each_start = ap (λ (rs : List RunRecord). map start_of rs ++ option_to_list (option_map start_on s.on)) empty
       ∙ (ap (λ (o : Option CurrentRun). option_to_list (option_map start_on o)) idle ∙ sym none);
   runs = subst (λ (rs : List RunRecord). AllByRecursion (FitsRun (length s.fronts) s.channels (own_of s own)) rs) (sym empty) tt;
-  on = subst (λ (o : Option CurrentRun). FitsOn (own_of s own) o) (sym idle) tt;
+  on = subst (λ (o : Option CurrentRun). FitsCurrent (own_of s own) o) (sym idle) tt;
 }
 
 -- registrations begin no start
@@ -153,6 +161,11 @@ registered_none first (m ∷ ms) = registered_none (suc first) ms
 
 abbrev made_calls : Transition → Sheet → (start : ℕ) → StartOutcome → List ClientTally → (rounds : ℕ) → List EngineEntry
 made_calls t sheet start outcome tallies rounds = Begin t sheet (Ok start) ∷ (going_checks rounds ++ done_check outcome tallies ∷ [])
+
+-- checks neither begin a transition nor tell an end
+unmarked : (rounds : ℕ) → AreUnmarked (going_checks rounds)
+unmarked zero = tt
+unmarked (suc n) = (refl, unmarked n)
 
 -- Starts that were begun.
 
@@ -201,7 +214,7 @@ module _ {M : Type 0} (round : M → M → Type 0) where
   start_fits own r outcome dump tallies rounds entries are = record {
     dump = dump;
     tallies = tallies;
-    made = record { before = own.engine; rounds = rounds; after = []; calls = refl };
+    made = record { before = own.engine; between = going_checks rounds; after = []; whole = refl; on = unmarked rounds };
     entries = entries;
     are = are;
     stand = record { before = own.database; after = []; calls = ap (λ (l : List WatchEntry). own.database ++ l) (sym (append-nil entries)) };
@@ -209,9 +222,7 @@ module _ {M : Type 0} (round : M → M → Type 0) where
 
   -- where no run is on, the records have the starts so far
   so_far : (s : RunsSeen) (own : List WatchEntry) → s.on ≡ None → RunsFit s own → map start_of s.runs ≡ starts_begun s.main.own
-  so_far s own idle fits =
-      sym (append-nil (map start_of s.runs))
-      ∙ (ap (λ (o : Option CurrentRun). map start_of s.runs ++ option_to_list (option_map start_on o)) (sym idle) ∙ fits.each_start)
+  so_far s own idle fits = (records_fit s own fits idle).each_start
 
   -- behind a start that ended so all fit
   started : (s : RunsSeen) (own : List WatchEntry) (r : CurrentRun) (outcome : StartOutcome) (later : MainOwn) (more : MainOwn) → later ≡ calls_joined (own_of s own) more → s.on ≡ None
@@ -232,7 +243,7 @@ module _ {M : Type 0} (round : M → M → Type 0) where
             ∙ (append-nil (map start_of (s.runs ++ rec ∷ []))
             ∙ (starts_snoc s.runs rec ∙ (ap (λ (l : List ℕ). l ++ r.start ∷ []) (so_far s own idle fits) ∙ sym starts)));
         runs = subst (λ (o : MainOwn). AllByRecursion (FitsRun (length s.fronts) s.channels o) (s.runs ++ rec ∷ [])) (sym is) all;
-        on = subst (λ (o : MainOwn). FitsOn o s.on) (sym is) (on_more (own_of s own) more s.on fits.on);
+        on = subst (λ (o : MainOwn). FitsCurrent o s.on) (sym is) (on_more (own_of s own) more s.on fits.on);
       }
 
   -- the run number was got
@@ -279,8 +290,8 @@ module _ {M : Type 0} (round : M → M → Type 0) where
 
   -- Stops.
 
-  on_start : (own : MainOwn) (on : Option CurrentRun) (r : CurrentRun) → on ≡ Some r → FitsOn own on → FitsStart own r Completed
-  on_start own on r is fits = subst (FitsOn own) is fits
+  on_start : (own : MainOwn) (on : Option CurrentRun) (r : CurrentRun) → on ≡ Some r → FitsCurrent own on → FitsStart own r Completed
+  on_start own on r is fits = subst (FitsCurrent own) is fits
 
   abbrev stop_fits : (fronts : ℕ) (channels : List RunChannel) (r : CurrentRun) (time : ℕ) (tallies : List ClientTally) (state : _) (saved : Result (List ℕ) NoMemory) (rounds : ℕ) (entries : List WatchEntry)
       → StopCalls state time saved entries
@@ -289,7 +300,7 @@ module _ {M : Type 0} (round : M → M → Type 0) where
     state = state;
     saved = saved;
     tallies = tallies;
-    made = record { before = []; rounds = rounds; after = []; calls = refl };
+    made = record { before = []; between = going_checks rounds; after = []; whole = refl; on = unmarked rounds };
     entries = entries;
     are = are;
     stand = record { before = []; after = []; calls = sym (append-nil entries) };
@@ -353,7 +364,7 @@ module _ {M : Type 0} (round : M → M → Type 0) where
       subst (λ (x : RunsSeen). RunsFit x (own_watched new.database)) (sym makes.kept) (record {
         each_start = fits.each_start ∙ sym starts;
         runs = subst (λ (o : MainOwn). AllByRecursion (FitsRun (length s.fronts) s.channels o) s.runs) (sym is) (all_more (length s.fronts) s.channels own more s.runs fits.runs);
-        on = subst (λ (o : MainOwn). FitsOn o s.on) (sym is) (on_more own more s.on fits.on);
+        on = subst (λ (o : MainOwn). FitsCurrent o s.on) (sym is) (on_more own more s.on fits.on);
       })
 
   pub answered_pause : OwnGrows → (reply : RunReply) (old new : CommandPoint M) → AnswersPause round reply old new → RunsFit old.runs (own_watched old.database) → RunsFit new.runs (own_watched new.database)

@@ -6,16 +6,14 @@ use Rattle.daq_types.specs.declared.memory.NoMemory.{NoMemory}
 use Rattle.daq_types.specs.declared.runs.RunState.{RunState}
 use Rattle.daq_types.specs.declared.runs.StartOutcome.{StartOutcome}
 use Rattle.daq_types.specs.declared.runs.StartOutcome.TheVariants.{Completed, Refused}
-use Rattle.daq_types.specs.declared.runs.Transition.{Transition}
 use Rattle.daq_types.specs.declared.runs.Transition.TheVariants.{Start, Stop}
 use Rattle.odb_watch.specs.declared.entry.WatchEntry.{WatchEntry}
-use Rattle.transitions.specs.declared.sheet.Sheet.{Sheet}
 use Rattle.transitions.specs.declared.answers.ClientTally.{ClientTally}
 use Rattle.transitions.specs.declared.entry.EngineEntry.{EngineEntry}
 use Rattle.transitions.specs.declared.entry.EngineEntry.TheVariants.{Begin}
 use Rattle.run_records.specs.declared.records.RunRecord.{RunRecord}
 use Rattle.session_engine.specs.MainKnowledge.{known_from}
-use Rattle.session_engine.specs.MadeTransitions.{going_checks, done_check}
+use Rattle.session_engine.specs.MadeTransitions.{TransitionIn}
 use Rattle.session_runs.specs.declared.channels.RunChannel.{RunChannel}
 use Rattle.session_runs.specs.declared.on.CurrentRun.{CurrentRun}
 use Rattle.session_runs.specs.KeptRuns.{RunsSeen}
@@ -31,13 +29,6 @@ pub record MainOwn : Type 0 where
 abbrev pub calls_joined : MainOwn → MainOwn → MainOwn
 calls_joined one other = record { engine = one.engine ++ other.engine; database = one.database ++ other.database }
 
--- A transition that ended so stands in these calls on the engine, from its begin to its Done.
-pub record StandsMade (own : List EngineEntry) (t : Transition) (sheet : Sheet) (start : ℕ) (outcome : StartOutcome) (tallies : List ClientTally) : Type 0 where
-  pub before : List EngineEntry
-  pub rounds : ℕ
-  pub after : List EngineEntry
-  pub calls : own ≡ before ++ Begin t sheet (Ok start) ∷ (going_checks rounds ++ done_check outcome tallies ∷ after)
-
 -- These calls on the database stand in those, next to one another.
 pub record StandCalls (entries own : List WatchEntry) : Type 0 where
   pub before : List WatchEntry
@@ -49,7 +40,7 @@ pub record StandCalls (entries own : List WatchEntry) : Type 0 where
 pub record FitsStart (own : MainOwn) (r : CurrentRun) (outcome : StartOutcome) : Type 0 where
   pub dump : List ℕ
   pub tallies : List ClientTally
-  pub made : StandsMade own.engine Start (start_sheet r.run r.time r.quota dump) r.start outcome tallies
+  pub made : TransitionIn own.engine Start (start_sheet r.run r.time r.quota dump) r.start outcome tallies
   pub entries : List WatchEntry
   pub are : StartCalls r.run r.time outcome dump entries
   pub stand : StandCalls entries own.database
@@ -66,7 +57,7 @@ pub record FitsStop (fronts : ℕ) (channels : List RunChannel) (own : MainOwn) 
   pub state : RunState
   pub saved : Result (List ℕ) NoMemory
   pub tallies : List ClientTally
-  pub made : StandsMade own.engine Stop (later_sheet begun r.time1 (dump_saved saved)) begun.start Completed tallies
+  pub made : TransitionIn own.engine Stop (later_sheet begun r.time1 (dump_saved saved)) begun.start Completed tallies
   pub entries : List WatchEntry
   pub are : StopCalls state r.time1 saved entries
   pub stand : StandCalls entries own.database
@@ -103,9 +94,9 @@ abbrev pub FitsRun : (fronts : ℕ) → List RunChannel → MainOwn → RunRecor
 FitsRun fronts channels own r = (quota : ℕ) × FitsOutcome fronts channels own (run_of r quota) r r.outcome
 
 -- the run that is on was started
-abbrev pub FitsOn : MainOwn → Option CurrentRun → Type 0
-FitsOn own None = ⊤
-FitsOn own (Some r) = FitsStart own r Completed
+abbrev pub FitsCurrent : MainOwn → Option CurrentRun → Type 0
+FitsCurrent own None = ⊤
+FitsCurrent own (Some r) = FitsStart own r Completed
 
 -- the start numbers of the starts that were begun by these calls, in order
 abbrev pub start_begun : EngineEntry → List ℕ
@@ -123,9 +114,15 @@ start_of r = r.start
 abbrev pub start_on : CurrentRun → ℕ
 start_on r = r.start
 
--- There is one record for each start that was begun, in order, but for that of the run that is on, which was begun last. All
--- records fit, and so does that run.
+-- The records of runs against the main thread's own calls, where no run is on: there is one for each start that was begun, in
+-- order, and each fits.
+pub record RecordsFit (fronts : ℕ) (channels : List RunChannel) (own : MainOwn) (records : List RunRecord) : Type 0 where
+  pub each_start : map start_of records ≡ starts_begun own.engine
+  pub runs : AllByRecursion (FitsRun fronts channels own) records
+
+-- The same while a run may be on: there is one record for each start that was begun, in order, but for that of the run that is
+-- on, which was begun last. All records fit, and so does that run.
 pub record RunsFit (s : RunsSeen) (database : List WatchEntry) : Type 0 where
   pub each_start : map start_of s.runs ++ option_to_list (option_map start_on s.on) ≡ starts_begun s.main.own
   pub runs : AllByRecursion (FitsRun (length s.fronts) s.channels (record { engine = s.main.own; database = database })) s.runs
-  pub on : FitsOn (record { engine = s.main.own; database = database }) s.on
+  pub on : FitsCurrent (record { engine = s.main.own; database = database }) s.on

@@ -1,5 +1,5 @@
 //! How the records of runs stand to the main thread's own calls: each function does nothing, and its contract is the law.
-ghost use Rattle.std.specs.Prelude.{◌≡◌, ◌++◌, [], ℕ, List, None};
+ghost use Rattle.std.specs.Prelude.{◌≡◌, ◌++◌, [], ℕ, List, length, None};
 ghost use Rattle.odb_port.specs.DatabasePorts.{own_watched};
 ghost use Rattle.odb_watch.specs.declared.entry.WatchEntry.{WatchEntry};
 ghost use Rattle.session_engine.specs.declared.opening.MemberName.{MemberName};
@@ -7,7 +7,7 @@ ghost use Rattle.session_engine.specs.Members.{registrations};
 ghost use Rattle.session_runs.specs.declared.replies.RunReply.{RunReply};
 ghost use Rattle.session_runs.specs.KeptRuns.{RunsSeen};
 ghost use Rattle.session_runs.specs.RunAnswers.{AnswersPause, AnswersResume, AnswersStart, AnswersStop, ClockTold, CommandPoint, CutsStart, StopsUnsaved};
-ghost use Rattle.session_runs.specs.RunsFit.{RunsFit, starts_begun};
+ghost use Rattle.session_runs.specs.RunsFit.{RecordsFit, RunsFit, starts_begun};
 
 use odb_port::laws::{calls_add_up, entries_add_up};
 use session_engine::Rounds;
@@ -41,7 +41,7 @@ pub fn commands_fit<M: Rounds>()
 }
 
 /// Before the first start all fits, and registrations begin none. Calls of other commands on the database, behind these, change
-/// nothing of what fits.
+/// nothing of what fits. Where no run is on, the records alone fit.
 pub fn runs_fit()
     ensures opening { (s : RunsSeen) (own : List WatchEntry) → s.runs ≡ [] → s.on ≡ None
         → starts_begun s.main.own ≡ [] → RunsFit s own }
@@ -49,4 +49,7 @@ pub fn runs_fit()
         → starts_begun (registrations first members) ≡ [] }
     ensures more { (s : RunsSeen) (own more : List WatchEntry) → RunsFit s own
         → RunsFit s (own ++ more) }
+    ensures records { (s : RunsSeen) (own : List WatchEntry) → RunsFit s own → s.on ≡ None
+        → RecordsFit (length s.fronts) s.channels
+        (record { engine = s.main.own; database = own }) s.runs }
 {}

@@ -9,6 +9,7 @@ returns c s keep = record {
   fronts_sent = c.fronts.ensures.sent s keep;
   fronts_stand = c.fronts.ensures.stand s keep;
   only_fronts = c.fronts.ensures.only s keep;
+  segments_made = c.fronts.ensures.made s keep;
   fronts_set = c.sets.ensures.set s keep;
   stops_set = c.sets.ensures.stop s keep;
   pauses_set = c.sets.ensures.pause s keep;

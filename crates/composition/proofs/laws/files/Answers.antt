@@ -17,6 +17,7 @@ returns c =
       events = c.reads_events.ensures;
       cut = c.cut_short.ensures;
       file = c.cut_file.ensures;
+      fits_file = c.file_fits.ensures;
       fits = c.fits_members.ensures.all;
       ends = c.ends_runs.ensures.ended;
       senders = c.ends_runs.ensures.senders;

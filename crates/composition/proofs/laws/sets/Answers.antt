@@ -12,4 +12,4 @@ returns c =
       told = c.called_told.ensures;
       rise = c.start_numbers_rise.ensures;
     } in
-    record { set = fronts_set laws; stop = stops_set laws; pause = pauses_set c.sent_at_pauses.ensures }
+    record { set = fronts_set laws; stop = stops_set laws; pause = pauses_set laws c.sent_at_pauses.ensures }
