@@ -36,7 +36,8 @@ use Rattle.composition.proofs.FilesTogether.{yes_channels}
 use Rattle.composition.proofs.SessionTurns.{speaks}
 use Rattle.session_laws.specs.ClosedSessions.{ClosedFront, ClosedSession, logger_client, logger_caller, engine_calls, session_of, session_front, session_fronts}
 use Rattle.session_laws.specs.MembersAtEnd.{MembersAtEnd}
-use Rattle.session_laws.specs.MadeRuns.{TransitionIn, MakesRun}
+use Rattle.session_engine.specs.MadeTransitions.{TransitionIn}
+use Rattle.session_laws.specs.MadeRuns.{RunIn}
 use Rattle.session_laws.specs.EndLaws.{EndsComposed, MadeAreStopped}
 use Rattle.session_laws.specs.CountedFaults.{LoggerReasons, IsFrontRefusal, IsRefusedSo, state_by_dump, CountsHold, CountsTell}
 use Rattle.session_laws.proofs.EachCaller.{by_caller}
@@ -106,7 +107,7 @@ started_so laws c ends sheet start tallies made client f at =
 
 -- Channels.
 
-broken_so : CountLaws → (c : ClosedSession) → MembersAtEnd c → (first now : RunFiles) → LoggerReasons c first now → (moments : (client : ℕ) → List ℕ) (r : SessionRun) → MakesRun (engine_calls c main_caller) r → (channel : LoggerChannel) → ToldState (session_of c moments) r channel Broken
+broken_so : CountLaws → (c : ClosedSession) → MembersAtEnd c → (first now : RunFiles) → LoggerReasons c first now → (moments : (client : ℕ) → List ℕ) (r : SessionRun) → RunIn (engine_calls c main_caller) r → (channel : LoggerChannel) → ToldState (session_of c moments) r channel Broken
     → Rose first.faults now.faults
 broken_so laws c ends first now reasons moments r made channel told =
     let n : ℕ = logger_client c in
@@ -130,7 +131,7 @@ state_is s composed r run index channel at none Ended told so = with_dump r.last
 state_is s composed r run index channel at none NoEnd told so = ap state_by_dump (sym so.0)
 state_is s composed r run index channel at none NoMark told so = absurd (composed.no_end_refused r run index channel at told)
 
-ended_so : CountLaws → (c : ClosedSession) → MembersAtEnd c → (first now : RunFiles) → LoggerReasons c first now → (Rose first.faults now.faults → ⊥) → (moments : (client : ℕ) → List ℕ) (r : SessionRun) → MakesRun (engine_calls c main_caller) r → (index : ℕ) (channel : LoggerChannel)
+ended_so : CountLaws → (c : ClosedSession) → MembersAtEnd c → (first now : RunFiles) → LoggerReasons c first now → (Rose first.faults now.faults → ⊥) → (moments : (client : ℕ) → List ℕ) (r : SessionRun) → RunIn (engine_calls c main_caller) r → (index : ℕ) (channel : LoggerChannel)
     → slice_get (logger_channels (λ number. 0) c.slots) index ≡ Some channel → (state : ChannelState) → ToldState (session_of c moments) r channel state → state ≡ state_by_dump r.last.dump
 ended_so laws c ends first now reasons stays moments r made index channel at state told =
     let composed = laws.composed c ends in

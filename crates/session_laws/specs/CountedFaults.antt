@@ -21,7 +21,8 @@ use Rattle.loggers.specs.Reasons.{IsReasonSo, GivesReasons}
 use Rattle.composition.specs.SessionRuns.{SessionRun, ToldState}
 use Rattle.session_laws.specs.ClosedSessions.{ClosedFront, ClosedSession, logger_client, logger_caller, engine_calls, session_of}
 use Rattle.session_laws.specs.MembersAtEnd.{MembersAtEnd}
-use Rattle.session_laws.specs.MadeRuns.{TransitionIn, MakesRun}
+use Rattle.session_engine.specs.MadeTransitions.{TransitionIn}
+use Rattle.session_laws.specs.MadeRuns.{RunIn}
 
 -- What the logger of a closed session answered rests on the counts of the run files, which were so as it took its seat, and
 -- are so now.
@@ -59,10 +60,10 @@ pub record CountsHold (c : ClosedSession) (first now : RunFiles) : Type 0 where
       TransitionIn (engine_calls c main_caller) Start sheet start Completed tallies →
       (client : ℕ) → (f : ClosedFront) → slice_get c.fronts client ≡ Some f →
       f.takes (order_for sheet start Stopped) ≡ true
-  pub broken : (moments : (client : ℕ) → List ℕ) → (r : SessionRun) → MakesRun (engine_calls c main_caller) r →
+  pub broken : (moments : (client : ℕ) → List ℕ) → (r : SessionRun) → RunIn (engine_calls c main_caller) r →
       (channel : LoggerChannel) → ToldState (session_of c moments) r channel Broken → Rose first.faults now.faults
   pub ended : (Rose first.faults now.faults → ⊥) →
-      (moments : (client : ℕ) → List ℕ) → (r : SessionRun) → MakesRun (engine_calls c main_caller) r →
+      (moments : (client : ℕ) → List ℕ) → (r : SessionRun) → RunIn (engine_calls c main_caller) r →
       (index : ℕ) → (channel : LoggerChannel) → slice_get (logger_channels (λ number. 0) c.slots) index ≡ Some channel →
       (state : ChannelState) → ToldState (session_of c moments) r channel state → state ≡ state_by_dump r.last.dump
 
