@@ -1,37 +1,31 @@
 -- Each call of a logger keeps which names of run files it leaves.
-use Rattle.std.specs.Prelude.{◌≡◌, ℕ, zero, suc, Bool, true, false, IsTrue, List, [], ◌∷◌, ◌++◌, slice_get, length, Contains, Option, Some, None, ◌⊎◌, refl}
+use Rattle.std.specs.Prelude.{◌≡◌, ℕ, zero, suc, Bool, true, false, IsTrue, List, [], ◌∷◌, ◌++◌, slice_get, Contains, Option, Some, None, ◌⊎◌, refl}
 use Rattle.std.specs.List.{list_all}
 use Rattle.std.proofs.Common.{ap, sym, subst, ◌∙◌, arith, inl, inr}
 use Rattle.std.proofs.lemmas.List.Elements.{Contains-append_left, Contains-append_right}
-use Rattle.daq_types.specs.declared.runs.Transition.TheVariants.{Start, Stop}
+use Rattle.daq_types.specs.declared.runs.Transition.TheVariants.{Stop}
 use Rattle.daq_types.specs.declared.runs.Order.{Order}
-use Rattle.daq_io.specs.Counts.{Rose}
 use Rattle.daq_io.specs.Seen.{Seen, Stored}
 use Rattle.buffer_core.specs.declared.entry.BufferEntry.{BufferEntry}
 use Rattle.buffer_core.specs.Ports.{Access, GotEvent}
 use Rattle.buffer_core.specs.Slots.{slot_at}
-use Rattle.transitions.specs.declared.answers.Answer.{Answer}
 use Rattle.transitions.specs.declared.answers.Answer.TheVariants.{Yes}
 use Rattle.transitions.specs.declared.answers.Tally.TheVariants.{Channels}
 use Rattle.member_model.specs.Turns.{MemberTurn, HasTurn, IsAcceptedStart, HasAnswer, latest_answered}
 use Rattle.mid_logger.specs.declared.channel.Channel.{Channel}
 use Rattle.mid_logger.specs.declared.channel_spec.ChannelSpec.{ChannelSpec}
-use Rattle.mid_logger.specs.declared.pulled.Pulled.{Pulled}
 use Rattle.mid_logger.specs.declared.stage.ChannelRun.{ChannelRun}
 use Rattle.mid_logger.specs.declared.stage.ChannelStage.{ChannelStage}
 use Rattle.mid_logger.specs.declared.stage.ChannelStage.TheVariants.{Idle, Asking, Writing, Draining, Drained, Broken}
 use Rattle.mid_logger.specs.Channels.{FileHead, StageAt, channel_run}
-use Rattle.mid_logger.specs.Patterns.{file_name_by}
 use Rattle.loggers.specs.declared.logged_run.LoggedRun.{LoggedRun}
 use Rattle.loggers.specs.declared.logged_run.RunPart.{RunPart}
 use Rattle.loggers.specs.declared.logged_run.RunPart.TheVariants.{Stopping}
-use Rattle.loggers.specs.Moments.{RunFiles, LoggerMoment, HaveFilesOpen, IsLoggerReady}
-use Rattle.loggers.specs.SlotPulls.{PullsNumbered}
-use Rattle.loggers.specs.Turning.{LoggerTurn, TakesTurn, IsIdleOutside}
+use Rattle.loggers.specs.Moments.{RunFiles, HaveFilesOpen}
 use Rattle.loggers.specs.Finishing.{LoggerFinish, FinishesLogger, FinishesBy, EndsFiles, is_settled_slot, waiting_stop}
 use Rattle.loggers.specs.LoggerStands.{LoggerStands, logger_turn, ChannelKept, HasHead, IsHeadTold, IsStopWaiting, IsStoppingStage, IsStageOf, IsStagePart, IsRunTold, IsPartTold}
 use Rattle.loggers.specs.OtherFiles.{specs_in, HaveRunsAmong, LeavesOtherFiles}
-use Rattle.loggers.specs.Reasons.{GivesReasons, StaysOrRose}
+use Rattle.loggers.specs.Reasons.{StaysOrRose}
 use Rattle.loggers.specs.LeftNames.{IsOpenName, NamesLeft, NoneRose, IsStoppedRunOf, IsStoppedName, IsNameLeft, KeepsNames, TurnsKeepNames, PullsKeepNames, FinishesKeepNames}
 use Rattle.loggers.proofs.FaultsNoted.{turn_faults, pull_faults, finish_faults}
 use Rattle.loggers.proofs.FilesLeft.{FileChanges, spec_at, turns_leave_files, pulls_leave_files, finishes_leave_files}

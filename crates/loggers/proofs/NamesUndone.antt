@@ -11,7 +11,7 @@ use Rattle.daq_types.specs.declared.runs.Why.TheVariants.{NotReady, Exists, Faul
 use Rattle.daq_io.specs.Counts.{Rose}
 use Rattle.daq_io.specs.Seen.{Seen, Stored, Touches}
 use Rattle.buffer_core.specs.Slots.{slot_at}
-use Rattle.buffer_core.specs.SlotLaws.{slot_set_other, slot_within}
+use Rattle.buffer_core.specs.SlotLaws.{slot_set_other}
 use Rattle.mid_logger.specs.declared.channel.Channel.{Channel}
 use Rattle.mid_logger.specs.declared.channel_spec.ChannelSpec.{ChannelSpec}
 use Rattle.mid_logger.specs.declared.pulled.Pulled.{Pulled}
@@ -564,6 +564,7 @@ pull_step change Good number answer before a b there open_files s left =
           }
       | inr other ↦ record { number = o.number; channel = o.channel; opened = o.opened; there = slot_set_other a.slots number o.number (Some s.after) other ∙ o.there; of = o.of; is = o.is }
     ]
+
     one_name : (opened : Option ChannelRun) → channel_run before.stage ≡ opened → channel_run s.after.stage ≡ channel_run before.stage → ChangesFile before.spec opened (written_run before.stage) a.files.seen b.files.seen → (name : List ℕ) → Good name (a.files.seen.at name) ⊎ IsOpenName a.slots name
         → Good name (b.files.seen.at name) ⊎ IsOpenName (slice_set a.slots number (Some s.after)) name
     one_name opened is run changes name (inr o) = inr (still name run o)
