@@ -64,7 +64,7 @@ client_stays : (s : EngineState) (h : EngineHistory) (i : ℕ) (c : Registered) 
 client_stays s [] i c legal at = at
 client_stays s (x ∷ h) i c legal at = client_stays (engine_after s x.1) h i c legal.2 (client_step s x.1 i c legal.1 at)
 
-registered_there : (h : EngineHistory) (client : ℕ) (t : Transition) → IsLegalEngine engine_opening h → (r : IsRegisteredIn h client t)
+pub registered_there : (h : EngineHistory) (client : ℕ) (t : Transition) → IsLegalEngine engine_opening h → (r : IsRegisteredIn h client t)
     → slice_get (engine_replay engine_opening h).clients client ≡ Some (record { name = r.name; sequences = r.sequences; wants_dump = r.wants_dump; wants_report = r.wants_report })
 registered_there h client t legal r =
     let c : Registered = record { name = r.name; sequences = r.sequences; wants_dump = r.wants_dump; wants_report = r.wants_report } in
@@ -76,7 +76,7 @@ registered_there h client t legal r =
     ap (λ (l : EngineHistory). slice_get (engine_replay engine_opening l).clients client) r.stands
     ∙ (ap (λ (e : EngineState). slice_get e.clients client) (replay_apart engine_opening r.before ((r.caller, entry) ∷ r.after)) ∙ client_stays (engine_after s entry) r.after client c parts.1.2 here)
 
-in_called : (x : Called) (xs : List Called) → IsCalledIn x xs → IsIn x.client xs
+pub in_called : (x : Called) (xs : List Called) → IsCalledIn x xs → IsIn x.client xs
 in_called x [] is = absurd is
 in_called x (y ∷ ys) (inl same) = inl (sym (ap (λ (z : Called). z.client) same))
 in_called x (y ∷ ys) (inr later) = inr (in_called x ys later)

@@ -95,7 +95,7 @@ begun_fits StartAbort Stopped called e = absurd (cc (e))
 begun_fits StartAbort Paused called e = absurd (cc (e))
 begun_fits StartAbort Running called e = absurd (cc (e))
 
-not_stopped : (t : Transition) (state : RunState) → t ≢ Start → is_allowed state t ≡ true → state ≢ Stopped
+pub not_stopped : (t : Transition) (state : RunState) → t ≢ Start → is_allowed state t ≡ true → state ≢ Stopped
 not_stopped t Paused other e = λ (same : Paused ≡ Stopped). cc (same)
 not_stopped t Running other e = λ (same : Running ≡ Stopped). cc (same)
 not_stopped Start Stopped other e = absurd (other refl)

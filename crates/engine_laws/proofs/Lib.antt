@@ -6,4 +6,6 @@ pub mod StopsCompleted
 pub mod Begun
 pub mod Tallied
 pub mod Completed
+pub mod CalledOff
+pub mod RunsOver
 pub mod MainCalls

@@ -98,14 +98,14 @@ answered_stays (u ∷ us) a answer t is has =
     ])
     refl
 
-step_stays : (client : ℕ) (ts : List MemberTurn) (e : EngineEntry) (answer : ClientAnswer) (t : MemberTurn) → t.answer ≡ Some answer → HasTurn ts t → HasTurn (turns_with client ts e) t
+pub step_stays : (client : ℕ) (ts : List MemberTurn) (e : EngineEntry) (answer : ClientAnswer) (t : MemberTurn) → t.answer ≡ Some answer → HasTurn ts t → HasTurn (turns_with client ts e) t
 step_stays client ts (Poll other (Turn turn order dump blank)) answer t is has =
     let x : MemberTurn = record { transition = turn; order = order; dump = dump; answer = None } in
     split (other == client) (λ b. HasTurn (if b then turn_told ts x else ts) t) (λ h. told_stays ts x t has) (λ h. has)
 step_stays client ts (Answer other a reply) answer t is has = split (other == client) (λ b. HasTurn (if b then turn_answered ts a else ts) t) (λ h. answered_stays ts a answer t is has) (λ h. has)
 step_stays client ts entry answer t is has = has
 
-all_stay : (client : ℕ) (ts : List MemberTurn) (es : List EngineEntry) (answer : ClientAnswer) (t : MemberTurn) → t.answer ≡ Some answer → HasTurn ts t → HasTurn (fold (turns_with client) ts es) t
+pub all_stay : (client : ℕ) (ts : List MemberTurn) (es : List EngineEntry) (answer : ClientAnswer) (t : MemberTurn) → t.answer ≡ Some answer → HasTurn ts t → HasTurn (fold (turns_with client) ts es) t
 all_stay client ts [] answer t is has = has
 all_stay client ts (e ∷ es) answer t is has = all_stay client (turns_with client ts e) es answer t is (step_stays client ts e answer t is has)
 
@@ -518,11 +518,11 @@ goes_begun wants came client ts s t sheet n is b only = record {
 }
 
 -- the turns of the caller's calls in two parts
-turns_apart : (by client : ℕ) (ts : List MemberTurn) (xs ys : EngineHistory) → fold (turns_with client) ts (entries_by by (xs ++ ys)) ≡ fold (turns_with client) (fold (turns_with client) ts (entries_by by xs)) (entries_by by ys)
+pub turns_apart : (by client : ℕ) (ts : List MemberTurn) (xs ys : EngineHistory) → fold (turns_with client) ts (entries_by by (xs ++ ys)) ≡ fold (turns_with client) (fold (turns_with client) ts (entries_by by xs)) (entries_by by ys)
 turns_apart by client ts xs ys = ap (fold (turns_with client) ts) (entries_by-append by xs ys) ∙ fold-append (turns_with client) ts (entries_by by xs) (entries_by by ys)
 
 -- a begin is no call of a client
-turns_begin : (by client : ℕ) (ts : List MemberTurn) (opener : ℕ) (t : Transition) (sheet : Sheet) (n : ℕ) (ys : EngineHistory) → fold (turns_with client) ts (entries_by by ((opener, Begin t sheet (Ok n)) ∷ ys)) ≡ fold (turns_with client) ts (entries_by by ys)
+pub turns_begin : (by client : ℕ) (ts : List MemberTurn) (opener : ℕ) (t : Transition) (sheet : Sheet) (n : ℕ) (ys : EngineHistory) → fold (turns_with client) ts (entries_by by ((opener, Begin t sheet (Ok n)) ∷ ys)) ≡ fold (turns_with client) ts (entries_by by ys)
 turns_begin by client ts opener t sheet n ys =
     own_or_other by client (opener, Begin t sheet (Ok n)) ys (λ es. fold (turns_with client) ts es ≡ fold (turns_with client) ts (entries_by by ys)) (λ (is : false ≡ true). absurd (cc (is))) refl (λ not. refl)
 
@@ -613,7 +613,7 @@ tallies_are_answers follows lists by client history legal alone transition sheet
 
 -- A refusal.
 
-refusal_is : (r : Option Refusal) (client : ℕ) (why : Why) → Refused client why ≡ outcome_of r → r ≡ Some (record { client = client; why = why })
+pub refusal_is : (r : Option Refusal) (client : ℕ) (why : Why) → Refused client why ≡ outcome_of r → r ≡ Some (record { client = client; why = why })
 refusal_is None client why e = absurd (cc (e))
 refusal_is (Some refusal) client why e =
     let client_is : refusal.client ≡ client = cc (e) in

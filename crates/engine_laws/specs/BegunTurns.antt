@@ -1,11 +1,11 @@
 -- Where the turns of a client come from, and where its answers go.
 use Rattle.run_states.specs.declared.sequences.Sequences.{Sequences}
 use Rattle.run_states.specs.Sequences.{sequence_for}
-use Rattle.std.specs.Prelude.{Bool, slice_get, ◌≡◌, ℕ, true, false, List, [], ◌∷◌, ◌++◌, ◌⊎◌, ◌↔◌, Some, Ok, ⊤}
+use Rattle.std.specs.Prelude.{Bool, slice_get, ◌≡◌, ◌<◌, ℕ, true, false, List, [], ◌∷◌, ◌++◌, ◌⊎◌, ◌↔◌, Some, Ok, ⊤}
 use Rattle.std.specs.List.{AllByRecursion}
 use Rattle.daq_types.specs.declared.runs.RunState.{RunState}
 use Rattle.daq_types.specs.declared.runs.Transition.{Transition}
-use Rattle.daq_types.specs.declared.runs.Transition.TheVariants.{Start, StartAbort}
+use Rattle.daq_types.specs.declared.runs.Transition.TheVariants.{Start, Stop, StartAbort}
 use Rattle.daq_types.specs.declared.runs.StartOutcome.{StartOutcome}
 use Rattle.daq_types.specs.declared.runs.Why.{Why}
 use Rattle.daq_types.specs.declared.runs.StartOutcome.TheVariants.{Completed}
@@ -101,6 +101,42 @@ pub record IsRefusedTurn (turns : List MemberTurn) (from : RunState) (sheet : Sh
   pub of_begin : IsOfBegin from Start sheet start turn
   pub starts : turn.transition ≡ Start
   pub answered : turn.answer ≡ Some (No why)
+
+-- One of these turns is of the start-abort of the start with this number, and was answered.
+pub record IsCalledOff (turns : List MemberTurn) (start : ℕ) : Type 0 where
+  pub turn : MemberTurn
+  pub stands : HasTurn turns turn
+  pub is : turn.transition ≡ StartAbort
+  pub of : turn.order.start ≡ start
+  pub answer : Answer
+  pub answered : turn.answer ≡ Some answer
+
+-- a stop or a start-abort of the run with this start number is among these turns
+pub record IsOver (turns : List MemberTurn) (start : ℕ) : Type 0 where
+  pub turn : MemberTurn
+  pub stands : HasTurn turns turn
+  pub ends : (turn.transition ≡ Stop) ⊎ (turn.transition ≡ StartAbort)
+  pub of : turn.order.start ≡ start
+
+-- each start among these turns has its stop or its start-abort among them
+abbrev pub AreOver : List MemberTurn → Type 0
+AreOver turns = (turn : MemberTurn) → HasTurn turns turn → turn.transition ≡ Start → IsOver turns turn.order.start
+
+-- a start comes behind these turns: all their runs are over, and have lower start numbers
+pub record ComesLast (ts : List MemberTurn) (start : ℕ) : Type 0 where
+  pub over : AreOver ts
+  pub above : (turn : MemberTurn) → HasTurn ts turn → turn.order.start < start
+
+-- each start comes so; the latest turn stands first
+abbrev pub StartsComeLast : List MemberTurn → Type 0
+StartsComeLast [] = ⊤
+StartsComeLast (t ∷ ts) = (t.transition ≡ Start → ComesLast ts t.order.start) × StartsComeLast ts
+
+-- wherever a transition was begun, the client was registered, and is called for a stop and for a start-abort
+abbrev pub IsAlwaysCalled : EngineHistory → (client : ℕ) → Type 0
+IsAlwaysCalled history client = (earlier later : EngineHistory) → (caller : ℕ) → (begun : Transition) → (sheet : Sheet) →
+    (start : ℕ) → history ≡ earlier ++ (caller, Begin begun sheet (Ok start)) ∷ later →
+    IsRegisteredIn earlier client Stop × IsRegisteredIn earlier client StartAbort
 
 -- none of these calls begins a transition or tells its end
 abbrev pub AreUnmarked : List EngineEntry → Type 0

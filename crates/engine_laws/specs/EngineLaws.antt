@@ -3,7 +3,7 @@ use Rattle.std.specs.Prelude.{◌≡◌, ◌≢◌, ℕ, List, ◌∷◌, ◌++�
 use Rattle.daq_types.specs.Callers.{entries_by, main_caller}
 use Rattle.daq_types.specs.declared.runs.RunState.TheVariants.{Stopped}
 use Rattle.daq_types.specs.declared.runs.Transition.{Transition}
-use Rattle.daq_types.specs.declared.runs.Transition.TheVariants.{Start, Stop}
+use Rattle.daq_types.specs.declared.runs.Transition.TheVariants.{Start, Stop, StartAbort}
 use Rattle.daq_types.specs.declared.runs.StartOutcome.{StartOutcome}
 use Rattle.daq_types.specs.declared.runs.Why.{Why}
 use Rattle.transitions.specs.declared.sheet.Sheet.{Sheet}
@@ -19,7 +19,7 @@ use Rattle.transitions.specs.GivenTurns.{SpeaksFor}
 use Rattle.member_model.specs.Turns.{MemberTurn, HasTurn, AreEngineTurns}
 use Rattle.member_model.specs.TurnCalls.{member_turns}
 use Rattle.daq_types.specs.declared.runs.StartOutcome.TheVariants.{Completed, Refused}
-use Rattle.engine_laws.specs.BegunTurns.{WasBegun, HasTransition, IsRegisteredIn, HasTally, IsTallyOfTurn, IsRefusedTurn, AreUnmarked}
+use Rattle.engine_laws.specs.BegunTurns.{WasBegun, HasTransition, IsRegisteredIn, HasTally, IsTallyOfTurn, IsRefusedTurn, IsCalledOff, StartsComeLast, IsAlwaysCalled, AreUnmarked}
 
 -- The turns that the caller of a client reads off its own calls are turns as an engine gives them, where this caller alone
 -- polls and answers for the client.
@@ -81,6 +81,23 @@ RefusalsAreAnswers = (by client : ℕ) → (history : EngineHistory) →
     (sheet : Sheet) → (start : ℕ) → (why : Why) → (tallies : List ClientTally) →
     (has : HasTransition history Start sheet start (Refused client why) tallies) →
     IsRefusedTurn (member_turns client (entries_by by history)) (state_at (engine_past has.earlier)) sheet start why
+
+-- Where the Done of a start says that it was refused, the caller of each client that is called for a start-abort answered the
+-- client's turn of that.
+abbrev pub RefusedAreCalledOff : Type 0
+RefusedAreCalledOff = (by client : ℕ) → (history : EngineHistory) →
+    IsLegalEngine engine_opening history → SpeaksFor by client history →
+    (sheet : Sheet) → (start refuser : ℕ) → (why : Why) → (tallies : List ClientTally) →
+    (has : HasTransition history Start sheet start (Refused refuser why) tallies) →
+    IsRegisteredIn has.earlier client StartAbort →
+    IsCalledOff (member_turns client (entries_by by history)) start
+
+-- A client that is called for each stop and each start-abort is given a start only once all runs before it are over, which have
+-- lower start numbers.
+abbrev pub RunsAreOver : Type 0
+RunsAreOver = (by client : ℕ) → (history : EngineHistory) →
+    IsLegalEngine engine_opening history → SpeaksFor by client history → IsAlwaysCalled history client →
+    StartsComeLast (member_turns client (entries_by by history))
 
 -- Where a transition was not refused, each client that is called for it has a tally in its Done.
 abbrev pub CalledAreTold : Type 0

@@ -1,6 +1,6 @@
 //! Laws of the turns of one client of an engine: each function does nothing, and its contract is the law.
 
-ghost use Rattle.engine_laws.specs.EngineLaws.{GivesEngineTurns, TurnsWereBegun, StartsFromStopped, StopsFromRun, DonesHaveBegins, OthersComplete, TalliesAreAnswers, RefusalsAreAnswers, CalledAreTold, MainHasTransition};
+ghost use Rattle.engine_laws.specs.EngineLaws.{GivesEngineTurns, TurnsWereBegun, StartsFromStopped, StopsFromRun, DonesHaveBegins, OthersComplete, TalliesAreAnswers, RefusalsAreAnswers, RefusedAreCalledOff, RunsAreOver, CalledAreTold, MainHasTransition};
 
 use transitions::laws;
 
@@ -40,6 +40,20 @@ pub fn tallies_answered()
 /// Where a transition was not refused, each client that is called for it has its tally in the Done.
 pub fn called_told()
     ensures { CalledAreTold }
+{
+    laws::called_in_order();
+}
+
+/// Where a start was refused, the caller of each client that is called for a start-abort answered its turn of that.
+pub fn called_off()
+    ensures { RefusedAreCalledOff }
+{
+    laws::called_in_order();
+}
+
+/// A client that is called for each stop and each start-abort is given a start only once all runs before it are over.
+pub fn runs_over()
+    ensures { RunsAreOver }
 {
     laws::called_in_order();
 }
