@@ -33,12 +33,12 @@ use Rattle.loggers.proofs.ReadySteps.{WasNoted, was_noted, pulled_slot, ended_fi
 
 -- The specs.
 
-spec_at : (slots : List (Option Channel)) (n : ℕ) (c : Channel) → slot_at slots n ≡ Some c → slot_at (specs_in slots) n ≡ Some c.spec
+pub spec_at : (slots : List (Option Channel)) (n : ℕ) (c : Channel) → slot_at slots n ≡ Some c → slot_at (specs_in slots) n ≡ Some c.spec
 spec_at [] n c at = absurd (cc (at))
 spec_at (o ∷ os) zero c at = ap (option_map (λ (x : Channel). x.spec)) at
 spec_at (o ∷ os) (suc n) c at = spec_at os n c at
 
-specs_set : (slots : List (Option Channel)) (n : ℕ) (before after : Channel) → slot_at slots n ≡ Some before → after.spec ≡ before.spec → specs_in (slice_set slots n (Some after)) ≡ specs_in slots
+pub specs_set : (slots : List (Option Channel)) (n : ℕ) (before after : Channel) → slot_at slots n ≡ Some before → after.spec ≡ before.spec → specs_in (slice_set slots n (Some after)) ≡ specs_in slots
 specs_set [] n before after at spec = refl
 specs_set (o ∷ os) zero before after at spec =
     ap (λ (s : ChannelSpec). Some s ∷ specs_in os) spec ∙ sym (ap (λ (x : Option Channel). option_map (λ (c : Channel). c.spec) x ∷ specs_in os) at)
@@ -293,7 +293,7 @@ pulls_leave_files laws runs number answer a b pulls ready held = (
 
 -- Endings.
 
-settled_run : (stage : ChannelStage) (opened : ChannelRun) → channel_run (stage_settled stage) ≡ Some opened → channel_run stage ≡ Some opened
+pub settled_run : (stage : ChannelStage) (opened : ChannelRun) → channel_run (stage_settled stage) ≡ Some opened → channel_run stage ≡ Some opened
 settled_run Idle opened is = is
 settled_run (Asking o) opened is = is
 settled_run (Writing o begun) opened is = is

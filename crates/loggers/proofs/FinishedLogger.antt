@@ -229,17 +229,17 @@ all_settled (o ∷ os) zero c all stood = subst (λ (x : Option Channel). is_set
 all_settled (o ∷ os) (suc n) c all stood = all_settled os n c (and_both (is_settled_slot o) (list_all is_settled_slot os) all).1 stood
 
 -- the run whose stop waits
-record Waits (run : Option LoggedRun) (time : ℕ) : Type 0 where
-  r : LoggedRun
-  is : run ≡ Some r
-  part : r.part ≡ Stopping time
+pub record Waits (run : Option LoggedRun) (time : ℕ) : Type 0 where
+  pub r : LoggedRun
+  pub is : run ≡ Some r
+  pub part : r.part ≡ Stopping time
 
 part_waits : (part : RunPart) (r : LoggedRun) (time : ℕ) → r.part ≡ part → waiting_stop (Some (record r { part = part })) ≡ Some time → Waits (Some r) time
 part_waits Refused r time is waits = absurd (cc (waits))
 part_waits Started r time is waits = absurd (cc (waits))
 part_waits (Stopping at) r time is waits = let same : at ≡ time = cc (waits) in record { r = r; is = refl; part = is ∙ ap (λ (t : ℕ). Stopping t) same }
 
-run_waits : (run : Option LoggedRun) (time : ℕ) → waiting_stop run ≡ Some time → Waits run time
+pub run_waits : (run : Option LoggedRun) (time : ℕ) → waiting_stop run ≡ Some time → Waits run time
 run_waits None time waits = absurd (cc (waits))
 run_waits (Some r) time waits = part_waits r.part r time refl waits
 
@@ -278,7 +278,7 @@ finished laws f ports turns time waits settled in_use ends stands =
     let stages : (n : ℕ) (c : Channel) (a : Access) → slot_at f.slots n ≡ Some c → slice_get ports c.spec.buffer ≡ Some a → IsStoppingStage before a.own w.r.start c.stage = λ n c a stood at.
     subst (λ (p : RunPart). IsStagePart p before a.own w.r.start c.stage) w.part (subst (λ (x : Option LoggedRun). IsStageOf x before a.own c.stage) w.is (now.stages n c a stood at)) in
     let to : EndedTo before (logger_turn Stop stop.order f.stop_dump None) ports (length f.slots) (length f.slots) last = ended_with laws f ports stop.order stop.earlier w.r.start time stop.of stop.at settled in_use ends now.standing now.served stages ends in
-    let known : TurnsKnown None None turns_now = finish_known f.run f.stop_dump f.stop_dump ends.states stop.order stop.earlier (record { starts = now.starts; stops = now.stops; told = now.told; current = now.current }) in
+    let known : TurnsKnown None None turns_now = finish_known f.run f.stop_dump f.stop_dump ends.states stop.order stop.earlier (record { starts = now.starts; stops = now.stops; told = now.told; current = now.current; not_off = now.not_off; going = now.going; unready = now.unready }) in
     let done : LoggerStands None None f.later_slots ports turns_now f.later_files.seen = record {
       standing = answered_slots stop.order f.stop_dump stop.earlier ports (length f.slots) last to;
       served = to.served;
@@ -287,6 +287,9 @@ finished laws f ports turns time waits settled in_use ends stands =
       stops = known.stops;
       told = known.told;
       current = known.current;
+      not_off = known.not_off;
+      going = known.going;
+      unready = known.unready;
     } in
     let answered : LoggerStands None None f.later_slots ports (latest_answered before (Some (Yes (Channels ends.states)))) f.later_files.seen = done in
     rw (ends.answer_is, ends.run, ends.stop_dump) (subst (λ (l : List MemberTurn). LoggerStands None None f.later_slots ports (latest_answered l (Some (Yes (Channels ends.states)))) f.later_files.seen) (sym stop.latest) answered)

@@ -31,3 +31,6 @@ pub mod FaultsNoted
 pub mod FilesLeft
 pub mod ReasonsKept
 pub mod NamesUndone
+pub mod NamesKept
+pub mod RefusedAsks
+pub mod NamesTaken

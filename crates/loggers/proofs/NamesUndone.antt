@@ -1,35 +1,40 @@
--- A start that does not come about leaves each file as it was.
+-- Which names of run files each call of a logger leaves as they should be, where no fault is counted.
 use Rattle.std.specs.Prelude.{◌≡◌, ◌≢◌, ◌≤◌, ◌==◌, ℕ, zero, suc, Bool, true, false, IsTrue, List, [], ◌∷◌, length, map, slice_set, Option, Some, None, Result, Ok, Err, ⊤, ◌⊎◌, refl}
 use Rattle.std.specs.Option.{option_map}
 use Rattle.std.proofs.Common.{ap, sym, subst, ◌∙◌, arith, inl, inr}
 use Rattle.std.proofs.lemmas.Bool.Decides.{eqb_tells}
 use Rattle.daq_types.specs.declared.runs.Order.{Order}
 use Rattle.daq_types.specs.declared.runs.Transition.{Transition}
+use Rattle.daq_types.specs.declared.runs.Transition.TheVariants.{Start, Stop, Pause, Resume, StartAbort}
 use Rattle.daq_types.specs.declared.runs.Why.{Why}
 use Rattle.daq_types.specs.declared.runs.Why.TheVariants.{NotReady, Exists, Fault, BufferRefused}
 use Rattle.daq_io.specs.Counts.{Rose}
-use Rattle.daq_io.specs.Seen.{Seen, Touches}
+use Rattle.daq_io.specs.Seen.{Seen, Stored, Touches}
 use Rattle.buffer_core.specs.Slots.{slot_at}
-use Rattle.buffer_core.specs.SlotLaws.{slot_set_other, slot_within}
-use Rattle.transitions.specs.declared.answers.Answer.TheVariants.{Yes, No}
-use Rattle.transitions.specs.declared.answers.Tally.TheVariants.{Plain}
+use Rattle.buffer_core.specs.SlotLaws.{slot_set_other}
 use Rattle.mid_logger.specs.declared.channel.Channel.{Channel}
 use Rattle.mid_logger.specs.declared.channel_spec.ChannelSpec.{ChannelSpec}
+use Rattle.mid_logger.specs.declared.pulled.Pulled.{Pulled}
 use Rattle.mid_logger.specs.declared.stage.ChannelRun.{ChannelRun}
 use Rattle.mid_logger.specs.declared.stage.ChannelStage.{ChannelStage}
 use Rattle.mid_logger.specs.declared.stage.ChannelStage.TheVariants.{Idle, Asking, Writing, Draining, Drained, Broken}
 use Rattle.mid_logger.specs.Channels.{channel_run, written_run, stage_begun, stage_ended, place_marked}
-use Rattle.mid_logger.specs.ChannelEnds.{RemovesFile}
+use Rattle.mid_logger.specs.ChannelEnds.{RemovesFile, stage_settled}
+use Rattle.mid_logger.specs.Keeping.{ChangesFile, PullsChange, ClosesChange}
 use Rattle.mid_logger.specs.ChannelTurns.{ChannelAt, OpenFaults, RefusesRun, broken_run}
 use Rattle.mid_logger.specs.Patterns.{file_name_by}
 use Rattle.mid_logger.specs.RecordFiles.{IsGone, UndoesFile}
-use Rattle.loggers.specs.Moments.{RunFiles, LoggerMoment, StepsChannel, StepsSlot, StepsAt, CallsBuffer, MarksBuffer, InTurn, noted_channel, AreIdle}
-use Rattle.loggers.specs.ChannelSteps.{OpensChannel, AbortsChannel}
-use Rattle.loggers.specs.Turning.{EndsBuffer, LoggerTurn, OpensBelow, BeginsBelow, AbortsAll, UndoesOpens, UndoesBegins, StartsSo, TakesStart, TakesAbort, TakesTurnBy, is_run_on, is_of_start, buffers_begun, start_answer}
+use Rattle.loggers.specs.Moments.{RunFiles, LoggerMoment, StepsChannel, StepsSlot, StepsAt, CallsBuffer, MarksBuffer, InTurn, noted_channel, AreIdle, HaveFilesOpen}
+use Rattle.loggers.specs.ChannelSteps.{OpensChannel, AbortsChannel, PullsChannel}
+use Rattle.loggers.specs.SlotPulls.{PullsSlot, PullsNumbered}
+use Rattle.loggers.specs.Finishing.{EndingMoment, EndsSlot, EndsSlotAt, EndsFiles, LoggerFinish, states_idle}
+use Rattle.loggers.specs.Turning.{EndsBuffer, PausesBuffer, ResumesBuffer, LoggerTurn, OpensBelow, BeginsBelow, AbortsAll, UndoesOpens, UndoesBegins, StartsSo, TakesStart, TakesStop, TakesMark, TakesAbort, TakesTurnBy, TakesTurn, IsIdleOutside, is_run_on, is_started, is_of_start, buffers_begun}
 use Rattle.loggers.specs.Reasons.{StaysOrRose}
-use Rattle.loggers.specs.LeftNames.{IsOpenName, NamesLeft, AllNamesLeft, NoneRose, RefusedStartsLeave, AcceptedStartsLeave, CalledOffStartsLeave}
+use Rattle.loggers.specs.LeftNames.{IsOpenName, NamesLeft, NoneRose}
 use Rattle.loggers.proofs.FaultsNoted.{rose_then, then_rose, counts_then}
-use Rattle.loggers.proofs.FilesLeft.{noted_spec, noted_run, begun_run, ended_run, no_run}
+use Rattle.loggers.proofs.FilesLeft.{noted_spec, noted_run, begun_run, ended_run, no_run, settled_run}
+use Rattle.loggers.proofs.InTurns.{turns_keep}
+use Rattle.loggers.proofs.ReadySteps.{ended_files}
 use Rattle.loggers.proofs.ReasonsKept.{opens_kept, begins_kept, ends_kept, aborts_kept, abort_kept, refused_kept, call_kept}
 use Rattle.loggers.proofs.SlotLists.{same_or_other, one_changed, put_there, many_set}
 
@@ -46,10 +51,10 @@ names_tell (x ∷ xs) (y ∷ ys) = by_both (eqb_tells x y) (names_tell xs ys)
     by_both (inl one) (inr rest) = inr (λ e. rest (cc (e)))
     by_both (inr one) rest = inr (λ e. one.1 (cc (e)))
 
-none_first : (f g h : ℕ) → (Rose f h → ⊥) → StaysOrRose g h → Rose f g → ⊥
+pub none_first : (f g h : ℕ) → (Rose f h → ⊥) → StaysOrRose g h → Rose f g → ⊥
 none_first f g h none stays rose = none (rose_then f g h rose stays)
 
-none_last : (f g h : ℕ) → (Rose f h → ⊥) → StaysOrRose f g → Rose g h → ⊥
+pub none_last : (f g h : ℕ) → (Rose f h → ⊥) → StaysOrRose f g → Rose g h → ⊥
 none_last f g h none stays rose = none (then_rose f g h stays rose)
 
 -- Open names, where one channel changed.
@@ -114,26 +119,26 @@ idle_none c name idle has = no_run c.stage has.opened idle has.of
 
 -- Opening.
 
-record Opening (first : Seen) (n : ℕ) (m : LoggerMoment) : Type 0 where
-  tells : IsTrue m.files.seen.tells
-  each : (name : List ℕ) → (m.files.seen.at name ≡ first.at name) ⊎ OpenFrom 0 m.slots name
-  fresh : (name : List ℕ) → IsOpenName m.slots name → first.at name ≡ None
-  idle : (i : ℕ) (c : Channel) → n ≤ i → slot_at m.slots i ≡ Some c → c.stage ≡ Idle
+pub record Opening (Good : List ℕ → Option Stored → Type 0) (n : ℕ) (m : LoggerMoment) : Type 0 where
+  pub tells : IsTrue m.files.seen.tells
+  pub each : (name : List ℕ) → (Good name (m.files.seen.at name)) ⊎ OpenFrom 0 m.slots name
+  pub fresh : (name : List ℕ) → IsOpenName m.slots name → Good name None
+  pub idle : (i : ℕ) (c : Channel) → n ≤ i → slot_at m.slots i ≡ Some c → c.stage ≡ Idle
 
-opening_none : (first : Seen) (n : ℕ) (a b : LoggerMoment) → b ≡ a → Opening first n a → Opening first (suc n) b
-opening_none first n a b same g = subst (λ (m : LoggerMoment). Opening first (suc n) m) (sym same)
+opening_none : (Good : List ℕ → Option Stored → Type 0) (n : ℕ) (a b : LoggerMoment) → b ≡ a → Opening Good n a → Opening Good (suc n) b
+opening_none Good n a b same g = subst (λ (m : LoggerMoment). Opening Good (suc n) m) (sym same)
     (record { tells = g.tells; each = g.each; fresh = g.fresh; idle = λ i c le at. g.idle i c (omega (arith, le)) at })
 
-opening_one : (first : Seen) (order : Order) (dump : List ℕ) (n : ℕ) (before : Channel) (a b : LoggerMoment) → slot_at a.slots n ≡ Some before → StepsChannel (OpensChannel order dump (Ok tt)) n before a b → Opening first n a → Opening first (suc n) b
-opening_one first order dump n before a b there s g =
+opening_one : (Good : List ℕ → Option Stored → Type 0) (order : Order) (dump : List ℕ) (n : ℕ) (before : Channel) (a b : LoggerMoment) → slot_at a.slots n ≡ Some before → StepsChannel (OpensChannel order dump (Ok tt)) n before a b → Opening Good n a → Opening Good (suc n) b
+opening_one Good order dump n before a b there s g =
     let o = s.step.opens in
     let name_n : List ℕ = file_name_by before.spec.pattern order.run in
     let touches : Touches a.files.seen b.files.seen name_n = o.makes.touches in
     let opened : ChannelRun = record { run = order.run; start = order.start; file = o.file; client = o.asks.client; request = o.asks.request } in
     let of : channel_run s.after.stage ≡ Some opened = ap channel_run o.asks.stage in
     let slots : List (Option Channel) = slice_set a.slots n (Some s.after) in
-    let none_n : first.at name_n ≡ None = elim (g.each name_n) as (λ w. first.at name_n ≡ None) [
-      | inl same ↦ sym same ∙ o.makes.fresh g.tells
+    let none_n : Good name_n None = elim (g.each name_n) as (λ w. Good name_n None) [
+      | inl same ↦ subst (λ (x : Option Stored). Good name_n x) (o.makes.fresh g.tells) same
       | inr open_ ↦ g.fresh name_n open_.open_name
     ] in
     let idle : before.stage ≡ Idle = g.idle n before (omega arith) there in
@@ -141,53 +146,56 @@ opening_one first order dump n before a b there s g =
       open_name = record { number = n; channel = s.after; opened = opened; there = put_there a.slots n before s.after there; of = of; is = ap (λ (x : ChannelSpec). file_name_by x.pattern order.run) s.step.spec };
       from = omega arith;
     } in
-    let now : Opening first (suc n) (record b { slots = slots }) = record {
+    let now : Opening Good (suc n) (record b { slots = slots }) = record {
       tells = subst (λ (t : Bool). IsTrue t) (sym touches.tells) g.tells;
-      each = λ name. elim (names_tell name name_n) as (λ w. (b.files.seen.at name ≡ first.at name) ⊎ OpenFrom 0 slots name) [
+      each = λ name. elim (names_tell name name_n) as (λ w. (Good name (b.files.seen.at name)) ⊎ OpenFrom 0 slots name) [
         | inl same ↦ inr (subst (λ (l : List ℕ). OpenFrom 0 slots l) (sym same) here)
-        | inr differs ↦ elim (g.each name) as (λ w. (b.files.seen.at name ≡ first.at name) ⊎ OpenFrom 0 slots name) [
-          | inl old ↦ inl (touches.others name differs ∙ old)
+        | inr differs ↦ elim (g.each name) as (λ w. (Good name (b.files.seen.at name)) ⊎ OpenFrom 0 slots name) [
+          | inl old ↦ inl (subst (λ (x : Option Stored). Good name x) (sym (touches.others name differs)) old)
           | inr open_ ↦ inr (open_set 0 a.slots n before s.after name there open_ (idle_none before name idle))
         ]
       ];
-      fresh = λ name open_. elim (set_open a.slots n before s.after name there open_) as (λ w. first.at name ≡ None) [
+      fresh = λ name open_. elim (set_open a.slots n before s.after name there open_) as (λ w. Good name None) [
         | inl mine ↦
             let same_run : opened.run ≡ mine.opened.run = (let is = mine.of in cc (of, is)) in
             let is : name_n ≡ name = ap (λ (x : ChannelSpec). file_name_by x.pattern order.run) (sym s.step.spec) ∙ (ap (λ (r : ℕ). file_name_by s.after.spec.pattern r) same_run ∙ mine.is) in
-            subst (λ (l : List ℕ). first.at l ≡ None) is none_n
+            subst (λ (l : List ℕ). Good l None) is none_n
         | inr old ↦ g.fresh name old
       ];
       idle = λ i c le at. one_changed (λ k x. suc n ≤ k → x.stage ≡ Idle) a.slots n s.after (λ x here_ low. absurd (omega (arith, low))) (λ k x other here_ low. g.idle k x (omega (arith, low)) here_) before there i c at le;
     } in
-    subst (λ (l : List (Option Channel)). Opening first (suc n) (record b { slots = l })) (sym s.slots) now
+    subst (λ (l : List (Option Channel)). Opening Good (suc n) (record b { slots = l })) (sym s.slots) now
 
-opening_slot : (first : Seen) (order : Order) (dump : List ℕ) (n : ℕ) (slot : Option Channel) (a b : LoggerMoment) → slot_at a.slots n ≡ slot → StepsSlot (OpensChannel order dump (Ok tt)) n slot a b → Opening first n a → Opening first (suc n) b
-opening_slot first order dump n None a b there same g = opening_none first n a b same g
-opening_slot first order dump n (Some before) a b there s g = opening_one first order dump n before a b there s g
+opening_slot : (Good : List ℕ → Option Stored → Type 0) (order : Order) (dump : List ℕ) (n : ℕ) (slot : Option Channel) (a b : LoggerMoment) → slot_at a.slots n ≡ slot → StepsSlot (OpensChannel order dump (Ok tt)) n slot a b → Opening Good n a → Opening Good (suc n) b
+opening_slot Good order dump n None a b there same g = opening_none Good n a b same g
+opening_slot Good order dump n (Some before) a b there s g = opening_one Good order dump n before a b there s g
 
-opening_all : (first : Seen) (order : Order) (dump : List ℕ) (n : ℕ) (a b : LoggerMoment) → OpensBelow order dump n a b → Opening first 0 a → Opening first n b
-opening_all first order dump zero a b same g = subst (λ (m : LoggerMoment). Opening first 0 m) (sym same) g
-opening_all first order dump (suc n) a b opens g = opening_slot first order dump n (slot_at opens.0.slots n) opens.0 b refl opens.2 (opening_all first order dump n a opens.0 opens.1 g)
+pub opening_all : (Good : List ℕ → Option Stored → Type 0) (order : Order) (dump : List ℕ) (n : ℕ) (a b : LoggerMoment) → OpensBelow order dump n a b → Opening Good 0 a → Opening Good n b
+opening_all Good order dump zero a b same g = subst (λ (m : LoggerMoment). Opening Good 0 m) (sym same) g
+opening_all Good order dump (suc n) a b opens g = opening_slot Good order dump n (slot_at opens.0.slots n) opens.0 b refl opens.2 (opening_all Good order dump n a opens.0 opens.1 g)
 
-opening_first : (a : LoggerMoment) → AreIdle a.slots → IsTrue a.files.seen.tells → Opening a.files.seen 0 a
-opening_first a idle tells = record {
+pub opening_first : (Good : List ℕ → Option Stored → Type 0) (a : LoggerMoment) → AreIdle a.slots → IsTrue a.files.seen.tells → NamesLeft Good a.slots a.files.seen → Opening Good 0 a
+opening_first Good a idle tells left = record {
   tells = tells;
-  each = λ name. inl refl;
-  fresh = λ name open_. absurd (no_run open_.channel.stage open_.opened (idle open_.number open_.channel open_.there) open_.of);
+  each = λ name. elim (left.each name) as (λ w. Good name (a.files.seen.at name) ⊎ OpenFrom 0 a.slots name) [
+    | inl same ↦ inl same
+    | inr o ↦ inr (record { open_name = o; from = omega arith })
+  ];
+  fresh = left.fresh;
   idle = λ i c le at. idle i c at;
 }
 
 -- Undoing.
 
--- each file is as it was at first, but for open names of channels from this number on
-record Undo (first : Seen) (k many : ℕ) (m : LoggerMoment) : Type 0 where
+-- each file is as it was at Good, but for open names of channels from this number on
+record Undo (Good : List ℕ → Option Stored → Type 0) (k many : ℕ) (m : LoggerMoment) : Type 0 where
   tells : IsTrue m.files.seen.tells
   many_is : length m.slots ≡ many
-  each : (name : List ℕ) → (m.files.seen.at name ≡ first.at name) ⊎ OpenFrom k m.slots name
-  fresh : (name : List ℕ) → IsOpenName m.slots name → first.at name ≡ None
+  each : (name : List ℕ) → (Good name (m.files.seen.at name)) ⊎ OpenFrom k m.slots name
+  fresh : (name : List ℕ) → IsOpenName m.slots name → Good name None
 
-undo_opened : (first : Seen) (n : ℕ) (m : LoggerMoment) → Opening first n m → Undo first 0 (length m.slots) m
-undo_opened first n m g = record { tells = g.tells; many_is = refl; each = g.each; fresh = g.fresh }
+undo_opened : (Good : List ℕ → Option Stored → Type 0) (n : ℕ) (m : LoggerMoment) → Opening Good n m → Undo Good 0 (length m.slots) m
+undo_opened Good n m g = record { tells = g.tells; many_is = refl; each = g.each; fresh = g.fresh }
 
 -- a refusal leaves all files
 
@@ -214,27 +222,27 @@ refused_tells (Exists channel) spec name a b r = r.2.files.tells
 refused_tells (Fault channel) spec name a b r = r.2.touches.tells
 refused_tells BufferRefused spec name a b r = r.1.touches.tells
 
-undo_refused : (first : Seen) (order : Order) (dump : List ℕ) (why : Why) (n : ℕ) (before : Channel) (a b : LoggerMoment) → slot_at a.slots n ≡ Some before → StepsChannel (OpensChannel order dump (Err why)) n before a b → NoneRose a.files b.files → Opening first n a → Undo first 0 (length b.slots) b
-undo_refused first order dump why n before a b there s none g =
+undo_refused : (Good : List ℕ → Option Stored → Type 0) (order : Order) (dump : List ℕ) (why : Why) (n : ℕ) (before : Channel) (a b : LoggerMoment) → slot_at a.slots n ≡ Some before → StepsChannel (OpensChannel order dump (Err why)) n before a b → NoneRose a.files b.files → Opening Good n a → Undo Good 0 (length b.slots) b
+undo_refused Good order dump why n before a b there s none g =
     let r = s.step.opens.1 in
     let name_n : List ℕ = file_name_by before.spec.pattern order.run in
     let slots : List (Option Channel) = slice_set a.slots n (Some s.after) in
     let idle : before.stage ≡ Idle = g.idle n before (omega arith) there in
     let now_idle : s.after.stage ≡ Idle = s.step.opens.0 ∙ idle in
     let at_same : (name : List ℕ) → b.files.seen.at name ≡ a.files.seen.at name = λ name. refused_at why before.spec name_n name _ _ a.files.faults b.files.faults s.step.faults none refl refl g.tells r in
-    let now : Undo first 0 (length b.slots) (record b { slots = slots }) = record {
+    let now : Undo Good 0 (length b.slots) (record b { slots = slots }) = record {
       tells = subst (λ (t : Bool). IsTrue t) (sym (refused_tells why before.spec name_n _ _ r)) g.tells;
       many_is = sym (ap (λ (l : List (Option Channel)). length l) s.slots);
-      each = λ name. elim (g.each name) as (λ w. (b.files.seen.at name ≡ first.at name) ⊎ OpenFrom 0 slots name) [
-        | inl old ↦ inl (at_same name ∙ old)
+      each = λ name. elim (g.each name) as (λ w. (Good name (b.files.seen.at name)) ⊎ OpenFrom 0 slots name) [
+        | inl old ↦ inl (subst (λ (x : Option Stored). Good name x) (sym (at_same name)) old)
         | inr open_ ↦ inr (open_set 0 a.slots n before s.after name there open_ (idle_none before name idle))
       ];
-      fresh = λ name open_. elim (set_open a.slots n before s.after name there open_) as (λ w. first.at name ≡ None) [
+      fresh = λ name open_. elim (set_open a.slots n before s.after name there open_) as (λ w. Good name None) [
         | inl mine ↦ absurd (idle_none s.after name now_idle mine)
         | inr old ↦ g.fresh name old
       ];
     } in
-    subst (λ (l : List (Option Channel)). Undo first 0 (length b.slots) (record b { slots = l })) (sym s.slots) now
+    subst (λ (l : List (Option Channel)). Undo Good 0 (length b.slots) (record b { slots = l })) (sym s.slots) now
 
 -- marks leave all files and all runs
 
@@ -253,13 +261,13 @@ map_length : (f : Option Channel → Option Channel) (slots : List (Option Chann
 map_length f [] = refl
 map_length f (o ∷ os) = ap (λ (n : ℕ). suc n) (map_length f os)
 
-undo_marked : (first : Seen) (many : ℕ) (entry : _) (note : ChannelStage → ChannelStage) (buffer : ℕ) (a b : LoggerMoment) → ((stage : ChannelStage) → channel_run (note stage) ≡ channel_run stage) → MarksBuffer entry note buffer a b → Undo first 0 many a → Undo first 0 many b
-undo_marked first many entry note buffer a b keeps marks g =
+undo_marked : (Good : List ℕ → Option Stored → Type 0) (many : ℕ) (entry : _) (note : ChannelStage → ChannelStage) (buffer : ℕ) (a b : LoggerMoment) → ((stage : ChannelStage) → channel_run (note stage) ≡ channel_run stage) → MarksBuffer entry note buffer a b → Undo Good 0 many a → Undo Good 0 many b
+undo_marked Good many entry note buffer a b keeps marks g =
     let slots : List (Option Channel) = map (option_map (noted_channel note buffer)) a.slots in
-    let now : Undo first 0 many (record a { slots = slots }) = record {
+    let now : Undo Good 0 many (record a { slots = slots }) = record {
       tells = g.tells;
       many_is = map_length (option_map (noted_channel note buffer)) a.slots ∙ g.many_is;
-      each = λ name. elim (g.each name) as (λ w. (a.files.seen.at name ≡ first.at name) ⊎ OpenFrom 0 slots name) [
+      each = λ name. elim (g.each name) as (λ w. (Good name (a.files.seen.at name)) ⊎ OpenFrom 0 slots name) [
         | inl old ↦ inl old
         | inr o ↦ inr (record {
           open_name = record {
@@ -284,23 +292,23 @@ undo_marked first many entry note buffer a b keeps marks g =
             is = ap (λ (x : ChannelSpec). file_name_by x.pattern o.opened.run) (sym (noted_spec note buffer was.0) ∙ ap (λ (c : Channel). c.spec) was.2) ∙ o.is;
           });
     } in
-    let files : Undo first 0 many (record a { slots = slots; files = b.files }) = subst (λ (f : RunFiles). Undo first 0 many (record a { slots = slots; files = f })) (sym marks.marks.files) now in
-    let all : Undo first 0 many (record b { slots = slots }) = record { tells = files.tells; many_is = files.many_is; each = files.each; fresh = files.fresh } in
-    subst (λ (l : List (Option Channel)). Undo first 0 many (record b { slots = l })) (sym marks.noted) all
+    let files : Undo Good 0 many (record a { slots = slots; files = b.files }) = subst (λ (f : RunFiles). Undo Good 0 many (record a { slots = slots; files = f })) (sym marks.marks.files) now in
+    let all : Undo Good 0 many (record b { slots = slots }) = record { tells = files.tells; many_is = files.many_is; each = files.each; fresh = files.fresh } in
+    subst (λ (l : List (Option Channel)). Undo Good 0 many (record b { slots = l })) (sym marks.noted) all
 
-undo_called : (first : Seen) (many : ℕ) (entry : _) (buffer : ℕ) (a b : LoggerMoment) → CallsBuffer entry buffer a b → Undo first 0 many a → Undo first 0 many b
-undo_called first many entry buffer a b calls g =
-    let files : Undo first 0 many (record a { files = b.files }) = subst (λ (f : RunFiles). Undo first 0 many (record a { files = f })) (sym calls.files) g in
-    let all : Undo first 0 many (record b { slots = a.slots }) = record { tells = files.tells; many_is = files.many_is; each = files.each; fresh = files.fresh } in
-    subst (λ (l : List (Option Channel)). Undo first 0 many (record b { slots = l })) (sym calls.slots) all
+undo_called : (Good : List ℕ → Option Stored → Type 0) (many : ℕ) (entry : _) (buffer : ℕ) (a b : LoggerMoment) → CallsBuffer entry buffer a b → Undo Good 0 many a → Undo Good 0 many b
+undo_called Good many entry buffer a b calls g =
+    let files : Undo Good 0 many (record a { files = b.files }) = subst (λ (f : RunFiles). Undo Good 0 many (record a { files = f })) (sym calls.files) g in
+    let all : Undo Good 0 many (record b { slots = a.slots }) = record { tells = files.tells; many_is = files.many_is; each = files.each; fresh = files.fresh } in
+    subst (λ (l : List (Option Channel)). Undo Good 0 many (record b { slots = l })) (sym calls.slots) all
 
-undo_begins : (first : Seen) (many start n : ℕ) (a b : LoggerMoment) → BeginsBelow start n a b → Undo first 0 many a → Undo first 0 many b
-undo_begins first many start zero a b same g = subst (λ (m : LoggerMoment). Undo first 0 many m) (sym same) g
-undo_begins first many start (suc n) a b begins g = undo_marked first many _ (λ stage. stage_begun stage begins.2.0) n begins.0 b (begun_run begins.2.0) begins.2.1 (undo_begins first many start n a begins.0 begins.1 g)
+undo_begins : (Good : List ℕ → Option Stored → Type 0) (many start n : ℕ) (a b : LoggerMoment) → BeginsBelow start n a b → Undo Good 0 many a → Undo Good 0 many b
+undo_begins Good many start zero a b same g = subst (λ (m : LoggerMoment). Undo Good 0 many m) (sym same) g
+undo_begins Good many start (suc n) a b begins g = undo_marked Good many _ (λ stage. stage_begun stage begins.2.0) n begins.0 b (begun_run begins.2.0) begins.2.1 (undo_begins Good many start n a begins.0 begins.1 g)
 
-undo_ends : (first : Seen) (many start n : ℕ) (a b : LoggerMoment) → InTurn (λ k. EndsBuffer start k) n a b → Undo first 0 many a → Undo first 0 many b
-undo_ends first many start zero a b same g = subst (λ (m : LoggerMoment). Undo first 0 many m) (sym same) g
-undo_ends first many start (suc n) a b ends g = undo_marked first many _ (λ stage. stage_ended stage (place_marked ends.2.0)) n ends.0 b (ended_run (place_marked ends.2.0)) ends.2.1 (undo_ends first many start n a ends.0 ends.1 g)
+undo_ends : (Good : List ℕ → Option Stored → Type 0) (many start n : ℕ) (a b : LoggerMoment) → InTurn (λ k. EndsBuffer start k) n a b → Undo Good 0 many a → Undo Good 0 many b
+undo_ends Good many start zero a b same g = subst (λ (m : LoggerMoment). Undo Good 0 many m) (sym same) g
+undo_ends Good many start (suc n) a b ends g = undo_marked Good many _ (λ stage. stage_ended stage (place_marked ends.2.0)) n ends.0 b (ended_run (place_marked ends.2.0)) ends.2.1 (undo_ends Good many start n a ends.0 ends.1 g)
 
 -- one channel calls its run off
 
@@ -321,29 +329,29 @@ removes_by spec (Drained run) old new f g none r = (r.0.touches, surely new _ f 
 removes_by spec (Broken run) old new f g none r = (r.0, surely new _ f g none r.2)
 
 -- the files behind that
-record Aborted (first : Seen) (k : ℕ) (before : Channel) (a : LoggerMoment) (new : Seen) : Type 0 where
+record Aborted (Good : List ℕ → Option Stored → Type 0) (k : ℕ) (before : Channel) (a : LoggerMoment) (new : Seen) : Type 0 where
   tells : IsTrue new.tells
-  each : (name : List ℕ) → (new.at name ≡ first.at name) ⊎ (OpenFrom k a.slots name × (HasOpen before name → ⊥))
+  each : (name : List ℕ) → (Good name (new.at name)) ⊎ (OpenFrom k a.slots name × (HasOpen before name → ⊥))
 
-aborted_by : (first : Seen) (k many : ℕ) (before : Channel) (a : LoggerMoment) (new : Seen) (run : Option ChannelRun) → channel_run before.stage ≡ run → slot_at a.slots k ≡ Some before → Removes before.spec run a.files.seen new → Undo first k many a → Aborted first k before a new
-aborted_by first k many before a new None is there same g = record {
+aborted_by : (Good : List ℕ → Option Stored → Type 0) (k many : ℕ) (before : Channel) (a : LoggerMoment) (new : Seen) (run : Option ChannelRun) → channel_run before.stage ≡ run → slot_at a.slots k ≡ Some before → Removes before.spec run a.files.seen new → Undo Good k many a → Aborted Good k before a new
+aborted_by Good k many before a new None is there same g = record {
   tells = subst (λ (s : Seen). IsTrue s.tells) (sym same) g.tells;
-  each = λ name. elim (g.each name) as (λ w. (new.at name ≡ first.at name) ⊎ (OpenFrom k a.slots name × (HasOpen before name → ⊥))) [
-    | inl old ↦ inl (ap (λ (s : Seen). s.at name) same ∙ old)
+  each = λ name. elim (g.each name) as (λ w. (Good name (new.at name)) ⊎ (OpenFrom k a.slots name × (HasOpen before name → ⊥))) [
+    | inl old ↦ inl (subst (λ (s : Seen). Good name (s.at name)) (sym same) old)
     | inr o ↦ inr (o, λ has. absurd (let of = has.of in cc (is, of)))
   ];
 }
-aborted_by first k many before a new (Some opened) is there removes g =
+aborted_by Good k many before a new (Some opened) is there removes g =
     let name_k : List ℕ = file_name_by before.spec.pattern opened.run in
     let touches : Touches a.files.seen new name_k = removes.0 in
     let tells : IsTrue new.tells = subst (λ (t : Bool). IsTrue t) (sym touches.tells) g.tells in
-    let none_k : first.at name_k ≡ None = g.fresh name_k (record { number = k; channel = before; opened = opened; there = there; of = is; is = refl }) in
+    let none_k : Good name_k None = g.fresh name_k (record { number = k; channel = before; opened = opened; there = there; of = is; is = refl }) in
     record {
       tells = tells;
-      each = λ name. elim (names_tell name name_k) as (λ w. (new.at name ≡ first.at name) ⊎ (OpenFrom k a.slots name × (HasOpen before name → ⊥))) [
-        | inl same ↦ inl (subst (λ (l : List ℕ). new.at l ≡ first.at l) (sym same) (removes.1 tells ∙ sym none_k))
-        | inr differs ↦ elim (g.each name) as (λ w. (new.at name ≡ first.at name) ⊎ (OpenFrom k a.slots name × (HasOpen before name → ⊥))) [
-          | inl old ↦ inl (touches.others name differs ∙ old)
+      each = λ name. elim (names_tell name name_k) as (λ w. (Good name (new.at name)) ⊎ (OpenFrom k a.slots name × (HasOpen before name → ⊥))) [
+        | inl same ↦ inl (subst (λ (l : List ℕ). Good l (new.at l)) (sym same) (subst (λ (x : Option Stored). Good name_k x) (sym (removes.1 tells)) none_k))
+        | inr differs ↦ elim (g.each name) as (λ w. (Good name (new.at name)) ⊎ (OpenFrom k a.slots name × (HasOpen before name → ⊥))) [
+          | inl old ↦ inl (subst (λ (x : Option Stored). Good name x) (sym (touches.others name differs)) old)
           | inr o ↦ inr (
             o,
             λ has. differs (
@@ -355,31 +363,31 @@ aborted_by first k many before a new (Some opened) is there removes g =
       ];
     }
 
-undo_one : (first : Seen) (k many : ℕ) (before : Channel) (a b : LoggerMoment) → slot_at a.slots k ≡ Some before → StepsChannel AbortsChannel k before a b → NoneRose a.files b.files → Undo first k many a → Undo first (suc k) many b
-undo_one first k many before a b there s none g =
+undo_one : (Good : List ℕ → Option Stored → Type 0) (k many : ℕ) (before : Channel) (a b : LoggerMoment) → slot_at a.slots k ≡ Some before → StepsChannel AbortsChannel k before a b → NoneRose a.files b.files → Undo Good k many a → Undo Good (suc k) many b
+undo_one Good k many before a b there s none g =
     let slots : List (Option Channel) = slice_set a.slots k (Some s.after) in
     let idle : s.after.stage ≡ Idle = ap (λ (c : Channel). c.stage) s.step.channel in
-    let files : Aborted first k before a b.files.seen =
-    aborted_by first k many before a b.files.seen (channel_run before.stage) refl there (removes_by before.spec before.stage a.files.seen b.files.seen a.files.faults b.files.faults none s.step.removes) g in
-    let now : Undo first (suc k) many (record b { slots = slots }) = record {
+    let files : Aborted Good k before a b.files.seen =
+    aborted_by Good k many before a b.files.seen (channel_run before.stage) refl there (removes_by before.spec before.stage a.files.seen b.files.seen a.files.faults b.files.faults none s.step.removes) g in
+    let now : Undo Good (suc k) many (record b { slots = slots }) = record {
       tells = files.tells;
       many_is = many_set a.slots k (Some s.after) ∙ g.many_is;
-      each = λ name. elim (files.each name) as (λ w. (b.files.seen.at name ≡ first.at name) ⊎ OpenFrom (suc k) slots name) [
+      each = λ name. elim (files.each name) as (λ w. (Good name (b.files.seen.at name)) ⊎ OpenFrom (suc k) slots name) [
         | inl same ↦ inl same
         | inr o ↦ inr (open_past a.slots k before s.after name there o.0 o.1)
       ];
-      fresh = λ name open_. elim (set_open a.slots k before s.after name there open_) as (λ w. first.at name ≡ None) [
+      fresh = λ name open_. elim (set_open a.slots k before s.after name there open_) as (λ w. Good name None) [
         | inl mine ↦ absurd (idle_none s.after name idle mine)
         | inr old ↦ g.fresh name old
       ];
     } in
-    subst (λ (l : List (Option Channel)). Undo first (suc k) many (record b { slots = l })) (sym s.slots) now
+    subst (λ (l : List (Option Channel)). Undo Good (suc k) many (record b { slots = l })) (sym s.slots) now
 
-undo_none : (first : Seen) (k many : ℕ) (a b : LoggerMoment) → slot_at a.slots k ≡ None → b ≡ a → Undo first k many a → Undo first (suc k) many b
-undo_none first k many a b there same g = subst (λ (m : LoggerMoment). Undo first (suc k) many m) (sym same) (record {
+undo_none : (Good : List ℕ → Option Stored → Type 0) (k many : ℕ) (a b : LoggerMoment) → slot_at a.slots k ≡ None → b ≡ a → Undo Good k many a → Undo Good (suc k) many b
+undo_none Good k many a b there same g = subst (λ (m : LoggerMoment). Undo Good (suc k) many m) (sym same) (record {
   tells = g.tells;
   many_is = g.many_is;
-  each = λ name. elim (g.each name) as (λ w. (a.files.seen.at name ≡ first.at name) ⊎ OpenFrom (suc k) a.slots name) [
+  each = λ name. elim (g.each name) as (λ w. (Good name (a.files.seen.at name)) ⊎ OpenFrom (suc k) a.slots name) [
     | inl old ↦ inl old
     | inr o ↦ inr (elim (same_or_other o.open_name.number k) as (λ w. OpenFrom (suc k) a.slots name) [
       | inl here ↦ absurd (let at_k : slot_at a.slots k ≡ Some o.open_name.channel = subst (λ (i : ℕ). slot_at a.slots i ≡ Some o.open_name.channel) here o.open_name.there in cc (there, at_k))
@@ -389,9 +397,9 @@ undo_none first k many a b there same g = subst (λ (m : LoggerMoment). Undo fir
   fresh = g.fresh;
 })
 
-undo_slot : (first : Seen) (k many : ℕ) (slot : Option Channel) (a b : LoggerMoment) → slot_at a.slots k ≡ slot → StepsSlot AbortsChannel k slot a b → NoneRose a.files b.files → Undo first k many a → Undo first (suc k) many b
-undo_slot first k many None a b there same none g = undo_none first k many a b there same g
-undo_slot first k many (Some before) a b there s none g = undo_one first k many before a b there s none g
+undo_slot : (Good : List ℕ → Option Stored → Type 0) (k many : ℕ) (slot : Option Channel) (a b : LoggerMoment) → slot_at a.slots k ≡ slot → StepsSlot AbortsChannel k slot a b → NoneRose a.files b.files → Undo Good k many a → Undo Good (suc k) many b
+undo_slot Good k many None a b there same none g = undo_none Good k many a b there same g
+undo_slot Good k many (Some before) a b there s none g = undo_one Good k many before a b there s none g
 
 -- so many channels call their runs off
 
@@ -399,26 +407,53 @@ aborted_count : (n : ℕ) (a b : LoggerMoment) → InTurn (λ k. StepsAt AbortsC
 aborted_count zero a b same = inl (ap (λ (m : LoggerMoment). m.files.faults) same)
 aborted_count (suc n) a b turns = counts_then a.files.faults turns.0.files.faults b.files.faults (aborted_count n a turns.0 turns.1) ((abort_kept n (slot_at turns.0.slots n) turns.0 b refl turns.2).faults)
 
-undo_below : (first : Seen) (many n : ℕ) (a b : LoggerMoment) → InTurn (λ k. StepsAt AbortsChannel k) n a b → NoneRose a.files b.files → Undo first 0 many a → Undo first n many b
-undo_below first many zero a b same none g = subst (λ (m : LoggerMoment). Undo first 0 many m) (sym same) g
-undo_below first many (suc n) a b turns none g =
+undo_below : (Good : List ℕ → Option Stored → Type 0) (many n : ℕ) (a b : LoggerMoment) → InTurn (λ k. StepsAt AbortsChannel k) n a b → NoneRose a.files b.files → Undo Good 0 many a → Undo Good n many b
+undo_below Good many zero a b same none g = subst (λ (m : LoggerMoment). Undo Good 0 many m) (sym same) g
+undo_below Good many (suc n) a b turns none g =
     let m : LoggerMoment = turns.0 in
     let last = (abort_kept n (slot_at m.slots n) m b refl turns.2).faults in
-    undo_slot first n many (slot_at m.slots n) m b refl turns.2 (none_last a.files.faults m.files.faults b.files.faults none (aborted_count n a m turns.1))
-    (undo_below first many n a m turns.1 (none_first a.files.faults m.files.faults b.files.faults none last) g)
+    undo_slot Good n many (slot_at m.slots n) m b refl turns.2 (none_last a.files.faults m.files.faults b.files.faults none (aborted_count n a m turns.1))
+    (undo_below Good many n a m turns.1 (none_first a.files.faults m.files.faults b.files.faults none last) g)
 
-undone : (first : Seen) (a b : LoggerMoment) → AbortsAll a b → NoneRose a.files b.files → Undo first 0 (length a.slots) a → AllNamesLeft first b.files.seen
-undone first a b aborts none g name =
-    let done : Undo first (length a.slots) (length a.slots) b = undo_below first (length a.slots) (length a.slots) a b aborts none g in
-    elim (done.each name) as (λ w. b.files.seen.at name ≡ first.at name) [
-      | inl same ↦ same
-      | inr o ↦ absurd (omega (arith, slot_within b.slots o.open_name.number o.open_name.channel o.open_name.there, done.many_is, o.from))
-    ]
+undone : (Good : List ℕ → Option Stored → Type 0) (a b : LoggerMoment) → AbortsAll a b → NoneRose a.files b.files → Undo Good 0 (length a.slots) a → NamesLeft Good b.slots b.files.seen
+undone Good a b aborts none g =
+    let done : Undo Good (length a.slots) (length a.slots) b = undo_below Good (length a.slots) (length a.slots) a b aborts none g in
+    record {
+      each = λ name. elim (done.each name) as (λ w. Good name (b.files.seen.at name) ⊎ IsOpenName b.slots name) [
+        | inl same ↦ inl same
+        | inr o ↦ inr o.open_name
+      ];
+      fresh = done.fresh;
+    }
+
+left_undo : (Good : List ℕ → Option Stored → Type 0) (a : LoggerMoment) → IsTrue a.files.seen.tells → NamesLeft Good a.slots a.files.seen → Undo Good 0 (length a.slots) a
+left_undo Good a tells left = record {
+  tells = tells;
+  many_is = refl;
+  each = λ name. elim (left.each name) as (λ w. Good name (a.files.seen.at name) ⊎ OpenFrom 0 a.slots name) [
+    | inl same ↦ inl same
+    | inr o ↦ inr (record { open_name = o; from = omega arith })
+  ];
+  fresh = left.fresh;
+}
+
+undo_left : (Good : List ℕ → Option Stored → Type 0) (many : ℕ) (a : LoggerMoment) → Undo Good 0 many a → NamesLeft Good a.slots a.files.seen
+undo_left Good many a g = record {
+  each = λ name. elim (g.each name) as (λ w. Good name (a.files.seen.at name) ⊎ IsOpenName a.slots name) [
+    | inl same ↦ inl same
+    | inr o ↦ inr o.open_name
+  ];
+  fresh = g.fresh;
+}
+
+same_many : (Good : List ℕ → Option Stored → Type 0) (many : ℕ) (m : LoggerMoment) → Undo Good 0 many m → Undo Good 0 (length m.slots) m
+same_many Good many m g = record { tells = g.tells; many_is = refl; each = g.each; fresh = g.fresh }
 
 -- The turns.
 
-opens_undone : (order : Order) (dump : List ℕ) (why : Why) (begun : ℕ) (a b : LoggerMoment) → UndoesOpens order dump why begun a b → AreIdle a.slots → IsTrue a.files.seen.tells → NoneRose a.files b.files → AllNamesLeft a.files.seen b.files.seen
-opens_undone order dump why begun a b undoes idle tells none =
+opens_undone : (Good : List ℕ → Option Stored → Type 0) (order : Order) (dump : List ℕ) (why : Why) (begun : ℕ) (a b : LoggerMoment) → UndoesOpens order dump why begun a b → AreIdle a.slots → IsTrue a.files.seen.tells → NoneRose a.files b.files → NamesLeft Good a.slots a.files.seen
+    → NamesLeft Good b.slots b.files.seen
+opens_undone Good order dump why begun a b undoes idle tells none left =
     let r = undoes.opens in
     let m : LoggerMoment = undoes.refused in
     let early = (opens_kept order dump r.number a r.opened r.opens).faults in
@@ -426,79 +461,171 @@ opens_undone order dump why begun a b undoes idle tells none =
     let middle = (refused_kept order dump why r.number r.channel r.opened m r.there r.refuses).faults in
     let until : StaysOrRose a.files.faults m.files.faults = counts_then a.files.faults r.opened.files.faults m.files.faults early middle in
     let none_until : Rose a.files.faults m.files.faults → ⊥ = none_first a.files.faults m.files.faults b.files.faults none late in
-    undone a.files.seen m b undoes.aborts (none_last a.files.faults m.files.faults b.files.faults none until)
-    (undo_refused a.files.seen order dump why r.number r.channel r.opened m r.there r.refuses (none_last a.files.faults r.opened.files.faults m.files.faults none_until early)
-    (opening_all a.files.seen order dump r.number a r.opened r.opens (opening_first a idle tells)))
+    undone Good m b undoes.aborts (none_last a.files.faults m.files.faults b.files.faults none until)
+    (undo_refused Good order dump why r.number r.channel r.opened m r.there r.refuses (none_last a.files.faults r.opened.files.faults m.files.faults none_until early)
+    (opening_all Good order dump r.number a r.opened r.opens (opening_first Good a idle tells left)))
 
-begins_undone : (order : Order) (dump : List ℕ) (why : Why) (begun : ℕ) (a b : LoggerMoment) → UndoesBegins order dump why begun a b → AreIdle a.slots → IsTrue a.files.seen.tells → NoneRose a.files b.files → AllNamesLeft a.files.seen b.files.seen
-begins_undone order dump why begun a b undoes idle tells none =
+begins_undone : (Good : List ℕ → Option Stored → Type 0) (order : Order) (dump : List ℕ) (why : Why) (begun : ℕ) (a b : LoggerMoment) → UndoesBegins order dump why begun a b → AreIdle a.slots → IsTrue a.files.seen.tells → NoneRose a.files b.files → NamesLeft Good a.slots a.files.seen
+    → NamesLeft Good b.slots b.files.seen
+begins_undone Good order dump why begun a b undoes idle tells none left =
     let m : LoggerMoment = undoes.refused in
     let c = undoes.begins in
     let opened : LoggerMoment = undoes.opened in
-    let open_ : Undo a.files.seen 0 (length opened.slots) opened = undo_opened a.files.seen (length a.slots) opened (opening_all a.files.seen order dump (length a.slots) a opened undoes.opens (opening_first a idle tells)) in
-    let refused : Undo a.files.seen 0 (length opened.slots) m = undo_called a.files.seen (length opened.slots) _ begun c.begun m c.refuses.1 (undo_begins a.files.seen (length opened.slots) order.start begun opened c.begun c.begins open_) in
+    let open_ : Undo Good 0 (length opened.slots) opened = undo_opened Good (length a.slots) opened (opening_all Good order dump (length a.slots) a opened undoes.opens (opening_first Good a idle tells left)) in
+    let refused : Undo Good 0 (length opened.slots) m = undo_called Good (length opened.slots) _ begun c.begun m c.refuses.1 (undo_begins Good (length opened.slots) order.start begun opened c.begun c.begins open_) in
     let until : StaysOrRose a.files.faults m.files.faults =
     counts_then a.files.faults opened.files.faults m.files.faults (opens_kept order dump (length a.slots) a opened undoes.opens).faults
     (counts_then opened.files.faults c.begun.files.faults m.files.faults (begins_kept order.start begun opened c.begun c.begins).faults (call_kept _ begun c.begun m c.refuses.1).faults) in
-    undone a.files.seen m b undoes.aborts (none_last a.files.faults m.files.faults b.files.faults none until)
-    (record { tells = refused.tells; many_is = refl; each = refused.each; fresh = refused.fresh })
+    undone Good m b undoes.aborts (none_last a.files.faults m.files.faults b.files.faults none until) (same_many Good (length opened.slots) m refused)
 
-refused_by : (result : Result ⊤ Why) (why : Why) (order : Order) (dump : List ℕ) (begun : ℕ) (a b : LoggerMoment) → start_answer result ≡ No why → StartsSo result order dump begun a b → AreIdle a.slots → IsTrue a.files.seen.tells → NoneRose a.files b.files → AllNamesLeft a.files.seen b.files.seen
-refused_by (Ok done) why order dump begun a b is starts idle tells none = absurd (cc (is))
-refused_by (Err other) why order dump begun a b is starts idle tells none = elim starts as (λ w. AllNamesLeft a.files.seen b.files.seen) [
-  | inl opens ↦ opens_undone order dump other begun a b opens idle tells none
-  | inr begins ↦ begins_undone order dump other begun a b begins idle tells none
+starts_left : (Good : List ℕ → Option Stored → Type 0) (result : Result ⊤ Why) (order : Order) (dump : List ℕ) (begun : ℕ) (a b : LoggerMoment) → StartsSo result order dump begun a b → AreIdle a.slots → IsTrue a.files.seen.tells → NoneRose a.files b.files → NamesLeft Good a.slots a.files.seen
+    → NamesLeft Good b.slots b.files.seen
+starts_left Good (Ok done) order dump begun a b starts idle tells none left =
+    let opened : LoggerMoment = starts.opened in
+    undo_left Good (length opened.slots) b (undo_begins Good (length opened.slots) order.start (length a.ports) opened b starts.begins
+    (undo_opened Good (length a.slots) opened (opening_all Good order dump (length a.slots) a opened starts.opens (opening_first Good a idle tells left))))
+starts_left Good (Err why) order dump begun a b starts idle tells none left = elim starts as (λ w. NamesLeft Good b.slots b.files.seen) [
+  | inl opens ↦ opens_undone Good order dump why begun a b opens idle tells none left
+  | inr begins ↦ begins_undone Good order dump why begun a b begins idle tells none left
 ]
 
-start_refused : (on : Bool) (t : LoggerTurn) (why : Why) → TakesStart on t → t.answer ≡ Some (No why) → AreIdle t.before.slots → IsTrue t.before.files.seen.tells → NoneRose t.before.files t.after.files → AllNamesLeft t.before.files.seen t.after.files.seen
-start_refused true t why takes is idle tells none = λ name. ap (λ (m : LoggerMoment). m.files.seen.at name) takes.moment
-start_refused false t why takes is idle tells none =
-    let answer : start_answer takes.result ≡ No why = (let known = takes.answer_is in cc (known, is)) in
-    refused_by takes.result why t.order _ takes.begun t.before t.after answer takes.starts idle tells none
+same_left : (Good : List ℕ → Option Stored → Type 0) (a b : LoggerMoment) → b ≡ a → NamesLeft Good a.slots a.files.seen → NamesLeft Good b.slots b.files.seen
+same_left Good a b same left = subst (λ (m : LoggerMoment). NamesLeft Good m.slots m.files.seen) (sym same) left
 
-accepted_by : (result : Result ⊤ Why) (order : Order) (dump : List ℕ) (begun : ℕ) (a b : LoggerMoment) → start_answer result ≡ Yes Plain → StartsSo result order dump begun a b → AreIdle a.slots → IsTrue a.files.seen.tells → NamesLeft b.slots a.files.seen b.files.seen
-accepted_by (Ok done) order dump begun a b is starts idle tells =
-    let opened : LoggerMoment = starts.opened in
-    let g : Undo a.files.seen 0 (length opened.slots) b = undo_begins a.files.seen (length opened.slots) order.start (length a.ports) opened b starts.begins
-    (undo_opened a.files.seen (length a.slots) opened (opening_all a.files.seen order dump (length a.slots) a opened starts.opens (opening_first a idle tells))) in
-    record {
-      each = λ name. elim (g.each name) as (λ w. (b.files.seen.at name ≡ a.files.seen.at name) ⊎ IsOpenName b.slots name) [
-        | inl same ↦ inl same
-        | inr o ↦ inr o.open_name
-      ];
-      fresh = g.fresh;
-    }
-accepted_by (Err why) order dump begun a b is starts idle tells = absurd (cc (is))
+start_left : (Good : List ℕ → Option Stored → Type 0) (on : Bool) (t : LoggerTurn) → (on ≡ false → AreIdle t.before.slots) → TakesStart on t → IsTrue t.before.files.seen.tells → NoneRose t.before.files t.after.files → NamesLeft Good t.before.slots t.before.files.seen
+    → NamesLeft Good t.after.slots t.after.files.seen
+start_left Good true t idle takes tells none left = same_left Good t.before t.after takes.moment left
+start_left Good false t idle takes tells none left = starts_left Good takes.result t.order _ takes.begun t.before t.after takes.starts (idle refl) tells none left
 
-start_accepted : (on : Bool) (t : LoggerTurn) → TakesStart on t → t.answer ≡ Some (Yes Plain) → AreIdle t.before.slots → IsTrue t.before.files.seen.tells → NamesLeft t.after.slots t.before.files.seen t.after.files.seen
-start_accepted true t takes is idle tells = absurd (let known = takes.answer_is in cc (known, is))
-start_accepted false t takes is idle tells =
-    let answer : start_answer takes.result ≡ Yes Plain = (let known = takes.answer_is in cc (known, is)) in
-    accepted_by takes.result t.order _ takes.begun t.before t.after answer takes.starts idle tells
+stop_left : (Good : List ℕ → Option Stored → Type 0) (of : Bool) (t : LoggerTurn) → TakesStop of t → IsTrue t.before.files.seen.tells → NamesLeft Good t.before.slots t.before.files.seen → NamesLeft Good t.after.slots t.after.files.seen
+stop_left Good true t takes tells left = undo_left Good (length t.before.slots) t.after (undo_ends Good (length t.before.slots) t.order.start (length t.before.ports) t.before t.after takes.ends (left_undo Good t.before tells left))
+stop_left Good false t takes tells left = same_left Good t.before t.after takes.moment left
 
-called_off : (of : Bool) (t : LoggerTurn) (first : Seen) → of ≡ true → TakesAbort of t → IsTrue t.before.files.seen.tells → NoneRose t.before.files t.after.files → NamesLeft t.before.slots first t.before.files.seen → AllNamesLeft first t.after.files.seen
-called_off false t first is takes tells none left = absurd (cc (is))
-called_off true t first is takes tells none left =
+called_left : (Good : List ℕ → Option Stored → Type 0) (entry : _) (buffer : ℕ) (a b : LoggerMoment) → CallsBuffer entry buffer a b → NamesLeft Good a.slots a.files.seen → NamesLeft Good b.slots b.files.seen
+called_left Good entry buffer a b calls left = subst (λ (l : List (Option Channel)). NamesLeft Good l b.files.seen) (sym calls.slots) (subst (λ (f : RunFiles). NamesLeft Good a.slots f.seen) (sym calls.files) left)
+
+pause_left : (Good : List ℕ → Option Stored → Type 0) (of : Bool) (t : LoggerTurn) → TakesMark PausesBuffer of t → NamesLeft Good t.before.slots t.before.files.seen → NamesLeft Good t.after.slots t.after.files.seen
+pause_left Good true t takes left = turns_keep (λ k. PausesBuffer t.order.start k) (λ m. NamesLeft Good m.slots m.files.seen) (length t.before.ports) t.before t.after (λ k x y step kept. called_left Good _ k x y step.1 kept) takes.marks left
+pause_left Good false t takes left = same_left Good t.before t.after takes.moment left
+
+resume_left : (Good : List ℕ → Option Stored → Type 0) (of : Bool) (t : LoggerTurn) → TakesMark ResumesBuffer of t → NamesLeft Good t.before.slots t.before.files.seen → NamesLeft Good t.after.slots t.after.files.seen
+resume_left Good true t takes left = turns_keep (λ k. ResumesBuffer t.order.start k) (λ m. NamesLeft Good m.slots m.files.seen) (length t.before.ports) t.before t.after (λ k x y step kept. called_left Good _ k x y step.1 kept) takes.marks left
+resume_left Good false t takes left = same_left Good t.before t.after takes.moment left
+
+called_off_left : (Good : List ℕ → Option Stored → Type 0) (of : Bool) (t : LoggerTurn) → TakesAbort of t → IsTrue t.before.files.seen.tells → NoneRose t.before.files t.after.files → NamesLeft Good t.before.slots t.before.files.seen → NamesLeft Good t.after.slots t.after.files.seen
+called_off_left Good true t takes tells none left =
     let a : LoggerMoment = t.before in
     let m : LoggerMoment = takes.ended in
-    let start : Undo first 0 (length a.slots) a = record {
-      tells = tells;
-      many_is = refl;
-      each = λ name. elim (left.each name) as (λ w. (a.files.seen.at name ≡ first.at name) ⊎ OpenFrom 0 a.slots name) [
-        | inl same ↦ inl same
-        | inr o ↦ inr (record { open_name = o; from = omega arith })
+    let ended : Undo Good 0 (length a.slots) m = undo_ends Good (length a.slots) t.order.start (buffers_begun t.run) a m takes.ends (left_undo Good a tells left) in
+    undone Good m t.after takes.aborts (none_last a.files.faults m.files.faults t.after.files.faults none (ends_kept t.order.start (buffers_begun t.run) a m takes.ends).faults) (same_many Good (length a.slots) m ended)
+called_off_left Good false t takes tells none left = same_left Good t.before t.after takes.moment left
+
+turn_by : (Good : List ℕ → Option Stored → Type 0) (transition : Transition) (t : LoggerTurn) → IsIdleOutside t.run t.before.slots → TakesTurnBy transition t → IsTrue t.before.files.seen.tells → NoneRose t.before.files t.after.files → NamesLeft Good t.before.slots t.before.files.seen
+    → NamesLeft Good t.after.slots t.after.files.seen
+turn_by Good Start t idle takes tells none left = start_left Good (is_run_on t.run) t idle takes tells none left
+turn_by Good Stop t idle takes tells none left = stop_left Good (is_started t.run t.order.start) t takes tells left
+turn_by Good Pause t idle takes tells none left = pause_left Good (is_started t.run t.order.start) t takes left
+turn_by Good Resume t idle takes tells none left = resume_left Good (is_started t.run t.order.start) t takes left
+turn_by Good StartAbort t idle takes tells none left = called_off_left Good (is_of_start t.run t.order.start) t takes tells none left
+
+-- A turn in which no fault is counted leaves the names that are good so.
+pub turn_left : (Good : List ℕ → Option Stored → Type 0) (t : LoggerTurn) → TakesTurn t → IsIdleOutside t.run t.before.slots → IsTrue t.before.files.seen.tells → NoneRose t.before.files t.after.files → NamesLeft Good t.before.slots t.before.files.seen → NamesLeft Good t.after.slots t.after.files.seen
+turn_left Good t takes idle tells none left = turn_by Good t.transition t idle takes tells none left
+
+-- A pull.
+
+pull_step : PullsChange → (Good : List ℕ → Option Stored → Type 0) (number : ℕ) (answer : Pulled) (before : Channel) (a b : LoggerMoment) → slot_at a.slots number ≡ Some before → HaveFilesOpen a.slots a.files.seen → StepsChannel (PullsChannel answer) number before a b
+    → NamesLeft Good a.slots a.files.seen → NamesLeft Good b.slots b.files.seen
+pull_step change Good number answer before a b there open_files s left =
+    let changes = change _ before.event.room before.spec s.step.pulls (open_files.files number before there) in
+    let run : channel_run s.after.stage ≡ channel_run before.stage = changes.1.run in
+    let slots : List (Option Channel) = slice_set a.slots number (Some s.after) in
+    let now : NamesLeft Good slots b.files.seen = record {
+      each = λ name. one_name (channel_run before.stage) refl run changes.0 name (left.each name);
+      fresh = λ name open_. elim (set_open a.slots number before s.after name there open_) as (λ w. Good name None) [
+        | inl mine ↦ left.fresh name (record { number = number; channel = before; opened = mine.opened; there = there; of = sym run ∙ mine.of; is = ap (λ (x : ChannelSpec). file_name_by x.pattern mine.opened.run) (sym s.step.spec) ∙ mine.is })
+        | inr old ↦ left.fresh name old
       ];
-      fresh = left.fresh;
     } in
-    let ended : Undo first 0 (length a.slots) m = undo_ends first (length a.slots) t.order.start (buffers_begun t.run) a m takes.ends start in
-    undone first m t.after takes.aborts (none_last a.files.faults m.files.faults t.after.files.faults none (ends_kept t.order.start (buffers_begun t.run) a m takes.ends).faults)
-    (record { tells = ended.tells; many_is = refl; each = ended.each; fresh = ended.fresh })
+    subst (λ (l : List (Option Channel)). NamesLeft Good l b.files.seen) (sym s.slots) now
+  where
+    still : (name : List ℕ) → channel_run s.after.stage ≡ channel_run before.stage → IsOpenName a.slots name → IsOpenName (slice_set a.slots number (Some s.after)) name
+    still name run o = elim (same_or_other o.number number) as (λ w. IsOpenName (slice_set a.slots number (Some s.after)) name) [
+      | inl same ↦
+          let at_n : slot_at a.slots number ≡ Some o.channel = subst (λ (i : ℕ). slot_at a.slots i ≡ Some o.channel) same o.there in
+          let is : o.channel ≡ before = cc (at_n, there) in
+          record {
+            number = number;
+            channel = s.after;
+            opened = o.opened;
+            there = put_there a.slots number before s.after there;
+            of = run ∙ (ap (λ (c : Channel). channel_run c.stage) (sym is) ∙ o.of);
+            is = ap (λ (x : ChannelSpec). file_name_by x.pattern o.opened.run) (s.step.spec ∙ ap (λ (c : Channel). c.spec) (sym is)) ∙ o.is;
+          }
+      | inr other ↦ record { number = o.number; channel = o.channel; opened = o.opened; there = slot_set_other a.slots number o.number (Some s.after) other ∙ o.there; of = o.of; is = o.is }
+    ]
 
-pub refused_starts_leave : RefusedStartsLeave
-refused_starts_leave t why takes starts is idle tells none = start_refused (is_run_on t.run) t why (subst (λ (k : Transition). TakesTurnBy k t) starts takes) is idle tells none
+    one_name : (opened : Option ChannelRun) → channel_run before.stage ≡ opened → channel_run s.after.stage ≡ channel_run before.stage → ChangesFile before.spec opened (written_run before.stage) a.files.seen b.files.seen → (name : List ℕ) → Good name (a.files.seen.at name) ⊎ IsOpenName a.slots name
+        → Good name (b.files.seen.at name) ⊎ IsOpenName (slice_set a.slots number (Some s.after)) name
+    one_name opened is run changes name (inr o) = inr (still name run o)
+    one_name None is run changes name (inl old) = inl (subst (λ (x : Seen). Good name (x.at name)) (sym changes) old)
+    one_name (Some opened) is run changes name (inl old) = elim (names_tell name (file_name_by before.spec.pattern opened.run)) as (λ w. Good name (b.files.seen.at name) ⊎ IsOpenName (slice_set a.slots number (Some s.after)) name) [
+      | inl same ↦ inr (still name run (record { number = number; channel = before; opened = opened; there = there; of = is; is = sym same }))
+      | inr differs ↦ inl (subst (λ (x : Option Stored). Good name x) (sym (changes.touches.others name differs)) old)
+    ]
 
-pub accepted_starts_leave : AcceptedStartsLeave
-accepted_starts_leave t takes starts is idle tells = start_accepted (is_run_on t.run) t (subst (λ (k : Transition). TakesTurnBy k t) starts takes) is idle tells
+pull_by : PullsChange → (Good : List ℕ → Option Stored → Type 0) (number : ℕ) (answer : Pulled) (slot : Option Channel) (a b : LoggerMoment) → slot_at a.slots number ≡ slot → HaveFilesOpen a.slots a.files.seen → PullsSlot slot number answer a b → NamesLeft Good a.slots a.files.seen → NamesLeft Good b.slots b.files.seen
+pull_by change Good number answer None a b there open_files pulls left = same_left Good a b pulls.1 left
+pull_by change Good number answer (Some before) a b there open_files s left = pull_step change Good number answer before a b there open_files s left
 
-pub called_off_starts_leave : CalledOffStartsLeave
-called_off_starts_leave t first takes aborts is tells none left = called_off (is_of_start t.run t.order.start) t first is (subst (λ (k : Transition). TakesTurnBy k t) aborts takes) tells none left
+pub pull_left : PullsChange → (Good : List ℕ → Option Stored → Type 0) (number : ℕ) (answer : Pulled) (a b : LoggerMoment) → PullsNumbered number answer a b → HaveFilesOpen a.slots a.files.seen → NamesLeft Good a.slots a.files.seen → NamesLeft Good b.slots b.files.seen
+pull_left change Good number answer a b pulls open_files left = pull_by change Good number answer (slot_at a.slots number) a b refl open_files pulls left
+
+-- A call to finish.
+
+-- while files are ended, all names are good, and whatever becomes of an open one is
+record Ending (Good : List ℕ → Option Stored → Type 0) (m : EndingMoment) : Type 0 where
+  each : (name : List ℕ) → Good name (m.files.seen.at name)
+  any : (name : List ℕ) → IsOpenName m.slots name → (x : Option Stored) → Good name x
+  files : HaveFilesOpen m.slots m.files.seen
+
+ending_slot : ClosesChange → (Good : List ℕ → Option Stored → Type 0) (time : ℕ) (dump : Option (List ℕ)) (n : ℕ) (slot : Option Channel) (a b : EndingMoment) → slot_at a.slots n ≡ slot → EndsSlot time dump n slot a b → Ending Good a → Ending Good b
+ending_slot change Good time dump n None a b there same g = subst (λ (m : EndingMoment). Ending Good m) (sym same) g
+ending_slot change Good time dump n (Some before) a b there ends g =
+    let stage : ends.after.stage ≡ stage_settled before.stage = ap (λ (c : Channel). c.stage) ends.ends.channel in
+    let spec : ends.after.spec ≡ before.spec = ap (λ (c : Channel). c.spec) ends.ends.channel in
+    let changes = change before.spec before.stage ends.state time dump a.files.seen b.files.seen a.files.faults b.files.faults ends.ends.ends (g.files.files n before there) in
+    let slots : List (Option Channel) = slice_set a.slots n (Some ends.after) in
+    let files : HaveFilesOpen slots b.files.seen = ended_files change time dump ends.state a.slots n before ends.after a.files b.files there ends.ends g.files in
+    let now : Ending Good (record b { slots = slots }) = record {
+      each = λ name. one_name (channel_run before.stage) refl changes name;
+      any = λ name open_ x. elim (set_open a.slots n before ends.after name there open_) as (λ w. Good name x) [
+        | inl mine ↦ g.any name (record { number = n; channel = before; opened = mine.opened; there = there; of = settled_run before.stage mine.opened (sym (ap channel_run stage) ∙ mine.of); is = ap (λ (y : ChannelSpec). file_name_by y.pattern mine.opened.run) (sym spec) ∙ mine.is }) x
+        | inr old ↦ g.any name old x
+      ];
+      files = files;
+    } in
+    subst (λ (l : List (Option Channel)). Ending Good (record b { slots = l })) (sym ends.slots) now
+  where
+    one_name : (opened : Option ChannelRun) → channel_run before.stage ≡ opened → ChangesFile before.spec opened (written_run before.stage) a.files.seen b.files.seen → (name : List ℕ) → Good name (b.files.seen.at name)
+    one_name None is changes name = subst (λ (x : Seen). Good name (x.at name)) (sym changes) (g.each name)
+    one_name (Some opened) is changes name = elim (names_tell name (file_name_by before.spec.pattern opened.run)) as (λ w. Good name (b.files.seen.at name)) [
+      | inl same ↦ g.any name (record { number = n; channel = before; opened = opened; there = there; of = is; is = sym same }) (b.files.seen.at name)
+      | inr differs ↦ subst (λ (x : Option Stored). Good name x) (sym (changes.touches.others name differs)) (g.each name)
+    ]
+
+pub ends_left : ClosesChange → (Good : List ℕ → Option Stored → Type 0) (f : LoggerFinish) (time : ℕ) → EndsFiles f time → HaveFilesOpen f.slots f.files.seen → ((name : List ℕ) → IsOpenName f.slots name → (x : Option Stored) → Good name x) → NamesLeft Good f.slots f.files.seen
+    → NamesLeft Good f.later_slots f.later_files.seen
+ends_left change Good f time ends open_files any left =
+    let first : Ending Good (record { slots = f.slots; files = f.files; states = states_idle }) = record {
+      each = λ name. elim (left.each name) as (λ w. Good name (f.files.seen.at name)) [
+        | inl good ↦ good
+        | inr o ↦ any name o (f.files.seen.at name)
+      ];
+      any = any;
+      files = open_files;
+    } in
+    let last : Ending Good (record { slots = f.later_slots; files = f.later_files; states = ends.states }) =
+    turns_keep (λ k. EndsSlotAt time f.stop_dump k) (Ending Good) (length f.slots) (record { slots = f.slots; files = f.files; states = states_idle }) (record { slots = f.later_slots; files = f.later_files; states = ends.states })
+    (λ k x y step g. ending_slot change Good time f.stop_dump k (slot_at x.slots k) x y refl step g) ends.ends first in
+    record { each = λ name. inl (last.each name); fresh = λ name open_. last.any name open_ None }

@@ -87,6 +87,9 @@ new_stands specs rooms slots ports seen new have unused = record {
   stops = λ are begin stop answer accepted has is told. absurd has;
   told = tt;
   current = λ are start begin on accepted. absurd (cc (on));
+  not_off = λ are r turn is. absurd (cc (is));
+  going = λ are r is. absurd (cc (is));
+  unready = λ are. tt;
 }
 
 pub new_ready : (specs : List ChannelSpec) (rooms : List ℕ) (slots : List (Option Channel)) (ports : List Access) (seen : Seen) → HasNewChannels specs rooms slots → HavePorts specs ports → IsLoggerReady slots ports seen

@@ -177,6 +177,9 @@ pulled_here law keep change beside files run stop_dump turns answer n before a b
       stops = stands.stops;
       told = stands.told;
       current = stands.current;
+      not_off = stands.not_off;
+      going = stands.going;
+      unready = stands.unready;
     }
 
 pub pulled_stands : LeftBeside → PullsKeep → PullsChange → PullsBeside → FilesBeside → (run : Option LoggedRun) (stop_dump : Option (List ℕ)) (turns : List MemberTurn) (answer : Pulled) (n : ℕ) (slot : Option Channel) (a b : LoggerMoment) → slot_at a.slots n ≡ slot

@@ -16,6 +16,7 @@ use Rattle.daq_io.specs.Counts.{Rose}
 use Rattle.buffer_core.specs.declared.entry.BufferEntry.{BufferEntry}
 use Rattle.buffer_core.specs.declared.replies.Received.{Received}
 use Rattle.buffer_core.specs.declared.replies.Received.TheVariants.{Got, Empty, NoClient, SmallBuf}
+use Rattle.buffer_core.specs.Ports.{Access}
 use Rattle.buffer_core.specs.Slots.{slot_at}
 use Rattle.transitions.specs.declared.answers.Answer.{Answer}
 use Rattle.transitions.specs.declared.answers.Answer.TheVariants.{Yes, No}
@@ -39,8 +40,9 @@ use Rattle.loggers.specs.Finishing.{EndingMoment, EndsSlot, EndsSlotAt, EndsFile
 use Rattle.loggers.specs.Turning.{BeginsBuffer, EndsBuffer, PausesBuffer, ResumesBuffer, LoggerTurn, OpensBelow, BeginsBelow, AbortsAll, UndoesOpens, UndoesBegins, StartsSo, TakesStart, TakesStop, TakesMark, TakesAbort, TakesTurnBy, TakesTurn, is_run_on, is_started, is_of_start, buffers_begun, start_answer}
 use Rattle.loggers.specs.LoggerStands.{logger_turn}
 use Rattle.loggers.specs.NewLoggers.{HasNewChannels}
-use Rattle.loggers.specs.Reasons.{IsReasonSo, IsAnswerSo, StaysOrRose, HasBrokenOff, GivesReasons}
+use Rattle.loggers.specs.Reasons.{IsReasonSo, IsAnswerSo, StaysOrRose, HasBrokenOff, HasRefusedAsk, GivesReasons}
 use Rattle.loggers.proofs.InTurns.{turns_keep}
+use Rattle.loggers.proofs.RefusedAsks.{TurnAsks, turn_asks, pull_asks}
 use Rattle.loggers.proofs.StoppedRuns.{there_is}
 use Rattle.loggers.proofs.SlotLists.{same_or_other, one_changed, got_there, got_elsewhere, many_set}
 use Rattle.loggers.proofs.FaultsNoted.{rose_then, then_rose, counts_then, pull_fault}
@@ -448,8 +450,8 @@ answer_until (No (Fault channel)) first old new faults clashes so = rose_then fi
 answer_until (No BufferRefused) first old new faults clashes so = tt
 
 -- a call by which no turn was answered
-later_reasons : (slots later : List (Option Channel)) (first old new : RunFiles) (turns : List MemberTurn) → CountsKept slots later old new → GivesReasons slots first old turns → GivesReasons later first new turns
-later_reasons slots later first old new turns kept gives = record {
+later_reasons : (slots later : List (Option Channel)) (ports more : List Access) (first old new : RunFiles) (turns : List MemberTurn) → CountsKept slots later old new → (HasRefusedAsk ports → HasRefusedAsk more) → GivesReasons slots ports first old turns → GivesReasons later more first new turns
+later_reasons slots later ports more first old new turns kept stay gives = record {
   faults = counts_then first.faults old.faults new.faults gives.faults kept.faults;
   clashes = counts_then first.clashes old.clashes new.clashes gives.clashes kept.clashes;
   broken = λ is. elim (kept.broken is) as (λ w. Rose first.faults new.faults) [
@@ -457,11 +459,13 @@ later_reasons slots later first old new turns kept gives = record {
     | inr rose ↦ then_rose first.faults old.faults new.faults gives.faults rose
   ];
   answers = λ t answer stands is. answer_until answer first old new kept.faults kept.clashes (gives.answers t answer stands is);
+  buffers = λ t stands is. stay (gives.buffers t stands is);
 }
 
 -- one turn more, by its answer
-one_more : (slots : List (Option Channel)) (first new : RunFiles) (turns : List MemberTurn) (t : MemberTurn) → ((answer : Answer) → t.answer ≡ Some answer → IsAnswerSo answer first new) → GivesReasons slots first new turns → GivesReasons slots first new (t ∷ turns)
-one_more slots first new turns t so gives = record {
+one_more : (slots : List (Option Channel)) (ports : List Access) (first new : RunFiles) (turns : List MemberTurn) (t : MemberTurn) → ((answer : Answer) → t.answer ≡ Some answer → IsAnswerSo answer first new) → (t.answer ≡ Some (No BufferRefused) → HasRefusedAsk ports) → GivesReasons slots ports first new turns
+    → GivesReasons slots ports first new (t ∷ turns)
+one_more slots ports first new turns t so refused gives = record {
   faults = gives.faults;
   clashes = gives.clashes;
   broken = gives.broken;
@@ -469,51 +473,58 @@ one_more slots first new turns t so gives = record {
     | inl same ↦ so answer (ap (λ (x : MemberTurn). x.answer) same ∙ is)
     | inr old ↦ gives.answers u answer old is
   ];
+  buffers = λ u stands is. elim stands as (λ w. HasRefusedAsk ports) [
+    | inl same ↦ refused (ap (λ (x : MemberTurn). x.answer) same ∙ is)
+    | inr old ↦ gives.buffers u old is
+  ];
 }
 
-pub turn_reasons : (t : LoggerTurn) (first : RunFiles) (turns : List MemberTurn) → TakesTurn t → GivesReasons t.before.slots first t.before.files turns → GivesReasons t.after.slots first t.after.files (logger_turn t.transition t.order t.dump t.answer ∷ turns)
+pub turn_reasons : (t : LoggerTurn) (first : RunFiles) (turns : List MemberTurn) → TakesTurn t → GivesReasons t.before.slots t.before.ports first t.before.files turns → GivesReasons t.after.slots t.after.ports first t.after.files (logger_turn t.transition t.order t.dump t.answer ∷ turns)
 turn_reasons t first turns takes gives =
     let turned : Turned t = turned_by t.transition t takes in
-    one_more t.after.slots first t.after.files turns (logger_turn t.transition t.order t.dump t.answer)
-    (λ answer is. answer_since answer first t.before.files t.after.files gives.faults gives.clashes (turned.answered answer is))
-    (later_reasons t.before.slots t.after.slots first t.before.files t.after.files turns turned.kept gives)
+    let asks : TurnAsks t = turn_asks t takes in
+    one_more t.after.slots t.after.ports first t.after.files turns (logger_turn t.transition t.order t.dump t.answer)
+    (λ answer is. answer_since answer first t.before.files t.after.files gives.faults gives.clashes (turned.answered answer is)) asks.refused
+    (later_reasons t.before.slots t.after.slots t.before.ports t.after.ports first t.before.files t.after.files turns turned.kept asks.stay gives)
 
-pub pull_reasons : (n : ℕ) (answer : Pulled) (a b : LoggerMoment) (first : RunFiles) (turns : List MemberTurn) → PullsNumbered n answer a b → GivesReasons a.slots first a.files turns → GivesReasons b.slots first b.files turns
-pull_reasons n answer a b first turns pulls gives = later_reasons a.slots b.slots first a.files b.files turns (pulled_kept n answer (slot_at a.slots n) a b refl pulls) gives
+pub pull_reasons : (n : ℕ) (answer : Pulled) (a b : LoggerMoment) (first : RunFiles) (turns : List MemberTurn) → PullsNumbered n answer a b → GivesReasons a.slots a.ports first a.files turns → GivesReasons b.slots b.ports first b.files turns
+pull_reasons n answer a b first turns pulls gives = later_reasons a.slots b.slots a.ports b.ports first a.files b.files turns (pulled_kept n answer (slot_at a.slots n) a b refl pulls) (pull_asks n answer a b pulls) gives
 
-answered_reasons : (slots : List (Option Channel)) (first new : RunFiles) (turns : List MemberTurn) (answer : Answer) → IsAnswerSo answer first new → GivesReasons slots first new turns → GivesReasons slots first new (latest_answered turns (Some answer))
-answered_reasons slots first new [] answer so gives = gives
-answered_reasons slots first new (t ∷ ts) answer so gives =
-    one_more slots first new ts (record t { answer = Some answer })
-    (λ other is. let same : answer ≡ other = cc (is) in subst (λ (a : Answer). IsAnswerSo a first new) same so)
-    (record { faults = gives.faults; clashes = gives.clashes; broken = gives.broken; answers = λ u other stands is. gives.answers u other (inr stands) is })
+answered_reasons : (slots : List (Option Channel)) (ports : List Access) (first new : RunFiles) (turns : List MemberTurn) (answer : Answer) → IsAnswerSo answer first new → (answer ≡ No BufferRefused → ⊥) → GivesReasons slots ports first new turns
+    → GivesReasons slots ports first new (latest_answered turns (Some answer))
+answered_reasons slots ports first new [] answer so other gives = gives
+answered_reasons slots ports first new (t ∷ ts) answer so other gives =
+    one_more slots ports first new ts (record t { answer = Some answer })
+    (λ given is. let same : answer ≡ given = cc (is) in subst (λ (a : Answer). IsAnswerSo a first new) same so) (λ is. absurd (other (let same : answer ≡ No BufferRefused = cc (is) in same)))
+    (record { faults = gives.faults; clashes = gives.clashes; broken = gives.broken; answers = λ u given stands is. gives.answers u given (inr stands) is; buffers = λ u stands is. gives.buffers u (inr stands) is })
 
-waiting_reasons : (f : LoggerFinish) (first : RunFiles) (turns : List MemberTurn) → f.answer ≡ None → f.later_slots ≡ f.slots → f.later_files ≡ f.files → GivesReasons f.slots first f.files turns → GivesReasons f.later_slots first f.later_files (latest_answered turns f.answer)
-waiting_reasons f first turns none slots files gives = rw (none, slots, files) gives
+waiting_reasons : (f : LoggerFinish) (ports : List Access) (first : RunFiles) (turns : List MemberTurn) → f.answer ≡ None → f.later_slots ≡ f.slots → f.later_files ≡ f.files → GivesReasons f.slots ports first f.files turns → GivesReasons f.later_slots ports first f.later_files (latest_answered turns f.answer)
+waiting_reasons f ports first turns none slots files gives = rw (none, slots, files) gives
 
-finish_by : (f : LoggerFinish) (first : RunFiles) (turns : List MemberTurn) (settled : Bool) (stop : Option ℕ) → FinishesBy settled stop f → GivesReasons f.slots first f.files turns → GivesReasons f.later_slots first f.later_files (latest_answered turns f.answer)
-finish_by f first turns settled None leaves gives = waiting_reasons f first turns leaves.answer_is leaves.slots leaves.files gives
-finish_by f first turns false (Some time) leaves gives = waiting_reasons f first turns leaves.answer_is leaves.slots leaves.files gives
-finish_by f first turns true (Some time) ends gives =
+finish_by : (f : LoggerFinish) (ports : List Access) (first : RunFiles) (turns : List MemberTurn) (settled : Bool) (stop : Option ℕ) → FinishesBy settled stop f → GivesReasons f.slots ports first f.files turns → GivesReasons f.later_slots ports first f.later_files (latest_answered turns f.answer)
+finish_by f ports first turns settled None leaves gives = waiting_reasons f ports first turns leaves.answer_is leaves.slots leaves.files gives
+finish_by f ports first turns false (Some time) leaves gives = waiting_reasons f ports first turns leaves.answer_is leaves.slots leaves.files gives
+finish_by f ports first turns true (Some time) ends gives =
     let since = ends_all f time ends in
     let so : IsAnswerSo (Yes (Channels ends.states)) first f.later_files = λ n is. elim (since.told n is) as (λ w. Rose first.faults f.later_files.faults) [
       | inl off ↦ rose_then first.faults f.files.faults f.later_files.faults (gives.broken off) since.kept.faults
       | inr rose ↦ then_rose first.faults f.files.faults f.later_files.faults gives.faults rose
     ] in
-    let now : GivesReasons f.later_slots first f.later_files turns = later_reasons f.slots f.later_slots first f.files f.later_files turns since.kept gives in
-    subst (λ (answer : Option Answer). GivesReasons f.later_slots first f.later_files (latest_answered turns answer)) (sym ends.answer_is)
-    (answered_reasons f.later_slots first f.later_files turns (Yes (Channels ends.states)) so now)
+    let now : GivesReasons f.later_slots ports first f.later_files turns = later_reasons f.slots f.later_slots ports ports first f.files f.later_files turns since.kept (λ had. had) gives in
+    subst (λ (answer : Option Answer). GivesReasons f.later_slots ports first f.later_files (latest_answered turns answer)) (sym ends.answer_is)
+    (answered_reasons f.later_slots ports first f.later_files turns (Yes (Channels ends.states)) so (λ e. cc (e)) now)
 
-pub finish_reasons : (f : LoggerFinish) (first : RunFiles) (turns : List MemberTurn) → FinishesLogger f → GivesReasons f.slots first f.files turns → GivesReasons f.later_slots first f.later_files (latest_answered turns f.answer)
-finish_reasons f first turns finishes gives = finish_by f first turns (list_all is_settled_slot f.slots) (waiting_stop f.run) finishes gives
+pub finish_reasons : (f : LoggerFinish) (ports : List Access) (first : RunFiles) (turns : List MemberTurn) → FinishesLogger f → GivesReasons f.slots ports first f.files turns → GivesReasons f.later_slots ports first f.later_files (latest_answered turns f.answer)
+finish_reasons f ports first turns finishes gives = finish_by f ports first turns (list_all is_settled_slot f.slots) (waiting_stop f.run) finishes gives
 
 -- A logger whose channels are all idle, and that gave no answer.
-pub idle_reasons : (slots : List (Option Channel)) → AreIdle slots → (files : RunFiles) → GivesReasons slots files files []
-idle_reasons slots idle files = record {
+pub idle_reasons : (slots : List (Option Channel)) (ports : List Access) → AreIdle slots → (files : RunFiles) → GivesReasons slots ports files files []
+idle_reasons slots ports idle files = record {
   faults = inl refl;
   clashes = inl refl;
   broken = λ is. absurd (let none : broken_run is.channel.stage ≡ None = ap broken_run (idle is.number is.channel is.there) in let off = is.off in cc (none, off));
   answers = λ t answer stands is. absurd stands;
+  buffers = λ t stands is. absurd stands;
 }
 
 pub new_idle : (specs : List ChannelSpec) (rooms : List ℕ) (slots : List (Option Channel)) → HasNewChannels specs rooms slots → AreIdle slots

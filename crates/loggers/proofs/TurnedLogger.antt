@@ -1,5 +1,5 @@
 -- What a logger keeps behind a turn.
-use Rattle.std.specs.Prelude.{◌≡◌, ◌≤◌, ◌++◌, ℕ, Bool, true, false, List, [], ◌∷◌, length, unwrap_or, slice_get, Option, Some, None, Result, Ok, Err, ⊤, refl}
+use Rattle.std.specs.Prelude.{◌≡◌, ◌≢◌, ◌≤◌, ◌++◌, ℕ, Bool, true, false, List, [], ◌∷◌, length, unwrap_or, slice_get, Option, Some, None, Result, Ok, Err, ⊤, refl}
 use Rattle.std.proofs.Common.{ap, sym, subst, ◌∙◌, arith, inl, inr}
 use Rattle.std.proofs.lemmas.Bool.{eqb-true}
 use Rattle.std.proofs.lemmas.Option.{slice_get_within}
@@ -7,7 +7,7 @@ use Rattle.daq_types.specs.declared.runs.Order.{Order}
 use Rattle.daq_types.specs.declared.runs.Transition.{Transition}
 use Rattle.daq_types.specs.declared.runs.Transition.TheVariants.{Start, Stop, Pause, Resume, StartAbort}
 use Rattle.daq_types.specs.declared.runs.Why.{Why}
-use Rattle.daq_types.specs.declared.runs.Why.TheVariants.{NotReady}
+use Rattle.daq_types.specs.declared.runs.Why.TheVariants.{NotReady, Exists, Fault, BufferRefused}
 use Rattle.daq_model.specs.Events.{record_limit}
 use Rattle.buffer_core.specs.declared.entry.BufferEntry.{BufferEntry}
 use Rattle.buffer_core.specs.declared.entry.BufferEntry.TheVariants.{Begin, End}
@@ -21,6 +21,8 @@ use Rattle.member_model.specs.Turns.{MemberTurn, HasTurnOf, NoneOpen, IsOfRun, A
 use Rattle.member_model.specs.SentCalls.{EachCall}
 use Rattle.member_model.specs.CutRuns.{MarksEnd}
 use Rattle.mid_logger.specs.declared.channel.Channel.{Channel}
+use Rattle.mid_logger.specs.declared.channel_spec.ChannelSpec.{ChannelSpec}
+use Rattle.mid_logger.specs.ChannelTurns.{ChannelAt, RefusesRun}
 use Rattle.mid_logger.specs.declared.stage.ChannelRun.{ChannelRun}
 use Rattle.mid_logger.specs.declared.stage.ChannelStage.{ChannelStage}
 use Rattle.mid_logger.specs.declared.stage.ChannelStage.TheVariants.{Idle, Asking, Writing, Draining, Drained, Broken}
@@ -64,7 +66,7 @@ pub record ChannelLaws : Type 0 where
 -- The parts of what a logger keeps.
 
 known_of : (run : Option LoggedRun) (stop_dump : Option (List ℕ)) (m : LoggerMoment) (turns : List MemberTurn) → LoggerStands run stop_dump m.slots m.ports turns m.files.seen → TurnsKnown run stop_dump turns
-known_of run stop_dump m turns stands = record { starts = stands.starts; stops = stands.stops; told = stands.told; current = stands.current }
+known_of run stop_dump m turns stands = record { starts = stands.starts; stops = stands.stops; told = stands.told; current = stands.current; not_off = stands.not_off; going = stands.going; unready = stands.unready }
 
 all_of : (run : Option LoggedRun) (stop_dump : Option (List ℕ)) (m : LoggerMoment) (turns : List MemberTurn) → TurnsKnown run stop_dump turns → IsLoggerReady m.slots m.ports m.files.seen → SlotsStand (IsHeadTold turns) turns m.slots m.ports m.files.seen
     → ((n : ℕ) (c : Channel) (a : Access) → slot_at m.slots n ≡ Some c → slice_get m.ports c.spec.buffer ≡ Some a → IsStageOf run turns a.own c.stage) → LoggerStands run stop_dump m.slots m.ports turns m.files.seen
@@ -76,6 +78,9 @@ all_of run stop_dump m turns known ready standing stages = record {
   stops = known.stops;
   told = known.told;
   current = known.current;
+  not_off = known.not_off;
+  going = known.going;
+  unready = known.unready;
 }
 
 -- the port of a channel's buffer
@@ -202,6 +207,13 @@ record TurnGiven (t : LoggerTurn) (turns : List MemberTurn) : Type 0 where
 abbrev TurnStands : LoggerTurn → List MemberTurn → Type 0
 TurnStands t turns = LoggerStands t.later_run t.later_stop_dump t.after.slots t.after.ports (logger_turn t.transition t.order t.dump t.answer ∷ turns) t.after.files.seen
 
+-- a channel does not refuse a run as not ready
+not_unready : (why : Why) (spec : ChannelSpec) (name : List ℕ) (a b : ChannelAt) → RefusesRun why spec name a b → why ≢ NotReady
+not_unready NotReady spec name a b refuses is = refuses
+not_unready (Exists channel) spec name a b refuses is = cc (is)
+not_unready (Fault channel) spec name a b refuses is = cc (is)
+not_unready BufferRefused spec name a b refuses is = cc (is)
+
 start_result : ChannelLaws → (t : LoggerTurn) (turns : List MemberTurn) (r : Result ⊤ Why) (begun : ℕ) → length (unwrap_or t.dump []) ≤ record_limit → TurnGiven t turns → AreIdle t.before.slots → StartsSo r t.order (unwrap_or t.dump []) begun t.before t.after
     → t.later_run ≡ Some (record { start = t.order.start; begun = begun; part = start_part r })
     → LoggerStands (Some (record { start = t.order.start; begun = begun; part = start_part r })) None t.after.slots t.after.ports (logger_turn Start t.order t.dump (Some (start_answer r)) ∷ turns) t.after.files.seen
@@ -218,18 +230,22 @@ start_result laws t turns (Err why) begun small given idle starts run =
     let dump : List ℕ = unwrap_or t.dump [] in
     let first : OpenedTo t.order dump (turn ∷ turns) (length t.before.slots) (length t.before.ports) 0 t.before = opening turn t.order dump turns t.before (λ states told. absurd (cc (told))) idle given.ready given.stands.standing in
     let idle_now : AreIdle t.after.slots = given.later_idle (ap (λ (r : Option LoggedRun). is_run_on r) run) in
+    let ready : why ≢ NotReady = elim starts as (λ w. why ≢ NotReady) [
+      | inl opens ↦ not_unready why _ _ _ _ opens.opens.refuses.step.opens.1
+      | inr begins ↦ λ is. (let never : BufferRefused ≡ NotReady = sym begins.why_is ∙ is in cc (never))
+    ] in
     let standing : SlotsStand (IsOrderHead t.order dump) (turn ∷ turns) t.after.slots t.after.ports t.after.files.seen = elim starts as (λ w. SlotsStand (IsOrderHead t.order dump) (turn ∷ turns) t.after.slots t.after.ports t.after.files.seen) [
       | inl opens ↦ undone_opens laws t.order dump why begun (turn ∷ turns) t.before t.after small given.none opens first
       | inr begins ↦ undone_begins laws t.order dump why begun (turn ∷ turns) t.before t.after small given.none begins first
     ] in
-    all_of (Some (record { start = t.order.start; begun = begun; part = Refused })) None t.after (turn ∷ turns) (start_refused t.run t.stop_dump begun turns t.order t.dump why (known_of t.run t.stop_dump t.before turns given.stands)) given.later_ready
+    all_of (Some (record { start = t.order.start; begun = begun; part = Refused })) None t.after (turn ∷ turns) (start_refused t.run t.stop_dump begun turns t.order t.dump why ready (known_of t.run t.stop_dump t.before turns given.stands)) given.later_ready
     (heads_idle (IsOrderHead t.order dump) (IsHeadTold (turn ∷ turns)) (turn ∷ turns) t.after.slots t.after.ports t.after.files.seen idle_now standing)
     (λ n c a stood at. idle_now n c stood)
 
 start_stands : ChannelLaws → (t : LoggerTurn) (turns : List MemberTurn) (on : Bool) → t.transition ≡ Start → is_run_on t.run ≡ on → length (unwrap_or t.dump []) ≤ record_limit → TurnGiven t turns → TakesStart on t → TurnStands t turns
 start_stands laws t turns true is on small given takes =
     left_turn t turns (No NotReady) takes (λ states told. absurd (cc (told)))
-    (rw is (left_refused t.run t.stop_dump turns t.order t.dump NotReady given.open_before (known_of t.run t.stop_dump t.before turns given.stands))) given.ready given.stands
+    (rw is (left_refused t.run t.stop_dump turns t.order t.dump NotReady given.open_before on (known_of t.run t.stop_dump t.before turns given.stands))) given.ready given.stands
 start_stands laws t turns false is on small given takes =
     rw (is, takes.answer_is, takes.run, takes.stop_dump) (start_result laws t turns takes.result takes.begun small given (given.idle on) takes.starts takes.run)
 
@@ -366,7 +382,7 @@ run_off (Some r) turns start stop_dump m of none told stages =
 abort_turn : ChannelLaws → (t : LoggerTurn) (turns : List MemberTurn) (on : Bool) → t.transition ≡ StartAbort → is_of_start t.run t.order.start ≡ on → TurnGiven t turns → TakesAbort on t → TurnStands t turns
 abort_turn laws t turns false is off given takes =
     left_turn t turns (Yes Plain) takes (λ states told. absurd (cc (told)))
-    (rw is (left_abort t.run t.stop_dump turns t.order t.dump given.open_before (known_of t.run t.stop_dump t.before turns given.stands))) given.ready given.stands
+    (rw is (left_abort t.run t.stop_dump turns t.order t.dump given.open_before off (known_of t.run t.stop_dump t.before turns given.stands))) given.ready given.stands
 abort_turn laws t turns true is of given takes =
     let start : ℕ = t.order.start in
     let turn : MemberTurn = logger_turn StartAbort t.order t.dump (Some (Yes Plain)) in

@@ -1,12 +1,13 @@
 -- What a logger knows of its turns, behind one turn more.
-use Rattle.std.specs.Prelude.{◌≡◌, ◌≢◌, ℕ, true, false, List, [], ◌∷◌, Option, Some, None, refl}
+use Rattle.std.specs.Prelude.{◌≡◌, ◌≢◌, ◌⊎◌, ℕ, true, false, List, [], ◌∷◌, Option, Some, None, refl}
 use Rattle.std.proofs.Common.{ap, sym, subst, ◌∙◌, inl, inr, eq-eqb}
-use Rattle.std.proofs.lemmas.Bool.{eqb-true}
+use Rattle.std.proofs.lemmas.Bool.{eqb-true, eqb-false}
 use Rattle.daq_types.specs.declared.runs.ChannelState.{ChannelState}
 use Rattle.daq_types.specs.declared.runs.Order.{Order}
 use Rattle.daq_types.specs.declared.runs.Transition.{Transition}
 use Rattle.daq_types.specs.declared.runs.Transition.TheVariants.{Start, Stop, Pause, Resume, StartAbort}
 use Rattle.daq_types.specs.declared.runs.Why.{Why}
+use Rattle.daq_types.specs.declared.runs.Why.TheVariants.{NotReady}
 use Rattle.transitions.specs.declared.answers.Answer.{Answer}
 use Rattle.transitions.specs.declared.answers.Answer.TheVariants.{Yes, No}
 use Rattle.transitions.specs.declared.answers.Tally.TheVariants.{Plain, Channels}
@@ -16,14 +17,17 @@ use Rattle.member_model.proofs.TurnLaws.{HasTurnOf-more, HasTurnOf-earlier}
 use Rattle.loggers.specs.declared.logged_run.LoggedRun.{LoggedRun}
 use Rattle.loggers.specs.declared.logged_run.RunPart.{RunPart}
 use Rattle.loggers.specs.declared.logged_run.RunPart.TheVariants.{Refused, Started, Stopping}
-use Rattle.loggers.specs.Turning.{is_started}
-use Rattle.loggers.specs.LoggerStands.{logger_turn, HasEndTurn, HasStart, IsPartTold, IsRunTold, IsInStarted, HasCurrentRun, StopsTellStates}
+use Rattle.loggers.specs.Turning.{is_run_on, is_started, is_of_start}
+use Rattle.loggers.specs.LoggerStands.{logger_turn, HasEndTurn, HasStart, IsPartTold, IsRunTold, IsInStarted, HasCurrentRun, IsNotCalledOff, IsGoing, IsInRun, AreUnreadyInRuns, StopsTellStates}
 
 pub record TurnsKnown (run : Option LoggedRun) (stop_dump : Option (List ℕ)) (turns : List MemberTurn) : Type 0 where
   pub starts : (start : MemberTurn) → (answer : Answer) → HasTurn turns start → start.transition ≡ Start → start.answer ≡ Some answer → IsStartAnswer answer
   pub stops : AreEngineTurns turns → StopsTellStates turns
   pub told : IsRunTold run turns stop_dump
   pub current : AreEngineTurns turns → HasCurrentRun run turns
+  pub not_off : AreEngineTurns turns → IsNotCalledOff run turns
+  pub going : AreEngineTurns turns → IsGoing run turns
+  pub unready : AreEngineTurns turns → AreUnreadyInRuns turns
 
 -- The run that is on.
 
@@ -146,12 +150,110 @@ stop_in_run run t turns begin other current of_run accepted =
     let before : IsAcceptedStart turns t.order.start begin = accepted_earlier t turns t.order.start begin other accepted in
     in_started run t.order.start (current t.order.start begin (of_current turns t.order.start (begin, before.is_start) of_run) before)
 
+-- The run that is not called off.
+
+off_none : (turns : List MemberTurn) → IsNotCalledOff None turns
+off_none turns r u is = absurd (cc (is))
+
+-- a turn more, which calls nothing off
+off_more : (run : Option LoggedRun) (t : MemberTurn) (turns : List MemberTurn) → t.transition ≢ StartAbort → IsNotCalledOff run turns → IsNotCalledOff run (t ∷ turns)
+off_more run t turns other before r u is has called = elim has as (λ w. u.order.start ≢ r.start) [
+  | inl same ↦ absurd (other (ap (λ (v : MemberTurn). v.transition) same ∙ called))
+  | inr old ↦ before r u is old called
+]
+
+-- a start-abort of another start
+off_other : (run : Option LoggedRun) (t : MemberTurn) (turns : List MemberTurn) → is_of_start run t.order.start ≡ false → IsNotCalledOff run turns → IsNotCalledOff run (t ∷ turns)
+off_other run t turns off before r u is has called = elim has as (λ w. u.order.start ≢ r.start) [
+  | inl same ↦ λ number.
+      let of : is_of_start (Some r) t.order.start ≡ false = subst (λ (x : Option LoggedRun). is_of_start x t.order.start ≡ false) is off in
+      eqb-false r.start t.order.start of (sym (ap (λ (v : MemberTurn). v.order.start) same ∙ number))
+  | inr old ↦ before r u is old called
+]
+
+-- the run of a start that comes now
+off_new : (t : MemberTurn) (turns : List MemberTurn) (r : LoggedRun) → t.transition ≡ Start → AreEngineTurns (t ∷ turns) → r.start ≡ t.order.start → IsNotCalledOff (Some r) (t ∷ turns)
+off_new t turns r starts are of x u is has called =
+    let same_run : r ≡ x = cc (is) in
+    let new : IsNewStart t.order.start turns = subst (λ (k : Transition). IsNextTurn k t.order.start turns) starts are.0 in
+    elim has as (λ w. u.order.start ≢ x.start) [
+      | inl same ↦ absurd (let e : Start ≡ StartAbort = sym starts ∙ (ap (λ (v : MemberTurn). v.transition) same ∙ called) in cc (e))
+      | inr old ↦ λ number. new.1 u old (number ∙ (sym (ap (λ (y : LoggedRun). y.start) same_run) ∙ of))
+    ]
+
+-- the same start
+off_same : (r s : LoggedRun) (turns : List MemberTurn) → r.start ≡ s.start → IsNotCalledOff (Some r) turns → IsNotCalledOff (Some s) turns
+off_same r s turns same before x u is has called number =
+    let same_run : s ≡ x = cc (is) in
+    before r u refl has called (number ∙ (sym (ap (λ (y : LoggedRun). y.start) same_run) ∙ sym same))
+
+-- The run that goes on.
+
+going_none : (turns : List MemberTurn) → IsGoing None turns
+going_none turns r is = absurd (cc (is))
+
+-- a run that does not go on
+going_not : (s : LoggedRun) (turns : List MemberTurn) → s.part ≢ Started → IsGoing (Some s) turns
+going_not s turns other r is part has =
+    let same : s ≡ r = cc (is) in
+    other (ap (λ (x : LoggedRun). x.part) same ∙ part)
+
+-- a turn more, which does not end that run
+going_more : (run : Option LoggedRun) (t : MemberTurn) (turns : List MemberTurn) → ((t.transition ≡ Stop) ⊎ (t.transition ≡ StartAbort) → is_started run t.order.start ≡ true → ⊥) → IsGoing run turns → IsGoing run (t ∷ turns)
+going_more run t turns other before r is part has = elim has.stands as (λ w. ⊥) [
+  | inl same ↦
+      let number : r.start ≡ t.order.start = sym (ap (λ (u : MemberTurn). u.order.start) same ∙ has.of) in
+      let on : is_started run t.order.start ≡ true = subst (λ (x : Option LoggedRun). is_started x t.order.start ≡ true) (sym is) (in_started (Some r) t.order.start (number, part)) in
+      other (elim has.ends as (λ w. (t.transition ≡ Stop) ⊎ (t.transition ≡ StartAbort)) [
+        | inl stop ↦ inl (ap (λ (u : MemberTurn). u.transition) same ∙ stop)
+        | inr abort ↦ inr (ap (λ (u : MemberTurn). u.transition) same ∙ abort)
+      ]) on
+  | inr old ↦ before r is part (record { turn = has.turn; stands = old; ends = has.ends; of = has.of })
+]
+
+-- neither a stop nor a start-abort
+ends_none : (t : MemberTurn) (k : Transition) → t.transition ≡ k → k ≢ Stop → k ≢ StartAbort → (t.transition ≡ Stop) ⊎ (t.transition ≡ StartAbort) → ⊥
+ends_none t k is stop abort ends = elim ends as (λ w. ⊥) [
+  | inl e ↦ stop (sym is ∙ e)
+  | inr e ↦ abort (sym is ∙ e)
+]
+
+-- the run of a start that comes now
+going_new : (t : MemberTurn) (turns : List MemberTurn) (s : LoggedRun) → t.transition ≡ Start → AreEngineTurns (t ∷ turns) → s.start ≡ t.order.start → IsGoing (Some s) (t ∷ turns)
+going_new t turns s starts are of r is part has =
+    let same_run : s ≡ r = cc (is) in
+    let new : IsNewStart t.order.start turns = subst (λ (k : Transition). IsNextTurn k t.order.start turns) starts are.0 in
+    elim has.stands as (λ w. ⊥) [
+      | inl same ↦ ends_none t Start starts (λ e. cc (e)) (λ e. cc (e)) (elim has.ends as (λ w. (t.transition ≡ Stop) ⊎ (t.transition ≡ StartAbort)) [
+        | inl stop ↦ inl (ap (λ (u : MemberTurn). u.transition) same ∙ stop)
+        | inr abort ↦ inr (ap (λ (u : MemberTurn). u.transition) same ∙ abort)
+      ])
+      | inr old ↦ new.1 has.turn old (has.of ∙ (sym (ap (λ (x : LoggedRun). x.start) same_run) ∙ of))
+    ]
+
+-- no such start
+started_of_start : (run : Option LoggedRun) (start : ℕ) → is_of_start run start ≡ false → is_started run start ≡ true → ⊥
+started_of_start None start off on = cc (on)
+started_of_start (Some r) start off on = (let is : IsInStarted (Some r) start = started_part r.part r start refl on in eqb-false r.start start off is.0)
+
+-- A start that finds a run on.
+
+part_in_run : (part : RunPart) (r : LoggedRun) (turns : List MemberTurn) (stop_dump : Option (List ℕ)) → r.part ≡ part → is_run_on (Some (record r { part = part })) ≡ true → NoneOpen turns → IsPartTold part turns r.start stop_dump → IsGoing (Some r) turns → IsInRun turns
+part_in_run Refused r turns stop_dump is on none told going = absurd (cc (on))
+part_in_run Started r turns stop_dump is on none told going = record { start = r.start; begin = told.1.0; is_start = told.1.1; going = going r refl is }
+part_in_run (Stopping time) r turns stop_dump is on none told going = absurd (subst (λ (l : List MemberTurn). NoneOpen l) told.0.latest none)
+
+in_run : (run : Option LoggedRun) (turns : List MemberTurn) (stop_dump : Option (List ℕ)) → is_run_on run ≡ true → NoneOpen turns → IsRunTold run turns stop_dump → IsGoing run turns → IsInRun turns
+in_run None turns stop_dump on none told going = absurd (cc (on))
+in_run (Some r) turns stop_dump on none told going = part_in_run r.part r turns stop_dump refl on none told going
+
 -- Each turn.
 
 -- a start that is refused
 pub refused_known : (run later : Option LoggedRun) (stop_dump later_dump : Option (List ℕ)) (turns : List MemberTurn) (order : Order) (dump : Option (List ℕ)) (why : Why) → TurnsKnown run stop_dump turns
-    → IsRunTold later (logger_turn Start order dump (Some (No why)) ∷ turns) later_dump → TurnsKnown later later_dump (logger_turn Start order dump (Some (No why)) ∷ turns)
-refused_known run later stop_dump later_dump turns order dump why known told =
+    → IsRunTold later (logger_turn Start order dump (Some (No why)) ∷ turns) later_dump → (AreEngineTurns (logger_turn Start order dump (Some (No why)) ∷ turns) → IsNotCalledOff later (logger_turn Start order dump (Some (No why)) ∷ turns))
+    → (AreEngineTurns (logger_turn Start order dump (Some (No why)) ∷ turns) → IsGoing later (logger_turn Start order dump (Some (No why)) ∷ turns)) → (AreEngineTurns turns → why ≡ NotReady → IsInRun turns) → TurnsKnown later later_dump (logger_turn Start order dump (Some (No why)) ∷ turns)
+refused_known run later stop_dump later_dump turns order dump why known told not_off going found =
     let t : MemberTurn = logger_turn Start order dump (Some (No why)) in
     record {
       starts = starts_more t turns (λ is answer e. let same : No why ≡ answer = cc (e) in subst (λ (a : Answer). IsStartAnswer a) same tt) known.starts;
@@ -163,18 +265,26 @@ refused_known run later stop_dump later_dump turns order dump why known told =
             | inl same ↦ absurd (let e : Some (No why) ≡ Some (Yes Plain) = ap (λ (v : MemberTurn). v.answer) same ∙ accepted.accepted in cc (e))
             | inr before ↦ absurd (are.0.1 begin before (accepted.is_start.of ∙ sym number))
           ];
+      not_off = not_off;
+      going = going;
+      unready = λ are. ((λ e. let same : why ≡ NotReady = cc (e) in found are.1 same), known.unready are.1);
     }
 
 -- a start that is refused at once leaves the run
-pub left_refused : (run : Option LoggedRun) (stop_dump : Option (List ℕ)) (turns : List MemberTurn) (order : Order) (dump : Option (List ℕ)) (why : Why) → NoneOpen turns → TurnsKnown run stop_dump turns → TurnsKnown run stop_dump (logger_turn Start order dump (Some (No why)) ∷ turns)
-left_refused run stop_dump turns order dump why none known =
-    refused_known run run stop_dump stop_dump turns order dump why known (run_left run turns stop_dump (logger_turn Start order dump (Some (No why))) tt none known.told)
-
-pub start_refused : (run : Option LoggedRun) (stop_dump : Option (List ℕ)) (begun : ℕ) (turns : List MemberTurn) (order : Order) (dump : Option (List ℕ)) (why : Why) → TurnsKnown run stop_dump turns
-    → TurnsKnown (Some (record { start = order.start; begun = begun; part = Refused })) None (logger_turn Start order dump (Some (No why)) ∷ turns)
-start_refused run stop_dump begun turns order dump why known =
+pub left_refused : (run : Option LoggedRun) (stop_dump : Option (List ℕ)) (turns : List MemberTurn) (order : Order) (dump : Option (List ℕ)) (why : Why) → NoneOpen turns → is_run_on run ≡ true → TurnsKnown run stop_dump turns
+    → TurnsKnown run stop_dump (logger_turn Start order dump (Some (No why)) ∷ turns)
+left_refused run stop_dump turns order dump why none on known =
     let t : MemberTurn = logger_turn Start order dump (Some (No why)) in
-    refused_known run (Some (record { start = order.start; begun = begun; part = Refused })) stop_dump None turns order dump why known (tt, (t, record { stands = inl refl; is = refl; of = refl }))
+    refused_known run run stop_dump stop_dump turns order dump why known (run_left run turns stop_dump t tt none known.told) (λ are. off_more run t turns (λ s. cc (s)) (known.not_off are.1))
+    (λ are. going_more run t turns (λ ends. absurd (ends_none t Start refl (λ e. cc (e)) (λ e. cc (e)) ends)) (known.going are.1)) (λ are is. in_run run turns stop_dump on none known.told (known.going are))
+
+pub start_refused : (run : Option LoggedRun) (stop_dump : Option (List ℕ)) (begun : ℕ) (turns : List MemberTurn) (order : Order) (dump : Option (List ℕ)) (why : Why) → why ≢ NotReady → TurnsKnown run stop_dump turns
+    → TurnsKnown (Some (record { start = order.start; begun = begun; part = Refused })) None (logger_turn Start order dump (Some (No why)) ∷ turns)
+start_refused run stop_dump begun turns order dump why ready known =
+    let t : MemberTurn = logger_turn Start order dump (Some (No why)) in
+    let r : LoggedRun = record { start = order.start; begun = begun; part = Refused } in
+    refused_known run (Some r) stop_dump None turns order dump why known (tt, (t, record { stands = inl refl; is = refl; of = refl })) (λ are. off_new t turns r refl are refl)
+    (λ are. going_not r (t ∷ turns) (λ e. cc (e))) (λ are is. absurd (ready is))
 
 -- the start turn itself
 pub start_accepted : (turns : List MemberTurn) (order : Order) (dump : Option (List ℕ)) → IsAcceptedStart (logger_turn Start order dump (Some (Yes Plain)) ∷ turns) order.start (logger_turn Start order dump (Some (Yes Plain)))
@@ -189,6 +299,9 @@ start_known run stop_dump begun turns order dump known =
       stops = λ are. stops_more t turns are (λ is. absurd (cc (is))) (known.stops are.1);
       told = (tt, (t, start_accepted turns order dump));
       current = λ are start begin on accepted. (let number : order.start ≡ start = cc (on) in number, refl);
+      not_off = λ are. off_new t turns (record { start = order.start; begun = begun; part = Started }) refl are refl;
+      going = λ are. going_new t turns (record { start = order.start; begun = begun; part = Started }) refl are refl;
+      unready = λ are. ((λ e. absurd (cc (e))), known.unready are.1);
     }
 
 -- a stop that waits
@@ -203,6 +316,11 @@ stop_known r stop_dump turns order dump on known =
       stops = λ are. stops_more t turns are (λ is begin now answer e. absurd (cc (e))) (known.stops are.1);
       told = (record { order = order; earlier = turns; latest = refl; of = refl; at = refl }, (told.1.0, accepted_more t turns order.start told.1.0 accepted));
       current = λ are. current_none (Some (record { start = order.start; begun = 0; part = Stopping order.time })) (t ∷ turns) refl;
+      not_off = λ are.
+          let later : LoggedRun = record { start = order.start; begun = 0; part = Stopping order.time } in
+          off_more (Some later) t turns (λ s. cc (s)) (off_same r later turns on.0 (known.not_off are.1));
+      going = λ are. going_not (record { start = order.start; begun = 0; part = Stopping order.time }) (t ∷ turns) (λ e. cc (e));
+      unready = λ are. ((λ e. absurd (cc (e))), known.unready are.1);
     }
 
 -- a turn that is answered plainly and leaves the run
@@ -216,6 +334,9 @@ left_stop run stop_dump turns order dump none off known =
           (λ is begin now answer e. absurd (let on : is_started run order.start ≡ true = stop_in_run run t turns begin (λ s. cc (s)) (known.current are.1) are.0 now in cc (on, off))) (known.stops are.1);
       told = run_left run turns stop_dump t tt none known.told;
       current = λ are. current_none run (t ∷ turns) refl;
+      not_off = λ are. off_more run t turns (λ s. cc (s)) (known.not_off are.1);
+      going = λ are. going_more run t turns (λ ends on. cc (on, off)) (known.going are.1);
+      unready = λ are. ((λ e. absurd (cc (e))), known.unready are.1);
     }
 
 pub left_pause : (run : Option LoggedRun) (stop_dump : Option (List ℕ)) (turns : List MemberTurn) (order : Order) (dump : Option (List ℕ)) → NoneOpen turns → TurnsKnown run stop_dump turns → TurnsKnown run stop_dump (logger_turn Pause order dump (Some (Yes Plain)) ∷ turns)
@@ -226,6 +347,9 @@ left_pause run stop_dump turns order dump none known =
       stops = λ are. stops_more t turns are (λ is. absurd (cc (is))) (known.stops are.1);
       told = run_left run turns stop_dump t tt none known.told;
       current = λ are. current_more run t turns (λ s. cc (s)) refl (known.current are.1);
+      not_off = λ are. off_more run t turns (λ s. cc (s)) (known.not_off are.1);
+      going = λ are. going_more run t turns (λ ends. absurd (ends_none t Pause refl (λ e. cc (e)) (λ e. cc (e)) ends)) (known.going are.1);
+      unready = λ are. ((λ e. absurd (cc (e))), known.unready are.1);
     }
 
 pub left_resume : (run : Option LoggedRun) (stop_dump : Option (List ℕ)) (turns : List MemberTurn) (order : Order) (dump : Option (List ℕ)) → NoneOpen turns → TurnsKnown run stop_dump turns → TurnsKnown run stop_dump (logger_turn Resume order dump (Some (Yes Plain)) ∷ turns)
@@ -236,25 +360,37 @@ left_resume run stop_dump turns order dump none known =
       stops = λ are. stops_more t turns are (λ is. absurd (cc (is))) (known.stops are.1);
       told = run_left run turns stop_dump t tt none known.told;
       current = λ are. current_more run t turns (λ s. cc (s)) refl (known.current are.1);
+      not_off = λ are. off_more run t turns (λ s. cc (s)) (known.not_off are.1);
+      going = λ are. going_more run t turns (λ ends. absurd (ends_none t Resume refl (λ e. cc (e)) (λ e. cc (e)) ends)) (known.going are.1);
+      unready = λ are. ((λ e. absurd (cc (e))), known.unready are.1);
     }
 
 abort_known : (run later : Option LoggedRun) (stop_dump later_dump : Option (List ℕ)) (turns : List MemberTurn) (order : Order) (dump : Option (List ℕ)) → TurnsKnown run stop_dump turns → IsRunTold later (logger_turn StartAbort order dump (Some (Yes Plain)) ∷ turns) later_dump
-    → TurnsKnown later later_dump (logger_turn StartAbort order dump (Some (Yes Plain)) ∷ turns)
-abort_known run later stop_dump later_dump turns order dump known told =
+    → (AreEngineTurns (logger_turn StartAbort order dump (Some (Yes Plain)) ∷ turns) → IsNotCalledOff later (logger_turn StartAbort order dump (Some (Yes Plain)) ∷ turns))
+    → (AreEngineTurns (logger_turn StartAbort order dump (Some (Yes Plain)) ∷ turns) → IsGoing later (logger_turn StartAbort order dump (Some (Yes Plain)) ∷ turns)) → TurnsKnown later later_dump (logger_turn StartAbort order dump (Some (Yes Plain)) ∷ turns)
+abort_known run later stop_dump later_dump turns order dump known told not_off going =
     let t : MemberTurn = logger_turn StartAbort order dump (Some (Yes Plain)) in
     record {
       starts = starts_more t turns (λ is. absurd (cc (is))) known.starts;
       stops = λ are. stops_more t turns are (λ is. absurd (cc (is))) (known.stops are.1);
       told = told;
       current = λ are. current_none later (t ∷ turns) refl;
+      not_off = not_off;
+      going = going;
+      unready = λ are. ((λ e. absurd (cc (e))), known.unready are.1);
     }
 
-pub left_abort : (run : Option LoggedRun) (stop_dump : Option (List ℕ)) (turns : List MemberTurn) (order : Order) (dump : Option (List ℕ)) → NoneOpen turns → TurnsKnown run stop_dump turns → TurnsKnown run stop_dump (logger_turn StartAbort order dump (Some (Yes Plain)) ∷ turns)
-left_abort run stop_dump turns order dump none known = abort_known run run stop_dump stop_dump turns order dump known (run_left run turns stop_dump (logger_turn StartAbort order dump (Some (Yes Plain))) tt none known.told)
+pub left_abort : (run : Option LoggedRun) (stop_dump : Option (List ℕ)) (turns : List MemberTurn) (order : Order) (dump : Option (List ℕ)) → NoneOpen turns → is_of_start run order.start ≡ false → TurnsKnown run stop_dump turns
+    → TurnsKnown run stop_dump (logger_turn StartAbort order dump (Some (Yes Plain)) ∷ turns)
+left_abort run stop_dump turns order dump none off known =
+    let t : MemberTurn = logger_turn StartAbort order dump (Some (Yes Plain)) in
+    abort_known run run stop_dump stop_dump turns order dump known (run_left run turns stop_dump t tt none known.told) (λ are. off_other run t turns off (known.not_off are.1))
+    (λ are. going_more run t turns (λ ends on. started_of_start run order.start off on) (known.going are.1))
 
 -- the run is called off
 pub off_known : (run : Option LoggedRun) (stop_dump : Option (List ℕ)) (turns : List MemberTurn) (order : Order) (dump : Option (List ℕ)) → TurnsKnown run stop_dump turns → TurnsKnown None None (logger_turn StartAbort order dump (Some (Yes Plain)) ∷ turns)
-off_known run stop_dump turns order dump known = abort_known run None stop_dump None turns order dump known tt
+off_known run stop_dump turns order dump known = abort_known run None stop_dump None turns order dump known tt (λ are. off_none (logger_turn StartAbort order dump (Some (Yes Plain)) ∷ turns))
+    (λ are. going_none (logger_turn StartAbort order dump (Some (Yes Plain)) ∷ turns))
 
 -- The stop that waited is answered.
 
@@ -279,4 +415,7 @@ finish_known run stop_dump dump states order earlier known =
       ];
       told = tt;
       current = λ are. current_none None (t ∷ earlier) refl;
+      not_off = λ are. off_none (t ∷ earlier);
+      going = λ are. going_none (t ∷ earlier);
+      unready = λ are. ((λ e. absurd (cc (e))), (known.unready are).1);
     }

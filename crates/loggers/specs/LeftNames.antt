@@ -1,18 +1,29 @@
--- What a start that does not come about leaves of the run files.
-use Rattle.std.specs.Prelude.{◌≡◌, ℕ, true, IsTrue, List, Option, Some, None, ◌⊎◌}
-use Rattle.daq_types.specs.declared.runs.Transition.TheVariants.{Start, StartAbort}
-use Rattle.daq_types.specs.declared.runs.Why.{Why}
+-- Which names of run files a logger leaves as they were at first, where no call on the files failed: all but those of the
+-- runs that were stopped, and of the run that it has.
+use Rattle.std.specs.Prelude.{◌≡◌, ◌≢◌, ◌<◌, ℕ, IsTrue, IsSome, List, [], ◌∷◌, Option, Some, None, ⊤, ◌⊎◌}
+use Rattle.daq_types.specs.declared.runs.Order.{Order}
+use Rattle.daq_types.specs.declared.runs.Transition.TheVariants.{Stop, StartAbort}
+use Rattle.daq_types.specs.declared.runs.Why.TheVariants.{Exists}
 use Rattle.daq_io.specs.Counts.{Rose}
-use Rattle.daq_io.specs.Seen.{Seen}
+use Rattle.daq_io.specs.Seen.{Seen, Stored}
+use Rattle.buffer_core.specs.Ports.{Access}
 use Rattle.buffer_core.specs.Slots.{slot_at}
-use Rattle.transitions.specs.declared.answers.Answer.TheVariants.{Yes, No}
-use Rattle.transitions.specs.declared.answers.Tally.TheVariants.{Plain}
+use Rattle.transitions.specs.declared.answers.Answer.TheVariants.{No}
+use Rattle.member_model.specs.Turns.{MemberTurn, HasTurn, IsAcceptedStart, HasAnswer, latest_answered, AreEngineTurns}
 use Rattle.mid_logger.specs.declared.channel.Channel.{Channel}
+use Rattle.mid_logger.specs.declared.channel_spec.ChannelSpec.{ChannelSpec}
+use Rattle.mid_logger.specs.declared.pulled.Pulled.{Pulled}
 use Rattle.mid_logger.specs.declared.stage.ChannelRun.{ChannelRun}
 use Rattle.mid_logger.specs.Patterns.{file_name_by}
 use Rattle.mid_logger.specs.Channels.{channel_run}
-use Rattle.loggers.specs.Moments.{RunFiles, AreIdle}
-use Rattle.loggers.specs.Turning.{LoggerTurn, TakesTurn, is_of_start}
+use Rattle.loggers.specs.declared.logged_run.LoggedRun.{LoggedRun}
+use Rattle.loggers.specs.Moments.{RunFiles, LoggerMoment, HaveFilesOpen, IsLoggerReady}
+use Rattle.loggers.specs.SlotPulls.{PullsNumbered}
+use Rattle.loggers.specs.Turning.{LoggerTurn, TakesTurn, IsIdleOutside}
+use Rattle.loggers.specs.Finishing.{LoggerFinish, FinishesLogger, waiting_stop}
+use Rattle.loggers.specs.LoggerStands.{LoggerStands, logger_turn}
+use Rattle.loggers.specs.OtherFiles.{specs_in}
+use Rattle.loggers.specs.Reasons.{GivesReasons}
 
 -- the name is that of the file of the run that one of these channels writes, or broke off
 pub record IsOpenName (slots : List (Option Channel)) (name : List ℕ) : Type 0 where
@@ -23,35 +34,133 @@ pub record IsOpenName (slots : List (Option Channel)) (name : List ℕ) : Type 0
   pub of : channel_run channel.stage ≡ Some opened
   pub is : file_name_by channel.spec.pattern opened.run ≡ name
 
--- Each file is as it was at first, but for those of the runs that these channels write, or broke off; and of these there was
--- none.
-pub record NamesLeft (slots : List (Option Channel)) (first now : Seen) : Type 0 where
-  pub each : (name : List ℕ) → (now.at name ≡ first.at name) ⊎ IsOpenName slots name
-  pub fresh : (name : List ℕ) → IsOpenName slots name → first.at name ≡ None
-
--- each file is as it was at first
-abbrev pub AllNamesLeft : (first now : Seen) → Type 0
-AllNamesLeft first now = (name : List ℕ) → now.at name ≡ first.at name
+-- Under each name there is what is good there, but for the names of the runs that these channels write, or broke off; and
+-- there it is good that there is no file.
+pub record NamesLeft (Good : (name : List ℕ) → Option Stored → Type 0) (slots : List (Option Channel)) (now : Seen) : Type 0 where
+  pub each : (name : List ℕ) → Good name (now.at name) ⊎ IsOpenName slots name
+  pub fresh : (name : List ℕ) → IsOpenName slots name → Good name None
 
 -- no fault was counted meanwhile
 abbrev pub NoneRose : (old new : RunFiles) → Type 0
 NoneRose old new = Rose old.faults new.faults → ⊥
 
--- Where names are told, and no fault is counted in the turn: a start that the logger refuses leaves each file as it was;
-abbrev pub RefusedStartsLeave : Type 0
-RefusedStartsLeave = (t : LoggerTurn) → (why : Why) → TakesTurn t → t.transition ≡ Start → t.answer ≡ Some (No why) →
-    AreIdle t.before.slots → IsTrue t.before.files.seen.tells → NoneRose t.before.files t.after.files →
-    AllNamesLeft t.before.files.seen t.after.files.seen
+-- the run with this number was started, which was accepted, and stopped, which was answered, in these turns
+pub record IsStoppedRunOf (turns : List MemberTurn) (run : ℕ) : Type 0 where
+  pub begin : MemberTurn
+  pub stop : MemberTurn
+  pub is_start : IsAcceptedStart turns stop.order.start begin
+  pub number : begin.order.run ≡ run
+  pub stands : HasTurn turns stop
+  pub is : stop.transition ≡ Stop
+  pub answered : HasAnswer stop.answer
 
--- one that it accepts adds at most files of names of which there were none, which its channels write;
-abbrev pub AcceptedStartsLeave : Type 0
-AcceptedStartsLeave = (t : LoggerTurn) → TakesTurn t → t.transition ≡ Start → t.answer ≡ Some (Yes Plain) →
-    AreIdle t.before.slots → IsTrue t.before.files.seen.tells →
-    NamesLeft t.after.slots t.before.files.seen t.after.files.seen
+-- the name is that of the file of one of these channels in such a run
+pub record IsStoppedName (specs : List (Option ChannelSpec)) (turns : List MemberTurn) (name : List ℕ) : Type 0 where
+  pub number : ℕ
+  pub spec : ChannelSpec
+  pub there : slot_at specs number ≡ Some spec
+  pub run : ℕ
+  pub stopped : IsStoppedRunOf turns run
+  pub is : file_name_by spec.pattern run ≡ name
 
--- and where its start is called off, each file is again as it was before.
-abbrev pub CalledOffStartsLeave : Type 0
-CalledOffStartsLeave = (t : LoggerTurn) → (first : Seen) → TakesTurn t → t.transition ≡ StartAbort →
-    is_of_start t.run t.order.start ≡ true →
-    IsTrue t.before.files.seen.tells → NoneRose t.before.files t.after.files →
-    NamesLeft t.before.slots first t.before.files.seen → AllNamesLeft first t.after.files.seen
+-- what stands under the name is as it was at first; or the name is that of a file of a run that was stopped, and there was no
+-- file of this name at first
+abbrev pub IsNameLeft : List (Option ChannelSpec) → List MemberTurn → (first : Seen) → (name : List ℕ) → Option Stored →
+    Type 0
+IsNameLeft specs turns first name stored =
+    (IsStoppedName specs turns name × (first.at name ≡ None)) ⊎ (stored ≡ first.at name)
+
+-- a channel of a lower place gives the name in the same run
+pub record IsGivenBefore (specs : List (Option ChannelSpec)) (place run : ℕ) (name : List ℕ) : Type 0 where
+  pub lower : ℕ
+  pub spec : ChannelSpec
+  pub below : lower < place
+  pub there : slot_at specs lower ≡ Some spec
+  pub is : file_name_by spec.pattern run ≡ name
+
+-- The name that a channel with this number gives in this run is taken behind these turns: a file had it at first, or a run that
+-- was stopped has it, or another channel of that run.
+pub record IsNameTaken (specs : List (Option ChannelSpec)) (turns : List MemberTurn) (first : Seen) (run number : ℕ) : Type 0 where
+  pub place : ℕ
+  pub spec : ChannelSpec
+  pub there : slot_at specs place ≡ Some spec
+  pub number_is : spec.number ≡ number
+  pub by : IsSome (first.at (file_name_by spec.pattern run))
+      ⊎ (IsStoppedName specs turns (file_name_by spec.pattern run)
+      ⊎ IsGivenBefore specs place run (file_name_by spec.pattern run))
+
+-- each start that was refused for a name came where that was taken; the latest turn stands first
+abbrev pub AreTaken : List (Option ChannelSpec) → (first : Seen) → List MemberTurn → Type 0
+AreTaken specs first [] = ⊤
+AreTaken specs first (t ∷ ts) =
+    ((number : ℕ) → t.answer ≡ Some (No (Exists number)) → IsNameTaken specs ts first t.order.run number)
+    × AreTaken specs first ts
+
+-- A logger with these channels and these turns, whose run files were so at first, and are so now: where names are told, and
+-- no fault was counted, it left all names so but those of the runs that it has. A start that was refused, or called off,
+-- left nothing; and it was refused for a name only where that was taken.
+pub record KeepsNames (slots : List (Option Channel)) (first now : RunFiles) (turns : List MemberTurn) : Type 0 where
+  pub tells : now.seen.tells ≡ first.seen.tells
+  pub names : IsTrue first.seen.tells → NoneRose first now →
+      NamesLeft (IsNameLeft (specs_in slots) turns first.seen) slots now.seen
+  pub taken : IsTrue first.seen.tells → NoneRose first now → AreTaken (specs_in slots) first.seen turns
+
+-- A turn and a pull keep that.
+abbrev pub TurnsKeepNames : Type 0
+TurnsKeepNames = (t : LoggerTurn) → (first : RunFiles) → (turns : List MemberTurn) → TakesTurn t →
+    IsIdleOutside t.run t.before.slots →
+    GivesReasons t.before.slots t.before.ports first t.before.files turns → KeepsNames t.before.slots first t.before.files turns →
+    KeepsNames t.after.slots first t.after.files (logger_turn t.transition t.order t.dump t.answer ∷ turns)
+
+abbrev pub PullsKeepNames : Type 0
+PullsKeepNames = (number : ℕ) → (answer : Pulled) → (a b : LoggerMoment) → (first : RunFiles) → (turns : List MemberTurn) →
+    PullsNumbered number answer a b → IsLoggerReady a.slots a.ports a.files.seen →
+    KeepsNames a.slots first a.files turns → KeepsNames b.slots first b.files turns
+
+-- The latest of these turns is a stop with this dump that is not answered, and the run that each of these channels writes, or
+-- broke off, is that of the accepted start with the stop's number.
+pub record StopsOpenRuns (dump : Option (List ℕ)) (slots : List (Option Channel)) (turns : List MemberTurn) : Type 0 where
+  pub order : Order
+  pub earlier : List MemberTurn
+  pub latest : turns ≡ logger_turn Stop order dump None ∷ earlier
+  pub runs : (number : ℕ) → (channel : Channel) → (opened : ChannelRun) → slot_at slots number ≡ Some channel →
+      channel_run channel.stage ≡ Some opened →
+      (begin : MemberTurn) × IsAcceptedStart turns order.start begin × (begin.order.run ≡ opened.run)
+
+-- so it is where the logger's stop waits for its answer
+abbrev pub HaveStoppedRuns : Option LoggedRun → (dump : Option (List ℕ)) → List (Option Channel) → List MemberTurn → Type 0
+HaveStoppedRuns run dump slots turns = (time : ℕ) → waiting_stop run ≡ Some time → StopsOpenRuns dump slots turns
+
+-- So it is between the logger's calls, and a pull keeps it.
+abbrev pub StandingHasStopped : Type 0
+StandingHasStopped = (run : Option LoggedRun) → (stop_dump : Option (List ℕ)) → (slots : List (Option Channel)) →
+    (ports : List Access) → (turns : List MemberTurn) → (seen : Seen) →
+    LoggerStands run stop_dump slots ports turns seen → HaveStoppedRuns run stop_dump slots turns
+
+abbrev pub PullsKeepStopped : Type 0
+PullsKeepStopped = (number : ℕ) → (answer : Pulled) → (a b : LoggerMoment) → (run : Option LoggedRun) →
+    (stop_dump : Option (List ℕ)) → (turns : List MemberTurn) → PullsNumbered number answer a b →
+    IsLoggerReady a.slots a.ports a.files.seen → HaveStoppedRuns run stop_dump a.slots turns →
+    HaveStoppedRuns run stop_dump b.slots turns
+
+-- Then a call to finish keeps the names: the files that it ends are those of a run that was stopped.
+abbrev pub FinishesKeepNames : Type 0
+FinishesKeepNames = (f : LoggerFinish) → (first : RunFiles) → (turns : List MemberTurn) → FinishesLogger f →
+    HaveFilesOpen f.slots f.files.seen → HaveStoppedRuns f.run f.stop_dump f.slots turns →
+    KeepsNames f.slots first f.files turns →
+    KeepsNames f.later_slots first f.later_files (latest_answered turns f.answer)
+
+-- Between the logger's calls the run that a channel writes, or broke off, is that of an accepted start, which no turn called
+-- off.
+pub record IsStartedRun (turns : List MemberTurn) (opened : ChannelRun) : Type 0 where
+  pub begin : MemberTurn
+  pub is_start : IsAcceptedStart turns opened.start begin
+  pub number : begin.order.run ≡ opened.run
+  pub on : (turn : MemberTurn) → HasTurn turns turn → turn.transition ≡ StartAbort → turn.order.start ≢ opened.start
+
+abbrev pub StandingHasStarted : Type 0
+StandingHasStarted = (run : Option LoggedRun) → (stop_dump : Option (List ℕ)) → (slots : List (Option Channel)) →
+    (ports : List Access) → (turns : List MemberTurn) → (seen : Seen) →
+    LoggerStands run stop_dump slots ports turns seen → AreEngineTurns turns →
+    (number : ℕ) → (channel : Channel) → (opened : ChannelRun) → slot_at slots number ≡ Some channel →
+    channel_run channel.stage ≡ Some opened → IsStartedRun turns opened

@@ -5,13 +5,14 @@ use Rattle.daq_types.specs.declared.runs.ChannelState.{ChannelState}
 use Rattle.daq_types.specs.declared.runs.ChannelState.TheVariants.{Broken as IsBroken}
 use Rattle.daq_types.specs.declared.runs.Transition.{Transition}
 use Rattle.daq_types.specs.declared.runs.Transition.TheVariants.{Start, Stop, StartAbort}
+use Rattle.daq_types.specs.declared.runs.Why.TheVariants.{NotReady}
 use Rattle.daq_io.specs.Seen.{Seen}
 use Rattle.buffer_core.specs.declared.entry.BufferEntry.{BufferEntry}
 use Rattle.buffer_core.specs.declared.entry.BufferEntry.TheVariants.{End}
 use Rattle.buffer_core.specs.Ports.{Access}
 use Rattle.buffer_core.specs.Slots.{slot_at}
 use Rattle.transitions.specs.declared.answers.Answer.{Answer}
-use Rattle.transitions.specs.declared.answers.Answer.TheVariants.{Yes}
+use Rattle.transitions.specs.declared.answers.Answer.TheVariants.{Yes, No}
 use Rattle.transitions.specs.declared.answers.Tally.TheVariants.{Channels}
 use Rattle.member_model.specs.Turns.{MemberTurn, HasTurn, HasTurnOf, IsAcceptedStart, NoneOpen, current_run, AreEngineTurns}
 use Rattle.member_model.specs.SentCalls.{EachCall}
@@ -226,6 +227,27 @@ abbrev pub HasCurrentRun : Option LoggedRun → List MemberTurn → Type 0
 HasCurrentRun run turns = (start : ℕ) → (begin : MemberTurn) → current_run turns ≡ Some start →
     IsAcceptedStart turns start begin → IsInStarted run start
 
+-- none of these turns called off the run that the logger has
+abbrev pub IsNotCalledOff : Option LoggedRun → List MemberTurn → Type 0
+IsNotCalledOff run turns = (r : LoggedRun) → (turn : MemberTurn) → run ≡ Some r → HasTurn turns turn →
+    turn.transition ≡ StartAbort → turn.order.start ≢ r.start
+
+-- while the run goes on that the logger was told to start last, none of these turns ended it
+abbrev pub IsGoing : Option LoggedRun → List MemberTurn → Type 0
+IsGoing run turns = (r : LoggedRun) → run ≡ Some r → r.part ≡ Started → HasEndTurn turns r.start → ⊥
+
+-- a run is on behind these turns: its start was accepted, and none of them ended it
+pub record IsInRun (turns : List MemberTurn) : Type 0 where
+  pub start : ℕ
+  pub begin : MemberTurn
+  pub is_start : IsAcceptedStart turns start begin
+  pub going : HasEndTurn turns start → ⊥
+
+-- a start was refused as not ready only where a run was on behind the turns before it; the latest turn stands first
+abbrev pub AreUnreadyInRuns : List MemberTurn → Type 0
+AreUnreadyInRuns [] = ⊤
+AreUnreadyInRuns (t ∷ ts) = (t.answer ≡ Some (No NotReady) → IsInRun ts) × AreUnreadyInRuns ts
+
 -- each answered stop of a run whose start was accepted told states
 abbrev pub StopsTellStates : List MemberTurn → Type 0
 StopsTellStates turns = (begin stop : MemberTurn) → (answer : Answer) → IsAcceptedStart turns stop.order.start begin →
@@ -248,6 +270,9 @@ pub record LoggerStands (run : Option LoggedRun) (stop_dump : Option (List ℕ))
   pub stops : AreEngineTurns turns → StopsTellStates turns
   pub told : IsRunTold run turns stop_dump
   pub current : AreEngineTurns turns → HasCurrentRun run turns
+  pub not_off : AreEngineTurns turns → IsNotCalledOff run turns
+  pub going : AreEngineTurns turns → IsGoing run turns
+  pub unready : AreEngineTurns turns → AreUnreadyInRuns turns
 
 -- It keeps the logger's contract, whatever numbers stand for clients that are not attached yet.
 abbrev pub StandingLoggerKeeps : Type 0

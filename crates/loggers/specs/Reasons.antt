@@ -1,6 +1,6 @@
--- Why a logger refuses a start, and why a channel breaks off: by the counts of the run files, which rose since some
--- moment before.
-use Rattle.std.specs.Prelude.{◌≡◌, ℕ, List, ◌∷◌, slice_get, Option, Some, ⊤, ◌⊎◌}
+-- Why a logger refuses a start, and why a channel breaks off: by the counts of the run files, which rose since some moment
+-- before, and by its calls on the buffers that were refused.
+use Rattle.std.specs.Prelude.{◌≡◌, ℕ, List, ◌∷◌, slice_get, Contains, Option, Some, Err, ⊤, ◌⊎◌}
 use Rattle.daq_types.specs.declared.runs.ChannelState.{ChannelState}
 use Rattle.daq_types.specs.declared.runs.ChannelState.TheVariants.{Broken as IsBroken}
 use Rattle.daq_types.specs.declared.runs.Why.{Why}
@@ -10,6 +10,9 @@ use Rattle.transitions.specs.declared.answers.Answer.{Answer}
 use Rattle.transitions.specs.declared.answers.Answer.TheVariants.{Yes, No}
 use Rattle.transitions.specs.declared.answers.Tally.TheVariants.{Channels}
 use Rattle.member_model.specs.Turns.{MemberTurn, HasTurn, latest_answered}
+use Rattle.buffer_core.specs.declared.entry.BufferEntry.{BufferEntry}
+use Rattle.buffer_core.specs.declared.entry.BufferEntry.TheVariants.{Attach, Request, Begin}
+use Rattle.buffer_core.specs.Ports.{Access}
 use Rattle.buffer_core.specs.Slots.{slot_at}
 use Rattle.mid_logger.specs.declared.channel.Channel.{Channel}
 use Rattle.mid_logger.specs.declared.pulled.Pulled.{Pulled}
@@ -56,26 +59,43 @@ pub record HasBrokenOff (slots : List (Option Channel)) : Type 0 where
   pub there : slot_at slots number ≡ Some channel
   pub off : broken_run channel.stage ≡ Some run
 
--- A logger with these channels and these turns, whose run files were so at first, and are so now: each answer that it gave
--- was such, and where a channel broke off a fault was counted.
-pub record GivesReasons (slots : List (Option Channel)) (first now : RunFiles) (turns : List MemberTurn) : Type 0 where
+-- the call was one to attach a client, to make a request or to begin a run, and was refused
+abbrev pub IsRefusedAsk : BufferEntry → Type 0
+IsRefusedAsk (Attach name (Err why)) = ⊤
+IsRefusedAsk (Request client id mask kind (Err why)) = ⊤
+IsRefusedAsk (Begin start (Err why)) = ⊤
+IsRefusedAsk entry = ⊥
+
+-- such a call was made on one of these ports
+pub record HasRefusedAsk (ports : List Access) : Type 0 where
+  pub buffer : ℕ
+  pub port : Access
+  pub at : slice_get ports buffer ≡ Some port
+  pub entry : BufferEntry
+  pub among : Contains port.own entry
+  pub refused : IsRefusedAsk entry
+
+-- A logger with these channels, ports and turns, whose run files were so at first, and are so now: each answer that it gave
+-- was such; where a channel broke off a fault was counted; and a start was refused for a buffer only where that refused a call.
+pub record GivesReasons (slots : List (Option Channel)) (ports : List Access) (first now : RunFiles) (turns : List MemberTurn) : Type 0 where
   pub faults : StaysOrRose first.faults now.faults
   pub clashes : StaysOrRose first.clashes now.clashes
   pub broken : HasBrokenOff slots → Rose first.faults now.faults
   pub answers : AreAnswersSo turns first now
+  pub buffers : (t : MemberTurn) → HasTurn turns t → t.answer ≡ Some (No BufferRefused) → HasRefusedAsk ports
 
 -- A turn, a pull and a call to finish keep that.
 abbrev pub TurnsGiveReasons : Type 0
 TurnsGiveReasons = (t : LoggerTurn) → (first : RunFiles) → (turns : List MemberTurn) → TakesTurn t →
-    GivesReasons t.before.slots first t.before.files turns →
-    GivesReasons t.after.slots first t.after.files (logger_turn t.transition t.order t.dump t.answer ∷ turns)
+    GivesReasons t.before.slots t.before.ports first t.before.files turns →
+    GivesReasons t.after.slots t.after.ports first t.after.files (logger_turn t.transition t.order t.dump t.answer ∷ turns)
 
 abbrev pub PullsGiveReasons : Type 0
 PullsGiveReasons = (number : ℕ) → (answer : Pulled) → (a b : LoggerMoment) → (first : RunFiles) → (turns : List MemberTurn) →
     PullsNumbered number answer a b →
-    GivesReasons a.slots first a.files turns → GivesReasons b.slots first b.files turns
+    GivesReasons a.slots a.ports first a.files turns → GivesReasons b.slots b.ports first b.files turns
 
 abbrev pub FinishesGiveReasons : Type 0
-FinishesGiveReasons = (f : LoggerFinish) → (first : RunFiles) → (turns : List MemberTurn) → FinishesLogger f →
-    GivesReasons f.slots first f.files turns →
-    GivesReasons f.later_slots first f.later_files (latest_answered turns f.answer)
+FinishesGiveReasons = (f : LoggerFinish) → (ports : List Access) → (first : RunFiles) → (turns : List MemberTurn) →
+    FinishesLogger f → GivesReasons f.slots ports first f.files turns →
+    GivesReasons f.later_slots ports first f.later_files (latest_answered turns f.answer)

@@ -3,7 +3,7 @@
 ghost use Rattle.loggers.specs.LoggerLaws.{FinishesKeep, TurnsKeep, TurnsLeaveKnown, PullsLeaveKnown, TurnsNote, PullsNote, FinishesNote, NotesFollow};
 ghost use Rattle.loggers.specs.LoggerStands.{StandingLoggerKeeps};
 ghost use Rattle.loggers.specs.Reasons.{TurnsGiveReasons, PullsGiveReasons, FinishesGiveReasons};
-ghost use Rattle.loggers.specs.LeftNames.{RefusedStartsLeave, AcceptedStartsLeave, CalledOffStartsLeave};
+ghost use Rattle.loggers.specs.LeftNames.{TurnsKeepNames, PullsKeepNames, FinishesKeepNames, StandingHasStarted, StandingHasStopped, PullsKeepStopped};
 ghost use Rattle.loggers.specs.OtherFiles.{TurnsLeaveFiles, PullsLeaveFiles, FinishesLeaveFiles};
 
 use mid_logger::laws as channel_laws;
@@ -66,18 +66,27 @@ pub fn faults_noted()
 {}
 
 /// What a logger answers rests on the counts of the run files, and each call keeps that: a start is refused for a name only
-/// where a clash was counted, and for a fault only where one was; and a channel is told to be broken only where a fault was.
+/// where a clash was counted, for a fault only where one was, and for a buffer only where that refused a call; and a channel is
+/// told to be broken only where a fault was.
 pub fn reasons_given()
     ensures turns { TurnsGiveReasons }
     ensures pulls { PullsGiveReasons }
     ensures finishes { FinishesGiveReasons }
 {}
 
-/// Where no call on the files failed, a start that does not come about leaves each file as it was before it: one that the
-/// logger refuses by itself; and one that it accepts adds at most files that its channels write, of which there were none,
-/// and they are gone once it is called off.
-pub fn starts_undone()
-    ensures refused { RefusedStartsLeave }
-    ensures accepted { AcceptedStartsLeave }
-    ensures called_off { CalledOffStartsLeave }
-{}
+/// Where no fault is counted, all names of run files are as they were at first but those of the runs that were stopped, and
+/// of the run that the logger has, and each call keeps that: a start that is refused or called off leaves nothing, and the
+/// files that a call to finish ends are those of the run that was stopped.
+pub fn names_kept()
+    ensures turns { TurnsKeepNames }
+    ensures pulls { PullsKeepNames }
+    ensures finishes { FinishesKeepNames }
+    ensures started { StandingHasStarted }
+    ensures stopped { StandingHasStopped }
+    ensures still_stopped { PullsKeepStopped }
+{
+    channel_laws::opens_kept();
+    channel_laws::aborts_kept();
+    channel_laws::pulls_kept();
+    channel_laws::closes_kept();
+}

@@ -132,8 +132,8 @@ impl Logger {
         ensures own { IfOk result (λ logger. (ports : List Access) → AreUnused ports →
             KeepsLoggerCalls logger.channels ports) }
         ensures failed { IfOk result (λ logger. HasFailed logger.channels → ⊥) }
-        ensures reasons { IfOk result (λ logger. (files : RunFiles) →
-            GivesReasons logger.channels files files []) }
+        ensures reasons { IfOk result (λ logger. (ports : List Access) → (files : RunFiles) →
+            GivesReasons logger.channels ports files files []) }
     {
         let channels = new_channels(alloc, specs, rooms)?;
         Ok(Logger {

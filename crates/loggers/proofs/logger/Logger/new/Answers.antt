@@ -15,4 +15,4 @@ pub returns-clause-failed : goal.returns-clause-failed
 returns-clause-failed c = λ failed. new_failed c.args.specs c.args.rooms.now c.in_ok-channels.channels c.in_ok-channels.ensures failed
 
 pub returns-clause-reasons : goal.returns-clause-reasons
-returns-clause-reasons c = λ files. idle_reasons c.in_ok-channels.channels (new_idle c.args.specs c.args.rooms.now c.in_ok-channels.channels c.in_ok-channels.ensures) files
+returns-clause-reasons c = λ ports files. idle_reasons c.in_ok-channels.channels ports (new_idle c.args.specs c.args.rooms.now c.in_ok-channels.channels c.in_ok-channels.ensures) files
