@@ -8,3 +8,4 @@ pub mod TurnSets
 pub mod CrewLaws
 pub mod OtherFilesKept
 pub mod LoggerReasons
+pub mod LoggerNames

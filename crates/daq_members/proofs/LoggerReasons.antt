@@ -1,6 +1,7 @@
 -- A turn of the logger in a session keeps that its answers rest on the counts of the run files.
 use Rattle.std.specs.Prelude.{◌≡◌, ℕ, zero, suc, Bool, List, ◌∷◌, Option, Some, None, refl}
 use Rattle.std.proofs.Common.{ap, sym, subst, ◌∙◌}
+use Rattle.buffer_core.specs.Ports.{Access}
 use Rattle.transitions.specs.declared.replies.Polled.{Polled}
 use Rattle.transitions.specs.declared.replies.Polled.TheVariants.{Turn, Idle as NoTurn, Closed, NoClient}
 use Rattle.member_model.specs.Turns.{MemberTurn, latest_answered}
@@ -18,7 +19,7 @@ pub record ReasonLaws : Type 0 where
   pub finishes : FinishesGiveReasons
 
 abbrev Gives : RunFiles → LoggerMoment → List MemberTurn → Type 0
-Gives first m turns = GivesReasons m.slots first m.files turns
+Gives first m turns = GivesReasons m.slots m.ports first m.files turns
 
 same_gives : (first : RunFiles) (a b : LoggerMoment) (turns later : List MemberTurn) → b ≡ a → later ≡ turns → Gives first a turns → Gives first b later
 same_gives first a b turns later moment same gives = subst (λ (m : LoggerMoment). Gives first m later) (sym moment) (subst (λ (ts : List MemberTurn). Gives first a ts) (sym same) gives)
@@ -38,7 +39,8 @@ reasons_by laws t first (Turn transition order dump blank) None is taken gives =
     (laws.turns _ first (member_turns t.client t.calls) taken.takes gives)
 reasons_by laws t first (Turn transition order dump blank) (Some start) is ends gives =
     subst (λ (ts : List MemberTurn). Gives first t.after ts) (sym (finished_turns t.client t.calls _ t.later_calls transition order dump blank start ends.answer is refl ends.gives))
-    (laws.finishes _ first (member_turns t.client t.calls) ends.finishes (pulled laws.pulls first (member_turns t.client t.calls) pulled_channels ends.got t.before ends.pulled ends.pulls gives))
+    (subst (λ (ports : List Access). GivesReasons t.after.slots ports first t.after.files (latest_answered (member_turns t.client t.calls) ends.answer)) (sym ends.ports)
+    (laws.finishes _ ends.pulled.ports first (member_turns t.client t.calls) ends.finishes (pulled laws.pulls first (member_turns t.client t.calls) pulled_channels ends.got t.before ends.pulled ends.pulls gives)))
 
 pub reasons_kept : ReasonLaws → (t : LoggerTaken) (first : RunFiles) → TakesLogger t → Gives first t.before (member_turns t.client t.calls) → Gives first t.after (member_turns t.client t.later_calls)
 reasons_kept laws t first takes gives = reasons_by laws t first takes.reply (start_owed t.client t.calls) refl takes.takes gives

@@ -88,7 +88,7 @@ pub record LoggerLeaves : Type 0 where
 abbrev Covers : (runs : List ℕ) → LoggerTaken → Type 0
 Covers runs t = (n : ℕ) → Contains (started_runs (member_turns t.client t.later_calls)) n → Contains runs n
 
-abbrev Leaves : (runs : List ℕ) → LoggerMoment → LoggerMoment → Type 0
+abbrev pub Leaves : (runs : List ℕ) → LoggerMoment → LoggerMoment → Type 0
 Leaves runs a b = LeavesOtherFiles runs a.slots b.slots a.files.seen b.files.seen
 
 same_leaves : (runs : List ℕ) (a b : LoggerMoment) → b ≡ a → HaveRunsAmong runs a.slots → Leaves runs a b
@@ -107,11 +107,11 @@ leaves_then runs slots between later old middle new first second = record {
 }
 
 -- behind pulls the logger is ready as before
-record Pulled (runs : List ℕ) (a b : LoggerMoment) : Type 0 where
-  left : Leaves runs a b
-  ready : IsLoggerReady b.slots b.ports b.files.seen
+pub record Pulled (runs : List ℕ) (a b : LoggerMoment) : Type 0 where
+  pub left : Leaves runs a b
+  pub ready : IsLoggerReady b.slots b.ports b.files.seen
 
-pulled : PullsLeaveFiles → (runs : List ℕ) (n : ℕ) (got : Bool) (a b : LoggerMoment) → PullsBelow n got a b → IsLoggerReady a.slots a.ports a.files.seen → HaveRunsAmong runs a.slots → Pulled runs a b
+pub pulled : PullsLeaveFiles → (runs : List ℕ) (n : ℕ) (got : Bool) (a b : LoggerMoment) → PullsBelow n got a b → IsLoggerReady a.slots a.ports a.files.seen → HaveRunsAmong runs a.slots → Pulled runs a b
 pulled law runs zero got a b pulls ready held = record { left = same_leaves runs a b pulls.1 held; ready = subst (λ (m : LoggerMoment). IsLoggerReady m.slots m.ports m.files.seen) (sym pulls.1) ready }
 pulled law runs (suc n) got a b pulls ready held =
     let m : LoggerMoment = pulls.0 in

@@ -10,7 +10,7 @@ use Rattle.daq_members.specs.declared.turned.Turned.{Turned}
 use Rattle.daq_members.specs.FrontTaken.{TakesFront}
 use Rattle.daq_members.specs.LoggerTaken.{TakesLogger}
 use Rattle.daq_members.specs.FrontSeats.{FrontSeen, IsSameFront, IsSeated, front_taken}
-use Rattle.daq_members.specs.LoggerSeats.{LoggerSeen, IsSameLogger, IsLoggerSeated, HasLoggerReasons, logger_taken, files_by}
+use Rattle.daq_members.specs.LoggerSeats.{LoggerSeen, IsSameLogger, IsLoggerSeated, HasLoggerReasons, KeepsLoggerNames, logger_taken, files_by}
 
 -- A crew: the front-ends, the logger, and the choice of the member that has the first turn of a round.
 pub record CrewSeen (E F K : Type 0) : Type 0 where
@@ -130,10 +130,11 @@ module _ {E F K : Type 0} (told : CrewTold E F K) where
     pub picks : IsTrue (told.tells before.pick) → (n : ℕ) →
         told.ahead after.pick n ≡ told.ahead before.pick (n + count)
 
-  -- Each member of the crew keeps its contract over its own calls; and what the logger answered rests on the counts of the
-  -- run files.
+  -- Each member of the crew keeps its contract over its own calls; what the logger answered rests on the counts of the run
+  -- files; and where no fault was counted it left no file of a run that did not come about.
   pub record KeepContracts (crew : CrewSeen E F K) : Type 0 where
     pub fronts : (number : ℕ) → (front : FrontSeen E) → slice_get crew.fronts number ≡ Some front →
         IsSeated told.takes told.makes front
     pub logger : IsLoggerSeated told.seen crew.logger
     pub reasons : HasLoggerReasons told.read crew.logger
+    pub names : KeepsLoggerNames told.read crew.logger

@@ -15,6 +15,7 @@ use Rattle.loggers.specs.SlotPulls.{HasEventRoom}
 use Rattle.loggers.specs.Turning.{IsIdleOutside, buffers_begun}
 use Rattle.loggers.specs.LoggerStands.{LoggerStands}
 use Rattle.loggers.specs.Reasons.{GivesReasons}
+use Rattle.loggers.specs.LeftNames.{KeepsNames}
 use Rattle.loggers.specs.OtherFiles.{specs_in, KeepsOtherFiles}
 use Rattle.daq_members.specs.declared.turned.Turned.{Turned}
 use Rattle.daq_members.specs.OwnTurns.{are_calls_for}
@@ -61,16 +62,24 @@ pub record IsLoggerSeated {F : Type 0} (seen : F → Seen) (logger : LoggerSeen 
       (seen logger.first) (seen logger.files)
 
 -- Each answer of the logger rests on the counts of the run files, as they were when it took its seat and as they are: a
--- start was refused for a name only where a clash was counted, and for a fault only where one was; and a channel broke off
--- only where a fault was counted.
+-- start was refused for a name only where a clash was counted, for a fault only where one was, and for a buffer only where that
+-- refused a call; and a channel broke off only where a fault was counted.
 abbrev pub HasLoggerReasons : {F : Type 0} → (read : F → RunFiles) → LoggerSeen F → Type 0
 HasLoggerReasons read logger =
-    GivesReasons logger.slots (read logger.first) (read logger.files) (member_turns logger.client logger.calls)
+    GivesReasons logger.slots logger.ports (read logger.first) (read logger.files) (member_turns logger.client logger.calls)
 
--- Both.
+-- Where names are told, and no fault was counted since the logger took its seat, it left all names of run files as they were
+-- then, but those of its channels in the runs that were started and stopped in its turns, and in the run that it has. So it is
+-- where no client of it is known to be detached by another.
+abbrev pub KeepsLoggerNames : {F : Type 0} → (read : F → RunFiles) → LoggerSeen F → Type 0
+KeepsLoggerNames read logger = NoneTakenBack logger.ports →
+    KeepsNames logger.slots (read logger.first) (read logger.files) (member_turns logger.client logger.calls)
+
+-- All that.
 pub record IsLoggerAtSeat {F : Type 0} (seen : F → Seen) (read : F → RunFiles) (logger : LoggerSeen F) : Type 0 where
   pub seated : IsLoggerSeated seen logger
   pub reasons : HasLoggerReasons read logger
+  pub names : KeepsLoggerNames read logger
 
 -- a turn of the logger, by what is seen of it before and behind
 abbrev pub logger_taken : {F : Type 0} → (read : F → RunFiles) → (before after : LoggerSeen F) → Turned → LoggerTaken

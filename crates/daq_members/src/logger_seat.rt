@@ -1,15 +1,15 @@
 // The logger in a session, with what it calls.
-ghost use Rattle.std.specs.Prelude.{◌≡◌, ◌≤◌, ℕ, length, map, IfSome, None};
+ghost use Rattle.std.specs.Prelude.{◌≡◌, ◌≤◌, ℕ, [], length, map, IfSome, None};
 ghost use Rattle.daq_types.specs.Callers.{caller_of_client};
 ghost use Rattle.daq_model.specs.Events.{record_limit};
 ghost use Rattle.buffer_core.specs.Slots.{some_slot};
 ghost use Rattle.turn_lock.specs.Passes.{number_of, held_by, own_entries, IsOf};
 ghost use Rattle.transition_lock.specs.SharedEngines.{engine_lock_of};
 ghost use Rattle.member_model.specs.TurnCalls.{member_turns};
-ghost use Rattle.loggers.specs.Moments.{RunFiles, IsLoggerReady};
+ghost use Rattle.loggers.specs.Moments.{RunFiles, IsLoggerReady, AreIdle};
 ghost use Rattle.loggers.specs.NewLoggers.{NoneTakenBack};
 ghost use Rattle.loggers.specs.SlotPulls.{HasEventRoom};
-ghost use Rattle.loggers.specs.Turning.{IsIdleOutside, buffers_begun};
+ghost use Rattle.loggers.specs.Turning.{buffers_begun};
 ghost use Rattle.loggers.specs.LoggerStands.{LoggerStands};
 ghost use Rattle.loggers.specs.Reasons.{GivesReasons};
 ghost use Rattle.daq_members.specs.LoggerTaken.{TakesLogger, HaveCaller};
@@ -76,9 +76,9 @@ impl<'a, P: EndlessPort, F: Files> Model for LoggerSeat<'a, P, F> {
 }
 
 impl<'a, P: EndlessPort, F: Files> LoggerSeat<'a, P, F> {
-    ghost use Rattle.daq_members.specs.LoggerSeats.{IsLoggerSeated, HasLoggerReasons, IsSameLogger, logger_taken, files_by};
+    ghost use Rattle.daq_members.specs.LoggerSeats.{IsLoggerSeated, HasLoggerReasons, KeepsLoggerNames, IsSameLogger, logger_taken, files_by};
 
-    /// A logger that is ready for its turns, with its own ports to the buffers and the run files.
+    /// A logger that is ready for its turns, and had none, with its own ports to the buffers and the run files.
     pub fn new(member: LoggerMember<'a>, ports: Ports<P>, files: F) -> LoggerSeat<'a, P, F>
         requires stands { NoneTakenBack (map P.access ports) → LoggerStands member.logger.run
             member.logger.stop_dump member.logger.channels (map P.access ports)
@@ -88,10 +88,12 @@ impl<'a, P: EndlessPort, F: Files> LoggerSeat<'a, P, F> {
             (F.seen files) }
         requires room { (number : ℕ) → HasEventRoom number member.logger.channels
             (map P.access ports) }
-        requires idle { IsIdleOutside member.logger.run member.logger.channels }
+        requires fresh { own_entries member.seat.pass ≡ [] }
+        requires idle { AreIdle member.logger.channels }
         requires begun { buffers_begun member.logger.run ≤ length ports }
         requires small { IfSome member.logger.stop_dump (λ bytes. length bytes ≤ record_limit) }
-        requires reasons { (told : RunFiles) → GivesReasons member.logger.channels told told
+        requires reasons { (told : RunFiles) → GivesReasons member.logger.channels
+            (map P.access ports) told told
             (member_turns member.seat.client (own_entries member.seat.pass)) }
         ensures engine { result.engine ≡ member.entry.seat.engine.now }
         ensures client { result.client ≡ member.entry.seat.client }
@@ -121,6 +123,7 @@ impl<'a, P: EndlessPort, F: Files> LoggerSeat<'a, P, F> {
         logger_laws::still_known();
         logger_laws::other_files();
         logger_laws::reasons_given();
+        logger_laws::names_kept();
         self.member.turn(rt, &mut self.ports, &mut self.files, gate)
     }
 
@@ -129,6 +132,7 @@ impl<'a, P: EndlessPort, F: Files> LoggerSeat<'a, P, F> {
         ensures number { result ≡ self.now.client }
         ensures seated { IsLoggerSeated F.seen self.now }
         ensures reasons { HasLoggerReasons (files_by F.seen F.faults F.clashes F.first) self.now }
+        ensures names { KeepsLoggerNames (files_by F.seen F.faults F.clashes F.first) self.now }
     {
         self.member.seat.client
     }
@@ -151,6 +155,8 @@ impl<'a, P: EndlessPort, F: Files> LoggerSeat<'a, P, F> {
         ensures files { result.files ≡ self.entry.files }
         ensures seated { IsLoggerSeated F.seen self.entry }
         ensures reasons { HasLoggerReasons (files_by F.seen F.faults F.clashes F.first)
+            self.entry }
+        ensures names { KeepsLoggerNames (files_by F.seen F.faults F.clashes F.first)
             self.entry }
     {
         let LoggerSeat {

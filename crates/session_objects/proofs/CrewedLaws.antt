@@ -66,8 +66,8 @@ module _ {D : Type 0} (fronts : List FrontDeclared) (channels : List ChannelSpec
   pub small_bare : IfSome member.logger.stop_dump (λ bytes. length bytes ≤ record_limit)
   small_bare = let P : Option (List ℕ) → Type 0 = λ dump. IfSome dump (λ bytes. length bytes ≤ record_limit) in subst P (sym bare.made.stop_dump) tt
 
-  pub reasons_bare : (told : RunFiles) → GivesReasons member.logger.channels told told (member_turns member.seat.client (own_entries member.seat.pass))
-  reasons_bare told = let P : List MemberTurn → Type 0 = λ ts. GivesReasons member.logger.channels told told ts in subst P (sym no_turns) (bare.made.reasons told)
+  pub reasons_bare : (told : RunFiles) → GivesReasons member.logger.channels accesses told told (member_turns member.seat.client (own_entries member.seat.pass))
+  reasons_bare told = let P : List MemberTurn → Type 0 = λ ts. GivesReasons member.logger.channels accesses told told ts in subst P (sym no_turns) (bare.made.reasons accesses told)
 
   front_at : (number : ℕ) (front : FrontSeen Generator) → slice_get seats number ≡ Some front → (d : FrontDeclared) × IsNewFront objects shared number d front
   front_at number front at =

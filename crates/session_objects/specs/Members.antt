@@ -174,7 +174,7 @@ pub record IsMadeLogger (buffers : List SessionBuffer) (declared : List ChannelS
   pub slots : HasNewChannels declared (event_rooms buffers declared) logger.channels
   pub idle : AreIdle logger.channels
   pub failed : HasFailed logger.channels → ⊥
-  pub reasons : (files : RunFiles) → GivesReasons logger.channels files files []
+  pub reasons : (ports : List Access) → (files : RunFiles) → GivesReasons logger.channels ports files files []
   pub ready : (caller : ℕ) → (seen : Seen) → IsLoggerReady logger.channels (new_ports buffers caller) seen
   pub stands : (caller : ℕ) → (seen : Seen) →
       LoggerStands None None logger.channels (new_ports buffers caller) [] seen

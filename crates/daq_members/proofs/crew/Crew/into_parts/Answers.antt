@@ -5,4 +5,5 @@ returns-clause-keep g c = record {
   fronts = rw c.deref.ensures.value at c.ask_all.ensures;
   logger = c.client.ensures.seated;
   reasons = c.client.ensures.reasons;
+  names = c.client.ensures.names;
 }

@@ -6,6 +6,7 @@ use Rattle.daq_members.specs.LoggerSeats.{LoggerSeen, IsSameLogger}
 use Rattle.daq_members.proofs.LoggerSeatLaws.{known_before, have_entries, caller_kept, begun_mapped, begun_read}
 use Rattle.daq_members.proofs.OtherFilesKept.{LoggerLeaves, specs_stay, others_kept}
 use Rattle.daq_members.proofs.LoggerReasons.{ReasonLaws, reasons_kept}
+use Rattle.daq_members.proofs.LoggerNames.{NameLaws, names_stay}
 use Rattle.daq_members.proofs.logger_seat.LoggerSeat.turn.Goals as goal
 
 pub turn-requires-clause-entries : goal.turn-requires-clause-entries
@@ -44,6 +45,14 @@ invariant_of-self g c =
     let before = c.self.invariant.seated in
     let did = c.turn.ensures in
     let laws : LoggerLeaves = record { turns = c.other_files.ensures.turns; pulls = c.other_files.ensures.pulls; finishes = c.other_files.ensures.finishes } in
+    let names : NameLaws = record {
+      turns = c.names_kept.ensures.turns;
+      pulls = c.names_kept.ensures.pulls;
+      finishes = c.names_kept.ensures.finishes;
+      stopped = c.names_kept.ensures.stopped;
+      still_stopped = c.names_kept.ensures.still_stopped;
+      leave = c.other_files.ensures.pulls;
+    } in
     let reasons : ReasonLaws = record { turns = c.reasons_given.ensures.turns; pulls = c.reasons_given.ensures.pulls; finishes = c.reasons_given.ensures.finishes } in
     record {
       seated = record {
@@ -60,4 +69,7 @@ invariant_of-self g c =
             rw did.client (others_kept laws _ _ did.takes before.ready (before.stands known) (before.others known));
       };
       reasons = rw did.client (reasons_kept reasons _ _ did.takes c.self.invariant.reasons);
+      names = λ none.
+          let known = known_before c.still_known.ensures.turns c.still_known.ensures.pulls _ did.takes none in
+          rw did.client (names_stay names _ _ did.takes before.ready before.idle (before.stands known) c.self.invariant.reasons (c.self.invariant.names known));
     }

@@ -21,8 +21,11 @@ new-logger-requires-clause-ready g c = ready_bare _ _ _ _ _ _ _ c.in-Ok.ensures.
 pub new-logger-requires-clause-room : goal.new-logger-requires-clause-room
 new-logger-requires-clause-room g c = room_bare _ _ _ _ _ _ _ c.in-Ok.ensures.members
 
+pub new-logger-requires-clause-fresh : goal.new-logger-requires-clause-fresh
+new-logger-requires-clause-fresh g c = c.in-Ok.ensures.members.calls
+
 pub new-logger-requires-clause-idle : goal.new-logger-requires-clause-idle
-new-logger-requires-clause-idle g c = λ off. c.in-Ok.ensures.members.made.idle
+new-logger-requires-clause-idle g c = c.in-Ok.ensures.members.made.idle
 
 pub new-logger-requires-clause-begun : goal.new-logger-requires-clause-begun
 new-logger-requires-clause-begun g c = let P : Option LoggedRun → Type 0 = λ run. buffers_begun run ≤ length c.in-Ok.bare.ports in
