@@ -338,3 +338,8 @@ module _ {D F : Type 0} {g : _} (seen : F → Seen) (fronts : List FrontDeclared
     main = main_ends;
     others = others;
   }
+
+  -- the ports of its logger are those that the seat shows
+  pub ends_ports : ends_met.logger.ports ≡ logger.ports
+  unfolding ends_met logger_ends
+  ends_ports = refl

@@ -1,33 +1,49 @@
 -- The counts and the records of a session that ended.
-use Rattle.std.specs.Prelude.{◌≡◌, ℕ, zero, suc, List, [], ◌∷◌, ◌++◌, length, slice_get, Some}
+use Rattle.std.specs.Prelude.{◌≡◌, ◌⊎◌, ℕ, zero, suc, IsTrue, List, [], ◌∷◌, ◌++◌, length, map, slice_get, Contains, Option, Some, None, refl}
 use Rattle.std.specs.List.{AllByRecursion}
-use Rattle.std.proofs.Common.{ap, sym, subst, ◌∙◌}
+use Rattle.std.proofs.Common.{ap, sym, subst, ◌∙◌, arith, inl, inr, append_assoc, append-nil}
+use Rattle.daq_types.specs.Callers.{main_caller}
 use Rattle.daq_types.specs.declared.runs.StartOutcome.{StartOutcome}
 use Rattle.daq_types.specs.declared.runs.StartOutcome.TheVariants.{Completed, Refused}
+use Rattle.daq_types.specs.declared.runs.Transition.TheVariants.{Start}
+use Rattle.daq_types.specs.declared.runs.Why.{Why}
 use Rattle.daq_io.specs.Seen.{Seen}
+use Rattle.buffer_core.specs.Ports.{Access}
+use Rattle.buffer_core.specs.Slots.{slot_at}
+use Rattle.transitions.specs.declared.sheet.Sheet.{Sheet}
 use Rattle.transitions.specs.declared.entry.EngineEntry.{EngineEntry}
 use Rattle.odb_lock.specs.SharedOdbs.{first_database}
+use Rattle.mid_logger.specs.declared.channel.Channel.{Channel}
 use Rattle.mid_logger.specs.declared.channel_spec.ChannelSpec.{ChannelSpec}
 use Rattle.member_model.specs.Turns.{MemberTurn}
 use Rattle.member_model.specs.TurnCalls.{member_turns}
 use Rattle.loggers.specs.Moments.{RunFiles}
+use Rattle.loggers.specs.LoggerStands.{logger_channel, logger_channels}
+use Rattle.loggers.specs.NewLoggers.{NoneTakenBack}
 use Rattle.loggers.specs.Reasons.{GivesReasons}
+use Rattle.loggers.specs.LeftNames.{NoneRose, KeepsNames}
+use Rattle.session_engine.specs.MadeTransitions.{TransitionIn}
 use Rattle.session_setup.specs.declared.declared.FrontDeclared.{FrontDeclared}
 use Rattle.run_records.specs.declared.records.RunRecord.{RunRecord}
 use Rattle.session_runs.specs.declared.channels.RunChannel.{RunChannel}
 use Rattle.session_runs.specs.declared.on.CurrentRun.{CurrentRun}
 use Rattle.session_runs.specs.KeptRuns.{channels_of}
-use Rattle.session_runs.specs.RunsFit.{MainOwn, FitsRun, FitsOutcome, FitsWhole, run_of}
-use Rattle.daq_members.specs.LoggerSeats.{LoggerSeen, HasLoggerReasons}
+use Rattle.session_runs.specs.RunEntries.{start_sheet}
+use Rattle.session_runs.specs.RunsFit.{MainOwn, FitsRun, FitsOutcome, FitsRefused, FitsWhole, RecordsFit, run_of, start_begun, start_of, starts_begun}
+use Rattle.daq_members.specs.LoggerSeats.{LoggerSeen, HasLoggerReasons, KeepsLoggerNames}
 use Rattle.session_objects.specs.declared.record.SessionRecord.{SessionRecord}
 use Rattle.session_laws.specs.ClosedSessions.{ClosedSession, logger_client, logger_caller, engine_calls}
 use Rattle.session_laws.specs.MembersAtEnd.{MembersAtEnd}
 use Rattle.session_laws.specs.EndLaws.{SessionHolds}
-use Rattle.session_laws.specs.CountedFaults.{LoggerReasons, CountsHold, CountsTell}
-use Rattle.session_laws.specs.RecordedRuns.{run_channels, AreDeclared, ChannelsAgree, RecordsHold}
+use Rattle.session_laws.specs.CountedFaults.{LoggerReasons, LoggerNames, CountsHold, CountsTell}
+use Rattle.session_laws.specs.RecordedRuns.{ListsFile, run_channels, AreDeclared, ChannelsAgree, RecordsHold}
+use Rattle.session_laws.specs.OtherNames.{RefusesStart, GivesNoName, IsUnmadeName, AreStartsOver}
+use Rattle.session_laws.specs.MadeRuns.{RunIn}
+use Rattle.composition.specs.SessionRuns.{SessionRun}
+use Rattle.session_laws.proofs.RecordsMade.{made_then}
 use Rattle.session_ends.specs.EndedSessions.{closed_session, SessionEnded}
-use Rattle.session_ends.specs.EndedRecords.{RecordSo}
-use Rattle.session_ends.proofs.EndsMet.{number, logger_engine, engine_by_main}
+use Rattle.session_ends.specs.EndedRecords.{RecordSo, IsInNoRecord}
+use Rattle.session_ends.proofs.EndsMet.{number, logger_engine, engine_by_main, ends_met, ends_ports}
 
 all_at : {X : Type 0} (P : X → Type 0) (xs : List X) → AllByRecursion P xs → (n : ℕ) (x : X) → slice_get xs n ≡ Some x → P x
 all_at P [] all n x at = absurd (cc (at))
@@ -37,6 +53,39 @@ all_at P (y ∷ xs) all (suc n) x at = all_at P xs all.1 n x at
 whole : (fronts : ℕ) (channels : List RunChannel) (own : MainOwn) (begun : CurrentRun) (r : RunRecord) (o : StartOutcome) → o ≡ Completed → FitsOutcome fronts channels own begun r o → FitsWhole fronts channels own begun r
 whole fronts channels own begun r Completed is fits = fits
 whole fronts channels own begun r (Refused client why) is fits = absurd (cc (is))
+
+was_refused : (fronts : ℕ) (channels : List RunChannel) (own : MainOwn) (begun : CurrentRun) (r : RunRecord) (client : ℕ) (why : Why) (o : StartOutcome) → o ≡ Refused client why → FitsOutcome fronts channels own begun r o → FitsRefused own begun r
+was_refused fronts channels own begun r client why Completed is fits = absurd (cc (is))
+was_refused fronts channels own begun r client why (Refused c w) is fits = fits
+
+-- Lists.
+
+starts_joined : (own more : List EngineEntry) → starts_begun (own ++ more) ≡ starts_begun own ++ starts_begun more
+starts_joined [] more = refl
+starts_joined (e ∷ own) more =
+    ap (λ (l : List ℕ). start_begun e ++ l) (starts_joined own more) ∙ sym (append_assoc (start_begun e) (starts_begun own) (starts_begun more))
+
+-- what stands in a list of images is the image of a member
+record MappedAt {X Y : Type 0} (f : X → Y) (xs : List X) (y : Y) : Type 0 where
+  place : ℕ
+  x : X
+  at : slice_get xs place ≡ Some x
+  is : f x ≡ y
+
+mapped_at : {X Y : Type 0} (f : X → Y) (xs : List X) (y : Y) → Contains (map f xs) y → MappedAt f xs y
+mapped_at f [] y has = absurd (omega (arith, has.1))
+mapped_at f (x ∷ xs) y (zero, within, is) = record { place = 0; x = x; at = refl; is = is }
+mapped_at f (x ∷ xs) y (suc k, within, is) =
+    let found : MappedAt f xs y = mapped_at f xs y (k, omega (arith, within), is) in
+    record { place = suc found.place; x = found.x; at = found.at; is = found.is }
+
+-- each channel is among those of the contract
+channel_listed : (slots : List (Option Channel)) (number : ℕ) (c : Channel) → slot_at slots number ≡ Some c → (index : ℕ) × (slice_get (logger_channels (λ n. 0) slots) index ≡ Some (logger_channel 0 c))
+channel_listed [] number c at = absurd (cc (at))
+channel_listed (None ∷ slots) zero c at = absurd (cc (at))
+channel_listed (None ∷ slots) (suc n) c at = channel_listed slots n c at
+channel_listed (Some x ∷ slots) zero c at = (let same : x ≡ c = cc (at) in (0, ap (λ (y : Channel). Some (logger_channel 0 y)) same))
+channel_listed (Some x ∷ slots) (suc n) c at = (let later = channel_listed slots n c at in (suc later.0, later.1))
 
 module _ {D F : Type 0} {g : _} (seen : F → Seen) (fronts : List FrontDeclared) (logger : LoggerSeen F) (r : SessionRecord D g) (ended : SessionEnded seen fronts logger r) where
   abbrev closed : ClosedSession
@@ -50,11 +99,16 @@ module _ {D F : Type 0} {g : _} (seen : F → Seen) (fronts : List FrontDeclared
       ap (λ (n : ℕ). member_turns n logger.calls) (ended.members.logger.is ∙ sym its_number)
       ∙ ap (member_turns (logger_client closed)) (sym (logger_engine seen fronts logger r ended))
 
-  pub counts_met : CountsTell → MembersAtEnd closed → (read : F → RunFiles) → HasLoggerReasons read logger → CountsHold closed (read logger.first) (read logger.files)
-  counts_met tell members read reasons =
-      let its : LoggerReasons closed (read logger.first) (read logger.files) =
-      subst (λ (ts : List MemberTurn). GivesReasons logger.slots (read logger.first) (read logger.files) ts) turns reasons in
-      tell closed members (read logger.first) (read logger.files) its
+  pub counts_met : CountsTell → (read : F → RunFiles) → HasLoggerReasons read logger → KeepsLoggerNames read logger → CountsHold closed (read logger.first) (read logger.files)
+  counts_met tell read reasons names =
+      let members : MembersAtEnd closed = ends_met seen fronts logger r ended in
+      let its : LoggerReasons closed members (read logger.first) (read logger.files) =
+      subst (λ (ports : List Access). GivesReasons logger.slots ports (read logger.first) (read logger.files) (member_turns (logger_client closed) (engine_calls closed (logger_caller closed)))) (sym (ends_ports seen fronts logger r ended))
+      (subst (λ (ts : List MemberTurn). GivesReasons logger.slots logger.ports (read logger.first) (read logger.files) ts) turns reasons) in
+      let its_names : LoggerNames closed members (read logger.first) (read logger.files) = λ none.
+      subst (λ (ts : List MemberTurn). KeepsNames logger.slots (read logger.first) (read logger.files) ts) turns
+      (names (subst (λ (ports : List Access). NoneTakenBack ports) (ends_ports seen fronts logger r ended) none)) in
+      tell closed members (read logger.first) (read logger.files) its its_names
 
   pub record_met : RecordsHold → ChannelsAgree → (channels : List ChannelSpec) → AreDeclared channels logger.slots → (holds : SessionHolds closed) → (own : MainOwn) → (more : List EngineEntry) → ended.own ≡ own.engine ++ more
       → AllByRecursion (FitsRun (length fronts) (channels_of channels) own) r.runs → (place : ℕ) → (kept : RunRecord) → slice_get r.runs place ≡ Some kept → kept.outcome ≡ Completed → RecordSo closed holds.moments own kept
@@ -69,3 +123,82 @@ module _ {D F : Type 0} {g : _} (seen : F → Seen) (fronts : List FrontDeclared
         fits = fits;
         holds = hold closed holds own more (engine_by_main seen fronts logger r ended ∙ calls) kept fit.0 fits;
       }
+
+  -- Names.
+
+  -- a start of a record was refused, or the record holds what it has of the run
+  over_at : (holds : SessionHolds closed) (own : MainOwn) (more : List EngineEntry) → engine_calls closed main_caller ≡ own.engine ++ more → (channels : List RunChannel) (kept : RunRecord) (o : StartOutcome) → kept.outcome ≡ o → FitsRun (length fronts) channels own kept
+      → (kept.outcome ≡ Completed → RecordSo closed holds.moments own kept) → RefusesStart (engine_calls closed main_caller) kept.start ⊎ RecordSo closed holds.moments own kept
+  over_at holds own more calls channels kept Completed is fit so = inr (so is)
+  over_at holds own more calls channels kept (Refused client why) is fit so =
+      let refused : FitsRefused own (run_of kept fit.0) kept = was_refused (length fronts) channels own (run_of kept fit.0) kept client why kept.outcome is fit.1 in
+      let start = refused.start in
+      let sheet : Sheet = start_sheet kept.run kept.time0 fit.0 start.dump in
+      let made : TransitionIn own.engine Start sheet kept.start (Refused client why) start.tallies = subst (λ (x : StartOutcome). TransitionIn own.engine Start sheet kept.start x start.tallies) is start.made in
+      inl (record {
+        sheet = sheet;
+        client = client;
+        why = why;
+        tallies = start.tallies;
+        made = subst (λ (l : List EngineEntry). TransitionIn l Start sheet kept.start (Refused client why) start.tallies) (sym calls) (made_then own.engine more Start sheet kept.start (Refused client why) start.tallies made);
+      })
+
+  -- the record of a start
+  record OfStart (holds : SessionHolds closed) (own : MainOwn) (start : ℕ) : Type 0 where
+    place : ℕ
+    kept : RunRecord
+    at : slice_get r.runs place ≡ Some kept
+    is : kept.start ≡ start
+    over : RefusesStart (engine_calls closed main_caller) kept.start ⊎ RecordSo closed holds.moments own kept
+
+  of_start : (holds : SessionHolds closed) (channels : List ChannelSpec) (own : MainOwn) (more : List EngineEntry) → ended.own ≡ own.engine ++ more → starts_begun more ≡ [] → RecordsFit (length fronts) (channels_of channels) own r.runs
+      → ((place : ℕ) (kept : RunRecord) → slice_get r.runs place ≡ Some kept → kept.outcome ≡ Completed → RecordSo closed holds.moments own kept) → (start : ℕ) → Contains (starts_begun (engine_calls closed main_caller)) start → OfStart holds own start
+  of_start holds channels own more calls none fits so start among =
+      let whole_calls : engine_calls closed main_caller ≡ own.engine ++ more = engine_by_main seen fronts logger r ended ∙ calls in
+      let starts : starts_begun (engine_calls closed main_caller) ≡ map start_of r.runs =
+      ap starts_begun whole_calls
+      ∙ (starts_joined own.engine more
+      ∙ (ap (λ (l : List ℕ). starts_begun own.engine ++ l) none
+      ∙ (append-nil (starts_begun own.engine)
+      ∙ sym fits.each_start))) in
+      let found : MappedAt start_of r.runs start = mapped_at start_of r.runs start (subst (λ (l : List ℕ). Contains l start) starts among) in
+      record {
+        place = found.place;
+        kept = found.x;
+        at = found.at;
+        is = found.is;
+        over = over_at holds own more whole_calls (channels_of channels) found.x found.x.outcome refl (all_at (FitsRun (length fronts) (channels_of channels) own) r.runs fits.runs found.place found.x found.at)
+            (so found.place found.x found.at);
+      }
+
+  -- each start is over
+  pub starts_met : (holds : SessionHolds closed) (channels : List ChannelSpec) (own : MainOwn) (more : List EngineEntry) → ended.own ≡ own.engine ++ more → starts_begun more ≡ [] → RecordsFit (length fronts) (channels_of channels) own r.runs
+      → ((place : ℕ) (kept : RunRecord) → slice_get r.runs place ≡ Some kept → kept.outcome ≡ Completed → RecordSo closed holds.moments own kept) → AreStartsOver (engine_calls closed main_caller)
+  starts_met holds channels own more calls none fits so start among =
+      let o : OfStart holds own start = of_start holds channels own more calls none fits so start among in
+      subst (λ (n : ℕ). RefusesStart (engine_calls closed main_caller) n ⊎ ((run : SessionRun) × RunIn (engine_calls closed main_caller) run × (run.start ≡ n))) o.is
+      (elim o.over as (λ w. RefusesStart (engine_calls closed main_caller) o.kept.start ⊎ ((run : SessionRun) × RunIn (engine_calls closed main_caller) run × (run.start ≡ o.kept.start))) [
+        | inl refused ↦ inl refused
+        | inr so_far ↦ inr (so_far.holds.run, so_far.holds.made, so_far.holds.start)
+      ])
+
+  unmade : (holds : SessionHolds closed) (channels : List ChannelSpec) (own : MainOwn) (more : List EngineEntry) → ended.own ≡ own.engine ++ more → starts_begun more ≡ [] → RecordsFit (length fronts) (channels_of channels) own r.runs
+      → ((place : ℕ) (kept : RunRecord) → slice_get r.runs place ≡ Some kept → kept.outcome ≡ Completed → RecordSo closed holds.moments own kept) → (name : List ℕ) → IsInNoRecord r.runs name → IsUnmadeName closed name
+  unmade holds channels own more calls none fits so name unlisted start among =
+      let o : OfStart holds own start = of_start holds channels own more calls none fits so start among in
+      subst (λ (n : ℕ). RefusesStart (engine_calls closed main_caller) n ⊎ GivesNoName closed name n) o.is
+      (elim o.over as (λ w. RefusesStart (engine_calls closed main_caller) o.kept.start ⊎ GivesNoName closed name o.kept.start) [
+        | inl refused ↦ inl refused
+        | inr so_far ↦ inr (record {
+          run = so_far.holds.run;
+          made = so_far.holds.made;
+          of = so_far.holds.start;
+          other = λ number channel there same.
+              let listed = channel_listed logger.slots number channel there in
+              unlisted o.place o.kept o.at (subst (λ (l : List ℕ). ListsFile o.kept l) same (so_far.holds.each_file listed.0 (logger_channel 0 channel) listed.1));
+        })
+      ])
+
+  pub names_met : (holds : SessionHolds closed) (first now : RunFiles) → CountsHold closed first now → (channels : List ChannelSpec) (own : MainOwn) (more : List EngineEntry) → ended.own ≡ own.engine ++ more → starts_begun more ≡ [] → RecordsFit (length fronts) (channels_of channels) own r.runs
+      → ((place : ℕ) (kept : RunRecord) → slice_get r.runs place ≡ Some kept → kept.outcome ≡ Completed → RecordSo closed holds.moments own kept) → IsTrue first.seen.tells → NoneRose first now → (name : List ℕ) → IsInNoRecord r.runs name → now.seen.at name ≡ first.seen.at name
+  names_met holds first now counts channels own more calls none fits so tells stays name unlisted = counts.names tells stays name (unmade holds channels own more calls none fits so name unlisted)

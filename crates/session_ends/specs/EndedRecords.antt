@@ -1,6 +1,7 @@
 -- What the counts and the records of a session that ended tell.
-use Rattle.std.specs.Prelude.{◌≡◌, ℕ, List, ◌++◌, length, slice_get, Option, Some}
+use Rattle.std.specs.Prelude.{◌≡◌, ℕ, IsTrue, List, [], ◌++◌, length, slice_get, Option, Some}
 use Rattle.std.specs.List.{AllByRecursion}
+use Rattle.daq_types.specs.Callers.{main_caller}
 use Rattle.daq_types.specs.declared.runs.StartOutcome.TheVariants.{Completed}
 use Rattle.daq_io.specs.Seen.{Seen}
 use Rattle.transitions.specs.declared.entry.EngineEntry.{EngineEntry}
@@ -10,23 +11,26 @@ use Rattle.mid_logger.specs.declared.channel_spec.ChannelSpec.{ChannelSpec}
 use Rattle.loggers.specs.Moments.{RunFiles}
 use Rattle.loggers.specs.NewLoggers.{HasNewChannels}
 use Rattle.loggers.specs.OtherFiles.{specs_in}
+use Rattle.loggers.specs.LeftNames.{NoneRose}
 use Rattle.session_setup.specs.declared.declared.FrontDeclared.{FrontDeclared}
 use Rattle.run_records.specs.declared.records.RunRecord.{RunRecord}
 use Rattle.session_runs.specs.KeptRuns.{channels_of}
 use Rattle.session_runs.specs.RunEntries.{start_sheet, later_sheet, dump_saved}
-use Rattle.session_runs.specs.RunsFit.{MainOwn, FitsRun, FitsWhole, run_of}
-use Rattle.daq_members.specs.LoggerSeats.{LoggerSeen, HasLoggerReasons}
+use Rattle.session_runs.specs.RunsFit.{MainOwn, FitsRun, FitsWhole, RecordsFit, run_of, starts_begun}
+use Rattle.daq_members.specs.LoggerSeats.{LoggerSeen, HasLoggerReasons, KeepsLoggerNames}
 use Rattle.session_objects.specs.declared.record.SessionRecord.{SessionRecord}
-use Rattle.session_laws.specs.ClosedSessions.{ClosedSession, logger_client, session_of}
+use Rattle.session_laws.specs.ClosedSessions.{ClosedSession, logger_client, engine_calls, session_of}
 use Rattle.session_laws.specs.EndLaws.{SessionHolds}
 use Rattle.session_laws.specs.CountedFaults.{CountsHold}
-use Rattle.session_laws.specs.RecordedRuns.{RecordHolds, run_channels, AreDeclared}
+use Rattle.session_laws.specs.OtherNames.{AreStartsOver}
+use Rattle.session_laws.specs.RecordedRuns.{ListsFile, RecordHolds, run_channels, AreDeclared}
 use Rattle.session_ends.specs.EndedSessions.{closed_session, SessionEnded}
 
--- What the counts of run files tell of starts and channels is so, from those as the logger took its seat to those at the end.
+-- What the counts of run files tell of starts, channels and names is so, from those as the logger took its seat to those at the
+-- end.
 abbrev pub CountsSo : {D F : Type 0} {g : _} → (seen : F → Seen) → (read : F → RunFiles) → SessionRecord D g → Type 0
 CountsSo {D} {F} seen read r = (fronts : List FrontDeclared) → (logger : LoggerSeen F) →
-    (ended : SessionEnded seen fronts logger r) → HasLoggerReasons read logger →
+    (ended : SessionEnded seen fronts logger r) → HasLoggerReasons read logger → KeepsLoggerNames read logger →
     CountsHold (closed_session (first_database ended.shared) fronts logger.slots (seen logger.first) (seen logger.files) r)
     (read logger.first) (read logger.files)
 
@@ -55,3 +59,28 @@ RecordsSo {D} {F} seen r = (fronts : List FrontDeclared) → (logger : LoggerSee
     (number : ℕ) → (record_at : RunRecord) → slice_get r.runs number ≡ Some record_at → record_at.outcome ≡ Completed →
     RecordSo (closed_session (first_database ended.shared) fronts logger.slots (seen logger.first) (seen logger.files) r)
     holds.moments own record_at
+
+-- Where there is one record for each start that the main thread began, each start is over.
+abbrev pub StartsSo : {D F : Type 0} {g : _} → (seen : F → Seen) → SessionRecord D g → Type 0
+StartsSo {D} {F} seen r = (fronts : List FrontDeclared) → (logger : LoggerSeen F) →
+    (ended : SessionEnded seen fronts logger r) → (channels : List ChannelSpec) → AreDeclared channels logger.slots →
+    (own : MainOwn) → (more : List EngineEntry) → ended.own ≡ own.engine ++ more → starts_begun more ≡ [] →
+    RecordsFit (length fronts) (channels_of channels) own r.runs →
+    AreStartsOver (engine_calls
+    (closed_session (first_database ended.shared) fronts logger.slots (seen logger.first) (seen logger.files) r) main_caller)
+
+-- none of these records has a file of this name
+abbrev pub IsInNoRecord : List RunRecord → (name : List ℕ) → Type 0
+IsInNoRecord records name = (place : ℕ) → (r : RunRecord) → slice_get records place ≡ Some r → ListsFile r name → ⊥
+
+-- Where there is one record for each start that the main thread began, names are told, and no fault was counted: each name that
+-- is in no record is there where it was as the logger took its seat, with the same bytes.
+abbrev pub NamesSo : {D F : Type 0} {g : _} → (seen : F → Seen) → (read : F → RunFiles) → SessionRecord D g → Type 0
+NamesSo {D} {F} seen read r = (fronts : List FrontDeclared) → (logger : LoggerSeen F) →
+    (ended : SessionEnded seen fronts logger r) → HasLoggerReasons read logger → KeepsLoggerNames read logger →
+    (channels : List ChannelSpec) → AreDeclared channels logger.slots →
+    (own : MainOwn) → (more : List EngineEntry) → ended.own ≡ own.engine ++ more → starts_begun more ≡ [] →
+    RecordsFit (length fronts) (channels_of channels) own r.runs →
+    IsTrue (read logger.first).seen.tells → NoneRose (read logger.first) (read logger.files) →
+    (name : List ℕ) → IsInNoRecord r.runs name →
+    (read logger.files).seen.at name ≡ (read logger.first).seen.at name

@@ -2,7 +2,7 @@
 
 ghost use Rattle.loggers.specs.Moments.{RunFiles};
 ghost use Rattle.session_ends.specs.EndedSessions.{EndsSo, HoldsSo};
-ghost use Rattle.session_ends.specs.EndedRecords.{ChannelsStay, CountsSo, RecordsSo};
+ghost use Rattle.session_ends.specs.EndedRecords.{ChannelsStay, CountsSo, RecordsSo, StartsSo, NamesSo};
 
 use daq_io::Files;
 use odb_lock::{LockedDatabase, WatchedSeen};
@@ -30,13 +30,12 @@ where
     closed::session_holds();
 }
 
-/// What the counts of run files tell of starts and channels is so.
-pub fn counts_end<D: Database, F: Files>(kept: &SessionRecord<D>)
+/// What the counts of run files tell of starts, channels and names is so.
+pub fn counts_end<D: Database, F: Files>(_kept: &SessionRecord<D>)
 where
     LockedDatabase<D>: Machine<State = WatchedSeen, Entry = WatchEntry>,
-    ensures { (read : F → RunFiles) → CountsSo F.seen read kept.now }
+    ensures { (read : F → RunFiles) → CountsSo F.seen read _kept.now }
 {
-    members_end::<D, F>(kept);
     closed::counts_tell();
 }
 
@@ -53,4 +52,25 @@ where
 {
     closed::records_hold();
     closed::channels_agree();
+}
+
+/// Where there is a record for each start, each start was refused, or its run was stopped.
+pub fn starts_end<D: Database, F: Files>(kept: &SessionRecord<D>)
+where
+    LockedDatabase<D>: Machine<State = WatchedSeen, Entry = WatchEntry>,
+    ensures { StartsSo F.seen kept.now }
+{
+    session_ended::<D, F>(kept);
+    records_end::<D, F>(kept);
+}
+
+/// Where there is a record for each start, and no fault of the run files was counted, each name that is in no record is as it was.
+pub fn names_end<D: Database, F: Files>(kept: &SessionRecord<D>)
+where
+    LockedDatabase<D>: Machine<State = WatchedSeen, Entry = WatchEntry>,
+    ensures { (read : F → RunFiles) → NamesSo F.seen read kept.now }
+{
+    session_ended::<D, F>(kept);
+    counts_end::<D, F>(kept);
+    records_end::<D, F>(kept);
 }

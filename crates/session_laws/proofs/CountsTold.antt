@@ -1,49 +1,52 @@
 -- What the counts of a closed session's run files tell.
-use Rattle.std.specs.Prelude.{◌≡◌, ℕ, true, List, [], slice_get, Option, Some, None, refl}
+use Rattle.std.specs.Prelude.{◌≡◌, ℕ, true, IsTrue, List, [], slice_get, Option, Some, None, refl}
 use Rattle.std.proofs.Common.{ap, sym, subst, ◌∙◌, arith, inl, inr}
-use Rattle.daq_types.specs.Callers.{caller_of_client, main_caller, entries_by}
+use Rattle.daq_types.specs.Callers.{caller_of_client, main_caller}
 use Rattle.daq_types.specs.declared.runs.ChannelState.{ChannelState}
 use Rattle.daq_types.specs.declared.runs.ChannelState.TheVariants.{Idle, Writing, Broken, Ended, NoEnd, NoMark}
 use Rattle.daq_types.specs.declared.runs.Order.{Order}
-use Rattle.daq_types.specs.declared.runs.RunState.{RunState}
 use Rattle.daq_types.specs.declared.runs.RunState.TheVariants.{Stopped}
 use Rattle.daq_types.specs.declared.runs.StartOutcome.TheVariants.{Completed, Refused}
 use Rattle.daq_types.specs.declared.runs.Transition.TheVariants.{Start, Stop}
 use Rattle.daq_types.specs.declared.runs.Why.{Why}
+use Rattle.daq_types.specs.declared.runs.Why.TheVariants.{NotReady, Exists, Fault, BufferRefused}
 use Rattle.daq_io.specs.Counts.{Rose}
-use Rattle.buffer_core.specs.declared.entry.BufferEntry.{BufferEntry}
 use Rattle.transitions.specs.declared.sheet.Sheet.{Sheet}
 use Rattle.transitions.specs.declared.answers.Answer.{Answer}
 use Rattle.transitions.specs.declared.answers.Answer.TheVariants.{Yes, No}
-use Rattle.transitions.specs.declared.answers.Tally.{Tally}
 use Rattle.transitions.specs.declared.answers.Tally.TheVariants.{Channels}
 use Rattle.transitions.specs.declared.answers.ClientTally.{ClientTally}
 use Rattle.transitions.specs.declared.entry.EngineEntry.{EngineEntry}
 use Rattle.transitions.specs.EngineCalls.{order_for}
-use Rattle.transitions.specs.EnginePoints.{engine_past, state_at, tally_of}
+use Rattle.transitions.specs.EnginePoints.{engine_past, state_at}
 use Rattle.member_model.specs.Turns.{MemberTurn, HasTurn}
 use Rattle.member_model.specs.TurnCalls.{member_turns}
 use Rattle.member_model.specs.LoggerKept.{LoggerChannel, IsStateSo}
 use Rattle.loggers.specs.Moments.{RunFiles}
 use Rattle.loggers.specs.LoggerStands.{logger_channels}
-use Rattle.loggers.specs.Reasons.{IsReasonSo, AreStatesSo, IsAnswerSo}
+use Rattle.loggers.specs.Reasons.{AreStatesSo}
+use Rattle.loggers.specs.LeftNames.{NoneRose}
 use Rattle.engine_laws.specs.BegunTurns.{HasTransition, IsRefusedTurn, IsTallyOfTurn}
-use Rattle.engine_laws.specs.EngineLaws.{MainHasTransition, RefusalsAreAnswers, TalliesAreAnswers}
-use Rattle.composition.specs.Sessions.{Session, HasFront, buffer_calls}
+use Rattle.engine_laws.specs.EngineLaws.{MainHasTransition, RefusalsAreAnswers, TalliesAreAnswers, RunsAreOver}
+use Rattle.composition.specs.Sessions.{Session, buffer_calls}
 use Rattle.composition.specs.SessionRuns.{SessionRun, IsStoppedRun, ToldState}
 use Rattle.composition.specs.CompositionLaws.{IsComposed}
 use Rattle.composition.proofs.FilesTogether.{yes_channels}
 use Rattle.composition.proofs.SessionTurns.{speaks}
-use Rattle.session_laws.specs.ClosedSessions.{ClosedFront, ClosedSession, logger_client, logger_caller, engine_calls, session_of, session_front, session_fronts}
+use Rattle.session_laws.specs.ClosedSessions.{ClosedFront, ClosedSession, logger_client, logger_caller, engine_calls, session_of, session_front}
 use Rattle.session_laws.specs.MembersAtEnd.{MembersAtEnd}
 use Rattle.session_engine.specs.MadeTransitions.{TransitionIn}
 use Rattle.session_laws.specs.MadeRuns.{RunIn}
 use Rattle.session_laws.specs.EndLaws.{EndsComposed, MadeAreStopped}
-use Rattle.session_laws.specs.CountedFaults.{LoggerReasons, IsFrontRefusal, IsRefusedSo, state_by_dump, CountsHold, CountsTell}
+use Rattle.session_laws.specs.CountedFaults.{LoggerReasons, LoggerNames, IsLoggerReason, IsRefusedSo, state_by_dump, CountsTell}
 use Rattle.session_laws.proofs.EachCaller.{by_caller}
 use Rattle.session_laws.proofs.FrontsEnd.{front_listed}
 use Rattle.session_laws.proofs.KeptTogether.{names_own}
+use Rattle.session_laws.proofs.LoggerRefusals.{never_unready, refused_ask}
 use Rattle.session_laws.proofs.RunsMade.{has_made}
+use Rattle.session_laws.specs.OtherNames.{AreStartsOver, IsTakenName}
+use Rattle.session_laws.proofs.TakenNames.{taken_name}
+use Rattle.session_laws.proofs.UndoneNames.{UndoneLaws, firsts_stay, undone_stay}
 
 -- the laws of engines, and those of closed sessions
 pub record CountLaws : Type 0 where
@@ -52,6 +55,8 @@ pub record CountLaws : Type 0 where
   pub tallies : TalliesAreAnswers
   pub composed : EndsComposed
   pub stopped : MadeAreStopped
+  pub undone : UndoneLaws
+  pub over : RunsAreOver
 
 -- Refusals.
 
@@ -63,31 +68,39 @@ refused_turn laws c ends sheet start client why tallies has =
 -- who refuses has calls on the engine: it is a front-end, or the logger
 abbrev RefusesBy : (c : ClosedSession) → (first now : RunFiles) → (sheet : Sheet) → (start : ℕ) → (why : Why) → (tallies : List ClientTally) → (by : ℕ) → Type 0
 RefusesBy c first now sheet start why tallies by =
-    (client : ℕ) → by ≡ caller_of_client client → (turn : MemberTurn) → HasTurn (member_turns client (engine_calls c by)) turn → turn.answer ≡ Some (No why) → HasTransition c.engine Start sheet start (Refused client why) tallies
+    (client : ℕ) → by ≡ caller_of_client client → (turn : MemberTurn) → HasTurn (member_turns client (engine_calls c by)) turn → turn.transition ≡ Start → turn.answer ≡ Some (No why) → HasTransition c.engine Start sheet start (Refused client why) tallies
     → IsRefusedSo c first now (order_for sheet start Stopped) client why
 
 main_refuses : (c : ClosedSession) (first now : RunFiles) (sheet : Sheet) (start : ℕ) (why : Why) (tallies : List ClientTally) → RefusesBy c first now sheet start why tallies main_caller
-main_refuses c first now sheet start why tallies client is turn stands answered has = absurd (omega (arith, is))
+main_refuses c first now sheet start why tallies client is turn stands starts answered has = absurd (omega (arith, is))
 
 front_refuses : CountLaws → (c : ClosedSession) → MembersAtEnd c → (first now : RunFiles) (sheet : Sheet) (start : ℕ) (why : Why) (tallies : List ClientTally) (n : ℕ) (f : ClosedFront) → slice_get c.fronts n ≡ Some f → RefusesBy c first now sheet start why tallies (caller_of_client n)
-front_refuses laws c ends first now sheet start why tallies n f at client is turn stands answered has =
+front_refuses laws c ends first now sheet start why tallies n f at client is turn stands starts answered has =
     let same : client ≡ n = omega (arith, is) in
     let mine : HasTransition c.engine Start sheet start (Refused n why) tallies = subst (λ (k : ℕ). HasTransition c.engine Start sheet start (Refused k why) tallies) same has in
     let composed = laws.composed c ends in
     let so = composed.1.fronts_refuse (session_front n f (composed.0 n)) (n, front_listed c composed.0 n f at) sheet start why tallies mine in
     inl (record { front = f; stands = subst (λ (k : ℕ). slice_get c.fronts k ≡ Some f) (sym same) at; why_is = so.0; no_part = so.1 })
 
-logger_refuses : (c : ClosedSession) (first now : RunFiles) → LoggerReasons c first now → (sheet : Sheet) (start : ℕ) (why : Why) (tallies : List ClientTally) → RefusesBy c first now sheet start why tallies (logger_caller c)
-logger_refuses c first now reasons sheet start why tallies client is turn stands answered has =
+-- why the logger answered so
+logger_reason : CountLaws → (c : ClosedSession) (ends : MembersAtEnd c) (first now : RunFiles) → LoggerReasons c ends first now → (why : Why) (turn : MemberTurn) → HasTurn (member_turns (logger_client c) (engine_calls c (logger_caller c))) turn → turn.transition ≡ Start → turn.answer ≡ Some (No why)
+    → IsLoggerReason c why first now
+logger_reason laws c ends first now reasons NotReady turn stands starts answered = absurd (never_unready laws.undone laws.over c ends turn stands starts answered)
+logger_reason laws c ends first now reasons (Exists channel) turn stands starts answered = reasons.answers turn (No (Exists channel)) stands answered
+logger_reason laws c ends first now reasons (Fault channel) turn stands starts answered = reasons.answers turn (No (Fault channel)) stands answered
+logger_reason laws c ends first now reasons BufferRefused turn stands starts answered = refused_ask c ends (reasons.buffers turn stands answered)
+
+logger_refuses : CountLaws → (c : ClosedSession) (ends : MembersAtEnd c) (first now : RunFiles) → LoggerReasons c ends first now → (sheet : Sheet) (start : ℕ) (why : Why) (tallies : List ClientTally) → RefusesBy c first now sheet start why tallies (logger_caller c)
+logger_refuses laws c ends first now reasons sheet start why tallies client is turn stands starts answered has =
     let same : client ≡ logger_client c = omega (arith, is) in
     let mine : HasTurn (member_turns (logger_client c) (engine_calls c (logger_caller c))) turn = subst (λ (k : ℕ). HasTurn (member_turns k (engine_calls c (logger_caller c))) turn) same stands in
-    inr (same, reasons.answers turn (No why) mine answered)
+    inr (same, logger_reason laws c ends first now reasons why turn mine starts answered)
 
 other_refuses : (c : ClosedSession) (first now : RunFiles) (sheet : Sheet) (start : ℕ) (why : Why) (tallies : List ClientTally) (by : ℕ) → engine_calls c by ≡ [] → RefusesBy c first now sheet start why tallies by
-other_refuses c first now sheet start why tallies by none client is turn stands answered has =
+other_refuses c first now sheet start why tallies by none client is turn stands starts answered has =
     absurd (subst (λ (calls : List EngineEntry). HasTurn (member_turns client calls) turn) none stands)
 
-refused_so : CountLaws → (c : ClosedSession) → MembersAtEnd c → (first now : RunFiles) → LoggerReasons c first now → (sheet : Sheet) (start client : ℕ) (why : Why) (tallies : List ClientTally) → TransitionIn (engine_calls c main_caller) Start sheet start (Refused client why) tallies
+refused_so : CountLaws → (c : ClosedSession) (ends : MembersAtEnd c) (first now : RunFiles) → LoggerReasons c ends first now → (sheet : Sheet) (start client : ℕ) (why : Why) (tallies : List ClientTally) → TransitionIn (engine_calls c main_caller) Start sheet start (Refused client why) tallies
     → IsRefusedSo c first now (order_for sheet start Stopped) client why
 refused_so laws c ends first now reasons sheet start client why tallies made =
     let has : HasTransition c.engine Start sheet start (Refused client why) tallies = has_made laws.main c.engine Start sheet start (Refused client why) tallies ends.engine made in
@@ -95,9 +108,9 @@ refused_so laws c ends first now reasons sheet start client why tallies made =
     by_caller (RefusesBy c first now sheet start why tallies) c
     (main_refuses c first now sheet start why tallies)
     (λ n f at. front_refuses laws c ends first now sheet start why tallies n f at)
-    (logger_refuses c first now reasons sheet start why tallies)
+    (logger_refuses laws c ends first now reasons sheet start why tallies)
     (λ by past. other_refuses c first now sheet start why tallies by (ends.others.engine by past))
-    (caller_of_client client) client refl r.turn r.stands r.answered has
+    (caller_of_client client) client refl r.turn r.stands r.starts r.answered has
 
 started_so : CountLaws → (c : ClosedSession) → MembersAtEnd c → (sheet : Sheet) (start : ℕ) (tallies : List ClientTally) → TransitionIn (engine_calls c main_caller) Start sheet start Completed tallies → (client : ℕ) (f : ClosedFront) → slice_get c.fronts client ≡ Some f
     → f.takes (order_for sheet start Stopped) ≡ true
@@ -107,7 +120,7 @@ started_so laws c ends sheet start tallies made client f at =
 
 -- Channels.
 
-broken_so : CountLaws → (c : ClosedSession) → MembersAtEnd c → (first now : RunFiles) → LoggerReasons c first now → (moments : (client : ℕ) → List ℕ) (r : SessionRun) → RunIn (engine_calls c main_caller) r → (channel : LoggerChannel) → ToldState (session_of c moments) r channel Broken
+broken_so : CountLaws → (c : ClosedSession) (ends : MembersAtEnd c) (first now : RunFiles) → LoggerReasons c ends first now → (moments : (client : ℕ) → List ℕ) (r : SessionRun) → RunIn (engine_calls c main_caller) r → (channel : LoggerChannel) → ToldState (session_of c moments) r channel Broken
     → Rose first.faults now.faults
 broken_so laws c ends first now reasons moments r made channel told =
     let n : ℕ = logger_client c in
@@ -131,7 +144,7 @@ state_is s composed r run index channel at none Ended told so = with_dump r.last
 state_is s composed r run index channel at none NoEnd told so = ap state_by_dump (sym so.0)
 state_is s composed r run index channel at none NoMark told so = absurd (composed.no_end_refused r run index channel at told)
 
-ended_so : CountLaws → (c : ClosedSession) → MembersAtEnd c → (first now : RunFiles) → LoggerReasons c first now → (Rose first.faults now.faults → ⊥) → (moments : (client : ℕ) → List ℕ) (r : SessionRun) → RunIn (engine_calls c main_caller) r → (index : ℕ) (channel : LoggerChannel)
+ended_so : CountLaws → (c : ClosedSession) (ends : MembersAtEnd c) (first now : RunFiles) → LoggerReasons c ends first now → (Rose first.faults now.faults → ⊥) → (moments : (client : ℕ) → List ℕ) (r : SessionRun) → RunIn (engine_calls c main_caller) r → (index : ℕ) (channel : LoggerChannel)
     → slice_get (logger_channels (λ number. 0) c.slots) index ≡ Some channel → (state : ChannelState) → ToldState (session_of c moments) r channel state → state ≡ state_by_dump r.last.dump
 ended_so laws c ends first now reasons stays moments r made index channel at state told =
     let composed = laws.composed c ends in
@@ -140,10 +153,32 @@ ended_so laws c ends first now reasons stays moments r made index channel at sta
     let here : ToldState s r channel state = record { index = told.index; states = told.states; told = told.told; state_is = told.state_is } in
     state_is s composed.1 r run index channel at (λ broken. stays (broken_so laws c ends first now reasons composed.0 r made channel broken)) state here (composed.1.states_so r run index channel at state here)
 
+-- Names that were taken.
+
+-- a start that was refused for a name was refused by the logger
+by_logger : (c : ClosedSession) (first now : RunFiles) (order : Order) (client number : ℕ) → IsRefusedSo c first now order client (Exists number) → client ≡ logger_client c
+by_logger c first now order client number so = elim so as (λ w. client ≡ logger_client c) [
+  | inl front ↦ absurd (let never : Exists number ≡ NotReady = front.why_is in cc (never))
+  | inr mine ↦ mine.0
+]
+
+taken_so : CountLaws → (c : ClosedSession) (ends : MembersAtEnd c) (first now : RunFiles) → LoggerReasons c ends first now → LoggerNames c ends first now → IsTrue first.seen.tells → NoneRose first now → AreStartsOver (engine_calls c main_caller)
+    → (sheet : Sheet) (start client number : ℕ) (tallies : List ClientTally) → TransitionIn (engine_calls c main_caller) Start sheet start (Refused client (Exists number)) tallies → IsTakenName c first.seen sheet.run start number
+taken_so laws c ends first now reasons names tells none over sheet start client number tallies made =
+    let n : ℕ = logger_client c in
+    let same : client ≡ n = by_logger c first now (order_for sheet start Stopped) client number (refused_so laws c ends first now reasons sheet start client (Exists number) tallies made) in
+    let mine : TransitionIn (engine_calls c main_caller) Start sheet start (Refused n (Exists number)) tallies = subst (λ (k : ℕ). TransitionIn (engine_calls c main_caller) Start sheet start (Refused k (Exists number)) tallies) same made in
+    let has : HasTransition c.engine Start sheet start (Refused n (Exists number)) tallies = has_made laws.main c.engine Start sheet start (Refused n (Exists number)) tallies ends.engine mine in
+    let r = refused_turn laws c ends sheet start n (Exists number) tallies has in
+    taken_name laws.undone laws.over c ends first now names tells none over r.turn r.stands r.starts number r.answered sheet.run start (ap (λ (o : Order). o.run) r.of_begin.order) (ap (λ (o : Order). o.start) r.of_begin.order)
+
 pub counts_tell : CountLaws → CountsTell
-counts_tell laws c ends first now reasons = record {
+counts_tell laws c ends first now reasons names = record {
   refused = refused_so laws c ends first now reasons;
   started = started_so laws c ends;
   broken = broken_so laws c ends first now reasons;
   ended = ended_so laws c ends first now reasons;
+  names = undone_stay laws.undone c ends first now names;
+  kept = firsts_stay laws.undone c ends first now names;
+  taken = taken_so laws c ends first now reasons names;
 }

@@ -8,6 +8,9 @@ pub mod FrontsEnd
 pub mod KeptTogether
 pub mod RunsMade
 pub mod NamesStay
+pub mod UndoneNames
+pub mod LoggerRefusals
+pub mod TakenNames
 pub mod CountsTold
 pub mod RecordsMade
 pub mod ChannelsSame

@@ -80,7 +80,7 @@ next_both : {X Y : Type 0} (x : X) (xs : List X) (y : Y) (ys : List Y) (k : ℕ)
 next_both x xs y ys k (Both a b at there) = Both a b at there
 next_both x xs y ys k (Neither none nor) = Neither none nor
 
-both_at : {X Y : Type 0} (xs : List X) (ys : List Y) (k : ℕ) → length xs ≡ length ys → BothAt xs ys k
+pub both_at : {X Y : Type 0} (xs : List X) (ys : List Y) (k : ℕ) → length xs ≡ length ys → BothAt xs ys k
 both_at [] [] k same = Neither refl refl
 both_at [] (y ∷ ys) k same = absurd (omega arith)
 both_at (x ∷ xs) [] k same = absurd (omega arith)

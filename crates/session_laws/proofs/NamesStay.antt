@@ -7,6 +7,7 @@ use Rattle.daq_types.specs.declared.runs.Order.{Order}
 use Rattle.daq_types.specs.declared.runs.Transition.{Transition}
 use Rattle.daq_types.specs.declared.runs.Transition.TheVariants.{Start, Stop, Pause, Resume, StartAbort}
 use Rattle.buffer_core.specs.Slots.{slot_at}
+use Rattle.transitions.specs.declared.sheet.Sheet.{Sheet}
 use Rattle.transitions.specs.declared.entry.EngineEntry.{EngineEntry}
 use Rattle.transitions.specs.declared.entry.EngineEntry.TheVariants.{Begin}
 use Rattle.transitions.specs.Engines.{engine_opening}
@@ -59,11 +60,19 @@ of_start : (t : Transition) (turn : MemberTurn) → (turn.transition ≡ t) ⊎ 
 of_start t turn (inl same) starts = sym same ∙ starts
 of_start t turn (inr off) starts = off.0
 
-starts_run : TurnsWereBegun → (c : ClosedSession) → MembersAtEnd c → (run : ℕ) → StartTurn (member_turns (logger_client c) (engine_calls c (logger_caller c))) run → BeginsStartOf (engine_calls c main_caller) run
-starts_run law c ends run started =
-    let was : WasBegun c.engine started.turn = law (logger_caller c) (logger_client c) c.engine ends.engine (speaks (logger_client c) c.engine (names_own c ends)) started.turn started.stands in
-    let start : ℕ = started.turn.order.start in
-    let kind : was.transition ≡ Start = of_start was.transition started.turn was.of_begin.kind started.is in
+-- among the main thread's calls is the begin of the start that the turn is of
+pub record StartBegun (c : ClosedSession) (turn : MemberTurn) : Type 0 where
+  pub sheet : Sheet
+  pub before : List EngineEntry
+  pub after : List EngineEntry
+  pub whole : engine_calls c main_caller ≡ before ++ Begin Start sheet (Ok turn.order.start) ∷ after
+  pub number : sheet.run ≡ turn.order.run
+
+pub start_begun : TurnsWereBegun → (c : ClosedSession) → MembersAtEnd c → (turn : MemberTurn) → HasTurn (member_turns (logger_client c) (engine_calls c (logger_caller c))) turn → turn.transition ≡ Start → StartBegun c turn
+start_begun law c ends turn has is =
+    let was : WasBegun c.engine turn = law (logger_caller c) (logger_client c) c.engine ends.engine (speaks (logger_client c) c.engine (names_own c ends)) turn has in
+    let start : ℕ = turn.order.start in
+    let kind : was.transition ≡ Start = of_start was.transition turn was.of_begin.kind is in
     let may : IsEngineCaller was.caller (Begin was.transition was.sheet (Ok start)) =
     may_call engine_opening was.earlier (was.caller, Begin was.transition was.sheet (Ok start)) was.later (subst (IsLegalEngine engine_opening) was.stands ends.engine) in
     let begin : EngineEntry = Begin Start was.sheet (Ok start) in
@@ -73,12 +82,16 @@ starts_run law c ends run started =
     ∙ ap (λ (t : Transition). was.earlier ++ (main_caller, Begin t was.sheet (Ok start)) ∷ was.later) kind) in
     record {
       sheet = was.sheet;
-      start = start;
       before = entries_by main_caller was.earlier;
       after = entries_by main_caller was.later;
       whole = ap (entries_by main_caller) stands ∙ own_around main_caller was.earlier was.later begin;
-      number = sym (ap (λ (o : Order). o.run) was.of_begin.order) ∙ started.number;
+      number = sym (ap (λ (o : Order). o.run) was.of_begin.order);
     }
+
+starts_run : TurnsWereBegun → (c : ClosedSession) → MembersAtEnd c → (run : ℕ) → StartTurn (member_turns (logger_client c) (engine_calls c (logger_caller c))) run → BeginsStartOf (engine_calls c main_caller) run
+starts_run law c ends run started =
+    let b : StartBegun c started.turn = start_begun law c ends started.turn started.stands started.is in
+    record { sheet = b.sheet; start = started.turn.order.start; before = b.before; after = b.after; whole = b.whole; number = b.number ∙ started.number }
 
 -- The channel of a spec.
 
@@ -91,7 +104,7 @@ spec_of : (o : Option Channel) (spec : ChannelSpec) → option_map (λ (c : Chan
 spec_of None spec is = absurd (cc (is))
 spec_of (Some c) spec is = (c, refl, cc (is))
 
-has_spec : (slots : List (Option Channel)) (n : ℕ) (spec : ChannelSpec) → slot_at (specs_in slots) n ≡ Some spec → HasSpec slots n spec
+pub has_spec : (slots : List (Option Channel)) (n : ℕ) (spec : ChannelSpec) → slot_at (specs_in slots) n ≡ Some spec → HasSpec slots n spec
 has_spec [] n spec at = absurd (cc (at))
 has_spec (o ∷ os) zero spec at = (let found = spec_of o spec at in record { channel = found.0; at = found.1; is = found.2 })
 has_spec (o ∷ os) (suc n) spec at = (let found : HasSpec os n spec = has_spec os n spec at in record { channel = found.channel; at = found.at; is = found.is })

@@ -20,7 +20,7 @@ use Rattle.transitions.specs.declared.entry.EngineEntry.TheVariants.{Begin, Chec
 use Rattle.member_model.specs.LoggerKept.{LoggerChannel}
 use Rattle.mid_logger.specs.declared.channel.Channel.{Channel}
 use Rattle.mid_logger.specs.Patterns.{file_name_by}
-use Rattle.loggers.specs.LoggerStands.{logger_channels}
+use Rattle.loggers.specs.LoggerStands.{logger_channel, logger_channels}
 use Rattle.session_engine.specs.MadeTransitions.{TransitionIn}
 use Rattle.run_records.specs.declared.records.FrontTally.{FrontTally}
 use Rattle.run_records.specs.declared.records.FileRecord.{FileRecord}
@@ -41,7 +41,7 @@ use Rattle.session_laws.proofs.RunsMade.{file_so}
 
 -- The transitions of a run that was made.
 
-made_then : (own more : List EngineEntry) (t : Transition) (sheet : Sheet) (start : ℕ) (outcome : StartOutcome) (tallies : List ClientTally) → TransitionIn own t sheet start outcome tallies → TransitionIn (own ++ more) t sheet start outcome tallies
+pub made_then : (own more : List EngineEntry) (t : Transition) (sheet : Sheet) (start : ℕ) (outcome : StartOutcome) (tallies : List ClientTally) → TransitionIn own t sheet start outcome tallies → TransitionIn (own ++ more) t sheet start outcome tallies
 made_then own more t sheet start outcome tallies m =
     let begin : EngineEntry = Begin t sheet (Ok start) in
     let done : EngineEntry = Check (Done outcome) tallies in
@@ -344,6 +344,53 @@ as_many (Some c ∷ slots) states run all =
     let rest : length (files_told states run (run_channels slots)) ≡ length (logger_channels (λ n. 0) slots) = as_many slots states run (λ index channel at. all (suc index) channel at) in
     ap (λ (o : Option ChannelState). length (option_to_list (option_map (file_in run (run_channel c.spec)) o) ++ files_told states run (run_channels slots))) here.1 ∙ ap suc rest
 
+-- among the files there is one of each channel
+record HasFile (files : List FileRecord) (name : List ℕ) : Type 0 where
+  place : ℕ
+  file : FileRecord
+  at : slice_get files place ≡ Some file
+  is : file.name ≡ name
+
+listed_here : (c : Channel) (slots : List (Option Channel)) (states : List ChannelState) (run : ℕ) (state : ChannelState) → slice_get states c.spec.number ≡ Some state → (index : ℕ) (channel : LoggerChannel) → slice_get (logger_channels (λ n. 0) (Some c ∷ slots)) index ≡ Some channel
+    → ((k : ℕ) → slice_get (logger_channels (λ n. 0) slots) k ≡ Some channel → HasFile (files_told states run (run_channels slots)) (channel.name run)) → HasFile (files_told states run (run_channels (Some c ∷ slots))) (channel.name run)
+listed_here c slots states run state told zero channel at later =
+    let file : FileRecord = file_in run (run_channel c.spec) state in
+    let rest : List FileRecord = files_told states run (run_channels slots) in
+    let same : logger_channel 0 c ≡ channel = cc (at) in
+    record {
+      place = 0;
+      file = file;
+      at = ap (λ (o : Option ChannelState). slice_get (option_to_list (option_map (file_in run (run_channel c.spec)) o) ++ rest) 0) told;
+      is = ap (λ (x : LoggerChannel). x.name run) same;
+    }
+listed_here c slots states run state told (suc k) channel at later =
+    let rest : List FileRecord = files_told states run (run_channels slots) in
+    let found : HasFile rest (channel.name run) = later k at in
+    record {
+      place = suc found.place;
+      file = found.file;
+      at = ap (λ (o : Option ChannelState). slice_get (option_to_list (option_map (file_in run (run_channel c.spec)) o) ++ rest) (suc found.place)) told ∙ found.at;
+      is = found.is;
+    }
+
+each_listed : (slots : List (Option Channel)) (states : List ChannelState) (run : ℕ) → AllStates states (logger_channels (λ n. 0) slots) → (index : ℕ) (channel : LoggerChannel) → slice_get (logger_channels (λ n. 0) slots) index ≡ Some channel
+    → HasFile (files_told states run (run_channels slots)) (channel.name run)
+each_listed [] states run all index channel at = absurd (cc (at))
+each_listed (None ∷ slots) states run all index channel at = each_listed slots states run all index channel at
+each_listed (Some c ∷ slots) states run all index channel at =
+    let here = all 0 _ refl in
+    listed_here c slots states run here.0 here.1 index channel at (λ k there. each_listed slots states run (λ i x is. all (suc i) x is) k channel there)
+
+each_file : (c : ClosedSession) (holds : SessionHolds c) (run : SessionRun) → IsStoppedRun (session_of c holds.moments) run → (number : ℕ) (o : Option (List ChannelState)) → states_told (logger_client c) run.last_tallies ≡ o
+    → (index : ℕ) (channel : LoggerChannel) → slice_get (logger_channels (λ n. 0) c.slots) index ≡ Some channel → HasFile (files_of o number (run_channels c.slots)) (channel.name number)
+each_file c holds run stopped number None none index channel at =
+    let told = holds.composed.channels_told run stopped index channel at in
+    let found = states_there (logger_client c) run.last_tallies told.1.index told.1.states told.1.told in
+    absurd (cc (none, found.1))
+each_file c holds run stopped number (Some states) told index channel at =
+    let says : ToldStates (logger_client c) run.last_tallies states = states_so (logger_client c) run.last_tallies states told in
+    each_listed c.slots states number (λ i x is. holds.composed.states_told run stopped says.index states says.at i x is) index channel at
+
 many_files : (c : ClosedSession) (holds : SessionHolds c) (run : SessionRun) → IsStoppedRun (session_of c holds.moments) run → (number : ℕ) (o : Option (List ChannelState)) → states_told (logger_client c) run.last_tallies ≡ o
     → length (files_of o number (run_channels c.slots)) ≡ length (logger_channels (λ n. 0) c.slots)
 many_files c holds run stopped number None none = no_channels (logger_channels (λ n. 0) c.slots) refl
@@ -378,8 +425,11 @@ records_hold c holds own more same r quota fits =
     } in
     let all : RunHolds (session_of c holds.moments) run = holds.runs run (subst (λ (l : List EngineEntry). RunIn l run) joined makes) in
     let tells = fits.stop.tells in
+    let listed : (index : ℕ) (channel : LoggerChannel) → slice_get (logger_channels (λ n. 0) c.slots) index ≡ Some channel → HasFile r.files (channel.name r.run) = λ index channel at.
+    subst (λ (l : List FileRecord). HasFile l (channel.name r.run)) (sym tells.files) (each_file c holds run all.stopped r.run (states_told n fits.stop.tallies) refl index channel at) in
     record {
       run = run;
+      made = subst (λ (l : List EngineEntry). RunIn l run) joined makes;
       stopped = all.stopped;
       start = refl;
       first_is = refl;
@@ -389,4 +439,5 @@ records_hold c holds own more same r quota fits =
       many_files = ap length tells.files ∙ many_files c holds run all.stopped r.run (states_told n fits.stop.tallies) refl;
       files = λ place file at.
           file_record c holds run all.stopped r.run refl (states_told n fits.stop.tallies) refl place file (subst (λ (l : List FileRecord). slice_get l place ≡ Some file) tells.files at);
+      each_file = λ index channel at. (let found : HasFile r.files (channel.name r.run) = listed index channel at in record { place = found.place; file = found.file; at = found.at; is = found.is });
     }

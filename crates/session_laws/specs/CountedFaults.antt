@@ -1,5 +1,5 @@
--- What the counts of a closed session's run files tell of its starts and its channels.
-use Rattle.std.specs.Prelude.{◌≡◌, ℕ, false, true, List, slice_get, Option, Some, None, ◌⊎◌}
+-- What the counts of a closed session's run files tell of its starts, its channels and the names of the files.
+use Rattle.std.specs.Prelude.{◌≡◌, ℕ, false, true, IsTrue, List, slice_get, Contains, Option, Some, None, ◌⊎◌}
 use Rattle.daq_types.specs.Callers.{main_caller}
 use Rattle.daq_types.specs.declared.runs.ChannelState.{ChannelState}
 use Rattle.daq_types.specs.declared.runs.ChannelState.TheVariants.{Broken, Ended, NoEnd}
@@ -8,8 +8,10 @@ use Rattle.daq_types.specs.declared.runs.RunState.TheVariants.{Stopped}
 use Rattle.daq_types.specs.declared.runs.StartOutcome.TheVariants.{Completed, Refused}
 use Rattle.daq_types.specs.declared.runs.Transition.TheVariants.{Start}
 use Rattle.daq_types.specs.declared.runs.Why.{Why}
-use Rattle.daq_types.specs.declared.runs.Why.TheVariants.{NotReady}
+use Rattle.daq_types.specs.declared.runs.Why.TheVariants.{NotReady, Exists, Fault, BufferRefused}
 use Rattle.daq_io.specs.Counts.{Rose}
+use Rattle.daq_io.specs.Seen.{Stored}
+use Rattle.buffer_core.specs.declared.entry.BufferEntry.{BufferEntry}
 use Rattle.transitions.specs.declared.sheet.Sheet.{Sheet}
 use Rattle.transitions.specs.declared.answers.ClientTally.{ClientTally}
 use Rattle.transitions.specs.EngineCalls.{order_for}
@@ -17,18 +19,27 @@ use Rattle.member_model.specs.TurnCalls.{member_turns}
 use Rattle.member_model.specs.LoggerKept.{LoggerChannel}
 use Rattle.loggers.specs.Moments.{RunFiles}
 use Rattle.loggers.specs.LoggerStands.{logger_channels}
-use Rattle.loggers.specs.Reasons.{IsReasonSo, GivesReasons}
+use Rattle.loggers.specs.NewLoggers.{NoneTakenBack}
+use Rattle.loggers.specs.Reasons.{IsRefusedAsk, GivesReasons}
+use Rattle.loggers.specs.LeftNames.{NoneRose, KeepsNames}
 use Rattle.composition.specs.SessionRuns.{SessionRun, ToldState}
-use Rattle.session_laws.specs.ClosedSessions.{ClosedFront, ClosedSession, logger_client, logger_caller, engine_calls, session_of}
+use Rattle.session_laws.specs.ClosedSessions.{ClosedFront, ClosedSession, logger_client, logger_caller, engine_calls, calls_on_buffer, session_of}
 use Rattle.session_laws.specs.MembersAtEnd.{MembersAtEnd}
 use Rattle.session_engine.specs.MadeTransitions.{TransitionIn}
 use Rattle.session_laws.specs.MadeRuns.{RunIn}
+use Rattle.session_laws.specs.OtherNames.{AreStartsOver, IsTakenName, IsUnmadeName}
 
 -- What the logger of a closed session answered rests on the counts of the run files, which were so as it took its seat, and
--- are so now.
-abbrev pub LoggerReasons : ClosedSession → (first now : RunFiles) → Type 0
-LoggerReasons c first now =
-    GivesReasons c.slots first now (member_turns (logger_client c) (engine_calls c (logger_caller c)))
+-- are so now, and on its calls on the buffers.
+abbrev pub LoggerReasons : (c : ClosedSession) → MembersAtEnd c → (first now : RunFiles) → Type 0
+LoggerReasons c ends first now =
+    GivesReasons c.slots ends.logger.ports first now (member_turns (logger_client c) (engine_calls c (logger_caller c)))
+
+-- Which names of run files it left as they were as it took its seat, where names are told, no fault was counted, and no client
+-- of it is known to be detached by another.
+abbrev pub LoggerNames : (c : ClosedSession) → MembersAtEnd c → (first now : RunFiles) → Type 0
+LoggerNames c ends first now = NoneTakenBack ends.logger.ports →
+    KeepsNames c.slots first now (member_turns (logger_client c) (engine_calls c (logger_caller c)))
 
 -- The client is a front-end that refused a start with this order as NotReady: its equipment takes no part in the run.
 pub record IsFrontRefusal (c : ClosedSession) (order : Order) (client : ℕ) (why : Why) : Type 0 where
@@ -37,11 +48,25 @@ pub record IsFrontRefusal (c : ClosedSession) (order : Order) (client : ℕ) (wh
   pub why_is : why ≡ NotReady
   pub no_part : front.takes order ≡ false
 
--- A start with this order was refused by this client for this reason: by a front-end, or by the logger, for a name only
--- where a clash of names was counted, and for a fault only where one was.
+-- a call of the logger on a buffer, to attach a client, to make a request or to begin a run, was refused
+pub record WasRefusedAsk (c : ClosedSession) : Type 0 where
+  pub buffer : ℕ
+  pub entry : BufferEntry
+  pub among : Contains (calls_on_buffer c (logger_caller c) buffer) entry
+  pub refused : IsRefusedAsk entry
+
+-- Why the logger refuses a start: for a name only where a clash of names was counted, for a fault only where one was, and for a
+-- buffer only where that refused a call; and never as not ready.
+abbrev pub IsLoggerReason : ClosedSession → Why → (first now : RunFiles) → Type 0
+IsLoggerReason c NotReady first now = ⊥
+IsLoggerReason c (Exists channel) first now = Rose first.clashes now.clashes
+IsLoggerReason c (Fault channel) first now = Rose first.faults now.faults
+IsLoggerReason c BufferRefused first now = WasRefusedAsk c
+
+-- A start with this order was refused by this client for this reason: by a front-end, or by the logger.
 abbrev pub IsRefusedSo : ClosedSession → (first now : RunFiles) → Order → (client : ℕ) → Why → Type 0
 IsRefusedSo c first now order client why =
-    IsFrontRefusal c order client why ⊎ ((client ≡ logger_client c) × IsReasonSo why first now)
+    IsFrontRefusal c order client why ⊎ ((client ≡ logger_client c) × IsLoggerReason c why first now)
 
 -- how the file of a channel ends that did not break off, where the stop's sheet has this dump
 abbrev pub state_by_dump : (dump : Option (List ℕ)) → ChannelState
@@ -51,7 +76,9 @@ state_by_dump (Some dump) = Ended
 -- What the main thread was told of starts and of channels, where the counts of the run files were so at first, and are so
 -- now: why a start was refused; that each front-end takes part in a run that was started; that a channel broke off only
 -- where a fault was counted; so that where none was, all that was told of a channel of a run is that it ended, or that the
--- stop's sheet had no dump.
+-- stop's sheet had no dump. And where none was, each name is there where it was there, with the same bytes, that no channel gives in
+-- a run that came about, once each start is over: a start that was refused leaves no file. Nor is any file written over that was
+-- there at first; and the logger refuses a start for a name only where that is taken.
 pub record CountsHold (c : ClosedSession) (first now : RunFiles) : Type 0 where
   pub refused : (sheet : Sheet) → (start client : ℕ) → (why : Why) → (tallies : List ClientTally) →
       TransitionIn (engine_calls c main_caller) Start sheet start (Refused client why) tallies →
@@ -66,8 +93,16 @@ pub record CountsHold (c : ClosedSession) (first now : RunFiles) : Type 0 where
       (moments : (client : ℕ) → List ℕ) → (r : SessionRun) → RunIn (engine_calls c main_caller) r →
       (index : ℕ) → (channel : LoggerChannel) → slice_get (logger_channels (λ number. 0) c.slots) index ≡ Some channel →
       (state : ChannelState) → ToldState (session_of c moments) r channel state → state ≡ state_by_dump r.last.dump
+  pub names : IsTrue first.seen.tells → NoneRose first now → (name : List ℕ) → IsUnmadeName c name →
+      now.seen.at name ≡ first.seen.at name
+  pub kept : IsTrue first.seen.tells → NoneRose first now → (name : List ℕ) → (file : Stored) →
+      first.seen.at name ≡ Some file → now.seen.at name ≡ Some file
+  pub taken : IsTrue first.seen.tells → NoneRose first now → AreStartsOver (engine_calls c main_caller) →
+      (sheet : Sheet) → (start client number : ℕ) → (tallies : List ClientTally) →
+      TransitionIn (engine_calls c main_caller) Start sheet start (Refused client (Exists number)) tallies →
+      IsTakenName c first.seen sheet.run start number
 
--- So it is with a closed session, by what the logger's answers rest on.
+-- So it is with a closed session, by what the logger's answers rest on and by the names that it left.
 abbrev pub CountsTell : Type 0
-CountsTell = (c : ClosedSession) → MembersAtEnd c → (first now : RunFiles) → LoggerReasons c first now →
-    CountsHold c first now
+CountsTell = (c : ClosedSession) → (ends : MembersAtEnd c) → (first now : RunFiles) → LoggerReasons c ends first now →
+    LoggerNames c ends first now → CountsHold c first now

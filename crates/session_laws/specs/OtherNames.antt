@@ -1,14 +1,22 @@
--- The names of run files that no channel gives in a run of the session.
-use Rattle.std.specs.Prelude.{◌≡◌, ◌≢◌, ℕ, List, ◌∷◌, ◌++◌, Some, Ok}
+-- The names of run files that channels give in runs of the session, and those that none gives.
+use Rattle.std.specs.Prelude.{◌≡◌, ◌≢◌, ◌<◌, ◌⊎◌, ℕ, IsSome, List, ◌∷◌, ◌++◌, Contains, Some, Ok}
 use Rattle.daq_types.specs.Callers.{main_caller}
+use Rattle.daq_types.specs.declared.runs.StartOutcome.TheVariants.{Refused}
 use Rattle.daq_types.specs.declared.runs.Transition.TheVariants.{Start}
+use Rattle.daq_types.specs.declared.runs.Why.{Why}
+use Rattle.daq_io.specs.Seen.{Seen}
 use Rattle.buffer_core.specs.Slots.{slot_at}
 use Rattle.transitions.specs.declared.sheet.Sheet.{Sheet}
+use Rattle.transitions.specs.declared.answers.ClientTally.{ClientTally}
 use Rattle.transitions.specs.declared.entry.EngineEntry.{EngineEntry}
 use Rattle.transitions.specs.declared.entry.EngineEntry.TheVariants.{Begin}
 use Rattle.mid_logger.specs.declared.channel.Channel.{Channel}
 use Rattle.mid_logger.specs.Patterns.{file_name_by}
+use Rattle.composition.specs.SessionRuns.{SessionRun}
+use Rattle.session_engine.specs.MadeTransitions.{TransitionIn}
+use Rattle.session_runs.specs.RunsFit.{starts_begun}
 use Rattle.session_laws.specs.ClosedSessions.{ClosedSession, engine_calls}
+use Rattle.session_laws.specs.MadeRuns.{RunIn}
 
 -- among these calls on the engine is the begin of a start of this run, whatever came of it
 pub record BeginsStartOf (own : List EngineEntry) (run : ℕ) : Type 0 where
@@ -23,3 +31,59 @@ pub record BeginsStartOf (own : List EngineEntry) (run : ℕ) : Type 0 where
 abbrev pub IsOtherName : ClosedSession → (name : List ℕ) → Type 0
 IsOtherName c name = (run number : ℕ) → (channel : Channel) → BeginsStartOf (engine_calls c main_caller) run →
     slot_at c.slots number ≡ Some channel → file_name_by channel.spec.pattern run ≢ name
+
+-- among these calls the start with this number was refused
+pub record RefusesStart (own : List EngineEntry) (start : ℕ) : Type 0 where
+  pub sheet : Sheet
+  pub client : ℕ
+  pub why : Why
+  pub tallies : List ClientTally
+  pub made : TransitionIn own Start sheet start (Refused client why) tallies
+
+-- Each start that these calls began is over: it was refused, or it was not, and its run was stopped.
+abbrev pub AreStartsOver : List EngineEntry → Type 0
+AreStartsOver own = (start : ℕ) → Contains (starts_begun own) start →
+    RefusesStart own start ⊎ ((run : SessionRun) × RunIn own run × (run.start ≡ start))
+
+-- a run that came about before the start with this number has a file of this name
+pub record HasMadeBefore (c : ClosedSession) (start : ℕ) (name : List ℕ) : Type 0 where
+  pub run : SessionRun
+  pub made : RunIn (engine_calls c main_caller) run
+  pub before : run.start < start
+  pub place : ℕ
+  pub channel : Channel
+  pub there : slot_at c.slots place ≡ Some channel
+  pub is : file_name_by channel.spec.pattern run.first.run ≡ name
+
+-- a channel of a lower place than this gives the name in the run of this number
+pub record GivesNameBefore (c : ClosedSession) (place run : ℕ) (name : List ℕ) : Type 0 where
+  pub lower : ℕ
+  pub channel : Channel
+  pub below : lower < place
+  pub there : slot_at c.slots lower ≡ Some channel
+  pub is : file_name_by channel.spec.pattern run ≡ name
+
+-- The name that the channel with this number gives in the run of this number, whose start has that start number, is taken: a file
+-- had it at first, a run that came about before has it, or another channel of that run.
+pub record IsTakenName (c : ClosedSession) (first : Seen) (run start number : ℕ) : Type 0 where
+  pub place : ℕ
+  pub channel : Channel
+  pub there : slot_at c.slots place ≡ Some channel
+  pub number_is : channel.spec.number ≡ number
+  pub by : IsSome (first.at (file_name_by channel.spec.pattern run))
+      ⊎ (HasMadeBefore c start (file_name_by channel.spec.pattern run)
+      ⊎ GivesNameBefore c place run (file_name_by channel.spec.pattern run))
+
+-- the start with this number was not refused, its run was stopped, and no channel gives the name in that run
+pub record GivesNoName (c : ClosedSession) (name : List ℕ) (start : ℕ) : Type 0 where
+  pub run : SessionRun
+  pub made : RunIn (engine_calls c main_caller) run
+  pub of : run.start ≡ start
+  pub other : (number : ℕ) → (channel : Channel) → slot_at c.slots number ≡ Some channel →
+      file_name_by channel.spec.pattern run.first.run ≢ name
+
+-- Each start that the main thread began is over, and left no file of this name: it was refused; or it was not, its run was
+-- stopped, and no channel gives the name in that run.
+abbrev pub IsUnmadeName : ClosedSession → (name : List ℕ) → Type 0
+IsUnmadeName c name = (start : ℕ) → Contains (starts_begun (engine_calls c main_caller)) start →
+    RefusesStart (engine_calls c main_caller) start ⊎ GivesNoName c name start

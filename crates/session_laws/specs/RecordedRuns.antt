@@ -1,6 +1,6 @@
 -- What a closed session's histories and run files hold of the records of its runs.
 use Rattle.std.specs.Prelude.{◌≡◌, ◌≤◌, ℕ, List, [], ◌∷◌, ◌++◌, length, slice_get, Contains, Option, Some, None}
-use Rattle.daq_types.specs.Callers.{main_caller}
+use Rattle.daq_types.specs.Callers.{entries_by, main_caller}
 use Rattle.member_model.specs.LoggerKept.{LoggerChannel}
 use Rattle.transitions.specs.declared.sheet.Sheet.{Sheet}
 use Rattle.transitions.specs.declared.entry.EngineEntry.{EngineEntry}
@@ -19,7 +19,7 @@ use Rattle.session_runs.specs.RunsFit.{MainOwn, FitsWhole, run_of}
 use Rattle.composition.specs.Sessions.{Session, SessionFront}
 use Rattle.composition.specs.SessionRuns.{SessionRun, IsStoppedRun, TellsFront, FrontSent, SetAtStop, ToldState}
 use Rattle.session_laws.specs.ClosedSessions.{ClosedSession, logger_client, engine_calls, session_of}
-use Rattle.session_laws.specs.MadeRuns.{IsFileSo}
+use Rattle.session_laws.specs.MadeRuns.{RunIn, IsFileSo}
 use Rattle.session_laws.specs.EndLaws.{SessionHolds}
 
 -- What the record has of a front-end is what this told at the stop; it sent that, the first events of its equipment, and set
@@ -41,11 +41,19 @@ pub record FileRecordHolds (s : Session) (run : SessionRun) (file : FileRecord) 
   pub told : ToldState s run channel file.state
   pub has : IsFileSo file.state s run channel
 
+-- the record has a file of this name
+pub record ListsFile (r : RunRecord) (name : List ℕ) : Type 0 where
+  pub place : ℕ
+  pub file : FileRecord
+  pub at : slice_get r.files place ≡ Some file
+  pub is : file.name ≡ name
+
 -- The record of a run that was not refused, which was started with the first and stopped with the last of these sheets: it is
 -- that of a run of the session, and so is what it has of each front-end, at the place of its client number, and of each file.
--- It has all front-ends, and a file for each channel.
+-- The main thread's calls tell that run. The record has all front-ends, and a file for each channel.
 pub record RecordHolds (s : Session) (r : RunRecord) (first last : Sheet) : Type 0 where
   pub run : SessionRun
+  pub made : RunIn (entries_by main_caller s.engine) run
   pub stopped : IsStoppedRun s run
   pub start : run.start ≡ r.start
   pub first_is : run.first ≡ first
@@ -55,6 +63,8 @@ pub record RecordHolds (s : Session) (r : RunRecord) (first last : Sheet) : Type
       (tally : FrontTally) × (slice_get r.fronts client ≡ Some tally) × FrontRecordHolds s run f tally
   pub many_files : length r.files ≡ length s.channels
   pub files : (place : ℕ) → (file : FileRecord) → slice_get r.files place ≡ Some file → FileRecordHolds s run file
+  pub each_file : (index : ℕ) → (channel : LoggerChannel) → slice_get s.channels index ≡ Some channel →
+      ListsFile r (channel.name run.first.run)
 
 -- the channels of a logger, as the records of its runs name them, in order of number
 abbrev pub run_channels : List (Option Channel) → List RunChannel

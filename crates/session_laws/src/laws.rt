@@ -10,6 +10,7 @@ use composition::laws as sessions;
 use daq_members::laws as members;
 use engine_laws::laws as turns;
 use loggers::laws as loggers_laws;
+use transitions::laws as engine;
 
 /// What is known when a session's objects are closed is all that the law of composition asks for: every history is legal, and
 /// each caller's calls are those of a member that keeps its contract, where the main thread registered the members first and
@@ -70,14 +71,23 @@ pub fn channels_agree()
 {}
 
 /// Of a closed session, by the counts of its run files: a start was refused by a front-end as NotReady, whose equipment takes
-/// no part in the run, or by the logger, for a name only where a clash was counted and for a fault only where one was; each
+/// no part in the run, or by the logger, for a name only where a clash was counted, for a fault only where one was, and for a buffer only where that
+/// refused a call; each
 /// front-end's equipment takes part in a run that was started; and where no fault was counted each channel of each run ended,
-/// or the stop's sheet had no dump.
+/// or the stop's sheet had no dump, and each name that no channel gives in a run that came about is as it was.
 pub fn counts_tell()
     ensures { CountsTell }
 {
     turns::main_has_transition();
+    turns::gives_turns();
+    turns::turns_begun();
     turns::tallies_answered();
+    turns::called_told();
+    turns::called_off();
+    turns::runs_over();
+    engine::start_numbers_rise();
+    loggers_laws::names_kept();
+    members_keep();
     ends_composed();
     made_are_stopped();
 }

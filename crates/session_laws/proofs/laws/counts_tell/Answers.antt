@@ -1,11 +1,31 @@
+use Rattle.composition.proofs.SessionTurns.{EngineFacts}
 use Rattle.session_laws.proofs.CountsTold.{counts_tell}
+use Rattle.session_laws.proofs.UndoneNames.{UndoneLaws}
 use Rattle.session_laws.proofs.laws.counts_tell.Goals as goal
 
 pub returns : goal.returns
-returns c = counts_tell (record {
-  main = c.main_has_transition.ensures;
-  refusals = c.tallies_answered.ensures.refusals;
-  tallies = c.tallies_answered.ensures.tallies;
-  composed = c.ends_composed.ensures;
-  stopped = c.made_are_stopped.ensures;
-})
+returns c =
+    let facts : EngineFacts = record {
+      gives = c.gives_turns.ensures;
+      begun = c.turns_begun.ensures.begun;
+      from = c.turns_begun.ensures.starts;
+      tallies = c.tallies_answered.ensures.tallies;
+      told = c.called_told.ensures;
+      rise = c.start_numbers_rise.ensures;
+    } in
+    let undone : UndoneLaws = record {
+      main = c.main_has_transition.ensures;
+      facts = facts;
+      calls_off = c.called_off.ensures;
+      started = c.names_kept.ensures.started;
+      keep = c.members_keep.ensures;
+    } in
+    counts_tell (record {
+      main = c.main_has_transition.ensures;
+      refusals = c.tallies_answered.ensures.refusals;
+      tallies = c.tallies_answered.ensures.tallies;
+      composed = c.ends_composed.ensures;
+      stopped = c.made_are_stopped.ensures;
+      undone = undone;
+      over = c.runs_over.ensures;
+    })
