@@ -1,6 +1,8 @@
 #!/bin/sh
 # Measures `check`, `dump` and `analyze` on run files of some 100 MB and of twice and four times as much, beside `cat` of
-# the same file and `wc -l` of dump's text. Prints seconds (the best of three), ratios, growth and the peak memory.
+# the same file: files of events of 64 bytes alone, each with a bank of 8 words, and files of smaller events with one of
+# 1 MB after each 9,999. The text of `dump` goes to a pipe into `wc -c`. Prints seconds (the best of five), ratios, the
+# exponents of growth since the first size, and the peak memory.
 # usage: bench/tools.sh PROGRAM [MEGABYTES]
 set -e
 program=$(realpath "$1")
@@ -9,7 +11,7 @@ folder=$(mktemp -d)
 trap 'rm -rf "$folder"' EXIT
 cd "$folder"
 python3 - "$program" "$size" <<'PYTHON'
-import os, struct, subprocess, sys, time
+import math, os, struct, subprocess, sys, time
 
 program, size = sys.argv[1], int(sys.argv[2]) * 1000000
 
@@ -25,23 +27,36 @@ def bank_area(name, words):
     return struct.pack("<II", len(bank), 1) + bank
 
 
-def write_file(path, limit):
-    """Many small events with a bank of 4 words, and one with 1 MB in 10,000."""
+def words_of(serial):
+    """8 words of 32 bits that differ from event to event."""
+    return [(serial * 2654435761 + 40503 * k) % 2**32 for k in range(8)]
+
+
+def small_body(serial):
+    return bank_area(b"ADC0", words_of(serial % 64))
+
+
+SMALL, LARGE = bank_area(b"ADC0", [1, 2, 3, 4]), bytes(1000000)
+
+
+def mixed_body(serial):
+    return LARGE if serial % 10000 == 0 else SMALL
+
+
+def write_file(path, limit, body_of):
+    """A run file of at least so many bytes."""
     with open(path, "wb") as out:
-        out.write(header(0x8000, 0x494D, 1, 1000, 0))
-        small = bank_area(b"ADC0", [1, 2, 3, 4])
-        large = bytes(1000000)
+        out.write(header(0x8000, 0x494D, 1, 1700000000, 0))
         written, serial = 32, 0
         while written < limit:
             serial += 1
-            body = large if serial % 10000 == 0 else small
-            event = header(1, 1, serial, 1000, len(body)) + body
-            out.write(event)
-            written += len(event)
-        out.write(header(0x8001, 0x494D, 1, 1010, 0))
+            body = body_of(serial)
+            out.write(header(1, 1, serial, 1700000000 + serial // 10000, len(body)) + body)
+            written += 16 + len(body)
+        out.write(header(0x8001, 0x494D, 1, 1700010000, 0))
 
 
-def seconds(command, runs=3):
+def seconds(command, runs=5):
     best, peak = None, 0
     for _ in range(runs):
         start = time.time()
@@ -54,26 +69,26 @@ def seconds(command, runs=3):
     return best, peak
 
 
-base = {}
-for times in (1, 2, 4):
-    name = "run%05d.mid" % times
-    write_file(name, times * size)
-    megabytes = os.path.getsize(name) / 1e6
-    commands = {
-        "cat": "cat %s > /dev/null" % name,
-        "check": "exec %s check %s > /dev/null" % (program, name),
-        "dump": "exec %s dump %s > dump.txt" % (program, name),
-        "wc -l": "wc -l dump.txt > /dev/null",
-        "analyze": "exec %s analyze %s > /dev/null" % (program, name),
-    }
-    print("%.0f MB" % megabytes)
-    for what, command in commands.items():
-        took, peak = seconds(command)
-        base.setdefault(what, took)
-        base.setdefault("cat now", 0)
-        if what == "cat":
-            base["cat now"] = took
-        print("  %-7s %7.3f s  %6.1f times cat  growth %4.2f of %d  peak %d kB"
-              % (what, took, took / base["cat now"], took / base[what], times, peak))
-    os.remove(name)
+for kind, body_of in (("events of 64 bytes", small_body), ("an event of 1 MB in 10,000", mixed_body)):
+    base = {}
+    for times in (1, 2, 4):
+        name = "run%05d.mid" % times
+        write_file(name, times * size, body_of)
+        commands = {
+            "cat": "cat %s > /dev/null" % name,
+            "check": "exec %s check %s > /dev/null" % (program, name),
+            "analyze": "exec %s analyze %s > /dev/null" % (program, name),
+            "dump": "%s dump %s | wc -c > /dev/null" % (program, name),
+        }
+        print("%.0f MB, %s" % (os.path.getsize(name) / 1e6, kind))
+        beside = None
+        for what, command in commands.items():
+            took, peak = seconds(command)
+            beside = beside or took
+            line = "  %-7s %7.3f s  %6.1f times cat" % (what, took, took / beside)
+            if what in base:
+                line += "  exponent %5.2f" % (math.log(took / base[what]) / math.log(times))
+            base.setdefault(what, took)
+            print(line + "  peak %d kB" % peak)
+        os.remove(name)
 PYTHON

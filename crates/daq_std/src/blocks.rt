@@ -26,6 +26,17 @@ pub struct BlockFile<F> {
     pub broken: bool,
 }
 
+/// Reads of a file into `into` alone.
+fn read_past<F: Read>(file: &mut F, into: &mut [u8]) -> Result<usize, Failed>
+    ensures within { ReadsAtMost result into.new }
+    ensures bytes { ReadConsumes (F.remaining file.old) (F.remaining file.new) result into.new }
+{
+    match file.read(into) {
+        Ok(count) => Ok(count),
+        Err(_) => Err(Failed),
+    }
+}
+
 impl<F: Read + Write + OpenFile + Drop> BlockFile<F> {
     /// Room for blocks, and no file.
     pub fn new(alloc: Global) -> Result<BlockFile<F>, NoMemory>
@@ -108,17 +119,21 @@ impl<F: Read + Write + OpenFile + Drop> BlockFile<F> {
         Err(Failed)
     }
 
-    /// Reads into the front of `into`, and answers how many bytes. None at all, where there is room, is the end.
+    /// Reads into the front of `into`, and answers how many bytes. None at all, where there is room, is the end. Where
+    /// nothing was read ahead, as much as a block is read past it.
     pub fn read(&mut self, into: &mut [u8]) -> Result<usize, Failed>
         ensures within { ReadsAtMost result into.new }
         ensures bytes { ReadConsumes (left_of F.remaining self.old.file self.old.ahead)
             (left_of F.remaining self.new.file self.new.ahead) result into.new }
     {
         if self.ahead.is_empty() {
-            match &mut self.file {
-                Some(file) => self.ahead.fill(file)?,
-                None => return Err(Failed),
+            let Some(file) = &mut self.file else {
+                return Err(Failed);
+            };
+            if into.len() >= BLOCK_BYTES {
+                return read_past(file, into);
             }
+            self.ahead.fill(file)?;
         }
         Ok(self.ahead.take(into))
     }

@@ -2,6 +2,7 @@ mod PartsRead
 mod Allowed
 mod Beginnings
 mod Going
+pub mod AtHand
 pub mod HeadersBack
 pub mod OneReading
 pub mod ReadLaws

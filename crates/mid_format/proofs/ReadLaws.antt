@@ -291,6 +291,10 @@ done_within done (Some begin) (Some end) events d =
       length-append d.ended.front (encoding (end_record begin.serial_number end.time_stamp d.dump1)),
     )
 
+-- They have no more bytes than were read.
+pub events_before : (first now : Option (List ℕ)) (p : Progress) (events : List Event) → HasRead first now p events → length (all_encoded events) ≤ p.at
+events_before first now p events h = omega (arith, done_within h.done p.begin p.last events h.is_done, h.place)
+
 -- They have at most 2^62 bytes, also where the source tells nothing.
 pub events_within : (first now : Option (List ℕ)) (p : Progress) (events : List Event) → HasRead first now p events → length (all_encoded events) ≤ 2 ^ 62
 events_within first now p events h = omega (arith, done_within h.done p.begin p.last events h.is_done, h.place, h.within)

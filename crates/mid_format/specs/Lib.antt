@@ -4,3 +4,4 @@ pub mod HasRead
 pub mod Steps
 pub mod Opened
 pub mod ReadLaws
+pub mod AtHand

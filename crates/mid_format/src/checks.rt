@@ -1,7 +1,7 @@
 //! Worked rows of run files.
-ghost use Rattle.std.specs.Prelude.{◌≡◌, ◌≤◌, None};
+ghost use Rattle.std.specs.Prelude.{◌≡◌, ◌≤◌, ◌<◌, None, IfOk, vec_len};
 
-use crate::{MidFault, MidReader, begin_record, end_record};
+use crate::{BlockSource, MidFault, MidReader, begin_record, end_record};
 use daq_io::{Failed, Source, copy_front};
 use event_header::EventBuf;
 use std::alloc::{AllocError, Global};
@@ -187,5 +187,45 @@ fn a_source_that_fails_in_an_event(rt: HostRuntime) -> Result<(), Fail> {
     assert_eq!(rt; reader.next(&mut into), Err(MidFault::ReadFault));
     assert_eq!(rt; reader.next(&mut into), Err(MidFault::ReadFault));
     assert_eq!(rt; reader.run(), Some(1));
+    Ok(())
+}
+
+/// The file with its event three times.
+fn three_events(alloc: Global) -> Result<Vec<u8>, AllocError> {
+    let one = one_event(alloc)?;
+    let (front, end) = one.as_slice().split_at(one.as_slice().len().min(229));
+    let (_, event) = front.split_at(front.len().min(189));
+    let mut file = front.to_vec(alloc)?;
+    file.extend_from_slice(event)?;
+    file.extend_from_slice(event)?;
+    file.extend_from_slice(end)?;
+    Ok(file)
+}
+
+/// A block of so many bytes, and one at least.
+fn block_of(alloc: Global, len: u8) -> Result<Vec<u8>, AllocError>
+    ensures { IfOk result (λ block. 0 < vec_len block) }
+{
+    let mut block = Vec::new(alloc);
+    block.resize(len.max(1) as usize, 0)?;
+    Ok(block)
+}
+
+#[test]
+fn events_at_hand(rt: HostRuntime) -> Result<(), Fail> {
+    let file = three_events(rt.alloc())?;
+    for len in [1, 39, 80, 229, 255] {
+        let mut into = EventBuf::new(rt.alloc(), 4_194_304)?;
+        let block = block_of(rt.alloc(), len)?;
+        let source = BlockSource::new(Pieces::whole(file.as_slice()), block);
+        let mut reader = MidReader::new(source);
+        assert_eq!(rt; reader.next_at_hand(&mut into), Ok(Some(())));
+        assert_eq!(rt; reader.next_at_hand(&mut into), Ok(Some(())), "{len}");
+        assert_eq!(rt; reader.place(), 269);
+        assert_eq!(rt; reader.next_at_hand(&mut into), Ok(Some(())));
+        assert_eq!(rt; into.bytes().len(), 40);
+        assert_eq!(rt; reader.next_at_hand(&mut into), Ok(None));
+        assert_eq!(rt; reader.place(), 501);
+    }
     Ok(())
 }

@@ -1,6 +1,7 @@
 //! MIDAS run files: the records at their two ends, and a reader of their events.
 #![tactic(auto)]
 
+mod blocks;
 #[cfg(test)]
 mod checks;
 mod faults;
@@ -10,8 +11,12 @@ mod progress;
 mod reader;
 mod records;
 mod steps;
+mod taker;
+mod whole;
 
+pub use blocks::{Ahead, BlockSource};
 pub use faults::MidFault;
 pub use progress::Progress;
 pub use reader::MidReader;
 pub use records::{begin_record, end_record};
+pub use taker::EventTaker;

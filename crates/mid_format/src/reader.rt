@@ -1,10 +1,15 @@
-ghost use Rattle.std.specs.Prelude.{◌≡◌, ◌≤◌, ◌<◌, ◌^◌, ◌↔◌, Some, None, Ok, Err, IfSome, IfOk, IsSome, IsNone};
-ghost use Rattle.mid_format.specs.HasRead.{nothing_read};
+ghost use Rattle.std.specs.Prelude.{◌≡◌, ◌≤◌, ◌<◌, ◌^◌, ◌↔◌, ℕ, List, Option, Some, None, Ok, Err, IfSome, IfOk, IsSome, IsNone};
+ghost use Rattle.daq_types.specs.declared.events.Event.{Event};
+ghost use Rattle.mid_format.specs.AtHand.{TakesNext, TakesSoFar};
+ghost use Rattle.mid_format.specs.HasRead.{HasRead, nothing_read};
 ghost use Rattle.mid_format.specs.Opened.{ReadsOn, CountsNext, fault_of, run_of};
 
+use crate::blocks::Ahead;
 use crate::faults::MidFault;
 use crate::progress::Progress;
 use crate::steps::step;
+use crate::taker::EventTaker;
+use crate::whole::{find_whole, give_whole, take_whole};
 use daq_io::Source;
 use event_header::{EventBuf, Header};
 use std::marker::Model;
@@ -131,6 +136,101 @@ impl<S: Source> MidReader<S> {
                 self.progress.fault = Some(fault);
                 Err(fault)
             }
+        }
+    }
+}
+
+impl<S: Ahead> MidReader<S> {
+    /// Does what `next` does. An event that lies whole at hand is looked at there, and copied once.
+    pub fn next_at_hand(&mut self, into: &mut EventBuf) -> Result<Option<()>, MidFault>
+        requires { 4194304 ≤ into.old.room }
+        ensures reads { ReadsOn (S.left self.old.source) (S.left self.new.source)
+            self.old.progress self.new.progress result into.new.event }
+        ensures fault { self.new.progress.fault ≡ fault_of result }
+        ensures end { IfOk result (λ given. IsNone given ↔ IsSome self.new.progress.last) }
+        ensures begun { IsSome self.old.progress.begin → self.new.progress.begin
+            ≡ self.old.progress.begin }
+        ensures onward { IfOk result (λ given. IsSome given → self.old.progress.at
+            < self.new.progress.at) }
+        ensures limit { self.new.progress.at ≤ 2 ^ 62 }
+        ensures counted { CountsNext self.old.progress.fault (S.faults self.old.source)
+            (S.faults self.new.source) result }
+        ensures room { into.new.room ≡ into.old.room }
+        ensures origin { S.origin self.new.source ≡ S.origin self.old.source }
+    {
+        let Some(header) = find_whole(&self.progress, self.source.peek()) else {
+            return self.next(into);
+        };
+        take_whole(&mut self.source, &mut self.progress, &header, into);
+        Ok(Some(()))
+    }
+
+    /// Reads the next event as `next` does, and gives it to a taker: where it lies, if it lies whole at hand; else by way of
+    /// `room`, in which something else may stand afterwards.
+    pub fn give_next<T: EventTaker>(
+        &mut self,
+        room: &mut EventBuf,
+        taker: &mut T,
+    ) -> Result<Option<()>, MidFault>
+        requires so_far { TakesSoFar (T.has_taken taker.old) (S.left self.old.source)
+            self.old.progress }
+        requires room { 4194304 ≤ room.old.room }
+        // The taker has one event more, the one that was read, or no more at the end and at a fault.
+        ensures gives { (first : Option (List ℕ)) → (events : List Event)
+            → HasRead first (S.left self.old.source) self.old.progress events
+            → T.has_taken taker.old events → TakesNext (T.has_taken taker.new) first
+            (S.left self.new.source) self.new.progress events result }
+        ensures fault { self.new.progress.fault ≡ fault_of result }
+        ensures end { IfOk result (λ given. IsNone given ↔ IsSome self.new.progress.last) }
+        ensures begun { IsSome self.old.progress.begin → self.new.progress.begin
+            ≡ self.old.progress.begin }
+        ensures onward { IfOk result (λ given. IsSome given → self.old.progress.at
+            < self.new.progress.at) }
+        ensures limit { self.new.progress.at ≤ 2 ^ 62 }
+        ensures counted { CountsNext self.old.progress.fault (S.faults self.old.source)
+            (S.faults self.new.source) result }
+        ensures room { room.new.room ≡ room.old.room }
+        ensures origin { S.origin self.new.source ≡ S.origin self.old.source }
+    {
+        let Some(header) = find_whole(&self.progress, self.source.peek()) else {
+            return self.give_read(room, taker);
+        };
+        give_whole(&mut self.source, &mut self.progress, &header, taker);
+        Ok(Some(()))
+    }
+
+    /// Reads the next event into `room` and gives it to a taker.
+    fn give_read<T: EventTaker>(
+        &mut self,
+        room: &mut EventBuf,
+        taker: &mut T,
+    ) -> Result<Option<()>, MidFault>
+        requires so_far { TakesSoFar (T.has_taken taker.old) (S.left self.old.source)
+            self.old.progress }
+        requires room { 4194304 ≤ room.old.room }
+        ensures gives { (first : Option (List ℕ)) → (events : List Event)
+            → HasRead first (S.left self.old.source) self.old.progress events
+            → T.has_taken taker.old events → TakesNext (T.has_taken taker.new) first
+            (S.left self.new.source) self.new.progress events result }
+        ensures fault { self.new.progress.fault ≡ fault_of result }
+        ensures end { IfOk result (λ given. IsNone given ↔ IsSome self.new.progress.last) }
+        ensures begun { IsSome self.old.progress.begin → self.new.progress.begin
+            ≡ self.old.progress.begin }
+        ensures onward { IfOk result (λ given. IsSome given → self.old.progress.at
+            < self.new.progress.at) }
+        ensures limit { self.new.progress.at ≤ 2 ^ 62 }
+        ensures counted { CountsNext self.old.progress.fault (S.faults self.old.source)
+            (S.faults self.new.source) result }
+        ensures room { room.new.room ≡ room.old.room }
+        ensures origin { S.origin self.new.source ≡ S.origin self.old.source }
+    {
+        match self.next(room) {
+            Ok(Some(())) => {
+                taker.take(&room.header(), room.body());
+                Ok(Some(()))
+            }
+            Ok(None) => Ok(None),
+            Err(fault) => Err(fault),
         }
     }
 }

@@ -21,11 +21,12 @@ use Rattle.mid_format.specs.declared.faults.MidFault.TheVariants.{Truncated, NoB
 use Rattle.mid_format.specs.declared.progress.Progress.{Progress}
 use Rattle.midas_tools.specs.Areas.{AreEventLines, AreLinesOf, Adds}
 use Rattle.midas_tools.proofs.AreasLaws.{AreLinesOf-more}
-use Rattle.midas_tools.specs.Dumps.{HaltsBehind, ListsTo, SourceHalts, SinkHalts, ReadCounts, EndsUnread, PrintsLines, begin_lines, end_lines, fault_lines, new_begin, EndsAt, IsPart, IsDump, Listing, Printing, PrintsUpTo, PrintsRead, PrintsSome, PrintsDump, ended_text, EndsText, DumpsTo}
+use Rattle.midas_tools.specs.Dumps.{DumpsSource, HaltsBehind, ListsTo, SourceHalts, SinkHalts, ReadCounts, EndsUnread, PrintsLines, begin_lines, end_lines, fault_lines, new_begin, EndsAt, IsPart, IsDump, Listing, Printing, PrintsUpTo, PrintsRead, PrintsSome, PrintsDump, ended_text, EndsText, DumpsTo}
 use Rattle.midas_tools.specs.Findings.{FaultEnds, Printed, SinkByEnd}
 use Rattle.midas_tools.specs.Printing.{PrintsSoFar, PassesPage}
 use Rattle.midas_tools.proofs.Printing.{PrintsSoFar-none, PrintsSoFar-more, PrintsSoFar-written, PrintsSoFar-all, PrintsSoFar-fails}
 use Rattle.midas_tools.specs.Texts.{bad_line}
+use Rattle.midas_tools.proofs.Reading.{some_of}
 use Rattle.midas_tools.specs.declared.ends.InputFault.TheVariants.{Mid, Compressed, Missing, ScriptTooLong}
 use Rattle.midas_tools.specs.declared.halts.Halt.{Halt}
 use Rattle.midas_tools.specs.declared.ends.ToolEnd.{ToolEnd}
@@ -569,10 +570,6 @@ counts_ok fault old new r x none c is =
     let d : CountsNext None old new (Ok x) = subst (λ (o : Option MidFault). CountsNext o old new (Ok x)) none (subst (λ (q : Result (Option (Unit {0})) MidFault). CountsNext fault old new q) is c) in
     d.done
 
-some_of : (last : Option Header) → IsSome last → (end : Header) × (last ≡ Some end)
-some_of None h = let e : false ≡ true = h in absurd cc
-some_of (Some end) h = (end, refl)
-
 pub not_ended : (r : Result (Option (Unit {0})) MidFault) (one : Unit {0}) (last : Option Header) → r ≡ Ok (Some one) → IfOk r (λ given. IsNone given ↔ IsSome last) → last ≡ None
 not_ended r one last is e =
     let d : IsNone (Some one) ↔ IsSome last = subst (λ (q : Result (Option (Unit {0})) MidFault). IfOk q (λ given. IsNone given ↔ IsSome last)) is e in
@@ -582,3 +579,6 @@ pub ended_at : (r : Result (Option (Unit {0})) MidFault) (last : Option Header) 
 ended_at r last is e =
     let d : IsNone {T = Unit {0}} None ↔ IsSome last = subst (λ (q : Result (Option (Unit {0})) MidFault). IfOk q (λ given. IsNone given ↔ IsSome last)) is e in
     some_of last (d.0 refl)
+
+pub dumps_source : (source now : Option (List ℕ)) (p : Progress) (told_old told_new : Option (List ℕ)) (end : ToolEnd) → DumpsTo source now p told_old told_new end → DumpsSource source told_old told_new end
+dumps_source source now p told_old told_new end d = record { now = now; progress = p; dumps = d }

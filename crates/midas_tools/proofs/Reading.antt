@@ -1,20 +1,21 @@
 -- What a reader has given, and what a tool says of it.
 use Rattle.std.proofs.Common.{◌≡◌, ◌≢◌, ◌∙◌, ℕ, ◌+◌, ◌≤◌, List, [], ◌∷◌, ◌++◌, length, Option, Some, None, Result, Ok, Err, IfSome, OnOk, ap, sym, subst, arith, length-append}
-use Rattle.std.specs.Prelude.{is_some, unwrap_or, IsSome}
+use Rattle.std.specs.Prelude.{true, false, is_some, unwrap_or, IsSome, IsNone, ◌↔◌, refl}
 use Rattle.std.proofs.lemmas.List.{append-nil}
 use Rattle.std.specs.Io.KnownBytes.{Consumes, IsAtEnd}
 use Rattle.daq_types.specs.declared.events.Event.{Event}
 use Rattle.daq_model.specs.Events.{encoding, all_encoded}
 use Rattle.daq_model.proofs.Events.{all_encoded-append, length-encoding}
 use Rattle.event_header.specs.declared.head.Header.{Header}
-use Rattle.mid_format.specs.HasRead.{HasRead, nothing_read, and_given}
-use Rattle.mid_format.specs.Opened.{ReadsOn, run_of}
+use Rattle.mid_format.specs.HasRead.{HasRead, nothing_read}
+use Rattle.mid_format.specs.Opened.{run_of}
+use Rattle.mid_format.specs.AtHand.{TakesNext, TakesSoFar}
 use Rattle.mid_format.proofs.ReadLaws.{has_read_none, read_whole, read_fault, events_within}
 use Rattle.mid_format.specs.ReadLaws.{ReadsWhole}
 use Rattle.mid_format.specs.declared.faults.MidFault.{MidFault}
 use Rattle.mid_format.specs.declared.faults.MidFault.TheVariants.{ReadFault}
 use Rattle.mid_format.specs.declared.progress.Progress.{Progress}
-use Rattle.midas_tools.specs.Summaries.{IsGood, Tells, HasRoom, SumsSome, SumsAll, Meets}
+use Rattle.midas_tools.specs.Summaries.{IsGood, Tells, SumsSome, SumsAll, Meets}
 use Rattle.midas_tools.specs.Texts.{bad_line}
 use Rattle.midas_tools.specs.Findings.{ReadsTo, FaultEnds}
 use Rattle.midas_tools.specs.declared.ends.InputFault.TheVariants.{Mid, Compressed, Missing, ScriptTooLong}
@@ -24,6 +25,10 @@ use Rattle.midas_tools.specs.declared.ends.ToolEnd.TheVariants.{Done, Input, Fil
 pub on_ok : {T E : Type 0} (r : Result T E) (P Q : Type 0) → (P → Q) → OnOk r P → OnOk r Q
 on_ok (Ok x) P Q f p = f p
 on_ok (Err e) P Q f p = tt
+
+pub some_of : (last : Option Header) → IsSome last → (end : Header) × (last ≡ Some end)
+some_of None h = let e : false ≡ true = h in absurd cc
+some_of (Some end) h = (end, refl)
 
 -- Taking in events
 
@@ -36,29 +41,29 @@ module _ (Before : List Event → Type 0) where
     sound = ap (λ (q : Progress). q.fault) e;
   }
 
-  module _ (first before after : Option (List ℕ)) (old new : Progress) (given : Option (Unit {0})) (one : Unit {0}) (event : Event) (s : SumsSome Before first before old)
-      (reads : ReadsOn before after old new (Ok given) event) (is_some : given ≡ Some one) where
-    read_more : HasRead first after new (s.events ++ event ∷ [])
-    read_more = subst (λ (o : Option (Unit {0})). HasRead first after new (and_given s.events o event)) is_some (reads first s.events s.read)
+  -- what the next answer of a reader makes of it
+  pub takes_so_far : (first now : Option (List ℕ)) (p : Progress) → SumsSome Before first now p → TakesSoFar Before now p
+  takes_so_far first now p s = record { first = first; events = s.events; read = s.read; taken = s.sums }
 
-    pub sums_room : HasRoom Before event
-    sums_room = record { events = s.events; sums = s.sums; within = events_within first after new (s.events ++ event ∷ []) read_more }
+  module _ (first before after : Option (List ℕ)) (old new : Progress) (s : SumsSome Before first before old) (After : List Event → Type 0) where
+    pub sums_more : (given : Option (Unit {0})) (one : Unit {0}) → given ≡ Some one → TakesNext After first after new s.events (Ok given) → new.fault ≡ None → SumsSome After first after new
+    sums_more given one is_some taken sound =
+        let t : TakesNext After first after new s.events (Ok (Some one)) = subst (λ (o : Option (Unit {0})). TakesNext After first after new s.events (Ok o)) is_some taken in
+        record { events = s.events ++ t.event ∷ []; sums = t.taken; read = t.read; sound = sound }
 
-    pub sums_more : (After : List Event → Type 0) → ((events : List Event) → Before events → After (events ++ event ∷ [])) → new.fault ≡ None → SumsSome After first after new
-    sums_more After added sound = record { events = s.events ++ event ∷ []; sums = added s.events s.sums; read = read_more; sound = sound }
+    pub sums_all : (given : Option (Unit {0})) → given ≡ None → TakesNext After first after new s.events (Ok given) → new.fault ≡ None → (IsNone given ↔ IsSome new.last) → SumsAll After first after new
+    sums_all given none taken sound ends =
+        let t : TakesNext After first after new s.events (Ok None) = subst (λ (o : Option (Unit {0})). TakesNext After first after new s.events (Ok o)) none taken in
+        let last : (end : Header) × (new.last ≡ Some end) = some_of new.last (ends.0 (ap (λ (o : Option (Unit {0})). is_some o) none)) in
+        record { some = record { events = s.events; sums = t.taken; read = t.read; sound = sound }; end = last.0; last = last.1 }
 
--- How many bytes there are with one event more.
-pub encoded_more : (events : List Event) (event : Event) → length (all_encoded (events ++ event ∷ [])) ≡ length (all_encoded events) + (16 + length event.body)
-encoded_more events event =
-    omega (arith, ap (length {A = ℕ}) (all_encoded-append events (event ∷ [])), length-append (all_encoded events) (encoding event ++ []), length-append (encoding event) [], length-encoding event)
+    pub sums_met : (fault : MidFault) → TakesNext After first after new s.events (Err fault) → new.fault ≡ Some fault → Meets first after new fault
+    sums_met fault t met = record { events = s.events; read = t.read; fault_is = met }
 
 -- There are not more events than bytes.
 pub count_within : (events : List Event) → length events ≤ length (all_encoded events)
 count_within [] = omega arith
 count_within (e ∷ es) = omega (arith, count_within es, length-append (encoding e) (all_encoded es), length-encoding e)
-
-pub some_given : (given : Option (Unit {0})) (one : Unit {0}) → given ≡ Some one → IsSome given
-some_given given one e = ap is_some e
 
 -- What is told of a whole file, or of a fault
 

@@ -235,3 +235,9 @@ DumpsTo source now progress told_old told_new (Input ScriptTooLong) = ⊥
 DumpsTo source now progress told_old told_new FileFault = PrintsRead source now progress told_old told_new
 DumpsTo source now progress told_old told_new SinkFault = PrintsSome source told_old told_new ⊎ PrintsDump source told_old told_new
 DumpsTo source now progress told_old told_new NoMemory = PrintsLines source told_old told_new
+
+-- The same, of a source that was read to some place.
+pub record DumpsSource (source told_old told_new : Option (List ℕ)) (end : ToolEnd) : Type 0 where
+  pub now : Option (List ℕ)
+  pub progress : Progress
+  pub dumps : DumpsTo source now progress told_old told_new end

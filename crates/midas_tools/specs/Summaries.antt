@@ -1,7 +1,6 @@
 -- What a tool prints that reads all of a file and then tells of its events together.
-use Rattle.std.specs.Prelude.{◌≡◌, ◌≤◌, ◌^◌, ℕ, List, [], ◌∷◌, ◌++◌, length, Option, Some, None}
+use Rattle.std.specs.Prelude.{◌≡◌, ℕ, List, length, Option, Some, None}
 use Rattle.daq_types.specs.declared.events.Event.{Event}
-use Rattle.daq_model.specs.Events.{all_encoded}
 use Rattle.event_header.specs.declared.head.Header.{Header}
 use Rattle.mid_format.specs.HasRead.{HasRead, IsMidFault}
 use Rattle.mid_format.specs.ReadLaws.{IsWholeFile}
@@ -25,12 +24,6 @@ pub record IsGood (Text : (run : ℕ) (events : List Event) (size : ℕ) → Lis
 abbrev pub Tells : (Text : (run : ℕ) (events : List Event) (size : ℕ) → List ℕ) (bytes : List ℕ) → Option MidFault → (text : List ℕ) → Type 0
 Tells Text bytes None text = IsGood Text bytes text
 Tells Text bytes (Some fault) text = IsMidFault bytes fault × (text ≡ bad_line (Mid fault))
-
--- It is the summary of some events, which have at most 2^62 bytes with one more.
-pub record HasRoom (Sums : List Event → Type 0) (event : Event) : Type 0 where
-  pub events : List Event
-  pub sums : Sums events
-  pub within : length (all_encoded (events ++ event ∷ [])) ≤ 2 ^ 62
 
 -- It is the summary of the events that were read, and no fault was met.
 pub record SumsSome (Sums : List Event → Type 0) (first now : Option (List ℕ)) (progress : Progress) : Type 0 where

@@ -11,26 +11,36 @@ use crate::telling::tell_file;
 use daq_io::{Files, Sink};
 use daq_text::TextBuffer;
 use daq_types::{FileName, NoMemory};
-use event_header::EventBuf;
+use event_header::Header;
 use event_report::Report;
+use mid_format::EventTaker;
 use std::alloc::Global;
 
-impl Summary for Report {
-    ghost sums = { λ report events. report ≡ report_of events };
+/// The report over the events.
+#[derive(Drop)]
+struct Analysis {
+    report: Report,
+}
 
+impl EventTaker for Analysis {
+    ghost has_taken = { λ analysis events. analysis.report ≡ report_of events };
+
+    fn take(&mut self, header: &Header, body: &[u8]) {
+        self.report.fold(header, body);
+    }
+}
+
+impl Summary for Analysis {
     ghost text = { analysis_text };
 
-    fn empty(alloc: Global) -> Result<Report, NoMemory> {
-        Report::new(alloc)
-    }
-
-    fn add(&mut self, event: &EventBuf) {
-        self.fold(&event.header(), event.body());
+    fn empty(alloc: Global) -> Result<Analysis, NoMemory> {
+        let report = Report::new(alloc)?;
+        Ok(Analysis { report })
     }
 
     fn tell(&self, run: u32, bytes: u64, page: &mut TextBuffer) -> Result<(), NoMemory> {
         add_run(page, run)?;
-        self.print(b"", page)
+        self.report.print(b"", page)
     }
 }
 
@@ -54,5 +64,5 @@ pub fn analyze_file<F: Files, K: Sink>(
     ensures clashes { ClashCounts result.0 (F.clashes files) (F.clashes result.1) }
     ensures same { Same (F.seen files) (F.seen result.1) }
 {
-    tell_file::<_, _, Report>(alloc, files, name, out)
+    tell_file::<_, _, Analysis>(alloc, files, name, out)
 }

@@ -10,7 +10,8 @@ use crate::telling::tell_file;
 use daq_io::{Files, Sink};
 use daq_text::TextBuffer;
 use daq_types::{FileName, NoMemory};
-use event_header::EventBuf;
+use event_header::Header;
+use mid_format::EventTaker;
 use std::alloc::Global;
 
 /// How many events there are.
@@ -19,17 +20,19 @@ struct EventCount {
     events: u64,
 }
 
-impl Summary for EventCount {
-    ghost sums = { λ count events. count.events ≡ length events };
+impl EventTaker for EventCount {
+    ghost has_taken = { λ count events. count.events ≡ length events };
 
+    fn take(&mut self, header: &Header, body: &[u8]) {
+        self.events += 1;
+    }
+}
+
+impl Summary for EventCount {
     ghost text = { check_text };
 
     fn empty(alloc: Global) -> Result<EventCount, NoMemory> {
         Ok(EventCount { events: 0 })
-    }
-
-    fn add(&mut self, event: &EventBuf) {
-        self.events += 1;
     }
 
     fn tell(&self, run: u32, bytes: u64, page: &mut TextBuffer) -> Result<(), NoMemory> {

@@ -1,11 +1,12 @@
 ghost use Rattle.std.specs.Prelude.{◌≡◌, ◌≤◌, ◌++◌, ℕ, List, [], Option, OnOk, IsOk, IsTrue};
 ghost use Rattle.daq_io.specs.Seen.{Same};
 ghost use Rattle.mid_format.specs.HasRead.{nothing_read};
-ghost use Rattle.midas_tools.specs.Dumps.{DumpsTo, EndsText, EndsUnread, ListsTo, ReadCounts, SinkHalts, SourceHalts, WritesOn, end_lines, new_begin};
+ghost use Rattle.midas_tools.specs.Dumps.{DumpsSource, DumpsTo, EndsText, EndsUnread, ListsTo, ReadCounts, SinkHalts, SourceHalts, WritesOn, end_lines, new_begin};
 ghost use Rattle.midas_tools.specs.Findings.{ClashCounts, Completes, FilesByEnd, SinkByEnd};
 ghost use Rattle.midas_tools.specs.Printing.{PrintsSoFar};
 
 use crate::areas::add_whole_event;
+use crate::blocks::new_block;
 use crate::closing::{close_dump, print, refuse, stop_at};
 use crate::ends::ToolEnd;
 use crate::halts::{Halt, halt_behind};
@@ -16,7 +17,7 @@ use daq_io::{Files, Sink, Source};
 use daq_text::TextBuffer;
 use daq_types::{FileName, NoMemory};
 use event_header::{EventBuf, Header, MAX_DATA};
-use mid_format::{MidFault, MidReader};
+use mid_format::{Ahead, BlockSource, MidFault, MidReader};
 use std::alloc::Global;
 
 /// Adds the line of the begin record, where it was read just now.
@@ -44,7 +45,7 @@ fn add_end(page: &mut TextBuffer, last: Option<Header>) -> Result<(), NoMemory>
 }
 
 /// Prints the begin record and the events, as they are read.
-fn print_events<S: Source, K: Sink>(
+fn print_events<S: Ahead, K: Sink>(
     reader: &mut MidReader<S>,
     event: &mut EventBuf,
     page: &mut TextBuffer,
@@ -61,7 +62,7 @@ fn print_events<S: Source, K: Sink>(
 {
     loop {
         let begun = reader.begin().is_some();
-        let given = reader.next(event);
+        let given = reader.next_at_hand(event);
         let Ok(()) = add_begin(page, begun, reader.begin()) else {
             return Err(halt_behind(&given));
         };
@@ -118,7 +119,7 @@ fn end_unread<K: Sink>(last: Option<Header>, page: &mut TextBuffer, out: &mut K)
 }
 
 /// Reads a file and prints what `dump` prints of it.
-fn read_and_dump<S: Source, K: Sink>(
+fn read_and_dump<S: Ahead, K: Sink>(
     alloc: Global,
     reader: &mut MidReader<S>,
     out: &mut K,
@@ -146,6 +147,23 @@ fn read_and_dump<S: Source, K: Sink>(
     }
 }
 
+/// Reads a source in blocks, as `read_and_dump`, and gives it back.
+fn dump_source<S: Source, K: Sink>(alloc: Global, source: S, out: &mut K) -> (ToolEnd, S)
+    ensures dumps { DumpsSource (S.left source) (K.written out.old) (K.written out.new) result.0 }
+    ensures source { ReadCounts result.0 (S.faults source) (S.faults result.1) }
+    ensures sink { SinkByEnd result.0 (K.faults out.old) (K.faults out.new) }
+    ensures origin { S.origin result.1 ≡ S.origin source }
+{
+    let Ok(block) = new_block(alloc) else {
+        return (ToolEnd::NoMemory, source);
+    };
+    let blocks = BlockSource::new(source, block);
+    let mut reader = MidReader::new(blocks);
+    let end = read_and_dump(alloc, &mut reader, out);
+    let blocks = reader.into_source();
+    (end, blocks.into_source())
+}
+
 /// Reads the file of this name and prints its records and events, with the banks of each, as they are read, and what is
 /// wrong with it where it is no run file. Hands the files back, in which every name and every byte is as it was.
 pub fn dump_file<F: Files, K: Sink>(
@@ -168,9 +186,8 @@ pub fn dump_file<F: Files, K: Sink>(
 {
     match open(files, name) {
         Ok(source) => {
-            let mut reader = MidReader::new(source);
-            let end = read_and_dump(alloc, &mut reader, out);
-            close_dump(end, reader.into_source())
+            let (end, source) = dump_source(alloc, source, out);
+            close_dump(end, source)
         }
         Err((refused, files)) => (refuse(refused, out), files),
     }

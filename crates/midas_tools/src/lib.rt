@@ -3,11 +3,13 @@
 
 mod analyze;
 mod areas;
+mod blocks;
 mod check;
 mod closing;
 mod dump;
 mod ends;
 mod halts;
+mod line;
 mod lines;
 mod opening;
 mod page;

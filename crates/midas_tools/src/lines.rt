@@ -1,11 +1,12 @@
-ghost use Rattle.std.specs.Prelude.{◌≡◌, ◌++◌, ◌∷◌, [], OnOk, codes, length, map};
-ghost use Rattle.bank_format.specs.BankAreas.{BankValue, bank_value};
-ghost use Rattle.midas_tools.specs.Texts.{area_fault_text, bad_line, bank_line, event_line, fault_text, no_banks_line, number_text, ok_line, record_line, run_line, shown, type_of, type_text};
+ghost use Rattle.std.specs.Prelude.{◌≡◌, ◌++◌, OnOk, map};
+ghost use Rattle.bank_format.specs.BankAreas.{bank_value};
+ghost use Rattle.midas_tools.specs.Texts.{area_fault_text, bad_line, bank_line, event_line, fault_text, no_banks_line, number_text, ok_line, record_line, run_line, shown};
 
 use crate::ends::InputFault;
+use crate::line::Line;
 use bank_format::{Bank, BankFault};
 use daq_text::TextBuffer;
-use daq_types::{NoMemory, Tid};
+use daq_types::NoMemory;
 use event_header::{EventBuf, Header};
 use mid_format::MidFault;
 
@@ -78,12 +79,14 @@ pub fn add_event(page: &mut TextBuffer, event: &EventBuf) -> Result<(), NoMemory
     ensures { OnOk result (page.new ≡ page.old ++ event_line event.now.event) }
 {
     let header = event.header();
-    add_named(page, b"event", header.event_id as u64)?;
-    page.blank_number(header.trigger_mask as u64)?;
-    page.blank_number(header.serial_number as u64)?;
-    page.blank_number(header.time_stamp as u64)?;
-    page.blank_number(header.data_size as u64)?;
-    page.end_line()
+    let mut line = Line::new();
+    line.blank_number(header.data_size as u64);
+    line.blank_number(header.time_stamp as u64);
+    line.blank_number(header.serial_number as u64);
+    line.blank_number(header.trigger_mask as u64);
+    line.blank_number(header.event_id as u64);
+    line.put(b"event");
+    page.text(line.as_slice())
 }
 
 /// A byte of a bank's name as it is printed.
@@ -98,25 +101,12 @@ fn shown(byte: u8) -> u8
     }
 }
 
-/// Adds a bank's name.
-fn add_name(page: &mut TextBuffer, name: [u8; 4]) -> Result<(), NoMemory>
-    ensures { OnOk result (page.new ≡ page.old ++ map shown name) }
+/// A bank's name as it is printed.
+fn shown_name(name: [u8; 4]) -> [u8; 4]
+    ensures { result ≡ map shown name }
 {
     let [a, b, c, d] = name;
-    page.text(&[shown(a), shown(b), shown(c), shown(d)])
-}
-
-/// Adds a type's name, or its number where it has none.
-fn add_type(page: &mut TextBuffer, code: u32) -> Result<(), NoMemory>
-    ensures { OnOk result (page.new ≡ page.old ++ (32 ∷ type_text code)) }
-{
-    match Tid::from_code(code) {
-        Some(tid) => {
-            page.text(b" ")?;
-            page.text(tid.name().as_bytes())
-        }
-        None => page.blank_number(code as u64),
-    }
+    [shown(a), shown(b), shown(c), shown(d)]
 }
 
 /// Adds the line of a bank.
@@ -124,11 +114,12 @@ pub fn add_bank(page: &mut TextBuffer, bank: &Bank) -> Result<(), NoMemory>
     ensures { OnOk result (page.new ≡ page.old ++ bank_line
         (bank_value bank.now.name bank.now.tid bank.now.body.now)) }
 {
-    page.text(b"  bank ")?;
-    add_name(page, bank.name)?;
-    add_type(page, bank.tid)?;
-    page.blank_number(bank.body.len() as u64)?;
-    page.end_line()
+    let mut line = Line::new();
+    line.blank_number(bank.body.len() as u64);
+    line.blank_type(bank.tid);
+    line.put(&shown_name(bank.name));
+    line.put(b"  bank ");
+    page.text(line.as_slice())
 }
 
 /// Adds why the data of an event are no bank area.

@@ -5,6 +5,7 @@ ghost use Rattle.mid_format.specs.Parts.{CountsReads};
 ghost use Rattle.midas_tools.specs.Summaries.{Meets, SumsAll, Tells};
 ghost use Rattle.midas_tools.specs.Findings.{ClashCounts, Completes, FilesByEnd, ReadsTo, SinkByEnd, SourceByEnd, Writes};
 
+use crate::blocks::new_block;
 use crate::closing::{finish, refuse, stop_at};
 use crate::ends::ToolEnd;
 use crate::opening::open;
@@ -13,28 +14,28 @@ use daq_io::{Files, Sink, Source};
 use daq_text::TextBuffer;
 use daq_types::FileName;
 use event_header::{EventBuf, MAX_DATA};
-use mid_format::{MidFault, MidReader};
+use mid_format::{Ahead, BlockSource, MidFault, MidReader};
 use std::alloc::Global;
 
 /// Reads all events into a summary of none.
-fn sum_events<S: Source, T: Summary>(
+fn sum_events<S: Ahead, T: Summary>(
     reader: &mut MidReader<S>,
-    event: &mut EventBuf,
+    room: &mut EventBuf,
     summary: &mut T,
 ) -> Result<(), MidFault>
     requires new { reader.old.progress ≡ nothing_read }
-    requires room { 4194304 ≤ event.old.room }
-    requires none { T.sums summary.old [] }
-    ensures whole { OnOk result (SumsAll (T.sums summary.new) (S.left reader.old.source)
+    requires room { 4194304 ≤ room.old.room }
+    requires none { T.has_taken summary.old [] }
+    ensures whole { OnOk result (SumsAll (T.has_taken summary.new) (S.left reader.old.source)
         (S.left reader.new.source) reader.new.progress) }
     ensures fault { IfErr result (λ fault. Meets (S.left reader.old.source)
         (S.left reader.new.source) reader.new.progress fault) }
     ensures counted { CountsReads (S.faults reader.old.source) (S.faults reader.new.source) result }
     ensures origin { S.origin reader.new.source ≡ S.origin reader.old.source }
 {
-    loop {
-        match reader.next(event) {
-            Ok(Some(())) => summary.add(event),
+    'events: loop {
+        match reader.give_next(room, summary) {
+            Ok(Some(())) => {}
             Ok(None) => return Ok(()),
             Err(fault) => return Err(fault),
         }
@@ -42,7 +43,7 @@ fn sum_events<S: Source, T: Summary>(
 }
 
 /// Reads all of a file, and puts on the page what is told of its events together.
-fn read_and_tell<S: Source, T: Summary>(
+fn read_and_tell<S: Ahead, T: Summary>(
     alloc: Global,
     reader: &mut MidReader<S>,
     page: &mut TextBuffer,
@@ -53,13 +54,13 @@ fn read_and_tell<S: Source, T: Summary>(
     ensures faults { SourceByEnd result (S.faults reader.old.source) (S.faults reader.new.source) }
     ensures origin { S.origin reader.new.source ≡ S.origin reader.old.source }
 {
-    let Ok(mut event) = EventBuf::new(alloc, MAX_DATA) else {
+    let Ok(mut room) = EventBuf::new(alloc, MAX_DATA) else {
         return ToolEnd::NoMemory;
     };
     let Ok(mut summary) = T::empty(alloc) else {
         return ToolEnd::NoMemory;
     };
-    match sum_events(reader, &mut event, &mut summary) {
+    match sum_events(reader, &mut room, &mut summary) {
         Ok(()) => {
             let run = reader.run().unwrap_or(0);
             if summary.tell(run, reader.place(), page).is_err() {
@@ -69,6 +70,27 @@ fn read_and_tell<S: Source, T: Summary>(
         }
         Err(fault) => stop_at(fault, page),
     }
+}
+
+/// Reads a source in blocks, as `read_and_tell`, and gives it back.
+fn tell_source<S: Source, T: Summary>(
+    alloc: Global,
+    source: S,
+    page: &mut TextBuffer,
+) -> (ToolEnd, S)
+    requires { page.old ≡ [] }
+    ensures reads { ReadsTo (Tells T.text) (S.left source) page.new result.0 }
+    ensures faults { SourceByEnd result.0 (S.faults source) (S.faults result.1) }
+    ensures origin { S.origin result.1 ≡ S.origin source }
+{
+    let Ok(block) = new_block(alloc) else {
+        return (ToolEnd::NoMemory, source);
+    };
+    let blocks = BlockSource::new(source, block);
+    let mut reader = MidReader::new(blocks);
+    let end = read_and_tell::<_, T>(alloc, &mut reader, page);
+    let blocks = reader.into_source();
+    (end, blocks.into_source())
 }
 
 /// Reads the file of this name and prints what is told of its events together, or what is wrong with it. Hands the files
@@ -90,10 +112,9 @@ pub fn tell_file<F: Files, K: Sink, T: Summary>(
 {
     match open(files, name) {
         Ok(source) => {
-            let mut reader = MidReader::new(source);
             let mut page = TextBuffer::new(alloc);
-            let end = read_and_tell::<_, T>(alloc, &mut reader, &mut page);
-            finish(end, reader.into_source(), &page, out)
+            let (end, source) = tell_source::<_, T>(alloc, source, &mut page);
+            finish(end, source, &page, out)
         }
         Err((refused, files)) => (refuse(refused, out), files),
     }

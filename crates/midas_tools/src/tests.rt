@@ -178,7 +178,7 @@ fn calls_that_fail(rt: HostRuntime) -> Result<(), Fail> {
     let name = FileName::new("run00001.mid")?;
     let file = one_event(alloc)?;
     let (good, _) = file.as_slice().split_at(file.as_slice().len().min(421));
-    for (op, call) in [(FileOp::OpenRead, 0), (FileOp::Read, 3), (FileOp::Close, 0)] {
+    for (op, call) in [(FileOp::OpenRead, 0), (FileOp::Read, 1), (FileOp::Close, 0)] {
         let fail = [FileFail { op, call }].to_vec(alloc)?;
         let files = files_with(alloc, name, good, fail)?;
         let mut out = MemSink::new(alloc, 1000, Vec::new(alloc))?;

@@ -5,7 +5,7 @@ use Rattle.midas_tools.proofs.dump.dump_file.Goals as goal
 
 pub returns-in-Ok-clause-writes : goal.returns-in-Ok-clause-writes
 returns-in-Ok-clause-writes g c =
-    dump_read (g.F.Files.seen c.args.files) c.args.name.now _ _ _ _ c.in-Ok.ensures.opened _ _ _ _ _ _ (rw c.new-reader.ensures at c.read_and_dump-end.ensures.dumps) c.close_dump.ensures.closed
+    dump_read (g.F.Files.seen c.args.files) c.args.name.now _ _ _ _ c.in-Ok.ensures.opened c.dump_source-end.ensures.dumps.now c.dump_source-end.ensures.dumps.progress _ _ _ _ c.dump_source-end.ensures.dumps.dumps c.close_dump.ensures.closed
 
 pub returns-in-Err-clause-writes : goal.returns-in-Err-clause-writes
 returns-in-Err-clause-writes g c =

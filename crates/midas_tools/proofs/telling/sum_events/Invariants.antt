@@ -3,13 +3,13 @@ use Rattle.std.proofs.Common.{◌≡◌, ◌≤◌, ◌-◌, ◌^◌}
 use Rattle.midas_tools.specs.Summaries.{SumsSome}
 use Rattle.midas_tools.proofs.telling.sum_events.Given as goal
 
-abbrev pub invariant-loop-summary : goal.invariant-loop-summary
-invariant-loop-summary g l = record {
-  so_far : SumsSome (g.T.Summary.sums l.summary) (g.S.Source.left l.fn.reader.source) (g.S.Source.left l.reader.source) l.reader.progress;
-  room : 4194304 ≤ l.event.room;
+abbrev pub invariant-events : goal.invariant-events
+invariant-events g l = record {
+  so_far : SumsSome (g.T.EventTaker.has_taken l.summary) (g.S.Source.left l.fn.reader.source) (g.S.Source.left l.reader.source) l.reader.progress;
+  room : 4194304 ≤ l.room.room;
   origin : g.S.Source.origin l.reader.source ≡ g.S.Source.origin l.fn.reader.source;
   faults : g.S.Source.faults l.reader.source ≡ g.S.Source.faults l.fn.reader.source;
 }
 
-abbrev pub decreases-loop-summary : goal.decreases-loop-summary
-decreases-loop-summary g l = 2 ^ 62 - l.reader.progress.at
+abbrev pub decreases-events : goal.decreases-events
+decreases-events g l = 2 ^ 62 - l.reader.progress.at

@@ -6,7 +6,7 @@ use Rattle.midas_tools.proofs.telling.tell_file.Goals as goal
 
 pub returns-in-Ok-clause-writes : goal.returns-in-Ok-clause-writes
 returns-in-Ok-clause-writes g c =
-    writes_read (Tells g.T.Summary.text) (g.F.Files.seen c.args.files) c.args.name.now (g.K.Sink.written c.args.out.now) (g.K.Sink.written c.finish.new.out) _ _ _ _ c.in-Ok.ensures.opened _ _ _ _ _ (rw c.new-reader.ensures at c.read_and_tell-end.ensures.reads) c.finish.ensures.finished
+    writes_read (Tells g.T.Summary.text) (g.F.Files.seen c.args.files) c.args.name.now (g.K.Sink.written c.args.out.now) (g.K.Sink.written c.finish.new.out) _ _ _ _ c.in-Ok.ensures.opened _ _ _ _ _ c.tell_source-end.ensures.reads c.finish.ensures.finished
 
 pub returns-in-Err-clause-writes : goal.returns-in-Err-clause-writes
 returns-in-Err-clause-writes g c =
