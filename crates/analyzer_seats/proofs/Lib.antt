@@ -1,0 +1,2 @@
+pub mod AnalyzerLaws
+pub mod ManyLaws

@@ -1,0 +1,3 @@
+pub mod AnalyzerTaken
+pub mod SeatedAnalyzers
+pub mod ManyAnalyzers
