@@ -1,18 +1,19 @@
-mod Interrupting
-mod OwnCalls
-mod TransitionLaws
-mod Leading
-mod RunsBroken
-mod Starting
-mod Options
-mod GivenLines
-mod PlayingLaws
-mod PlayingEnds
-mod ClosingLaws
-mod RunLaws
-mod NumberLaws
-mod RunsFiled
-mod Answering
-mod PlayedLaws
-mod FrontLaws
-mod FitLaws
+pub mod OpeningLaws
+pub mod SteeringLaws
+pub mod StageLaws
+pub mod FaultLaws
+pub mod CrewLaws
+pub mod KeyLaws
+pub mod DeclaringLaws
+pub mod OpenedLaws
+pub mod OverLaws
+pub mod ToldRuns
+pub mod SpareLaws
+pub mod SessionsEnd
+pub mod ClosedLaws
+pub mod AloneLaws
+pub mod DumpLaws
+pub mod ScriptLaws
+pub mod NothingLaws
+pub mod MembersLaws
+pub mod PlayedLaws

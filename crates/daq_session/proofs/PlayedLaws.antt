@@ -1,169 +1,98 @@
--- A fact of stages that each line of a script and an interruption keep holds throughout a played script.
-use Rattle.std.proofs.Common.{◌≡◌, ℕ, inl, inr, List, [], ◌∷◌, ◌++◌, Option, Some, None, true, false, Bool, Result, Ok, Err, refl, ap, sym, subst, ◌∙◌}
-use Rattle.std.specs.Prelude.{◌⊎◌, map, MatchOption}
-use Rattle.std.proofs.Math.Logic.{⊎_elim}
-use Rattle.daq_types.specs.declared.runs.Order.{Order}
-use Rattle.odb_value.specs.Values.{HeldValue}
-use Rattle.odb_tree.specs.declared.entry.DatabaseEntry.{DatabaseEntry}
-use Rattle.odb_tree.specs.declared.entry.DatabaseEntry.TheVariants as call
-use Rattle.odb_tree.specs.declared.refusals.OdbRefusal.{OdbRefusal}
-use Rattle.odb_journal.specs.Noted.{unanswered}
-use Rattle.odb_runinfo.specs.declared.sets.RunNumber.{RunNumber as NoNext}
-use Rattle.odb_runinfo.specs.RunNumberKept.{SparesRuninfo}
-use Rattle.odb_runinfo.specs.RunSets.{Assignment, have_of, next_run}
-use Rattle.odb_script.specs.declared.forms.Command.{Command}
-use Rattle.odb_script.specs.declared.forms.Command.TheVariants.{Nothing, Events, Start, Stop, Create, CreateDir, Set, Get, List as Ls, Remove, Exit}
-use Rattle.odb_script.specs.declared.refusals.LineRefusal.{LineRefusal}
-use Rattle.odb_script.specs.declared.refusals.LineRefusal.TheVariants.{BadCommand as no_command}
-use Rattle.odb_script.specs.Forms.{command_of}
-use Rattle.odb_port.specs.DatabasePorts.{IsSettled, IsCutShort}
-use Rattle.odb_commands.specs.CommandCalls.{Performs}
-use Rattle.odb_commands.specs.CommandCallLaws.{Spares}
-use Rattle.odb_commands.proofs.CommandCallLaws.{performs_spares}
-use Rattle.daq_session.specs.declared.endings.Ending.{Ending}
-use Rattle.daq_session.specs.declared.endings.Ending.TheVariants.{End, TooLong, SourceFault, Halted}
-use Rattle.daq_session.specs.declared.halts.Halt.TheVariants.{NoMemory, SinkFault, FileFault}
-use Rattle.session_console.specs.declared.replies.Reply.{Reply}
-use Rattle.session_console.specs.declared.replies.Reply.TheVariants.{Silent, BadCommand, WrongState, RunNumber, Database}
-use Rattle.daq_types.specs.declared.runs.RunState.TheVariants.{Stopped, Running}
-use Rattle.daq_session.specs.Playing.{CutBy, StopsAt}
-use Rattle.daq_session.specs.Played.{IsPlayed}
-use Rattle.odb_runinfo.specs.RunSets.{AreSets, number_asked}
-use Rattle.daq_session.specs.RunCalls.{key_made}
-use Rattle.daq_session.specs.Stages.{Outset, Stage, opening_stage, answered, called, OpensSession, Begins, Refuses, EndsRun, StartsRun, StartsFrom, DoesStart, DoesStop, DoesCommand, DoesByLine, Plays, CallsStart, CallsLine, opened_by, Interrupts}
+-- The end of a session that was open, or that was to open.
+use Rattle.std.proofs.Common.{◌≡◌, ℕ, List, length, refl, sym, ap, subst, inl, arith}
+use Rattle.std.specs.Prelude.{Option, Some, None}
+use Rattle.std.proofs.lemmas.List.{take_all}
+use Rattle.mid_logger.specs.declared.channel_spec.ChannelSpec.{ChannelSpec}
+use Rattle.frontend_kit.specs.declared.generator.Generator.{Generator}
+use Rattle.transitions.specs.Engines.{engine_opening}
+use Rattle.transitions.specs.declared.entry.EngineEntry.{EngineEntry}
+use Rattle.transition_lock.specs.declared.shared.SharedEngine.{SharedEngine}
+use Rattle.transition_lock.specs.SharedEngines.{first_engine}
+use Rattle.odb_watch.specs.declared.entry.WatchEntry.{WatchEntry}
+use Rattle.odb_port.specs.DatabasePorts.{DatabaseAccess}
+use Rattle.odb_lock.specs.declared.shared.SharedOdb.{SharedOdb}
+use Rattle.daq_members.specs.FrontSeats.{FrontSeen}
+use Rattle.daq_members.specs.LoggerSeats.{LoggerSeen}
+use Rattle.daq_members.specs.Crews.{CrewTold}
+use Rattle.run_records.specs.declared.records.RunRecord.{RunRecord}
+use Rattle.database_desk.specs.DatabaseStages.{DatabaseStage}
+use Rattle.session_setup.specs.Setup.{Declared}
+use Rattle.session_setup.specs.SetupLines.{opened_with_defaults}
+use Rattle.session_setup.specs.declared.declared.DeclaredLists.{DeclaredLists}
+use Rattle.session_setup.specs.declared.declared.FrontDeclared.{FrontDeclared}
+use Rattle.session_objects.specs.declared.objects.SessionObjects.{SessionObjects}
+use Rattle.session_objects.specs.declared.passes.SessionPasses.{SessionPasses}
+use Rattle.session_objects.specs.Members.{HasDeclaredChannels, session_calls}
+use Rattle.session_objects.specs.Objects.{declared_by}
+use Rattle.session_objects.specs.Records.{HasCalls}
+use Rattle.session_laws.specs.RecordedRuns.{AreDeclared}
+use Rattle.session_runs.specs.KeptRuns.{RunsSeen}
+use Rattle.session_runs.specs.RunAnswers.{ClockTold}
+use Rattle.script_desk.specs.declared.endings.Ending.{Ending}
+use Rattle.session_lines.specs.Stages.{front_names, open_stage, opened_runs, unopened_stage}
+use Rattle.session_lines.specs.RunLines.{CutsKeys, CutsOpening, KeysMade, MakesKeys, OpensSession}
+use Rattle.daq_session.specs.Sessions.{IsTaken, ObjectsEnd, OpenedEnds}
+use Rattle.daq_session.proofs.MembersLaws.{names_of}
 
--- what keeps a fact: a reply, another quota, calls of the main thread that remove nothing of `/Runinfo`, a run that begins
--- or is refused behind the number that was got, and a run that ends
-pub record IsKeptByLines (P : Stage → Type 0) : Type 0 where
-  pub reply : (s : Stage) (reply : Reply) → P s → P (answered s reply)
-  pub quota : (s : Stage) (count : ℕ) → P s → P (record s { quota = count })
-  pub calls : (s : Stage) (calls : List DatabaseEntry) (opened : Bool) → Spares calls → P s → P (record (called s calls) { opened = opened })
-  pub begins : (o : Outset) (run : ℕ) (s new : Stage) (got : Result HeldValue OdbRefusal) → s.on ≡ None → IsSettled got → next_run (have_of got) ≡ Ok run → Begins o run (called s (number_asked got ∷ [])) new → P s → P new
-  pub refuses : (o : Outset) (run : ℕ) (s new : Stage) (got : Result HeldValue OdbRefusal) → s.on ≡ None → IsSettled got → next_run (have_of got) ≡ Ok run → Refuses o run (called s (number_asked got ∷ [])) new → P s → P new
-  pub ends : (o : Outset) (s new : Stage) (order : Order) → s.on ≡ Some order → EndsRun o s order new → P s → P new
+-- keys that were all made are cut behind the last
+pub keys_cut : (fronts : List (List ℕ)) (old new : DatabaseAccess) → KeysMade fronts old new → CutsKeys fronts old new
+keys_cut fronts old new made = record {
+  count = length fronts;
+  keys = made.0;
+  makes = subst (λ (names : List (List ℕ)). MakesKeys names made.0) (sym (take_all (length fronts) fronts (omega arith))) made.1;
+  between = new;
+  adds = made.2;
+  next = inl refl;
+}
 
--- a reply alone
-replies : (P : Stage → Type 0) (old new : Stage) (reply : Reply) → IsKeptByLines P → new ≡ answered old reply → P old → P new
-replies P old new reply k leads here = subst P (sym leads) (k.reply old reply here)
+module _ (quota : ℕ) (declared : Declared) (lists : DeclaredLists) (database : DatabaseStage) (access : DatabaseAccess) (clock : ClockTold) (opened : opened_with_defaults declared ≡ declared_by lists) where
+  -- The session was to open, and there was no memory for it.
+  pub opening_cut : CutsKeys (names_of lists.fronts) database.access access
+      → CutsOpening (unopened_stage quota declared database clock) (unopened_stage quota declared (record database { access = access }) clock)
+  opening_cut keys = record {
+    closed = refl;
+    keys = subst (λ (d : Declared). CutsKeys (front_names d) database.access access) (sym opened) keys;
+    same = refl;
+  }
 
-opens_keep : (P : Stage → Type 0) (opened : Bool) (old new : Stage) → IsKeptByLines P → OpensSession opened old new → P old → P new
-opens_keep P false old new k opens here = subst P (sym opens.2) (k.calls old (key_made opens.0 ∷ []) true (tt, tt) here)
-opens_keep P true old new k opens here = subst P (sym opens) here
+  -- It opens.
+  pub opens_so : (engine : SharedEngine) (runs : RunsSeen) → first_engine engine ≡ engine_opening → KeysMade (names_of lists.fronts) database.access access → runs ≡ opened_runs quota (declared_by lists) engine
+      → OpensSession (unopened_stage quota declared database clock) (open_stage (declared_by lists) (record database { access = access }) clock runs)
+  opens_so engine runs fresh keys are = record {
+    closed = refl;
+    declared = sym opened;
+    keys = keys;
+    engine = engine;
+    fresh = fresh;
+    runs = ap (λ (r : RunsSeen). Some r) are;
+    quota = ap (λ (r : RunsSeen). r.quota) are;
+    clock = refl;
+    files = refl;
+    replies = refl;
+  }
 
-opens_idle : (opened : Bool) (old new : Stage) → OpensSession opened old new → old.on ≡ None → new.on ≡ None
-opens_idle false old new opens idle = ap (λ (s : Stage). s.on) opens.2 ∙ idle
-opens_idle true old new opens idle = ap (λ (s : Stage). s.on) opens ∙ idle
+-- The channels that were declared are the logger's.
+pub are_declared : {F : Type 0} (channels : List ChannelSpec) (logger : LoggerSeen F) → HasDeclaredChannels channels logger → AreDeclared channels logger.slots
+are_declared channels logger has = record { few = has.few; each = has.each; all = has.all }
 
-run_keeps : (P : Stage → Type 0) (o : Outset) (next : Result ℕ NoNext) (s new : Stage) (got : Result HeldValue OdbRefusal) → IsKeptByLines P → s.on ≡ None → IsSettled got → next_run (have_of got) ≡ next
-    → StartsRun o next (called s (number_asked got ∷ [])) new → P s → P new
-run_keeps P o (Err no_next) s new got k idle settled is starts here =
-    replies P (called s (number_asked got ∷ [])) new (RunNumber no_next.have) k starts (k.calls s (number_asked got ∷ []) s.opened (tt, tt) here)
-run_keeps P o (Ok run) s new got k idle settled is starts here = ⊎_elim
-    (λ (begins : Begins o run (called s (number_asked got ∷ [])) new). k.begins o run s new got idle settled is begins here)
-    (λ (refuses : Refuses o run (called s (number_asked got ∷ [])) new). k.refuses o run s new got idle settled is refuses here) starts
+pub has_declared : {F : Type 0} (channels : List ChannelSpec) (logger : LoggerSeen F) → AreDeclared channels logger.slots → HasDeclaredChannels channels logger
+has_declared channels logger are = record { few = are.few; each = are.each; all = are.all }
 
-start_keeps : (P : Stage → Type 0) (o : Outset) (on : Option Order) (old new : Stage) → IsKeptByLines P → old.on ≡ on → DoesStart o old on new → P old → P new
-start_keeps P o None old new k idle does here =
-    run_keeps P o (next_run (have_of does.2.got)) does.0 new does.2.got k (opens_idle old.opened old does.0 does.1 idle) does.2.settled refl does.2.starts (opens_keep P old.opened old does.0 k does.1 here)
-start_keeps P o (Some order) old new k on does here = replies P old new (WrongState Running) k does here
+-- The passes that are back tell the calls of these callers.
+pub calls_told : {D F : Type 0} {g : _} (fronts declared : List FrontDeclared) (objects : SessionObjects) (shared : SharedOdb D) (passes : SessionPasses D g)
+    (engine own : List EngineEntry) (database seen : List (ℕ × WatchEntry)) (seats : List (FrontSeen Generator)) (logger : LoggerSeen F)
+    → declared ≡ fronts → own ≡ engine → seen ≡ database
+    → HasCalls declared (session_calls own seen seats logger) objects shared passes → HasCalls fronts (session_calls engine database seats logger) objects shared passes
+calls_told fronts declared objects shared passes engine own database seen seats logger same_fronts same_engine same_database has =
+    subst (λ (ds : List FrontDeclared). HasCalls ds (session_calls engine database seats logger) objects shared passes) same_fronts
+    (subst (λ (calls : List EngineEntry). HasCalls declared (session_calls calls database seats logger) objects shared passes) same_engine
+    (subst (λ (calls : List (ℕ × WatchEntry)). HasCalls declared (session_calls own calls seats logger) objects shared passes) same_database has))
 
-stop_keeps : (P : Stage → Type 0) (o : Outset) (on : Option Order) (old new : Stage) → IsKeptByLines P → old.on ≡ on → DoesStop o old on new → P old → P new
-stop_keeps P o None old new k idle does here = replies P old new (WrongState Stopped) k does here
-stop_keeps P o (Some order) old new k on does here = k.ends o old new order on does here
-
-command_keeps : (P : Stage → Type 0) (command : Command) (old new : Stage) → IsKeptByLines P → DoesCommand old command new → P old → P new
-command_keeps P command old new k does here =
-    replies P (called old does.0) new (Database does.1) k does.3 (k.calls old does.0 old.opened (performs_spares command does.0 does.1 does.2) here)
-
--- each line does
-pub line_keeps : (P : Stage → Type 0) (o : Outset) (line : Result Command LineRefusal) (old new : Stage) → IsKeptByLines P → DoesByLine o old line new → P old → P new
-line_keeps P o (Err (no_command at)) old new k does here = replies P old new (BadCommand at) k does here
-line_keeps P o (Ok Nothing) old new k does here = replies P old new Silent k does here
-line_keeps P o (Ok (Events count)) old new k does here = subst P (sym does) (k.quota (answered old Silent) count (k.reply old Silent here))
-line_keeps P o (Ok Start) old new k does here = start_keeps P o old.on old new k refl does here
-line_keeps P o (Ok Stop) old new k does here = stop_keeps P o old.on old new k refl does here
-line_keeps P o (Ok (Create tid path len)) old new k does here = command_keeps P (Create tid path len) old new k does here
-line_keeps P o (Ok (CreateDir path)) old new k does here = command_keeps P (CreateDir path) old new k does here
-line_keeps P o (Ok (Set path index value)) old new k does here = command_keeps P (Set path index value) old new k does here
-line_keeps P o (Ok (Get path index)) old new k does here = command_keeps P (Get path index) old new k does here
-line_keeps P o (Ok (Ls path)) old new k does here = command_keeps P (Ls path) old new k does here
-line_keeps P o (Ok (Remove path)) old new k does here = command_keeps P (Remove path) old new k does here
-line_keeps P o (Ok Exit) old new k does here = replies P old new Silent k does here
-line_keeps P o (Ok _) old new k does here = replies P old new (BadCommand 0) k does here
-
-plays_keep : (P : Stage → Type 0) (o : Outset) (lines : List (Result Command LineRefusal)) (old new : Stage) → IsKeptByLines P → Plays o old lines new → P old → P new
-plays_keep P o [] old new k plays here = subst P (sym plays) here
-plays_keep P o (line ∷ lines) old new k plays here = plays_keep P o lines plays.0 new k plays.2 (line_keeps P o line old plays.0 k plays.1 here)
-
--- An interruption does: its calls remove nothing of `/Runinfo` either.
-
-unanswered_spares : (entry : DatabaseEntry) → SparesRuninfo entry → SparesRuninfo (unanswered entry)
-unanswered_spares (call.Create p kind reply) spares = tt
-unanswered_spares (call.Set p index item reply) spares = tt
-unanswered_spares (call.SetAll p v reply) spares = tt
-unanswered_spares (call.Get p reply) spares = tt
-unanswered_spares (call.Find p reply) spares = tt
-unanswered_spares (call.ListDir p reply) spares = tt
-unanswered_spares (call.Delete p reply) spares = spares
-unanswered_spares (call.Resize p len reply) spares = tt
-unanswered_spares (call.PathOf row reply) spares = tt
-
-cut_spares : (calls made : List DatabaseEntry) → IsCutShort calls made → Spares calls → Spares made
-cut_spares calls [] short spares = tt
-cut_spares [] (e ∷ made) short spares = absurd short
-cut_spares (c ∷ calls) (e ∷ made) (inl here) spares = (subst SparesRuninfo (sym here.0) spares.0, cut_spares calls made here.1 spares.1)
-cut_spares (c ∷ calls) (e ∷ made) (inr last) spares = (subst SparesRuninfo (sym last.0) (unanswered_spares c spares.0), subst Spares (sym last.1) tt)
-
-asked_spares : (got : Result HeldValue OdbRefusal) → Spares (number_asked got ∷ [])
-asked_spares got = (tt, tt)
-
-start_spares : (opened : Bool) (calls : List DatabaseEntry) → CallsStart opened calls → Spares calls
-start_spares false calls are = subst Spares (sym are.3) (tt, asked_spares are.1)
-start_spares true calls are = subst Spares (sym are.1) (tt, tt)
-
-line_spares : (old : Stage) (line : Result Command LineRefusal) (calls : List DatabaseEntry) → CallsLine old line calls → Spares calls
-line_spares old (Err why) calls are = absurd are
-line_spares old (Ok Start) calls are = start_spares old.opened calls are.1
-line_spares old (Ok (Create tid path len)) calls are = performs_spares (Create tid path len) calls are.0 are.1
-line_spares old (Ok (CreateDir path)) calls are = performs_spares (CreateDir path) calls are.0 are.1
-line_spares old (Ok (Set path index value)) calls are = performs_spares (Set path index value) calls are.0 are.1
-line_spares old (Ok (Get path index)) calls are = performs_spares (Get path index) calls are.0 are.1
-line_spares old (Ok (Ls path)) calls are = performs_spares (Ls path) calls are.0 are.1
-line_spares old (Ok (Remove path)) calls are = performs_spares (Remove path) calls are.0 are.1
-line_spares old (Ok _) calls are = absurd are.1
-
-pub break_keeps : (P : Stage → Type 0) (line : Result Command LineRefusal) (old new : Stage) → IsKeptByLines P → Interrupts line old new → P old → P new
-break_keeps P line old new k is here =
-    subst P (sym is.leads) (k.calls old is.made (opened_by line old.opened is.made) (cut_spares is.calls is.made is.short (line_spares old line is.calls is.are_calls)) here)
-
-stops_keep : (P : Stage → Type 0) (source : Option (List ℕ)) (lines : List (List ℕ)) (old new : Stage) → IsKeptByLines P → (new ≡ old) ⊎ StopsAt source lines old new → P old → P new
-stops_keep P source lines old new k (inl same) here = subst P (sym same) here
-stops_keep P source lines old new k (inr stops) here = break_keeps P (command_of stops.line) old new k stops.interrupts here
-
-cut_keeps : (P : Stage → Type 0) (ending : Ending) (source : Option (List ℕ)) (lines : List (List ℕ)) (old new : Stage) → IsKeptByLines P → CutBy ending source lines old new → P old → P new
-cut_keeps P End source lines old new k cut here = subst P (sym cut) here
-cut_keeps P TooLong source lines old new k cut here = subst P (sym cut) here
-cut_keeps P SourceFault source lines old new k cut here = subst P (sym cut) here
-cut_keeps P (Halted NoMemory) source lines old new k cut here = stops_keep P source lines old new k cut here
-cut_keeps P (Halted SinkFault) source lines old new k cut here = subst P (sym cut) here
-cut_keeps P (Halted FileFault) source lines old new k cut here = subst P (sym cut) here
-
-closes_keep : (P : Stage → Type 0) (o : Outset) (on : Option Order) (old new : Stage) → IsKeptByLines P → old.on ≡ on → MatchOption on (new ≡ old) (λ (order : Order). DoesByLine o old (Ok Stop) new) → P old → P new
-closes_keep P o None old new k idle same here = subst P (sym same) here
-closes_keep P o (Some order) old new k on does here = line_keeps P o (Ok Stop) old new k does here
-
--- So the whole script does.
-pub script_keeps : (P : Stage → Type 0) (o after : Outset) (ending : Ending) (source : Option (List ℕ)) (lines : List (List ℕ)) (final : Stage) → IsKeptByLines P → IsPlayed o after (CutBy ending source lines) lines final
-    → P (opening_stage o.clashes) → P final
-script_keeps P o after ending source lines final k played here =
-    closes_keep P o played.cut.on played.cut final k refl played.closes
-    (cut_keeps P ending source lines played.behind played.cut k played.is_cut (plays_keep P o (map command_of lines) (opening_stage o.clashes) played.behind k played.plays here))
-
--- no run is on at its end
-closes_idle : (o : Outset) (on : Option Order) (old new : Stage) → old.on ≡ on → MatchOption on (new ≡ old) (λ (order : Order). DoesByLine o old (Ok Stop) new) → new.on ≡ None
-closes_idle o None old new idle same = ap (λ (s : Stage). s.on) same ∙ idle
-closes_idle o (Some order) old new on does =
-    let ends : EndsRun o old order new = subst (λ (on : Option Order). DoesStop o old on new) on does in ap (λ (s : Stage). s.on) ends.leads
-
-pub script_idle : (o after : Outset) (IsCut : Stage → Stage → Type 0) (lines : List (List ℕ)) (final : Stage) → IsPlayed o after IsCut lines final → final.on ≡ None
-script_idle o after IsCut lines final played = closes_idle o played.cut.on played.cut final refl played.closes
+-- A session that was taken to its end has ended.
+pub taken_ends : {D F K : Type 0} {g : _} (told : CrewTold Generator F K) (lists : DeclaredLists) (objects : SessionObjects) (shared : SharedOdb D) (at first_files : F)
+    (database : DatabaseStage) (clock : ClockTold) (last : RunsSeen) (ending : Ending) (run_files : F) (session : Option (SessionPasses D g × List RunRecord)) → at ≡ first_files
+    → IsTaken told lists objects shared at database.access last run_files session
+    → ObjectsEnd told lists objects shared first_files (open_stage (declared_by lists) database clock last) ending run_files session
+taken_ends told lists objects shared at first_files database clock last ending run_files None same taken = absurd taken
+taken_ends told lists objects shared at first_files database clock last ending run_files (Some (passes, records)) same taken =
+    (refl, (last, refl, subst (λ files. OpenedEnds told lists objects shared files database.access last passes records run_files) same taken))

@@ -1,27 +1,59 @@
--- Counts of faults by how the lines of a script ended.
-use Rattle.std.specs.Prelude.{◌≡◌, ℕ}
+-- Why a script ended.
+use Rattle.std.specs.Prelude.{◌≡◌, ◌≤◌, ◌⊎◌, ◌++◌, ◌∷◌, [], Ok, ℕ, Bool, true, false, ◌==◌, if◌then◌else◌, List, Option, Some, None}
 use Rattle.daq_io.specs.Counts.{Rose}
-use Rattle.daq_session.specs.declared.endings.Ending.{Ending}
-use Rattle.daq_session.specs.declared.endings.Ending.TheVariants.{End, TooLong, SourceFault, Halted}
-use Rattle.daq_session.specs.Halts.{HaltBy, SinkBy}
+use Rattle.transitions.specs.declared.entry.EngineEntry.{EngineEntry}
+use Rattle.transitions.specs.declared.entry.EngineEntry.TheVariants.{Close}
+use Rattle.database_files.specs.declared.replies.FileReply.{FileReply}
+use Rattle.database_files.specs.declared.replies.FileReply.TheVariants as file
+use Rattle.script_desk.specs.declared.endings.Ending.{Ending}
+use Rattle.script_desk.specs.declared.endings.Ending.TheVariants.{End, TooLong as too_long, SourceFault as source_fault, Halted}
+use Rattle.script_desk.specs.declared.halts.Halt.TheVariants.{NoMemory as no_memory, SinkFault as sink_fault}
+use Rattle.session_replies.specs.declared.refusals.Refusals.{Refusals}
+use Rattle.daq_session.specs.declared.ends.ScriptEnd.{ScriptEnd}
+use Rattle.daq_session.specs.declared.ends.ScriptEnd.TheVariants.{Done, CommandRefused, TooLong, SourceFault, SinkFault, FileFault, NoMemory}
 
--- the source's count rose exactly at a fault of the source
-abbrev pub SourceCounts : Ending → (old new : ℕ) → Type 0
-SourceCounts End old new = new ≡ old
-SourceCounts TooLong old new = new ≡ old
-SourceCounts SourceFault old new = Rose old new
-SourceCounts (Halted halt) old new = new ≡ old
+-- whether this came of a line that called the files of the database
+abbrev pub is_fault : ℕ × FileReply → Bool
+is_fault (number, file.Done) = false
+is_fault (number, file.Clash) = false
+is_fault (number, file.Fault) = true
+is_fault (number, file.TooLong) = false
 
--- the sink's exactly where one of its calls halted the session
-abbrev pub SinkCounts : Ending → (old new : ℕ) → Type 0
-SinkCounts End old new = new ≡ old
-SinkCounts TooLong old new = new ≡ old
-SinkCounts SourceFault old new = new ≡ old
-SinkCounts (Halted halt) old new = SinkBy halt old new
+-- whether a call on files failed, against their count of faults
+abbrev pub NotesFailed : (failed : Bool) → (old new : ℕ) → Type 0
+NotesFailed true old new = Rose old new
+NotesFailed false old new = new ≤ old
 
--- and so the run files'
-abbrev pub FileCounts : Ending → (old new : ℕ) → Type 0
-FileCounts End old new = new ≡ old
-FileCounts TooLong old new = new ≡ old
-FileCounts SourceFault old new = new ≡ old
-FileCounts (Halted halt) old new = HaltBy halt old new
+-- The file of this name is that of the first fault, of the run files where their count of faults rose, else of the files of the
+-- database where theirs did; or neither grew.
+abbrev pub FaultedFile : (run run_later : ℕ) → (run_first : Option (List ℕ)) → (odb odb_later : ℕ) → (odb_first : Option (List ℕ)) → Option (List ℕ) → Type 0
+FaultedFile run run_later run_first odb odb_later odb_first (Some name) =
+    (Rose run run_later × (run_first ≡ Some name))
+    ⊎ ((run_later ≤ run) × Rose odb odb_later × (odb_first ≡ Some name))
+FaultedFile run run_later run_first odb odb_later odb_first None = (run_later ≤ run) × (odb_later ≤ odb)
+
+-- the cause where no file failed: the script's length, or the lines that were refused
+abbrev pub end_by_refusals : Refusals → ScriptEnd
+end_by_refusals refusals = if refusals.count == 0 then Done else CommandRefused refusals.count refusals.first
+
+-- The cause of a script whose lines and what is behind them ended so: want of memory comes first, then the source, the sink, and
+-- the files, and last the script's length and its refusals.
+abbrev pub script_end : Ending → (faulted : Option (List ℕ)) → Refusals → ScriptEnd
+script_end End (Some name) refusals = FileFault name
+script_end End None refusals = end_by_refusals refusals
+script_end too_long (Some name) refusals = FileFault name
+script_end too_long None refusals = TooLong
+script_end source_fault faulted refusals = SourceFault
+script_end (Halted no_memory) faulted refusals = NoMemory
+script_end (Halted sink_fault) faulted refusals = SinkFault
+
+-- the main thread's calls on the engine, with which it is closed
+abbrev pub closing_calls : List EngineEntry → List EngineEntry
+closing_calls own = own ++ Close (Ok tt) ∷ []
+
+-- whether the files are asked for a fault, as a script ended so: at its end, or where it is too long
+abbrev pub asks_files : Ending → Bool
+asks_files End = true
+asks_files too_long = true
+asks_files source_fault = false
+asks_files (Halted halt) = false

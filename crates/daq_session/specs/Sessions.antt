@@ -1,200 +1,214 @@
--- A script and what a session made of it: the records of its runs, the run files, the text written, and the cause.
-use Rattle.std.specs.Prelude.{◌≡◌, ◌≢◌, ℕ, ◌+◌, ◌==◌, if◌then◌else◌, true, false, List, ◌++◌, length, map, Option, Some, None, All, IfSome, IsTrue}
-use Rattle.std.specs.Io.KnownBytes.{Appends}
-use Rattle.daq_types.specs.Callers.{entries_by}
-use Rattle.daq_types.specs.declared.runs.Order.{Order}
-use Rattle.daq_io.specs.Counts.{Rose}
-use Rattle.daq_io.specs.Streams.{AppendsPart}
-use Rattle.odb_tree.specs.Histories.{IsLegal}
+-- A whole script: what it did, why it ended, and what is kept of its session.
+use Rattle.std.specs.Prelude.{◌≡◌, ◌≢◌, ℕ, zero, suc, true, List, [], Option, Some, None, ⊤}
+use Rattle.std.specs.List.{AllByRecursion, list_any}
+use Rattle.daq_types.specs.Callers.{main_caller}
+use Rattle.frontend_kit.specs.declared.generator.Generator.{Generator}
+use Rattle.database_files.specs.declared.replies.FileReply.{FileReply}
+use Rattle.odb_port.specs.DatabasePorts.{DatabaseAccess, own_watched}
 use Rattle.odb_runinfo.specs.RunKeys.{session_rows}
-use Rattle.odb_script.specs.Forms.{command_of}
-use Rattle.session_console.specs.declared.records.SessionRecord.{SessionRecord}
-use Rattle.session_console.specs.declared.refusals.Refusals.{Refusals}
-use Rattle.session_console.specs.declared.replies.Reply.{Reply}
-use Rattle.session_console.specs.Refused.{Counts}
-use Rattle.session_console.specs.Console.{console_text, refused_lines}
-use Rattle.daq_session.specs.declared.endings.Ending.{Ending}
-use Rattle.daq_session.specs.declared.endings.Ending.TheVariants.{End, TooLong as too_long, SourceFault as source_fault, Halted}
+use Rattle.odb_watch.specs.Steps.{unwatched}
+use Rattle.odb_lock.specs.declared.shared.SharedOdb.{SharedOdb}
+use Rattle.odb_lock.specs.SharedOdbs.{first_database, odb_lock_of}
+use Rattle.odb_watch.specs.declared.entry.WatchEntry.{WatchEntry}
+use Rattle.daq_members.specs.Crews.{CrewSeen, CrewTold, KeepContracts}
+use Rattle.session_setup.specs.declared.declared.DeclaredLists.{DeclaredLists}
+use Rattle.session_objects.specs.declared.objects.SessionObjects.{SessionObjects}
+use Rattle.session_objects.specs.declared.passes.SessionPasses.{SessionPasses}
+use Rattle.session_objects.specs.declared.record.SessionRecord.{SessionRecord}
+use Rattle.session_objects.specs.Members.{AreMembersOf, session_calls}
+use Rattle.session_objects.specs.Objects.{AreObjectsOf, HaveCallers, declared_by}
+use Rattle.session_objects.specs.Calls.{SessionCalls}
+use Rattle.session_objects.specs.Rosters.{KeepsPasses}
+use Rattle.session_laws.specs.RecordedRuns.{AreDeclared}
+use Rattle.session_setup.specs.Setup.{AreSound}
+use Rattle.session_setup.specs.declared.declared.FrontDeclared.{FrontDeclared}
+use Rattle.session_objects.specs.Records.{HasCalls, HoldsCalls, HoldsHistories}
+use Rattle.run_records.specs.declared.records.RunRecord.{RunRecord}
+use Rattle.session_runs.specs.KeptRuns.{RunsSeen}
+use Rattle.session_runs.specs.RunsFit.{MainOwn}
+use Rattle.session_runs.specs.RunAnswers.{ClockTold}
+use Rattle.database_desk.specs.DatabaseStages.{DumpFiles}
+use Rattle.session_replies.specs.declared.refusals.Refusals.{Refusals}
+use Rattle.session_lines.specs.Stages.{Stage, first_stage}
+use Rattle.session_lines.specs.ScriptLines.{BreaksScriptLine, ClosesScript, DoesScriptLine, GivesUp}
+use Rattle.script_desk.specs.declared.endings.Ending.{Ending}
+use Rattle.script_desk.specs.declared.endings.Ending.TheVariants.{Halted}
+use Rattle.script_desk.specs.declared.halts.Halt.{Halt}
+use Rattle.script_desk.specs.declared.halts.Halt.TheVariants.{NoMemory as no_memory}
+use Rattle.script_desk.specs.Endings.{SinkByEnding, SourceByEnding}
+use Rattle.script_desk.specs.Closing.{Finished, MayFail, SinkBehind, ended_by}
 use Rattle.daq_session.specs.declared.ends.ScriptEnd.{ScriptEnd}
-use Rattle.daq_session.specs.declared.ends.ScriptEnd.TheVariants.{Done, CommandRefused, TooLong, SourceFault, SinkFault, FileFault, NoMemory}
-use Rattle.daq_session.specs.declared.halts.Halt.{Halt}
-use Rattle.daq_session.specs.declared.halts.Halt.TheVariants.{NoMemory as no_memory, SinkFault as sink_fault, FileFault as file_fault}
-use Rattle.run_recorder.specs.BufferRecords.{IsOneHistory, IsSystem, history_in}
-use Rattle.daq_session.specs.Closing.{FailsFiles, MayFail, ended_by, SinkBehind, FilesBehind, WroteBehind}
-use Rattle.daq_session.specs.Endings.{SourceCounts, SinkCounts, FileCounts}
-use Rattle.daq_session.specs.FrontSets.{AreCallers, IsFrontsPass}
-use Rattle.daq_session.specs.Played.{IsPlayed}
-use Rattle.daq_session.specs.Playing.{AreLines, CutBy, FailsAt, Wrote}
-use Rattle.run_recorder.specs.RunHistories.{HoldSegments, IsHeldRun}
-use Rattle.daq_session.specs.RunRecordFits.{FitsHistory}
-use Rattle.daq_session.specs.RunTransitions.{HoldsRuns}
-use Rattle.daq_session.specs.Stages.{HasHistory, Outset, Stage, Plays, opening_stage}
-use Rattle.daq_session.specs.Standing.{FailsTurn}
-use Rattle.run_recorder.specs.SystemCalls.{AreSystemCalls, IsOfRuns, completed_starts}
-use Rattle.daq_session.specs.TakenNames.{AreWithinRise}
+use Rattle.daq_session.specs.declared.ends.ScriptEnd.TheVariants.{NoMemory}
+use Rattle.daq_session.specs.declared.left.EndedObjects.{EndedObjects}
+use Rattle.daq_session.specs.declared.left.LeftBehind.{LeftBehind}
+use Rattle.daq_session.specs.declared.left.LeftBehind.TheVariants.{Session, Unopened, Nothing}
+use Rattle.daq_session.specs.Endings.{FaultedFile, NotesFailed, asks_files, closing_calls, is_fault, script_end}
+use Rattle.daq_session.specs.Environments.{Environment}
+use Rattle.daq_session.specs.Keeping.{KnowsRuns, RunsKept, StageSpares}
+use Rattle.daq_session.specs.KeptDumps.{KeepsDumps}
+use Rattle.daq_session.specs.ToldRecords.{RecordTells}
 
--- What the outside tells of itself: what is left of the script, the text written so far, the run files and the clock, and the
--- counts of faults, with the name of the file of the first.
-pub record Environment : Type 0 where
-  pub source : Option (List ℕ)
-  pub source_faults : ℕ
-  pub written : Option (List ℕ)
-  pub sink_faults : ℕ
-  pub outset : Outset
-  pub file_faults : ℕ
-  pub first_fault : Option (List ℕ)
+-- Behind the script of an open session, as the main thread knows it: its members are those of its declarations, and each keeps its contract; its logger
+-- took its seat at the first run files, and has the channels that were declared; and all passes of its objects are back, which
+-- tell the calls of its main thread and of its members.
+pub record OpenedEnds {D F K : Type 0} {g : _} (told : CrewTold Generator F K) (lists : DeclaredLists) (objects : SessionObjects) (shared : SharedOdb D)
+    (first_files : F) (access : DatabaseAccess) (last : RunsSeen) (passes : SessionPasses D g) (records : List RunRecord) (run_files : F) : Type 0 where
+  pub kept : records ≡ last.runs
+  pub knows : KnowsRuns last
+  pub caller : access.caller ≡ main_caller
+  pub crew : CrewSeen Generator F K
+  pub members : AreMembersOf lists.fronts objects shared crew.fronts crew.logger
+  pub keep : KeepContracts told crew
+  pub calls : HasCalls lists.fronts (session_calls (closing_calls last.main.own) access.seen crew.fronts crew.logger) objects shared passes
+  pub channels : AreDeclared lists.channels crew.logger.slots
+  pub first : crew.logger.first ≡ first_files
+  pub files : crew.logger.files ≡ run_files
 
--- A count before a call and after it.
-pub record Count : Type 0 where
-  pub old : ℕ
-  pub new : ℕ
+-- All passes are back, and the records of the runs.
+abbrev pub IsTaken : {D F K : Type 0} {g : _} → CrewTold Generator F K → DeclaredLists → SessionObjects → SharedOdb D → (first_files : F) → DatabaseAccess → RunsSeen → (run_files : F) → Option (SessionPasses D g × List RunRecord) → Type 0
+IsTaken told lists objects shared first_files access last run_files None = ⊥
+IsTaken told lists objects shared first_files access last run_files (Some (passes, records)) =
+    OpenedEnds told lists objects shared first_files access last passes records run_files
 
--- it rose
-abbrev pub Rises : Count → Type 0
-Rises count = Rose count.old count.new
+-- The same of a session that these objects were to have. Where there was none, memory was wanting for it, and the run files are
+-- what they were.
+abbrev pub ObjectsEnd : {D F K : Type 0} {g : _} → CrewTold Generator F K → DeclaredLists → SessionObjects → SharedOdb D → (first_files : F) → (final : Stage) → Ending → (run_files : F) → Option (SessionPasses D g × List RunRecord) → Type 0
+ObjectsEnd told lists objects shared first_files final ending run_files None =
+    (final.runs ≡ None) × (run_files ≡ first_files) × (ending ≡ Halted no_memory)
+ObjectsEnd told lists objects shared first_files final ending run_files (Some (passes, records)) = (declared_by lists ≡ final.declared)
+    × ((last : RunsSeen) × (final.runs ≡ Some last) × OpenedEnds told lists objects shared first_files final.database.access last passes records run_files)
 
--- it is as it was
-abbrev pub Stands : Count → Type 0
-Stands count = count.new ≡ count.old
+-- What the outside tells of itself, and what came of the lines that called the files of the dumps, stand in the stage.
+pub record IsTold (final : Stage) (files : DumpFiles) (replies : List (ℕ × FileReply)) (clock : ClockTold) : Type 0 where
+  pub files_are : final.database.files ≡ files
+  pub replies_are : final.database.replies ≡ replies
+  pub clock_is : final.clock ≡ clock
 
--- what the cause says of the counts of faults of the source, the sink and the run files, and of the file of the first
--- fault: a fault is the cause exactly where that count rose and no earlier cause holds. Where there was no memory nothing is
--- printed behind that, and so the sink's count stands
-abbrev pub FaultsBy : ScriptEnd → (source sink files : Count) → (first : Option (List ℕ)) → Type 0
-FaultsBy Done source sink files first = Stands source × Stands sink × Stands files
-FaultsBy (CommandRefused count line) source sink files first = Stands source × Stands sink × Stands files
-FaultsBy TooLong source sink files first = Stands source × Stands sink × Stands files
-FaultsBy SourceFault source sink files first = Rises source
-FaultsBy SinkFault source sink files first = Stands source × Rises sink
-FaultsBy (FileFault name) source sink files first = Stands source × Stands sink × Rises files × (first ≡ Some name)
-FaultsBy NoMemory source sink files first = Stands sink
+-- The objects of the session that a script opened, before they are closed; or none, where it opened none.
+pub record IsEndOf {D F K : Type 0} {g : _} (told : CrewTold Generator F K) (shared : SharedOdb D) (first_files : F) (final : Stage) (run_files : F) (ended : EndedObjects D g) : Type 0 where
+  pub lists : DeclaredLists
+  pub declared : declared_by lists ≡ final.declared
+  pub sound : AreSound final.declared
+  pub are : AreObjectsOf lists ended.objects
+  pub callers : HaveCallers lists.fronts ended.objects shared
+  pub last : RunsSeen
+  pub is_open : final.runs ≡ Some last
+  pub ends : OpenedEnds told lists ended.objects shared first_files final.database.access last ended.passes ended.runs run_files
 
--- why a script ended that ended so, with these lines refused, where the first fault of the run files was at this name
-abbrev pub IsScriptEnd : Ending → Refusals → (first : Option (List ℕ)) → ScriptEnd → Type 0
-IsScriptEnd End refusals first end = end ≡ (if refusals.count == 0 then Done else CommandRefused refusals.count refusals.first)
-IsScriptEnd too_long refusals first end = end ≡ TooLong
-IsScriptEnd source_fault refusals first end = end ≡ SourceFault
-IsScriptEnd (Halted no_memory) refusals first end = end ≡ NoMemory
-IsScriptEnd (Halted sink_fault) refusals first end = end ≡ SinkFault
-IsScriptEnd (Halted file_fault) refusals first end = (name : List ℕ) × (end ≡ FileFault name) × (first ≡ Some name)
+-- what the main thread has seen of a database that nobody else called
+abbrev pub seen_by_main : (calls : List (ℕ × WatchEntry)) → ℕ → List (ℕ × WatchEntry) → Type 0
+seen_by_main calls zero seen = seen ≡ calls
+seen_by_main calls (suc number) seen = seen ≡ []
 
--- How a script ended: how its lines did, and what failed as the run that was still on was stopped behind them. Each count
--- rose exactly where one of these says so, but for want of memory, which is tied to none.
-pub record EndsScript (before after : Environment) (end : ScriptEnd) : Type 0 where
+-- The passes of the database are left, and all but the main thread's have seen nothing.
+abbrev pub IsMainAlone : {D : Type 0} {g : _} → SharedOdb D → List (ℕ × WatchEntry) → LeftBehind D g → Type 0
+IsMainAlone shared calls (Session ended) = ⊥
+IsMainAlone shared calls (Unopened passes) = KeepsPasses (seen_by_main calls) [] (odb_lock_of shared) passes
+IsMainAlone shared calls Nothing = ⊥
+
+-- What is left behind a script that ended so: the objects of its session; or the database alone, which only the main thread
+-- called; or nothing, where there was no memory to open a session. Where none was opened, the run files are what they were.
+abbrev pub SessionEnds : {D F K : Type 0} {g : _} → CrewTold Generator F K → SharedOdb D → (first_files : F) → (final : Stage) → Ending → (run_files : F) → LeftBehind D g → Type 0
+SessionEnds told shared first_files final ending run_files (Session ended) = IsEndOf told shared first_files final run_files ended
+SessionEnds told shared first_files final ending run_files (Unopened passes) =
+    (final.runs ≡ None) × (run_files ≡ first_files) × IsMainAlone shared final.database.access.seen (Unopened passes)
+SessionEnds told shared first_files final ending run_files Nothing =
+    (final.runs ≡ None) × (run_files ≡ first_files) × (ending ≡ Halted no_memory)
+
+-- The record of a session: the histories of its objects, which are those of its declarations, and hold the calls of its main
+-- thread and of its members, each of which keeps its contract; and the records of its runs. Its logger took its seat at the
+-- first run files, and has the channels that were declared.
+pub record IsSessionRecord {D F K : Type 0} {g : _} (told : CrewTold Generator F K) (first_files : F) (final : Stage) (run_files : F) (r : SessionRecord D g) : Type 0 where
+  pub lists : DeclaredLists
+  pub declared : declared_by lists ≡ final.declared
+  pub sound : AreSound final.declared
+  pub objects : SessionObjects
+  pub are : AreObjectsOf lists objects
+  pub shared : SharedOdb D
+  pub rows : first_database shared ≡ unwatched session_rows
+  pub last : RunsSeen
+  pub is_open : final.runs ≡ Some last
+  pub callers : HaveCallers lists.fronts objects shared
+  pub fits : RunsKept final.declared (own_watched final.database.access) last
+  pub over : last.on ≡ None
+  pub spares : StageSpares final
+  pub kept : r.runs ≡ last.runs
+  pub caller : final.database.access.caller ≡ main_caller
+  pub crew : CrewSeen Generator F K
+  pub members : AreMembersOf lists.fronts objects shared crew.fronts crew.logger
+  pub keep : KeepContracts told crew
+  pub channels : AreDeclared lists.channels crew.logger.slots
+  pub first : crew.logger.first ≡ first_files
+  pub files : crew.logger.files ≡ run_files
+  pub histories : HoldsHistories objects shared r
+  pub calls : HoldsCalls lists.fronts (session_calls (closing_calls last.main.own) final.database.access.seen crew.fronts crew.logger) objects shared r
+
+-- the passes of what is left are all here
+abbrev pub IsBack : {D : Type 0} {g : _} → SharedOdb D → LeftBehind D g → Type 0
+IsBack shared (Session ended) = (fronts : List FrontDeclared) × (calls : SessionCalls) × HasCalls fronts calls ended.objects shared ended.passes
+IsBack shared (Unopened passes) = (calls : List (ℕ × WatchEntry)) × IsMainAlone shared calls (Unopened passes)
+IsBack shared Nothing = ⊤
+
+-- the main thread's own calls on the engine, but for its close, and on the database, as a script left its session
+abbrev pub main_own : Stage → RunsSeen → MainOwn
+main_own final last = record { engine = last.main.own; database = own_watched final.database.access }
+
+-- What is kept of a session that was opened, with declarations that are sound: the records of its runs are those that the main
+-- thread kept, behind the last of which no run is on; and the record tells all that was called, by whom, and what came of it.
+pub record KeepsSession {D F K : Type 0} {g : _} (told : CrewTold Generator F K) (first_files : F) (final : Stage) (run_files : F) (r : SessionRecord D g) : Type 0 where
+  pub sound : AreSound final.declared
+  pub last : RunsSeen
+  pub is_open : final.runs ≡ Some last
+  pub over : last.on ≡ None
+  pub kept : r.runs ≡ last.runs
+  pub tells : RecordTells told final.declared (main_own final last) first_files run_files r
+
+-- No session was opened: the run files are what they were; and where memory was not wanting, all calls that were made on the
+-- database are the main thread's.
+pub record LacksSession {F : Type 0} (first_files : F) (final : Stage) (end : ScriptEnd) (run_files : F) : Type 0 where
+  pub closed : final.runs ≡ None
+  pub files : run_files ≡ first_files
+  pub alone : end ≢ NoMemory → AllByRecursion (λ call. call.0 ≡ main_caller) final.database.access.seen
+
+-- There is a record exactly where a session was opened.
+abbrev pub SessionKept : {D F K : Type 0} {g : _} → CrewTold Generator F K → (first_files : F) → (final : Stage) → ScriptEnd → (run_files : F) → Option (SessionRecord D g) → Type 0
+SessionKept told first_files final end run_files None = LacksSession first_files final end run_files
+SessionKept told first_files final end run_files (Some r) = KeepsSession told first_files final run_files r
+
+-- The lines of a script, from the main thread's first access to the database on, and what is behind them.
+pub record LinesEnd (access : DatabaseAccess) (before after : Environment) (ending : Ending) (closing : Option Halt) (refusals : Refusals) (final : Stage) : Type 0 where
+  pub finished : Finished DoesScriptLine BreaksScriptLine ClosesScript GivesUp (first_stage access before.odb_files before.clock) ending closing
+      before.source after.source before.written after.written final refusals
+  pub may : MayFail ending closing
+  pub source : SourceByEnding ending before.source_faults after.source_faults
+  pub sink : (lines : ℕ) × SinkByEnding ending before.sink_faults lines × SinkBehind closing lines after.sink_faults
+  pub odb_files : final.database.files ≡ after.odb_files
+  pub clock : final.clock ≡ after.clock
+
+-- A whole script. Its session's database has the run's parameters, and no call was made on it before. The files of the database
+-- that were there stay as they were, and each new one has the name of a `save` line; and where memory was not wanting and neither
+-- source nor sink failed, a line told a fault of these files exactly where their count rose.
+pub record PlaysScript (before after : Environment) (end : ScriptEnd) (replies : List (ℕ × FileReply)) (final : Stage) : Type 0 where
+  pub access : DatabaseAccess
+  pub opens : access.database.opened ≡ unwatched session_rows
+  pub caller : access.caller ≡ main_caller
+  pub unseen : access.seen ≡ []
   pub ending : Ending
   pub closing : Option Halt
-  pub may : MayFail ending closing
   pub refusals : Refusals
-  pub end_is : IsScriptEnd (ended_by ending closing) refusals after.first_fault end
-  pub source : SourceCounts ending before.source_faults after.source_faults
-  pub sink_lines : ℕ
-  pub sink : SinkCounts ending before.sink_faults sink_lines
-  pub sink_behind : SinkBehind closing sink_lines after.sink_faults
-  pub files_lines : ℕ
-  pub files : FileCounts ending before.file_faults files_lines
-  pub files_behind : FilesBehind closing files_lines after.file_faults
+  pub lines : LinesEnd access before after ending closing refusals final
+  pub faulted : Option (List ℕ)
+  pub fault : asks_files (ended_by ending closing) ≡ true → FaultedFile before.run_files.faults after.run_files.faults after.run_files.first before.odb_files.faults after.odb_files.faults after.odb_files.first faulted
+  pub end_is : end ≡ script_end (ended_by ending closing) faulted refusals
+  pub replies_are : final.database.replies ≡ replies
+  pub dumps : KeepsDumps lines.finished.lines before.odb_files.seen after.odb_files.seen
+  pub fault_replies : asks_files (ended_by ending closing) ≡ true →
+      NotesFailed (list_any is_fault replies) before.odb_files.faults after.odb_files.faults
 
--- The record of a session that ended so: there is one exactly where a start opened the session, and it has the records of
--- the runs, and the calls on the database: the main thread's, caller 0, and the front-end's, caller 1.
-abbrev pub IsRecorded : Stage → Option SessionRecord → Type 0
-IsRecorded final None = final.opened ≡ false
-IsRecorded final (Some session) = (final.opened ≡ true) × (session.runs ≡ final.runs) × (entries_by 0 session.database ≡ final.own) × (entries_by 1 session.database ≡ final.front)
-
--- What a session made of its script, where no call on the run files failed. The last reply is that of the stop at the
--- end, where one was given.
-pub record IsSession (before after : Environment) (end : ScriptEnd) (ends : EndsScript before after end) (session : Option SessionRecord) : Type 0 where
-  pub lines : List (List ℕ)
+-- A whole call: a script was played, which told of the outside what stands in `before` and in `after`, ended so, with these
+-- replies of the lines that called the files of the database; and this is what is kept of its session, if it opened one.
+pub record RunsScript {D F K : Type 0} {g : _} (told : CrewTold Generator F K) (before after : Environment) (first_files run_files : F)
+    (end : ScriptEnd) (replies : List (ℕ × FileReply)) (kept : Option (SessionRecord D g)) : Type 0 where
   pub final : Stage
-  pub played : IsPlayed before.outset after.outset (CutBy ends.ending before.source lines) lines final
-  pub recorded : IsRecorded final session
-  pub called : HasHistory final
-  -- nothing failed behind the lines where no run was on
-  pub idle : played.cut.on ≡ None → ends.closing ≡ None
-  pub read : (text : List ℕ) → before.source ≡ Some text → AreLines ends.ending text after.source lines
-  pub refused : Counts (refused_lines 1 final.replies) ends.refusals
-  -- the replies to the lines, one each, and behind them that of the stop; and what was told as the lines ended
-  pub replies : List Reply
-  pub behind : List Reply
-  pub replies_are : final.replies ≡ replies ++ behind
-  pub numbered : length replies ≡ length lines
-  pub told_lines : Option (List ℕ)
-  pub wrote_lines : Wrote ends.ending before.written told_lines replies
-  pub wrote_behind : WroteBehind ends.ending ends.closing told_lines after.written (1 + length replies) behind
-  -- so the text is that of all replies, but for its end where the sink failed or memory was wanting
-  pub wrote : end ≢ NoMemory → ¬ Rose before.sink_faults after.sink_faults → Appends before.written after.written (console_text 1 final.replies)
-  pub wrote_part : AppendsPart before.written after.written (console_text 1 final.replies)
-
--- A stop failed behind the lines, of the run that was still on; before it maybe a command was cut off. The calls on the
--- database up to there are legal.
-pub record FailsBehind (ending : Ending) (o : Outset) (source : Option (List ℕ)) (lines : List (List ℕ)) (behind : Stage) (now : Outset) : Type 0 where
-  pub cut : Stage
-  pub is_cut : CutBy ending source lines behind cut
-  pub called : HasHistory cut
-  pub order : Order
-  pub on : cut.on ≡ Some order
-  pub fails : FailsTurn o cut.readings cut.clashes cut.runs (Some order) now
-
--- where a call on the run files failed: in the next line, or in the stop behind all lines
-abbrev pub FailsBy : Ending → (o : Outset) (source : Option (List ℕ)) (lines : List (List ℕ)) (behind : Stage) (now : Outset) → Type 0
-FailsBy End o source lines behind now = FailsBehind End o source lines behind now
-FailsBy too_long o source lines behind now = FailsBehind too_long o source lines behind now
-FailsBy source_fault o source lines behind now = FailsBehind source_fault o source lines behind now
-FailsBy (Halted no_memory) o source lines behind now = FailsBehind (Halted no_memory) o source lines behind now
-FailsBy (Halted sink_fault) o source lines behind now = FailsBehind (Halted sink_fault) o source lines behind now
-FailsBy (Halted file_fault) o source lines behind now = FailsAt o source lines behind now
-
--- What is left of a script where a call on the run files failed. These lines were played before; the text is that of their
--- replies, as at their ending, and nothing more; the calls on the database up to there are legal; the files of the recorded
--- runs are whole, the file of the run that failed has a first part of its bytes, and every other name is as it was at first.
-pub record IsBrokenOff (before after : Environment) (ending : Ending) (refusals : Refusals) : Type 0 where
-  pub lines : List (List ℕ)
-  pub behind : Stage
-  pub plays : Plays before.outset (opening_stage before.outset.clashes) (map command_of lines) behind
-  pub fails : FailsBy ending before.outset before.source lines behind after.outset
-  pub read : (text : List ℕ) → before.source ≡ Some text → AreLines ending text after.source lines
-  pub refused : Counts (refused_lines 1 behind.replies) refusals
-  pub wrote : Wrote ending before.written after.written behind.replies
-
--- What is said of the record of a session: of its objects, and of its runs.
-pub record HoldsRecord (before after : Environment) (s : SessionRecord) : Type 0 where
-  -- the calls on the online database are those of one database that opened with the run's parameters
-  pub database : IsLegal session_rows s.database
-  -- there is one buffer, SYSTEM, and its history is that of one buffer
-  pub buffers : IsSystem (history_in s.buffers) s.buffers
-  pub one_history : All IsOneHistory s.buffers
-  -- whose calls stand in that history: first the logger attaches the channel's client and makes its one request, for all
-  -- events; then the front-end only sends in runs, and the logger marks the runs and receives for its client
-  pub system_calls : AreSystemCalls (history_in s.buffers)
-  -- each run that was begun there, and each event, stands under the start number of a completed run
-  pub no_other_run : All (IsOfRuns (completed_starts s.runs)) (history_in s.buffers)
-  -- the starts that were refused for a taken name are no more than what the count of clashes rose by
-  pub refused_starts : AreWithinRise s.runs before.outset.clashes after.outset.clashes
-  -- each completed run has its marks; between them stands what the front-end sent in it and nothing else, and the channel's
-  -- client got just those of these events that it asked for
-  pub held : All (IsHeldRun (history_in s.buffers)) s.runs
-  -- and each file of a run holds them
-  pub run_files : IsTrue before.outset.files.tells → All (HoldSegments s.buffers after.outset.files.at) s.runs
-  -- the front-end's calls on the database: it sets the number of its events sent to 0 as each run begins, and to the number
-  -- that it sent as the run ends, and nothing else; all other calls are the main thread's
-  pub front_end_sets : IsFrontsPass s.database s.runs
-  pub callers : AreCallers s.database
-  -- each run's record stands to the main thread's own calls: its start got the run number before it and set the run's keys,
-  -- its stop set them, in order and with none of its calls between
-  pub record_fits : All (FitsHistory s.database) s.runs
-  -- the runs stand in that history one behind the other, each by its outcome: the front-end sets its number in its turn,
-  -- behind what the main thread sets as a start or a stop begins and before what it sets as that ends
-  pub run_turns : HoldsRuns s.database s.runs
-
--- A script was read and the session run that it commands.
-pub record RunsScript (before after : Environment) (end : ScriptEnd) (recorded : Option SessionRecord) : Type 0 where
-  -- a fault is the cause exactly where its count rose and no earlier cause holds
-  pub faults : FaultsBy end (record { old = before.source_faults; new = after.source_faults }) (record { old = before.sink_faults; new = after.sink_faults }) (record { old = before.file_faults; new = after.file_faults }) after.first_fault
-  pub ends : EndsScript before after end
-  -- where no call on the run files failed, the records, the run files, the text and the cause are what the script asks for
-  pub session : ¬ FailsFiles ends.ending ends.closing → IsSession before after end ends recorded
-  -- where one failed, there is no record
-  pub broken : FailsFiles ends.ending ends.closing → recorded ≡ None
-  -- and of text and files this is left
-  pub broken_off : FailsFiles ends.ending ends.closing → IsBrokenOff before after ends.ending ends.refusals
-  -- and a record says this of its objects
-  pub record_holds : IfSome recorded (HoldsRecord before after)
+  pub plays : PlaysScript before after end replies final
+  pub keeps : SessionKept told first_files final end run_files kept

@@ -1,4 +1,13 @@
+// Why a script ended.
+ghost use Rattle.std.specs.Prelude.{◌≡◌, ℕ, true, List, Option, None};
+ghost use Rattle.std.specs.List.{list_any};
+ghost use Rattle.daq_session.specs.Endings.{FaultedFile, NotesFailed, asks_files, is_fault, script_end};
+
+use daq_io::Files;
 use daq_types::FileName;
+use database_files::FileReply;
+use script_desk::{Ending, Halt};
+use session_replies::Refusals;
 
 /// Why a script ended.
 #[derive(Clone, Copy, Debug, PartialEq, Eq)]
@@ -13,8 +22,100 @@ pub enum ScriptEnd {
     SourceFault,
     /// A call on the sink failed.
     SinkFault,
-    /// A call on the run files failed; the name is that of the file of the first fault.
+    /// A call on files failed; the name is that of the file of the first fault, of the run files where one of theirs failed, else of
+    /// the files of the database.
     FileFault { name: FileName },
     /// There was no memory.
     NoMemory,
+}
+
+/// Whether this entry tells of a fault.
+fn is_fault(entry: &(u64, FileReply)) -> bool
+    ensures { result ≡ is_fault entry.now }
+{
+    match entry.1 {
+        FileReply::Fault => true,
+        FileReply::Done | FileReply::Clash | FileReply::TooLong => false,
+    }
+}
+
+/// Whether a line that called the files of the database came upon a fault.
+fn any_fault(replies: &[(u64, FileReply)]) -> bool
+    ensures { result ≡ list_any is_fault replies.now }
+{
+    replies.iter().any(|entry| is_fault(entry))
+}
+
+/// The name of the file of the first fault: of the run files where a call on them failed, else of the files of the database where
+/// one of theirs failed, by what came of the lines that called them.
+fn faulted_name<F: Files, E: Files>(
+    failed: bool,
+    run_files: &F,
+    replies: &[(u64, FileReply)],
+    odb_files: &E,
+) -> Option<FileName>
+    ensures { (run odb : ℕ) → NotesFailed failed run (F.faults run_files.now)
+        → NotesFailed (list_any is_fault replies.now) odb (E.faults odb_files.now)
+        → FaultedFile run (F.faults run_files.now) (F.first run_files.now) odb
+        (E.faults odb_files.now) (E.first odb_files.now) result }
+{
+    if failed {
+        return run_files.first_fault();
+    }
+    if any_fault(replies) {
+        return odb_files.first_fault();
+    }
+    None
+}
+
+/// The cause where nothing failed but the script may be too long, or had lines that were refused.
+fn end_by_lines(ending: Ending, refusals: &Refusals) -> ScriptEnd
+    requires { asks_files ending ≡ true }
+    ensures { result ≡ script_end ending None refusals.now }
+{
+    if let Ending::TooLong = ending {
+        return ScriptEnd::TooLong;
+    }
+    if refusals.count == 0 {
+        ScriptEnd::Done
+    } else {
+        ScriptEnd::CommandRefused {
+            count: refusals.count,
+            first: refusals.first,
+        }
+    }
+}
+
+/// Why a script ended whose lines ended so, with these refused.
+pub fn end_of<F: Files, E: Files>(
+    ending: Ending,
+    refusals: &Refusals,
+    failed: bool,
+    run_files: &F,
+    replies: &[(u64, FileReply)],
+    odb_files: &E,
+) -> ScriptEnd
+    ensures { (run odb : ℕ)
+        → (asks_files ending ≡ true → NotesFailed failed run (F.faults run_files.now)
+        × NotesFailed (list_any is_fault replies.now) odb (E.faults odb_files.now))
+        → (faulted : Option (List ℕ))
+        × (asks_files ending ≡ true → FaultedFile run (F.faults run_files.now)
+        (F.first run_files.now) odb (E.faults odb_files.now) (E.first odb_files.now) faulted)
+        × (result ≡ script_end ending faulted refusals.now) }
+{
+    match ending {
+        Ending::Halted {
+            halt: Halt::NoMemory,
+        } => ScriptEnd::NoMemory,
+        Ending::Halted {
+            halt: Halt::SinkFault,
+        } => ScriptEnd::SinkFault,
+        Ending::SourceFault => ScriptEnd::SourceFault,
+        Ending::End | Ending::TooLong => {
+            match faulted_name(failed, run_files, replies, odb_files) {
+                Some(name) => ScriptEnd::FileFault { name },
+                None => end_by_lines(ending, refusals),
+            }
+        }
+    }
 }

@@ -1,22 +1,27 @@
-//! The session: it reads a script line by line, runs the front-end and the logger that the script commands, and keeps
-//! a record of each run.
+//! The session: it reads a script line by line, opens what the script declares with the first start, gives its members their
+//! turns, and keeps a record of all that was called.
 #![tactic(auto)]
 
-mod closing;
-mod console;
-mod desk;
-mod endings;
+mod commands;
+mod crew_end;
+mod declaring;
 mod ends;
-mod halts;
+mod first;
+mod keys;
+mod lasting;
+mod laws;
+mod left;
+mod opened;
+mod opening;
+mod places;
+mod played;
+mod replying;
 mod run;
-mod script;
-mod session;
-mod transitions;
+mod unopened;
 
 pub use daq_types::{FrontEnded, StartOutcome, Why};
+pub use database_files::{FileReplies, FileReply};
 pub use ends::ScriptEnd;
 pub use run::run_script;
-pub use run_recorder::name_of_run;
-pub use session_console::{
-    BufferRecord, Entries, FileRecord, FrontTally, Reply, RunRecord, SessionRecord,
-};
+pub use run_records::{FileRecord, FrontTally, RunRecord};
+pub use session_objects::{BufferRecord, SessionRecord};

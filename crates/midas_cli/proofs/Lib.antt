@@ -1,1 +1,2 @@
-mod OneWord
+mod Forms
+mod Parts

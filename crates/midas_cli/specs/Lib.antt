@@ -1,3 +1,4 @@
-pub mod CommandLine
+pub mod Generating
 pub mod Outcomes
 pub mod Tools
+pub mod Usages

@@ -9,8 +9,8 @@ use Rattle.midas_tools.specs.Dumps.{WritesOn}
 use Rattle.midas_tools.specs.Findings.{Writes, Completes, SinkByEnd, FilesByEnd, ClashCounts}
 use Rattle.midas_tools.specs.declared.ends.ToolEnd.{ToolEnd}
 use Rattle.midas_tools.specs.declared.ends.ToolEnd.TheVariants.{Done, Input, FileFault, SinkFault, NoMemory}
-use Rattle.midas_cli.specs.declared.words.Tool.{Tool}
-use Rattle.midas_cli.specs.declared.words.Tool.TheVariants.{Check, Dump, Analyze}
+use Rattle.command_words.specs.declared.forms.Tool.{Tool}
+use Rattle.command_words.specs.declared.forms.Tool.TheVariants.{Check, Dump, Analyze}
 
 -- the cause of a tool's end; a fault of the files names the file of the first fault
 abbrev pub IsCauseOf : ToolEnd → (first : Option (List ℕ)) → Cause → Type 0

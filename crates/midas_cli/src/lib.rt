@@ -2,13 +2,12 @@
 #![tactic(auto)]
 
 mod causes;
+mod generating;
 mod outcome;
 mod real;
-#[cfg(test)]
-mod tests;
 mod tools;
 mod top;
-mod words;
+mod usage;
 
 pub use causes::Cause;
 pub use outcome::Outcome;

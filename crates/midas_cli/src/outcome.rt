@@ -1,8 +1,11 @@
-ghost use Rattle.std.specs.Prelude.{◌≡◌};
+ghost use Rattle.std.specs.Prelude.{◌≡◌, [], None};
 ghost use Rattle.midas_cli.specs.Outcomes.{status_of};
 
 use crate::causes::Cause;
 use daq_session::SessionRecord;
+use database_files::FileReplies;
+use odb_arena::ArenaTree;
+use std::alloc::Global;
 
 /// What a call of the program came to.
 #[derive(Drop)]
@@ -12,7 +15,26 @@ pub struct Outcome {
     /// Why it ended.
     pub cause: Cause,
     /// The record of the session, where a start opened one.
-    pub session: Option<SessionRecord>,
+    pub session: Option<SessionRecord<ArenaTree>>,
+    /// What came of the lines of the script that called the files of the database, in order.
+    pub file_replies: FileReplies,
+}
+
+impl Outcome {
+    /// What a call came to that ran no script. Takes no memory.
+    pub fn without_script(alloc: Global, cause: Cause) -> Outcome
+        ensures status { result.status ≡ status_of cause }
+        ensures cause { result.cause ≡ cause }
+        ensures session { result.session ≡ None }
+        ensures file_replies { result.file_replies.replies ≡ [] }
+    {
+        Outcome {
+            status: status(&cause),
+            cause,
+            session: None,
+            file_replies: FileReplies::empty(alloc),
+        }
+    }
 }
 
 /// The status of a cause.

@@ -1,12 +1,12 @@
-ghost use Rattle.std.specs.Prelude.{◌≡◌, ◌≢◌, None};
+ghost use Rattle.std.specs.Prelude.{◌≡◌, ◌≢◌, [], None};
 ghost use Rattle.daq_io.specs.Seen.{Same};
 ghost use Rattle.midas_cli.specs.Outcomes.{status_of};
 ghost use Rattle.midas_cli.specs.Tools.{IsCauseOf, ToolRan, ToolWrites};
 ghost use Rattle.midas_tools.specs.Findings.{ClashCounts, Completes, FilesByEnd, SinkByEnd};
 
 use crate::causes::Cause;
-use crate::outcome::{Outcome, status};
-use crate::words::{Tool, ToolCall};
+use crate::outcome::Outcome;
+use command_words::{Tool, ToolCall};
 use daq_io::{Files, Outside, Sink};
 use daq_types::FileName;
 use midas_tools::{ToolEnd, analyze_file, check_file, dump_file};
@@ -74,6 +74,7 @@ pub fn run_tool<S, K: Sink, F: Files, E, C, P>(
         }) (F.first result.1.run_files) result.0.cause }
     ensures same { Same (F.seen outside.run_files) (F.seen result.1.run_files) }
     ensures session { result.0.session ≡ None }
+    ensures file_replies { result.0.file_replies.replies ≡ [] }
     ensures source { result.1.src ≡ outside.src }
     ensures clock { result.1.clock ≡ outside.clock }
     ensures database_files { result.1.odb_files ≡ outside.odb_files }
@@ -88,12 +89,7 @@ pub fn run_tool<S, K: Sink, F: Files, E, C, P>(
         pick,
     } = outside;
     let (end, run_files) = call_tool(alloc, call.tool, run_files, &call.name, &mut out);
-    let cause = cause_of(end, &run_files);
-    let outcome = Outcome {
-        status: status(&cause),
-        cause,
-        session: None,
-    };
+    let outcome = Outcome::without_script(alloc, cause_of(end, &run_files));
     let outside = Outside {
         src,
         out,

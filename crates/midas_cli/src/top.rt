@@ -1,59 +1,34 @@
-ghost use Rattle.std.specs.Prelude.{◌≡◌, ◌↔◌, ℕ, List, None};
+ghost use Rattle.std.specs.Prelude.{◌≡◌, ◌↔◌, ◌⊎◌, ℕ, List, [], None};
 ghost use Rattle.std.specs.Io.KnownBytes.{Appends};
 ghost use Rattle.daq_io.specs.Counts.{Rose};
-ghost use Rattle.daq_io.specs.Streams.{AppendsPart};
-ghost use Rattle.daq_session.specs.Sessions.{RunsScript};
-ghost use Rattle.daq_session.specs.declared.ends.ScriptEnd.{ScriptEnd};
-ghost use Rattle.midas_cli.specs.CommandLine.{HasForm, IsOnFile, IsRunWord, usage_line};
 ghost use Rattle.daq_io.specs.Seen.{Same};
+ghost use Rattle.daq_io.specs.Streams.{AppendsPart};
+ghost use Rattle.command_words.specs.CommandLine.{HasForm, IsGenerate, IsOnFile, IsRunWords};
+ghost use Rattle.command_words.specs.declared.forms.Tool.{Tool};
+ghost use Rattle.daq_members.specs.Crews.{crew_told};
+ghost use Rattle.daq_session.specs.Environments.{environment_of, run_files_of};
+ghost use Rattle.daq_session.specs.Sessions.{RunsScript};
+ghost use Rattle.database_desk.specs.DatabaseStages.{dump_files};
+ghost use Rattle.session_objects.specs.Members.{generator_makes, generator_takes};
+ghost use Rattle.session_runs.specs.RunAnswers.{clock_of};
+ghost use Rattle.daq_session.specs.declared.ends.ScriptEnd.{ScriptEnd};
+ghost use Rattle.midas_cli.specs.Generating.{Generates};
 ghost use Rattle.midas_cli.specs.Outcomes.{script_cause, status_of};
 ghost use Rattle.midas_cli.specs.Tools.{ToolRan};
-ghost use Rattle.midas_cli.specs.declared.words.Tool.{Tool};
+ghost use Rattle.midas_cli.specs.Usages.{usage_line};
 
 use crate::causes::Cause;
+use crate::generating::generate;
 use crate::outcome::{Outcome, status};
 use crate::tools::run_tool;
-use crate::words::{Form, USAGE, form_of};
-use daq_io::{Clock, Files, Gate, Outside, Pick, Sink, Source, write_all};
+use crate::usage::refuse_words;
+use command_words::{Form, form_of};
+use daq_io::{Clock, Files, Gate, Outside, Pick, Sink, Source};
 use daq_session::run_script;
-use daq_types::Words;
+use daq_types::{NoMemory, Words};
 use std::alloc::Global;
 use std::sync::Wait;
 use std::thread::Threads;
-
-/// Writes the line that tells which forms the words may have.
-fn write_usage<K: Sink>(out: &mut K)
-    ensures line { ¬ Rose (K.faults out.old) (K.faults out.new)
-        → Appends (K.written out.old) (K.written out.new) usage_line }
-    ensures part { AppendsPart (K.written out.old) (K.written out.new) usage_line }
-{
-    let _ = write_all(out, USAGE.as_bytes());
-}
-
-/// What becomes of words that have no form.
-fn refuse_words<S, K: Sink, F, E, C, P>(
-    mut outside: Outside<S, K, F, E, C, P>,
-) -> (Outcome, Outside<S, K, F, E, C, P>)
-    ensures status { result.0.status ≡ 2 }
-    ensures cause { result.0.cause ≡ Cause.Usage }
-    ensures session { result.0.session ≡ None }
-    ensures line { ¬ Rose (K.faults outside.out) (K.faults result.1.out)
-        → Appends (K.written outside.out) (K.written result.1.out) usage_line }
-    ensures part { AppendsPart (K.written outside.out) (K.written result.1.out) usage_line }
-    ensures source { result.1.src ≡ outside.src }
-    ensures files { result.1.run_files ≡ outside.run_files }
-    ensures database_files { result.1.odb_files ≡ outside.odb_files }
-    ensures clock { result.1.clock ≡ outside.clock }
-    ensures picks { result.1.pick ≡ outside.pick }
-{
-    write_usage(&mut outside.out);
-    let outcome = Outcome {
-        status: 2,
-        cause: Cause::Usage,
-        session: None,
-    };
-    (outcome, outside)
-}
 
 /// The program, over all that it touches outside itself, which it hands back.
 pub fn midas<
@@ -80,10 +55,9 @@ pub fn midas<
         usage_line }
     ensures usage_part { ¬ HasForm words.now → AppendsPart (K.written outside.out)
         (K.written result.1.out) usage_line }
-    ensures usage_session { ¬ HasForm words.now → result.0.session ≡ None }
-    ensures usage_source { ¬ HasForm words.now → result.1.src ≡ outside.src }
-    // The words of a tool: what it found and wrote, and why it ended. Every name and byte of the run files stays, and the
-    // script is not read.
+    ensures usage_files { ¬ HasForm words.now → result.1.run_files ≡ outside.run_files }
+    // The words of a tool: what it found and wrote, and why it ended; or nothing was done where the words found no memory.
+    // Every name and byte of the run files stays.
     ensures tool { (tool : Tool) → (name : List ℕ) → IsOnFile tool name words.now
         → ToolRan tool (F.seen outside.run_files) name (K.written outside.out)
         (K.written result.1.out) (record {
@@ -96,59 +70,65 @@ pub fn midas<
           clashes_old = F.clashes outside.run_files;
           clashes_new = F.clashes
               result.1.run_files;
-        }) (F.first result.1.run_files) result.0.cause }
-    ensures tool_files { ¬ IsRunWord words.now → Same (F.seen outside.run_files)
+        }) (F.first result.1.run_files) result.0.cause
+        ⊎ ((result.0.cause ≡ Cause.NoMemory) × (result.1 ≡ outside)) }
+    // The words `gen N`: the script of N is written.
+    ensures generated { (number : ℕ) → IsGenerate number words.now → Generates number
+        (K.written outside.out) (K.written result.1.out) (K.faults outside.out)
+        (K.faults result.1.out) result.0.cause }
+    ensures generated_files { (number : ℕ) → IsGenerate number words.now
+        → result.1.run_files ≡ outside.run_files }
+    // Words that run no session: no script is read, and the outside but for the output stays.
+    ensures files { ¬ IsRunWords words.now → Same (F.seen outside.run_files)
         (F.seen result.1.run_files) }
-    ensures tool_source { ¬ IsRunWord words.now → result.1.src ≡ outside.src }
-    ensures tool_session { ¬ IsRunWord words.now → result.0.session ≡ None }
-    ensures tool_clock { ¬ IsRunWord words.now → result.1.clock ≡ outside.clock }
-    ensures usage_files { ¬ HasForm words.now → result.1.run_files ≡ outside.run_files }
-    ensures usage_clock { ¬ HasForm words.now → result.1.clock ≡ outside.clock }
-    // The word `run`: what the session made of the script, why that ended, and what its record says.
-    ensures ran { IsRunWord words.now → (end : ScriptEnd) × (result.0.cause ≡ script_cause end)
+    ensures database_files { ¬ IsRunWords words.now → result.1.odb_files ≡ outside.odb_files }
+    ensures source { ¬ IsRunWords words.now → result.1.src ≡ outside.src }
+    ensures clock { ¬ IsRunWords words.now → result.1.clock ≡ outside.clock }
+    ensures picks { ¬ IsRunWords words.now → result.1.pick ≡ outside.pick }
+    ensures session { ¬ IsRunWords words.now → result.0.session ≡ None }
+    ensures file_replies { ¬ IsRunWords words.now → result.0.file_replies.replies ≡ [] }
+    // The words of a session: how the script ended, what it did, and what the record of its session tells of the histories, of
+    // the runs and of their files; or nothing was done where the words found no memory.
+    ensures ran { IsRunWords words.now → ((end : ScriptEnd) × (result.0.cause ≡ script_cause end)
         × RunsScript
-        (record {
-          source = S.left outside.src;
-          source_faults = S.faults outside.src;
-          written = K.written outside.out;
-          sink_faults = K.faults outside.out;
-          outset = record {
-            files = F.seen outside.run_files;
-            clashes = F.clashes outside.run_files;
-            clock_tells = C.tells outside.clock;
-            ahead = C.ahead outside.clock;
-          };
-          file_faults = F.faults outside.run_files;
-          first_fault = F.first outside.run_files;
-        })
-        (record {
-          source = S.left result.1.src;
-          source_faults = S.faults result.1.src;
-          written = K.written result.1.out;
-          sink_faults = K.faults result.1.out;
-          outset = record {
-            files = F.seen result.1.run_files;
-            clashes = F.clashes result.1.run_files;
-            clock_tells = C.tells result.1.clock;
-            ahead = C.ahead result.1.clock;
-          };
-          file_faults = F.faults result.1.run_files;
-          first_fault = F.first result.1.run_files;
-        })
-        end result.0.session }
-    ensures database_files { result.1.odb_files ≡ outside.odb_files }
-    ensures picks { result.1.pick ≡ outside.pick }
+        (crew_told generator_takes generator_makes F.seen F.faults F.clashes F.first P.tells P.ahead)
+        (environment_of (S.left outside.src) (S.faults outside.src) (K.written outside.out)
+        (K.faults outside.out)
+        (run_files_of (F.seen outside.run_files) (F.faults outside.run_files)
+        (F.clashes outside.run_files) (F.first outside.run_files))
+        (dump_files (E.seen outside.odb_files) (E.faults outside.odb_files)
+        (E.clashes outside.odb_files) (E.first outside.odb_files))
+        (clock_of (C.tells outside.clock) (C.ahead outside.clock)))
+        (environment_of (S.left result.1.src) (S.faults result.1.src) (K.written result.1.out)
+        (K.faults result.1.out)
+        (run_files_of (F.seen result.1.run_files) (F.faults result.1.run_files)
+        (F.clashes result.1.run_files) (F.first result.1.run_files))
+        (dump_files (E.seen result.1.odb_files) (E.faults result.1.odb_files)
+        (E.clashes result.1.odb_files) (E.first result.1.odb_files))
+        (clock_of (C.tells result.1.clock) (C.ahead result.1.clock)))
+        outside.run_files result.1.run_files end result.0.file_replies.replies result.0.session)
+        ⊎ ((result.0.cause ≡ Cause.NoMemory) × (result.0.session ≡ None)
+        × (result.0.file_replies.replies ≡ []) × (result.1 ≡ outside)) }
 {
-    match form_of(words) {
-        None => refuse_words(outside),
-        Some(Form::OnFile { call }) => run_tool(alloc, call, outside),
-        Some(Form::Run) => {
-            let (end, session, outside) = run_script(rt, alloc, false, outside, gate);
+    match form_of(alloc, words) {
+        Err(NoMemory) => (Outcome::without_script(alloc, Cause::NoMemory), outside),
+        Ok(None) => refuse_words(alloc, outside),
+        Ok(Some(Form::OnFile { call })) => run_tool(alloc, call, outside),
+        Ok(Some(Form::Generate { number })) => generate(alloc, number, outside),
+        Ok(Some(Form::Run { cooperative })) => {
+            let (end, session, file_replies, outside) = run_script(
+                rt,
+                alloc,
+                cooperative,
+                outside,
+                gate,
+            );
             let cause = Cause::from(end);
             let outcome = Outcome {
                 status: status(&cause),
                 cause,
                 session,
+                file_replies,
             };
             (outcome, outside)
         }

@@ -1,4 +1,19 @@
+use Rattle.std.proofs.Common.{◌⊎◌, inl, inr}
+use Rattle.command_words.specs.declared.forms.Form.TheVariants.{Run, OnFile, Generate}
+use Rattle.midas_cli.proofs.Forms.{no_form}
 use Rattle.midas_cli.proofs.top.midas.Goals as goal
 
-pub returns-in-Some-Run-clause-ran : goal.returns-in-Some-Run-clause-ran
-returns-in-Some-Run-clause-ran g c = λ is_run. (c.run_script-end.result.0, c.from-cause.ensures, c.run_script-end.ensures.ran)
+pub returns-in-Ok-None-clause-tool : goal.returns-in-Ok-None-clause-tool
+returns-in-Ok-None-clause-tool g c = λ tool name is.
+    absurd (no_form c.in-Ok-None.field-0 c.in-Ok-None.field-0-is c.in-Ok-None.ensures.form (OnFile (record { tool = tool; name = name }), is))
+
+pub returns-in-Ok-None-clause-generated : goal.returns-in-Ok-None-clause-generated
+returns-in-Ok-None-clause-generated g c = λ number is.
+    absurd (no_form c.in-Ok-None.field-0 c.in-Ok-None.field-0-is c.in-Ok-None.ensures.form (Generate number, is))
+
+pub returns-in-Ok-None-clause-ran : goal.returns-in-Ok-None-clause-ran
+returns-in-Ok-None-clause-ran g c = λ is.
+    absurd (no_form c.in-Ok-None.field-0 c.in-Ok-None.field-0-is c.in-Ok-None.ensures.form (Run is.0, is.1))
+
+pub returns-in-Ok-Some-Run-clause-ran : goal.returns-in-Ok-Some-Run-clause-ran
+returns-in-Ok-Some-Run-clause-ran g c = λ is. inl (c.run_script-end.result.0, c.from-cause.ensures, c.run_script-end.ensures.ran)

@@ -1,0 +1,77 @@
+-- What is left of a session, closed.
+use Rattle.std.proofs.Common.{◌≡◌, ℕ, List, ◌∙◌, subst, Option, Some, None, ap, refl}
+use Rattle.frontend_kit.specs.declared.generator.Generator.{Generator}
+use Rattle.odb_runinfo.specs.RunKeys.{session_rows}
+use Rattle.odb_watch.specs.Steps.{unwatched}
+use Rattle.odb_port.specs.DatabasePorts.{own_watched}
+use Rattle.odb_lock.specs.declared.shared.SharedOdb.{SharedOdb}
+use Rattle.odb_lock.specs.SharedOdbs.{first_database}
+use Rattle.daq_members.specs.Crews.{CrewTold}
+use Rattle.session_setup.specs.declared.declared.FrontDeclared.{FrontDeclared}
+use Rattle.session_objects.specs.declared.record.SessionRecord.{SessionRecord}
+use Rattle.session_objects.specs.Calls.{SessionCalls}
+use Rattle.session_objects.specs.Records.{HasCalls, HoldsCalls, HoldsHistories}
+use Rattle.session_runs.specs.KeptRuns.{RunsSeen}
+use Rattle.session_lines.specs.Stages.{Stage}
+use Rattle.session_replies.specs.declared.refusals.Refusals.{Refusals}
+use Rattle.script_desk.specs.declared.endings.Ending.{Ending}
+use Rattle.script_desk.specs.declared.endings.Ending.TheVariants.{Halted}
+use Rattle.script_desk.specs.declared.halts.Halt.{Halt}
+use Rattle.script_desk.specs.declared.halts.Halt.TheVariants.{NoMemory as no_memory}
+use Rattle.script_desk.specs.Closing.{ended_by}
+use Rattle.daq_session.specs.declared.ends.ScriptEnd.{ScriptEnd}
+use Rattle.daq_session.specs.declared.ends.ScriptEnd.TheVariants.{NoMemory}
+use Rattle.daq_session.specs.Endings.{script_end}
+use Rattle.daq_session.specs.declared.left.EndedObjects.{EndedObjects}
+use Rattle.daq_session.specs.declared.left.LeftBehind.{LeftBehind}
+use Rattle.daq_session.specs.declared.left.LeftBehind.TheVariants.{Session, Unopened, Nothing}
+use Rattle.daq_session.specs.Keeping.{EndsOver, MayKeep, StageKept, StageSpares}
+use Rattle.daq_session.specs.Sessions.{IsBack, IsEndOf, IsSessionRecord, SessionEnds}
+
+module _ {D F K : Type 0} {g : _} (told : CrewTold Generator F K) (shared : SharedOdb D) (first_files : F) (final : Stage) (run_files : F) where
+  -- The passes of what a script leaves are back.
+  pub is_back : (ending : Ending) (left : LeftBehind D g) → SessionEnds told shared first_files final ending run_files left → IsBack shared left
+  is_back ending (Session ended) ends = (ends.lists.fronts, _, ends.ends.calls)
+  is_back ending (Unopened passes) ends = (final.database.access.seen, ends.2)
+  is_back ending Nothing ends = tt
+
+  -- The record of its objects is that of the session.
+  pub recorded : (ended : EndedObjects D g) (r : SessionRecord D g) → first_database shared ≡ unwatched session_rows → StageKept final → EndsOver final → StageSpares final
+      → IsEndOf told shared first_files final run_files ended → HoldsHistories ended.objects shared r
+      → ((fronts : List FrontDeclared) → (calls : SessionCalls) → HasCalls fronts calls ended.objects shared ended.passes → HoldsCalls fronts calls ended.objects shared r)
+      → r.runs ≡ ended.runs → IsSessionRecord told first_files final run_files r
+  recorded ended r rows kept over spares is histories calls runs = record {
+    lists = is.lists;
+    declared = is.declared;
+    sound = is.sound;
+    objects = ended.objects;
+    are = is.are;
+    shared = shared;
+    rows = rows;
+    last = is.last;
+    is_open = is.is_open;
+    callers = is.callers;
+    fits = subst (λ (runs : Option RunsSeen). MayKeep final.declared (own_watched final.database.access) runs) is.is_open kept;
+    over = over is.last is.is_open is.ends.knows;
+    spares = spares;
+    kept = runs ∙ is.ends.kept;
+    caller = is.ends.caller;
+    crew = is.ends.crew;
+    members = is.ends.members;
+    keep = is.ends.keep;
+    channels = is.ends.channels;
+    first = is.ends.first;
+    files = is.ends.files;
+    histories = histories;
+    calls = calls is.lists.fronts _ is.ends.calls;
+  }
+
+-- a script that ended for want of memory ends so whatever else holds
+ended_so : (closing : Option Halt) → ended_by (Halted no_memory) closing ≡ Halted no_memory
+ended_so None = refl
+ended_so (Some halt) = refl
+
+pub memory_ends : (ending : Ending) (closing : Option Halt) (faulted : Option (List ℕ)) (refusals : Refusals) (end : ScriptEnd) → end ≡ script_end (ended_by ending closing) faulted refusals
+    → ending ≡ Halted no_memory → end ≡ NoMemory
+memory_ends ending closing faulted refusals end is halted =
+    is ∙ ap (λ (e : Ending). script_end (ended_by e closing) faulted refusals) halted ∙ ap (λ (e : Ending). script_end e faulted refusals) (ended_so closing)

@@ -1,0 +1,252 @@
+-- What is kept of a session is what the laws of ended sessions ask for, so all that they say holds of it.
+use Rattle.std.specs.Prelude.{◌≡◌, ℕ, ◌<◌, Bool, IsTrue, List, [], ◌∷◌, ◌++◌, Ok, length, map, slice_get, Option, Some, refl}
+use Rattle.std.specs.List.{AllByRecursion}
+use Rattle.std.specs.Option.{option_map, option_to_list}
+use Rattle.std.proofs.Common.{ap, sym, subst, ◌∙◌, append_assoc, arith}
+use Rattle.std.proofs.lemmas.List.{append-nil, length-map}
+use Rattle.std.proofs.lemmas.Option.{slice_get_within}
+use Rattle.daq_types.specs.Callers.{entries_by, main_caller}
+use Rattle.daq_types.specs.declared.events.Event.{Event}
+use Rattle.daq_types.specs.declared.runs.Order.{Order}
+use Rattle.daq_types.specs.declared.runs.StartOutcome.TheVariants.{Completed}
+use Rattle.turn_lock.specs.Closing.{history_of}
+use Rattle.transitions.specs.declared.entry.EngineEntry.{EngineEntry}
+use Rattle.transitions.specs.declared.entry.EngineEntry.TheVariants.{Close}
+use Rattle.transitions.specs.Engines.{EngineState}
+use Rattle.transitions.specs.EngineHistories.{IsLegalEngine}
+use Rattle.frontend_kit.specs.declared.generator.Generator.{Generator}
+use Rattle.odb_runinfo.specs.RunKeys.{session_rows}
+use Rattle.odb_tree.specs.Noting.{Watched}
+use Rattle.odb_watch.specs.Steps.{LeadsDatabase, unwatched}
+use Rattle.odb_watch.specs.declared.entry.WatchEntry.{WatchEntry}
+use Rattle.odb_lock.specs.SharedOdbs.{first_database}
+use Rattle.session_setup.specs.Setup.{Declared}
+use Rattle.session_setup.specs.declared.declared.BufferDeclared.{BufferDeclared}
+use Rattle.session_setup.specs.declared.declared.FrontDeclared.{FrontDeclared}
+use Rattle.mid_logger.specs.declared.channel_spec.ChannelSpec.{ChannelSpec}
+use Rattle.session_engine.specs.declared.opening.MemberName.{MemberName}
+use Rattle.session_engine.specs.Members.{registrations}
+use Rattle.loggers.specs.LeftNames.{NoneRose}
+use Rattle.loggers.specs.Moments.{RunFiles}
+use Rattle.run_records.specs.declared.records.RunRecord.{RunRecord}
+use Rattle.session_runs.specs.declared.channels.RunChannel.{RunChannel}
+use Rattle.session_runs.specs.declared.on.CurrentRun.{CurrentRun}
+use Rattle.session_runs.specs.KeptRuns.{channels_of}
+use Rattle.session_runs.specs.RunsFit.{FitsRun, MainOwn, RecordsFit, start_of, start_on, starts_begun}
+use Rattle.session_lines.specs.Stages.{Stage, front_names, members_named}
+use Rattle.daq_members.specs.Crews.{CrewTold}
+use Rattle.daq_members.specs.FrontSeats.{FrontSeen, IsSeated}
+use Rattle.session_objects.specs.declared.record.BufferRecord.{BufferRecord}
+use Rattle.session_objects.specs.declared.record.SessionRecord.{SessionRecord}
+use Rattle.session_objects.specs.Members.{generator_takes, generator_makes}
+use Rattle.session_objects.specs.Names.{front_member_name, member_names}
+use Rattle.session_laws.specs.ClosedSessions.{ClosedSession, engine_calls}
+use Rattle.session_laws.specs.CountedFaults.{CountsHold}
+use Rattle.session_laws.specs.EndLaws.{SessionHolds}
+use Rattle.session_laws.specs.MembersAtEnd.{MembersAtEnd, SteersEngine}
+use Rattle.session_laws.specs.OtherNames.{AreStartsOver}
+use Rattle.session_laws.specs.RecordedRuns.{AreDeclared}
+use Rattle.session_ends.specs.EndedSessions.{EndsSo, SessionEnded, HoldsSo, closed_session}
+use Rattle.session_ends.specs.EndedRecords.{CountsSo, IsInNoRecord, NamesSo, RecordSo, RecordsSo, StartsSo}
+use Rattle.daq_session.specs.Endings.{closing_calls}
+use Rattle.daq_session.specs.Sessions.{IsSessionRecord, KeepsSession, main_own}
+use Rattle.daq_session.specs.ToldRecords.{AreHistoriesOf, AreMainCalls, IsHistoryOf, session_told}
+use Rattle.daq_session.specs.RunNumbers.{GivesNumber}
+use Rattle.daq_session.proofs.SpareLaws.{RunLaws, calls_give, session_spares}
+use Rattle.daq_session.proofs.SteeringLaws.{all_steer}
+use Rattle.daq_session.proofs.ToldRuns.{run_tells, there}
+
+same_names : (fronts : List FrontDeclared) → members_named (map (λ front. front.name) fronts) ≡ member_names fronts
+same_names [] = refl
+same_names (f ∷ fronts) = ap (λ (l : List MemberName). front_member_name f ∷ l) (same_names fronts)
+
+-- What the laws say of a closed session with these runs.
+record LawsHold (c : ClosedSession) (first now : RunFiles) (own : MainOwn) (runs : List RunRecord) : Type 0 where
+  members : MembersAtEnd c
+  holds : SessionHolds c
+  over : AreStartsOver (engine_calls c main_caller)
+  counts : CountsHold c first now
+  left : IsTrue first.seen.tells → NoneRose first now → (name : List ℕ) → IsInNoRecord runs name → now.seen.at name ≡ first.seen.at name
+  so : (number : ℕ) → (run : RunRecord) → slice_get runs number ≡ Some run → run.outcome ≡ Completed → RecordSo c holds.moments own run
+
+module _ {D F K : Type 0} {g : _} (told : CrewTold Generator F K) (takes : told.takes ≡ generator_takes) (makes : told.makes ≡ generator_makes)
+    (first_files : F) (final : Stage) (run_files : F) (r : SessionRecord D g) (kept : IsSessionRecord told first_files final run_files r) where
+  names : members_named (front_names final.declared) ≡ member_names kept.lists.fronts
+  names = ap (λ (d : Declared). members_named (front_names d)) (sym kept.declared) ∙ same_names kept.lists.fronts
+
+  abbrev later : List EngineEntry
+  later = kept.fits.later ++ Close (Ok tt) ∷ []
+
+  begins : closing_calls kept.last.main.own ≡ registrations 0 (member_names kept.lists.fronts) ++ later
+  begins =
+      ap (λ (l : List EngineEntry). l ++ Close (Ok tt) ∷ []) kept.fits.begins
+      ∙ (append_assoc (registrations 0 (members_named (front_names final.declared))) kept.fits.later (Close (Ok tt) ∷ [])
+      ∙ ap (λ (l : List MemberName). registrations 0 l ++ (kept.fits.later ++ Close (Ok tt) ∷ [])) names)
+
+  steers : AllByRecursion SteersEngine later
+  steers = all_steer kept.fits.later (Close (Ok tt) ∷ []) kept.fits.steers (tt, tt)
+
+  abbrev ended : SessionEnded told.seen kept.lists.fronts kept.crew.logger r
+  ended = record {
+    objects = kept.objects;
+    shared = kept.shared;
+    own = closing_calls kept.last.main.own;
+    database = final.database.access.seen;
+    seats = kept.crew.fronts;
+    callers = kept.callers;
+    opening = kept.are.engine;
+    members = kept.members;
+    seated =
+        subst (λ (t : Generator → Order → Bool). (client : ℕ) → (front : FrontSeen Generator) → slice_get kept.crew.fronts client ≡ Some front → IsSeated t generator_makes front) takes
+        (subst (λ (m : Generator → Order → ℕ → Event). (client : ℕ) → (front : FrontSeen Generator) → slice_get kept.crew.fronts client ≡ Some front → IsSeated told.takes m front) makes
+        kept.keep.fronts);
+    logger_seated = kept.keep.logger;
+    histories = kept.histories;
+    calls = kept.calls;
+    later = later;
+    begins = begins;
+    steers = steers;
+  }
+
+  abbrev own : MainOwn
+  own = main_own final kept.last
+
+  -- The records fit the main thread's own calls, by the front-ends and the channels that were declared.
+
+  many_fronts : length kept.last.fronts ≡ length kept.lists.fronts
+  many_fronts =
+      ap (λ (l : List (List ℕ)). length l) kept.fits.fronts
+      ∙ (ap (λ (d : Declared). length (front_names d)) (sym kept.declared) ∙ length-map kept.lists.fronts (λ (f : FrontDeclared). f.name))
+
+  its_channels : kept.last.channels ≡ channels_of kept.lists.channels
+  its_channels = kept.fits.channels ∙ ap (λ (d : Declared). channels_of d.channels) (sym kept.declared)
+
+  fit : AllByRecursion (FitsRun (length kept.lists.fronts) (channels_of kept.lists.channels) own) r.runs
+  fit =
+      subst (λ (l : List RunRecord). AllByRecursion (FitsRun (length kept.lists.fronts) (channels_of kept.lists.channels) own) l) (sym kept.kept)
+      (subst (λ (c : List RunChannel). AllByRecursion (FitsRun (length kept.lists.fronts) c own) kept.last.runs) its_channels
+      (subst (λ (n : ℕ). AllByRecursion (FitsRun n kept.last.channels own) kept.last.runs) many_fronts kept.fits.fit.runs))
+
+  lists_fit : RecordsFit (length kept.lists.fronts) (channels_of kept.lists.channels) own r.runs
+  lists_fit =
+      let each : map start_of kept.last.runs ≡ starts_begun kept.last.main.own =
+      sym (append-nil (map start_of kept.last.runs))
+      ∙ ap (λ (o : Option CurrentRun). map start_of kept.last.runs ++ option_to_list (option_map start_on o)) (sym kept.over)
+      ∙ kept.fits.fit.each_start in
+      record { each_start = ap (map start_of) kept.kept ∙ each; runs = fit }
+
+  -- By the objects and seats of the session, and then by what a reader of the record knows of it.
+
+  abbrev closed_by : (opened : Watched) (fronts : List FrontDeclared) (first now : F) → ClosedSession
+  closed_by opened fronts first now = closed_session opened fronts kept.crew.logger.slots (told.seen first) (told.seen now) r
+
+  abbrev Laws : (opened : Watched) (fronts : List FrontDeclared) (first now : F) → Type 0
+  Laws opened fronts first now = LawsHold (closed_by opened fronts first now) (told.read first) (told.read now) own r.runs
+
+  laws_first : EndsSo told.seen r → HoldsSo told.seen r → StartsSo told.seen r → CountsSo told.seen told.read r → NamesSo told.seen told.read r → RecordsSo told.seen r
+      → Laws (first_database kept.shared) kept.lists.fronts kept.crew.logger.first kept.crew.logger.files
+  laws_first ends hold starts counts names_so records =
+      let holds = hold kept.lists.fronts kept.crew.logger ended in
+      record {
+        members = ends kept.lists.fronts kept.crew.logger ended;
+        holds = holds;
+        over = starts kept.lists.fronts kept.crew.logger ended kept.lists.channels kept.channels own (Close (Ok tt) ∷ []) refl refl lists_fit;
+        counts = counts kept.lists.fronts kept.crew.logger ended kept.keep.reasons kept.keep.names;
+        left = names_so kept.lists.fronts kept.crew.logger ended kept.keep.reasons kept.keep.names kept.lists.channels kept.channels own (Close (Ok tt) ∷ []) refl refl lists_fit;
+        so = records kept.lists.fronts kept.crew.logger ended kept.lists.channels kept.channels holds own (Close (Ok tt) ∷ []) refl fit;
+      }
+
+  laws_read : EndsSo told.seen r → HoldsSo told.seen r → StartsSo told.seen r → CountsSo told.seen told.read r → NamesSo told.seen told.read r → RecordsSo told.seen r
+      → Laws (unwatched session_rows) final.declared.fronts first_files run_files
+  laws_read ends hold starts counts names_so records =
+      subst (λ (now : F). Laws (unwatched session_rows) final.declared.fronts first_files now) kept.files
+      (subst (λ (first : F). Laws (unwatched session_rows) final.declared.fronts first kept.crew.logger.files) kept.first
+      (subst (λ (fronts : List FrontDeclared). Laws (unwatched session_rows) fronts kept.crew.logger.first kept.crew.logger.files) (ap (λ (d : Declared). d.fronts) kept.declared)
+      (subst (λ (opened : Watched). Laws opened kept.lists.fronts kept.crew.logger.first kept.crew.logger.files) kept.rows
+      (laws_first ends hold starts counts names_so records))))
+
+  -- The histories.
+
+  buffers_same : kept.lists.buffers ≡ final.declared.buffers
+  buffers_same = ap (λ (d : Declared). d.buffers) kept.declared
+
+  many_buffers : length r.buffers ≡ length final.declared.buffers
+  many_buffers = omega (arith, kept.histories.many, kept.are.buffers.many, ap (λ (l : List BufferDeclared). length l) buffers_same)
+
+  buffer_told : (number : ℕ) (d : BufferDeclared) (b : BufferRecord) → slice_get final.declared.buffers number ≡ Some d → slice_get r.buffers number ≡ Some b → IsHistoryOf d b
+  buffer_told number d b at closed_at =
+      let within : number < length kept.objects.buffers.items = omega (arith, kept.histories.many, slice_get_within r.buffers number b closed_at) in
+      let shared = there kept.objects.buffers.items number within in
+      let declared_at : slice_get kept.lists.buffers number ≡ Some d = subst (λ (l : List BufferDeclared). slice_get l number ≡ Some d) (sym buffers_same) at in
+      let of = kept.are.buffers.each number d shared.0 declared_at shared.1 in
+      let closed = kept.histories.buffers number shared.0 b shared.1 closed_at in
+      record {
+        name = closed.name ∙ of.name;
+        size = closed.size ∙ of.size;
+        legal = closed.legal;
+        delivers = closed.delivers;
+        runs = closed.runs;
+      }
+
+  histories : AreHistoriesOf final.declared r
+  histories = record {
+    many = many_buffers;
+    buffers = buffer_told;
+    engine = subst (λ (e : EngineState). IsLegalEngine e (history_of r.engine)) kept.are.engine kept.histories.engine;
+    follows = kept.histories.follows kept.are.engine;
+    database = subst (λ (w : Watched). LeadsDatabase w (history_of r.database) r.database.value.database) kept.rows kept.histories.database;
+    notes = kept.histories.notes session_rows kept.rows;
+  }
+
+  main_calls : AreMainCalls own r
+  main_calls =
+      let engine = kept.calls.engine.parts 0 (omega (arith, kept.callers.engine)) in
+      let database = kept.calls.database.parts 0 (omega (arith, kept.callers.database)) in
+      record {
+        engine = engine.1.own ∙ engine.2;
+        database = database.1.own ∙ (ap (entries_by main_caller) database.2
+            ∙ ap (λ (by : ℕ). entries_by by final.database.access.seen) (sym kept.caller));
+      }
+
+  -- one record for each start
+  records_fit : RecordsFit (length final.declared.fronts) (channels_of final.declared.channels) own r.runs
+  records_fit = subst (λ (d : Declared). RecordsFit (length d.fronts) (channels_of d.channels) own r.runs) kept.declared lists_fit
+
+  -- each answer that the run number got
+  numbers : RunLaws → (holds : SessionHolds (session_told told final.declared kept.crew.logger.slots first_files run_files r)) → AllByRecursion GivesNumber own.database
+  numbers laws holds =
+      let c : ClosedSession = session_told told final.declared kept.crew.logger.slots first_files run_files r in
+      subst (λ (calls : List WatchEntry). AllByRecursion GivesNumber calls) main_calls.database
+      (calls_give laws.stays laws.given main_caller (unwatched session_rows) (history_of r.database) r.database.value.database histories.database
+      (session_spares laws.sets c holds own main_calls.database kept.spares) laws.opens)
+
+  channels : AreDeclared final.declared.channels kept.crew.logger.slots
+  channels = subst (λ (l : List ChannelSpec). AreDeclared l kept.crew.logger.slots) (ap (λ (d : Declared). d.channels) kept.declared) kept.channels
+
+  pub keeps : RunLaws → EndsSo told.seen r → HoldsSo told.seen r → StartsSo told.seen r → CountsSo told.seen told.read r → NamesSo told.seen told.read r → RecordsSo told.seen r → KeepsSession told first_files final run_files r
+  keeps number_laws ends hold starts counts names_so records =
+      let laws = laws_read ends hold starts counts names_so records in
+      let given : AllByRecursion GivesNumber own.database = numbers number_laws laws.holds in
+      record {
+        sound = kept.sound;
+        last = kept.last;
+        is_open = kept.is_open;
+        over = kept.over;
+        kept = kept.kept;
+        tells = record {
+          histories = histories;
+          main = main_calls;
+          fit = records_fit;
+          numbers = given;
+          slots = kept.crew.logger.slots;
+          channels = channels;
+          members = laws.members;
+          holds = laws.holds;
+          over = laws.over;
+          counts = laws.counts;
+          left = laws.left;
+          runs = λ number run at whole.
+              run_tells (session_told told final.declared kept.crew.logger.slots first_files run_files r) final.declared r.buffers kept.sound many_buffers refl refl channels
+              laws.holds.moments own given (told.read first_files) (told.read run_files) laws.counts laws.holds.composed number_laws.among run (laws.so number run at whole);
+        };
+      }

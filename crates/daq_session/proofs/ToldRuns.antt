@@ -1,0 +1,371 @@
+-- What the record of a run tells of its files and its front-ends.
+use mathlib.Core.List.{IsPrefix}
+use Rattle.std.specs.Prelude.{◌≡◌, ℕ, zero, suc, ◌+◌, ◌-◌, ◌<◌, ℤ, pos, negsuc, Bool, true, false, if◌then◌else◌, nat_lt, List, [], ◌∷◌, ◌++◌, length, map, slice_get, unwrap_or, Contains, Option, Some, None, Result, Ok, Err, refl}
+use Rattle.std.specs.List.{AllByRecursion}
+use Rattle.std.specs.Option.{option_map}
+use Rattle.std.proofs.Common.{ap, sym, subst, ◌∙◌, arith}
+use Rattle.std.proofs.lemmas.List.Elements.{All-contains}
+use Rattle.std.proofs.lemmas.Option.{slice_get-map, slice_get_within, get_or_from_slice_get}
+use Rattle.daq_types.specs.Callers.{caller_of_client, entries_by}
+use Rattle.daq_types.specs.declared.events.Event.{Event}
+use Rattle.daq_types.specs.declared.runs.ChannelState.{ChannelState}
+use Rattle.daq_types.specs.declared.runs.ChannelState.TheVariants.{Broken, Ended}
+use Rattle.daq_types.specs.declared.runs.RunState.TheVariants.{Stopped}
+use Rattle.daq_io.specs.Seen.{IsStored}
+use Rattle.daq_model.specs.RunFile.{IsRunFile, run_file}
+use Rattle.turn_lock.specs.Closing.{history_of}
+use Rattle.buffer_core.specs.declared.entry.BufferEntry.{BufferEntry}
+use Rattle.buffer_core.specs.Window.{Sent}
+use Rattle.buffer_core.specs.Histories.{History}
+use Rattle.buffer_core.specs.Readers.{wanted}
+use Rattle.buffer_core.specs.Runs.{segment}
+use Rattle.buffer_core.specs.Slots.{slot_at}
+use Rattle.caller_laws.specs.CallerLaws.{IsSendOf, SendIsAmong}
+use Rattle.caller_laws.specs.OneCaller.{events_in}
+use Rattle.caller_laws.specs.SentRuns.{events_at_places, places_sent}
+use Rattle.transitions.specs.declared.sheet.Sheet.{Sheet}
+use Rattle.transitions.specs.EngineCalls.{order_for}
+use Rattle.odb_value.specs.Values.{HeldValue}
+use Rattle.odb_value.specs.declared.items.Item.{Item}
+use Rattle.odb_value.specs.declared.items.Item.TheVariants.{Int32}
+use Rattle.odb_tree.specs.declared.refusals.OdbRefusal.{OdbRefusal}
+use Rattle.odb_watch.specs.declared.entry.WatchEntry.{WatchEntry}
+use Rattle.odb_watch.specs.declared.entry.WatchEntry.TheVariants as call
+use Rattle.odb_runinfo.specs.declared.sets.RunNumber.{RunNumber as NoNext}
+use Rattle.odb_runinfo.specs.RunSets.{have_of, next_run, number_asked, number_in}
+use Rattle.member_model.specs.SentCalls.{own_sent}
+use Rattle.member_model.specs.LoggerKept.{LoggerChannel}
+use Rattle.front_ends.specs.FrontKept.{made_events}
+use Rattle.mid_logger.specs.declared.channel.Channel.{Channel}
+use Rattle.mid_logger.specs.declared.channel_spec.ChannelSpec.{ChannelSpec}
+use Rattle.loggers.specs.LeftNames.{NoneRose}
+use Rattle.loggers.specs.Moments.{RunFiles}
+use Rattle.loggers.specs.LoggerStands.{logger_channel, logger_channels}
+use Rattle.loggers.specs.OtherFiles.{specs_in}
+use Rattle.run_records.specs.declared.records.FileRecord.{FileRecord}
+use Rattle.run_records.specs.declared.records.FrontTally.{FrontTally}
+use Rattle.run_records.specs.declared.records.RunRecord.{RunRecord}
+use Rattle.composition.specs.Sessions.{HasFront, Session, SessionFront}
+use Rattle.composition.specs.CompositionLaws.{IsComposed}
+use Rattle.composition.specs.SessionRuns.{HoldsFilePart, HoldsRunFile, IsOfFront, SessionRun}
+use Rattle.session_runs.specs.RunEntries.{dump_saved, later_sheet, start_sheet}
+use Rattle.session_runs.specs.RunsFit.{MainOwn, run_of}
+use Rattle.session_setup.specs.Setup.{AreSound, Declared}
+use Rattle.session_setup.specs.declared.declared.FrontDeclared.{FrontDeclared}
+use Rattle.session_objects.specs.declared.record.BufferRecord.{BufferRecord}
+use Rattle.session_objects.specs.Members.{generator_makes, generator_of}
+use Rattle.session_laws.specs.ClosedSessions.{ClosedFront, ClosedSession, history_in, history_of_buffer, session_front, session_fronts, session_of}
+use Rattle.session_laws.specs.CountedFaults.{CountsHold, state_by_dump}
+use Rattle.session_laws.specs.MadeRuns.{IsFileSo}
+use Rattle.session_laws.specs.RecordedRuns.{AreDeclared, FileRecordHolds, FrontRecordHolds}
+use Rattle.session_ends.specs.EndedRecords.{RecordSo}
+use Rattle.session_ends.specs.EndedSessions.{closed_buffer, closed_front}
+use Rattle.daq_session.specs.RunNumbers.{GivesNumber, IsNumberBefore}
+use Rattle.daq_session.specs.ToldRecords.{IsOfChannel, IsPartOfRun, IsFileOfRun, IsFrontEvent, IsSentInRun, RunTells, events_of_front}
+
+pub there : {X : Type 0} (xs : List X) (n : ℕ) → n < length xs → (x : X) × (slice_get xs n ≡ Some x)
+there [] n within = absurd (omega arith)
+there (x ∷ xs) zero within = (x, refl)
+there (x ∷ xs) (suc n) within = there xs n (omega arith)
+
+-- A channel of the logger that is listed stands in a slot.
+pub record FromSlot (absent : ℕ → ℕ) (slots : List (Option Channel)) (channel : LoggerChannel) : Type 0 where
+  pub number : ℕ
+  pub slot : Channel
+  pub at : slot_at slots number ≡ Some slot
+  pub is : logger_channel (absent slot.spec.number) slot ≡ channel
+
+next_slot : (absent : ℕ → ℕ) (first : Option Channel) (slots : List (Option Channel)) (channel : LoggerChannel) → FromSlot absent slots channel → FromSlot absent (first ∷ slots) channel
+next_slot absent first slots channel f = record { number = suc f.number; slot = f.slot; at = f.at; is = f.is }
+
+from_slot : (absent : ℕ → ℕ) (slots : List (Option Channel)) (index : ℕ) (channel : LoggerChannel) → slice_get (logger_channels absent slots) index ≡ Some channel → FromSlot absent slots channel
+from_slot absent [] index channel at = absurd (cc at)
+from_slot absent (None ∷ slots) index channel at = next_slot absent None slots channel (from_slot absent slots index channel at)
+from_slot absent (Some c ∷ slots) zero channel at = record { number = 0; slot = c; at = refl; is = cc at }
+from_slot absent (Some c ∷ slots) (suc index) channel at = next_slot absent (Some c) slots channel (from_slot absent slots index channel at)
+
+at_map : {X Y : Type 0} (f : X → Y) (slots : List (Option X)) (n : ℕ) → slot_at (map (option_map f) slots) n ≡ option_map f (slot_at slots n)
+at_map f [] n = refl
+at_map f (x ∷ slots) zero = refl
+at_map f (x ∷ slots) (suc n) = at_map f slots n
+
+abbrev spec_of : Channel → ChannelSpec
+spec_of c = c.spec
+
+spec_at : (slots : List (Option Channel)) (n : ℕ) (c : Channel) → slot_at slots n ≡ Some c → slot_at (specs_in slots) n ≡ Some c.spec
+spec_at slots n c at = at_map spec_of slots n ∙ ap (option_map spec_of) at
+
+-- A front-end that was declared stands at its client number.
+pub record AtClient (first : ℕ) (fronts : List ClosedFront) (moments : (client : ℕ) → List ℕ) (place : ℕ) (f : ClosedFront) : Type 0 where
+  pub client : ℕ
+  pub is : client ≡ first + place
+  pub at : slice_get (session_fronts first fronts moments) place ≡ Some (session_front client f (moments client))
+
+front_at : (first : ℕ) (fronts : List ClosedFront) (moments : (client : ℕ) → List ℕ) (place : ℕ) (f : ClosedFront) → slice_get fronts place ≡ Some f → AtClient first fronts moments place f
+front_at first [] moments place f at = absurd (cc at)
+front_at first (x ∷ fronts) moments zero f at =
+    let same : x ≡ f = cc at in
+    record { client = first; is = omega arith; at = ap (λ (y : ClosedFront). Some (session_front first y (moments first))) same }
+front_at first (x ∷ fronts) moments (suc place) f at =
+    let later = front_at (suc first) fronts moments place f at in
+    record { client = later.client; is = omega (arith, later.is); at = later.at }
+
+pub front_stands : (fronts : List ClosedFront) (moments : (client : ℕ) → List ℕ) (client : ℕ) (f : ClosedFront) → slice_get fronts client ≡ Some f
+    → slice_get (session_fronts 0 fronts moments) client ≡ Some (session_front client f (moments client))
+front_stands fronts moments client f at =
+    let found = front_at 0 fronts moments client f at in
+    let same : found.client ≡ client = omega (arith, found.is) in
+    subst (λ (n : ℕ). slice_get (session_fronts 0 fronts moments) client ≡ Some (session_front n f (moments n))) same found.at
+
+-- A front-end of the session is one of those that were closed.
+pub record FromFront (first : ℕ) (fronts : List ClosedFront) (moments : (client : ℕ) → List ℕ) (place : ℕ) (f : SessionFront) : Type 0 where
+  pub closed : ClosedFront
+  pub at : slice_get fronts place ≡ Some closed
+  pub client : ℕ
+  pub is : client ≡ first + place
+  pub same : session_front client closed (moments client) ≡ f
+
+from_front : (first : ℕ) (fronts : List ClosedFront) (moments : (client : ℕ) → List ℕ) (place : ℕ) (f : SessionFront) → slice_get (session_fronts first fronts moments) place ≡ Some f → FromFront first fronts moments place f
+from_front first [] moments place f at = absurd (cc at)
+from_front first (x ∷ fronts) moments zero f at = record { closed = x; at = refl; client = first; is = omega arith; same = cc at }
+from_front first (x ∷ fronts) moments (suc place) f at =
+    let later = from_front (suc first) fronts moments place f at in
+    record { closed = later.closed; at = later.at; client = later.client; is = omega (arith, later.is); same = later.same }
+
+mapped : {X Y : Type 0} (f : X → Y) (xs : List X) (n : ℕ) (y : Y) → slice_get (map f xs) n ≡ Some y → (x : X) × (slice_get xs n ≡ Some x) × (f x ≡ y)
+mapped f [] n y at = absurd (cc at)
+mapped f (x ∷ xs) zero y at = (x, refl, cc at)
+mapped f (x ∷ xs) (suc n) y at = mapped f xs n y at
+
+-- The history of a buffer of the record.
+history_there : (buffers : List BufferRecord) (n : ℕ) (b : BufferRecord) → slice_get buffers n ≡ Some b → history_in (slice_get (map closed_buffer buffers) n) ≡ history_of b.closed
+history_there buffers n b at = ap history_in (slice_get-map closed_buffer buffers n ∙ ap (option_map closed_buffer) at)
+
+-- The run number before.
+
+all_first : (one other : List WatchEntry) → AllByRecursion GivesNumber (one ++ other) → AllByRecursion GivesNumber one
+all_first [] other all = tt
+all_first (e ∷ one) other all = (all.0, all_first one other all.1)
+
+all_behind : (one other : List WatchEntry) → AllByRecursion GivesNumber (one ++ other) → AllByRecursion GivesNumber other
+all_behind [] other all = all
+all_behind (e ∷ one) other all = all_behind one other all.1
+
+picked : (b : Bool) (n run : ℕ) (why : NoNext) → (if b then Ok (n + 1) else Err why) ≡ Ok run → n + 1 ≡ run
+picked true n run why is = cc is
+picked false n run why is = absurd (cc is)
+
+before_next : (have : ℤ) (run : ℕ) → next_run have ≡ Ok run → have ≡ pos (run - 1)
+before_next (pos n) run is =
+    let next : n + 1 ≡ run = picked (nat_lt n 2147483647) n run (record { have = pos n }) is in
+    ap pos (omega (arith, next))
+before_next (negsuc n) run is = absurd (cc is)
+
+module _ (c : ClosedSession) (declared : Declared) (buffers : List BufferRecord) (sound : AreSound declared) (many : length buffers ≡ length declared.buffers)
+    (same_buffers : c.buffers ≡ map closed_buffer buffers) (same_fronts : c.fronts ≡ map closed_front declared.fronts) (channels : AreDeclared declared.channels c.slots)
+    (moments : (client : ℕ) → List ℕ) (own : MainOwn) (given : AllByRecursion GivesNumber own.database) (first now : RunFiles) (counts : CountsHold c first now) (composed : IsComposed (session_of c moments)) (among : SendIsAmong) (run : RunRecord) (so : RecordSo c moments own run) where
+  abbrev session : Session
+  session = session_of c moments
+
+  abbrev first_sheet : Sheet
+  first_sheet = start_sheet run.run run.time0 so.quota so.fits.start.dump
+
+  abbrev last_sheet : Sheet
+  last_sheet = later_sheet (run_of run so.quota) run.time1 (dump_saved so.fits.stop.saved)
+
+  buffer_at : (n : ℕ) → n < length declared.buffers → (b : BufferRecord) × (slice_get buffers n ≡ Some b)
+  buffer_at n within = there buffers n (omega (arith, within, many))
+
+  its_history : (n : ℕ) (b : BufferRecord) → slice_get buffers n ≡ Some b → history_of_buffer c n ≡ history_of b.closed
+  its_history n b at = subst (λ (l : List _). history_in (slice_get l n) ≡ history_of b.closed) (sym same_buffers) (history_there buffers n b at)
+
+  -- the channel of a file
+  record AtChannel (file : FileRecord) (f : FileRecordHolds session so.holds.run file) : Type 0 where
+    slot : Channel
+    is : logger_channel 0 slot ≡ f.channel
+    is_declared : Contains declared.channels slot.spec
+    buffer : BufferRecord
+    there : slice_get buffers slot.spec.buffer ≡ Some buffer
+
+  at_channel : (file : FileRecord) (f : FileRecordHolds session so.holds.run file) → AtChannel file f
+  at_channel file f =
+      let slot : FromSlot (λ number. 0) c.slots f.channel = from_slot (λ number. 0) c.slots f.index f.channel f.at in
+      let spec : ChannelSpec = slot.slot.spec in
+      let has = channels.each slot.number spec (spec_at c.slots slot.number slot.slot slot.at) in
+      let within : spec.buffer < length declared.buffers = All-contains (λ (s : ChannelSpec). s.buffer < length declared.buffers) declared.channels spec sound.channel_buffers has.0 in
+      let b = buffer_at spec.buffer within in
+      record { slot = slot.slot; is = slot.is; is_declared = has.0; buffer = b.0; there = b.1 }
+
+  its_name : (file : FileRecord) (f : FileRecordHolds session so.holds.run file) (a : AtChannel file f) → file.name ≡ (logger_channel 0 a.slot).name so.holds.run.first.run
+  its_name file f a = f.name ∙ ap (λ (k : LoggerChannel). k.name so.holds.run.first.run) (sym a.is)
+
+  abbrev of_channel : (file : FileRecord) (f : FileRecordHolds session so.holds.run file) → AtChannel file f → IsOfChannel declared buffers run file
+  of_channel file f a = record {
+    channel = a.slot.spec;
+    is_declared = a.is_declared;
+    number = f.number ∙ ap (λ (k : LoggerChannel). k.number) (sym a.is);
+    name = its_name file f a ∙ ap (λ (s : Sheet). (logger_channel 0 a.slot).name s.run) so.holds.first_is;
+    buffer = a.buffer;
+    there = a.there;
+  }
+
+  -- what holds of the sheets and of the history of the channel's buffer, as the record has them
+  read_so : (P : (first last : Sheet) → (start : ℕ) → History → Type 0) (n : ℕ) (b : BufferRecord) → slice_get buffers n ≡ Some b
+      → P so.holds.run.first so.holds.run.last so.holds.run.start (history_of_buffer c n) → P first_sheet last_sheet run.start (history_of b.closed)
+  read_so P n b at holds =
+      subst (λ (h : History). P first_sheet last_sheet run.start h) (its_history n b at)
+      (subst (λ (start : ℕ). P first_sheet last_sheet start (history_of_buffer c n)) so.holds.start
+      (subst (λ (s : Sheet). P first_sheet s so.holds.run.start (history_of_buffer c n)) so.holds.last_is
+      (subst (λ (s : Sheet). P s so.holds.run.last so.holds.run.start (history_of_buffer c n)) so.holds.first_is holds)))
+
+  file_tells : (file : FileRecord) (f : FileRecordHolds session so.holds.run file) → HoldsRunFile session so.holds.run f.channel
+      → (last_dump : List ℕ) × (dump_saved so.fits.stop.saved ≡ Some last_dump) × IsFileOfRun declared buffers c.files run so.fits.start.dump last_dump file
+  file_tells file f h =
+      let a : AtChannel file f = at_channel file f in
+      let spec : ChannelSpec = a.slot.spec in
+      let own_channel : HoldsRunFile session so.holds.run (logger_channel 0 a.slot) = subst (λ (k : LoggerChannel). HoldsRunFile session so.holds.run k) (sym a.is) h in (
+        own_channel.last_dump,
+        sym (ap (λ (s : Sheet). s.dump) so.holds.last_is) ∙ own_channel.has_dump,
+        record {
+          of = of_channel file f a;
+          bytes = own_channel.bytes;
+          are = read_so
+              (λ first last start h. IsRunFile own_channel.bytes first.run first.time (unwrap_or first.dump []) (events_in (wanted spec.id spec.mask (segment h start))) last.time own_channel.last_dump)
+              spec.buffer a.buffer a.there own_channel.is;
+          stored = subst (λ (n : List ℕ). IsStored c.files n own_channel.bytes) (sym (its_name file f a)) own_channel.stored;
+        },
+      )
+
+  files_tell : (place : ℕ) (file : FileRecord) → slice_get run.files place ≡ Some file → file.state ≡ Ended
+      → (last_dump : List ℕ) × (dump_saved so.fits.stop.saved ≡ Some last_dump) × IsFileOfRun declared buffers c.files run so.fits.start.dump last_dump file
+  files_tell place file at ended =
+      let f : FileRecordHolds session so.holds.run file = so.holds.files place file at in
+      file_tells file f (subst (λ (state : ChannelState). IsFileSo state session so.holds.run f.channel) ended f.has)
+
+  parts_tell : (place : ℕ) (file : FileRecord) → slice_get run.files place ≡ Some file → file.state ≡ Broken → (last_dump : List ℕ) → dump_saved so.fits.stop.saved ≡ Some last_dump
+      → IsPartOfRun declared buffers c.files run so.fits.start.dump last_dump file
+  parts_tell place file at broken last_dump saved =
+      let f : FileRecordHolds session so.holds.run file = so.holds.files place file at in
+      let a : AtChannel file f = at_channel file f in
+      let spec : ChannelSpec = a.slot.spec in
+      let has : IsFileSo Broken session so.holds.run f.channel = subst (λ (state : ChannelState). IsFileSo state session so.holds.run f.channel) broken f.has in
+      let part : HoldsFilePart session so.holds.run f.channel last_dump = has last_dump (ap (λ (s : Sheet). s.dump) so.holds.last_is ∙ saved) in
+      let own_channel : HoldsFilePart session so.holds.run (logger_channel 0 a.slot) last_dump = subst (λ (k : LoggerChannel). HoldsFilePart session so.holds.run k last_dump) (sym a.is) part in
+      record {
+        of = of_channel file f a;
+        bytes = own_channel.bytes;
+        part = read_so
+            (λ first last start h. IsPrefix own_channel.bytes (run_file first.run first.time (unwrap_or first.dump []) (events_in (wanted spec.id spec.mask (segment h start))) last.time last_dump))
+            spec.buffer a.buffer a.there own_channel.part;
+        stored = subst (λ (n : List ℕ). IsStored c.files n own_channel.bytes) (sym (its_name file f a)) own_channel.stored;
+      }
+
+  -- a front-end that was declared, with its record
+  record AtFront (client : ℕ) (d : FrontDeclared) : Type 0 where
+    tally : FrontTally
+    told : slice_get run.fronts client ≡ Some tally
+    stands : HasFront session (session_front client (closed_front d) (moments client))
+    holds : FrontRecordHolds session so.holds.run (session_front client (closed_front d) (moments client)) tally
+
+  at_front : (client : ℕ) (d : FrontDeclared) → slice_get declared.fronts client ≡ Some d → AtFront client d
+  at_front client d at =
+      let closed_at : slice_get c.fronts client ≡ Some (closed_front d) =
+      subst (λ (l : List ClosedFront). slice_get l client ≡ Some (closed_front d)) (sym same_fronts) (slice_get-map closed_front declared.fronts client ∙ ap (option_map closed_front) at) in
+      let f : SessionFront = session_front client (closed_front d) (moments client) in
+      let stands : slice_get session.fronts client ≡ Some f = front_stands c.fronts moments client (closed_front d) closed_at in
+      let has = so.holds.fronts client f stands in
+      record { tally = has.0; told = has.1; stands = (client, stands); holds = has.2 }
+
+  abbrev own_calls : (client buffer : ℕ) → List BufferEntry
+  own_calls client buffer = entries_by (caller_of_client client) (history_of_buffer c buffer)
+
+  -- what it sent, and where that stands
+  front_sent : (client : ℕ) (d : FrontDeclared) (a : AtFront client d) → own_sent (own_calls client d.buffer) run.start ≡ events_of_front d run so.quota so.fits.start.dump a.tally.sent
+  front_sent client d a =
+      let r : SessionRun = so.holds.run in
+      let sent : own_sent (own_calls client d.buffer) r.start ≡ made_events (generator_makes (generator_of d)) (order_for r.first r.start Stopped) a.tally.sent = a.holds.sends.events in
+      subst (λ (n : ℕ). own_sent (own_calls client d.buffer) n ≡ made_events (generator_makes (generator_of d)) (order_for first_sheet n Stopped) a.tally.sent) so.holds.start
+      (subst (λ (s : Sheet). own_sent (own_calls client d.buffer) r.start ≡ made_events (generator_makes (generator_of d)) (order_for s r.start Stopped) a.tally.sent) so.holds.first_is sent)
+
+  front_standing : (client : ℕ) (d : FrontDeclared) (a : AtFront client d)
+      → events_in (events_at_places (places_sent (own_calls client d.buffer) run.start) (segment (history_of_buffer c d.buffer) run.start)) ≡ events_of_front d run so.quota so.fits.start.dump a.tally.sent
+  front_standing client d a =
+      let r : SessionRun = so.holds.run in
+      let f : SessionFront = session_front client (closed_front d) (moments client) in
+      let stands : events_in (events_at_places (places_sent (own_calls client d.buffer) r.start) (segment (history_of_buffer c d.buffer) r.start)) ≡ made_events (generator_makes (generator_of d)) (order_for r.first r.start Stopped) a.tally.sent =
+      composed.fronts_stand r so.holds.stopped f a.stands a.tally.sent a.tally.ended a.holds.told in
+      subst (λ (n : ℕ). events_in (events_at_places (places_sent (own_calls client d.buffer) n) (segment (history_of_buffer c d.buffer) n)) ≡ made_events (generator_makes (generator_of d)) (order_for first_sheet n Stopped) a.tally.sent) so.holds.start
+      (subst (λ (s : Sheet). events_in (events_at_places (places_sent (own_calls client d.buffer) r.start) (segment (history_of_buffer c d.buffer) r.start)) ≡ made_events (generator_makes (generator_of d)) (order_for s r.start Stopped) a.tally.sent) so.holds.first_is stands)
+
+  front_tells : (client : ℕ) (d : FrontDeclared) → slice_get declared.fronts client ≡ Some d
+      → (tally : FrontTally) × (slice_get run.fronts client ≡ Some tally) × IsSentInRun client d buffers run so.quota so.fits.start.dump tally
+  front_tells client d at =
+      let a : AtFront client d = at_front client d at in
+      let contains : Contains declared.fronts d = (client, slice_get_within declared.fronts client d at, get_or_from_slice_get declared.fronts client d d at) in
+      let within : d.buffer < length declared.buffers = All-contains (λ (x : FrontDeclared). x.buffer < length declared.buffers) declared.fronts d sound.front_buffers contains in
+      let b = buffer_at d.buffer within in
+      let its = its_history d.buffer b.0 b.1 in (
+        a.tally,
+        a.told,
+        record {
+          is = a.holds.client;
+          buffer = b.0;
+          there = b.1;
+          sent = subst (λ (h : History). own_sent (entries_by (caller_of_client client) h) run.start ≡ events_of_front d run so.quota so.fits.start.dump a.tally.sent) its (front_sent client d a);
+          stands = subst (λ (h : History). events_in (events_at_places (places_sent (entries_by (caller_of_client client) h) run.start) (segment h run.start)) ≡ events_of_front d run so.quota so.fits.start.dump a.tally.sent) its (front_standing client d a);
+        },
+      )
+
+  events_tell : (buffer index place : ℕ) (b : BufferRecord) (x : Sent) → slice_get buffers buffer ≡ Some b → slice_get (segment (history_of b.closed) run.start) index ≡ Some (place, x)
+      → IsFrontEvent declared run so.quota so.fits.start.dump buffer x.event
+  events_tell buffer index place b x at_buffer at =
+      let at_place : slice_get (segment (history_of_buffer c buffer) run.start) index ≡ Some (place, x) =
+      subst (λ (h : History). slice_get (segment h run.start) index ≡ Some (place, x)) (sym (its_history buffer b at_buffer)) at in
+      let of : IsOfFront session buffer run.start place x.event = composed.only_fronts buffer run.start index place x at_place in
+      let found : FromFront 0 c.fronts moments of.stands.0 of.front = from_front 0 c.fronts moments of.stands.0 of.front of.stands.1 in
+      let d = mapped closed_front declared.fronts of.stands.0 found.closed (subst (λ (l : List ClosedFront). slice_get l of.stands.0 ≡ Some found.closed) same_fronts found.at) in
+      let client : ℕ = of.stands.0 in
+      let same_client : found.client ≡ client = omega (arith, found.is) in
+      let same : session_front client (closed_front d.0) (moments client) ≡ of.front =
+      ap (λ (y : ClosedFront). session_front client y (moments client)) d.2 ∙ (ap (λ (n : ℕ). session_front n found.closed (moments n)) (sym same_client) ∙ found.same) in
+      let send : IsSendOf (own_calls client buffer) run.start place x.event = subst (λ (f : SessionFront). IsSendOf (own_calls f.client buffer) run.start place x.event) (sym same) of.send in
+      let its_buffer : d.0.buffer ≡ buffer = subst (λ (f : SessionFront). f.buffer ≡ buffer) (sym same) of.buffer_is in
+      let a : AtFront client d.0 = at_front client d.0 d.1 in
+      let sent : Contains (own_sent (own_calls client d.0.buffer) run.start) x.event =
+      subst (λ (n : ℕ). Contains (own_sent (own_calls client n) run.start) x.event) (sym its_buffer) (among (own_calls client buffer) run.start place x.event send) in
+      record {
+        client = client;
+        front = d.0;
+        there = d.1;
+        buffer_is = its_buffer;
+        tally = a.tally;
+        told = a.told;
+        made = subst (λ (l : List Event). Contains l x.event) (front_sent client d.0 a) sent;
+      }
+
+  number_got : IsNumberBefore run.run so.fits.start.are.got
+  number_got =
+      let starts = so.fits.start.are in
+      let stand = so.fits.start.stand in
+      let early : AllByRecursion GivesNumber (so.fits.early.database ++ so.fits.late.database) = subst (λ (o : MainOwn). AllByRecursion GivesNumber o.database) so.fits.calls given in
+      let first : AllByRecursion GivesNumber so.fits.early.database = all_first so.fits.early.database so.fits.late.database early in
+      let here : AllByRecursion GivesNumber (stand.before ++ (call.Call (number_asked starts.got) ∷ starts.rest ++ stand.after)) =
+      subst (λ (l : List WatchEntry). AllByRecursion GivesNumber (stand.before ++ (l ++ stand.after))) starts.are (subst (λ (l : List WatchEntry). AllByRecursion GivesNumber l) stand.calls first) in
+      let gives : GivesNumber (call.Call (number_asked starts.got)) = (all_behind stand.before _ here).0 in
+      let held = gives starts.got refl starts.settled in
+      let next : next_run held.2.first ≡ Ok run.run =
+      subst (λ (items : List Item). next_run (number_in items) ≡ Ok run.run) held.2.items (subst (λ (g : Result HeldValue OdbRefusal). next_run (have_of g) ≡ Ok run.run) held.1 starts.number) in
+      record {
+        held = held.0;
+        is = held.1;
+        more = held.2.more;
+        items = held.2.items ∙ ap (λ (n : ℤ). Int32 n ∷ held.2.more) (before_next held.2.first run.run next);
+      }
+
+  ended_tells : NoneRose first now → (place : ℕ) (file : FileRecord) → slice_get run.files place ≡ Some file → file.state ≡ state_by_dump (dump_saved so.fits.stop.saved)
+  ended_tells none place file at =
+      let f : FileRecordHolds session so.holds.run file = so.holds.files place file at in
+      counts.ended none moments so.holds.run so.holds.made f.index f.channel f.at file.state f.told ∙ ap (λ (s : Sheet). state_by_dump s.dump) so.holds.last_is
+
+  pub run_tells : RunTells c moments own declared buffers first now run
+  run_tells = record { so = so; number = number_got; files = files_tell; parts = parts_tell; ended = ended_tells; fronts = front_tells; events = events_tell }

@@ -1,0 +1,15 @@
+use Rattle.std.specs.Prelude.{refl}
+use Rattle.daq_session.proofs.SessionsEnd.{keeps}
+use Rattle.daq_session.proofs.SpareLaws.{RunLaws}
+use Rattle.daq_session.proofs.laws.sessions_hold.Goals as goal
+
+pub returns : goal.returns
+returns g c = λ first_files final run_files is.
+    let laws : RunLaws = record {
+      stays = c.run_number_stays_watched.ensures;
+      given = c.run_number_given.ensures.value;
+      opens = c.run_number_opens.ensures;
+      sets = c.own_calls_spare.ensures.sets;
+      among = c.sent_by.ensures.among;
+    } in
+    keeps _ refl refl first_files final run_files c.args.kept.now is laws c.members_end.ensures c.session_ended.ensures c.starts_end.ensures (c.counts_end.ensures _) (c.names_end.ensures _) c.records_end.ensures

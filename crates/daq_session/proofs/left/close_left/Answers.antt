@@ -1,0 +1,33 @@
+use Rattle.std.proofs.Common.{subst}
+use Rattle.odb_lock.specs.SharedOdbs.{odb_lock_of}
+use Rattle.session_objects.proofs.ClosingLaws.{all_kept}
+use Rattle.daq_session.specs.Sessions.{IsBack, SessionEnds, seen_by_main}
+use Rattle.daq_session.proofs.left.close_left.Goals as goal
+
+pub close_objects-requires : goal.close_objects-requires
+close_objects-requires g c = record { back = subst (IsBack c.args.shared) c.in-Session.is c.requires.back }
+
+pub close_database-requires-clause-all : goal.close_database-requires-clause-all
+close_database-requires-clause-all g c =
+    let back = subst (IsBack c.args.shared) c.in-Unopened.is c.requires.back in
+    all_kept (seen_by_main back.0) (odb_lock_of c.args.shared) _ back.1
+
+pub returns-in-Session : goal.returns-in-Session
+returns-in-Session g c = record {
+  kept = λ first_files final ending end run_files rows kept over spares memory ends.
+      c.close_objects.ensures.kept first_files final ending end run_files rows kept over spares (subst (SessionEnds _ c.args.shared first_files final ending run_files) c.in-Session.is ends);
+}
+
+pub returns-in-Unopened : goal.returns-in-Unopened
+returns-in-Unopened g c = record {
+  kept = λ first_files final ending end run_files rows kept over spares memory ends.
+      let unopened = subst (SessionEnds _ c.args.shared first_files final ending run_files) c.in-Unopened.is ends in
+      record { closed = unopened.0; files = unopened.1; alone = λ other. c.close_database.ensures.alone final.database.access.seen unopened.2 };
+}
+
+pub returns-in-Nothing : goal.returns-in-Nothing
+returns-in-Nothing g c = record {
+  kept = λ first_files final ending end run_files rows kept over spares memory ends.
+      let nothing = subst (SessionEnds _ c.args.shared first_files final ending run_files) c.in-Nothing.is ends in
+      record { closed = nothing.0; files = nothing.1; alone = λ other. absurd (other (memory nothing.2)) };
+}

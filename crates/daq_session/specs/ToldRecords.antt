@@ -1,0 +1,201 @@
+-- What the record of a session tells: the histories of its objects, its runs, and the run files.
+use mathlib.Core.List.{IsPrefix}
+use Rattle.std.specs.Prelude.{◌≡◌, ℕ, IsTrue, ◌++◌, ◌∷◌, [], List, length, slice_get, Contains, Option, Some, Ok}
+use Rattle.std.specs.List.{AllByRecursion}
+use Rattle.daq_types.specs.Callers.{caller_of_client, entries_by, main_caller}
+use Rattle.daq_types.specs.declared.events.Event.{Event}
+use Rattle.daq_types.specs.declared.runs.ChannelState.TheVariants.{Broken, Ended}
+use Rattle.daq_types.specs.declared.runs.RunState.TheVariants.{Stopped}
+use Rattle.daq_types.specs.declared.runs.StartOutcome.TheVariants.{Completed}
+use Rattle.daq_io.specs.Seen.{Seen, IsStored}
+use Rattle.daq_model.specs.RunFile.{IsRunFile, run_file}
+use Rattle.turn_lock.specs.Closing.{history_of}
+use Rattle.buffer_core.specs.Window.{Sent, opening}
+use Rattle.buffer_core.specs.Histories.{IsLegal}
+use Rattle.buffer_core.specs.Delivered.{Delivers}
+use Rattle.buffer_core.specs.Readers.{wanted}
+use Rattle.buffer_core.specs.Runs.{KeepsRuns, segment}
+use Rattle.caller_laws.specs.OneCaller.{events_in}
+use Rattle.caller_laws.specs.SentRuns.{events_at_places, places_sent}
+use Rattle.transitions.specs.declared.entry.EngineEntry.TheVariants.{Close}
+use Rattle.transitions.specs.EngineCalls.{order_for}
+use Rattle.transitions.specs.EngineHistories.{IsLegalEngine}
+use Rattle.transitions.specs.Engines.{engine_opening}
+use Rattle.transitions.specs.TurnOrder.{TurnsInOrder}
+use Rattle.odb_runinfo.specs.RunKeys.{session_rows}
+use Rattle.odb_watch.specs.Steps.{LeadsDatabase, unwatched}
+use Rattle.member_model.specs.SentCalls.{own_sent}
+use Rattle.front_ends.specs.FrontKept.{made_events}
+use Rattle.frontend_kit.specs.declared.generator.Generator.{Generator}
+use Rattle.mid_logger.specs.Patterns.{file_name_by}
+use Rattle.mid_logger.specs.declared.channel.Channel.{Channel}
+use Rattle.mid_logger.specs.declared.channel_spec.ChannelSpec.{ChannelSpec}
+use Rattle.loggers.specs.LeftNames.{NoneRose}
+use Rattle.loggers.specs.Moments.{RunFiles}
+use Rattle.run_records.specs.declared.records.FileRecord.{FileRecord}
+use Rattle.run_records.specs.declared.records.FrontTally.{FrontTally}
+use Rattle.run_records.specs.declared.records.RunRecord.{RunRecord}
+use Rattle.daq_members.specs.Crews.{CrewTold}
+use Rattle.session_runs.specs.KeptRuns.{channels_of}
+use Rattle.session_runs.specs.RunEntries.{dump_saved, start_sheet}
+use Rattle.session_runs.specs.RunsFit.{MainOwn, RecordsFit}
+use Rattle.session_setup.specs.Setup.{Declared}
+use Rattle.session_setup.specs.declared.declared.BufferDeclared.{BufferDeclared}
+use Rattle.session_setup.specs.declared.declared.FrontDeclared.{FrontDeclared}
+use Rattle.session_objects.specs.declared.record.BufferRecord.{BufferRecord}
+use Rattle.session_objects.specs.declared.record.SessionRecord.{SessionRecord}
+use Rattle.session_objects.specs.Members.{generator_makes, generator_of}
+use Rattle.session_objects.specs.Records.{TellsNotes}
+use Rattle.session_laws.specs.ClosedSessions.{ClosedSession, engine_calls}
+use Rattle.session_laws.specs.CountedFaults.{CountsHold, state_by_dump}
+use Rattle.session_laws.specs.EndLaws.{SessionHolds}
+use Rattle.session_laws.specs.MembersAtEnd.{MembersAtEnd}
+use Rattle.session_laws.specs.OtherNames.{AreStartsOver}
+use Rattle.session_laws.specs.RecordedRuns.{AreDeclared}
+use Rattle.session_ends.specs.EndedRecords.{IsInNoRecord, RecordSo}
+use Rattle.session_ends.specs.EndedSessions.{closed_session}
+use Rattle.daq_session.specs.RunNumbers.{GivesNumber, IsNumberBefore}
+
+-- Histories.
+
+-- The buffer of the record is the one that was declared. Its history is legal from a buffer of that size which opened empty;
+-- each client got what it is owed; and the events of each run stand between its marks.
+pub record IsHistoryOf (declared : BufferDeclared) (b : BufferRecord) : Type 0 where
+  pub name : b.name ≡ declared.name
+  pub size : b.size ≡ declared.size
+  pub legal : IsLegal (opening b.size) (history_of b.closed)
+  pub delivers : Delivers b.size (history_of b.closed)
+  pub runs : KeepsRuns (history_of b.closed)
+
+-- There is one history for each buffer that was declared, in order. That of the engine is legal from a new one, and each
+-- client's turns follow its transitions. That of the database is legal from the keys of runs alone and no watch, and each
+-- watch was told the changes that it was due.
+pub record AreHistoriesOf {D : Type 0} {g : _} (declared : Declared) (r : SessionRecord D g) : Type 0 where
+  pub many : length r.buffers ≡ length declared.buffers
+  pub buffers : (number : ℕ) → (d : BufferDeclared) → (b : BufferRecord) → slice_get declared.buffers number ≡ Some d →
+      slice_get r.buffers number ≡ Some b → IsHistoryOf d b
+  pub engine : IsLegalEngine engine_opening (history_of r.engine)
+  pub follows : TurnsInOrder (history_of r.engine)
+  pub database : LeadsDatabase (unwatched session_rows) (history_of r.database) r.database.value.database
+  pub notes : TellsNotes session_rows (history_of r.database)
+
+-- These are the main thread's calls in the histories, but for the last, which closes the engine.
+pub record AreMainCalls {D : Type 0} {g : _} (own : MainOwn) (r : SessionRecord D g) : Type 0 where
+  pub engine : entries_by main_caller (history_of r.engine) ≡ own.engine ++ Close (Ok tt) ∷ []
+  pub database : entries_by main_caller (history_of r.database) ≡ own.database
+
+-- Runs.
+
+-- the events of the run with this start number for which a channel asks: those between the run's marks in this buffer's
+-- history, in order
+abbrev pub events_of_run : ChannelSpec → BufferRecord → (start : ℕ) → List Event
+events_of_run channel b start = events_in (wanted channel.id channel.mask (segment (history_of b.closed) start))
+
+-- The file of the run's record is that of a channel that was declared, and has the name that the channel's pattern gives; the
+-- channel reads this buffer.
+pub record IsOfChannel (declared : Declared) (buffers : List BufferRecord) (run : RunRecord) (file : FileRecord) : Type 0 where
+  pub channel : ChannelSpec
+  pub is_declared : Contains declared.channels channel
+  pub number : file.channel ≡ channel.number
+  pub name : file.name ≡ file_name_by channel.pattern run.run
+  pub buffer : BufferRecord
+  pub there : slice_get buffers channel.buffer ≡ Some buffer
+
+-- The file is closed, and its bytes are the begin record of the run with the dump of its start, all events of the run for which
+-- its channel asks, and the end record with the dump of its stop, and nothing more.
+pub record IsFileOfRun (declared : Declared) (buffers : List BufferRecord) (files : Seen) (run : RunRecord)
+    (first_dump last_dump : List ℕ) (file : FileRecord) : Type 0 where
+  pub of : IsOfChannel declared buffers run file
+  pub bytes : List ℕ
+  pub are : IsRunFile bytes run.run run.time0 first_dump (events_of_run of.channel of.buffer run.start) run.time1 last_dump
+  pub stored : IsStored files file.name bytes
+
+-- The file is closed, and what it has begins that run file.
+pub record IsPartOfRun (declared : Declared) (buffers : List BufferRecord) (files : Seen) (run : RunRecord)
+    (first_dump last_dump : List ℕ) (file : FileRecord) : Type 0 where
+  pub of : IsOfChannel declared buffers run file
+  pub bytes : List ℕ
+  pub part : IsPrefix bytes (run_file run.run run.time0 first_dump (events_of_run of.channel of.buffer run.start) run.time1 last_dump)
+  pub stored : IsStored files file.name bytes
+
+-- the first so many events of the front-end's generator in the run
+abbrev pub events_of_front : FrontDeclared → RunRecord → (quota : ℕ) → (first_dump : List ℕ) → (sent : ℕ) → List Event
+events_of_front d run quota first_dump sent =
+    made_events (generator_makes (generator_of d)) (order_for (start_sheet run.run run.time0 quota first_dump) run.start Stopped) sent
+
+-- What the front-end with this client number sent in the run, by its own calls on its buffer, are the first events of its
+-- generator, as many as the record tells, in order. And so they stand between the run's marks in the buffer's history.
+pub record IsSentInRun (client : ℕ) (d : FrontDeclared) (buffers : List BufferRecord) (run : RunRecord) (quota : ℕ)
+    (first_dump : List ℕ) (tally : FrontTally) : Type 0 where
+  pub is : tally.client ≡ client
+  pub buffer : BufferRecord
+  pub there : slice_get buffers d.buffer ≡ Some buffer
+  pub sent : own_sent (entries_by (caller_of_client client) (history_of buffer.closed)) run.start
+      ≡ events_of_front d run quota first_dump tally.sent
+  pub stands : events_in (events_at_places (places_sent (entries_by (caller_of_client client) (history_of buffer.closed)) run.start)
+      (segment (history_of buffer.closed) run.start))
+      ≡ events_of_front d run quota first_dump tally.sent
+
+-- The event is one of those that a front-end of this buffer sent in the run.
+pub record IsFrontEvent (declared : Declared) (run : RunRecord) (quota : ℕ) (first_dump : List ℕ) (buffer : ℕ) (event : Event) : Type 0 where
+  pub client : ℕ
+  pub front : FrontDeclared
+  pub there : slice_get declared.fronts client ≡ Some front
+  pub buffer_is : front.buffer ≡ buffer
+  pub tally : FrontTally
+  pub told : slice_get run.fronts client ≡ Some tally
+  pub made : Contains (events_of_front front run quota first_dump tally.sent) event
+
+-- What is told of a run that came about. It fits the main thread's calls, which tell its dumps, and holds in the session; its
+-- number is the next of that which its start got; each file of it that ended is the run's file of its channel, and each that broke
+-- off a part of that; where no fault of the run files was counted, each ended, but where the stop had no dump; each front-end sent
+-- what the record has of it; and each event between the run's marks in a buffer is one of those that its front-ends sent.
+pub record RunTells (c : ClosedSession) (moments : (client : ℕ) → List ℕ) (own : MainOwn) (declared : Declared)
+    (buffers : List BufferRecord) (first now : RunFiles) (run : RunRecord) : Type 0 where
+  pub so : RecordSo c moments own run
+  pub number : IsNumberBefore run.run so.fits.start.are.got
+  pub files : (place : ℕ) → (file : FileRecord) → slice_get run.files place ≡ Some file → file.state ≡ Ended →
+      (last_dump : List ℕ) × (dump_saved so.fits.stop.saved ≡ Some last_dump)
+      × IsFileOfRun declared buffers c.files run so.fits.start.dump last_dump file
+  pub parts : (place : ℕ) → (file : FileRecord) → slice_get run.files place ≡ Some file → file.state ≡ Broken →
+      (last_dump : List ℕ) → dump_saved so.fits.stop.saved ≡ Some last_dump →
+      IsPartOfRun declared buffers c.files run so.fits.start.dump last_dump file
+  pub ended : NoneRose first now → (place : ℕ) → (file : FileRecord) → slice_get run.files place ≡ Some file →
+      file.state ≡ state_by_dump (dump_saved so.fits.stop.saved)
+  pub fronts : (client : ℕ) → (d : FrontDeclared) → slice_get declared.fronts client ≡ Some d →
+      (tally : FrontTally) × (slice_get run.fronts client ≡ Some tally)
+      × IsSentInRun client d buffers run so.quota so.fits.start.dump tally
+  pub events : (buffer index place : ℕ) → (b : BufferRecord) → (x : Sent) → slice_get buffers buffer ≡ Some b →
+      slice_get (segment (history_of b.closed) run.start) index ≡ Some (place, x) →
+      IsFrontEvent declared run so.quota so.fits.start.dump buffer x.event
+
+-- The session of a record as its laws see it: its database had the keys of runs; and its logger, with these channels, had the
+-- run files as they were at first and are now.
+abbrev pub session_told : {D F K : Type 0} {g : _} → CrewTold Generator F K → Declared → List (Option Channel) → (first_files files : F) → SessionRecord D g → ClosedSession
+session_told told declared slots first_files files r =
+    closed_session (unwatched session_rows) declared.fronts slots (told.seen first_files) (told.seen files) r
+
+-- What the record of a session of these declarations tells, in which these are the main thread's calls: the histories of its
+-- objects; one record for each start that was begun, in order, each of which fits these calls; each answer that the run number
+-- got; the channels of its logger, which are those that were declared; who called, and that each member kept its contract over
+-- its own calls; all that the laws say of the session, of its runs, its files, its front-ends and its callers; that each start is
+-- over; what the counts of its run files tell; that each run file that is in no record is as it was, where no fault was counted;
+-- and each of its runs that came about.
+pub record RecordTells {D F K : Type 0} {g : _} (told : CrewTold Generator F K) (declared : Declared) (own : MainOwn)
+    (first_files files : F) (r : SessionRecord D g) : Type 0 where
+  pub histories : AreHistoriesOf declared r
+  pub main : AreMainCalls own r
+  pub fit : RecordsFit (length declared.fronts) (channels_of declared.channels) own r.runs
+  pub numbers : AllByRecursion GivesNumber own.database
+  pub slots : List (Option Channel)
+  pub channels : AreDeclared declared.channels slots
+  pub members : MembersAtEnd (session_told told declared slots first_files files r)
+  pub holds : SessionHolds (session_told told declared slots first_files files r)
+  pub over : AreStartsOver (engine_calls (session_told told declared slots first_files files r) main_caller)
+  pub counts : CountsHold (session_told told declared slots first_files files r) (told.read first_files) (told.read files)
+  pub left : IsTrue (told.read first_files).seen.tells → NoneRose (told.read first_files) (told.read files) →
+      (name : List ℕ) → IsInNoRecord r.runs name →
+      (told.read files).seen.at name ≡ (told.read first_files).seen.at name
+  pub runs : (number : ℕ) → (run : RunRecord) → slice_get r.runs number ≡ Some run → run.outcome ≡ Completed →
+      RunTells (session_told told declared slots first_files files r) holds.moments own declared r.buffers
+      (told.read first_files) (told.read files) run

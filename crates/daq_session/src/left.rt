@@ -1,0 +1,177 @@
+// What is left behind a script, and what is kept of it.
+ghost use Rattle.std.specs.Prelude.{◌≡◌, ◌<◌, ◌∷◌, [], ℕ, List, Some, None, false};
+ghost use Rattle.std.specs.List.{AllByRecursion};
+ghost use Rattle.daq_types.specs.Callers.{main_caller};
+ghost use Rattle.turn_lock.specs.Passes.{passes_of};
+ghost use Rattle.odb_runinfo.specs.RunKeys.{session_rows};
+ghost use Rattle.odb_watch.specs.Steps.{unwatched};
+ghost use Rattle.odb_watch.specs.declared.entry.WatchEntry.{WatchEntry as Called};
+ghost use Rattle.odb_lock.specs.SharedAccesses.{access_by_pass, odb_identity};
+ghost use Rattle.odb_lock.specs.SharedOdbs.{first_database, odb_lock_of};
+ghost use Rattle.daq_members.specs.Crews.{crew_told};
+ghost use Rattle.session_objects.specs.Members.{generator_makes, generator_takes};
+ghost use Rattle.session_objects.specs.Records.{AreAllPasses};
+ghost use Rattle.session_objects.specs.Rosters.{KeepsFresh, KeepsPasses};
+ghost use Rattle.session_lines.specs.Stages.{Stage};
+ghost use Rattle.script_desk.specs.declared.endings.Ending.{Ending as Ended};
+ghost use Rattle.script_desk.specs.declared.endings.Ending.TheVariants.{Halted};
+ghost use Rattle.script_desk.specs.declared.halts.Halt.TheVariants.{NoMemory as no_memory};
+ghost use Rattle.daq_session.specs.declared.ends.ScriptEnd.{ScriptEnd as Cause};
+ghost use Rattle.daq_session.specs.declared.ends.ScriptEnd.TheVariants.{NoMemory};
+ghost use Rattle.daq_session.specs.Keeping.{EndsOver, StageKept, StageSpares};
+ghost use Rattle.daq_session.specs.Sessions.{IsBack, SessionEnds, SessionKept, IsMainAlone, seen_by_main};
+
+use crate::laws::sessions_hold;
+use crate::played::{LinesEnd, Ready};
+use daq_io::{Clock, Files, Pick};
+use odb_lock::{LockedDatabase, OdbPasses, SharedAccess, SharedOdb, WatchedSeen};
+use odb_tree::Database;
+use odb_watch::WatchEntry;
+use script_desk::Ending;
+use session_objects::{RunRecords, SessionObjects, SessionPasses, SessionRecord};
+use turn_lock::Machine;
+
+/// The objects of a session that was open, with all their passes, and the records of its runs.
+#[derive(Drop)]
+pub struct EndedObjects<D: Database>
+where
+    LockedDatabase<D>: Machine<State = WatchedSeen, Entry = WatchEntry>,
+{
+    pub objects: SessionObjects,
+    pub passes: SessionPasses<D>,
+    pub runs: RunRecords,
+}
+
+/// What is left behind a script, to be closed.
+#[derive(Drop)]
+pub enum LeftBehind<D: Database>
+where
+    LockedDatabase<D>: Machine<State = WatchedSeen, Entry = WatchEntry>,
+{
+    /// A session was open.
+    Session { ended: EndedObjects<D> },
+    /// None was opened: the passes of the database are all here.
+    Unopened { passes: OdbPasses<D> },
+    /// There was no memory to open one.
+    Nothing,
+}
+
+/// All passes of the database, with the main thread's, by which alone calls were made.
+fn all_passes<'a, D: Database>(
+    _shared: &SharedOdb<D>,
+    access: SharedAccess<'a, D>,
+    mut passes: OdbPasses<D>,
+) -> OdbPasses<D>
+    requires caller { (access_by_pass access).caller ≡ main_caller }
+    requires database { (access_by_pass access).database ≡ odb_identity _shared.now }
+    requires others { KeepsFresh (main_caller ∷ []) (odb_lock_of _shared.now) passes }
+    ensures { KeepsPasses (seen_by_main (access_by_pass access.entry).seen) []
+        (odb_lock_of _shared.now) result }
+{
+    let pass = access.into_pass();
+    passes.push(pass);
+    passes
+}
+
+/// What a script came to that opened no session, and what is left of it.
+pub fn leave_unopened<'a, D: Database, E: Files, C: Clock, F: Files, K: Pick>(
+    shared: &SharedOdb<D>,
+    ready: Ready<SharedAccess<'a, D>, E, C>,
+    passes: OdbPasses<D>,
+    ending: Ending,
+    run_files: F,
+    pick: K,
+) -> (LinesEnd<E, C, F, K>, LeftBehind<D>)
+    requires caller { (access_by_pass ready.access).caller ≡ main_caller }
+    requires database { (access_by_pass ready.access).database ≡ odb_identity shared.now }
+    requires others { KeepsFresh (main_caller ∷ []) (odb_lock_of shared.now) passes }
+    ensures ending { result.0.ending ≡ ending }
+    ensures closing { result.0.closing ≡ None }
+    ensures failed { result.0.failed ≡ false }
+    ensures replies { result.0.replies.replies ≡ ready.entry.replies.replies }
+    ensures odb_files { result.0.odb_files ≡ ready.entry.odb_files }
+    ensures clock { result.0.clock ≡ ready.entry.clock }
+    ensures run_files { result.0.run_files ≡ run_files }
+    ensures left { IsMainAlone shared.now (access_by_pass ready.entry.access).seen result.1 }
+{
+    let Ready {
+        access,
+        odb_files,
+        replies,
+        clock,
+    } = ready;
+    let passes = all_passes(shared, access, passes);
+    let lines = LinesEnd {
+        ending,
+        closing: None,
+        failed: false,
+        replies,
+        odb_files,
+        clock,
+        run_files,
+        pick,
+    };
+    (lines, LeftBehind::Unopened { passes })
+}
+
+/// Closes the database of a script that opened no session. All calls that were made on it are the main thread's.
+fn close_database<D: Database>(shared: SharedOdb<D>, passes: OdbPasses<D>)
+    requires some { 0 < passes_of (odb_lock_of shared) }
+    requires all { AreAllPasses (odb_lock_of shared) passes }
+    ensures alone { (seen : List (ℕ × Called))
+        → KeepsPasses (seen_by_main seen) [] (odb_lock_of shared) passes
+        → AllByRecursion (λ call. call.0 ≡ main_caller) seen }
+{
+    let Ok(_) = shared.close(passes) else {
+        unreachable!()
+    };
+}
+
+/// Closes the objects of a session that was open, whose passes are all here, and keeps their record.
+fn close_objects<D: Database, F: Files, K: Pick>(
+    shared: SharedOdb<D>,
+    ended: EndedObjects<D>,
+) -> SessionRecord<D>
+    requires back { IsBack shared (LeftBehind.Session ended) }
+    ensures kept { (first_files : F) (final : Stage) (ending : Ended) (end : Cause) (run_files : F)
+        → first_database shared ≡ unwatched session_rows → StageKept final → EndsOver final
+        → StageSpares final
+        → SessionEnds (crew_told generator_takes generator_makes F.seen F.faults F.clashes F.first
+        K.tells K.ahead) shared first_files final ending run_files (LeftBehind.Session ended)
+        → SessionKept (crew_told generator_takes generator_makes F.seen F.faults F.clashes F.first
+        K.tells K.ahead) first_files final end run_files (Some result) }
+{
+    let EndedObjects {
+        objects,
+        passes,
+        runs,
+    } = ended;
+    let record = objects.close(shared, passes, runs);
+    sessions_hold::<D, F, K>(&record);
+    record
+}
+
+/// What is kept of a script, whose passes are all here: the record of its session, if it opened one.
+pub fn close_left<D: Database, F: Files, K: Pick>(
+    shared: SharedOdb<D>,
+    left: LeftBehind<D>,
+) -> Option<SessionRecord<D>>
+    requires some { 0 < passes_of (odb_lock_of shared) }
+    requires back { IsBack shared left }
+    ensures kept { (first_files : F) (final : Stage) (ending : Ended) (end : Cause) (run_files : F)
+        → first_database shared ≡ unwatched session_rows → StageKept final → EndsOver final
+        → StageSpares final → (ending ≡ Halted no_memory → end ≡ NoMemory)
+        → SessionEnds (crew_told generator_takes generator_makes F.seen F.faults F.clashes F.first
+        K.tells K.ahead) shared first_files final ending run_files left
+        → SessionKept (crew_told generator_takes generator_makes F.seen F.faults F.clashes F.first
+        K.tells K.ahead) first_files final end run_files result }
+{
+    match left {
+        LeftBehind::Session { ended } => Some(close_objects::<D, F, K>(shared, ended)),
+        LeftBehind::Unopened { passes } => {
+            close_database(shared, passes);
+            None
+        }
+        LeftBehind::Nothing => None,
+    }
+}

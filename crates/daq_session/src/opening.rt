@@ -1,0 +1,212 @@
+// The opening of a session, with its first start.
+ghost use Rattle.std.specs.Prelude.{◌≡◌, ◌∷◌, [], ◌≤◌, IfErr, IfOk, OnErr, OnOk, length, map};
+ghost use Rattle.daq_types.specs.Callers.{main_caller};
+ghost use Rattle.turn_lock.specs.Passes.{number_of, passes_of, IsOf};
+ghost use Rattle.turn_lock.specs.Roster.{IsFresh};
+ghost use Rattle.odb_port.specs.DatabasePorts.{IsSamePort};
+ghost use Rattle.odb_runinfo.specs.RunKeys.{session_rows};
+ghost use Rattle.odb_watch.specs.Steps.{unwatched};
+ghost use Rattle.odb_lock.specs.SharedAccesses.{access_by_pass};
+ghost use Rattle.odb_lock.specs.SharedOdbs.{first_database, odb_lock_of};
+ghost use Rattle.transitions.specs.Engines.{engine_opening};
+ghost use Rattle.transition_lock.specs.SharedEngines.{engine_lock_of, first_engine};
+ghost use Rattle.session_lines.specs.Stages.{opened_runs};
+ghost use Rattle.session_lines.specs.RunLines.{CutsKeys, KeysMade};
+ghost use Rattle.session_objects.specs.Kept.{HasFreshBut, out_to_fronts, out_to_logger};
+ghost use Rattle.session_objects.specs.Members.{AreMembersOf, AreNewMembers, HasDeclaredChannels};
+ghost use Rattle.session_objects.specs.Objects.{SuitMembers, declared_by};
+ghost use Rattle.session_objects.specs.Rosters.{KeepsFresh};
+
+use crate::keys::make_keys;
+use crate::places::Places;
+use daq_io::{Files, Gate, Pick};
+use daq_types::{BoundedList, Name, NoMemory};
+use loggers::ChannelSpecs;
+use mid_logger::ChannelSpec;
+use odb_arena::ArenaTree;
+use odb_lock::{LockedDatabase, OdbPass, OdbPasses, SharedAccess, SharedOdb, WatchedSeen};
+use odb_runinfo::open;
+use odb_tree::Database;
+use odb_watch::WatchEntry;
+use session_engine::MainSeat;
+use session_objects::{
+    SessionCrew, SessionObjects, SessionPasses, Unmanned, member_names, take_main,
+};
+use session_runs::{FrontNames, Runs};
+use session_setup::{DeclaredLists, FrontDeclared};
+use std::alloc::Global;
+use std::sync::Wait;
+use transition_lock::EnginePass;
+use turn_lock::Machine;
+
+/// How many passes a session's database has: one for the main thread, and one for each front-end that may be declared.
+const DATABASE_PASSES: u32 = 33;
+
+/// The online database of a session, which all that may be declared can call.
+#[derive(Drop)]
+pub struct OpenDatabase<D: Database>
+where
+    LockedDatabase<D>: Machine<State = WatchedSeen, Entry = WatchEntry>,
+{
+    pub shared: SharedOdb<D>,
+    /// The main thread's pass.
+    pub main: OdbPass<D>,
+    /// The others.
+    pub passes: OdbPasses<D>,
+}
+
+/// The online database of a session that is not open: it has the run's parameters.
+pub fn open_database(alloc: Global) -> Result<OpenDatabase<ArenaTree>, NoMemory>
+    ensures rows { IfOk result (λ d. first_database d.shared ≡ unwatched session_rows) }
+    ensures callers { IfOk result (λ d. passes_of (odb_lock_of d.shared) ≡ 33) }
+    ensures main { IfOk result (λ d. number_of d.main ≡ main_caller) }
+    ensures own { IfOk result (λ d. IsOf (odb_lock_of d.shared) d.main) }
+    ensures fresh { IfOk result (λ d. IsFresh d.main) }
+    ensures others { IfOk result (λ d. KeepsFresh (main_caller ∷ []) (odb_lock_of d.shared)
+        d.passes) }
+{
+    let mut tree = ArenaTree::new(alloc);
+    open(alloc, &mut tree)?;
+    let (shared, mut passes) = SharedOdb::new(alloc, tree, DATABASE_PASSES)?;
+    let main = take_main(&mut passes);
+    Ok(OpenDatabase {
+        shared,
+        main,
+        passes,
+    })
+}
+
+/// The names of the front-ends.
+fn front_names(alloc: Global, fronts: &[FrontDeclared]) -> Result<FrontNames, NoMemory>
+    ensures { IfOk result (λ names. names ≡ map (λ front. front.name) fronts.now) }
+{
+    let mut names = BoundedList::new(alloc)?;
+    for front in fronts {
+        names.try_push(front.name)?;
+    }
+    Ok(names)
+}
+
+/// Makes the keys of these front-ends.
+pub fn open_keys<'a, R: Wait, D: Database>(
+    rt: &R,
+    alloc: Global,
+    access: &mut SharedAccess<'a, D>,
+    fronts: &[FrontDeclared],
+) -> Result<(), NoMemory>
+    requires few { length fronts.now ≤ 32 }
+    requires main { (access_by_pass access.old).caller ≡ main_caller }
+    ensures made { OnOk result (KeysMade (map (λ front. front.name) fronts.now)
+        (access_by_pass access.old) (access_by_pass access.new)) }
+    ensures cut { OnErr result (CutsKeys (map (λ front. front.name) fronts.now)
+        (access_by_pass access.old) (access_by_pass access.new)) }
+    ensures same { IsSamePort (access_by_pass access.old) (access_by_pass access.new) }
+{
+    let names = front_names(alloc, fronts)?;
+    make_keys(rt, alloc, access, names.as_slice())
+}
+
+/// The channel once more.
+fn copied_channel(channel: &ChannelSpec) -> ChannelSpec
+    ensures { result ≡ channel.now }
+{
+    ChannelSpec {
+        number: channel.number,
+        pattern: channel.pattern.copy(),
+        buffer: channel.buffer,
+        id: channel.id,
+        mask: channel.mask,
+    }
+}
+
+/// The channels once more.
+fn copied_channels(alloc: Global, channels: &[ChannelSpec]) -> Result<ChannelSpecs, NoMemory>
+    ensures { IfOk result (λ copied. copied ≡ channels.now) }
+{
+    let mut copied = BoundedList::new(alloc)?;
+    for channel in channels {
+        copied.try_push(copied_channel(channel))?;
+    }
+    Ok(copied)
+}
+
+/// What the main thread keeps of the runs of a session that opens: it registers the members.
+fn open_runs<'a, R: Wait>(
+    rt: &R,
+    alloc: Global,
+    objects: &'a SessionObjects,
+    main: EnginePass,
+    lists: &DeclaredLists,
+    quota: u32,
+) -> Result<Runs<'a>, NoMemory>
+    requires few { length lists.now.fronts ≤ 32 }
+    requires main { number_of main ≡ main_caller }
+    requires own { IsOf (engine_lock_of objects.now.engine) main }
+    requires fresh { IsFresh main }
+    requires opening { first_engine objects.now.engine ≡ engine_opening }
+    ensures { IfOk result (λ runs. runs ≡ opened_runs quota (declared_by lists.now)
+        objects.now.engine) }
+{
+    let names = front_names(alloc, lists.fronts.as_slice())?;
+    let members = member_names(alloc, lists.fronts.as_slice())?;
+    let mut seat = MainSeat::new(&objects.engine, main);
+    seat.register_all(rt, &members);
+    Runs::new(alloc, seat, quota, names, lists.channels.as_slice())
+}
+
+/// The members of a session that opens, and what the main thread keeps of its runs; or the run files and the pick where there is
+/// no memory for them.
+pub fn open_members<'a, R: Wait, D: Database, F: Files, K: Pick, G: Gate>(
+    rt: &R,
+    alloc: Global,
+    places: &Places<'a, D, G>,
+    main: EnginePass,
+    passes: &mut SessionPasses<D>,
+    quota: u32,
+    run_files: F,
+    pick: K,
+) -> Result<(Runs<'a>, SessionCrew<'a, D, F, K, G>), Unmanned<F, K>>
+    requires main { number_of main ≡ main_caller }
+    requires own { IsOf (engine_lock_of places.now.objects.now.engine) main }
+    requires fresh { IsFresh main }
+    requires opening { first_engine places.now.objects.now.engine ≡ engine_opening }
+    requires suit { SuitMembers places.now.lists.now.fronts places.now.lists.now.channels
+        places.now.objects.now places.now.shared.now }
+    requires out { HasFreshBut (out_to_fronts places.now.lists.now.fronts 0)
+        places.now.objects.now places.now.shared.now passes.old }
+    ensures runs { IfOk result (λ opened. opened.0 ≡ opened_runs quota
+        (declared_by places.now.lists.now) places.now.objects.now.engine) }
+    ensures members { IfOk result (λ opened. AreNewMembers places.now.lists.now.fronts
+        places.now.lists.now.channels places.now.objects.now places.now.shared.now run_files
+        pick opened.1) }
+    ensures are { IfOk result (λ opened. AreMembersOf places.now.lists.now.fronts
+        places.now.objects.now places.now.shared.now opened.1.fronts opened.1.logger) }
+    ensures channels { IfOk result (λ opened. HasDeclaredChannels places.now.lists.now.channels
+        opened.1.logger) }
+    ensures out { OnOk result (HasFreshBut (out_to_logger places.now.lists.now.fronts
+        (length places.now.objects.now.buffers.items)) places.now.objects.now
+        places.now.shared.now passes.new) }
+    ensures files { IfErr result (λ unmanned. unmanned.files ≡ run_files) }
+    ensures pick { IfErr result (λ unmanned. unmanned.pick ≡ pick) }
+{
+    let Ok(runs) = open_runs(rt, alloc, places.objects, main, places.lists, quota) else {
+        return Err(Unmanned {
+            files: run_files,
+            pick,
+        });
+    };
+    let Ok(channels) = copied_channels(alloc, places.lists.channels.as_slice()) else {
+        return Err(Unmanned {
+            files: run_files,
+            pick,
+        });
+    };
+    let fronts = places.lists.fronts.as_slice();
+    let (objects, shared, gate) = (places.objects, places.shared, places.gate);
+    match objects.crew(
+        alloc, shared, fronts, channels, passes, run_files, pick, gate,
+    ) {
+        Ok(crew) => Ok((runs, crew)),
+        Err(unmanned) => Err(unmanned),
+    }
+}

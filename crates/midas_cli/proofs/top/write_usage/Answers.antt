@@ -1,9 +1,0 @@
-use Rattle.std.proofs.Common.{ℕ, List, subst}
-use Rattle.daq_io.specs.Streams.{AppendsPart}
-use Rattle.midas_cli.proofs.OneWord.{part_either}
-use Rattle.midas_cli.proofs.top.write_usage.Goals as goal
-
-pub returns-clause-part : goal.returns-clause-part
-returns-clause-part g c =
-    subst (λ (text : List ℕ). AppendsPart (g.K.Sink.written c.args.out.now) (g.K.Sink.written c.write_all.new.out) text) c.as_bytes.ensures.value
-    (part_either c.write_all.result (g.K.Sink.written c.args.out.now) (g.K.Sink.written c.write_all.new.out) c.as_bytes.result.now c.write_all.ensures.all c.write_all.ensures.part)

@@ -1,3 +1,0 @@
-pub mod FrontNames
-pub mod Console
-pub mod Refused
