@@ -4,8 +4,6 @@ use Rattle.std.proofs.Common.{ap, sym, subst, ◌∙◌, arith, inl, inr, get_or
 use Rattle.std.proofs.lemmas.List.{length-set}
 use Rattle.std.proofs.lemmas.Option.{slice_get_within, slice_get_read}
 use Rattle.std.proofs.lemmas.Bool.Decides.{eqb_tells}
-use Rattle.buffer_core.specs.Ports.{Access}
-use Rattle.loggers.specs.Moments.{IsSameAccess}
 use Rattle.daq_members.specs.declared.turned.Turned.{Turned}
 use Rattle.analyzer_seats.specs.AnalyzerTaken.{TakesAnalyzer}
 use Rattle.analyzer_seats.specs.SeatedAnalyzers.{AnalyzerSeen, IsSameAnalyzer, analyzer_taken}

@@ -9,7 +9,6 @@ use Rattle.transitions.specs.declared.answers.Answer.{Answer}
 use Rattle.transitions.specs.declared.replies.Polled.{Polled}
 use Rattle.transitions.specs.declared.replies.Polled.TheVariants.{Turn, Idle as NoTurn, Closed, NoClient}
 use Rattle.transitions.specs.declared.entry.EngineEntry.{EngineEntry}
-use Rattle.member_model.specs.Turns.{MemberTurn}
 use Rattle.member_model.specs.TurnCalls.{member_turns}
 use Rattle.analyzers.specs.declared.analyzer_pull.AnalyzerPull.{AnalyzerPull}
 use Rattle.analyzers.specs.declared.analyzer_pull.AnalyzerPull.TheVariants.{Folded, Dropped, Nothing}

@@ -6,7 +6,7 @@ use Rattle.odb_watch.specs.Steps.{unwatched}
 use Rattle.odb_port.specs.DatabasePorts.{own_watched}
 use Rattle.odb_lock.specs.declared.shared.SharedOdb.{SharedOdb}
 use Rattle.odb_lock.specs.SharedOdbs.{first_database}
-use Rattle.daq_members.specs.Crews.{CrewTold}
+use Rattle.session_crew.specs.Crews.{CrewTold}
 use Rattle.session_setup.specs.declared.declared.FrontDeclared.{FrontDeclared}
 use Rattle.session_objects.specs.declared.record.SessionRecord.{SessionRecord}
 use Rattle.session_objects.specs.Calls.{SessionCalls}

@@ -9,7 +9,7 @@ use Rattle.database_files.specs.declared.replies.FileReply.{FileReply}
 use Rattle.database_files.specs.declared.replies.FileReply.TheVariants as file
 use Rattle.watch_commands.specs.WatchCalls.{FaultsIf}
 use Rattle.odb_script.specs.declared.forms.Command.{Command}
-use Rattle.odb_script.specs.declared.forms.Command.TheVariants.{Nothing, Buffer, Equip, Channel, Events, Start, Stop, Pause, Resume, Create, CreateDir, Set, Get, List as Ls, Remove, Load, Save, Watch, Notes, Unwatch, Exit}
+use Rattle.odb_script.specs.declared.forms.Command.TheVariants.{Nothing, Buffer, Equip, Channel, Analyzer, Events, Start, Stop, Pause, Resume, Create, CreateDir, Set, Get, List as Ls, Remove, Load, Save, Watch, Notes, Unwatch, Exit}
 use Rattle.odb_script.specs.declared.refusals.LineRefusal.TheVariants.{BadCommand as no_command}
 use Rattle.odb_script.specs.Forms.{Read}
 use Rattle.session_replies.specs.declared.replies.Reply.{Reply}
@@ -101,6 +101,7 @@ command_told first number Exit old new reply does told = subst (StageTells first
 command_told first number (Buffer name size) old new reply does told = subst (StageTells first) (sym does.1) told
 command_told first number (Equip name id mask buffer limit) old new reply does told = subst (StageTells first) (sym does.1) told
 command_told first number (Channel n pattern buffer id mask) old new reply does told = subst (StageTells first) (sym does.1) told
+command_told first number (Analyzer name buffer id mask kind) old new reply does told = subst (StageTells first) (sym does.1) told
 command_told first number (Events count) old new reply does told = subst (StageTells first) (sym does.1) told
 command_told first number Start old new reply does told = start_told first old.runs old reply new does told
 command_told first number Stop old new reply does told = stop_told first old.runs old reply new does told

@@ -9,7 +9,7 @@ use Rattle.odb_runinfo.specs.RunKeys.{session_rows}
 use Rattle.odb_watch.specs.Steps.{unwatched}
 use Rattle.odb_port.specs.DatabasePorts.{DatabaseAccess}
 use Rattle.odb_lock.specs.SharedAccesses.{shared_access}
-use Rattle.daq_members.specs.Crews.{CrewTold}
+use Rattle.session_crew.specs.Crews.{CrewTold}
 use Rattle.session_replies.specs.declared.refusals.Refusals.{Refusals}
 use Rattle.session_lines.specs.Stages.{Stage, first_stage}
 use Rattle.session_lines.specs.ScriptLines.{BreaksScriptLine, ClosesScript, DoesScriptLine, GivesUp}

@@ -13,7 +13,7 @@ use Rattle.odb_port.specs.DatabasePorts.{DatabaseAccess}
 use Rattle.odb_lock.specs.declared.shared.SharedOdb.{SharedOdb}
 use Rattle.daq_members.specs.FrontSeats.{FrontSeen}
 use Rattle.daq_members.specs.LoggerSeats.{LoggerSeen}
-use Rattle.daq_members.specs.Crews.{CrewTold}
+use Rattle.session_crew.specs.Crews.{CrewTold}
 use Rattle.run_records.specs.declared.records.RunRecord.{RunRecord}
 use Rattle.database_desk.specs.DatabaseStages.{DatabaseStage}
 use Rattle.session_setup.specs.Setup.{Declared}

@@ -12,7 +12,7 @@ use Rattle.odb_port.specs.DatabasePorts.{DatabaseIdentity}
 use Rattle.odb_lock.specs.declared.shared.SharedOdb.{SharedOdb}
 use Rattle.odb_lock.specs.SharedAccesses.{shared_access}
 use Rattle.odb_lock.specs.SharedOdbs.{odb_lock_of}
-use Rattle.daq_members.specs.Crews.{CrewTold}
+use Rattle.session_crew.specs.Crews.{CrewTold}
 use Rattle.run_records.specs.declared.records.RunRecord.{RunRecord}
 use Rattle.session_setup.specs.Setup.{AreSound, Declared}
 use Rattle.session_setup.specs.SetupLines.{opened_with_defaults}

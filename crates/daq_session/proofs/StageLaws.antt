@@ -5,7 +5,7 @@ use Rattle.std.specs.Option.{option_map}
 use Rattle.std.proofs.lemmas.List.{append-nil}
 use Rattle.std.proofs.Math.Logic.{⊎_elim}
 use Rattle.odb_script.specs.declared.forms.Command.{Command}
-use Rattle.odb_script.specs.declared.forms.Command.TheVariants.{Nothing, Buffer, Equip, Channel, Events, Start, Stop, Pause, Resume, Create, CreateDir, Set, Get, List as Ls, Remove, Load, Save, Watch, Notes, Unwatch, Exit}
+use Rattle.odb_script.specs.declared.forms.Command.TheVariants.{Nothing, Buffer, Equip, Channel, Analyzer, Events, Start, Stop, Pause, Resume, Create, CreateDir, Set, Get, List as Ls, Remove, Load, Save, Watch, Notes, Unwatch, Exit}
 use Rattle.odb_script.specs.declared.refusals.LineRefusal.TheVariants.{BadCommand as no_command}
 use Rattle.odb_script.specs.Forms.{Read}
 use Rattle.odb_tree.specs.declared.entry.DatabaseEntry.{DatabaseEntry}
@@ -237,6 +237,7 @@ command_keeps laws number Exit old new reply does kept = subst StageKept (sym do
 command_keeps laws number (Buffer name size) old new reply does kept = setup_kept old new reply _ does.0 does.1 kept
 command_keeps laws number (Equip name id mask buffer limit) old new reply does kept = setup_kept old new reply _ does.0 does.1 kept
 command_keeps laws number (Channel n pattern buffer id mask) old new reply does kept = setup_kept old new reply _ does.0 does.1 kept
+command_keeps laws number (Analyzer name buffer id mask kind) old new reply does kept = setup_kept old new reply _ does.0 does.1 kept
 command_keeps laws number (Events count) old new reply does kept = quota_kept count old new does.1 kept
 command_keeps laws number Start old new reply does kept = start_kept laws old.runs old reply new refl does kept
 command_keeps laws number Stop old new reply does kept = stop_kept laws old.runs old reply new refl does kept
@@ -299,6 +300,7 @@ command_breaks laws Exit old new broke kept = other_breaks laws Exit old new bro
 command_breaks laws (Buffer name size) old new broke kept = other_breaks laws (Buffer name size) old new broke.1 broke.2 kept
 command_breaks laws (Equip name id mask buffer limit) old new broke kept = other_breaks laws (Equip name id mask buffer limit) old new broke.1 broke.2 kept
 command_breaks laws (Channel n pattern buffer id mask) old new broke kept = other_breaks laws (Channel n pattern buffer id mask) old new broke.1 broke.2 kept
+command_breaks laws (Analyzer name buffer id mask kind) old new broke kept = other_breaks laws (Analyzer name buffer id mask kind) old new broke.1 broke.2 kept
 command_breaks laws (Events count) old new broke kept = other_breaks laws (Events count) old new broke.1 broke.2 kept
 command_breaks laws Pause old new broke kept = other_breaks laws Pause old new broke.1 broke.2 kept
 command_breaks laws Resume old new broke kept = other_breaks laws Resume old new broke.1 broke.2 kept

@@ -4,6 +4,7 @@ use Rattle.std.specs.Prelude.{◌≡◌, ℕ, zero, suc, ◌+◌, ◌-◌, ◌<�
 use Rattle.std.specs.List.{AllByRecursion}
 use Rattle.std.specs.Option.{option_map}
 use Rattle.std.proofs.Common.{ap, sym, subst, ◌∙◌, arith}
+use Rattle.std.proofs.lemmas.List.{length-map}
 use Rattle.std.proofs.lemmas.List.Elements.{All-contains}
 use Rattle.std.proofs.lemmas.Option.{slice_get-map, slice_get_within, get_or_from_slice_get}
 use Rattle.daq_types.specs.Callers.{caller_of_client, entries_by}
@@ -15,11 +16,14 @@ use Rattle.daq_io.specs.Seen.{IsStored}
 use Rattle.daq_model.specs.RunFile.{IsRunFile, run_file}
 use Rattle.turn_lock.specs.Closing.{history_of}
 use Rattle.buffer_core.specs.declared.entry.BufferEntry.{BufferEntry}
-use Rattle.buffer_core.specs.Window.{Sent}
+use Rattle.buffer_core.specs.Window.{Sent, opening}
 use Rattle.buffer_core.specs.Histories.{History}
 use Rattle.buffer_core.specs.Readers.{wanted}
 use Rattle.buffer_core.specs.Runs.{segment}
 use Rattle.buffer_core.specs.Slots.{slot_at}
+use Rattle.event_report.specs.Reports.{report_of}
+use Rattle.local_port.specs.Ported.{given_in}
+use Rattle.analyzers.specs.AnalyzerKept.{IsReportOfRun}
 use Rattle.caller_laws.specs.CallerLaws.{IsSendOf, SendIsAmong}
 use Rattle.caller_laws.specs.OneCaller.{events_in}
 use Rattle.caller_laws.specs.SentRuns.{events_at_places, places_sent}
@@ -34,6 +38,8 @@ use Rattle.odb_watch.specs.declared.entry.WatchEntry.TheVariants as call
 use Rattle.odb_runinfo.specs.declared.sets.RunNumber.{RunNumber as NoNext}
 use Rattle.odb_runinfo.specs.RunSets.{have_of, next_run, number_asked, number_in}
 use Rattle.member_model.specs.SentCalls.{own_sent}
+use Rattle.member_model.specs.Turns.{MemberTurn}
+use Rattle.member_model.specs.TurnCalls.{member_turns}
 use Rattle.member_model.specs.LoggerKept.{LoggerChannel}
 use Rattle.front_ends.specs.FrontKept.{made_events}
 use Rattle.mid_logger.specs.declared.channel.Channel.{Channel}
@@ -44,6 +50,7 @@ use Rattle.loggers.specs.LoggerStands.{logger_channel, logger_channels}
 use Rattle.loggers.specs.OtherFiles.{specs_in}
 use Rattle.run_records.specs.declared.records.FileRecord.{FileRecord}
 use Rattle.run_records.specs.declared.records.FrontTally.{FrontTally}
+use Rattle.run_records.specs.declared.records.ReportTally.{ReportTally}
 use Rattle.run_records.specs.declared.records.RunRecord.{RunRecord}
 use Rattle.composition.specs.Sessions.{HasFront, Session, SessionFront}
 use Rattle.composition.specs.CompositionLaws.{IsComposed}
@@ -51,17 +58,19 @@ use Rattle.composition.specs.SessionRuns.{HoldsFilePart, HoldsRunFile, IsOfFront
 use Rattle.session_runs.specs.RunEntries.{dump_saved, later_sheet, start_sheet}
 use Rattle.session_runs.specs.RunsFit.{MainOwn, run_of}
 use Rattle.session_setup.specs.Setup.{AreSound, Declared}
+use Rattle.session_setup.specs.declared.declared.AnalyzerDeclared.{AnalyzerDeclared}
 use Rattle.session_setup.specs.declared.declared.FrontDeclared.{FrontDeclared}
 use Rattle.session_objects.specs.declared.record.BufferRecord.{BufferRecord}
-use Rattle.session_objects.specs.Members.{generator_makes, generator_of}
-use Rattle.session_laws.specs.ClosedSessions.{ClosedFront, ClosedSession, history_in, history_of_buffer, session_front, session_fronts, session_of}
+use Rattle.session_objects.specs.Members.{generator_makes, generator_of, request_of}
+use Rattle.session_laws.specs.ClosedSessions.{ClosedAnalyzer, ClosedFront, ClosedSession, analyzer_client, engine_calls, history_in, history_of_buffer, session_analyzer, session_front, session_fronts, session_of, size_in, size_of_buffer}
 use Rattle.session_laws.specs.CountedFaults.{CountsHold, state_by_dump}
 use Rattle.session_laws.specs.MadeRuns.{IsFileSo}
-use Rattle.session_laws.specs.RecordedRuns.{AreDeclared, FileRecordHolds, FrontRecordHolds}
+use Rattle.session_laws.specs.RecordedRuns.{AreDeclared, FileRecordHolds, FrontRecordHolds, ReportRecordHolds}
+use Rattle.session_laws.proofs.ReadersEnd.{analyzer_listed}
 use Rattle.session_ends.specs.EndedRecords.{RecordSo}
-use Rattle.session_ends.specs.EndedSessions.{closed_buffer, closed_front}
+use Rattle.session_ends.specs.EndedSessions.{closed_analyzer, closed_buffer, closed_front}
 use Rattle.daq_session.specs.RunNumbers.{GivesNumber, IsNumberBefore}
-use Rattle.daq_session.specs.ToldRecords.{IsOfChannel, IsPartOfRun, IsFileOfRun, IsFrontEvent, IsSentInRun, RunTells, events_of_front}
+use Rattle.daq_session.specs.ToldRecords.{IsCountedInRun, IsOfChannel, IsPartOfRun, IsFileOfRun, IsFrontEvent, IsSentInRun, RunTells, events_for, events_of_front}
 
 pub there : {X : Type 0} (xs : List X) (n : ℕ) → n < length xs → (x : X) × (slice_get xs n ≡ Some x)
 there [] n within = absurd (omega arith)
@@ -141,6 +150,9 @@ mapped f (x ∷ xs) (suc n) y at = mapped f xs n y at
 history_there : (buffers : List BufferRecord) (n : ℕ) (b : BufferRecord) → slice_get buffers n ≡ Some b → history_in (slice_get (map closed_buffer buffers) n) ≡ history_of b.closed
 history_there buffers n b at = ap history_in (slice_get-map closed_buffer buffers n ∙ ap (option_map closed_buffer) at)
 
+size_there : (buffers : List BufferRecord) (n : ℕ) (b : BufferRecord) → slice_get buffers n ≡ Some b → size_in (slice_get (map closed_buffer buffers) n) ≡ b.size
+size_there buffers n b at = ap size_in (slice_get-map closed_buffer buffers n ∙ ap (option_map closed_buffer) at)
+
 -- The run number before.
 
 all_first : (one other : List WatchEntry) → AllByRecursion GivesNumber (one ++ other) → AllByRecursion GivesNumber one
@@ -162,13 +174,13 @@ before_next (pos n) run is =
 before_next (negsuc n) run is = absurd (cc is)
 
 module _ (c : ClosedSession) (declared : Declared) (buffers : List BufferRecord) (sound : AreSound declared) (many : length buffers ≡ length declared.buffers)
-    (same_buffers : c.buffers ≡ map closed_buffer buffers) (same_fronts : c.fronts ≡ map closed_front declared.fronts) (channels : AreDeclared declared.channels c.slots)
+    (same_buffers : c.buffers ≡ map closed_buffer buffers) (same_fronts : c.fronts ≡ map closed_front declared.fronts) (same_analyzers : c.analyzers ≡ map closed_analyzer declared.analyzers) (channels : AreDeclared declared.channels c.slots)
     (moments : (client : ℕ) → List ℕ) (own : MainOwn) (given : AllByRecursion GivesNumber own.database) (first now : RunFiles) (counts : CountsHold c first now) (composed : IsComposed (session_of c moments)) (among : SendIsAmong) (run : RunRecord) (so : RecordSo c moments own run) where
   abbrev session : Session
   session = session_of c moments
 
   abbrev first_sheet : Sheet
-  first_sheet = start_sheet run.run run.time0 so.quota so.fits.start.dump
+  first_sheet = start_sheet (length c.analyzers) run.run run.time0 so.quota so.fits.start.dump
 
   abbrev last_sheet : Sheet
   last_sheet = later_sheet (run_of run so.quota) run.time1 (dump_saved so.fits.stop.saved)
@@ -178,6 +190,9 @@ module _ (c : ClosedSession) (declared : Declared) (buffers : List BufferRecord)
 
   its_history : (n : ℕ) (b : BufferRecord) → slice_get buffers n ≡ Some b → history_of_buffer c n ≡ history_of b.closed
   its_history n b at = subst (λ (l : List _). history_in (slice_get l n) ≡ history_of b.closed) (sym same_buffers) (history_there buffers n b at)
+
+  its_size : (n : ℕ) (b : BufferRecord) → slice_get buffers n ≡ Some b → size_of_buffer c n ≡ b.size
+  its_size n b at = subst (λ (l : List _). size_in (slice_get l n) ≡ b.size) (sym same_buffers) (size_there buffers n b at)
 
   -- the channel of a file
   record AtChannel (file : FileRecord) (f : FileRecordHolds session so.holds.run file) : Type 0 where
@@ -367,5 +382,52 @@ module _ (c : ClosedSession) (declared : Declared) (buffers : List BufferRecord)
       let f : FileRecordHolds session so.holds.run file = so.holds.files place file at in
       counts.ended none moments so.holds.run so.holds.made f.index f.channel f.at file.state f.told ∙ ap (λ (s : Sheet). state_by_dump s.dump) so.holds.last_is
 
+  -- an analyzer that was declared, with its record
+  record AtAnalyzer (place : ℕ) (d : AnalyzerDeclared) : Type 0 where
+    tally : ReportTally
+    told : slice_get run.reports place ≡ Some tally
+    holds : ReportRecordHolds session so.holds.run (session_analyzer c (analyzer_client c place) (closed_analyzer d)) tally
+
+  at_analyzer : (place : ℕ) (d : AnalyzerDeclared) → slice_get declared.analyzers place ≡ Some d → AtAnalyzer place d
+  at_analyzer place d at =
+      let closed_at : slice_get c.analyzers place ≡ Some (closed_analyzer d) =
+      subst (λ (l : List ClosedAnalyzer). slice_get l place ≡ Some (closed_analyzer d)) (sym same_analyzers) (slice_get-map closed_analyzer declared.analyzers place ∙ ap (option_map closed_analyzer) at) in
+      let has = so.holds.reports place (session_analyzer c (analyzer_client c place) (closed_analyzer d)) (analyzer_listed c place (closed_analyzer d) closed_at) in
+      record { tally = has.0; told = has.1; holds = has.2 }
+
+  analyzer_counts : (place : ℕ) (d : AnalyzerDeclared) → AtAnalyzer place d → (b : BufferRecord) → slice_get buffers d.buffer ≡ Some b → (tally : ReportTally) × (slice_get run.reports place ≡ Some tally) × IsCountedInRun c moments (analyzer_client c place) d buffers so.holds.run run tally
+  analyzer_counts place d a b at =
+      let client : ℕ = analyzer_client c place in
+      let by : ℕ = caller_of_client client in
+      let turns : List MemberTurn = member_turns client (engine_calls c by) in
+      let its : history_of_buffer c d.buffer ≡ history_of b.closed = its_history d.buffer b at in
+      let of_start : IsReportOfRun (request_of d) (own_calls client d.buffer) (given_in by (opening (size_of_buffer c d.buffer)) (history_of_buffer c d.buffer)) turns run.start a.tally.report =
+      subst (λ (n : ℕ). IsReportOfRun (request_of d) (own_calls client d.buffer) (given_in by (opening (size_of_buffer c d.buffer)) (history_of_buffer c d.buffer)) turns n a.tally.report) so.holds.start a.holds.so.told in
+      let of_history : IsReportOfRun (request_of d) (entries_by by (history_of b.closed)) (given_in by (opening (size_of_buffer c d.buffer)) (history_of b.closed)) turns run.start a.tally.report =
+      subst (λ (h : History). IsReportOfRun (request_of d) (entries_by by h) (given_in by (opening (size_of_buffer c d.buffer)) h) turns run.start a.tally.report) its of_start in (
+        a.tally,
+        a.told,
+        record {
+          is = a.holds.client;
+          buffer = b;
+          there = at;
+          counts = subst (λ (size : ℕ). IsReportOfRun (request_of d) (entries_by by (history_of b.closed)) (given_in by (opening size) (history_of b.closed)) turns run.start a.tally.report) (its_size d.buffer b at) of_history;
+          so = a.holds.so;
+          whole = λ saw. a.holds.so.whole saw
+              ∙ (ap (λ (h : History). report_of (events_in (wanted d.id d.mask (segment h so.holds.run.start)))) its
+              ∙ ap (λ (n : ℕ). report_of (events_for d b n)) so.holds.start);
+        },
+      )
+
+  analyzers_tell : (place : ℕ) (d : AnalyzerDeclared) → slice_get declared.analyzers place ≡ Some d
+      → (tally : ReportTally) × (slice_get run.reports place ≡ Some tally) × IsCountedInRun c moments (suc (length declared.fronts) + place) d buffers so.holds.run run tally
+  analyzers_tell place d at =
+      let contains : Contains declared.analyzers d = (place, slice_get_within declared.analyzers place d at, get_or_from_slice_get declared.analyzers place d d at) in
+      let within : d.buffer < length declared.buffers = All-contains (λ (x : AnalyzerDeclared). x.buffer < length declared.buffers) declared.analyzers d sound.analyzer_buffers contains in
+      let b = buffer_at d.buffer within in
+      let number : analyzer_client c place ≡ suc (length declared.fronts) + place =
+      ap (λ (l : List ClosedFront). suc (length l) + place) same_fronts ∙ ap (λ (n : ℕ). suc n + place) (length-map declared.fronts closed_front) in
+      subst (λ (n : ℕ). (tally : ReportTally) × (slice_get run.reports place ≡ Some tally) × IsCountedInRun c moments n d buffers so.holds.run run tally) number (analyzer_counts place d (at_analyzer place d at) b.0 b.1)
+
   pub run_tells : RunTells c moments own declared buffers first now run
-  run_tells = record { so = so; number = number_got; files = files_tell; parts = parts_tell; ended = ended_tells; fronts = front_tells; events = events_tell }
+  run_tells = record { so = so; number = number_got; files = files_tell; parts = parts_tell; ended = ended_tells; fronts = front_tells; events = events_tell; reports = analyzers_tell }

@@ -11,17 +11,18 @@ use Rattle.session_setup.specs.Setup.{Declared}
 use Rattle.session_runs.specs.KeptRuns.{IsInStep, RunsSeen, channels_of}
 use Rattle.session_runs.specs.RunsFit.{RunsFit}
 use Rattle.session_laws.specs.MembersAtEnd.{SteersEngine}
-use Rattle.session_lines.specs.Stages.{Stage, front_names, members_named}
+use Rattle.session_lines.specs.Stages.{Stage, analyzer_names, front_names, members_named}
 use Rattle.watch_commands.specs.WatchSpares.{SparesWatched}
 
--- The main thread keeps the names of the declared front-ends and the declared channels; it registered the members on the engine,
+-- The main thread keeps the names of the declared front-ends, the declared channels and the names of the declared analyzers; it registered the members on the engine,
 -- and made transitions behind that; and the records of the runs fit its calls on the engine and on the database.
 pub record RunsKept (declared : Declared) (database : List WatchEntry) (runs : RunsSeen) : Type 0 where
   pub opened : declared.opened ≡ true
   pub fronts : runs.fronts ≡ front_names declared
   pub channels : runs.channels ≡ channels_of declared.channels
+  pub analyzers : runs.analyzers ≡ analyzer_names declared
   pub later : List EngineEntry
-  pub begins : runs.main.own ≡ registrations 0 (members_named (front_names declared)) ++ later
+  pub begins : runs.main.own ≡ registrations 0 (members_named (front_names declared) (analyzer_names declared)) ++ later
   pub steers : AllByRecursion SteersEngine later
   pub fit : RunsFit runs database
 

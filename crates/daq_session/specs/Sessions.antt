@@ -10,7 +10,7 @@ use Rattle.odb_watch.specs.Steps.{unwatched}
 use Rattle.odb_lock.specs.declared.shared.SharedOdb.{SharedOdb}
 use Rattle.odb_lock.specs.SharedOdbs.{first_database, odb_lock_of}
 use Rattle.odb_watch.specs.declared.entry.WatchEntry.{WatchEntry}
-use Rattle.daq_members.specs.Crews.{CrewSeen, CrewTold, KeepContracts}
+use Rattle.session_crew.specs.Crews.{CrewSeen, CrewTold, KeepContracts}
 use Rattle.session_setup.specs.declared.declared.DeclaredLists.{DeclaredLists}
 use Rattle.session_objects.specs.declared.objects.SessionObjects.{SessionObjects}
 use Rattle.session_objects.specs.declared.passes.SessionPasses.{SessionPasses}
@@ -21,6 +21,7 @@ use Rattle.session_objects.specs.Calls.{SessionCalls}
 use Rattle.session_objects.specs.Rosters.{KeepsPasses}
 use Rattle.session_laws.specs.RecordedRuns.{AreDeclared}
 use Rattle.session_setup.specs.Setup.{AreSound}
+use Rattle.session_setup.specs.declared.declared.AnalyzerDeclared.{AnalyzerDeclared}
 use Rattle.session_setup.specs.declared.declared.FrontDeclared.{FrontDeclared}
 use Rattle.session_objects.specs.Records.{HasCalls, HoldsCalls, HoldsHistories}
 use Rattle.run_records.specs.declared.records.RunRecord.{RunRecord}
@@ -57,9 +58,9 @@ pub record OpenedEnds {D F K : Type 0} {g : _} (told : CrewTold Generator F K) (
   pub knows : KnowsRuns last
   pub caller : access.caller ≡ main_caller
   pub crew : CrewSeen Generator F K
-  pub members : AreMembersOf lists.fronts objects shared crew.fronts crew.logger
+  pub members : AreMembersOf lists.fronts lists.analyzers objects shared crew.fronts crew.logger crew.analyzers
   pub keep : KeepContracts told crew
-  pub calls : HasCalls lists.fronts (session_calls (closing_calls last.main.own) access.seen crew.fronts crew.logger) objects shared passes
+  pub calls : HasCalls lists.fronts lists.analyzers (session_calls (closing_calls last.main.own) access.seen crew.fronts crew.logger crew.analyzers) objects shared passes
   pub channels : AreDeclared lists.channels crew.logger.slots
   pub first : crew.logger.first ≡ first_files
   pub files : crew.logger.files ≡ run_files
@@ -128,24 +129,24 @@ pub record IsSessionRecord {D F K : Type 0} {g : _} (told : CrewTold Generator F
   pub rows : first_database shared ≡ unwatched session_rows
   pub last : RunsSeen
   pub is_open : final.runs ≡ Some last
-  pub callers : HaveCallers lists.fronts objects shared
+  pub callers : HaveCallers lists.fronts lists.analyzers objects shared
   pub fits : RunsKept final.declared (own_watched final.database.access) last
   pub over : last.on ≡ None
   pub spares : StageSpares final
   pub kept : r.runs ≡ last.runs
   pub caller : final.database.access.caller ≡ main_caller
   pub crew : CrewSeen Generator F K
-  pub members : AreMembersOf lists.fronts objects shared crew.fronts crew.logger
+  pub members : AreMembersOf lists.fronts lists.analyzers objects shared crew.fronts crew.logger crew.analyzers
   pub keep : KeepContracts told crew
   pub channels : AreDeclared lists.channels crew.logger.slots
   pub first : crew.logger.first ≡ first_files
   pub files : crew.logger.files ≡ run_files
   pub histories : HoldsHistories objects shared r
-  pub calls : HoldsCalls lists.fronts (session_calls (closing_calls last.main.own) final.database.access.seen crew.fronts crew.logger) objects shared r
+  pub calls : HoldsCalls lists.fronts lists.analyzers (session_calls (closing_calls last.main.own) final.database.access.seen crew.fronts crew.logger crew.analyzers) objects shared r
 
 -- the passes of what is left are all here
 abbrev pub IsBack : {D : Type 0} {g : _} → SharedOdb D → LeftBehind D g → Type 0
-IsBack shared (Session ended) = (fronts : List FrontDeclared) × (calls : SessionCalls) × HasCalls fronts calls ended.objects shared ended.passes
+IsBack shared (Session ended) = (fronts : List FrontDeclared) × (analyzers : List AnalyzerDeclared) × (calls : SessionCalls) × HasCalls fronts analyzers calls ended.objects shared ended.passes
 IsBack shared (Unopened passes) = (calls : List (ℕ × WatchEntry)) × IsMainAlone shared calls (Unopened passes)
 IsBack shared Nothing = ⊤
 

@@ -5,7 +5,7 @@ ghost use Rattle.turn_lock.specs.Passes.{IsOf, held_by, number_of, own_entries};
 ghost use Rattle.odb_port.specs.DatabasePorts.{IsSamePort};
 ghost use Rattle.transition_lock.specs.SharedEngines.{engine_lock_of};
 ghost use Rattle.loggers.specs.LoggerFaults.{HasFailed};
-ghost use Rattle.daq_members.specs.Crews.{CrewSeen, IsSameCrew, KeepContracts, crew_seen, crew_told};
+ghost use Rattle.session_crew.specs.Crews.{CrewSeen, IsSameCrew, KeepContracts, crew_seen, crew_told};
 ghost use Rattle.session_objects.specs.Objects.{declared_by};
 ghost use Rattle.database_desk.specs.DatabaseStages.{database_stage};
 ghost use Rattle.session_runs.specs.KeptRuns.{RunsSeen};

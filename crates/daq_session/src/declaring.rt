@@ -1,8 +1,9 @@
 // The lines that declare something, in a session that is not open.
 ghost use Rattle.std.specs.Prelude.{◌≡◌, true, false};
-ghost use Rattle.session_lines.specs.SetupReplies.{DeclaresBuffer, DeclaresFront, DeclaresChannel};
+ghost use Rattle.session_lines.specs.SetupReplies.{DeclaresBuffer, DeclaresFront, DeclaresChannel, DeclaresAnalyzer};
 ghost use Rattle.session_lines.specs.SetupReplies.{setup_reply};
 
+use daq_types::Kind;
 use session_replies::Reply;
 use session_setup::{Declarations, SetupRefusal};
 
@@ -57,4 +58,21 @@ pub fn declare_channel(
     ensures closed { declarations.new.opened ≡ false }
 {
     setup_reply(declarations.channel(number, pattern, buffer, id, mask))
+}
+
+/// Answers `analyzer NAME BUFFER ID MASK all` or `some`.
+pub fn declare_analyzer(
+    declarations: &mut Declarations,
+    name: &[u8],
+    buffer: &[u8],
+    id: u16,
+    mask: u16,
+    kind: Kind,
+) -> Reply
+    requires { declarations.old.opened ≡ false }
+    ensures did { DeclaresAnalyzer name.now buffer.now id mask kind declarations.old result
+        declarations.new }
+    ensures closed { declarations.new.opened ≡ false }
+{
+    setup_reply(declarations.analyzer(name, buffer, id, mask, kind))
 }

@@ -8,7 +8,7 @@ ghost use Rattle.script_desk.specs.declared.halts.Halt.{Halt};
 ghost use Rattle.script_desk.specs.declared.halts.Halt.TheVariants.{NoMemory as no_memory};
 ghost use Rattle.script_desk.specs.Playing.{HasLine, OpensAt, Played};
 ghost use Rattle.script_desk.specs.Closing.{Finished};
-ghost use Rattle.daq_members.specs.Crews.{crew_told};
+ghost use Rattle.session_crew.specs.Crews.{crew_told};
 ghost use Rattle.session_objects.specs.Members.{generator_makes, generator_takes};
 ghost use Rattle.session_lines.specs.Stages.{Stage};
 ghost use Rattle.session_lines.specs.RunLines.{CutsOpening, OpensSession};

@@ -8,7 +8,7 @@ ghost use Rattle.odb_watch.specs.Steps.{unwatched};
 ghost use Rattle.odb_watch.specs.declared.entry.WatchEntry.{WatchEntry as Called};
 ghost use Rattle.odb_lock.specs.SharedAccesses.{access_by_pass, odb_identity};
 ghost use Rattle.odb_lock.specs.SharedOdbs.{first_database, odb_lock_of};
-ghost use Rattle.daq_members.specs.Crews.{crew_told};
+ghost use Rattle.session_crew.specs.Crews.{crew_told};
 ghost use Rattle.session_objects.specs.Members.{generator_makes, generator_takes};
 ghost use Rattle.session_objects.specs.Records.{AreAllPasses};
 ghost use Rattle.session_objects.specs.Rosters.{KeepsFresh, KeepsPasses};

@@ -96,11 +96,12 @@ impl<'a, D: LastingPort, M: Rounds, E: Files, C: Clock> Answerer for Opened<'a, 
         let access = &mut self.database.access;
         match command {
             Command::Nothing | Command::Exit => Ok(Reply::Silent),
-            Command::Buffer { .. } | Command::Equip { .. } | Command::Channel { .. } => {
-                Ok(Reply::Setup {
-                    refusal: SetupRefusal::Opened,
-                })
-            }
+            Command::Buffer { .. }
+            | Command::Equip { .. }
+            | Command::Channel { .. }
+            | Command::Analyzer { .. } => Ok(Reply::Setup {
+                refusal: SetupRefusal::Opened,
+            }),
             Command::Events { count } => {
                 runs.set_quota(count);
                 Ok(Reply::Silent)

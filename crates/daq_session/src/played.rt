@@ -8,7 +8,7 @@ ghost use Rattle.odb_port.specs.DatabasePorts.{DatabaseAccess};
 ghost use Rattle.transitions.specs.Engines.{engine_opening};
 ghost use Rattle.transition_lock.specs.SharedEngines.{engine_lock_of, first_engine};
 ghost use Rattle.loggers.specs.LoggerFaults.{HasFailed};
-ghost use Rattle.daq_members.specs.Crews.{crew_told};
+ghost use Rattle.session_crew.specs.Crews.{crew_told};
 ghost use Rattle.session_setup.specs.Setup.{Declared};
 ghost use Rattle.session_setup.specs.SetupLines.{opened_with_defaults};
 ghost use Rattle.session_objects.specs.Kept.{HasFreshBut, out_to_fronts, out_to_logger};

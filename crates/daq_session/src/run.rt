@@ -8,7 +8,7 @@ ghost use Rattle.odb_script.specs.Lines.{no_line_read};
 ghost use Rattle.turn_lock.specs.Roster.{IsFresh};
 ghost use Rattle.odb_lock.specs.SharedAccesses.{access_by_pass, odb_identity, shared_access};
 ghost use Rattle.odb_lock.specs.SharedOdbs.{first_database, odb_lock_of};
-ghost use Rattle.daq_members.specs.Crews.{crew_told};
+ghost use Rattle.session_crew.specs.Crews.{crew_told};
 ghost use Rattle.session_setup.specs.Setup.{nothing_declared};
 ghost use Rattle.session_objects.specs.Members.{generator_makes, generator_takes};
 ghost use Rattle.session_objects.specs.Rosters.{KeepsFresh};

@@ -2,7 +2,7 @@
 ghost use Rattle.std.specs.Prelude.{◌≡◌, false, None};
 ghost use Rattle.session_setup.specs.Setup.{Declared};
 
-use crate::declaring::{declare_buffer, declare_channel, declare_front};
+use crate::declaring::{declare_analyzer, declare_buffer, declare_channel, declare_front};
 use crate::lasting::LastingPort;
 use daq_io::{Clock, Files};
 use daq_types::{NoMemory, RunState};
@@ -107,6 +107,23 @@ impl<D: LastingPort, E: Files, C: Clock> Answerer for Unopened<D, E, C> {
                     buffer.as_slice(),
                     id,
                     mask,
+                );
+                Ok(reply)
+            }
+            Command::Analyzer {
+                name,
+                buffer,
+                id,
+                mask,
+                kind,
+            } => {
+                let reply = declare_analyzer(
+                    &mut self.declarations,
+                    name.as_slice(),
+                    buffer.as_slice(),
+                    id,
+                    mask,
+                    kind,
                 );
                 Ok(reply)
             }

@@ -12,26 +12,27 @@ use Rattle.loggers.specs.Moments.{RunFiles}
 use Rattle.loggers.specs.NewLoggers.{HasNewChannels}
 use Rattle.loggers.specs.OtherFiles.{specs_in}
 use Rattle.loggers.specs.LeftNames.{NoneRose}
+use Rattle.session_setup.specs.declared.declared.AnalyzerDeclared.{AnalyzerDeclared}
 use Rattle.session_setup.specs.declared.declared.FrontDeclared.{FrontDeclared}
 use Rattle.run_records.specs.declared.records.RunRecord.{RunRecord}
 use Rattle.session_runs.specs.KeptRuns.{channels_of}
 use Rattle.session_runs.specs.RunEntries.{start_sheet, later_sheet, dump_saved}
-use Rattle.session_runs.specs.RunsFit.{MainOwn, FitsRun, FitsWhole, RecordsFit, run_of, starts_begun}
+use Rattle.session_runs.specs.RunsFit.{MainOwn, RunClients, FitsRun, FitsWhole, RecordsFit, run_of, starts_begun}
 use Rattle.daq_members.specs.LoggerSeats.{LoggerSeen, HasLoggerReasons, KeepsLoggerNames}
 use Rattle.session_objects.specs.declared.record.SessionRecord.{SessionRecord}
-use Rattle.session_laws.specs.ClosedSessions.{ClosedSession, logger_client, engine_calls, session_of}
+use Rattle.session_laws.specs.ClosedSessions.{ClosedSession, engine_calls, session_of}
 use Rattle.session_laws.specs.EndLaws.{SessionHolds}
 use Rattle.session_laws.specs.CountedFaults.{CountsHold}
 use Rattle.session_laws.specs.OtherNames.{AreStartsOver}
-use Rattle.session_laws.specs.RecordedRuns.{ListsFile, RecordHolds, run_channels, AreDeclared}
+use Rattle.session_laws.specs.RecordedRuns.{ListsFile, RecordHolds, clients_in, AreDeclared}
 use Rattle.session_ends.specs.EndedSessions.{closed_session, SessionEnded}
 
 -- What the counts of run files tell of starts, channels and names is so, from those as the logger took its seat to those at the
 -- end.
 abbrev pub CountsSo : {D F : Type 0} {g : _} → (seen : F → Seen) → (read : F → RunFiles) → SessionRecord D g → Type 0
-CountsSo {D} {F} seen read r = (fronts : List FrontDeclared) → (logger : LoggerSeen F) →
-    (ended : SessionEnded seen fronts logger r) → HasLoggerReasons read logger → KeepsLoggerNames read logger →
-    CountsHold (closed_session (first_database ended.shared) fronts logger.slots (seen logger.first) (seen logger.files) r)
+CountsSo {D} {F} seen read r = (fronts : List FrontDeclared) → (analyzers : List AnalyzerDeclared) → (logger : LoggerSeen F) →
+    (ended : SessionEnded seen fronts analyzers logger r) → HasLoggerReasons read logger → KeepsLoggerNames read logger →
+    CountsHold (closed_session (first_database ended.shared) fronts analyzers logger.slots (seen logger.first) (seen logger.files) r)
     (read logger.first) (read logger.files)
 
 -- Where the logger opened with a channel for each of these specs, and no channel's spec changed, its channels are those that
@@ -40,34 +41,39 @@ abbrev pub ChannelsStay : Type 0
 ChannelsStay = (specs : List ChannelSpec) → (rooms : List ℕ) → (first now : List (Option Channel)) → length rooms ≡ length specs →
     HasNewChannels specs rooms first → specs_in now ≡ specs_in first → AreDeclared specs now
 
+-- who is told of in the records of a session of these declarations
+abbrev pub clients_declared : List FrontDeclared → List ChannelSpec → List AnalyzerDeclared → RunClients
+clients_declared fronts channels analyzers =
+    record { fronts = length fronts; channels = channels_of channels; analyzers = length analyzers }
+
 -- The record of a run that came about fits the main thread's own calls, and holds what it has of the run, which was started and
 -- stopped with the sheets that these calls tell.
 pub record RecordSo (c : ClosedSession) (moments : (client : ℕ) → List ℕ) (own : MainOwn) (r : RunRecord) : Type 0 where
   pub quota : ℕ
-  pub fits : FitsWhole (logger_client c) (run_channels c.slots) own (run_of r quota) r
+  pub fits : FitsWhole (clients_in c) own (run_of r quota) r
   pub holds : RecordHolds (session_of c moments) r
-      (start_sheet r.run r.time0 quota fits.start.dump)
+      (start_sheet (length c.analyzers) r.run r.time0 quota fits.start.dump)
       (later_sheet (run_of r quota) r.time1 (dump_saved fits.stop.saved))
 
 -- So it is with each record of a completed start, where the records fit the main thread's own calls up to some point.
 abbrev pub RecordsSo : {D F : Type 0} {g : _} → (seen : F → Seen) → SessionRecord D g → Type 0
-RecordsSo {D} {F} seen r = (fronts : List FrontDeclared) → (logger : LoggerSeen F) →
-    (ended : SessionEnded seen fronts logger r) → (channels : List ChannelSpec) → AreDeclared channels logger.slots →
-    (holds : SessionHolds (closed_session (first_database ended.shared) fronts logger.slots (seen logger.first) (seen logger.files) r)) →
+RecordsSo {D} {F} seen r = (fronts : List FrontDeclared) → (analyzers : List AnalyzerDeclared) → (logger : LoggerSeen F) →
+    (ended : SessionEnded seen fronts analyzers logger r) → (channels : List ChannelSpec) → AreDeclared channels logger.slots →
+    (holds : SessionHolds (closed_session (first_database ended.shared) fronts analyzers logger.slots (seen logger.first) (seen logger.files) r)) →
     (own : MainOwn) → (more : List EngineEntry) → ended.own ≡ own.engine ++ more →
-    AllByRecursion (FitsRun (length fronts) (channels_of channels) own) r.runs →
+    AllByRecursion (FitsRun (clients_declared fronts channels analyzers) own) r.runs →
     (number : ℕ) → (record_at : RunRecord) → slice_get r.runs number ≡ Some record_at → record_at.outcome ≡ Completed →
-    RecordSo (closed_session (first_database ended.shared) fronts logger.slots (seen logger.first) (seen logger.files) r)
+    RecordSo (closed_session (first_database ended.shared) fronts analyzers logger.slots (seen logger.first) (seen logger.files) r)
     holds.moments own record_at
 
 -- Where there is one record for each start that the main thread began, each start is over.
 abbrev pub StartsSo : {D F : Type 0} {g : _} → (seen : F → Seen) → SessionRecord D g → Type 0
-StartsSo {D} {F} seen r = (fronts : List FrontDeclared) → (logger : LoggerSeen F) →
-    (ended : SessionEnded seen fronts logger r) → (channels : List ChannelSpec) → AreDeclared channels logger.slots →
+StartsSo {D} {F} seen r = (fronts : List FrontDeclared) → (analyzers : List AnalyzerDeclared) → (logger : LoggerSeen F) →
+    (ended : SessionEnded seen fronts analyzers logger r) → (channels : List ChannelSpec) → AreDeclared channels logger.slots →
     (own : MainOwn) → (more : List EngineEntry) → ended.own ≡ own.engine ++ more → starts_begun more ≡ [] →
-    RecordsFit (length fronts) (channels_of channels) own r.runs →
+    RecordsFit (clients_declared fronts channels analyzers) own r.runs →
     AreStartsOver (engine_calls
-    (closed_session (first_database ended.shared) fronts logger.slots (seen logger.first) (seen logger.files) r) main_caller)
+    (closed_session (first_database ended.shared) fronts analyzers logger.slots (seen logger.first) (seen logger.files) r) main_caller)
 
 -- none of these records has a file of this name
 abbrev pub IsInNoRecord : List RunRecord → (name : List ℕ) → Type 0
@@ -76,11 +82,11 @@ IsInNoRecord records name = (place : ℕ) → (r : RunRecord) → slice_get reco
 -- Where there is one record for each start that the main thread began, names are told, and no fault was counted: each name that
 -- is in no record is there where it was as the logger took its seat, with the same bytes.
 abbrev pub NamesSo : {D F : Type 0} {g : _} → (seen : F → Seen) → (read : F → RunFiles) → SessionRecord D g → Type 0
-NamesSo {D} {F} seen read r = (fronts : List FrontDeclared) → (logger : LoggerSeen F) →
-    (ended : SessionEnded seen fronts logger r) → HasLoggerReasons read logger → KeepsLoggerNames read logger →
+NamesSo {D} {F} seen read r = (fronts : List FrontDeclared) → (analyzers : List AnalyzerDeclared) → (logger : LoggerSeen F) →
+    (ended : SessionEnded seen fronts analyzers logger r) → HasLoggerReasons read logger → KeepsLoggerNames read logger →
     (channels : List ChannelSpec) → AreDeclared channels logger.slots →
     (own : MainOwn) → (more : List EngineEntry) → ended.own ≡ own.engine ++ more → starts_begun more ≡ [] →
-    RecordsFit (length fronts) (channels_of channels) own r.runs →
+    RecordsFit (clients_declared fronts channels analyzers) own r.runs →
     IsTrue (read logger.first).seen.tells → NoneRose (read logger.first) (read logger.files) →
     (name : List ℕ) → IsInNoRecord r.runs name →
     (read logger.files).seen.at name ≡ (read logger.first).seen.at name

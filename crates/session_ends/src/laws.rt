@@ -4,6 +4,7 @@ ghost use Rattle.loggers.specs.Moments.{RunFiles};
 ghost use Rattle.session_ends.specs.EndedSessions.{EndsSo, HoldsSo};
 ghost use Rattle.session_ends.specs.EndedRecords.{ChannelsStay, CountsSo, RecordsSo, StartsSo, NamesSo};
 
+use buffer_lock::laws as buffers;
 use daq_io::Files;
 use odb_lock::{LockedDatabase, WatchedSeen};
 use odb_tree::Database;
@@ -18,7 +19,9 @@ pub fn members_end<D: Database, F: Files>(_kept: &SessionRecord<D>)
 where
     LockedDatabase<D>: Machine<State = WatchedSeen, Entry = WatchEntry>,
     ensures { EndsSo F.seen _kept.now }
-{}
+{
+    buffers::got_all();
+}
 
 /// So each run that the main thread made holds what its members told, and the files of other names are as they were.
 pub fn session_ended<D: Database, F: Files>(kept: &SessionRecord<D>)
@@ -36,6 +39,7 @@ where
     LockedDatabase<D>: Machine<State = WatchedSeen, Entry = WatchEntry>,
     ensures { (read : F → RunFiles) → CountsSo F.seen read _kept.now }
 {
+    buffers::got_all();
     closed::counts_tell();
 }
 

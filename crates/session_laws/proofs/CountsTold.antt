@@ -33,7 +33,7 @@ use Rattle.composition.specs.SessionRuns.{SessionRun, IsStoppedRun, ToldState}
 use Rattle.composition.specs.CompositionLaws.{IsComposed}
 use Rattle.composition.proofs.FilesTogether.{yes_channels}
 use Rattle.composition.proofs.SessionTurns.{speaks}
-use Rattle.session_laws.specs.ClosedSessions.{ClosedFront, ClosedSession, logger_client, logger_caller, engine_calls, session_of, session_front}
+use Rattle.session_laws.specs.ClosedSessions.{ClosedFront, ClosedSession, logger_client, logger_caller, engine_calls, session_of, session_front, ClosedAnalyzer, analyzer_client}
 use Rattle.session_laws.specs.MembersAtEnd.{MembersAtEnd}
 use Rattle.session_engine.specs.MadeTransitions.{TransitionIn}
 use Rattle.session_laws.specs.MadeRuns.{RunIn}
@@ -94,7 +94,12 @@ logger_refuses : CountLaws → (c : ClosedSession) (ends : MembersAtEnd c) (firs
 logger_refuses laws c ends first now reasons sheet start why tallies client is turn stands starts answered has =
     let same : client ≡ logger_client c = omega (arith, is) in
     let mine : HasTurn (member_turns (logger_client c) (engine_calls c (logger_caller c))) turn = subst (λ (k : ℕ). HasTurn (member_turns k (engine_calls c (logger_caller c))) turn) same stands in
-    inr (same, logger_reason laws c ends first now reasons why turn mine starts answered)
+    inr (inl (same, logger_reason laws c ends first now reasons why turn mine starts answered))
+
+reader_refuses : (c : ClosedSession) (first now : RunFiles) (sheet : Sheet) (start : ℕ) (why : Why) (tallies : List ClientTally) (place : ℕ) (a : ClosedAnalyzer) → slice_get c.analyzers place ≡ Some a → RefusesBy c first now sheet start why tallies (caller_of_client (analyzer_client c place))
+reader_refuses c first now sheet start why tallies place a at client is turn stands starts answered has =
+    let same : client ≡ analyzer_client c place = omega (arith, is) in
+    inr (inr (record { place = place; analyzer = a; stands = at; is = same }))
 
 other_refuses : (c : ClosedSession) (first now : RunFiles) (sheet : Sheet) (start : ℕ) (why : Why) (tallies : List ClientTally) (by : ℕ) → engine_calls c by ≡ [] → RefusesBy c first now sheet start why tallies by
 other_refuses c first now sheet start why tallies by none client is turn stands starts answered has =
@@ -109,6 +114,7 @@ refused_so laws c ends first now reasons sheet start client why tallies made =
     (main_refuses c first now sheet start why tallies)
     (λ n f at. front_refuses laws c ends first now sheet start why tallies n f at)
     (logger_refuses laws c ends first now reasons sheet start why tallies)
+    (λ place a at. reader_refuses c first now sheet start why tallies place a at)
     (λ by past. other_refuses c first now sheet start why tallies by (ends.others.engine by past))
     (caller_of_client client) client refl r.turn r.stands r.starts r.answered has
 
@@ -155,20 +161,11 @@ ended_so laws c ends first now reasons stays moments r made index channel at sta
 
 -- Names that were taken.
 
--- a start that was refused for a name was refused by the logger
-by_logger : (c : ClosedSession) (first now : RunFiles) (order : Order) (client number : ℕ) → IsRefusedSo c first now order client (Exists number) → client ≡ logger_client c
-by_logger c first now order client number so = elim so as (λ w. client ≡ logger_client c) [
-  | inl front ↦ absurd (let never : Exists number ≡ NotReady = front.why_is in cc (never))
-  | inr mine ↦ mine.0
-]
-
 taken_so : CountLaws → (c : ClosedSession) (ends : MembersAtEnd c) (first now : RunFiles) → LoggerReasons c ends first now → LoggerNames c ends first now → IsTrue first.seen.tells → NoneRose first now → AreStartsOver (engine_calls c main_caller)
-    → (sheet : Sheet) (start client number : ℕ) (tallies : List ClientTally) → TransitionIn (engine_calls c main_caller) Start sheet start (Refused client (Exists number)) tallies → IsTakenName c first.seen sheet.run start number
-taken_so laws c ends first now reasons names tells none over sheet start client number tallies made =
+    → (sheet : Sheet) (start number : ℕ) (tallies : List ClientTally) → TransitionIn (engine_calls c main_caller) Start sheet start (Refused (logger_client c) (Exists number)) tallies → IsTakenName c first.seen sheet.run start number
+taken_so laws c ends first now reasons names tells none over sheet start number tallies made =
     let n : ℕ = logger_client c in
-    let same : client ≡ n = by_logger c first now (order_for sheet start Stopped) client number (refused_so laws c ends first now reasons sheet start client (Exists number) tallies made) in
-    let mine : TransitionIn (engine_calls c main_caller) Start sheet start (Refused n (Exists number)) tallies = subst (λ (k : ℕ). TransitionIn (engine_calls c main_caller) Start sheet start (Refused k (Exists number)) tallies) same made in
-    let has : HasTransition c.engine Start sheet start (Refused n (Exists number)) tallies = has_made laws.main c.engine Start sheet start (Refused n (Exists number)) tallies ends.engine mine in
+    let has : HasTransition c.engine Start sheet start (Refused n (Exists number)) tallies = has_made laws.main c.engine Start sheet start (Refused n (Exists number)) tallies ends.engine made in
     let r = refused_turn laws c ends sheet start n (Exists number) tallies has in
     taken_name laws.undone laws.over c ends first now names tells none over r.turn r.stands r.starts number r.answered sheet.run start (ap (λ (o : Order). o.run) r.of_begin.order) (ap (λ (o : Order). o.start) r.of_begin.order)
 

@@ -4,6 +4,7 @@ pub mod MainFirst
 pub mod NoneTaken
 pub mod GotSent
 pub mod LoggerEnd
+pub mod ReadersEnd
 pub mod FrontsEnd
 pub mod KeptTogether
 pub mod RunsMade
@@ -12,5 +13,7 @@ pub mod UndoneNames
 pub mod LoggerRefusals
 pub mod TakenNames
 pub mod CountsTold
+pub mod ListedTold
+pub mod ReportsMade
 pub mod RecordsMade
 pub mod ChannelsSame

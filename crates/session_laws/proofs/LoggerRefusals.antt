@@ -43,7 +43,7 @@ never_in_run (u ∷ us) t unready last has starts answered = elim has as (λ w. 
 pub always_called : (c : ClosedSession) → MembersAtEnd c → IsAlwaysCalled c.engine (logger_client c)
 always_called c ends earlier later caller begun sheet start whole =
     let n : ℕ = logger_client c in
-    let m = logger_at c.fronts in (
+    let m = logger_at c.fronts c.analyzers in (
       registered c ends n m.0 m.1 Stop 800 (ap (λ (role : Role). sequence_for (sequences_of role) Stop) m.2) (λ client. []) earlier later caller begun sheet start whole,
       registered c ends n m.0 m.1 StartAbort 800 (ap (λ (role : Role). sequence_for (sequences_of role) StartAbort) m.2) (λ client. []) earlier later caller begun sheet start whole,
     )

@@ -23,7 +23,7 @@ use Rattle.loggers.specs.NewLoggers.{NoneTakenBack}
 use Rattle.loggers.specs.Reasons.{IsRefusedAsk, GivesReasons}
 use Rattle.loggers.specs.LeftNames.{NoneRose, KeepsNames}
 use Rattle.composition.specs.SessionRuns.{SessionRun, ToldState}
-use Rattle.session_laws.specs.ClosedSessions.{ClosedFront, ClosedSession, logger_client, logger_caller, engine_calls, calls_on_buffer, session_of}
+use Rattle.session_laws.specs.ClosedSessions.{ClosedFront, ClosedSession, logger_client, logger_caller, engine_calls, calls_on_buffer, session_of, ClosedAnalyzer, analyzer_client}
 use Rattle.session_laws.specs.MembersAtEnd.{MembersAtEnd}
 use Rattle.session_engine.specs.MadeTransitions.{TransitionIn}
 use Rattle.session_laws.specs.MadeRuns.{RunIn}
@@ -63,10 +63,17 @@ IsLoggerReason c (Exists channel) first now = Rose first.clashes now.clashes
 IsLoggerReason c (Fault channel) first now = Rose first.faults now.faults
 IsLoggerReason c BufferRefused first now = WasRefusedAsk c
 
--- A start with this order was refused by this client for this reason: by a front-end, or by the logger.
+-- The client is an analyzer.
+pub record IsReaderRefusal (c : ClosedSession) (client : ℕ) : Type 0 where
+  pub place : ℕ
+  pub analyzer : ClosedAnalyzer
+  pub stands : slice_get c.analyzers place ≡ Some analyzer
+  pub is : client ≡ analyzer_client c place
+
+-- A start with this order was refused by this client for this reason: by a front-end, by the logger, or by an analyzer.
 abbrev pub IsRefusedSo : ClosedSession → (first now : RunFiles) → Order → (client : ℕ) → Why → Type 0
 IsRefusedSo c first now order client why =
-    IsFrontRefusal c order client why ⊎ ((client ≡ logger_client c) × IsLoggerReason c why first now)
+    IsFrontRefusal c order client why ⊎ (((client ≡ logger_client c) × IsLoggerReason c why first now) ⊎ IsReaderRefusal c client)
 
 -- how the file of a channel ends that did not break off, where the stop's sheet has this dump
 abbrev pub state_by_dump : (dump : Option (List ℕ)) → ChannelState
@@ -98,8 +105,8 @@ pub record CountsHold (c : ClosedSession) (first now : RunFiles) : Type 0 where
   pub kept : IsTrue first.seen.tells → NoneRose first now → (name : List ℕ) → (file : Stored) →
       first.seen.at name ≡ Some file → now.seen.at name ≡ Some file
   pub taken : IsTrue first.seen.tells → NoneRose first now → AreStartsOver (engine_calls c main_caller) →
-      (sheet : Sheet) → (start client number : ℕ) → (tallies : List ClientTally) →
-      TransitionIn (engine_calls c main_caller) Start sheet start (Refused client (Exists number)) tallies →
+      (sheet : Sheet) → (start number : ℕ) → (tallies : List ClientTally) →
+      TransitionIn (engine_calls c main_caller) Start sheet start (Refused (logger_client c) (Exists number)) tallies →
       IsTakenName c first.seen sheet.run start number
 
 -- So it is with a closed session, by what the logger's answers rest on and by the names that it left.

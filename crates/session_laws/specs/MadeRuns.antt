@@ -8,8 +8,9 @@ use Rattle.daq_types.specs.declared.runs.Transition.TheVariants.{Start, Stop}
 use Rattle.transitions.specs.declared.entry.EngineEntry.{EngineEntry}
 use Rattle.member_model.specs.LoggerKept.{LoggerChannel, IsStateSo}
 use Rattle.session_engine.specs.MadeTransitions.{TransitionIn}
-use Rattle.composition.specs.Sessions.{Session, SessionFront, HasFront, buffer_calls}
-use Rattle.composition.specs.SessionRuns.{SessionRun, IsStoppedRun, TellsFront, FrontSent, SetAtStop, ToldState, HoldsRunFile, HoldsFilePart}
+use Rattle.event_report.specs.Reports.{Totals, report_of}
+use Rattle.composition.specs.Sessions.{Session, SessionAnalyzer, SessionFront, HasAnalyzer, HasFront, buffer_calls}
+use Rattle.composition.specs.SessionRuns.{SessionRun, IsStoppedRun, TellsFront, FrontSent, SetAtStop, ToldState, HoldsRunFile, HoldsFilePart, TellsTotals, ReportsRun, SawThrough, analyzer_events}
 
 -- A run stands among these calls: its start, which was not refused, and a stop with its start number.
 pub record RunIn (own : List EngineEntry) (r : SessionRun) : Type 0 where
@@ -39,8 +40,21 @@ pub record ChannelHolds (s : Session) (r : SessionRun) (channel : LoggerChannel)
   pub so : IsStateSo (buffer_calls s channel.buffer s.logger) r.start r.last.dump state
   pub file : IsFileSo state s r channel
 
--- The run was not refused, and was stopped; and what holds of it in each front-end and each channel.
+-- The report is so of the run: it is that of the events of the run that the analyzer's client got, from the request of the run's
+-- start until it was drained; and where the analyzer saw the run through, it is that of all events of the run that it asks for.
+pub record ReportIsSo (s : Session) (r : SessionRun) (a : SessionAnalyzer) (report : Totals) : Type 0 where
+  pub told : ReportsRun s r a report
+  pub whole : SawThrough s r a report told → report ≡ report_of (analyzer_events s r a)
+
+-- An analyzer in the run: it told a report at the stop, and that is so.
+pub record AnalyzerHolds (s : Session) (r : SessionRun) (a : SessionAnalyzer) : Type 0 where
+  pub report : Totals
+  pub tells : TellsTotals r a.client report
+  pub so : ReportIsSo s r a report
+
+-- The run was not refused, and was stopped; and what holds of it in each front-end, each channel, and each analyzer.
 pub record RunHolds (s : Session) (r : SessionRun) : Type 0 where
   pub stopped : IsStoppedRun s r
   pub fronts : (f : SessionFront) → HasFront s f → FrontHolds s r f
   pub channels : (index : ℕ) → (channel : LoggerChannel) → slice_get s.channels index ≡ Some channel → ChannelHolds s r channel
+  pub analyzers : (a : SessionAnalyzer) → HasAnalyzer s a → AnalyzerHolds s r a

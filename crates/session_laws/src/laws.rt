@@ -4,6 +4,7 @@ ghost use Rattle.session_laws.specs.CountedFaults.{CountsTell};
 ghost use Rattle.session_laws.specs.RecordedRuns.{ChannelsAgree, RecordsHold};
 ghost use Rattle.session_laws.specs.EndLaws.{EndsKeep, EndsComposed, MadeAreStopped, StoppedHold, OtherNamesStay, EndsHold};
 
+use analyzer_seats::laws as seats;
 use buffer_lock::laws as buffers;
 use caller_laws::laws as callers;
 use composition::laws as sessions;
@@ -22,6 +23,7 @@ pub fn members_keep()
     buffers::got_all();
     loggers_laws::logger_keeps();
     members::front_keeps();
+    seats::analyzers_keep();
 }
 
 /// So all that the law of composition says is so of a closed session.
@@ -41,8 +43,9 @@ pub fn made_are_stopped()
 }
 
 /// Of a run that was not refused and was stopped: each front-end sent what it told at the stop, the first events of its
-/// equipment, and set that number in the database; and what was told of each channel is so: the file of one that ended is the
-/// run file of all events of the run that it asks for, that of one that broke off a part of it.
+/// equipment, and set that number in the database; what was told of each channel is so: the file of one that ended is the run
+/// file of all events of the run that it asks for, that of one that broke off a part of it; and each analyzer told a report, which
+/// is that of the events of the run that its client got.
 pub fn stopped_hold()
     ensures { StoppedHold }
 {}

@@ -1,7 +1,7 @@
 -- Where a session stands between two lines of its script, by what its main thread did.
 use Rattle.std.specs.Prelude.{ℕ, List, [], ◌∷◌, ◌++◌, map, Option, Some, None}
 use Rattle.std.specs.Option.{option_map}
-use Rattle.run_states.specs.declared.sequences.Role.TheVariants.{FrontEnd, Logger}
+use Rattle.run_states.specs.declared.sequences.Role.TheVariants.{FrontEnd, Logger, Analyzer}
 use Rattle.mid_logger.specs.ChannelTurns.{logger_name}
 use Rattle.transition_lock.specs.declared.shared.SharedEngine.{SharedEngine}
 use Rattle.odb_port.specs.DatabasePorts.{DatabaseAccess}
@@ -63,15 +63,22 @@ runs_with_quota count runs = record runs { quota = count }
 abbrev pub with_quota : ℕ → Stage → Stage
 with_quota count s = record s { quota = count; runs = option_map (runs_with_quota count) s.runs }
 
--- how the members of a session with these front-ends are registered: the front-ends in order, and then the logger
-abbrev pub members_named : (fronts : List (List ℕ)) → List MemberName
-members_named fronts = map (λ (name : List ℕ). record { name = name; role = FrontEnd }) fronts ++ record { name = logger_name; role = Logger } ∷ []
+-- how the members of a session with these front-ends and analyzers are registered: the front-ends in order, then the logger,
+-- and then the analyzers in order
+abbrev pub members_named : (fronts analyzers : List (List ℕ)) → List MemberName
+members_named fronts analyzers =
+    map (λ (name : List ℕ). record { name = name; role = FrontEnd }) fronts
+    ++ record { name = logger_name; role = Logger } ∷ map (λ (name : List ℕ). record { name = name; role = Analyzer }) analyzers
 
 -- the names of the declared front-ends
 abbrev pub front_names : Declared → List (List ℕ)
 front_names d = map (λ front. front.name) d.fronts
 
--- what the main thread keeps as a session opens: no run yet, the front-ends and channels as they were declared, and the
+-- the names of the declared analyzers
+abbrev pub analyzer_names : Declared → List (List ℕ)
+analyzer_names d = map (λ analyzer. analyzer.name) d.analyzers
+
+-- what the main thread keeps as a session opens: no run yet, the front-ends, channels and analyzers as they were declared, and the
 -- engine, on which it registered the members
 abbrev pub opened_runs : (quota : ℕ) → Declared → SharedEngine → RunsSeen
 opened_runs quota d engine = record {
@@ -79,6 +86,7 @@ opened_runs quota d engine = record {
   runs = [];
   fronts = front_names d;
   channels = channels_of d.channels;
+  analyzers = analyzer_names d;
   on = None;
-  main = record { engine = engine; own = registrations 0 (members_named (front_names d)) };
+  main = record { engine = engine; own = registrations 0 (members_named (front_names d) (analyzer_names d)) };
 }

@@ -1,8 +1,11 @@
 //! What the replies to worked scripts print, and which of their lines are refused.
 use crate::{Refusals, Reply};
 use daq_text::TextBuffer;
-use daq_types::{BoundedList, ChannelState, FileName, Name, NameRefusal, NoMemory, RunState, Why};
-use run_records::{FileRecord, SentLine};
+use daq_types::{
+    BoundedList, Bytes, ChannelState, FileName, Name, NameRefusal, NoMemory, RunState, Why,
+};
+use event_report::Report;
+use run_records::{FileRecord, ReportLine, SentLine};
 use session_setup::SetupRefusal;
 use std::alloc::{AllocGlobal, Global};
 use std::process::Abort;
@@ -37,6 +40,24 @@ fn stopped<R: Abort + AllocGlobal>(
         run: 1,
         fronts: lines,
         files,
+        reports: BoundedList::new(alloc)?,
+    })
+}
+
+/// The end of run 2, in which the analyzer ANA got no event.
+fn analyzed(alloc: Global) -> Result<Reply, NoMemory> {
+    let mut start = Vec::new(alloc);
+    start.extend_from_slice(b"ANA ")?;
+    let mut reports = BoundedList::new(alloc)?;
+    reports.try_push(ReportLine {
+        start: Bytes::of(start),
+        report: Report::new(alloc)?,
+    })?;
+    Ok(Reply::Stopped {
+        run: 2,
+        fronts: BoundedList::new(alloc)?,
+        files: BoundedList::new(alloc)?,
+        reports,
     })
 }
 
@@ -60,6 +81,8 @@ fn ends_of_runs(rt: HostRuntime) -> Result<(), Fail> {
     let broken = stopped(&rt, &[("FE", 3)], ChannelState::Broken)?;
     let wanted = "run 1 stopped\nFE sent 3\nrun00001.mid Broken\n";
     assert!(rt; prints(alloc, 3, &broken, wanted)?);
+    let wanted = "run 2 stopped\nANA events 0\nANA rest ids 0 banks 0 bad 0\n";
+    assert!(rt; prints(alloc, 9, &analyzed(alloc)?, wanted)?);
     Ok(())
 }
 

@@ -1,4 +1,5 @@
-//! What a script declares before the first start of its session: buffers, front-ends and the channels of the logger.
+//! What a script declares before the first start of its session: buffers, front-ends, the channels of the
+//! logger, and analyzers.
 #![tactic(auto)]
 
 mod checks;
@@ -10,5 +11,5 @@ mod refusals;
 mod tests;
 
 pub use declarations::Declarations;
-pub use declared::{BufferDeclared, DeclaredLists, FrontDeclared};
+pub use declared::{AnalyzerDeclared, BufferDeclared, DeclaredLists, FrontDeclared};
 pub use refusals::SetupRefusal;

@@ -1,5 +1,5 @@
 use crate::{Declarations, SetupRefusal};
-use daq_types::NameRefusal;
+use daq_types::{Kind, NameRefusal};
 
 /// The answer to `buffer NAME SIZE`.
 fn buffer(session: &mut Declarations, name: &str, size: u32) -> Option<SetupRefusal> {
@@ -22,6 +22,13 @@ fn channel(
 ) -> Option<SetupRefusal> {
     session
         .channel(number, pattern.as_bytes(), buffer.as_bytes(), 65535, 65535)
+        .err()
+}
+
+/// The answer to `analyzer NAME BUFFER 65535 65535 all`.
+fn analyzer(session: &mut Declarations, name: &str, buffer: &str) -> Option<SetupRefusal> {
+    session
+        .analyzer(name.as_bytes(), buffer.as_bytes(), 65535, 65535, Kind::All)
         .err()
 }
 
@@ -134,6 +141,41 @@ fn channels_are_refused_in_order(rt: HostRuntime) {
 }
 
 #[test]
+fn analyzers_are_refused_in_order(rt: HostRuntime) {
+    let mut session = Declarations::new(rt.alloc()).expect(&rt, "memory");
+    assert!(rt;
+        equip(&mut session, "FE", 1, "SYSTEM").is_none(),
+        "a front-end"
+    );
+    for (name, from, expected) in [
+        (
+            "A/B",
+            "NONE",
+            Some(SetupRefusal::BadName(NameRefusal::BadByte { at: 1 })),
+        ),
+        ("logger", "NONE", Some(SetupRefusal::SameName)),
+        ("fe", "NONE", Some(SetupRefusal::SameName)),
+        ("A", "NONE", Some(SetupRefusal::NoBuffer)),
+        ("A", "system", None),
+        ("a", "NONE", Some(SetupRefusal::SameName)),
+        ("B", "SYSTEM", None),
+        ("C", "SYSTEM", None),
+        ("D", "SYSTEM", None),
+        ("E", "SYSTEM", None),
+        ("F", "SYSTEM", None),
+        ("G", "SYSTEM", None),
+        ("H", "SYSTEM", None),
+        ("I", "SYSTEM", Some(SetupRefusal::TooMany { most: 8 })),
+    ] {
+        let answer = analyzer(&mut session, name, from);
+        assert!(rt; answer == expected, "analyzer {name} {from}: {answer:?}");
+    }
+    assert!(rt; session.analyzers().len() == 8, "eight analyzers");
+    let answer = equip(&mut session, "a", 2, "SYSTEM");
+    assert!(rt; answer == Some(SetupRefusal::SameName), "{answer:?}");
+}
+
+#[test]
 fn an_opened_session_declares_no_more(rt: HostRuntime) {
     let mut session = Declarations::new(rt.alloc()).expect(&rt, "memory");
     session.open();
@@ -142,6 +184,7 @@ fn an_opened_session_declares_no_more(rt: HostRuntime) {
         buffer(&mut session, "", 0),
         equip(&mut session, "", 0, "NONE"),
         channel(&mut session, 16, "run.mid", "NONE"),
+        analyzer(&mut session, "", "NONE"),
     ];
     for answer in answers {
         assert!(rt; answer == Some(SetupRefusal::Opened), "{answer:?}");

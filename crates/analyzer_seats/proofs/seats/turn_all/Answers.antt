@@ -1,6 +1,5 @@
 use Rattle.std.specs.Prelude.{◌≡◌, length}
-use Rattle.std.proofs.Common.{arith, refl, subst}
-use Rattle.analyzer_seats.specs.ManyAnalyzers.{TurnAnalyzers}
+use Rattle.std.proofs.Common.{arith, refl}
 use Rattle.analyzer_seats.proofs.ManyLaws.{same_analyzers, one_analyzer, analyzers_then, turn_more}
 use Rattle.analyzer_seats.proofs.seats.turn_all.Goals as goal
 

@@ -1,5 +1,4 @@
 -- So far the analyzers below the place took their turns.
-use Rattle.std.specs.Prelude.{◌≡◌, length}
 use Rattle.analyzer_seats.specs.ManyAnalyzers.{TurnAnalyzers, AreSameAnalyzers}
 use Rattle.analyzer_seats.proofs.seats.turn_all.Given as goal
 
