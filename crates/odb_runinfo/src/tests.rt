@@ -1,12 +1,8 @@
-//! The database of a new session, and what starts and stops set in it.
+//! The database of a new session, the number of the next run, and the front-end's key.
 ghost use Rattle.std.specs.Prelude.{◌≡◌, IfOk};
 ghost use Rattle.daq_types.specs.Callers.{main_caller};
 
-use crate::{
-    KeyPaths, RunKey, RunNumber, RunPaths, START_CALLS, STOP_CALLS, StoppingPaths, next_run, open,
-    open_front, sent_path, set_refused, set_running, set_sent, set_start, set_stopped,
-    set_stopping,
-};
+use crate::{KeyPaths, RunKey, RunNumber, next_run, open, open_front, sent_path};
 use daq_types::{Caller, Name, NoMemory, Tid};
 use odb_journal::LocalDatabase;
 use odb_path::Path;
@@ -48,78 +44,6 @@ fn open_once<R: Wait>(
     let opened = open_front(rt, alloc, port, front_end());
     port.set_caller(Caller::MAIN);
     opened
-}
-
-/// Says that the front-end sent so many events.
-fn send_once<R: Wait>(
-    rt: &R,
-    alloc: Global,
-    port: &mut LocalAccess<PlainTree>,
-    sent: u32,
-) -> Result<(), NoMemory> {
-    let front = front_end();
-    let path = sent_path(alloc, front)?;
-    port.reserve(1)?;
-    port.set_caller(Caller::of_client(0));
-    set_sent(rt, alloc, port, front, path, sent);
-    port.set_caller(Caller::MAIN);
-    Ok(())
-}
-
-/// Starts a run.
-fn start_once<R: Wait>(
-    rt: &R,
-    alloc: Global,
-    port: &mut LocalAccess<PlainTree>,
-    run: u16,
-) -> Result<(), NoMemory> {
-    let start = KeyPaths::new(alloc)?;
-    let state = RunKey::State.path(alloc)?;
-    port.reserve(START_CALLS)?;
-    set_start(rt, alloc, port, start, run as u32, 1000);
-    set_running(rt, alloc, port, state);
-    Ok(())
-}
-
-/// Stops a run.
-fn stop_once<R: Wait>(
-    rt: &R,
-    alloc: Global,
-    port: &mut LocalAccess<PlainTree>,
-) -> Result<(), NoMemory> {
-    let stopping = StoppingPaths::new(alloc)?;
-    let state = RunKey::State.path(alloc)?;
-    port.reserve(STOP_CALLS)?;
-    set_stopping(rt, alloc, port, stopping, 1010);
-    set_stopped(rt, alloc, port, state);
-    Ok(())
-}
-
-/// Starts and stops a run in which the front-end sends 5 events.
-fn run_once<R: Wait>(
-    rt: &R,
-    alloc: Global,
-    port: &mut LocalAccess<PlainTree>,
-    run: u16,
-) -> Result<(), NoMemory> {
-    start_once(rt, alloc, port, run)?;
-    send_once(rt, alloc, port, 0)?;
-    send_once(rt, alloc, port, 5)?;
-    stop_once(rt, alloc, port)
-}
-
-/// Refuses the start of a run.
-fn refuse_once<R: Wait>(
-    rt: &R,
-    alloc: Global,
-    port: &mut LocalAccess<PlainTree>,
-    run: u16,
-) -> Result<(), NoMemory> {
-    let RunPaths { start, refused, .. } = RunPaths::new(alloc, front_end())?;
-    port.reserve(START_CALLS)?;
-    set_start(rt, alloc, port, start, run as u32 + 1, 1000);
-    set_refused(rt, alloc, port, refused, run as u32 + 1);
-    Ok(())
 }
 
 /// The number of the next run.
@@ -191,31 +115,20 @@ fn sent(alloc: Global, tree: &PlainTree) -> Result<u64, Fail> {
 }
 
 #[test]
-fn the_first_run(rt: HostRuntime) -> Result<(), Fail> {
-    let alloc = rt.alloc();
-    let mut port = session_port(alloc)?;
-    open_once(&rt, alloc, &mut port)?;
-    run_once(&rt, alloc, &mut port, 1)?;
-    let (tree, journal) = port.into_database().into_parts();
-    assert_eq!(rt; journal.len(), 11);
-    assert_eq!(rt; parameter(alloc, &tree, RunKey::State)?, 1);
-    assert_eq!(rt; parameter(alloc, &tree, RunKey::RunNumber)?, 1);
-    assert_eq!(rt; parameter(alloc, &tree, RunKey::StartTime)?, 1000);
-    assert_eq!(rt; parameter(alloc, &tree, RunKey::StopTime)?, 1010);
-    assert_eq!(rt; sent(alloc, &tree)?, 5);
-    Ok(())
-}
-
-#[test]
-fn the_next_run(rt: HostRuntime) -> Result<(), Fail> {
+fn a_new_session(rt: HostRuntime) -> Result<(), Fail> {
     let alloc = rt.alloc();
     let mut port = session_port(alloc)?;
     open_once(&rt, alloc, &mut port)?;
     assert_eq!(rt; next_once(&rt, alloc, &mut port)?, Ok(1));
-    run_once(&rt, alloc, &mut port, 1)?;
+    number_is(&rt, alloc, &mut port, 1)?;
     assert_eq!(rt; next_once(&rt, alloc, &mut port)?, Ok(2));
-    refuse_once(&rt, alloc, &mut port, 1)?;
-    assert_eq!(rt; next_once(&rt, alloc, &mut port)?, Ok(2));
+    let (tree, journal) = port.into_database().into_parts();
+    assert_eq!(rt; journal.len(), 4);
+    assert_eq!(rt; parameter(alloc, &tree, RunKey::State)?, 1);
+    assert_eq!(rt; parameter(alloc, &tree, RunKey::RunNumber)?, 1);
+    assert_eq!(rt; parameter(alloc, &tree, RunKey::StartTime)?, 0);
+    assert_eq!(rt; parameter(alloc, &tree, RunKey::StopTime)?, 0);
+    assert_eq!(rt; sent(alloc, &tree)?, 0);
     Ok(())
 }
 
@@ -260,10 +173,9 @@ fn a_value_stands_in_the_place_of_the_front_end(rt: HostRuntime) -> Result<(), F
     let mut port = session_port(alloc)?;
     make_key(&rt, alloc, &mut port, b"/Equipment/FE")?;
     open_once(&rt, alloc, &mut port)?;
-    send_once(&rt, alloc, &mut port, 0)?;
     let (_, journal) = port.into_database().into_parts();
     let entries = journal.as_slice();
-    assert_eq!(rt; entries.len(), 3);
+    assert_eq!(rt; entries.len(), 2);
     let (_, opened) = &entries[1];
     assert!(rt;
         matches!(
@@ -274,27 +186,21 @@ fn a_value_stands_in_the_place_of_the_front_end(rt: HostRuntime) -> Result<(), F
             }
         )
     );
-    let (caller, sent) = &entries[2];
-    assert_eq!(rt; *caller, 1);
-    assert!(rt;
-        matches!(
-            sent,
-            DatabaseEntry::Set {
-                reply: Err(OdbRefusal::NotDir),
-                ..
-            }
-        )
-    );
     Ok(())
 }
 
 #[test]
-fn path_of_the_events_sent(rt: HostRuntime) -> Result<(), Fail> {
+fn paths_of_the_parameters(rt: HostRuntime) -> Result<(), Fail> {
     let alloc = rt.alloc();
     let path = sent_path(alloc, front_end())?;
     let names = path.names();
     assert_eq!(rt; names.len(), 3);
     assert_eq!(rt; names[0].as_slice(), b"Equipment".as_slice());
     assert_eq!(rt; names[2].as_slice(), b"Events sent".as_slice());
+    let paths = KeyPaths::new(alloc)?;
+    assert_eq!(rt;
+        paths.stop_time.names()[1].as_slice(),
+        b"Stop time binary".as_slice()
+    );
     Ok(())
 }
