@@ -14,6 +14,3 @@ pub use banks::{Bank, Banks};
 pub use faults::{BankFault, BankRefusal};
 pub use formats::Format;
 pub use writer::{BankWriter, MAX_AREA};
-
-#[cfg(test)]
-mod tests;

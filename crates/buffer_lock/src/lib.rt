@@ -11,6 +11,3 @@ pub use locked::{Locked, WindowSeen};
 pub use port::SharedPort;
 pub use shared::{BufferClosed, BufferNote, BufferPass, BufferPasses, SharedBuffer};
 pub use tries::TrySend;
-
-#[cfg(test)]
-mod tests;

@@ -2,4 +2,12 @@
 #![tactic(auto)]
 
 #[cfg(test)]
+mod bytes;
+#[cfg(test)]
+mod counted;
+#[cfg(test)]
+mod pointers;
+#[cfg(test)]
+mod ports;
+#[cfg(test)]
 mod tests;

@@ -2,4 +2,6 @@
 #![tactic(auto)]
 
 #[cfg(test)]
+mod patterns;
+#[cfg(test)]
 mod tests;

@@ -5,8 +5,6 @@ mod direct;
 mod forms;
 pub mod laws;
 mod reader;
-#[cfg(test)]
-mod tests;
 
 pub use forms::{Form, Tool, ToolCall};
 pub use reader::form_of;

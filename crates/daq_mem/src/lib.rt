@@ -13,6 +13,3 @@ pub use choices::{MemClock, MemPick, NoGate};
 pub use files::MemFiles;
 pub use plans::{FileFail, FileOp};
 pub use streams::{MemSink, MemSource};
-
-#[cfg(test)]
-mod tests;

@@ -12,6 +12,3 @@ pub use head::{HEADER_BYTES, Header, MAX_DATA, Short, read_header, slot_len, wri
 pub use pieces::read_full;
 pub use room::append_within;
 pub use writer::DataWriter;
-
-#[cfg(test)]
-mod tests;

@@ -4,6 +4,3 @@
 mod generator;
 
 pub use generator::{EVENT_ROOM, Generator};
-
-#[cfg(test)]
-mod tests;

@@ -7,6 +7,3 @@ mod port;
 
 pub use journal::{BufferJournal, NotedCall};
 pub use local::LocalPort;
-
-#[cfg(test)]
-mod tests;

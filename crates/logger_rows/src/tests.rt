@@ -1,15 +1,200 @@
-use crate::answers::{
-    count_of, is_broken, is_dropped, is_fault_at, is_nothing, is_plain, is_written, name_of,
-    taken_by,
-};
+//! The rows, each a logger with the calls on it and what comes of them.
+
+use crate::answers::{Told, name_of, read_answer};
 use crate::fixture::Fixture;
-use daq_io::Files;
 use daq_mem::{FileFail, FileOp, MemFiles};
-use daq_types::{ChannelState, RunState};
+use daq_types::RunState;
+use mid_logger::Pulled;
 use std::alloc::Global;
 use std::process::Abort;
 use std::sync::Wait;
 use std::test::Fail;
+
+/// A call, and what it must come to.
+#[derive(Clone, Copy)]
+enum Step {
+    Start(Told),
+    Pause(Told),
+    /// Of a run in this state.
+    Stop(RunState, Told),
+    TakeBack(Told),
+    /// The answer to the stop.
+    Finish(Told),
+    /// An event of so many bytes into a buffer, in the run with this start number.
+    Send(usize, u32, usize),
+    /// The run with this start number begins in a buffer.
+    Begin(usize, u32),
+    /// One pull on a channel.
+    Pull(u32, Pulled),
+    /// Three pulls on each channel: how many events are written.
+    PullAll(usize),
+    /// How many of the channels' files there are.
+    Files(usize),
+    /// How many bytes the closed file of a channel has.
+    Closed(u32, usize),
+    /// Whether a call on the files failed.
+    Failed(bool),
+}
+
+use Pulled::{Broke, Dropped, Nothing, Wrote};
+use RunState::{Paused, Running};
+use Step::{
+    Begin, Closed, Failed, Files, Finish, Pause, Pull, PullAll, Send, Start, Stop, TakeBack,
+};
+use Told::{Ended, Fault, Plain, Taken, Waits};
+
+/// 189 bytes of each record, and 18 of the event. Channels 7 and 15 read buffer 7.
+const SIXTEEN: [Step; 9] = [
+    Start(Plain),
+    Send(7, 1, 2),
+    Stop(Running, Waits),
+    Finish(Waits),
+    PullAll(2),
+    Finish(Ended(16, 0)),
+    Closed(0, 378),
+    Closed(15, 396),
+    Failed(false),
+];
+
+const TAKEN: [Step; 4] = [Start(Taken(2)), Files(1), Closed(2, 0), TakeBack(Plain)];
+
+/// The first buffer has room for an event that no other has.
+const LARGE: [Step; 8] = [
+    Start(Plain),
+    Send(0, 1, 1000),
+    Send(1, 1, 2),
+    Stop(Running, Waits),
+    PullAll(2),
+    Finish(Ended(2, 0)),
+    Closed(0, 1394),
+    Closed(1, 396),
+];
+
+/// The event that was sent in the pause was refused by the buffer.
+const PAUSED: [Step; 8] = [
+    Start(Plain),
+    Send(0, 1, 2),
+    Pause(Plain),
+    Send(0, 1, 2),
+    Stop(Paused, Waits),
+    PullAll(1),
+    Finish(Ended(1, 0)),
+    Closed(0, 396),
+];
+
+/// Another has begun the next run in the buffer, and sends in it.
+const BEHIND: [Step; 11] = [
+    Start(Plain),
+    Send(0, 1, 2),
+    Stop(Running, Waits),
+    Begin(0, 2),
+    Send(0, 2, 2),
+    Pull(0, Wrote { place: 0 }),
+    Finish(Waits),
+    Pull(0, Dropped { place: 1 }),
+    Pull(0, Nothing),
+    Finish(Ended(1, 0)),
+    Closed(0, 396),
+];
+
+const BROKEN: [Step; 8] = [
+    Start(Plain),
+    Send(0, 1, 2),
+    Pull(0, Broke),
+    Send(0, 1, 2),
+    Pull(0, Nothing),
+    Closed(0, 189),
+    Stop(Running, Waits),
+    Finish(Ended(0, 1)),
+];
+
+/// A fault at a start of two channels: no file is left.
+const FAULT_AT_0: [Step; 3] = [Start(Fault(0)), Files(0), Failed(true)];
+
+const FAULT_AT_1: [Step; 3] = [Start(Fault(1)), Files(0), Failed(true)];
+
+/// A fault behind the event.
+const LATE: [Step; 7] = [
+    Start(Plain),
+    Send(0, 1, 2),
+    Stop(Running, Waits),
+    PullAll(1),
+    Finish(Ended(0, 1)),
+    Files(1),
+    Failed(true),
+];
+
+/// The third channel's name is taken, and a file of the first two is not removed.
+const LEFT: [Step; 3] = [Start(Taken(2)), Files(2), Failed(true)];
+
+/// The bytes of the events' data.
+const DATA: [u8; 1000] = [7; 1000];
+
+/// How many files of the first channels there are.
+fn count_files(alloc: Global, row: &Fixture, channels: u32) -> Result<usize, Fail> {
+    let mut count = 0;
+    for channel in 0..channels {
+        if row.has_file(&name_of(alloc, channel)?) {
+            count = usize::wrapping_add(count, 1);
+        }
+    }
+    Ok(count)
+}
+
+/// How many events three pulls on each channel write.
+fn pull_each<R: Abort + Wait>(rt: &R, row: &mut Fixture, channels: u32) -> usize {
+    let mut wrote = 0;
+    for channel in 0..channels {
+        wrote = usize::wrapping_add(wrote, row.pull_all(rt, channel, 3));
+    }
+    wrote
+}
+
+/// Makes a call on a logger of so many channels, and answers whether it came to what it must.
+fn is_right<R: Abort + Wait>(
+    rt: &R,
+    alloc: Global,
+    row: &mut Fixture,
+    channels: u32,
+    step: Step,
+) -> Result<bool, Fail> {
+    match step {
+        Start(wanted) => Ok(read_answer(&row.start(rt, alloc)) == wanted),
+        Pause(wanted) => Ok(read_answer(&row.pause(rt, alloc)) == wanted),
+        Stop(from, wanted) => Ok(read_answer(&row.stop(rt, alloc, from)) == wanted),
+        TakeBack(wanted) => Ok(read_answer(&row.take_back(rt, alloc)) == wanted),
+        Finish(wanted) => Ok(read_answer(&row.finish()) == wanted),
+        Send(buffer, start, len) => {
+            let (body, _) = DATA.split_at(len.min(1000));
+            row.send(rt, buffer, start, body);
+            Ok(true)
+        }
+        Begin(buffer, start) => {
+            row.begin(rt, buffer, start);
+            Ok(true)
+        }
+        Pull(channel, wanted) => Ok(row.pull(rt, channel) == wanted),
+        PullAll(wrote) => Ok(pull_each(rt, row, channels) == wrote),
+        Files(count) => Ok(count_files(alloc, row, channels)? == count),
+        Closed(channel, len) => Ok(row.closed_bytes(&name_of(alloc, channel)?) == Some(len)),
+        Failed(failed) => Ok(row.failed() == failed),
+    }
+}
+
+/// Makes the calls on a logger of so many channels on so many buffers over these files.
+fn play<R: Abort + Wait>(
+    rt: &R,
+    alloc: Global,
+    (channels, buffers): (u32, u32),
+    files: MemFiles,
+    steps: &[Step],
+) -> Result<(), Fail> {
+    let mut row = Fixture::new(alloc, channels.min(16), buffers.max(1), files)?;
+    for step in steps {
+        assert!(rt; is_right(rt, alloc, &mut row, channels, *step)?);
+    }
+    Ok(())
+}
 
 /// Files of which no call fails.
 fn sound_files(alloc: Global) -> Result<MemFiles, Fail> {
@@ -22,195 +207,49 @@ fn failing_files(alloc: Global, op: FileOp, call: u64) -> Result<MemFiles, Fail>
     Ok(MemFiles::new(alloc, 16, 4096, fails)?)
 }
 
-#[test]
-fn sixteen_channels_on_eight_buffers(rt: HostRuntime) -> Result<(), Fail> {
-    let alloc = rt.alloc();
-    let mut row = Fixture::new(alloc, 16, 8, sound_files(alloc)?)?;
-    assert!(rt; is_plain(&row.start(&rt, alloc)));
-    row.send(&rt, 7, 1, b"ab");
-    assert!(rt; row.stop(&rt, alloc, RunState::Running).is_none());
-    assert!(rt; row.finish().is_none());
-    let mut wrote = 0;
-    for channel in 0..16 {
-        wrote = usize::wrapping_add(wrote, row.pull_all(&rt, channel, 2));
-    }
-    // Channels 7 and 15 read buffer 7.
-    assert_eq!(rt; wrote, 2);
-    let told = row.finish();
-    assert_eq!(rt; count_of(&told, ChannelState::Ended), 16);
-    // 189 bytes of each record, and 18 of the event.
-    assert_eq!(rt; row.closed_bytes(&name_of(alloc, 0)?), Some(378));
-    assert_eq!(rt; row.closed_bytes(&name_of(alloc, 7)?), Some(396));
-    assert_eq!(rt; row.closed_bytes(&name_of(alloc, 15)?), Some(396));
-    assert!(rt; !row.failed());
-    Ok(())
-}
-
-#[test]
-fn a_name_taken_in_the_third_channel(rt: HostRuntime) -> Result<(), Fail> {
-    let alloc = rt.alloc();
-    let mut files = sound_files(alloc)?;
+/// The files, in which the name of the third channel is taken.
+fn with_third<F: daq_io::Files + Drop>(alloc: Global, mut files: F) -> Result<F, Fail> {
     let third = files.create(&name_of(alloc, 2)?)?;
     let _ = files.close(third);
-    let mut row = Fixture::new(alloc, 4, 2, files)?;
-    let started = row.start(&rt, alloc);
-    assert_eq!(rt; taken_by(&started), Some(2));
-    assert!(rt; !row.has_file(&name_of(alloc, 0)?));
-    assert!(rt; !row.has_file(&name_of(alloc, 1)?));
-    assert_eq!(rt; row.closed_bytes(&name_of(alloc, 2)?), Some(0));
-    assert!(rt; !row.has_file(&name_of(alloc, 3)?));
-    assert!(rt; is_plain(&row.take_back(&rt, alloc)));
-    Ok(())
+    Ok(files)
 }
 
 #[test]
-fn an_event_that_others_have_no_room_for(rt: HostRuntime) -> Result<(), Fail> {
+fn runs_of_several_channels(rt: HostRuntime) -> Result<(), Fail> {
     let alloc = rt.alloc();
-    let mut row = Fixture::new(alloc, 2, 2, sound_files(alloc)?)?;
-    assert!(rt; is_plain(&row.start(&rt, alloc)));
-    row.send(&rt, 0, 1, &[7; 1000]);
-    row.send(&rt, 1, 1, b"ab");
-    assert!(rt; row.stop(&rt, alloc, RunState::Running).is_none());
-    assert_eq!(rt; row.pull_all(&rt, 0, 2), 1);
-    assert_eq!(rt; row.pull_all(&rt, 1, 2), 1);
-    let told = row.finish();
-    assert_eq!(rt; count_of(&told, ChannelState::Ended), 2);
-    // 189 bytes of each record, and 16 before the bytes of the event.
-    assert_eq!(rt; row.closed_bytes(&name_of(alloc, 0)?), Some(1394));
-    assert_eq!(rt; row.closed_bytes(&name_of(alloc, 1)?), Some(396));
-    Ok(())
+    for (counts, steps) in [
+        ((16, 8), SIXTEEN.as_slice()),
+        ((2, 2), LARGE.as_slice()),
+        ((1, 1), PAUSED.as_slice()),
+        ((1, 1), BEHIND.as_slice()),
+    ] {
+        play(&rt, alloc, counts, sound_files(alloc)?, steps)?;
+    }
+    let files = with_third(alloc, sound_files(alloc)?)?;
+    play(&rt, alloc, (4, 2), files, &TAKEN)
 }
 
 #[test]
-fn a_stop_in_a_pause(rt: HostRuntime) -> Result<(), Fail> {
+fn each_call_fails_in_turn(rt: HostRuntime) -> Result<(), Fail> {
     let alloc = rt.alloc();
-    let mut row = Fixture::new(alloc, 1, 1, sound_files(alloc)?)?;
-    assert!(rt; is_plain(&row.start(&rt, alloc)));
-    row.send(&rt, 0, 1, b"ab");
-    assert!(rt; is_plain(&row.pause(&rt, alloc)));
-    row.send(&rt, 0, 1, b"ab");
-    assert!(rt; row.stop(&rt, alloc, RunState::Paused).is_none());
-    // The event that was sent in the pause was refused by the buffer.
-    assert_eq!(rt; row.pull_all(&rt, 0, 3), 1);
-    let told = row.finish();
-    assert_eq!(rt; count_of(&told, ChannelState::Ended), 1);
-    assert_eq!(rt; row.closed_bytes(&name_of(alloc, 0)?), Some(396));
-    Ok(())
-}
-
-#[test]
-fn an_event_behind_the_end_mark(rt: HostRuntime) -> Result<(), Fail> {
-    let alloc = rt.alloc();
-    let mut row = Fixture::new(alloc, 1, 1, sound_files(alloc)?)?;
-    assert!(rt; is_plain(&row.start(&rt, alloc)));
-    row.send(&rt, 0, 1, b"ab");
-    assert!(rt; row.stop(&rt, alloc, RunState::Running).is_none());
-    // Another has begun the next run in the buffer, and sends in it.
-    row.begin(&rt, 0, 2);
-    row.send(&rt, 0, 2, b"ab");
-    assert!(rt; is_written(&row.pull(&rt, 0)));
-    assert!(rt; row.finish().is_none());
-    assert!(rt; is_dropped(&row.pull(&rt, 0)));
-    // Its request is cancelled.
-    assert!(rt; is_nothing(&row.pull(&rt, 0)));
-    let told = row.finish();
-    assert_eq!(rt; count_of(&told, ChannelState::Ended), 1);
-    assert_eq!(rt; row.closed_bytes(&name_of(alloc, 0)?), Some(396));
-    Ok(())
-}
-
-#[test]
-fn an_event_whose_append_fails(rt: HostRuntime) -> Result<(), Fail> {
-    let alloc = rt.alloc();
-    // The begin record is two appends, the event the third.
-    let files = failing_files(alloc, FileOp::Append, 2)?;
-    let mut row = Fixture::new(alloc, 1, 1, files)?;
-    assert!(rt; is_plain(&row.start(&rt, alloc)));
-    row.send(&rt, 0, 1, b"ab");
-    assert!(rt; is_broken(&row.pull(&rt, 0)));
-    row.send(&rt, 0, 1, b"ab");
-    assert!(rt; is_nothing(&row.pull(&rt, 0)));
-    assert_eq!(rt; row.closed_bytes(&name_of(alloc, 0)?), Some(189));
-    assert!(rt; row.stop(&rt, alloc, RunState::Running).is_none());
-    let told = row.finish();
-    assert_eq!(rt; count_of(&told, ChannelState::Broken), 1);
-    Ok(())
-}
-
-/// A start of two channels of which a call on the files fails: no file is left.
-fn refused_by<R: Abort + Wait>(
-    rt: &R,
-    alloc: Global,
-    op: FileOp,
-    call: u64,
-    channel: u32,
-) -> Result<bool, Fail> {
-    let mut row = Fixture::new(alloc, 2, 1, failing_files(alloc, op, call)?)?;
-    let started = row.start(rt, alloc);
-    let first = !row.has_file(&name_of(alloc, 0)?);
-    let second = !row.has_file(&name_of(alloc, 1)?);
-    Ok(is_fault_at(&started, channel) && first && second && row.failed())
-}
-
-/// A run of one event and one channel, of whose calls on the files one fails: how many channels are told
-/// to be broken.
-fn broken_by<R: Abort + Wait>(rt: &R, alloc: Global, op: FileOp, call: u64) -> Result<usize, Fail> {
-    let mut row = Fixture::new(alloc, 1, 1, failing_files(alloc, op, call)?)?;
-    assert!(rt; is_plain(&row.start(rt, alloc)));
-    row.send(rt, 0, 1, b"ab");
-    assert!(rt; row.stop(rt, alloc, RunState::Running).is_none());
-    let _ = row.pull_all(rt, 0, 3);
-    let told = row.finish();
-    assert!(rt; row.failed());
-    assert!(rt; row.closed_bytes(&name_of(alloc, 0)?).is_some());
-    Ok(count_of(&told, ChannelState::Broken))
-}
-
-#[test]
-fn each_call_of_a_start_fails_in_turn(rt: HostRuntime) -> Result<(), Fail> {
-    let alloc = rt.alloc();
-    assert!(rt; refused_by(&rt, alloc, FileOp::Create, 0, 0)?);
-    assert!(rt; refused_by(&rt, alloc, FileOp::Append, 0, 0)?);
-    assert!(rt; refused_by(&rt, alloc, FileOp::Append, 1, 0)?);
-    assert!(rt; refused_by(&rt, alloc, FileOp::Create, 1, 1)?);
-    assert!(rt; refused_by(&rt, alloc, FileOp::Append, 2, 1)?);
-    assert!(rt; refused_by(&rt, alloc, FileOp::Append, 3, 1)?);
-    Ok(())
-}
-
-#[test]
-fn each_call_of_a_run_fails_in_turn(rt: HostRuntime) -> Result<(), Fail> {
-    let alloc = rt.alloc();
-    // The begin record is two appends, the event one, the end record two; then the file is closed.
-    assert_eq!(rt; broken_by(&rt, alloc, FileOp::Append, 2)?, 1);
-    assert_eq!(rt; broken_by(&rt, alloc, FileOp::Append, 3)?, 1);
-    assert_eq!(rt; broken_by(&rt, alloc, FileOp::Append, 4)?, 1);
-    assert_eq!(rt; broken_by(&rt, alloc, FileOp::Close, 0)?, 1);
-    Ok(())
-}
-
-/// A start of three channels, of which the third's name is taken, and a call that takes the others' files
-/// back fails: the channel that the answer tells, and how many files of the first two are left.
-fn left_by<R: Abort + Wait>(
-    rt: &R,
-    alloc: Global,
-    op: FileOp,
-    call: u64,
-) -> Result<(Option<u32>, u32), Fail> {
-    let mut files = failing_files(alloc, op, call)?;
-    let _ = files.create(&name_of(alloc, 2)?)?;
-    let mut row = Fixture::new(alloc, 3, 1, files)?;
-    let started = row.start(rt, alloc);
-    assert!(rt; row.failed());
-    let first = u32::from(row.has_file(&name_of(alloc, 0)?));
-    let second = u32::from(row.has_file(&name_of(alloc, 1)?));
-    Ok((taken_by(&started), u32::wrapping_add(first, second)))
-}
-
-#[test]
-fn each_call_that_takes_back_fails_in_turn(rt: HostRuntime) -> Result<(), Fail> {
-    let alloc = rt.alloc();
-    assert_eq!(rt; left_by(&rt, alloc, FileOp::Remove, 0)?, (Some(2), 1));
-    assert_eq!(rt; left_by(&rt, alloc, FileOp::Remove, 1)?, (Some(2), 1));
+    // A begin record is two appends, an event one, an end record two.
+    for (counts, op, call, steps) in [
+        ((2, 1), FileOp::Create, 0, FAULT_AT_0.as_slice()),
+        ((2, 1), FileOp::Append, 0, FAULT_AT_0.as_slice()),
+        ((2, 1), FileOp::Append, 1, FAULT_AT_0.as_slice()),
+        ((2, 1), FileOp::Create, 1, FAULT_AT_1.as_slice()),
+        ((2, 1), FileOp::Append, 2, FAULT_AT_1.as_slice()),
+        ((2, 1), FileOp::Append, 3, FAULT_AT_1.as_slice()),
+        ((1, 1), FileOp::Append, 2, BROKEN.as_slice()),
+        ((1, 1), FileOp::Append, 3, LATE.as_slice()),
+        ((1, 1), FileOp::Append, 4, LATE.as_slice()),
+        ((1, 1), FileOp::Close, 0, LATE.as_slice()),
+    ] {
+        play(&rt, alloc, counts, failing_files(alloc, op, call)?, steps)?;
+    }
+    for call in 0..2u64 {
+        let files = failing_files(alloc, FileOp::Remove, call)?;
+        play(&rt, alloc, (3, 1), with_third(alloc, files)?, &LEFT)?;
+    }
     Ok(())
 }

@@ -16,6 +16,3 @@ pub use acts::{Act, LoadRefusal, Loaded};
 pub use dump::print_path;
 pub use loading::load;
 pub use saving::save;
-
-#[cfg(test)]
-mod tests;

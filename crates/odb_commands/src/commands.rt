@@ -451,6 +451,7 @@ pub fn run_command<R: Wait, P: DatabasePort>(
         | Command::Buffer { .. }
         | Command::Equip { .. }
         | Command::Channel { .. }
+        | Command::Analyzer { .. }
         | Command::Events { .. }
         | Command::Start
         | Command::Stop

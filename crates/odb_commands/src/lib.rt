@@ -6,8 +6,6 @@ mod commands;
 pub mod laws;
 mod reading;
 mod replies;
-#[cfg(test)]
-mod tests;
 mod texts;
 
 pub use commands::{COMMAND_CALLS, create, get, list, remove, run_command, set};

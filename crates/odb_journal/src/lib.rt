@@ -5,6 +5,3 @@
 mod local;
 
 pub use local::LocalDatabase;
-
-#[cfg(test)]
-mod tests;

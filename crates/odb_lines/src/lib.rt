@@ -15,6 +15,3 @@ pub use keys::{array, key_line, single};
 pub use lines::split_line;
 pub use passed::is_passed;
 pub use words::{are_blanks, bracketed, in_brackets};
-
-#[cfg(test)]
-mod tests;

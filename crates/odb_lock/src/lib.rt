@@ -9,6 +9,3 @@ mod shared;
 pub use access::SharedAccess;
 pub use locked::{LockedDatabase, WatchedSeen};
 pub use shared::{OdbClosed, OdbPass, OdbPasses, SharedOdb};
-
-#[cfg(test)]
-mod tests;

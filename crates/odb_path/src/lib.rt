@@ -8,6 +8,3 @@ mod refusals;
 pub use compare::{is_front, is_same};
 pub use paths::{MAX_DEPTH, Path};
 pub use refusals::PathRefusal;
-
-#[cfg(test)]
-mod tests;

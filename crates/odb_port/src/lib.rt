@@ -10,6 +10,3 @@ mod watching;
 pub use local::LocalAccess;
 pub use port::DatabasePort;
 pub use watching::WatchPort;
-
-#[cfg(test)]
-mod tests;

@@ -10,6 +10,3 @@ mod slot;
 mod walk;
 
 pub use ring_buffer::RingBuffer;
-
-#[cfg(test)]
-mod tests;

@@ -7,6 +7,3 @@ mod states;
 
 pub use sequences::{Role, Sequences};
 pub use states::{after, allowed};
-
-#[cfg(test)]
-mod tests;

@@ -3,7 +3,5 @@
 #![tactic(auto)]
 
 mod script;
-#[cfg(test)]
-mod tests;
 
 pub use script::{Unwritten, write_script};

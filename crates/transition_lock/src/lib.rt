@@ -7,6 +7,3 @@ mod shared;
 
 pub use locked::{EngineSeen, LockedEngine};
 pub use shared::{EngineClosed, EnginePass, EnginePasses, SharedEngine};
-
-#[cfg(test)]
-mod tests;

@@ -18,6 +18,3 @@ pub use engine::{Engine, Refusal};
 pub use entry::EngineEntry;
 pub use replies::{BeginRefusal, InProgress, NotYourTurn, Polled, Progress, RegisterRefusal};
 pub use sheet::{Reports, Sheet};
-
-#[cfg(test)]
-mod tests;

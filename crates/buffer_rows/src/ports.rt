@@ -1,0 +1,143 @@
+//! A port to a buffer, and its journal.
+ghost use Rattle.std.specs.Prelude.{◌≤◌};
+
+use buffer_core::{
+    BufferEntry, BufferPort, MarkRefusal, NoClient, NoSlot, Received, RequestRefusal, RunGate,
+    SendRefusal,
+};
+use daq_types::{Caller, Kind, Name, NoMemory};
+use event_header::{EventBuf, Header};
+use local_port::LocalPort;
+use plain_buffer::PlainBuffer;
+use std::alloc::Global;
+use std::process::Abort;
+use std::sync::Wait;
+use std::test::Fail;
+
+/// A call with the reply that it must get.
+#[derive(Clone, Copy)]
+enum Step {
+    Attach(Result<u32, NoSlot>),
+    Detach(u32, Result<(), NoClient>),
+    /// The client.
+    Request(u32, Result<u32, RequestRefusal>),
+    Cancel(u32, u32, Result<(), RequestRefusal>),
+    /// The bytes of data.
+    Send(usize, Result<u64, SendRefusal>),
+    /// The start number.
+    SendInRun(u32, Result<u64, SendRefusal>),
+    Receive(u32, Received),
+    Begin(u32, Result<u64, MarkRefusal>),
+    Pause(u32, Result<u64, MarkRefusal>),
+    Resume(u32, Result<u64, MarkRefusal>),
+    End(u32, Result<u64, MarkRefusal>),
+    Level(u64),
+    Accepted(u64),
+}
+
+use Step::*;
+
+const ANY: u16 = 0xFFFF;
+
+const DATA: [u8; 24] = [0; 24];
+
+fn header(size: u32) -> Header {
+    Header {
+        event_id: 1,
+        trigger_mask: 1,
+        serial_number: 1,
+        time_stamp: 0,
+        data_size: size,
+    }
+}
+
+fn name(rt: &impl Abort) -> Name {
+    Name::new(b"ANA").expect(rt, "a name")
+}
+
+/// Makes the call by a port and compares its reply.
+fn run_step<R: Abort + AllocGlobal + Wait, P: BufferPort>(
+    rt: &R,
+    port: &mut P,
+    step: Step,
+) -> Result<(), Fail>
+    requires room { 1 ≤ (P.access port.old).entries }
+    requires bytes { 24 ≤ (P.access port.old).bytes }
+{
+    match step {
+        Attach(reply) => assert_eq!(rt; port.attach(rt, name(rt)), reply),
+        Detach(client, reply) => assert_eq!(rt; port.detach(rt, client), reply),
+        Request(client, reply) => assert_eq!(rt;
+            port.request(rt, client, ANY, ANY, Kind::All),
+            reply
+        ),
+        Cancel(client, request, reply) => assert_eq!(rt; port.cancel(rt, client, request), reply),
+        Send(size, reply) => {
+            assert!(rt; size <= DATA.len());
+            assert_eq!(rt; port.send(rt, &header(size as u32), &DATA[..size]), reply);
+        }
+        SendInRun(start, reply) => assert_eq!(rt;
+            port.send_in_run(rt, start, &header(24), &DATA[..24]),
+            reply
+        ),
+        Receive(client, reply) => {
+            let mut into = EventBuf::new(rt.alloc(), 24)?;
+            assert_eq!(rt; port.receive(rt, client, &mut into), reply);
+        }
+        Begin(start, reply) => assert_eq!(rt; port.begin(rt, start), reply),
+        Pause(start, reply) => assert_eq!(rt; port.pause(rt, start), reply),
+        Resume(start, reply) => assert_eq!(rt; port.resume(rt, start), reply),
+        End(start, reply) => assert_eq!(rt; port.end(rt, start), reply),
+        Level(level) => assert_eq!(rt; port.level(rt), level),
+        Accepted(accepted) => assert_eq!(rt; port.accepted(rt), accepted),
+    }
+    Ok(())
+}
+
+/// A port to a new buffer of 256 bytes.
+fn new_port(alloc: Global) -> Result<LocalPort<PlainBuffer>, NoMemory> {
+    let mut port = LocalPort::new(alloc, PlainBuffer::new(alloc, 256)?);
+    port.set_caller(Caller::of_client(3));
+    Ok(port)
+}
+
+const STEPS: [Step; 15] = [
+    Attach(Ok(0)),
+    Request(0, Ok(0)),
+    Send(8, Ok(0)),
+    Begin(4, Ok(1)),
+    SendInRun(4, Ok(1)),
+    Receive(0, Received::Got { place: 0, start: 0 }),
+    Receive(0, Received::Got { place: 1, start: 4 }),
+    Pause(4, Ok(2)),
+    Resume(4, Ok(2)),
+    End(4, Ok(2)),
+    Receive(
+        0,
+        Received::Empty {
+            gate: RunGate::Shut,
+            last: 4,
+        },
+    ),
+    Cancel(0, 0, Ok(())),
+    Level(80),
+    Accepted(2),
+    Detach(0, Ok(())),
+];
+
+#[test]
+fn a_port_replies_as_its_buffer(rt: HostRuntime) -> Result<(), Fail> {
+    let mut port = new_port(rt.alloc())?;
+    for step in STEPS {
+        port.reserve(1, 24)?;
+        run_step(&rt, &mut port, step)?;
+    }
+    let (_, journal) = port.into_parts();
+    assert_eq!(rt; journal.len(), STEPS.len());
+    assert!(rt; journal.len() > 4);
+    let sent = journal.get(4);
+    assert_eq!(rt; sent.caller, Caller::of_client(3));
+    assert!(rt; matches!(sent.entry, BufferEntry::SendInRun { start: 4, .. }));
+    assert_eq!(rt; sent.body, DATA.as_slice());
+    Ok(())
+}

@@ -1,0 +1,69 @@
+//! The table of allowed transitions, and that of the sequence numbers.
+use daq_types::{RunState, Transition};
+use run_states::{Role, after, allowed};
+use std::test::Fail;
+
+#[test]
+fn transitions_by_state(rt: HostRuntime) {
+    for (state, transition, next) in [
+        (
+            RunState::Stopped,
+            Transition::Start,
+            Some(RunState::Running),
+        ),
+        (RunState::Stopped, Transition::Stop, None),
+        (RunState::Stopped, Transition::Pause, None),
+        (RunState::Stopped, Transition::Resume, None),
+        (RunState::Running, Transition::Start, None),
+        (RunState::Running, Transition::Stop, Some(RunState::Stopped)),
+        (RunState::Running, Transition::Pause, Some(RunState::Paused)),
+        (RunState::Running, Transition::Resume, None),
+        (RunState::Paused, Transition::Start, None),
+        (RunState::Paused, Transition::Stop, Some(RunState::Stopped)),
+        (RunState::Paused, Transition::Pause, None),
+        (
+            RunState::Paused,
+            Transition::Resume,
+            Some(RunState::Running),
+        ),
+        (RunState::Stopped, Transition::StartAbort, None),
+        (RunState::Running, Transition::StartAbort, None),
+        (RunState::Paused, Transition::StartAbort, None),
+    ] {
+        let found = if allowed(state, transition) {
+            Some(after(state, transition))
+        } else {
+            None
+        };
+        assert!(rt; found == next);
+    }
+}
+
+/// The numbers of the role, at start, stop, pause, resume and start-abort.
+fn numbers_of(role: Role) -> [Option<u32>; 5] {
+    let sequences = role.sequences();
+    [
+        sequences.get(Transition::Start),
+        sequences.get(Transition::Stop),
+        sequences.get(Transition::Pause),
+        sequences.get(Transition::Resume),
+        sequences.get(Transition::StartAbort),
+    ]
+}
+
+#[test]
+fn numbers_by_role(rt: HostRuntime) -> Result<(), Fail> {
+    assert_eq!(rt;
+        numbers_of(Role::FrontEnd),
+        [Some(500), Some(500), Some(500), Some(500), Some(500)]
+    );
+    assert_eq!(rt;
+        numbers_of(Role::Logger),
+        [Some(200), Some(800), Some(800), Some(200), Some(800)]
+    );
+    assert_eq!(rt;
+        numbers_of(Role::Analyzer),
+        [Some(300), Some(900), None, None, Some(900)]
+    );
+    Ok(())
+}

@@ -1,0 +1,442 @@
+//! Worked rows of the engine, as tables of calls with what they answer.
+ghost use Rattle.std.specs.Prelude.{IfOk};
+ghost use Rattle.transitions.specs.EngineHistories.{IsSheet};
+
+use daq_types::{Bytes, FrontEnded, Name, NoMemory, RunState, StartOutcome, Transition, Why};
+use event_report::Report;
+use run_states::Sequences;
+use std::alloc::Global;
+use std::process::Abort;
+use std::test::Fail;
+use transitions::{
+    Answer, BeginRefusal, Engine, Polled, Progress, RegisterRefusal, Reports, Sheet, Tallies, Tally,
+};
+
+/// What a poll found; of a turn whether it has the dump and whether it has a blank report.
+#[derive(Clone, Copy, Debug, PartialEq, Eq)]
+enum Found {
+    Turn(Transition, bool, bool),
+    Idle(RunState),
+    Closed,
+    NoClient,
+}
+
+/// A call and what it answers.
+#[derive(Clone, Copy)]
+enum Call {
+    Register(Result<u32, RegisterRefusal>),
+    Begin(Transition, Result<u32, BeginRefusal>),
+    /// By a sheet without dump and blank reports.
+    BeginBare(Transition, Result<u32, BeginRefusal>),
+    Poll(u32, Found),
+    /// Whether the answer is accepted.
+    Yes(u32, bool),
+    No(u32, bool),
+    /// And how many tallies move out.
+    Check(Progress, usize),
+    /// Whether the engine is closed.
+    Close(bool),
+}
+
+use Call::{Begin, BeginBare, Check, Close, No, Poll, Register, Yes};
+use Transition::{Pause, Start, StartAbort, Stop};
+
+const DONE: Progress = Progress::Done {
+    outcome: StartOutcome::Completed,
+};
+
+/// A sheet with a dump and two blank reports.
+fn new_sheet(alloc: Global) -> Result<Sheet, NoMemory>
+    ensures { IfOk result IsSheet }
+{
+    let mut reports = Vec::new(alloc);
+    reports.push(Report::new(alloc)?)?;
+    reports.push(Report::new(alloc)?)?;
+    let mut dump = Vec::new(alloc);
+    dump.push(7)?;
+    Ok(Sheet {
+        run: 1,
+        time: 1000,
+        quota: 0,
+        dump: Some(Bytes::of(dump)),
+        blanks: Reports::of(reports),
+    })
+}
+
+/// A sheet without dump and blank reports.
+fn bare_sheet(alloc: Global) -> Sheet
+    ensures { IsSheet result }
+{
+    Sheet {
+        run: 1,
+        time: 1000,
+        quota: 0,
+        dump: None,
+        blanks: Reports::of(Vec::new(alloc)),
+    }
+}
+
+/// A client that is called by this number, and by that one for start-abort.
+fn add_client(
+    engine: &mut Engine,
+    sequence: u32,
+    start_abort: u32,
+    wants: bool,
+) -> Result<u32, RegisterRefusal> {
+    let Ok(name) = Name::new(b"FE") else {
+        return Err(RegisterRefusal::NoSlot);
+    };
+    let sequences = Sequences {
+        start: Some(sequence),
+        stop: Some(sequence),
+        pause: None,
+        resume: None,
+        start_abort: Some(start_abort),
+    };
+    engine.register(name, sequences, wants, wants)
+}
+
+fn find_turn(polled: &Polled) -> Found {
+    match polled {
+        Polled::Turn {
+            transition,
+            dump,
+            blank,
+            ..
+        } => Found::Turn(*transition, dump.is_some(), blank.is_some()),
+        Polled::Idle { state } => Found::Idle(*state),
+        Polled::Closed => Found::Closed,
+        Polled::NoClient => Found::NoClient,
+    }
+}
+
+fn begin(engine: &mut Engine, transition: Transition, sheet: Sheet) -> Result<u32, BeginRefusal>
+    requires { IsSheet sheet }
+{
+    match engine.begin(transition, sheet) {
+        Ok(start) => Ok(start),
+        Err((refusal, _)) => Err(refusal),
+    }
+}
+
+fn check(alloc: Global, engine: &mut Engine) -> Result<(Progress, usize), NoMemory> {
+    let mut tallies = Tallies::new(alloc)?;
+    let progress = engine.check(&mut tallies);
+    Ok((progress, tallies.len()))
+}
+
+/// Makes a call, and answers whether it answered as it is to.
+fn is_right(alloc: Global, engine: &mut Engine, call: Call) -> Result<bool, NoMemory> {
+    match call {
+        Register(reply) => Ok(add_client(engine, 500, 500, false) == reply),
+        Begin(transition, reply) => Ok(begin(engine, transition, new_sheet(alloc)?) == reply),
+        BeginBare(transition, reply) => Ok(begin(engine, transition, bare_sheet(alloc)) == reply),
+        Poll(client, found) => Ok(find_turn(&engine.poll(client)) == found),
+        Yes(client, accepted) => Ok(
+            engine.answer(client, Answer::Yes(Tally::Plain)).is_ok() == accepted,
+        ),
+        No(client, accepted) => Ok(
+            engine.answer(client, Answer::No(Why::NotReady)).is_ok() == accepted,
+        ),
+        Check(progress, count) => {
+            let (told, moved) = check(alloc, engine)?;
+            Ok(told == progress && moved == count)
+        }
+        Close(closed) => Ok(engine.close().is_ok() == closed),
+    }
+}
+
+fn make_calls(
+    rt: &impl Abort,
+    alloc: Global,
+    engine: &mut Engine,
+    calls: &[Call],
+) -> Result<(), Fail> {
+    for call in calls {
+        assert!(rt; is_right(alloc, engine, *call)?);
+    }
+    Ok(())
+}
+
+/// Clients 0 and 1 have start 500; client 2 has start 200, start-abort 800, and wants the dump and a report.
+fn three_clients(alloc: Global) -> Result<Engine, Fail> {
+    let mut engine = Engine::new(alloc)?;
+    let _first = add_client(&mut engine, 500, 500, false);
+    let _second = add_client(&mut engine, 500, 500, false);
+    let _third = add_client(&mut engine, 200, 800, true);
+    Ok(engine)
+}
+
+/// The client of the tally at this place, and whether it is a plain one.
+fn told_at(tallies: &Tallies, place: usize) -> Option<(u32, bool)> {
+    match tallies.get(place) {
+        None => None,
+        Some(told) => Some((told.client, matches!(told.tally, Tally::Plain))),
+    }
+}
+
+/// What a lock guards crosses threads.
+fn is_sent<T: Send + Drop>(_value: &T) {}
+
+#[test]
+fn turns_by_sequence(rt: HostRuntime) -> Result<(), Fail> {
+    let mut engine = three_clients(rt.alloc())?;
+    make_calls(
+        &rt,
+        rt.alloc(),
+        &mut engine,
+        &[
+            Poll(9, Found::NoClient),
+            Begin(
+                Pause,
+                Err(BeginRefusal::WrongState {
+                    state: RunState::Stopped,
+                }),
+            ),
+            Begin(Start, Ok(1)),
+            Yes(1, false),
+            Yes(2, false),
+            Poll(0, Found::Idle(RunState::Stopped)),
+            Poll(2, Found::Turn(Start, true, true)),
+            Poll(2, Found::Turn(Start, false, false)),
+            Yes(2, true),
+            Poll(1, Found::Idle(RunState::Stopped)),
+            Poll(0, Found::Turn(Start, false, false)),
+            Yes(0, true),
+            Check(Progress::Going, 0),
+            Poll(1, Found::Turn(Start, false, false)),
+            Close(false),
+            Yes(1, true),
+            Poll(0, Found::Idle(RunState::Running)),
+            Check(DONE, 3),
+            Check(Progress::None, 0),
+        ],
+    )
+}
+
+#[test]
+fn no_client(rt: HostRuntime) -> Result<(), Fail> {
+    let mut engine = Engine::new(rt.alloc())?;
+    make_calls(
+        &rt,
+        rt.alloc(),
+        &mut engine,
+        &[
+            BeginBare(Start, Ok(1)),
+            Check(DONE, 0),
+            Check(Progress::None, 0),
+            BeginBare(
+                Start,
+                Err(BeginRefusal::WrongState {
+                    state: RunState::Running,
+                }),
+            ),
+            Close(true),
+            Register(Err(RegisterRefusal::Closed)),
+        ],
+    )
+}
+
+#[test]
+fn start_refused(rt: HostRuntime) -> Result<(), Fail> {
+    let mut engine = three_clients(rt.alloc())?;
+    let outcome = StartOutcome::Refused {
+        client: 0,
+        why: Why::NotReady,
+    };
+    make_calls(
+        &rt,
+        rt.alloc(),
+        &mut engine,
+        &[
+            Begin(Start, Ok(1)),
+            Poll(2, Found::Turn(Start, true, true)),
+            Yes(2, true),
+            Poll(0, Found::Turn(Start, false, false)),
+            No(0, true),
+            Poll(1, Found::Idle(RunState::Stopped)),
+            Poll(0, Found::Turn(StartAbort, false, false)),
+            Yes(0, true),
+            Poll(1, Found::Turn(StartAbort, false, false)),
+            No(1, true),
+            Poll(2, Found::Turn(StartAbort, false, false)),
+            Yes(2, true),
+            Check(Progress::Done { outcome }, 4),
+            Begin(Start, Ok(2)),
+        ],
+    )
+}
+
+#[test]
+fn stop_not_refused(rt: HostRuntime) -> Result<(), Fail> {
+    let mut engine = Engine::new(rt.alloc())?;
+    is_sent(&engine);
+    let _client = add_client(&mut engine, 500, 500, true);
+    make_calls(
+        &rt,
+        rt.alloc(),
+        &mut engine,
+        &[
+            Begin(Start, Ok(1)),
+            Poll(0, Found::Turn(Start, true, true)),
+            Yes(0, true),
+            Check(DONE, 1),
+            Begin(Stop, Ok(1)),
+            Poll(0, Found::Turn(Stop, true, false)),
+            No(0, true),
+            Poll(0, Found::Idle(RunState::Stopped)),
+            Check(DONE, 1),
+        ],
+    )
+}
+
+#[test]
+fn most_clients(rt: HostRuntime) -> Result<(), Fail> {
+    let mut engine = Engine::new(rt.alloc())?;
+    for number in 0..64u32 {
+        assert_eq!(rt; add_client(&mut engine, 500, 500, false), Ok(number));
+    }
+    make_calls(
+        &rt,
+        rt.alloc(),
+        &mut engine,
+        &[
+            Register(Err(RegisterRefusal::NoSlot)),
+            Poll(63, Found::Idle(RunState::Stopped)),
+        ],
+    )
+}
+
+#[test]
+fn most_tallies(rt: HostRuntime) -> Result<(), Fail> {
+    let mut engine = Engine::new(rt.alloc())?;
+    for _ in 0..64u32 {
+        let _client = add_client(&mut engine, 500, 500, false);
+    }
+    let turn = Found::Turn(Start, false, false);
+    make_calls(&rt, rt.alloc(), &mut engine, &[Begin(Start, Ok(1))])?;
+    for client in 0..63u32 {
+        make_calls(
+            &rt,
+            rt.alloc(),
+            &mut engine,
+            &[Poll(client, turn), Yes(client, true)],
+        )?;
+    }
+    make_calls(
+        &rt,
+        rt.alloc(),
+        &mut engine,
+        &[Poll(63, turn), No(63, true)],
+    )?;
+    let call_off = Found::Turn(StartAbort, false, false);
+    for client in 0..64u32 {
+        make_calls(
+            &rt,
+            rt.alloc(),
+            &mut engine,
+            &[Poll(client, call_off), Yes(client, true)],
+        )?;
+    }
+    let outcome = StartOutcome::Refused {
+        client: 63,
+        why: Why::NotReady,
+    };
+    make_calls(
+        &rt,
+        rt.alloc(),
+        &mut engine,
+        &[
+            Check(Progress::Done { outcome }, 127),
+            Check(Progress::None, 0),
+        ],
+    )
+}
+
+#[test]
+fn dump_given_once(rt: HostRuntime) -> Result<(), Fail> {
+    let mut engine = Engine::new(rt.alloc())?;
+    let _first = add_client(&mut engine, 500, 500, true);
+    let _second = add_client(&mut engine, 600, 600, true);
+    make_calls(
+        &rt,
+        rt.alloc(),
+        &mut engine,
+        &[
+            Begin(Start, Ok(1)),
+            Poll(0, Found::Turn(Start, true, true)),
+            Poll(0, Found::Turn(Start, false, false)),
+            Yes(0, true),
+            Poll(1, Found::Turn(Start, false, true)),
+            Poll(1, Found::Turn(Start, false, false)),
+            Yes(1, true),
+            Check(DONE, 2),
+        ],
+    )
+}
+
+#[test]
+fn tallies_by_answer(rt: HostRuntime) -> Result<(), Fail> {
+    let mut engine = three_clients(rt.alloc())?;
+    let turn = Found::Turn(Stop, false, false);
+    make_calls(
+        &rt,
+        rt.alloc(),
+        &mut engine,
+        &[
+            Begin(Start, Ok(1)),
+            Poll(2, Found::Turn(Start, true, true)),
+            Yes(2, true),
+            Poll(0, Found::Turn(Start, false, false)),
+            Yes(0, true),
+            Poll(1, Found::Turn(Start, false, false)),
+            Yes(1, true),
+            Check(DONE, 3),
+            Begin(Stop, Ok(1)),
+            Poll(2, Found::Turn(Stop, true, false)),
+        ],
+    )?;
+    let counted = Tally::Front {
+        sent: 7,
+        ended: FrontEnded::Quota,
+    };
+    assert!(rt; engine.answer(2, Answer::Yes(counted)).is_ok());
+    make_calls(
+        &rt,
+        rt.alloc(),
+        &mut engine,
+        &[Poll(0, turn), No(0, true), Poll(1, turn), Yes(1, true)],
+    )?;
+    let mut tallies = Tallies::new(rt.alloc())?;
+    assert!(rt; engine.check(&mut tallies) == DONE);
+    assert_eq!(rt; told_at(&tallies, 0), Some((2, false)));
+    assert_eq!(rt; told_at(&tallies, 1), Some((0, true)));
+    assert_eq!(rt; told_at(&tallies, 2), Some((1, true)));
+    assert!(rt; told_at(&tallies, 3).is_none());
+    assert_eq!(rt; tallies.as_slice().len(), 3);
+    assert!(rt; tallies.pop().is_some());
+    assert_eq!(rt; tallies.into_vec().len(), 2);
+    Ok(())
+}
+
+#[test]
+fn handed_back(rt: HostRuntime) -> Result<(), Fail> {
+    let mut engine = Engine::new(rt.alloc())?;
+    match engine.begin(Pause, new_sheet(rt.alloc())?) {
+        Ok(_) => assert!(rt; false),
+        Err((_, sheet)) => {
+            assert!(rt; sheet.dump.is_some());
+            let mut blanks = sheet.blanks;
+            assert_eq!(rt; blanks.len(), 2);
+            assert!(rt; blanks.get(1).is_some());
+            assert!(rt; blanks.take_first().is_some());
+            assert!(rt; blanks.get(1).is_none());
+            assert_eq!(rt; blanks.into_vec().len(), 1);
+        }
+    }
+    match engine.answer(0, Answer::No(Why::NotReady)) {
+        Ok(_) => assert!(rt; false),
+        Err((_, answer)) => assert!(rt; matches!(answer, Answer::No(Why::NotReady))),
+    }
+    Ok(())
+}

@@ -1,0 +1,7 @@
+use Rattle.std.proofs.Common.{◌≡◌, None}
+use Rattle.turn_lock.specs.Passes.{held_by, IsOf}
+use Rattle.buffer_lock.specs.SharedBuffers.{lock_of}
+use Rattle.lock_rows.proofs.buffers.send_all.Given as goal
+
+abbrev pub invariant-loop-serial : goal.invariant-loop-serial
+invariant-loop-serial g l = IsOf (lock_of l.shared) l.pass × (held_by l.pass ≡ None)

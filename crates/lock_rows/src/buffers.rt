@@ -1,0 +1,390 @@
+//! Calls on a shared buffer, by threads and by a port.
+ghost use Rattle.std.specs.Prelude.{◌≡◌, ◌+◌, ◌≤◌, [], ◌∷◌, length, None, IfOk};
+ghost use Rattle.daq_types.specs.Callers.{entries_by};
+ghost use Rattle.turn_lock.specs.Passes.{passes_of, number_of, own_entries, held_by, IsOf};
+ghost use Rattle.turn_lock.specs.Closing.{history_of};
+ghost use Rattle.turn_lock.specs.Roster.{items_of, numbers_of, ArePassesOf, AreFresh, IsFresh};
+ghost use Rattle.buffer_lock.specs.SharedBuffers.{lock_of};
+
+use buffer_core::{BufferPort, EventBuffer, Received, SendRefusal};
+use buffer_lock::{BufferClosed, BufferPass, BufferPasses, SharedBuffer, SharedPort};
+use daq_types::{Kind, Name, NoMemory};
+use event_header::{EventBuf, Header};
+use plain_buffer::PlainBuffer;
+use std::alloc::Global;
+use std::process::Abort;
+use std::sync::Wait;
+use std::thread::{Threads, join, yield_now};
+
+const SIZE: u32 = 1 << 20;
+
+const ANY: u16 = 0xFFFF;
+
+const DATA: [u8; 8] = [7; 8];
+
+fn header(serial_number: u32) -> Header {
+    Header {
+        event_id: 1,
+        trigger_mask: 1,
+        serial_number,
+        time_stamp: 0,
+        data_size: 8,
+    }
+}
+
+/// Takes both passes of a buffer with two out of the list, number 0 first.
+fn two_passes(
+    _shared: &SharedBuffer<PlainBuffer>,
+    passes: &mut BufferPasses<PlainBuffer>,
+) -> (BufferPass<PlainBuffer>, BufferPass<PlainBuffer>)
+    requires own { ArePassesOf (lock_of _shared.now) passes.old }
+    requires fresh { AreFresh passes.old }
+    requires numbers { numbers_of passes.old ≡ 0 ∷ 1 ∷ [] }
+    ensures left { ArePassesOf (lock_of _shared.now) passes.new × (items_of passes.new ≡ []) }
+    ensures own { IsOf (lock_of _shared.now) result.0 × IsOf (lock_of _shared.now) result.1 }
+    ensures fresh { IsFresh result.0 × IsFresh result.1 }
+    ensures numbers { (number_of result.0 ≡ 0) × (number_of result.1 ≡ 1) }
+{
+    let Some(second) = passes.pop() else {
+        unreachable!()
+    };
+    let Some(first) = passes.pop() else {
+        unreachable!()
+    };
+    (first, second)
+}
+
+fn send_times<R: Wait>(
+    shared: &SharedBuffer<PlainBuffer>,
+    rt: &R,
+    mut pass: BufferPass<PlainBuffer>,
+    times: u32,
+) -> BufferPass<PlainBuffer>
+    requires own { IsOf (lock_of shared.now) pass }
+    requires idle { held_by pass ≡ None }
+    requires fresh { length (own_entries pass) ≡ 0 }
+    ensures own { IsOf (lock_of shared.now) result }
+    ensures idle { held_by result ≡ None }
+    ensures number { number_of result ≡ number_of pass }
+    ensures all { length (own_entries result) ≡ times }
+{
+    for done in 0..times {
+        let _ = shared.send(rt, &mut pass, &header(done), &DATA);
+    }
+    pass
+}
+
+/// Two threads with a pass each send this many events.
+fn send_in_two_threads<R: Threads + Wait + Sync>(
+    shared: &SharedBuffer<PlainBuffer>,
+    rt: &R,
+    first: BufferPass<PlainBuffer>,
+    second: BufferPass<PlainBuffer>,
+    times: u32,
+) -> (BufferPass<PlainBuffer>, BufferPass<PlainBuffer>)
+    requires own { IsOf (lock_of shared.now) first × IsOf (lock_of shared.now) second }
+    requires idle { (held_by first ≡ None) × (held_by second ≡ None) }
+    requires fresh { (length (own_entries first) ≡ 0) × (length (own_entries second) ≡ 0) }
+    ensures own { IsOf (lock_of shared.now) result.0 × IsOf (lock_of shared.now) result.1 }
+    ensures idle { (held_by result.0 ≡ None) × (held_by result.1 ≡ None) }
+    ensures number { (number_of result.0 ≡ number_of first)
+        × (number_of result.1 ≡ number_of second) }
+    ensures all { (length (own_entries result.0) ≡ times)
+        × (length (own_entries result.1) ≡ times) }
+{
+    join(
+        rt,
+        move || send_times(shared, rt, first, times),
+        move || send_times(shared, rt, second, times),
+    )
+}
+
+/// Ends the sharing between two passes, which are all there are.
+fn close_two(
+    shared: SharedBuffer<PlainBuffer>,
+    mut passes: BufferPasses<PlainBuffer>,
+    first: BufferPass<PlainBuffer>,
+    second: BufferPass<PlainBuffer>,
+) -> BufferClosed<PlainBuffer>
+    requires two { passes_of (lock_of shared) ≡ 2 }
+    requires none { ArePassesOf (lock_of shared) passes × (items_of passes ≡ []) }
+    requires own { IsOf (lock_of shared) first × IsOf (lock_of shared) second }
+    requires idle { (held_by first ≡ None) × (held_by second ≡ None) }
+    requires numbers { (number_of first ≡ 0) × (number_of second ≡ 1) }
+    ensures first { entries_by 0 (history_of result) ≡ own_entries first }
+    ensures second { entries_by 1 (history_of result) ≡ own_entries second }
+    ensures all { length (history_of result)
+        ≡ length (own_entries first) + length (own_entries second) }
+{
+    passes.push(first);
+    passes.push(second);
+    match shared.close(passes) {
+        Ok(closed) => closed,
+        Err(_) => unreachable!(),
+    }
+}
+
+/// Two threads send so many events each into a shared buffer, which is closed behind them.
+fn share_and_send<R: Threads + Wait + Sync>(
+    rt: &R,
+    alloc: Global,
+    times: u32,
+) -> Result<BufferClosed<PlainBuffer>, NoMemory>
+    ensures all { IfOk result (λ closed. length (history_of closed) ≡ times + times) }
+    ensures first { IfOk result (λ closed. length (entries_by 0 (history_of closed)) ≡ times) }
+    ensures second { IfOk result (λ closed. length (entries_by 1 (history_of closed)) ≡ times) }
+{
+    let buffer = PlainBuffer::new(alloc, SIZE)?;
+    let (shared, mut passes) = SharedBuffer::new(alloc, buffer, 2)?;
+    let (first, second) = two_passes(&shared, &mut passes);
+    let (first, second) = send_in_two_threads(&shared, rt, first, second, times);
+    Ok(close_two(shared, passes, first, second))
+}
+
+#[test]
+fn two_threads_send_into_one_history(rt: HostRuntime) {
+    let closed = share_and_send(&rt, rt.alloc(), 1000).expect(&rt, "memory");
+    assert!(rt;
+        closed.value.buffer.accepted() == 2000,
+        "each of 2,000 events is accepted"
+    );
+}
+
+/// Sends an event, as often as it takes until the buffer has room for it.
+fn send_until_taken<R: Wait>(
+    shared: &SharedBuffer<PlainBuffer>,
+    rt: &R,
+    pass: &mut BufferPass<PlainBuffer>,
+    serial: u32,
+)
+    requires own { IsOf (lock_of shared.now) pass.old }
+    requires idle { held_by pass.old ≡ None }
+    ensures own { IsOf (lock_of shared.now) pass.new }
+    ensures idle { held_by pass.new ≡ None }
+{
+    for _ in rt.forever() {
+        let Err(SendRefusal::Full { .. }) = shared.send(rt, pass, &header(serial), &DATA) else {
+            return;
+        };
+        yield_now();
+    }
+    unreachable!()
+}
+
+fn send_all<R: Wait>(
+    shared: &SharedBuffer<PlainBuffer>,
+    rt: &R,
+    mut pass: BufferPass<PlainBuffer>,
+    times: u32,
+) -> BufferPass<PlainBuffer>
+    requires own { IsOf (lock_of shared.now) pass }
+    requires idle { held_by pass ≡ None }
+    ensures own { IsOf (lock_of shared.now) result }
+    ensures idle { held_by result ≡ None }
+{
+    for serial in 0..times {
+        send_until_taken(shared, rt, &mut pass, serial);
+    }
+    pass
+}
+
+/// Receives until client 0 gets an event.
+fn read_one<R: Wait>(
+    shared: &SharedBuffer<PlainBuffer>,
+    rt: &R,
+    pass: &mut BufferPass<PlainBuffer>,
+    into: &mut EventBuf,
+)
+    requires own { IsOf (lock_of shared.now) pass.old }
+    requires idle { held_by pass.old ≡ None }
+    ensures own { IsOf (lock_of shared.now) pass.new }
+    ensures idle { held_by pass.new ≡ None }
+{
+    for _ in rt.forever() {
+        if let Received::Got { .. } = shared.receive(rt, pass, 0, into) {
+            return;
+        }
+        yield_now();
+    }
+    unreachable!()
+}
+
+fn read_all<R: Wait>(
+    shared: &SharedBuffer<PlainBuffer>,
+    rt: &R,
+    mut pass: BufferPass<PlainBuffer>,
+    mut into: EventBuf,
+    times: u32,
+) -> BufferPass<PlainBuffer>
+    requires own { IsOf (lock_of shared.now) pass }
+    requires idle { held_by pass ≡ None }
+    ensures own { IsOf (lock_of shared.now) result }
+    ensures idle { held_by result ≡ None }
+{
+    for _ in 0..times {
+        read_one(shared, rt, &mut pass, &mut into);
+    }
+    pass
+}
+
+fn send_in_two<R: Threads + Wait + Sync>(
+    shared: &SharedBuffer<PlainBuffer>,
+    rt: &R,
+    first: BufferPass<PlainBuffer>,
+    second: BufferPass<PlainBuffer>,
+) -> (BufferPass<PlainBuffer>, BufferPass<PlainBuffer>)
+    requires own { IsOf (lock_of shared.now) first × IsOf (lock_of shared.now) second }
+    requires idle { (held_by first ≡ None) × (held_by second ≡ None) }
+{
+    join(
+        rt,
+        move || send_all(shared, rt, first, 500),
+        move || send_all(shared, rt, second, 500),
+    )
+}
+
+fn send_in_two_and_read<R: Threads + Wait + Sync>(
+    shared: &SharedBuffer<PlainBuffer>,
+    rt: &R,
+    first: BufferPass<PlainBuffer>,
+    second: BufferPass<PlainBuffer>,
+    reader: BufferPass<PlainBuffer>,
+    into: EventBuf,
+) -> BufferPass<PlainBuffer>
+    requires own { IsOf (lock_of shared.now) first × IsOf (lock_of shared.now) second }
+    requires idle { (held_by first ≡ None) × (held_by second ≡ None) }
+    requires reader { IsOf (lock_of shared.now) reader }
+    requires reader_idle { held_by reader ≡ None }
+    ensures own { IsOf (lock_of shared.now) result }
+    ensures idle { held_by result ≡ None }
+{
+    let (_, reader) = join(
+        rt,
+        move ||
+            requires own { IsOf (lock_of shared.now) first × IsOf (lock_of shared.now) second }
+            requires idle { (held_by first ≡ None) × (held_by second ≡ None) }
+        { send_in_two(shared, rt, first, second) },
+        move || read_all(shared, rt, reader, into, 2000),
+    );
+    reader
+}
+
+/// Four threads send, and a fifth reads until it got all that they send.
+fn send_in_four_and_read<R: Abort + Threads + Wait + Sync>(
+    shared: &SharedBuffer<PlainBuffer>,
+    rt: &R,
+    passes: &mut BufferPasses<PlainBuffer>,
+    reader: BufferPass<PlainBuffer>,
+    into: EventBuf,
+) -> BufferPass<PlainBuffer>
+    requires own { ArePassesOf (lock_of shared.now) passes.old }
+    requires fresh { AreFresh passes.old }
+    requires reader { IsOf (lock_of shared.now) reader }
+    requires reader_idle { held_by reader ≡ None }
+    ensures own { IsOf (lock_of shared.now) result }
+    ensures idle { held_by result ≡ None }
+{
+    let first = pop_pass(shared, rt, passes);
+    let second = pop_pass(shared, rt, passes);
+    let third = pop_pass(shared, rt, passes);
+    let fourth = pop_pass(shared, rt, passes);
+    let (_, reader) = join(
+        rt,
+        move ||
+            requires own { IsOf (lock_of shared.now) first × IsOf (lock_of shared.now) second }
+            requires idle { (held_by first ≡ None) × (held_by second ≡ None) }
+        { send_in_two(shared, rt, first, second) },
+        move ||
+            requires own { IsOf (lock_of shared.now) third × IsOf (lock_of shared.now) fourth }
+            requires idle { (held_by third ≡ None) × (held_by fourth ≡ None) }
+            requires reader { IsOf (lock_of shared.now) reader }
+            requires reader_idle { held_by reader ≡ None }
+        { send_in_two_and_read(shared, rt, third, fourth, reader, into) },
+    );
+    reader
+}
+
+fn pop_pass(
+    _shared: &SharedBuffer<PlainBuffer>,
+    rt: &impl Abort,
+    passes: &mut BufferPasses<PlainBuffer>,
+) -> BufferPass<PlainBuffer>
+    requires own { ArePassesOf (lock_of _shared.now) passes.old }
+    requires fresh { AreFresh passes.old }
+    ensures own { ArePassesOf (lock_of _shared.now) passes.new }
+    ensures fresh { AreFresh passes.new }
+    ensures taken { IsOf (lock_of _shared.now) result }
+    ensures idle { held_by result ≡ None }
+{
+    passes.pop().expect(rt, "a pass")
+}
+
+#[test]
+fn a_reader_gets_all_that_four_threads_send(rt: HostRuntime) {
+    let buffer = PlainBuffer::new(rt.alloc(), 4096).expect(&rt, "memory");
+    let into = EventBuf::new(rt.alloc(), 8).expect(&rt, "memory");
+    let name = Name::new(b"ANA").expect(&rt, "a name");
+    let (shared, mut passes) = SharedBuffer::new(rt.alloc(), buffer, 5).expect(&rt, "memory");
+    let mut reader = pop_pass(&shared, &rt, &mut passes);
+    assert!(rt; shared.attach(&rt, &mut reader, name) == Ok(0), "a client");
+    assert!(rt;
+        shared.request(&rt, &mut reader, 0, ANY, ANY, Kind::All) == Ok(0),
+        "all events"
+    );
+    let mut reader = send_in_four_and_read(&shared, &rt, &mut passes, reader, into);
+    assert!(rt;
+        shared.accepted(&rt, &mut reader) == 2000,
+        "each event was sent once"
+    );
+}
+
+/// Makes each call but the marks, by any port, on a buffer that is as it opened.
+fn make_calls<R: Abort + Wait, P: BufferPort>(rt: &R, port: &mut P, into: &mut EventBuf)
+    requires room { 8 ≤ (P.access port.old).entries }
+    requires bytes { 16 ≤ (P.access port.old).bytes }
+{
+    let name = Name::new(b"ANA").expect(rt, "a name");
+    assert!(rt; port.attach(rt, name) == Ok(0), "attach");
+    assert!(rt;
+        port.request(rt, 0, ANY, ANY, Kind::All) == Ok(0),
+        "request"
+    );
+    assert!(rt; port.send(rt, &header(1), &DATA) == Ok(0), "send");
+    assert!(rt; port.level(rt) == 32, "level");
+    assert!(rt; port.accepted(rt) == 1, "accepted");
+    let got = Received::Got { place: 0, start: 0 };
+    assert!(rt; port.receive(rt, 0, into) == got, "receive");
+    assert!(rt; port.cancel(rt, 0, 0) == Ok(()), "cancel");
+    assert!(rt; port.detach(rt, 0) == Ok(()), "detach");
+}
+
+/// Makes the marks of a run with one event in it.
+fn make_run<R: Abort + Wait, P: BufferPort>(rt: &R, port: &mut P)
+    requires room { 5 ≤ (P.access port.old).entries }
+    requires bytes { 8 ≤ (P.access port.old).bytes }
+{
+    assert!(rt; port.begin(rt, 1) == Ok(1), "begin");
+    assert!(rt;
+        port.send_in_run(rt, 1, &header(2), &DATA) == Ok(1),
+        "send in the run"
+    );
+    assert!(rt; port.pause(rt, 1) == Ok(2), "pause");
+    assert!(rt; port.resume(rt, 1) == Ok(2), "resume");
+    assert!(rt; port.end(rt, 1) == Ok(2), "end");
+}
+
+#[test]
+fn a_port_makes_each_call(rt: HostRuntime) {
+    let buffer = PlainBuffer::new(rt.alloc(), 256).expect(&rt, "memory");
+    let mut into = EventBuf::new(rt.alloc(), 8).expect(&rt, "memory");
+    let (shared, mut passes) = SharedBuffer::new(rt.alloc(), buffer, 1).expect(&rt, "memory");
+    let pass = pop_pass(&shared, &rt, &mut passes);
+    let mut port = SharedPort::new(&shared, pass);
+    make_calls(&rt, &mut port, &mut into);
+    make_run(&rt, &mut port);
+    assert!(rt;
+        into.body() == DATA.as_slice(),
+        "the data of the event that was got"
+    );
+    assert!(rt; port.into_pass().number() == 0, "the pass comes back");
+}

@@ -1,0 +1,52 @@
+//! Calls on any of the objects of the outside.
+use daq_io::{Clock, Failed, Files, NameRefused, Pick, Sink, Source, write_all};
+use daq_types::FileName;
+
+/// Makes a file of these bytes, reads it back into `into`, and answers how many bytes came.
+pub fn write_and_read<F: Files>(
+    files: &mut F,
+    name: &FileName,
+    bytes: &[u8],
+    into: &mut [u8],
+) -> Result<usize, NameRefused> {
+    let number = files.create(name)?;
+    files.append(number, bytes)?;
+    files.close(number)?;
+    let number = files.open_read(name)?;
+    let count = files.read(number, into)?;
+    files.close(number)?;
+    Ok(count)
+}
+
+/// Copies the source to the sink, in pieces of three bytes, and answers how many bytes that were.
+pub fn copy<S: Source, K: Sink>(source: &mut S, sink: &mut K) -> Result<u64, Failed> {
+    let mut piece = [0; 3];
+    let mut copied: u64 = 0;
+    for _ in 0..u64::MAX {
+        let count = source.read(&mut piece)?;
+        if count == 0 {
+            break;
+        }
+        write_all(sink, &piece[..count])?;
+        copied = copied.saturating_add(count as u64);
+    }
+    Ok(copied)
+}
+
+pub fn next_three<C: Clock>(clock: &mut C) -> [u32; 3] {
+    [clock.now(), clock.now(), clock.now()]
+}
+
+pub fn first_three<P: Pick>(pick: &mut P, members: u32) -> [u32; 3] {
+    if members == 0 {
+        return [0; 3];
+    }
+    [
+        pick.first(members),
+        pick.first(members),
+        pick.first(members),
+    ]
+}
+
+/// What crosses threads.
+pub fn is_send<T: Send>(_value: &T) {}

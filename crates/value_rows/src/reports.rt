@@ -1,0 +1,173 @@
+//! Reports of events, and their text.
+use bank_format::{BankWriter, Format};
+use daq_text::TextBuffer;
+use event_header::Header;
+use event_report::Report;
+use std::test::Fail;
+
+/// The header of an event with this id.
+fn header(event_id: u16) -> Header {
+    Header {
+        event_id,
+        trigger_mask: 0,
+        serial_number: 1,
+        time_stamp: 1000,
+        data_size: 0,
+    }
+}
+
+/// The bank areas of the two generated events of ids 1 and 2.
+const FIRST: [u8; 24] = [
+    0x10, 0, 0, 0, 1, 0, 0, 0, 0x47, 0x45, 0x4e, 0x30, 6, 0, 4, 0, 0xac, 0x6f, 0x57, 0x6c, 0, 0, 0,
+    0,
+];
+
+const SECOND: [u8; 24] = [
+    0x10, 0, 0, 0, 1, 0, 0, 0, 0x47, 0x45, 0x4e, 0x30, 6, 0, 4, 0, 0xd9, 0xee, 0xec, 0xb8, 0, 0, 0,
+    0,
+];
+
+/// The text of a report over these events, each an id and its data.
+fn report_text(
+    rt: &(impl AllocGlobal),
+    events: &[(u16, &[u8])],
+    start: &[u8],
+) -> Result<TextBuffer, Fail> {
+    let mut report = Report::new(rt.alloc())?;
+    let mut left = 1 << 62;
+    for (id, body) in events {
+        let need = 16 + body.len();
+        if left < need {
+            break;
+        }
+        left -= need;
+        report.fold(&header(*id), body);
+    }
+    let mut text = TextBuffer::new(rt.alloc());
+    report.print(start, &mut text)?;
+    Ok(text)
+}
+
+/// A bank area in a format, of banks with name, type and data.
+fn area(
+    rt: &(impl AllocGlobal),
+    format: Format,
+    banks: &[([u8; 4], u32, &[u8])],
+) -> Result<Vec<u8>, Fail> {
+    let mut writer = BankWriter::new(rt.alloc(), format, 4096)?;
+    for (name, tid, body) in banks {
+        let _ = writer.add(*name, *tid, body);
+    }
+    Ok(writer.finish().to_vec(rt.alloc())?)
+}
+
+#[test]
+fn two_generated_events(rt: HostRuntime) -> Result<(), Fail> {
+    let both = report_text(&rt, &[(1, &FIRST), (2, &SECOND)], b"ANA ")?;
+    let expected = b"ANA events 2\nANA id 1 count 1\nANA id 2 count 1\n\
+ANA bank GEN0 UINT32 count 2 sum 4920204933 least 1817669548 greatest 3102535385\n\
+ANA rest ids 0 banks 0 bad 0\n";
+    assert_eq!(rt; both.as_slice(), expected.as_slice());
+    let one = report_text(&rt, &[(1, &FIRST)], b"")?;
+    let expected = b"events 1\nid 1 count 1\n\
+bank GEN0 UINT32 count 1 sum 1817669548 least 1817669548 greatest 1817669548\n\
+rest ids 0 banks 0 bad 0\n";
+    assert_eq!(rt; one.as_slice(), expected.as_slice());
+    let none = report_text(&rt, &[], b"")?;
+    assert_eq!(rt;
+        none.as_slice(),
+        b"events 0\nrest ids 0 banks 0 bad 0\n".as_slice()
+    );
+    Ok(())
+}
+
+#[test]
+fn integers_of_each_type(rt: HostRuntime) -> Result<(), Fail> {
+    let low = [
+        0, 0, 0, 0, 0, 0, 0, 0x80, 0xff, 0xff, 0xff, 0xff, 0xff, 0xff, 0xff, 0x7f,
+    ];
+    let body = area(
+        &rt,
+        Format::Bank32,
+        &[
+            (*b"UN64", 18, &[0xff; 16]),
+            (*b"IN64", 17, &low),
+            (*b"IN32", 7, &[0, 0, 0, 0x80]),
+            (*b"UN32", 6, &[0, 0, 0, 0x80, 9, 9, 9]),
+            (*b"IN16", 5, &[0, 0x80, 0xff, 0xff, 7]),
+            (*b"UN16", 4, &[0, 0x80]),
+            (*b"IN08", 2, &[0xff]),
+            (*b"UN08", 1, &[0xff, 1]),
+            (*b"CHAR", 3, &[65]),
+            (*b"BOOL", 8, &[1, 0, 0, 0]),
+            (*b"WIDE", 65_542, &[1, 0, 0, 0]),
+            (*b"NONE", 6, &[1, 2, 3]),
+        ],
+    )?;
+    let text = report_text(&rt, &[(7, &body)], b"")?;
+    let expected = b"events 1\nid 7 count 1\n\
+bank IN08 INT8 count 1 sum -1 least -1 greatest -1\n\
+bank IN16 INT16 count 2 sum -32769 least -32768 greatest -1\n\
+bank IN32 INT32 count 1 sum -2147483648 least -2147483648 greatest -2147483648\n\
+bank IN64 INT64 count 2 sum -1 least -9223372036854775808 greatest 9223372036854775807\n\
+bank UN08 UINT8 count 2 sum 256 least 1 greatest 255\n\
+bank UN16 UINT16 count 1 sum 32768 least 32768 greatest 32768\n\
+bank UN32 UINT32 count 1 sum 2147483648 least 2147483648 greatest 2147483648\n\
+bank UN64 UINT64 count 2 sum 36893488147419103230 least 18446744073709551615 greatest 18446744073709551615\n\
+rest ids 0 banks 0 bad 0\n";
+    assert_eq!(rt; text.as_slice(), expected.as_slice());
+    Ok(())
+}
+
+#[test]
+fn order_of_lines_and_bad_events(rt: HostRuntime) -> Result<(), Fail> {
+    let body = area(
+        &rt,
+        Format::Bank16,
+        &[
+            (*b"B\x00\xff ", 4, &[1, 0]),
+            (*b"ADC0", 7, &[1, 0, 0, 0]),
+            (*b"ADC0", 4, &[2, 0]),
+        ],
+    )?;
+    let text = report_text(&rt, &[(300, &body), (2, b"no banks"), (2, b"")], b"> ")?;
+    let expected = b"> events 3\n> id 2 count 2\n> id 300 count 1\n\
+> bank ADC0 UINT16 count 1 sum 2 least 2 greatest 2\n\
+> bank ADC0 INT32 count 1 sum 1 least 1 greatest 1\n\
+> bank B... UINT16 count 1 sum 1 least 1 greatest 1\n\
+> rest ids 0 banks 0 bad 2\n";
+    assert_eq!(rt; text.as_slice(), expected.as_slice());
+    Ok(())
+}
+
+/// Whether the text ends with these bytes.
+fn ends_with(text: &[u8], end: &[u8]) -> bool {
+    text.ends_with(end)
+}
+
+#[test]
+fn more_ids_and_banks_than_rows(rt: HostRuntime) -> Result<(), Fail> {
+    let mut report = Report::new(rt.alloc())?;
+    for id in 0..257u16 {
+        let name = [
+            b'B',
+            b'0',
+            (id / 16 % 16) as u8 + b'A',
+            (id % 16) as u8 + b'A',
+        ];
+        let kind = if id == 256 { 2 } else { 1 };
+        let body = area(&rt, Format::Bank16, &[(name, kind, &[3, 4])])?;
+        if body.len() <= 1000 {
+            report.fold(&header(id), &body);
+            if id == 256 {
+                report.fold(&header(id), &body);
+            }
+        }
+    }
+    let mut text = TextBuffer::new(rt.alloc());
+    report.print(b"", &mut text)?;
+    let end = b"bank B0PP UINT8 count 2 sum 7 least 3 greatest 4\nrest ids 2 banks 2 bad 0\n";
+    assert!(rt; ends_with(text.as_slice(), end));
+    assert_eq!(rt; text.as_slice().split(|b| *b == b'\n').count(), 515);
+    Ok(())
+}
