@@ -265,3 +265,12 @@ table_insert {R} number rows new at x table fits room is len capacity =
 
 pub All-insert : {R : Type 0} (P : R → Type 0) (rows : List R) (at : ℕ) (x : R) → All P rows → P x → All P (insert rows at x)
 All-insert P rows at x all one = All-append P (take at rows) (x ∷ drop at rows) (All-take P at rows all) (All-cons P x (drop at rows) one (All-drop P at rows all))
+
+-- a copy of a table is one
+pub table_copied : {R : Type 0} (number : R → ℕ) (rows new : Vec R) → IsTable number rows → new.items ≡ rows.items → vec_len new ≡ vec_len rows → row_limit ≤ vec_capacity new → IsTable number new
+table_copied number rows new table is len room = record {
+  rising = subst (IsRising number) (sym is) table.rising;
+  counted = len ∙ (table.counted ∙ ap length (sym is));
+  most = omega (arith, table.most);
+  room = room;
+}

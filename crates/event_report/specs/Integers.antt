@@ -1,5 +1,5 @@
 -- Integer types, and the integers that the bytes of a bank spell.
-use Rattle.std.specs.Prelude.{ℕ, zero, suc, ◌/◌, ◌==◌, List, [], ◌∷◌, length, drop, slice_index, Option, Some, None, ℤ, pos, if◌then◌else◌}
+use Rattle.std.specs.Prelude.{ℕ, zero, suc, ◌/◌, ◌==◌, Bool, true, false, List, [], ◌∷◌, length, drop, slice_index, Option, Some, None, ℤ, pos, if◌then◌else◌}
 use Rattle.std.specs.Int.{from_le_bytes, cast_signed, w8, w16, w32, w64}
 use Rattle.daq_types.specs.declared.types.Tid.{Tid}
 use Rattle.daq_types.specs.declared.types.Tid.TheVariants as tids
@@ -40,6 +40,17 @@ item_size UInt32 = 4
 item_size Int32 = 4
 item_size Int64 = 8
 item_size UInt64 = 8
+
+-- whether each item fits in 64 bits with a sign
+abbrev pub is_narrow : IntegerType → Bool
+is_narrow UInt8 = true
+is_narrow Int8 = true
+is_narrow UInt16 = true
+is_narrow Int16 = true
+is_narrow UInt32 = true
+is_narrow Int32 = true
+is_narrow Int64 = true
+is_narrow UInt64 = false
 
 -- the item at the front of the bytes, its low byte first; in a signed type the highest bit says that it is below zero
 abbrev pub first_item : IntegerType → List ℕ → ℤ

@@ -1,6 +1,7 @@
 -- What one more id, or one more bank of integers, makes of a tally: the rows that are there are changed or get one more.
 use Rattle.std.specs.Prelude.{ℕ, ◌+◌, ◌==◌, Bool, ◌||◌, List, [], ◌∷◌, length, map, fold, Option, Some, None, nat_lt, ℤ, ◌+ℤ◌, if◌then◌else◌}
 use Rattle.std.specs.Int.{int_min, int_max}
+use Rattle.event_report.specs.declared.figures.NarrowFigures.{NarrowFigures}
 use Rattle.event_report.specs.declared.rows.Figures.{Figures}
 use Rattle.event_report.specs.declared.rows.IdRow.{IdRow}
 use Rattle.event_report.specs.declared.rows.BankRow.{BankRow}
@@ -65,3 +66,7 @@ banks_after t banks = fold bank_tally_after t banks
 abbrev pub some_figures : List ℤ → Option Figures
 some_figures [] = None
 some_figures (x ∷ xs) = Some (figures_of (x ∷ xs))
+
+-- figures of items that fit in 64 bits with a sign, as figures of any
+abbrev pub widened : NarrowFigures → Figures
+widened f = record { count = f.count; sum = f.sum; least = f.least; greatest = f.greatest }

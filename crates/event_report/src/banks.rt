@@ -94,6 +94,18 @@ impl BankTable {
         Ok(BankTable { rows, rest: 0 })
     }
 
+    /// The same table once more, in room of its own.
+    pub fn copied(&self, alloc: Global) -> Result<BankTable, NoMemory>
+        ensures { IfOk result (λ copied. copied ≡ self.now) }
+    {
+        let mut rows = Vec::with_capacity(alloc, ROW_LIMIT)?;
+        rows.extend_from_slice(self.rows.as_slice())?;
+        Ok(BankTable {
+            rows,
+            rest: self.rest,
+        })
+    }
+
     /// Counts a bank, if it is one of integers and has a whole item.
     fn count(&mut self, bank: &Bank)
         requires long { length bank.now.body.now < 2 ^ 62 }

@@ -83,6 +83,18 @@ impl IdTable {
         Ok(IdTable { rows, rest: 0 })
     }
 
+    /// The same table once more, in room of its own.
+    pub fn copied(&self, alloc: Global) -> Result<IdTable, NoMemory>
+        ensures { IfOk result (λ copied. copied ≡ self.now) }
+    {
+        let mut rows = Vec::with_capacity(alloc, ROW_LIMIT)?;
+        rows.extend_from_slice(self.rows.as_slice())?;
+        Ok(IdTable {
+            rows,
+            rest: self.rest,
+        })
+    }
+
     /// Counts an event with this id.
     pub fn count(&mut self, id: u16)
         requires { IdsWithin (2 ^ 62) self.old }

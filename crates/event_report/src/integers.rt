@@ -1,6 +1,6 @@
-ghost use Rattle.std.specs.Prelude.{◌≡◌, ◌≤◌, ◌^◌, length, pos, neg_ℤ, ◌≤ℤ◌};
+ghost use Rattle.std.specs.Prelude.{◌≡◌, ◌≤◌, ◌^◌, IsTrue, length, pos, neg_ℤ, ◌≤ℤ◌};
 ghost use Rattle.std.specs.Int.{from_le_bytes, w16, w32, w64};
-ghost use Rattle.event_report.specs.Integers.{integer_tid, integer_type, item_size, first_item};
+ghost use Rattle.event_report.specs.Integers.{integer_tid, integer_type, is_narrow, item_size, first_item};
 
 use daq_types::Tid;
 
@@ -52,6 +52,7 @@ impl IntegerType {
     }
 
     /// The bytes of one item.
+    #[inline(always)]
     pub fn size(self) -> usize
         ensures { result ≡ item_size self }
     {
@@ -64,6 +65,7 @@ impl IntegerType {
     }
 
     /// The item at the front of the bytes, its low byte first.
+    #[inline(always)]
     pub fn first_item(self, bytes: &[u8]) -> i128
         requires { item_size self ≤ length bytes.now }
         ensures item { result ≡ first_item self bytes.now }
@@ -71,14 +73,27 @@ impl IntegerType {
         ensures high { result ≤ℤ pos (2 ^ 64) }
     {
         match self {
-            IntegerType::UInt8 => bytes[0] as i128,
-            IntegerType::Int8 => bytes[0].cast_signed() as i128,
-            IntegerType::UInt16 => read_u16(bytes) as i128,
-            IntegerType::Int16 => read_u16(bytes).cast_signed() as i128,
-            IntegerType::UInt32 => read_u32(bytes) as i128,
-            IntegerType::Int32 => read_u32(bytes).cast_signed() as i128,
-            IntegerType::Int64 => read_u64(bytes).cast_signed() as i128,
             IntegerType::UInt64 => read_u64(bytes) as i128,
+            narrow => narrow.narrow_item(bytes) as i128,
+        }
+    }
+
+    /// The same, of a type whose items fit in 64 bits with a sign.
+    #[inline(always)]
+    pub fn narrow_item(self, bytes: &[u8]) -> i64
+        requires narrow { IsTrue (is_narrow self) }
+        requires whole { item_size self ≤ length bytes.now }
+        ensures { result ≡ first_item self bytes.now }
+    {
+        match self {
+            IntegerType::UInt8 => bytes[0] as i64,
+            IntegerType::Int8 => bytes[0].cast_signed() as i64,
+            IntegerType::UInt16 => read_u16(bytes) as i64,
+            IntegerType::Int16 => read_u16(bytes).cast_signed() as i64,
+            IntegerType::UInt32 => read_u32(bytes) as i64,
+            IntegerType::Int32 => read_u32(bytes).cast_signed() as i64,
+            IntegerType::Int64 => read_u64(bytes).cast_signed(),
+            IntegerType::UInt64 => unreachable!(),
         }
     }
 }

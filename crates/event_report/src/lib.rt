@@ -13,6 +13,3 @@ mod texts;
 pub use integers::IntegerType;
 pub use report::Report;
 pub use rows::{BankRow, Figures, IdRow};
-
-#[cfg(test)]
-mod tests;

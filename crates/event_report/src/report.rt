@@ -58,6 +58,19 @@ impl Report {
         })
     }
 
+    /// The same report once more, in room of its own.
+    pub fn copied(&self, alloc: Global) -> Result<Report, NoMemory>
+        ensures { IfOk result (λ copied. copied ≡ self.now) }
+    {
+        Ok(Report {
+            bytes: self.bytes,
+            events: self.events,
+            ids: self.ids.copied(alloc)?,
+            banks: self.banks.copied(alloc)?,
+            bad: self.bad,
+        })
+    }
+
     /// Counts one more event. The events so far and this one may have 2^62 bytes together, each with 16 for its header.
     pub fn fold(&mut self, header: &Header, body: &[u8])
         requires { self.old.bytes + 16 + length body.now ≤ 2 ^ 62 }

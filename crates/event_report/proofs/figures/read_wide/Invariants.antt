@@ -1,6 +1,6 @@
 use Rattle.std.proofs.Common.{length}
 use Rattle.event_report.proofs.Sums.{IsSummed}
-use Rattle.event_report.proofs.figures.read_figures.Given as goal
+use Rattle.event_report.proofs.figures.read_wide.Given as goal
 
 abbrev pub invariant-loop-left : goal.invariant-loop-left
 invariant-loop-left l = IsSummed l.kind l.body l.left l.figures

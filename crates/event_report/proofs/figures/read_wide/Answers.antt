@@ -7,7 +7,7 @@ use Rattle.event_report.specs.Held.{FiguresWithin}
 use Rattle.event_report.specs.Integers.{first_item}
 use Rattle.event_report.specs.Tallies.{figures_of}
 use Rattle.event_report.proofs.Sums.{size_some, summed_first, summed_more, summed_all}
-use Rattle.event_report.proofs.figures.read_figures.Goals as goal
+use Rattle.event_report.proofs.figures.read_wide.Goals as goal
 
 pub loop-left-init : goal.loop-left-init
 loop-left-init c =
