@@ -1,6 +1,6 @@
 -- Sets of numbers, one after the other; and calls that memory cut short.
 use Rattle.std.specs.Prelude.{◌≡◌, OnErr, ℕ, List, [], ◌∷◌, ◌++◌, Result, Ok, Err, refl}
-use Rattle.std.proofs.Common.{ap, sym, subst, ◌∙◌, inl, inr}
+use Rattle.std.proofs.Common.{ap, subst, ◌∙◌, inl, inr}
 use Rattle.daq_types.specs.declared.types.Tid.TheVariants.{UInt64}
 use Rattle.odb_value.specs.declared.items.Item.{Item}
 use Rattle.odb_value.specs.Values.{HeldValue}
@@ -12,7 +12,7 @@ use Rattle.odb_tree.specs.declared.rows.NewKey.TheVariants.{Keys}
 use Rattle.odb_port.specs.DatabasePorts.{DatabaseAccess, AddsCall, AddsCalls, MayAdd}
 use Rattle.odb_runinfo.specs.declared.keys.RunKey.TheVariants.{RunNumber}
 use Rattle.odb_runinfo.specs.RunKeys.{key_path, sent_path}
-use Rattle.odb_runinfo.specs.RunSets.{Assignment, IsSet, AreSets, SetsNumbers, number_asked, sent_key_made}
+use Rattle.odb_runinfo.specs.RunSets.{Assignment, AreSets, SetsNumbers, number_asked, sent_key_made}
 
 calls_behind : (a b c : DatabaseAccess) (some more : List DatabaseEntry) → AddsCalls a b some → AddsCalls b c more → AddsCalls a c (some ++ more)
 calls_behind a b c [] more same then = subst (λ (d : DatabaseAccess). AddsCalls d c more) same then

@@ -99,21 +99,9 @@ sent_set front sent = record { path = sent_path front; item = UInt64 sent }
 abbrev pub start_sets : (run time : ℕ) → List Assignment
 start_sets run time = key_set State (Int32 (pos 1)) ∷ key_set RunNumber (Int32 (pos run)) ∷ key_set StartTime (UInt32 time) ∷ key_set StopTime (UInt32 0) ∷ []
 
--- once a run came about the state is running
-abbrev pub running_set : List Assignment
-running_set = key_set State (Int32 (pos 3)) ∷ []
-
 -- a start that was refused: the run's number is set back by one
 abbrev pub refused_sets : (run : ℕ) → List Assignment
 refused_sets run = key_set RunNumber (Int32 (pos (run - 1))) ∷ []
-
--- a stop as it begins: the state is still running, and the time of the stop
-abbrev pub stopping_sets : (time : ℕ) → List Assignment
-stopping_sets time = key_set State (Int32 (pos 3)) ∷ key_set StopTime (UInt32 time) ∷ []
-
--- and stopped once it is over
-abbrev pub stopped_set : List Assignment
-stopped_set = key_set State (Int32 (pos 1)) ∷ []
 
 -- the run state as it stands in the database
 abbrev pub state_item : RunState → Item

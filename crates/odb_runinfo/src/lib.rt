@@ -8,13 +8,8 @@ mod opening;
 mod parameters;
 mod paths;
 mod sets;
-#[cfg(test)]
-mod tests;
 
 pub use keys::{RunKey, sent_path};
 pub use opening::open;
-pub use paths::{KeyPaths, RunPaths, StartedPaths, StoppedPaths, StoppingPaths};
-pub use sets::{
-    RunNumber, START_CALLS, STOP_CALLS, next_run, open_front, set_refused, set_running, set_sent,
-    set_start, set_stopped, set_stopping,
-};
+pub use paths::KeyPaths;
+pub use sets::{RunNumber, next_run, open_front};
