@@ -1,13 +1,18 @@
 -- The clients of a buffer that is kept in bytes.
-use Rattle.std.specs.Prelude.{ℕ, nat_lt, if◌then◌else◌, List, replicate, map, Option, None}
+use Rattle.std.specs.Prelude.{◌≡◌, ℕ, ◌≤◌, nat_lt, if◌then◌else◌, List, replicate, map, Option, None}
 use Rattle.std.specs.Option.{option_map}
 use Rattle.buffer_core.specs.declared.client.Client.{Client}
+use Rattle.buffer_core.specs.Slots.{slot_at}
 use Rattle.buffer_core.specs.Calls.{going_on}
 use Rattle.client_pointers.specs.declared.pointer.Pointer.{Pointer}
 
 -- all 64 numbers are free
 unfoldable pub no_pointers : List (Option Pointer)
 no_pointers = replicate 64 None
+
+-- this number, and each above it, is free
+abbrev pub AreFreeFrom : (given : ℕ) → List (Option Pointer) → Type 0
+AreFreeFrom given slots = (n : ℕ) → given ≤ n → slot_at slots n ≡ None
 
 -- the clients, without where they go on in the bytes
 abbrev pub clients_of : List (Option Pointer) → List (Option Client)

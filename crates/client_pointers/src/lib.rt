@@ -6,6 +6,3 @@ mod pointers;
 
 pub use pointer::Pointer;
 pub use pointers::Pointers;
-
-#[cfg(test)]
-mod tests;

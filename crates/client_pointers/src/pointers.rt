@@ -1,10 +1,10 @@
-ghost use Rattle.std.specs.Prelude.{◌≡◌, ◌<◌, ◌^◌, [], length, IfOk, IfSome, OnOk, OnErr, Some, None, slice_set};
+ghost use Rattle.std.specs.Prelude.{◌≡◌, ◌<◌, ◌≤◌, ◌^◌, [], length, IfOk, IfSome, OnOk, OnErr, Some, None, slice_set};
 ghost use Rattle.std.specs.Option.{ok_or, option_map};
 ghost use Rattle.event_header.specs.Headers.{event_of};
 ghost use Rattle.buffer_core.specs.Slots.{slot_at, free_slot, first_slot, change_slot, change_all};
 ghost use Rattle.buffer_core.specs.Window.{wants, owes};
 ghost use Rattle.buffer_core.specs.Calls.{no_slot, joined, with_request, detach_reply_to, request_reply_to, cancel_reply_to};
-ghost use Rattle.client_pointers.specs.Pointers.{no_pointers, clients_of, changed, moved, raised, position_of};
+ghost use Rattle.client_pointers.specs.Pointers.{AreFreeFrom, no_pointers, clients_of, changed, moved, raised, position_of};
 
 use crate::pointer::{Pointer, is_behind, raised_slot};
 use buffer_core::{Client, NoClient, NoSlot, Request, RequestRefusal, free_number};
@@ -16,23 +16,30 @@ use std::marker::Model;
 #[derive(Drop)]
 pub struct Pointers {
     slots: [Option<Pointer>; 64],
+    /// The numbers below this one were given at some time. No other is looked at.
+    given: usize,
 }
 
 impl Model for Pointers {
-    ghost use Rattle.std.specs.Prelude.{List, Option};
+    ghost use Rattle.std.specs.Prelude.{◌≤◌, List, Option};
+    ghost use Rattle.client_pointers.specs.Pointers.{AreFreeFrom};
     ghost use Rattle.client_pointers.specs.declared.pointer.Pointer.{Pointer};
 
     ghost Value = { List (Option Pointer) };
 
     ghost view = { λ p. p.slots };
+
+    ghost invariant = { λ p. (p.given ≤ 64) × AreFreeFrom p.given p.slots };
 }
 
 /// The client of this number, and where it goes on.
-fn find(slots: &[Option<Pointer>], client: u32) -> Option<Pointer>
+fn find(slots: &[Option<Pointer>], given: usize, client: u32) -> Option<Pointer>
+    requires within { given ≤ length slots.now }
+    requires free { AreFreeFrom given slots.now }
     ensures value { result ≡ slot_at slots.now client }
-    ensures within { IfSome result (λ _. client < length slots.now) }
+    ensures given { IfSome result (λ _. client < given) }
 {
-    if client as usize >= slots.len() {
+    if client as usize >= given {
         return None;
     }
     slots[client as usize]
@@ -63,10 +70,13 @@ fn first_owed(slots: &[Option<Pointer>], place: u64, header: &Header) -> Option<
     })
 }
 
-fn raise_all(slots: &mut [Option<Pointer>], off: u64, place: u64)
+/// All clients that are behind this place, which has this offset, go on from there.
+fn raise_all(slots: &mut [Option<Pointer>], given: usize, off: u64, place: u64)
+    requires within { given ≤ length slots.old }
+    requires free { AreFreeFrom given slots.old }
     ensures { slots.new ≡ change_all (raised off place) slots.old }
 {
-    for number in 0..slots.len() {
+    for number in 0..given {
         if is_behind(&slots[number], place) {
             slots[number] = raised_slot(slots[number], off, place);
         }
@@ -79,7 +89,10 @@ impl Pointers {
     pub fn new() -> Pointers
         ensures { result ≡ no_pointers }
     {
-        Pointers { slots: [None; 64] }
+        Pointers {
+            slots: [None; 64],
+            given: 0,
+        }
     }
 
     /// Attaches a client that begins at this place, which has this offset.
@@ -98,6 +111,7 @@ impl Pointers {
                     requests: [None; 10],
                 };
                 self.slots[number as usize] = Some(Pointer { client, off });
+                self.given = self.given.max(number as usize + 1);
                 Ok(number)
             }
             None => Err(NoSlot),
@@ -110,7 +124,7 @@ impl Pointers {
         ensures ok { OnOk result (self.new ≡ slice_set self.old client None) }
         ensures err { OnErr result (self.new ≡ self.old) }
     {
-        match find(&self.slots, client) {
+        match find(&self.slots, self.given, client) {
             Some(_) => {
                 self.slots[client as usize] = None;
                 Ok(())
@@ -134,7 +148,7 @@ impl Pointers {
             { id = id; mask = mask; kind = kind; since = since })))) self.old client) }
         ensures err { OnErr result (self.new ≡ self.old) }
     {
-        let Some(pointer) = find(&self.slots, client) else {
+        let Some(pointer) = find(&self.slots, self.given, client) else {
             return Err(RequestRefusal::NoClient);
         };
         match free_number(&pointer.client.requests) {
@@ -162,7 +176,7 @@ impl Pointers {
             self.old client) }
         ensures err { OnErr result (self.new ≡ self.old) }
     {
-        let Some(pointer) = find(&self.slots, client) else {
+        let Some(pointer) = find(&self.slots, self.given, client) else {
             return Err(RequestRefusal::NoClient);
         };
         match pointer.client.request_at(request) {
@@ -181,7 +195,7 @@ impl Pointers {
     pub fn owed(&self, place: u64, header: &Header) -> Option<u32>
         ensures { result ≡ first_slot (owes place (event_of header.now [])) (clients_of self.now) }
     {
-        match first_owed(&self.slots, place, header) {
+        match first_owed(&self.slots[..self.given], place, header) {
             Some(number) => Some(number as u32),
             None => None,
         }
@@ -199,7 +213,7 @@ impl Pointers {
     pub fn at(&self, client: u32) -> Option<(u64, u64)>
         ensures { result ≡ option_map position_of (slot_at self.now client) }
     {
-        match find(&self.slots, client) {
+        match find(&self.slots, self.given, client) {
             Some(pointer) => Some((pointer.off, pointer.client.next)),
             None => None,
         }
@@ -211,7 +225,7 @@ impl Pointers {
         ensures ok { OnOk result (self.new ≡ change_slot (moved off place) self.old client) }
         ensures err { OnErr result (self.new ≡ self.old) }
     {
-        match find(&self.slots, client) {
+        match find(&self.slots, self.given, client) {
             Some(pointer) => {
                 self.slots[client as usize] = Some(Pointer {
                     client: pointer.client.going_on(place),
@@ -227,6 +241,6 @@ impl Pointers {
     pub fn push(&mut self, off: u64, place: u64)
         ensures { self.new ≡ change_all (raised off place) self.old }
     {
-        raise_all(&mut self.slots, off, place);
+        raise_all(&mut self.slots, self.given, off, place);
     }
 }

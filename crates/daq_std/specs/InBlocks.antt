@@ -1,5 +1,5 @@
 -- Files of a folder of the system, each read or written in blocks under its number.
-use Rattle.std.specs.Prelude.{ℕ, List, Option, Result, OnOk, OnErr, IsTrue, IsErr}
+use Rattle.std.specs.Prelude.{ℕ, List, Option, Result, IsTrue}
 use Rattle.std.specs.Io.KnownBytes.{Appends, Keeps}
 use Rattle.daq_io.specs.Counts.{CountsFault, NamesFirst}
 use Rattle.daq_io.specs.Seen.{Seen}

@@ -11,9 +11,6 @@ use std::alloc::Global;
 use std::marker::Model;
 use std::rt;
 
-/// How many files of one folder are in use at a time, at most.
-const NUMBERS: u32 = 32;
-
 /// The files of one folder of the system; a name that begins with `/` is one from the root. Nothing is told of their names
 /// and bytes. Reads and appends go through blocks that are taken once, so bytes may reach the system only at a later
 /// append or at the close, and a failure there is that call's fault. A close answers Ok only when the system has put the
@@ -39,19 +36,23 @@ impl<R: rt::Files + Drop> Model for StdFiles<R> {
 }
 
 impl<R: rt::Files + Drop> StdFiles<R> {
-    /// The files of this folder.
-    pub fn new(alloc: Global, system: R, folder: &str) -> Result<StdFiles<R>, NoMemory>
+    /// The files of this folder, of which so many are in use at a time, at most.
+    pub fn new(
+        alloc: Global,
+        system: R,
+        folder: &str,
+        numbers: u32,
+    ) -> Result<StdFiles<R>, NoMemory>
         ensures unused { IfOk result (λ made. (number : ℕ)
             → IsFree (⟦<StdFiles<R> as Files>⟧.seen made) number) }
         ensures faults { IfOk result (λ made. ⟦<StdFiles<R> as Files>⟧.faults made ≡ 0) }
         ensures clashes { IfOk result (λ made. ⟦<StdFiles<R> as Files>⟧.clashes made ≡ 0) }
     {
         let folder = SystemFolder::new(alloc, system, folder)?;
-        let numbers = UseTable::new(alloc, NUMBERS)?;
-        let blocks = BlockTable::new(alloc, NUMBERS)?;
+        let blocks = BlockTable::new(alloc, numbers)?;
         Ok(StdFiles {
             folder,
-            numbers,
+            numbers: UseTable::new(alloc, numbers)?,
             blocks,
             tally: Tally::new(),
         })
@@ -97,12 +98,12 @@ impl<R: rt::Files + Drop> Files for StdFiles<R> {
         ensures never_again { IsBroken self.old file → IsErr result }
         ensures breaks { OnErr result (IsBroken self.new file) }
     {
-        match self.numbers.usage(file) {
-            Usage::Writing(name) => {
-                let appended = self.blocks.append(file, bytes);
-                counted(&mut self.tally, &name, appended)
-            }
-            _ => unreachable!(),
+        match self.blocks.append(file, bytes) {
+            Ok(()) => Ok(()),
+            Err(failed) => match self.numbers.usage(file) {
+                Usage::Writing(name) => counted(&mut self.tally, &name, Err(failed)),
+                _ => unreachable!(),
+            },
         }
     }
 

@@ -14,6 +14,3 @@ mod table;
 pub use choices::{RoundPick, StdClock};
 pub use files::StdFiles;
 pub use streams::{StdSink, StdSource};
-
-#[cfg(test)]
-mod tests;

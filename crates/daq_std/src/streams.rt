@@ -7,7 +7,7 @@ use std::alloc::Global;
 use std::io::{BufReader, Read, Write};
 
 /// How many bytes are read ahead at a time.
-const AHEAD_BYTES: usize = 65536;
+const AHEAD_BYTES: usize = 8192;
 
 /// A source over a reader, such as standard input, which is read in blocks. It tells the bytes of a reader that tells
 /// them; nothing is told of standard input.

@@ -3,7 +3,7 @@ ghost use Rattle.std.specs.Option.{option_map, option_copied};
 ghost use Rattle.odb_path.specs.Paths.{depth_limit};
 ghost use Rattle.odb_tree.specs.declared.rows.Row.{Row};
 ghost use Rattle.odb_tree.specs.Rows.{no_rows, row_at, row_numbered, bytes_in, total_of};
-ghost use Rattle.odb_tree.specs.Lookups.{obstacle_from, obstacle_to_new, dir_fault, seek, seek_key};
+ghost use Rattle.odb_tree.specs.Lookups.{parent_of, obstacle_to_new, dir_fault, seek, seek_key};
 ghost use Rattle.odb_tree.specs.Making.{missing_from, new_number, created};
 ghost use Rattle.odb_tree.specs.Calls.{path_with, child_of, after_delete, after_resize, exists_fault, create_fault, set_fault, set_all_fault};
 ghost use Rattle.odb_tree.specs.Changes.{IsKeyAt};
@@ -33,9 +33,6 @@ use odb_tree::{
 use odb_value::{Item, Value};
 use std::alloc::Global;
 use std::marker::Model;
-
-#[cfg(test)]
-mod tests;
 
 /// A database in an arena.
 #[derive(Drop)]
@@ -126,14 +123,22 @@ impl ArenaTree {
         }
     }
 
+    /// How far directories lead to the directory in which a path stands.
+    fn reach_parent(&self, names: &[Name]) -> Reached
+        ensures { IsReached self.now.rows (parent_of names.now) result }
+    {
+        let _ = &self.root;
+        self.reach(parent(names))
+    }
+
     /// The row at the path of these names.
-    fn row_at(&self, names: &[Name]) -> Option<&Row>
-        requires { 0 < length names.now }
+    fn row_at(&self, names: &[Name], reached: Reached) -> Option<&Row>
+        requires some { 0 < length names.now }
+        requires reached { IsReached self.now.rows (parent_of names.now) reached }
         ensures { option_copied result ≡ row_at self.now.rows names.now }
     {
         let _ = &self.root;
         let front = parent(names);
-        let reached = self.reach(front);
         if reached.depth < front.len() {
             return None;
         }
@@ -381,54 +386,70 @@ impl ArenaTree {
     }
 
     /// Makes a row, and the missing directories of its path.
-    fn make(&mut self, alloc: Global, names: &[Name], value: Option<Value>) -> Result<u32, NoMemory>
-        requires { CanMake self.old names.now value }
+    fn make(
+        &mut self,
+        alloc: Global,
+        names: &[Name],
+        reached: Reached,
+        value: Option<Value>,
+    ) -> Result<u32, NoMemory>
+        requires can { CanMake self.old names.now value }
+        requires reached { IsReached self.old.rows (parent_of names.now) reached }
         ensures number { IfOk result (λ number. number ≡ new_number self.old names.now) }
         ensures ok { OnOk result (self.new ≡ created self.old names.now value) }
         ensures err { OnErr result (self.new ≡ self.old) }
     {
         let _ = &self.root;
-        let reached = self.reach(parent(names));
         self.make_from(alloc, reached.at, &names[reached.depth..], value)
     }
 
     /// Whether something is there already.
-    fn exists_fault(&self, names: &[Name]) -> Option<OdbRefusal>
+    fn exists_fault(&self, names: &[Name], reached: Reached) -> Option<OdbRefusal>
+        requires { IsReached self.now.rows (parent_of names.now) reached }
         ensures { result ≡ exists_fault self.now.rows names.now }
     {
-        if names.is_empty() || self.row_at(names).is_some() {
+        if names.is_empty() || self.row_at(names, reached).is_some() {
             return Some(OdbRefusal::Exists);
         }
         None
     }
 
-    /// The first obstacle along these names from the root.
-    fn obstacle(&self, names: &[Name], missing: Option<OdbRefusal>) -> Option<OdbRefusal>
-        ensures { result ≡ obstacle_from missing self.now.rows [] names.now }
+    /// The first obstacle on the way to a new row.
+    fn obstacle(&self, names: &[Name], reached: Reached) -> Option<OdbRefusal>
+        requires { IsReached self.now.rows (parent_of names.now) reached }
+        ensures { result ≡ obstacle_to_new self.now.rows names.now }
     {
         let _ = &self.root;
-        self.reach(names).obstacle(names.len(), missing)
+        reached.obstacle(parent(names).len(), None)
     }
 
-    /// How many of these directories are missing, where no key is an obstacle.
-    fn count_missing(&self, names: &[Name]) -> usize
-        requires { obstacle_from None self.now.rows [] names.now ≡ None }
-        ensures count { result ≡ missing_from self.now.rows [] names.now }
+    /// How many directories are missing on the way to a new row, where no key is an obstacle.
+    fn count_missing(&self, names: &[Name], reached: Reached) -> usize
+        requires clear { obstacle_to_new self.now.rows names.now ≡ None }
+        requires reached { IsReached self.now.rows (parent_of names.now) reached }
+        ensures count { result ≡ missing_from self.now.rows [] (parent_of names.now) }
         ensures most { result ≤ length names.now }
     {
         let _ = &self.root;
-        names.len() - self.reach(names).depth
+        parent(names).len() - reached.depth
     }
 
     /// The limit that a new row of so many bytes would pass.
-    fn new_fault(&self, names: &[Name], own: Option<What>, bytes: u64) -> Option<OdbRefusal>
+    fn new_fault(
+        &self,
+        names: &[Name],
+        reached: Reached,
+        own: Option<What>,
+        bytes: u64,
+    ) -> Option<OdbRefusal>
         requires clear { obstacle_to_new self.now.rows names.now ≡ None }
+        requires reached { IsReached self.now.rows (parent_of names.now) reached }
         requires depth { length names.now ≤ depth_limit }
         requires small { bytes < 2 ^ 62 }
         ensures { (value : Option HeldValue) → (own ≡ None → bytes_in value ≡ bytes) → result
             ≡ limit_fault own (created self.now names.now value) }
     {
-        let missing = self.count_missing(parent(names));
+        let missing = self.count_missing(names, reached);
         limit_fault(
             own,
             self.count + missing + 1,
@@ -448,20 +469,21 @@ impl ArenaTree {
     }
 
     /// Why a row is not made.
-    fn create_fault(&self, names: &[Name], kind: NewKey) -> Option<OdbRefusal>
-        requires { length names.now ≤ depth_limit }
+    fn create_fault(&self, names: &[Name], reached: Reached, kind: NewKey) -> Option<OdbRefusal>
+        requires depth { length names.now ≤ depth_limit }
+        requires reached { IsReached self.now.rows (parent_of names.now) reached }
         ensures { result ≡ create_fault self.now names.now kind }
     {
-        if let Some(refusal) = self.obstacle(parent(names), None) {
+        if let Some(refusal) = self.obstacle(names, reached) {
             return Some(refusal);
         }
-        if let Some(refusal) = self.exists_fault(names) {
+        if let Some(refusal) = self.exists_fault(names, reached) {
             return Some(refusal);
         }
         if let Some(refusal) = kept_fault(kind) {
             return Some(refusal);
         }
-        self.new_fault(names, items_fault(kind), bytes_of_new(kind))
+        self.new_fault(names, reached, items_fault(kind), bytes_of_new(kind))
     }
 
     /// Why an item is not put into this value, which stands at the path.
@@ -487,19 +509,20 @@ impl ArenaTree {
     }
 
     /// Why a value is not written.
-    fn set_all_fault(&self, names: &[Name], value: &Value) -> Option<OdbRefusal>
-        requires { length names.now ≤ depth_limit }
+    fn set_all_fault(&self, names: &[Name], reached: Reached, value: &Value) -> Option<OdbRefusal>
+        requires depth { length names.now ≤ depth_limit }
+        requires reached { IsReached self.now.rows (parent_of names.now) reached }
         ensures { result ≡ set_all_fault self.now names.now value.now }
     {
-        if let Some(refusal) = self.obstacle(parent(names), None) {
+        if let Some(refusal) = self.obstacle(names, reached) {
             return Some(refusal);
         }
         if names.is_empty() {
             return Some(OdbRefusal::NotValue);
         }
         let given = value.tid();
-        let Some(row) = self.row_at(names) else {
-            return self.new_fault(names, None, bytes_of(value));
+        let Some(row) = self.row_at(names, reached) else {
+            return self.new_fault(names, reached, None, bytes_of(value));
         };
         let Some(had) = &row.value else {
             return Some(OdbRefusal::NotValue);
@@ -528,11 +551,12 @@ impl Database for ArenaTree {
     fn create(&mut self, alloc: Global, path: &Path, kind: NewKey) -> Result<u32, OdbRefusal> {
         let _ = &self.root;
         let names = path.names();
-        if let Some(refusal) = self.create_fault(names, kind) {
+        let reached = self.reach_parent(names);
+        if let Some(refusal) = self.create_fault(names, reached, kind) {
             return Err(refusal);
         }
         let value = new_value(alloc, kind)?;
-        let number = self.make(alloc, names, value)?;
+        let number = self.make(alloc, names, reached, value)?;
         Ok(number)
     }
 
@@ -561,12 +585,13 @@ impl Database for ArenaTree {
     fn set_all(&mut self, alloc: Global, path: &Path, value: &Value) -> Result<u32, OdbRefusal> {
         let _ = &self.root;
         let names = path.names();
-        if let Some(refusal) = self.set_all_fault(names, value) {
+        let reached = self.reach_parent(names);
+        if let Some(refusal) = self.set_all_fault(names, reached, value) {
             return Err(refusal);
         }
         let _ = value.tid();
         let value = value.try_clone(alloc)?;
-        match self.row_at(names) {
+        match self.row_at(names, reached) {
             Some(row) => {
                 let number = row.number;
                 let had = bytes_in(&row.value);
@@ -575,7 +600,7 @@ impl Database for ArenaTree {
                 Ok(number)
             }
             None => {
-                let number = self.make(alloc, names, Some(value))?;
+                let number = self.make(alloc, names, reached, Some(value))?;
                 Ok(number)
             }
         }

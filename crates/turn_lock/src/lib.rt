@@ -21,8 +21,6 @@ mod opening;
 mod roster;
 mod rule;
 mod steps;
-#[cfg(test)]
-mod tests;
 
 pub use closing::{Closed, MissingPass};
 pub use lock::{Held, Note, Pass, Taken, Turns};

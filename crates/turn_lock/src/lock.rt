@@ -165,6 +165,23 @@ impl<M: Machine> Turns<M> {
         ensures held { held_by pass.new ≡ Some (M.state result.value.value) }
         ensures found { IsPrefix (found_by pass.old) (found_by pass.new) }
     {
+        match self.try_take(pass) {
+            Ok(held) => held,
+            Err(_) => self.take_when_free(rt, pass),
+        }
+    }
+
+    /// Takes the turn, which another pass had a moment ago.
+    fn take_when_free<R: Wait>(&self, rt: &R, pass: &mut Pass<M>) -> Held<M>
+        requires own { IsOf self.now pass.old }
+        requires idle { held_by pass.old ≡ None }
+
+        ensures own { IsOf self.now pass.new }
+        ensures number { number_of pass.new ≡ number_of pass.old }
+        ensures seen { seen_by pass.new ≡ seen_by pass.old }
+        ensures held { held_by pass.new ≡ Some (M.state result.value.value) }
+        ensures found { IsPrefix (found_by pass.old) (found_by pass.new) }
+    {
         for _ in rt.forever() {
             if let Some(held) = self.spin(pass) {
                 return held;

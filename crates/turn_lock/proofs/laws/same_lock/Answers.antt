@@ -1,4 +1,4 @@
-use Rattle.std.proofs.Common.{◌≡◌, ◌∙◌, sym, ap, Some, get_or, drop, refl}
+use Rattle.std.proofs.Common.{◌≡◌, ◌∙◌, sym, ap, Some, get_or, drop}
 use Rattle.atomic_table.specs.Seated.{TableId}
 use Rattle.turn_lock.specs.Passes.{table_numbers}
 use Rattle.turn_lock.proofs.laws.same_lock.Goals as goal

@@ -1,10 +1,9 @@
-use Rattle.std.proofs.Common.{◌≡◌, ◌≤◌, ℕ, [], Option, Some, None, refl, sym, subst, ap, ◌∙◌}
+use Rattle.std.proofs.Common.{◌≡◌, ◌≤◌, ℕ, Option, Some, None, refl, sym, subst, ap, ◌∙◌}
 use Rattle.std.specs.Option.{option_copied, option_or}
 use Rattle.odb_value.specs.Values.{HeldValue}
 use Rattle.odb_tree.specs.Rows.{row_at, change_at, total_of}
 use Rattle.odb_tree.specs.Limits.{limit_fault}
 use Rattle.odb_tree.specs.declared.refusals.OdbRefusal.{OdbRefusal}
-use Rattle.odb_tree.specs.Lookups.{obstacle_from}
 use Rattle.odb_tree.specs.Calls.{type_fault}
 use Rattle.odb_tree.proofs.FaultLemmas.{had_some, change_is, key_at, or_next, set_all_new, set_all_there}
 use Rattle.odb_arena.proofs.tree.ArenaTree.set_all_fault.Goals as goal
@@ -17,8 +16,7 @@ change_fault-requires-clause-had c =
 pub returns : goal.returns
 returns c =
     let there : row_at c.args.self.now.rows c.args.names.now ≡ Some c.in-Some-row_at.row.now = sym c.row_at.ensures ∙ ap option_copied c.in-Some-row_at.is in
-    let obstacle_is = c.obstacle.ensures
-    ∙ ap (obstacle_from None c.args.self.now.rows []) c.parent.ensures in
+    let obstacle_is = c.obstacle.ensures in
     set_all_there c.args.self.now c.args.names.now c.args.value.now c.in-Some-value.had c.in-Some-row_at.row.now c.obstacle.result c.type_fault.result c.change_fault.result
     (sym c.is_empty.ensures ∙ c.if-is_empty.false) there c.in-Some-value.is
     c.tid-given.ensures.is_value obstacle_is c.in_default.not-Some
@@ -32,7 +30,7 @@ pub returns-in_default-row_at : goal.returns-in_default-row_at
 returns-in_default-row_at c =
     set_all_new c.args.self.now c.args.names.now c.args.value.now c.obstacle.result c.new_fault.result (sym c.is_empty.ensures ∙ c.if-is_empty.false)
     (sym c.row_at.ensures ∙ ap option_copied c.in_default-row_at.is) c.tid-given.ensures.is_value
-    (c.obstacle.ensures ∙ ap (obstacle_from None c.args.self.now.rows []) c.parent.ensures) c.in_default.not-Some
+    c.obstacle.ensures c.in_default.not-Some
     (c.new_fault.ensures (Some c.args.value.now) (λ none. sym c.bytes_of.ensures.value))
 
 pub returns-in-Some-type_fault : goal.returns-in-Some-type_fault
@@ -41,6 +39,6 @@ returns-in-Some-type_fault c =
     (sym c.is_empty.ensures ∙ c.if-is_empty.false)
     (sym c.row_at.ensures ∙ ap option_copied c.in-Some-row_at.is) c.in-Some-value.is
     c.tid-given.ensures.is_value
-    (c.obstacle.ensures ∙ ap (obstacle_from None c.args.self.now.rows []) c.parent.ensures) c.in_default.not-Some
+    c.obstacle.ensures c.in_default.not-Some
     (c.type_fault.ensures ∙ (ap (λ t. type_fault t c.tid-given.result) c.tid.ensures.tid ∙ ap (type_fault c.in-Some-value.had.tid) c.tid-given.ensures.tid))
     (sym (ap (λ (o : Option OdbRefusal). option_or o (limit_fault None (record { rows = change_at c.args.self.now.rows c.args.names.now (λ _. c.args.value.now); next = c.args.self.now.next }))) c.in-Some-type_fault.is))

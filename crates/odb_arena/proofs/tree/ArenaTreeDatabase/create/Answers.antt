@@ -4,7 +4,7 @@ use Rattle.odb_tree.specs.Databases.{IsDatabase}
 use Rattle.odb_arena.proofs.Accepted.{can_create}
 use Rattle.odb_arena.proofs.tree.ArenaTreeDatabase.create.Goals as goal
 
-pub make-requires : goal.make-requires
-make-requires c =
+pub make-requires-clause-can : goal.make-requires-clause-can
+make-requires-clause-can c =
     can_create c.args.self.now c.names-names.result.now c.args.kind c.create_fault.result c.in_ok-value.value (subst IsDatabase c.self.view_is c.self.invariant.database)
     (subst IsPath (sym c.names-names.ensures.names) c.names-names.ensures.is_path) c.create_fault.ensures c.in_default.is c.in_ok-value.ensures

@@ -28,8 +28,8 @@ invariant_of-self c =
     c.set_all_fault.ensures c.in_default.is (sym c.row_at.ensures ∙ ap option_copied c.in-Some-row_at.is) c.in_ok-value.ensures refl)
     c.replace_in.ensures.rows c.replace_in.ensures.names (c.bytes_in-had.ensures.bytes ∙ ap bytes_in had.1) c.bytes_at.ensures.bytes).1
 
-pub make-requires : goal.make-requires
-make-requires c =
+pub make-requires-clause-can : goal.make-requires-clause-can
+make-requires-clause-can c =
     can_set_all c.args.self.now c.names-names.result.now c.args.value.now c.in_ok-value.value c.set_all_fault.result (subst IsDatabase c.self.view_is c.self.invariant.database)
     (subst IsPath (sym c.names-names.ensures.names) c.names-names.ensures.is_path) c.tid.ensures.is_value c.set_all_fault.ensures c.in_default.is
     (sym c.row_at.ensures ∙ ap option_copied c.in-None.is) c.in_ok-value.ensures

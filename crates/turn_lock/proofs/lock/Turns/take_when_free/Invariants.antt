@@ -1,5 +1,5 @@
 use Rattle.turn_lock.specs.Passes.{Misses}
-use Rattle.turn_lock.proofs.lock.Turns.take.Given as goal
+use Rattle.turn_lock.proofs.lock.Turns.take_when_free.Given as goal
 
 abbrev pub invariant-loop : goal.invariant-loop
 invariant-loop g l = Misses l.self l.fn.pass l.pass
