@@ -25,6 +25,7 @@ use Rattle.analyzers.specs.AnalyzerKept.{AnalyzerStands, AnalyzerTells, KeepsAna
 use Rattle.loggers.specs.Moments.{IsSameAccess}
 use Rattle.daq_members.specs.OwnTurns.{start_owed}
 use Rattle.analyzer_seats.specs.AnalyzerTaken.{AnalyzerTaken, TakesAnalyzerTurn, FinishesAnalyzer, TakesAnalyzerBy, TakesAnalyzer, AnalyzerMemberStands}
+use Rattle.analyzer_seats.specs.BareTurns.{AreBare}
 
 -- The port leads to the same buffer, and is the same caller's.
 
@@ -118,17 +119,18 @@ reported_within run (Some answer) got within = tt
 
 -- with calls that tell these turns
 pub stands_with : (client : ℕ) (a : AnalyzerState) (later : List EngineEntry) (turns : List MemberTurn) (own : List BufferEntry) (got : List GotEvent) → member_turns client later ≡ turns
-    → AnalyzerStands a.wanted a.client a.run own got turns → AnalyzerTells a.run turns → AnalyzerMemberStands client a later own got
-stands_with client a later turns own got same stands tells = record {
+    → AnalyzerStands a.wanted a.client a.run own got turns → AnalyzerTells a.run turns → AreBare client later → AnalyzerMemberStands client a later own got
+stands_with client a later turns own got same stands tells bare = record {
   stands = subst (λ (ts : List MemberTurn). AnalyzerStands a.wanted a.client a.run own got ts) (sym same) stands;
   tells = subst (λ (ts : List MemberTurn). AnalyzerTells a.run ts) (sym same) tells;
+  blanks = bare;
 }
 
 pub member_keeps : (client : ℕ) (a : AnalyzerState) (calls : List EngineEntry) (own : List BufferEntry) (got : List GotEvent) → AnalyzerMemberStands client a calls own got → KeepsAnalyzer a.wanted own got (member_turns client calls)
 member_keeps client a calls own got member = record {
-  calls = member.stands.calls;
-  once = member.stands.once;
-  reports = member.stands.reports;
+  calls = member.stands.holds.calls;
+  once = member.stands.holds.once;
+  reports = member.stands.holds.reports;
   starts = member.tells.starts;
   stops = member.tells.stops;
 }

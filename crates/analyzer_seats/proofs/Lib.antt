@@ -1,2 +1,3 @@
+pub mod BareLaws
 pub mod AnalyzerLaws
 pub mod ManyLaws

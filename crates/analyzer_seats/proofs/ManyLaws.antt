@@ -1,15 +1,13 @@
 -- The analyzers of a session behind a turn of one of them, and behind several.
 use Rattle.std.specs.Prelude.{◌≡◌, ◌≢◌, ℕ, zero, suc, ◌+◌, ◌<◌, List, [], ◌∷◌, slice_get, slice_set, length, Some, refl}
-use Rattle.std.proofs.Common.{ap, sym, subst, ◌∙◌, arith, inl, inr, get_or, add-one}
+use Rattle.std.proofs.Common.{ap, sym, subst, ◌∙◌, arith, inl, inr, get_or}
 use Rattle.std.proofs.lemmas.List.{length-set}
 use Rattle.std.proofs.lemmas.Option.{slice_get_within, slice_get_read}
 use Rattle.std.proofs.lemmas.Bool.Decides.{eqb_tells}
-use Rattle.buffer_core.specs.Ports.{Access}
-use Rattle.loggers.specs.Moments.{IsSameAccess}
 use Rattle.daq_members.specs.declared.turned.Turned.{Turned}
 use Rattle.analyzer_seats.specs.AnalyzerTaken.{TakesAnalyzer}
 use Rattle.analyzer_seats.specs.SeatedAnalyzers.{AnalyzerSeen, IsSameAnalyzer, analyzer_taken}
-use Rattle.analyzer_seats.specs.ManyAnalyzers.{TurnsAnalyzer, TurnAnalyzers, AreSameAnalyzers}
+use Rattle.analyzer_seats.specs.ManyAnalyzers.{TurnsAnalyzer, AreSameAnalyzers}
 use Rattle.analyzer_seats.proofs.AnalyzerLaws.{same_then}
 
 -- Lists.
@@ -108,7 +106,3 @@ one_analyzer place before after turned turns = record {
         subst (λ (x : AnalyzerSeen). IsSameAnalyzer analyzer x) one (same_analyzer analyzer)
   ];
 }
-
--- one turn more
-pub turn_more : (n : ℕ) (before between after : List AnalyzerSeen) (turned : Turned) → TurnAnalyzers n before between → TurnsAnalyzer n between after turned → TurnAnalyzers (n + 1) before after
-turn_more n before between after turned so_far turn = rw add-one (between, turned, so_far, turn)

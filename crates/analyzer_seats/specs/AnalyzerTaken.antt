@@ -9,7 +9,6 @@ use Rattle.transitions.specs.declared.answers.Answer.{Answer}
 use Rattle.transitions.specs.declared.replies.Polled.{Polled}
 use Rattle.transitions.specs.declared.replies.Polled.TheVariants.{Turn, Idle as NoTurn, Closed, NoClient}
 use Rattle.transitions.specs.declared.entry.EngineEntry.{EngineEntry}
-use Rattle.member_model.specs.Turns.{MemberTurn}
 use Rattle.member_model.specs.TurnCalls.{member_turns}
 use Rattle.analyzers.specs.declared.analyzer_pull.AnalyzerPull.{AnalyzerPull}
 use Rattle.analyzers.specs.declared.analyzer_pull.AnalyzerPull.TheVariants.{Folded, Dropped, Nothing}
@@ -21,6 +20,7 @@ use Rattle.daq_members.specs.declared.turned.Turned.{Turned}
 use Rattle.daq_members.specs.declared.turned.Turned.TheVariants.{Worked, Idle, Ended}
 use Rattle.daq_members.specs.OwnTurns.{start_owed, GivesAnswer}
 use Rattle.daq_members.specs.FrontTaken.{asked_so, turned_by}
+use Rattle.analyzer_seats.specs.BareTurns.{AreBare}
 
 -- A turn of an analyzer: its client number; its calls on the engine, the analyzer, and its access to its buffer, before and
 -- behind; and what it came to.
@@ -97,11 +97,13 @@ pub record TakesAnalyzer (t : AnalyzerTaken) : Type 0 where
 -- What is kept at every moment between two turns.
 
 -- An analyzer as a member, with its calls on the engine, its calls on its buffer, and what it got there: it keeps its
--- contract over the turns that its calls on the engine tell.
+-- contract over the turns that its calls on the engine tell, and refused a turn as not ready only where that came without a
+-- blank report.
 pub record AnalyzerMemberStands (client : ℕ) (analyzer : AnalyzerState) (calls : List EngineEntry) (own : List BufferEntry)
     (got : List GotEvent) : Type 0 where
   pub stands : AnalyzerStands analyzer.wanted analyzer.client analyzer.run own got (member_turns client calls)
   pub tells : AnalyzerTells analyzer.run (member_turns client calls)
+  pub blanks : AreBare client calls
 
 -- So each analyzer that is a member has the analyzer's contract over its own calls.
 abbrev pub MemberAnalyzersKeep : Type 0

@@ -1,3 +1,4 @@
+pub mod BareTurns
 pub mod AnalyzerTaken
 pub mod SeatedAnalyzers
 pub mod ManyAnalyzers

@@ -1,5 +1,5 @@
 -- The analyzers of a session, each at its place.
-use Rattle.std.specs.Prelude.{◌≡◌, ◌≢◌, ℕ, zero, suc, List, slice_get, length, Some}
+use Rattle.std.specs.Prelude.{◌≡◌, ◌≢◌, ℕ, List, slice_get, length, Some}
 use Rattle.daq_members.specs.declared.turned.Turned.{Turned}
 use Rattle.analyzer_seats.specs.AnalyzerTaken.{TakesAnalyzer}
 use Rattle.analyzer_seats.specs.SeatedAnalyzers.{AnalyzerSeen, IsSameAnalyzer, analyzer_taken}
@@ -14,12 +14,6 @@ pub record TurnsAnalyzer (place : ℕ) (before after : List AnalyzerSeen) (turne
   pub turn : TakesAnalyzer (analyzer_taken analyzer later turned)
   pub same : IsSameAnalyzer analyzer later
   pub others : (other : ℕ) → other ≢ place → slice_get after other ≡ slice_get before other
-
--- The first analyzers, so many, take one turn each, in order.
-abbrev pub TurnAnalyzers : (turns : ℕ) → (before after : List AnalyzerSeen) → Type 0
-TurnAnalyzers zero before after = after ≡ before
-TurnAnalyzers (suc n) before after = (between : List AnalyzerSeen) × (turned : Turned) ×
-    TurnAnalyzers n before between × TurnsAnalyzer n between after turned
 
 -- There are as many analyzers, and each is the same analyzer.
 pub record AreSameAnalyzers (before after : List AnalyzerSeen) : Type 0 where

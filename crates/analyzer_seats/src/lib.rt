@@ -10,4 +10,4 @@ mod seats;
 
 pub use analyzer_member::AnalyzerMember;
 pub use analyzer_seat::{AnalyzerParts, AnalyzerSeat};
-pub use seats::{AnalyzerSeats, ask_all, turn_all, turn_at};
+pub use seats::{AnalyzerSeats, ask_all, turn_at};

@@ -1,7 +1,7 @@
 // The analyzers of a session, one beside the other.
 ghost use Rattle.std.specs.Prelude.{◌≡◌, ◌<◌, ℕ, slice_get, Some, length};
 ghost use Rattle.analyzer_seats.specs.SeatedAnalyzers.{AnalyzerSeen, IsAnalyzerSeated};
-ghost use Rattle.analyzer_seats.specs.ManyAnalyzers.{TurnsAnalyzer, TurnAnalyzers, AreSameAnalyzers};
+ghost use Rattle.analyzer_seats.specs.ManyAnalyzers.{TurnsAnalyzer};
 
 use crate::analyzer_seat::AnalyzerSeat;
 use daq_io::Gate;
@@ -26,20 +26,6 @@ pub fn turn_at<'a, R: Wait, P: EndlessPort, G: Gate>(
         unreachable!()
     };
     seat.turn(rt, gate)
-}
-
-/// One turn of each analyzer, in order.
-pub fn turn_all<'a, R: Wait, P: EndlessPort, G: Gate>(
-    rt: &R,
-    seats: &mut AnalyzerSeats<'a, P>,
-    gate: &G,
-)
-    ensures turns { TurnAnalyzers (length seats.old) seats.old seats.new }
-    ensures same { AreSameAnalyzers seats.old seats.new }
-{
-    for place in 0..seats.len() {
-        turn_at(rt, seats, gate, place);
-    }
 }
 
 /// Learns what each of these analyzers keeps.

@@ -5,3 +5,4 @@ pub mod ReportSteps
 pub mod TurnSteps
 pub mod PullSteps
 pub mod TellSteps
+pub mod AskSteps

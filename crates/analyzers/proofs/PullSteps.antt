@@ -26,7 +26,7 @@ use Rattle.analyzers.specs.AnalyzerTurns.{analyzer_turn, report_in, report_answe
 use Rattle.analyzers.specs.AnalyzerPulls.{ReceivesFor, EndsReading, CountsOnce, CountsIn, PullsBy, drains_by, ends_by}
 use Rattle.member_model.specs.GotRuns.{events_of_start}
 use Rattle.analyzers.specs.CountedRuns.{CountRequest, IsCounted, IsWhollyCounted, requests_made}
-use Rattle.analyzers.specs.AnalyzerKept.{KeepsReaderCalls, HasOwnClient, AsksForNone, starts_accepted, HasTurnBehind, IsReportOfRun, ReportsHold, IsStopOpen, StageCounts, CountsRun, AnalyzerStands, count_request}
+use Rattle.analyzers.specs.AnalyzerKept.{KeepsReaderCalls, HasOwnClient, AsksForNone, starts_accepted, HasTurnBehind, IsReportOfRun, ReportsHold, IsStopOpen, StageCounts, CountsRun, CountsSoFar, count_request}
 use Rattle.analyzers.proofs.OwnCallSteps.{reader_push, requests_stay, client_stays, given_by_reply, got_after_is, given_named}
 use Rattle.analyzers.proofs.CountSteps.{CountsGiven, given_counted, count_push, cancelled_asks_none, wholly_counted}
 use Rattle.analyzers.proofs.ReportSteps.{reports_calls, report_turns}
@@ -82,7 +82,7 @@ receive_lists wanted client r counted room a b turns reply calls stands on count
 
 -- the client reads on
 reads_on : (stage : AnalyzerStage) (wanted : EventRequest) (client : Option ℕ) (r counted : AnalyzerRun) (own : List BufferEntry) (got : List GotEvent) (turns : List MemberTurn) (calls : List BufferEntry) → r.stage ≡ stage
-    → (at : ReceivedFor wanted client r counted own got turns calls) → StageCounts stage own got turns (count_request wanted r.client r.request r.start at.earlier) at.events → AnalyzerStands wanted client (Some counted) own got turns
+    → (at : ReceivedFor wanted client r counted own got turns calls) → StageCounts stage own got turns (count_request wanted r.client r.request r.start at.earlier) at.events → CountsSoFar wanted client (Some counted) own got turns
 reads_on stage wanted client r counted own got turns calls is at counts = record {
   calls = at.own_calls;
   own_client = subst (λ (c : Option ℕ). HasOwnClient c own) (sym at.client_is) at.gave;
@@ -113,7 +113,7 @@ reads_no_more wanted client r counted a b turns room accepted reply reading drai
     let whole : IsWhollyCounted (a.own ++ cancel ∷ []) a.got q at.events = wholly_counted a.own a.got q at.events accepted reading draining room reply cancels.0 drains at.counts in
     let none : AsksForNone (Some r.client) (a.own ++ cancel ∷ []) =
     cancelled_asks_none a.own a.got q (reading ++ Accepted accepted ∷ (draining ++ Receive r.client room reply ∷ [])) at.events cancels.0 at.counts in
-    let now : AnalyzerStands wanted client (Some (run_at Drained counted)) (a.own ++ cancel ∷ []) a.got turns = record {
+    let now : CountsSoFar wanted client (Some (run_at Drained counted)) (a.own ++ cancel ∷ []) a.got turns = record {
       calls = reader_push a.own cancel at.own_calls tt at.gave;
       own_client = subst (λ (c : Option ℕ). HasOwnClient c (a.own ++ cancel ∷ [])) (sym at.client_is) (client_stays a.own cancel r.client at.gave);
       once = requests_stay a.own cancel (starts_accepted turns) refl at.once;
@@ -216,8 +216,8 @@ record BeganBehind (turns : List MemberTurn) (start starts : ℕ) : Type 0 where
   of_start : HasTurnBehind turns begin_turn starts
 
 reported : (dump : Option (List ℕ)) (wanted : EventRequest) (client : Option ℕ) (r : AnalyzerRun) (own : List BufferEntry) (got : List GotEvent) (order : Order) (earlier : List MemberTurn) (requests : ℕ) (events : List Event) → BeganBehind (analyzer_turn dump Stop order None ∷ earlier) r.start requests → order.start ≡ r.start
-    → AsksForNone (Some r.client) own → IsWhollyCounted own got (count_request wanted r.client r.request r.start requests) events → r.report ≡ report_of events → AnalyzerStands wanted client (Some r) own got (analyzer_turn dump Stop order None ∷ earlier)
-    → AnalyzerStands wanted client None own got (analyzer_turn dump Stop order (Some (Yes (Report r.report))) ∷ earlier)
+    → AsksForNone (Some r.client) own → IsWhollyCounted own got (count_request wanted r.client r.request r.start requests) events → r.report ≡ report_of events → CountsSoFar wanted client (Some r) own got (analyzer_turn dump Stop order None ∷ earlier)
+    → CountsSoFar wanted client None own got (analyzer_turn dump Stop order (Some (Yes (Report r.report))) ∷ earlier)
 reported dump wanted client r own got order earlier requests events began same none whole report stands =
     let before : MemberTurn = analyzer_turn dump Stop order None in
     let t : MemberTurn = analyzer_turn dump Stop order (Some (Yes (Report r.report))) in
@@ -255,17 +255,17 @@ reported dump wanted client r own got order earlier requests events began same n
     }
 
 finish_stage : (stage : AnalyzerStage) (wanted : EventRequest) (client : Option ℕ) (r : AnalyzerRun) (own : List BufferEntry) (got : List GotEvent) (turns : List MemberTurn) (requests : ℕ) (events : List Event) → BeganBehind turns r.start requests → StageCounts stage own got turns (count_request wanted r.client r.request r.start requests) events
-    → r.report ≡ report_of events → AnalyzerStands wanted client (Some r) own got turns → AnalyzerStands wanted client (run_reported (Some r) (report_in stage r.report)) own got (latest_answered turns (report_in stage r.report))
+    → r.report ≡ report_of events → CountsSoFar wanted client (Some r) own got turns → CountsSoFar wanted client (run_reported (Some r) (report_in stage r.report)) own got (latest_answered turns (report_in stage r.report))
 finish_stage Counting wanted client r own got turns requests events began counts report stands = stands
 finish_stage (Draining accepted) wanted client r own got turns requests events began counts report stands = stands
 finish_stage Drained wanted client r own got turns requests events began counts report stands =
     let stop : IsStopOpen r.start turns = counts.0 in
-    subst (λ (ts : List MemberTurn). AnalyzerStands wanted client None own got (latest_answered ts (Some (Yes (Report r.report))))) (sym stop.latest)
-    (reported stop.dump wanted client r own got stop.order stop.earlier requests events (subst (λ (ts : List MemberTurn). BeganBehind ts r.start requests) stop.latest began) stop.of counts.1 counts.2 report (subst (λ (ts : List MemberTurn). AnalyzerStands wanted client (Some r) own got ts) stop.latest stands))
+    subst (λ (ts : List MemberTurn). CountsSoFar wanted client None own got (latest_answered ts (Some (Yes (Report r.report))))) (sym stop.latest)
+    (reported stop.dump wanted client r own got stop.order stop.earlier requests events (subst (λ (ts : List MemberTurn). BeganBehind ts r.start requests) stop.latest began) stop.of counts.1 counts.2 report (subst (λ (ts : List MemberTurn). CountsSoFar wanted client (Some r) own got ts) stop.latest stands))
 
 -- what holds before a finish holds behind it, with the answer of the stop that waited
-pub finish_kept : (wanted : EventRequest) (client : Option ℕ) (run : Option AnalyzerRun) (own : List BufferEntry) (got : List GotEvent) (turns : List MemberTurn) → AnalyzerStands wanted client run own got turns
-    → AnalyzerStands wanted client (run_reported run (report_answer run)) own got (latest_answered turns (report_answer run))
+pub finish_kept : (wanted : EventRequest) (client : Option ℕ) (run : Option AnalyzerRun) (own : List BufferEntry) (got : List GotEvent) (turns : List MemberTurn) → CountsSoFar wanted client run own got turns
+    → CountsSoFar wanted client (run_reported run (report_answer run)) own got (latest_answered turns (report_answer run))
 finish_kept wanted client None own got turns stands = stands
 finish_kept wanted client (Some r) own got turns stands =
     let on : CountsRun wanted client r own got turns = stands.counts in

@@ -15,7 +15,7 @@ use Rattle.analyzers.specs.declared.analyzer_run.AnalyzerRun.{AnalyzerRun}
 use Rattle.analyzers.specs.declared.analyzer_run.AnalyzerStage.{AnalyzerStage}
 use Rattle.analyzers.specs.declared.analyzer_run.AnalyzerStage.TheVariants.{Counting, Draining, Drained}
 use Rattle.analyzers.specs.CountedRuns.{CountRequest}
-use Rattle.analyzers.specs.AnalyzerKept.{accepted_by, HasTurnBehind, IsReportOfRun, ReportsHold, IsStopOpen, StageCounts, RunCounts, AnalyzerStands, count_request}
+use Rattle.analyzers.specs.AnalyzerKept.{accepted_by, HasTurnBehind, IsReportOfRun, ReportsHold, IsStopOpen, StageCounts, RunCounts, CountsSoFar, count_request}
 use Rattle.analyzers.proofs.CountSteps.{wholly_push}
 
 -- one report
@@ -95,7 +95,7 @@ run_more wanted client (Some r) own got turns t none answer counts = record {
 
 -- a turn that is answered at once, without a report, and leaves the run; no start that is accepted
 pub plain_more : (wanted : EventRequest) (client : Option ℕ) (run : Option AnalyzerRun) (own : List BufferEntry) (got : List GotEvent) (turns : List MemberTurn) (t : MemberTurn) → NoneOpen turns → HasAnswer t.answer
-    → accepted_by t.transition t.answer ≡ 0 → ((report : Totals) → t.answer ≢ Some (Yes (Report report))) → AnalyzerStands wanted client run own got turns → AnalyzerStands wanted client run own got (t ∷ turns)
+    → accepted_by t.transition t.answer ≡ 0 → ((report : Totals) → t.answer ≢ Some (Yes (Report report))) → CountsSoFar wanted client run own got turns → CountsSoFar wanted client run own got (t ∷ turns)
 plain_more wanted client run own got turns t none answer begins other stands = record {
   calls = stands.calls;
   own_client = stands.own_client;

@@ -29,7 +29,7 @@ use Rattle.analyzers.specs.Analyzers.{AnalyzerAt, run_at}
 use Rattle.analyzers.specs.AnalyzerTurns.{analyzer_turn, BeginsBy, RequestsRun, StartsBy, StopsOwn, AnswersStop, TurnsBy, begun_count, report_in, report_answer, run_reported}
 use Rattle.analyzers.specs.AnalyzerPulls.{CountsOwn, CountsReply, EndsReading, CountsOnce, CountsIn, PullsBy, drains_by}
 use Rattle.analyzers.specs.CountedRuns.{CountRequest}
-use Rattle.analyzers.specs.AnalyzerKept.{IsStopOpen, StageCounts, CountsRun, AnalyzerStands, count_request, StopsReported, CountsStart, CountsCurrent, AnalyzerTells}
+use Rattle.analyzers.specs.AnalyzerKept.{IsStopOpen, StageCounts, CountsRun, CountsSoFar, count_request, StopsReported, CountsStart, CountsCurrent, AnalyzerTells}
 
 -- One turn more.
 
@@ -254,7 +254,7 @@ finish_stage Drained r own got turns q events counts tells =
     (reported_tells stop.dump (Some r) stop.order stop.earlier r.report (subst (AnalyzerTells (Some r)) stop.latest tells))
 
 -- what was told before a finish is told behind it, with the answer of the stop that waited
-pub finish_tells : (wanted : EventRequest) (client : Option ℕ) (run : Option AnalyzerRun) (own : List BufferEntry) (got : List GotEvent) (turns : List MemberTurn) → AnalyzerStands wanted client run own got turns → AnalyzerTells run turns
+pub finish_tells : (wanted : EventRequest) (client : Option ℕ) (run : Option AnalyzerRun) (own : List BufferEntry) (got : List GotEvent) (turns : List MemberTurn) → CountsSoFar wanted client run own got turns → AnalyzerTells run turns
     → AnalyzerTells (run_reported run (report_answer run)) (latest_answered turns (report_answer run))
 finish_tells wanted client None own got turns stands tells = tells
 finish_tells wanted client (Some r) own got turns stands tells =

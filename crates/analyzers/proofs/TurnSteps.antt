@@ -27,16 +27,16 @@ use Rattle.analyzers.specs.declared.analyzer_run.AnalyzerStage.TheVariants.{Coun
 use Rattle.analyzers.specs.Analyzers.{AnalyzerAt, run_at}
 use Rattle.analyzers.specs.AnalyzerTurns.{analyzer_turn, analyzer_name, StaysAt, CancelsIn, DropsRun, GetsClient, BeginsBy, RequestsRun, StartsBy, StopsRun, StopsOwn, AnswersStop, TurnsBy, begun_count}
 use Rattle.analyzers.specs.CountedRuns.{CountRequest, IsCounted, requests_made}
-use Rattle.analyzers.specs.AnalyzerKept.{HasOwnClient, AsksForNone, accepted_by, starts_accepted, ReportsHold, StageCounts, CountsRun, AnalyzerStands, count_request}
+use Rattle.analyzers.specs.AnalyzerKept.{HasOwnClient, AsksForNone, accepted_by, starts_accepted, ReportsHold, StageCounts, CountsRun, CountsSoFar, count_request}
 use Rattle.analyzers.proofs.OwnCallSteps.{reader_push, requests-push, requests_stay, client_stays, none_stays, client_given, new_asks_none}
 use Rattle.analyzers.proofs.CountSteps.{count_made, count_push, cancelled_asks_none}
 use Rattle.analyzers.proofs.ReportSteps.{reports_calls, reports_more, none_stops, plain_more}
 
 abbrev pub StandsBy : EventRequest → Option ℕ → Option AnalyzerRun → Access → List MemberTurn → Type 0
-StandsBy wanted client run a turns = AnalyzerStands wanted client run a.own a.got turns
+StandsBy wanted client run a turns = CountsSoFar wanted client run a.own a.got turns
 
 -- the number of a run's client is the caller's own
-pub run_client : (wanted : EventRequest) (client : Option ℕ) (r : AnalyzerRun) (own : List BufferEntry) (got : List GotEvent) (turns : List MemberTurn) → AnalyzerStands wanted client (Some r) own got turns → HasOwnClient (Some r.client) own
+pub run_client : (wanted : EventRequest) (client : Option ℕ) (r : AnalyzerRun) (own : List BufferEntry) (got : List GotEvent) (turns : List MemberTurn) → CountsSoFar wanted client (Some r) own got turns → HasOwnClient (Some r.client) own
 run_client wanted client r own got turns stands =
     let on : CountsRun wanted client r own got turns = stands.counts in
     subst (λ (c : Option ℕ). HasOwnClient c own) on.client_is stands.own_client
@@ -57,7 +57,7 @@ count_quiet own got q calls events e counted leaves none =
 -- The run is dropped.
 
 drop_counting : (wanted : EventRequest) (client : Option ℕ) (r : AnalyzerRun) (own : List BufferEntry) (got : List GotEvent) (turns : List MemberTurn) (reply : Result ⊤ RequestRefusal) (earlier : ℕ) (calls : List BufferEntry) (events : List Event) → NoneOpen turns
-    → IsCounted own got (count_request wanted r.client r.request r.start earlier) calls events → AnalyzerStands wanted client (Some r) own got turns → AnalyzerStands wanted client None (own ++ Cancel r.client r.request reply ∷ []) got turns
+    → IsCounted own got (count_request wanted r.client r.request r.start earlier) calls events → CountsSoFar wanted client (Some r) own got turns → CountsSoFar wanted client None (own ++ Cancel r.client r.request reply ∷ []) got turns
 drop_counting wanted client r own got turns reply earlier calls events none counted stands =
     let cancel : BufferEntry = Cancel r.client r.request reply in
     let on : CountsRun wanted client r own got turns = stands.counts in
@@ -77,7 +77,7 @@ drop_stage Counting wanted client r a b turns earlier events none counts cancels
 drop_stage (Draining accepted) wanted client r a b turns earlier events none counts cancels stands = absurd (none_stops r.start turns none counts.0)
 drop_stage Drained wanted client r a b turns earlier events none counts cancels stands = absurd (none_stops r.start turns none counts.0)
 
-drop_kept : (wanted : EventRequest) (client : Option ℕ) (run : Option AnalyzerRun) (a b : Access) (turns : List MemberTurn) → NoneOpen turns → DropsRun run a b → StandsBy wanted client run a turns → StandsBy wanted client None b turns
+pub drop_kept : (wanted : EventRequest) (client : Option ℕ) (run : Option AnalyzerRun) (a b : Access) (turns : List MemberTurn) → NoneOpen turns → DropsRun run a b → StandsBy wanted client run a turns → StandsBy wanted client None b turns
 drop_kept wanted client None a b turns none drops stands = rw drops stands
 drop_kept wanted client (Some r) a b turns none drops stands =
     let on : CountsRun wanted client r a.own a.got turns = stands.counts in
@@ -85,11 +85,11 @@ drop_kept wanted client (Some r) a b turns none drops stands =
 
 -- A client is attached.
 
-client_kept : (wanted : EventRequest) (client later : Option ℕ) (a b : Access) (turns : List MemberTurn) → GetsClient client later a b → StandsBy wanted client None a turns → StandsBy wanted later None b turns
+pub client_kept : (wanted : EventRequest) (client later : Option ℕ) (a b : Access) (turns : List MemberTurn) → GetsClient client later a b → StandsBy wanted client None a turns → StandsBy wanted later None b turns
 client_kept wanted (Some c) later a b turns gets stands = rw (gets.0, gets.1) stands
 client_kept wanted None (Some n) a b turns gets stands =
     let attach : BufferEntry = Attach analyzer_name (Ok n) in
-    let now : AnalyzerStands wanted (Some n) None (a.own ++ attach ∷ []) a.got turns = record {
+    let now : CountsSoFar wanted (Some n) None (a.own ++ attach ∷ []) a.got turns = record {
       calls = reader_push a.own attach stands.calls tt tt;
       own_client = client_given a.own analyzer_name n;
       once = requests_stay a.own attach (starts_accepted turns) refl stands.once;
@@ -99,7 +99,7 @@ client_kept wanted None (Some n) a b turns gets stands =
     rw (gets.own, gets.got_is) now
 client_kept wanted None None a b turns gets stands =
     let attach : BufferEntry = Attach analyzer_name (Err gets.0) in
-    let now : AnalyzerStands wanted None None (a.own ++ attach ∷ []) a.got turns = record {
+    let now : CountsSoFar wanted None None (a.own ++ attach ∷ []) a.got turns = record {
       calls = reader_push a.own attach stands.calls tt tt;
       own_client = none_stays a.own attach (λ past n. refl) stands.own_client;
       once = requests_stay a.own attach (starts_accepted turns) refl stands.once;
@@ -111,12 +111,12 @@ client_kept wanted None None a b turns gets stands =
 -- The request is made.
 
 request_kept : (dump : Option (List ℕ)) (reply : Result ℕ RequestRefusal) (wanted : EventRequest) (order : Order) (blank : Totals) (client : ℕ) (run : Option AnalyzerRun) (answer : Answer) (own : List BufferEntry) (got : List GotEvent) (turns : List MemberTurn)
-    → NoneOpen turns → blank ≡ report_of [] → BeginsBy reply order.start client blank run answer → AnalyzerStands wanted (Some client) None own got turns
-    → AnalyzerStands wanted (Some client) run (own ++ Request client wanted.id wanted.mask wanted.kind reply ∷ []) got (analyzer_turn dump Start order (Some answer) ∷ turns)
+    → NoneOpen turns → blank ≡ report_of [] → BeginsBy reply order.start client blank run answer → CountsSoFar wanted (Some client) None own got turns
+    → CountsSoFar wanted (Some client) run (own ++ Request client wanted.id wanted.mask wanted.kind reply ∷ []) got (analyzer_turn dump Start order (Some answer) ∷ turns)
 request_kept dump (Ok number) wanted order blank client run answer own got turns none is_blank begins stands =
     let request : BufferEntry = Request client wanted.id wanted.mask wanted.kind (Ok number) in
     let t : MemberTurn = analyzer_turn dump Start order (Some (Yes Plain)) in
-    let now : AnalyzerStands wanted (Some client) (Some (begun_count order.start client number blank)) (own ++ request ∷ []) got (t ∷ turns) = record {
+    let now : CountsSoFar wanted (Some client) (Some (begun_count order.start client number blank)) (own ++ request ∷ []) got (t ∷ turns) = record {
       calls = reader_push own request stands.calls tt stands.own_client;
       own_client = client_stays own request client stands.own_client;
       once = omega (arith, requests-push own request, stands.once);
@@ -137,7 +137,7 @@ request_kept dump (Ok number) wanted order blank client run answer own got turns
 request_kept dump (Err why) wanted order blank client run answer own got turns none is_blank begins stands =
     let request : BufferEntry = Request client wanted.id wanted.mask wanted.kind (Err why) in
     let t : MemberTurn = analyzer_turn dump Start order (Some (No BufferRefused)) in
-    let now : AnalyzerStands wanted (Some client) None (own ++ request ∷ []) got (t ∷ turns) = record {
+    let now : CountsSoFar wanted (Some client) None (own ++ request ∷ []) got (t ∷ turns) = record {
       calls = reader_push own request stands.calls tt stands.own_client;
       own_client = client_stays own request client stands.own_client;
       once = omega (arith, requests-push own request, stands.once);
@@ -184,7 +184,7 @@ stop_stage dump Counting wanted client r later order a b turns on same none coun
     let t : MemberTurn = analyzer_turn dump Stop order None in
     let q : CountRequest = count_request wanted r.client r.request r.start on.earlier in
     let gave : HasOwnClient (Some r.client) a.own = run_client wanted client r a.own a.got turns stands in
-    let now : AnalyzerStands wanted client (Some (run_at (Draining stops.0) r)) (a.own ++ call ∷ []) a.got (t ∷ turns) = record {
+    let now : CountsSoFar wanted client (Some (run_at (Draining stops.0) r)) (a.own ++ call ∷ []) a.got (t ∷ turns) = record {
       calls = reader_push a.own call stands.calls tt tt;
       own_client = subst (λ (c : Option ℕ). HasOwnClient c (a.own ++ call ∷ [])) (sym on.client_is) (client_stays a.own call r.client gave);
       once = omega (arith, requests_stay a.own call (starts_accepted turns) refl stands.once);

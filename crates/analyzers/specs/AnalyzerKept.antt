@@ -1,19 +1,22 @@
 -- What an analyzer keeps of its calls on a buffer and of its turns, whatever the buffer replies.
-use Rattle.std.specs.Prelude.{◌≡◌, ℕ, ◌+◌, true, false, List, [], ◌∷◌, ◌++◌, Option, Some, None, ⊤, ◌⊎◌}
+use Rattle.std.specs.Prelude.{◌≡◌, ◌≤◌, ℕ, ◌+◌, true, false, Contains, List, [], ◌∷◌, ◌++◌, Option, Some, None, ⊤, ◌⊎◌}
 use Rattle.daq_types.specs.declared.events.Event.{Event}
 use Rattle.daq_types.specs.declared.runs.Order.{Order}
 use Rattle.daq_types.specs.declared.runs.Transition.{Transition}
 use Rattle.daq_types.specs.declared.runs.Transition.TheVariants.{Start, Stop}
+use Rattle.daq_types.specs.declared.runs.Why.{Why}
+use Rattle.daq_types.specs.declared.runs.Why.TheVariants.{NotReady, Exists, Fault, BufferRefused}
 use Rattle.buffer_core.specs.declared.entry.BufferEntry.{BufferEntry}
 use Rattle.buffer_core.specs.declared.entry.BufferEntry.TheVariants.{Attach, Request, Cancel, Receive, Accepted}
 use Rattle.buffer_core.specs.Ports.{GotEvent}
 use Rattle.event_report.specs.Reports.{Totals, report_of}
 use Rattle.transitions.specs.declared.answers.Answer.{Answer}
-use Rattle.transitions.specs.declared.answers.Answer.TheVariants.{Yes}
+use Rattle.transitions.specs.declared.answers.Answer.TheVariants.{Yes, No}
 use Rattle.transitions.specs.declared.answers.Tally.TheVariants.{Plain, Report}
 use Rattle.member_model.specs.Turns.{MemberTurn, HasTurn, HasTurnOf, IsAcceptedStart, NoneOpen, current_run, AreEngineTurns}
 use Rattle.member_model.specs.SentCalls.{EachCall}
 use Rattle.member_model.specs.OwnCalls.{calls_after, gave_number, AreOwnCalls, asks}
+use Rattle.member_model.specs.FairCalls.{IsRefusedAsk, attaches_made, AreLoneRequests}
 use Rattle.member_model.specs.LoggerKept.{IsStartAnswer}
 use Rattle.analyzers.specs.declared.analyzer_run.EventRequest.{EventRequest}
 use Rattle.analyzers.specs.declared.analyzer_run.AnalyzerRun.{AnalyzerRun}
@@ -119,12 +122,48 @@ RunCounts wanted client (Some r) own got turns = CountsRun wanted client r own g
 
 -- An analyzer that wants these events, with its client, in this run or in none, with its own calls, what it got, and its turns: it
 -- has made one request for each start that it accepted, and no others.
-pub record AnalyzerStands (wanted : EventRequest) (client : Option ℕ) (run : Option AnalyzerRun) (own : List BufferEntry) (got : List GotEvent) (turns : List MemberTurn) : Type 0 where
+pub record CountsSoFar (wanted : EventRequest) (client : Option ℕ) (run : Option AnalyzerRun) (own : List BufferEntry) (got : List GotEvent) (turns : List MemberTurn) : Type 0 where
   pub calls : KeepsReaderCalls own
   pub own_client : HasOwnClient client own
   pub once : requests_made own ≡ starts_accepted turns
   pub reports : ReportsHold wanted own got turns
   pub counts : RunCounts wanted client run own got turns
+
+-- Refusals.
+
+-- one, where there is a client
+abbrev pub one_reader : Option ℕ → ℕ
+one_reader None = 0
+one_reader (Some client) = 1
+
+-- one of these calls, to attach a client or to make a request, was refused
+pub record HasRefusedCall (own : List BufferEntry) : Type 0 where
+  pub entry : BufferEntry
+  pub among : Contains own entry
+  pub refused : IsRefusedAsk entry
+
+-- Why a start may be refused: as not ready; or for the buffer, where that refused a call.
+abbrev pub IsReaderReason : List BufferEntry → Why → Type 0
+IsReaderReason own NotReady = ⊤
+IsReaderReason own BufferRefused = HasRefusedCall own
+IsReaderReason own (Exists channel) = ⊥
+IsReaderReason own (Fault channel) = ⊥
+
+-- each turn that was refused was refused for such a reason
+abbrev pub RefusalsHold : List BufferEntry → List MemberTurn → Type 0
+RefusalsHold own turns = (t : MemberTurn) → (why : Why) → HasTurn turns t → t.answer ≡ Some (No why) → IsReaderReason own why
+
+-- What an analyzer with this client, or with none, keeps to that gives its buffer no cause to refuse a call: it attached no client
+-- but that, and made each request while the client had none. Its refusals of turns are as above.
+pub record AnalyzerAsks (client : Option ℕ) (own : List BufferEntry) (turns : List MemberTurn) : Type 0 where
+  pub attaches : attaches_made own ≤ one_reader client
+  pub alone : AreLoneRequests (calls_after [] own)
+  pub refusals : RefusalsHold own turns
+
+-- An analyzer between its calls.
+pub record AnalyzerStands (wanted : EventRequest) (client : Option ℕ) (run : Option AnalyzerRun) (own : List BufferEntry) (got : List GotEvent) (turns : List MemberTurn) : Type 0 where
+  pub holds : CountsSoFar wanted client run own got turns
+  pub asks : AnalyzerAsks client own turns
 
 -- Turns.
 

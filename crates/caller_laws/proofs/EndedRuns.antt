@@ -23,17 +23,17 @@ use Rattle.caller_laws.proofs.Pasts.{StandsIn, stands, entries_more}
 -- The gate of a run that was begun, until that is ended.
 
 -- the number of a gate that is open for two numbers
-one_number : (g : RunGate) (n m : ℕ) → is_open g n ≡ true → is_open g m ≡ true → n ≡ m
+pub one_number : (g : RunGate) (n m : ℕ) → is_open g n ≡ true → is_open g m ≡ true → n ≡ m
 one_number Shut n m one other = absurd (cc (one))
 one_number (Running s) n m one other = sym (eqb-true s n one) ∙ eqb-true s m other
 one_number (Paused s) n m one other = sym (eqb-true s n one) ∙ eqb-true s m other
 
-running_open : (g : RunGate) (n : ℕ) → is_running g n ≡ true → is_open g n ≡ true
+pub running_open : (g : RunGate) (n : ℕ) → is_running g n ≡ true → is_open g n ≡ true
 running_open Shut n is = is
 running_open (Running s) n is = is
 running_open (Paused s) n is = absurd (cc (is))
 
-paused_open : (g : RunGate) (n : ℕ) → is_paused g n ≡ true → is_open g n ≡ true
+pub paused_open : (g : RunGate) (n : ℕ) → is_paused g n ≡ true → is_open g n ≡ true
 paused_open Shut n is = is
 paused_open (Running s) n is = absurd (cc (is))
 paused_open (Paused s) n is = is
@@ -44,7 +44,7 @@ none_begins (Running s) start last other accepted place opened told = cc (told)
 none_begins (Paused s) start last other accepted place opened told = cc (told)
 
 -- a mark that was accepted found the gate so
-was_right : (right : Bool) (w : Window) (place : ℕ) → Ok place ≡ mark_reply right w → right ≡ true
+pub was_right : (right : Bool) (w : Window) (place : ℕ) → Ok place ≡ mark_reply right w → right ≡ true
 was_right true w place told = refl
 was_right false w place told = absurd (cc (told))
 
@@ -122,7 +122,7 @@ ends_in w (x ∷ es) after by start reply opened legal = elim (open_or_ended w x
   | inr ended ↦ ends_first x (es ++ (by, End start reply) ∷ after) start ended.0 ended.1
 ]
 
-legal_behind : (w : Window) (xs ys : List (ℕ × BufferEntry)) → IsLegal w (xs ++ ys) → IsLegal (replay w xs) ys
+pub legal_behind : (w : Window) (xs ys : List (ℕ × BufferEntry)) → IsLegal w (xs ++ ys) → IsLegal (replay w xs) ys
 legal_behind w [] ys legal = legal
 legal_behind w (x ∷ xs) ys legal = legal_behind (window_after w x.1) xs ys legal.1
 

@@ -4,6 +4,9 @@ pub mod OwnPlaces
 pub mod GotEvents
 pub mod Marked
 pub mod EndedRuns
+pub mod RefusedAttaches
+pub mod RefusedRequests
+pub mod RefusedBegins
 pub mod Reading
 pub mod RunsRead
 pub mod FirstParts

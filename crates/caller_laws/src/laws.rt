@@ -8,6 +8,7 @@ ghost use Rattle.buffer_core.specs.Histories.{IsLegal};
 ghost use Rattle.caller_laws.specs.OneCaller.{HaveRunSends, IsCallersPart, MarksAlone};
 ghost use Rattle.caller_laws.specs.CallerSamples.{ReadPremise, LegalHistory, OwnClients, CallersEntries, SentEvents, RunIsRead, MeetsPremise, IsReadRight, FailsWithout, IsUnsent, read_whole, found_nothing, got_by_other, call_left_out, other_event_told, not_drained, sent_in_none, sent_in_other, asked_level, IsNotEnded, ended_by_other, end_refused};
 ghost use Rattle.caller_laws.specs.SeenSamples.{SeenPremise, SeenLegal, SeenClients, SeenSends, SeenEntries, SeenPlaces, SeenGiven, SeenThrough, MeetsSeen, IsSeenRight, FailsToSee, got_of_none, event_not_told};
+ghost use Rattle.caller_laws.specs.RefusedCalls.{AttachesRefused, AttachesAdd, RequestsRefused, BeginsRefused};
 ghost use Rattle.caller_laws.specs.CallerLaws.{ReadPlaces, ReadEvents, CutEvents, CutFile, RunFileFits, SeenEvents, SeenSince, SentByCaller, SendIsAmong, SendStands, SendsStandInOrder, PartGoesOn, ReadGoesOn, CutGoesOn, OwnGoOn, PortTells, SenderHasOwn, SenderSendsInRuns, SilentSendsInRuns, MembersFit, BegunIsEnded, SenderMakesNoMark};
 
 use buffer_core::laws;
@@ -115,6 +116,18 @@ pub fn ends_runs()
     ensures ended { BegunIsEnded }
     ensures senders { SenderMakesNoMark }
 {}
+
+/// A buffer refuses a call of a caller only for a cause: an attach where 64 clients were attached; a request where its client
+/// has one, where each caller's clients are its own; and a begin, where one caller alone makes marks, for its number or
+/// where that caller left a run open. The clients that all callers attached are those that each of them did.
+pub fn refuses_for_cause()
+    ensures attaches { AttachesRefused }
+    ensures sum { AttachesAdd }
+    ensures requests { RequestsRefused }
+    ensures begins { BeginsRefused }
+{
+    of_buffers();
+}
 
 /// What a port tells its caller is the caller's part of the history.
 pub fn port_tells()

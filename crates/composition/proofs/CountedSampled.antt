@@ -343,7 +343,7 @@ counted_stopped = record {
 
 -- The analyzer saw the run through.
 
-pub saw_run : (told : Event) → (so : ReportsRun (counted_session told) (counted_run told) (counted_analyzer told) (counted_report told)) × SawThrough (counted_session told) (counted_run told) (counted_analyzer told) (counted_report told) so
+pub saw_run : (told : Event) → (so : ReportsRun (counted_session told) (counted_run told) (counted_analyzer told) (counted_report told)) × SawThrough (counted_history 0) 3 so
 saw_run told = (
   report_told told,
   record {
@@ -408,7 +408,8 @@ counted_needed = record {
   others = others_of_counted longer_event;
   wrong = λ law.
       let saw = saw_run longer_event in
-      other_report (law (counted_run longer_event) (counted_analyzer longer_event) (0, refl) (counted_report longer_event) saw.0 saw.1 ∙ ap report_of one_event);
+      let all = law (counted_run longer_event) (counted_analyzer longer_event) (0, refl) (counted_report longer_event) saw.0 saw.1 in
+      other_report (saw.0.report_is ∙ ap report_of (all.counted ∙ one_event));
 }
 
 one_got : longer_event ∷ [] ≡ sample_event ∷ [] → ⊥

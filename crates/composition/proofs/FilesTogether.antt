@@ -261,7 +261,7 @@ reader_makes_no_mark (e ∷ own) each = (reader_no_mark e each.0, reader_makes_n
 abbrev NoneMade : Session → (buffer by : ℕ) → Type 0
 NoneMade s buffer by = EachCall MakesNoMark (entries_by by (s.history buffer))
 
-logger_marks_alone : SenderMakesNoMark → (s : Session) → MembersKeep s → (buffer : ℕ) → MarksAlone (s.history buffer) (caller_of_client s.logger)
+pub logger_marks_alone : SenderMakesNoMark → (s : Session) → MembersKeep s → (buffer : ℕ) → MarksAlone (s.history buffer) (caller_of_client s.logger)
 logger_marks_alone senders s keep buffer other differs =
     elim (keep.callers buffer other) as (λ w. NoneMade s buffer other) [
       | inl none ↦ subst (EachCall MakesNoMark) (sym none) tt

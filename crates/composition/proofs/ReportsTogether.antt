@@ -10,7 +10,7 @@ use Rattle.buffer_core.specs.Histories.{History, IsLegal}
 use Rattle.buffer_core.specs.Runs.{segment}
 use Rattle.buffer_core.specs.Readers.{wanted}
 use Rattle.buffer_core.specs.Ports.{GotEvent}
-use Rattle.event_report.specs.Reports.{Totals, report_of}
+use Rattle.event_report.specs.Reports.{Totals}
 use Rattle.transitions.specs.declared.answers.Answer.{Answer}
 use Rattle.transitions.specs.declared.answers.Answer.TheVariants.{Yes, No}
 use Rattle.transitions.specs.declared.answers.Tally.{Tally}
@@ -23,14 +23,15 @@ use Rattle.analyzers.specs.AnalyzerKept.{IsReportOfRun, KeepsAnalyzer}
 use Rattle.caller_laws.specs.OneCaller.{WasSentAt, HaveOwnClients, HaveRunSends, events_in}
 use Rattle.member_model.specs.GotRuns.{events_of_start}
 use Rattle.caller_laws.specs.CallerLaws.{SeenEvents, SeenSince, MembersFit}
+use Rattle.caller_laws.specs.SeenRuns.{SeesRun}
 use Rattle.engine_laws.specs.BegunTurns.{HasTally}
-use Rattle.composition.specs.Sessions.{Session, MembersKeep, turns_of, buffer_calls}
-use Rattle.composition.specs.SessionRuns.{analyzer_events}
+use Rattle.composition.specs.Sessions.{Session, SessionAnalyzer, HasAnalyzer, MembersKeep, turns_of, buffer_calls}
+use Rattle.composition.specs.SessionRuns.{SessionRun, ReportsRun, analyzer_events}
 use Rattle.composition.specs.CompositionLaws.{ReportsTold, ReportsSo, ReportsWhole, GotWhole}
 use Rattle.composition.proofs.SessionTurns.{EngineFacts, are_turns, StopTally, number_of, stop_tally, HasStartTally, start_tally, last_tally}
 use Rattle.composition.proofs.SentTogether.{each_reads_or_sends}
 use Rattle.composition.proofs.FilesTogether.{plain_start}
-use Rattle.composition.proofs.SeenBy.{SawBy, saw_by}
+use Rattle.composition.proofs.SeenBy.{SawBy, saw_by, sees_on}
 
 yes_report : (answer : Answer) (report : Totals) → Report report ≡ tally_of answer → answer ≡ Yes (Report report)
 yes_report (Yes tally) report e = ap (λ (t : Tally). Yes t) (sym e)
@@ -77,9 +78,17 @@ all_last : {X : Type 0} (P : X → Type 0) (xs ys : List X) → AllByRecursion P
 all_last P [] ys all = all
 all_last P (x ∷ xs) ys all = all_last P xs ys all.1
 
-pub reports_whole : SeenSince → MembersFit → (s : Session) → MembersKeep s → ReportsWhole s
-reports_whole since fits s keep r a has report told through =
-    let saw : SawBy s r a report told = saw_by s r a report told through in
+-- all that it got of the run
+pub got_whole : SeenEvents → MembersFit → (s : Session) → MembersKeep s → GotWhole s
+got_whole seen fits s keep r a has client ended sees =
+    let fit = fits (s.history a.buffer) (each_reads_or_sends s keep a.buffer) in
+    let got = keep.analyzers_got a has in
+    seen (s.size a.buffer) (s.history a.buffer) (caller_of_client a.client) (buffer_calls s a.buffer a.client) a.got (keep.buffers_legal a.buffer) fit.0 fit.1
+    (record { own_is = refl; sent_so = got.0 }) got.1 client a.wanted.id a.wanted.mask r.start ended sees
+
+-- all that it counted
+counted_whole : SeenSince → MembersFit → (s : Session) → MembersKeep s → (r : SessionRun) (a : SessionAnalyzer) → HasAnalyzer s a → (report : Totals) (told : ReportsRun s r a report) → SawBy s r a report told → told.events ≡ analyzer_events s r a
+counted_whole since fits s keep r a has report told saw =
     let h : History = s.history a.buffer in
     let caller : ℕ = caller_of_client a.client in
     let fit = fits h (each_reads_or_sends s keep a.buffer) in
@@ -95,12 +104,12 @@ reports_whole since fits s keep r a has report told through =
     told.client a.wanted.id a.wanted.mask r.start saw.ended saw.sees (counted_calls w) saw.since w.counted.gives (subst (λ (x : History). AllByRecursion (WasSentAt x) given) saw.whole sent_given) in
     let whole : events_of_start told.client r.start given ≡ analyzer_events s r a =
     subst (λ (x : History). events_of_start told.client r.start given ≡ events_in (wanted a.wanted.id a.wanted.mask (segment x r.start))) (sym saw.whole) seen in
-    told.report_is ∙ ap report_of (w.counted.events_are ∙ whole)
+    w.counted.events_are ∙ whole
 
--- all that it got of the run
-pub got_whole : SeenEvents → MembersFit → (s : Session) → MembersKeep s → GotWhole s
-got_whole seen fits s keep r a has client ended sees =
-    let fit = fits (s.history a.buffer) (each_reads_or_sends s keep a.buffer) in
-    let got = keep.analyzers_got a has in
-    seen (s.size a.buffer) (s.history a.buffer) (caller_of_client a.client) (buffer_calls s a.buffer a.client) a.got (keep.buffers_legal a.buffer) fit.0 fit.1
-    (record { own_is = refl; sent_so = got.0 }) got.1 client a.wanted.id a.wanted.mask r.start ended sees
+pub reports_whole : SeenEvents → SeenSince → MembersFit → (s : Session) → MembersKeep s → ReportsWhole s
+reports_whole seen since fits s keep r a has report told through =
+    let saw : SawBy s r a report told = saw_by s r a report told through in
+    let counted : told.events ≡ analyzer_events s r a = counted_whole since fits s keep r a has report told saw in
+    let sees : SeesRun (s.history a.buffer) (caller_of_client a.client) told.client a.wanted.id a.wanted.mask r.start saw.ended =
+    sees_on (s.history a.buffer) saw.seen saw.later (caller_of_client a.client) told.client a.wanted.id a.wanted.mask r.start saw.ended saw.whole saw.sees in
+    record { counted = counted; ever = got_whole seen fits s keep r a has told.client saw.ended sees ∙ sym counted }

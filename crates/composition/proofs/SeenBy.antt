@@ -121,7 +121,7 @@ pub record SawBy (s : Session) (r : SessionRun) (a : SessionAnalyzer) (report : 
   pub since : entries_by (caller_of_client a.client) seen
       ≡ entries_by (caller_of_client a.client) sees.before ++ Request told.client a.wanted.id a.wanted.mask All (Ok sees.number) ∷ counted_calls told.counted
 
-pub saw_by : (s : Session) (r : SessionRun) (a : SessionAnalyzer) (report : Totals) (told : ReportsRun s r a report) → SawThrough s r a report told → SawBy s r a report told
+pub saw_by : (s : Session) (r : SessionRun) (a : SessionAnalyzer) (report : Totals) (told : ReportsRun s r a report) → SawThrough (s.history a.buffer) (caller_of_client a.client) told → SawBy s r a report told
 saw_by s r a report told saw =
     let c : ℕ = caller_of_client a.client in
     let h : History = s.history a.buffer in
@@ -175,3 +175,21 @@ saw_by s r a report told saw =
           ∙ (ap (λ (x : List BufferEntry). x ++ f.rest) own_front
           ∙ (joined f.rest ∙ ap (λ (x : List BufferEntry). b ++ request ∷ x) (sym f.counted_is))));
     }
+
+-- so it is where the history went on
+pub sees_on : (history seen later : History) (caller client id mask start ended : ℕ) → history ≡ seen ++ later → SeesRun seen caller client id mask start ended → SeesRun history caller client id mask start ended
+sees_on history seen later caller client id mask start ended more sees = record {
+  before = sees.before;
+  running = sees.running;
+  draining = sees.draining;
+  after = sees.after ++ later;
+  number = sees.number;
+  by = sees.by;
+  room = sees.room;
+  gate = sees.gate;
+  last = sees.last;
+  whole = more ∙ (ap (λ (h : History). h ++ later) sees.whole ∙ append_assoc _ sees.after later);
+  early = sees.early;
+  alone = sees.alone;
+  keeps = sees.keeps;
+}

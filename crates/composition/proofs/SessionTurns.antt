@@ -75,7 +75,7 @@ two_places [] (u ∷ us) ys vs x v e = Later us (cc (e))
 two_places (y ∷ xs) [] ys vs x v e = Earlier xs (let same : xs ++ x ∷ ys ≡ vs = cc (e) in sym same)
 two_places (y ∷ xs) (u ∷ us) ys vs x v e = two_places xs us ys vs x v (cc (e))
 
-one_begin : StartsRise → (h : EngineHistory) → IsLegalEngine engine_opening h → (n : ℕ) (b1 a1 : EngineHistory) (c1 : ℕ) (sheet : Sheet) → h ≡ b1 ++ (c1, Begin Start sheet (Ok n)) ∷ a1
+pub one_begin : StartsRise → (h : EngineHistory) → IsLegalEngine engine_opening h → (n : ℕ) (b1 a1 : EngineHistory) (c1 : ℕ) (sheet : Sheet) → h ≡ b1 ++ (c1, Begin Start sheet (Ok n)) ∷ a1
     → (b2 a2 : EngineHistory) (c2 : ℕ) (other : Sheet) → h ≡ b2 ++ (c2, Begin Start other (Ok n)) ∷ a2 → sheet ≡ other
 one_begin rise h legal n b1 a1 c1 sheet w1 b2 a2 c2 other w2 = by_place (two_places b1 b2 a1 a2 (c1, Begin Start sheet (Ok n)) (c2, Begin Start other (Ok n)) (sym w1 ∙ w2))
   where

@@ -18,7 +18,7 @@ use Rattle.transitions.specs.declared.answers.Tally.TheVariants.{Channels}
 use Rattle.engine_laws.specs.BegunTurns.{HasTransition}
 use Rattle.buffer_core.specs.declared.entry.BufferEntry.{BufferEntry}
 use Rattle.buffer_core.specs.Window.{Sent}
-use Rattle.event_report.specs.Reports.{Totals, report_of}
+use Rattle.event_report.specs.Reports.{Totals}
 use Rattle.buffer_core.specs.Runs.{segment}
 use Rattle.member_model.specs.Turns.{MemberTurn, HasAnswer}
 use Rattle.member_model.specs.CutRuns.{MarksEnd}
@@ -31,7 +31,7 @@ use Rattle.caller_laws.specs.SeenRuns.{SeesRun}
 use Rattle.caller_laws.specs.SentRuns.{places_sent, events_at_places}
 use Rattle.composition.specs.SentSets.{AreTurnSets}
 use Rattle.composition.specs.Sessions.{Session, SessionFront, SessionAnalyzer, HasFront, HasAnalyzer, turns_of, buffer_calls, database_calls}
-use Rattle.composition.specs.SessionRuns.{SessionRun, IsStoppedRun, run_order, TellsFront, FrontSent, SetAtStop, SetAtPause, IsOfFront, IsMadeInRun, ToldState, HoldsRunFile, HoldsFilePart, TellsTotals, ReportsRun, analyzer_events, SawThrough}
+use Rattle.composition.specs.SessionRuns.{SessionRun, IsStoppedRun, run_order, TellsFront, FrontSent, SetAtStop, SetAtPause, IsOfFront, IsMadeInRun, ToldState, HoldsRunFile, HoldsFilePart, TellsTotals, ReportsRun, analyzer_events, SawThrough, CountsAll}
 
 -- Each front-end has told in the Done of the stop what it sent in the run.
 abbrev pub FrontsTell : Session → Type 0
@@ -142,12 +142,12 @@ ReportsSo s = (r : SessionRun) → IsStoppedRun s r →
     (a : SessionAnalyzer) → HasAnalyzer s a → (report : Totals) → TellsTotals r a.client report →
     ReportsRun s r a report
 
--- And where it saw the run through, by the request by which it counted it, that is the report of all events between the marks
--- of the run that it asks for.
+-- And where it saw the run through, by the request by which it counted it, it counted all events between the marks of the run
+-- that it asks for; and its client got no other events of the run.
 abbrev pub ReportsWhole : Session → Type 0
 ReportsWhole s = (r : SessionRun) →
     (a : SessionAnalyzer) → HasAnalyzer s a → (report : Totals) → (told : ReportsRun s r a report) →
-    SawThrough s r a report told → report ≡ report_of (analyzer_events s r a)
+    SawThrough (s.history a.buffer) (caller_of_client a.client) told → CountsAll (s.history a.buffer) told
 
 -- All that an analyzer's client got of a run that it saw through are the events between the marks of the run that it asks
 -- for, each once and in order.

@@ -20,6 +20,7 @@ use Rattle.buffer_core.specs.declared.entry.BufferEntry.{BufferEntry}
 use Rattle.buffer_core.specs.declared.entry.BufferEntry.TheVariants.{Request, Cancel, Receive, End}
 use Rattle.buffer_core.specs.Histories.{History}
 use Rattle.buffer_core.specs.Points.{sent, past_of}
+use Rattle.buffer_core.specs.Ports.{GotEvent}
 use Rattle.buffer_core.specs.Runs.{segment}
 use Rattle.event_report.specs.Reports.{Totals}
 use Rattle.buffer_core.specs.Readers.{among, places_got, places_of, wanted}
@@ -33,9 +34,11 @@ use Rattle.transitions.specs.EngineHistories.{EngineHistory}
 use Rattle.member_model.specs.Turns.{MemberTurn}
 use Rattle.member_model.specs.Moments.{HasMoment}
 use Rattle.member_model.specs.SentCalls.{own_sent, EachCall, WasSpent}
+use Rattle.member_model.specs.GotRuns.{events_of_start}
 use Rattle.member_model.specs.LoggerKept.{LoggerChannel}
 use Rattle.front_ends.specs.FrontKept.{made_events}
 use Rattle.caller_laws.specs.OneCaller.{events_in}
+use Rattle.analyzers.specs.declared.analyzer_run.EventRequest.{EventRequest}
 use Rattle.analyzers.specs.AnalyzerKept.{IsReportOfRun}
 use Rattle.caller_laws.specs.CallerLaws.{IsSendOf}
 use Rattle.engine_laws.specs.BegunTurns.{HasTransition}
@@ -183,10 +186,11 @@ abbrev pub CancelsNot : (client number : ℕ) → BufferEntry → Type 0
 CancelsNot client number (Cancel c n reply) = (c ≡ client) × (n ≡ number) → ⊥
 CancelsNot client number entry = ⊤
 
--- The analyzer saw the run through, by the request by which it counted the run. That is a request for all events, and stands in
--- the buffer's history before the first event with the run's start number; and before it was cancelled, a receive of the client
--- behind the end of the run found nothing.
-pub record SawThrough (s : Session) (r : SessionRun) (a : SessionAnalyzer) (report : Totals) (told : ReportsRun s r a report) : Type 0 where
+-- Of a report, the history of the buffer and the caller whose calls it was counted by: the analyzer saw the run through, by the
+-- request by which it counted the run. That is a request for all events, and stands in the history before the first event with
+-- the run's start number; and before it was cancelled, a receive of the client behind the end of the run found nothing.
+pub record SawThrough {asked : EventRequest} {own : List BufferEntry} {got : List GotEvent} {turns : List MemberTurn} {start : ℕ}
+    {report : Totals} (history : History) (caller : ℕ) (told : IsReportOfRun asked own got turns start report) : Type 0 where
   pub before : History
   pub running : History
   pub draining : History
@@ -196,12 +200,18 @@ pub record SawThrough (s : Session) (r : SessionRun) (a : SessionAnalyzer) (repo
   pub room : ℕ
   pub gate : RunGate
   pub last : ℕ
-  pub whole : (let caller : ℕ = caller_of_client a.client in
-      s.history a.buffer
-      ≡ (before ++ (caller, Request told.client a.wanted.id a.wanted.mask All (Ok told.number))
-      ∷ (running ++ (by, End r.start (Ok ended)) ∷ (draining ++ (caller, Receive told.client room (Empty gate last)) ∷ [])))
-      ++ after)
-  pub by_request : entries_by (caller_of_client a.client) before ≡ told.counted.counted.asked.before
-  pub early : AllByRecursion (λ x. x.start ≢ r.start) (sent (past_of before))
+  pub whole : history
+      ≡ (before ++ (caller, Request told.client asked.id asked.mask All (Ok told.number))
+      ∷ (running ++ (by, End start (Ok ended)) ∷ (draining ++ (caller, Receive told.client room (Empty gate last)) ∷ [])))
+      ++ after
+  pub by_request : entries_by caller before ≡ told.counted.counted.asked.before
+  pub early : AllByRecursion (λ x. x.start ≢ start) (sent (past_of before))
   pub lives : EachCall (CancelsNot told.client told.number)
-      (entries_by (caller_of_client a.client) (running ++ (by, End r.start (Ok ended)) ∷ draining))
+      (entries_by caller (running ++ (by, End start (Ok ended)) ∷ draining))
+
+-- The report counted all events of the run that were asked for: those between the run's marks in this history, in order, each
+-- once. And these are all events with the run's start number that its client ever got.
+pub record CountsAll {asked : EventRequest} {own : List BufferEntry} {got : List GotEvent} {turns : List MemberTurn} {start : ℕ}
+    {report : Totals} (history : History) (told : IsReportOfRun asked own got turns start report) : Type 0 where
+  pub counted : told.events ≡ events_in (wanted asked.id asked.mask (segment history start))
+  pub ever : events_of_start told.client start got ≡ told.events

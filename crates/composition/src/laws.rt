@@ -6,7 +6,7 @@ ghost use Rattle.composition.specs.Sessions.{Session, MembersKeep};
 ghost use Rattle.composition.specs.SessionRuns.{IsStoppedRun, ToldState, ReportsRun, SawThrough};
 ghost use Rattle.composition.specs.SessionSamples.{sample_session, sample_run, sample_channel};
 ghost use Rattle.composition.specs.PausedSamples.{paused_session, pausing_run, paused_channel, early_pause};
-ghost use Rattle.composition.specs.CountedSamples.{counted_session, counted_run, counted_analyzer, counted_report, asked_twice};
+ghost use Rattle.composition.specs.CountedSamples.{counted_history, counted_session, counted_run, counted_analyzer, counted_report, asked_twice};
 ghost use Rattle.buffer_core.specs.Samples.{sample_event, longer_event};
 ghost use Rattle.composition.specs.NeededSamples.{SessionPremise, LegalBuffers, LegalEngine, OwnNames, MemberCalls, KeptFronts, FrontMoments, FrontNumbers, KeptLogger, LoggerEvents, KeptAnalyzers, AnalyzerEvents, FrontsThere, AnalyzersThere, LoggerThere, OneDump, MeetsSession, FailsSession, unmarked_session, made_up, spoken_for, unknown_sender, other_made, early_session, nothing_set, watching_front, nothing_stored, other_told, front_for_analyzer, unknown_front, unknown_analyzer, unknown_logger, no_dump};
 
@@ -175,6 +175,5 @@ pub fn is_met_counted()
     ensures run { IsStoppedRun (counted_session sample_event) (counted_run sample_event) }
     ensures through { (told : ReportsRun (counted_session sample_event) (counted_run sample_event)
         (counted_analyzer sample_event) (counted_report sample_event)) ×
-        SawThrough (counted_session sample_event) (counted_run sample_event)
-        (counted_analyzer sample_event) (counted_report sample_event) told }
+        SawThrough (counted_history 0) 3 told }
 {}

@@ -1,7 +1,7 @@
 -- Counts of faults and of clashes, by the answer of a call.
-use Rattle.std.specs.Prelude.{ℕ, ◌-◌, ◌≤◌}
+use Rattle.std.specs.Prelude.{ℕ, ◌+◌, ◌-◌, ◌≤◌}
 use Rattle.std.proofs.Common.{arith}
-use Rattle.daq_io.specs.Counts.{Rose}
+use Rattle.daq_io.specs.Counts.{Rose, RoseBy}
 
 -- a rise behind a count that did not fall is one from before it
 pub Rose-after : (a b c : ℕ) → a ≤ b → Rose b c → Rose a c
@@ -10,3 +10,11 @@ Rose-after a b c h r = omega arith
 -- and a count that does not fall keeps a rise
 pub Rose-before : (a b c : ℕ) → Rose a b → b ≤ c → Rose a c
 Rose-before a b c r h = omega arith
+
+-- A count that rose by so many rose by fewer.
+pub RoseBy-fewer : (fewer many a b : ℕ) → fewer ≤ many → RoseBy many a b → RoseBy fewer a b
+RoseBy-fewer fewer many a b h r = omega arith
+
+-- What rises behind a rise is added to it.
+pub RoseBy-then : (many more a b c : ℕ) → RoseBy many a b → RoseBy more b c → RoseBy (many + more) a c
+RoseBy-then many more a b c r s = omega arith

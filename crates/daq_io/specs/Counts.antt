@@ -7,6 +7,11 @@ use Rattle.daq_io.specs.declared.folder.NameRefused.TheVariants.{Exists, Missing
 abbrev pub Rose : ℕ → ℕ → Type 0
 Rose old new = min (old + 1) (2 ^ 64 - 1) ≤ new
 
+-- The count rose by so many, or by more; by none it did not fall. One that stands at its type's end is said to have risen by
+-- any number.
+abbrev pub RoseBy : (many old new : ℕ) → Type 0
+RoseBy many old new = min (old + many) (2 ^ 64 - 1) ≤ new
+
 -- What a call whose only error is a fault does to the count of faults: it rose exactly where the call failed.
 pub record CountsFault {T E : Type 0} (old new : ℕ) (result : Result T E) : Type 0 where
   pub later : old ≤ new

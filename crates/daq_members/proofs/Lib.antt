@@ -5,7 +5,6 @@ pub mod TakenLaws
 pub mod LoggerLaws
 pub mod LoggerSeatLaws
 pub mod TurnSets
-pub mod CrewLaws
 pub mod OtherFilesKept
 pub mod LoggerReasons
 pub mod LoggerNames

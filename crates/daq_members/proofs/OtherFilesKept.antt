@@ -70,8 +70,8 @@ port_there (a ∷ as_) (suc n) within = port_there as_ n (omega arith)
 
 pub runs_held : (run : Option LoggedRun) (stop_dump : Option (List ℕ)) (slots : List (Option Channel)) (ports : List Access) (turns : List MemberTurn) (seen : Seen) → LoggerStands run stop_dump slots ports turns seen → HaveRunsAmong (started_runs turns) slots
 runs_held run stop_dump slots ports turns seen stands n c opened at is =
-    let port : (a : Access) × (slice_get ports c.spec.buffer ≡ Some a) = port_there ports c.spec.buffer (stands.served n c at) in
-    let kept : ChannelKept (IsHeadTold turns) seen c port.0 = stands.standing.channels n c port.0 at port.1 in
+    let port : (a : Access) × (slice_get ports c.spec.buffer ≡ Some a) = port_there ports c.spec.buffer (stands.holds.served n c at) in
+    let kept : ChannelKept (IsHeadTold turns) seen c port.0 = stands.holds.standing.channels n c port.0 at port.1 in
     let head : HasHead turns opened.start kept.head = kept.headed opened is in
     let number : kept.head.run ≡ opened.run = head_run c.spec c.client c.stage kept.head port.0.own port.0.got seen opened kept.stands.at is in
     subst (λ (k : ℕ). Contains (started_runs turns) k) (sym head.run ∙ number) (has_started turns head.turn head.is_start.is_start.stands head.is_start.is_start.is)

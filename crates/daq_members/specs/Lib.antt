@@ -6,4 +6,3 @@ pub mod Endless
 pub mod FrontSeats
 pub mod StartedRuns
 pub mod LoggerSeats
-pub mod Crews

@@ -1,9 +1,8 @@
-//! The members of a session. Each has its place at the engine, where it asks for its turns and answers them, and goes
-//! on with its work by what it hears there: a front-end sends its events and says in the database how many it sent, and
-//! the logger writes the run files. A crew has them all, and gives them their turns round by round.
+//! Members of a session. Each has its place at the engine, where it asks for its turns and answers them, and goes on
+//! with its work by what it hears there: a front-end sends its events and says in the database how many it sent, and the
+//! logger writes the run files.
 #![tactic(auto)]
 
-mod crew;
 mod endless;
 mod front_member;
 mod front_seat;
@@ -13,7 +12,6 @@ mod logger_seat;
 mod seat;
 mod turned;
 
-pub use crew::{Crew, CrewParts};
 pub use endless::EndlessPort;
 pub use front_member::FrontMember;
 pub use front_seat::{FrontParts, FrontSeat};

@@ -20,6 +20,7 @@ use Rattle.loggers.specs.Moments.{LoggerMoment, ChannelStep, StepsSlot}
 use Rattle.loggers.specs.ChannelSteps.{AbortsChannel}
 use Rattle.loggers.specs.LoggerStands.{ChannelKept, SlotsApart, SlotsStand}
 use Rattle.loggers.proofs.Moved.{Moves, moved}
+use Rattle.loggers.proofs.LoneCalls.{cancels_lone}
 use Rattle.loggers.proofs.PullMoves.{GrowsOn, grows_same, grows_cancel, grown_on, port_grown, run_file_left, apart_on, tells_same}
 
 standing_grows : (standing : Option ChannelRun) (x y : Access) → CancelsStanding standing x y → GrowsOn x y
@@ -67,7 +68,7 @@ abort_moves keep change beside files H turns slots n s there apart kept aborts =
         headed = k.headed;
       };
       apart = λ m d other stood was. idle_slots_apart new before s.after d old spec client idle was;
-      calls = λ calls. port_grown turns s.port s.later_port grows (own_stands kept.head kept.stands).port calls;
+      calls = λ calls. port_grown turns s.port s.later_port grows (own_stands kept.head kept.stands).port (cancels_lone (asking_run before.stage) s.port s.later_port aborts.cancels) calls;
       grows = grown_on s.port s.later_port grows;
       left = λ c a stop state l. (
         run_file_left before.spec (channel_run before.stage) (written_run before.stage) c.spec (Some l.run.opened) None old new changes

@@ -28,7 +28,7 @@ use Rattle.loggers.specs.declared.logged_run.RunPart.{RunPart}
 use Rattle.loggers.specs.declared.logged_run.RunPart.TheVariants.{Refused, Started, Stopping}
 use Rattle.loggers.specs.Moments.{InTurn, HaveFilesOpen, channel_limit}
 use Rattle.loggers.specs.Finishing.{is_settled_stage, is_settled_slot, waiting_stop, EndingMoment, EndsNumbered, EndsSlot, EndsSlotAt, LoggerFinish, states_idle, EndsFiles, FinishesBy, FinishesLogger}
-use Rattle.loggers.specs.LoggerStands.{logger_turn, HasHead, HasEndTurn, IsEndTold, IsHeadTold, IsStoppingStage, IsStagePart, IsStageOf, ChannelKept, PortKept, LeftRun, ToldSo, SlotsStand, IsStopWaiting, IsPartTold, IsRunTold, LoggerStands}
+use Rattle.loggers.specs.LoggerStands.{logger_turn, HasHead, HasEndTurn, IsEndTold, IsHeadTold, IsStoppingStage, IsStagePart, IsStageOf, ChannelKept, PortKept, LeftRun, ToldSo, SlotsStand, IsStopWaiting, IsPartTold, IsRunTold, LoggerHolds}
 use Rattle.loggers.proofs.SlotLists.{one_changed, got_there, kept_there}
 use Rattle.loggers.proofs.StoppedRuns.{there_is}
 use Rattle.loggers.proofs.ReadySteps.{ended_files}
@@ -199,7 +199,7 @@ answered_slots order dump earlier ports many m to =
       apart = to.standing.apart;
       calls = λ buffer a at.
           let kept : PortKept before a.own = to.standing.calls buffer a at in
-          record { calls = kept.calls; told = each_map (IsEndTold before) (IsEndTold turns) a.own (end_across order dump m.states earlier) kept.told; once = λ are. kept.once are };
+          record { calls = kept.calls; alone = kept.alone; told = each_map (IsEndTold before) (IsEndTold turns) a.own (end_across order dump m.states earlier) kept.told; once = λ are. kept.once are };
       left = λ are stop states tells n c a stood at. elim tells.stands as (λ w. ToldSo turns m.slots m.files.seen n c a stop states) [
         | inl same ↦
             let answers : Some (Yes (Channels m.states)) ≡ Some (Yes (Channels states)) = ap (λ (u : MemberTurn). u.answer) same ∙ tells.answered in
@@ -264,22 +264,22 @@ ended_with laws f ports order earlier start time start_is time_is settled in_use
       left = λ are n c a stood at below. absurd (omega arith);
     })
 
-finished : EndingLaws → (f : LoggerFinish) (ports : List Access) (turns : List MemberTurn) (time : ℕ) → waiting_stop f.run ≡ Some time → list_all is_settled_slot f.slots ≡ true → HaveFilesOpen f.slots f.files.seen → EndsFiles f time → LoggerStands f.run f.stop_dump f.slots ports turns f.files.seen
-    → LoggerStands f.later_run f.later_stop_dump f.later_slots ports (latest_answered turns f.answer) f.later_files.seen
+finished : EndingLaws → (f : LoggerFinish) (ports : List Access) (turns : List MemberTurn) (time : ℕ) → waiting_stop f.run ≡ Some time → list_all is_settled_slot f.slots ≡ true → HaveFilesOpen f.slots f.files.seen → EndsFiles f time → LoggerHolds f.run f.stop_dump f.slots ports turns f.files.seen
+    → LoggerHolds f.later_run f.later_stop_dump f.later_slots ports (latest_answered turns f.answer) f.later_files.seen
 finished laws f ports turns time waits settled in_use ends stands =
     let w : Waits f.run time = run_waits f.run time waits in
     let told_run : IsRunTold (Some w.r) turns f.stop_dump = subst (λ (x : Option LoggedRun). IsRunTold x turns f.stop_dump) w.is stands.told in
     let told : IsPartTold (Stopping time) turns w.r.start f.stop_dump = subst (λ (p : RunPart). IsPartTold p turns w.r.start f.stop_dump) w.part told_run in
     let stop : IsStopWaiting turns w.r.start time f.stop_dump = told.0 in
     let before : List MemberTurn = logger_turn Stop stop.order f.stop_dump None ∷ stop.earlier in
-    let now : LoggerStands f.run f.stop_dump f.slots ports before f.files.seen = subst (λ (l : List MemberTurn). LoggerStands f.run f.stop_dump f.slots ports l f.files.seen) stop.latest stands in
+    let now : LoggerHolds f.run f.stop_dump f.slots ports before f.files.seen = subst (λ (l : List MemberTurn). LoggerHolds f.run f.stop_dump f.slots ports l f.files.seen) stop.latest stands in
     let last : EndingMoment = record { slots = f.later_slots; files = f.later_files; states = ends.states } in
     let turns_now : List MemberTurn = stop_answered stop.order f.stop_dump ends.states stop.earlier in
     let stages : (n : ℕ) (c : Channel) (a : Access) → slot_at f.slots n ≡ Some c → slice_get ports c.spec.buffer ≡ Some a → IsStoppingStage before a.own w.r.start c.stage = λ n c a stood at.
     subst (λ (p : RunPart). IsStagePart p before a.own w.r.start c.stage) w.part (subst (λ (x : Option LoggedRun). IsStageOf x before a.own c.stage) w.is (now.stages n c a stood at)) in
     let to : EndedTo before (logger_turn Stop stop.order f.stop_dump None) ports (length f.slots) (length f.slots) last = ended_with laws f ports stop.order stop.earlier w.r.start time stop.of stop.at settled in_use ends now.standing now.served stages ends in
     let known : TurnsKnown None None turns_now = finish_known f.run f.stop_dump f.stop_dump ends.states stop.order stop.earlier (record { starts = now.starts; stops = now.stops; told = now.told; current = now.current; not_off = now.not_off; going = now.going; unready = now.unready }) in
-    let done : LoggerStands None None f.later_slots ports turns_now f.later_files.seen = record {
+    let done : LoggerHolds None None f.later_slots ports turns_now f.later_files.seen = record {
       standing = answered_slots stop.order f.stop_dump stop.earlier ports (length f.slots) last to;
       served = to.served;
       stages = λ n c a stood at. to.idle n c stood (omega (arith, slot_within f.later_slots n c stood, to.long));
@@ -291,16 +291,16 @@ finished laws f ports turns time waits settled in_use ends stands =
       going = known.going;
       unready = known.unready;
     } in
-    let answered : LoggerStands None None f.later_slots ports (latest_answered before (Some (Yes (Channels ends.states)))) f.later_files.seen = done in
-    rw (ends.answer_is, ends.run, ends.stop_dump) (subst (λ (l : List MemberTurn). LoggerStands None None f.later_slots ports (latest_answered l (Some (Yes (Channels ends.states)))) f.later_files.seen) (sym stop.latest) answered)
+    let answered : LoggerHolds None None f.later_slots ports (latest_answered before (Some (Yes (Channels ends.states)))) f.later_files.seen = done in
+    rw (ends.answer_is, ends.run, ends.stop_dump) (subst (λ (l : List MemberTurn). LoggerHolds None None f.later_slots ports (latest_answered l (Some (Yes (Channels ends.states)))) f.later_files.seen) (sym stop.latest) answered)
 
 finish_by : EndingLaws → (f : LoggerFinish) (ports : List Access) (turns : List MemberTurn) (settled : Bool) (stop : Option ℕ) → list_all is_settled_slot f.slots ≡ settled → waiting_stop f.run ≡ stop → HaveFilesOpen f.slots f.files.seen → FinishesBy settled stop f
-    → LoggerStands f.run f.stop_dump f.slots ports turns f.files.seen → LoggerStands f.later_run f.later_stop_dump f.later_slots ports (latest_answered turns f.answer) f.later_files.seen
+    → LoggerHolds f.run f.stop_dump f.slots ports turns f.files.seen → LoggerHolds f.later_run f.later_stop_dump f.later_slots ports (latest_answered turns f.answer) f.later_files.seen
 finish_by laws f ports turns settled None all waits in_use leaves stands = rw (leaves.answer_is, leaves.run, leaves.stop_dump, leaves.slots, leaves.files) stands
 finish_by laws f ports turns false (Some time) all waits in_use leaves stands = rw (leaves.answer_is, leaves.run, leaves.stop_dump, leaves.slots, leaves.files) stands
 finish_by laws f ports turns true (Some time) all waits in_use ends stands = finished laws f ports turns time waits all in_use ends stands
 
 -- what a logger keeps before a finish it keeps behind it, with the answer, if there is one
-pub finish_stands : EndingLaws → (f : LoggerFinish) (ports : List Access) (turns : List MemberTurn) → FinishesLogger f → HaveFilesOpen f.slots f.files.seen → LoggerStands f.run f.stop_dump f.slots ports turns f.files.seen
-    → LoggerStands f.later_run f.later_stop_dump f.later_slots ports (latest_answered turns f.answer) f.later_files.seen
+pub finish_stands : EndingLaws → (f : LoggerFinish) (ports : List Access) (turns : List MemberTurn) → FinishesLogger f → HaveFilesOpen f.slots f.files.seen → LoggerHolds f.run f.stop_dump f.slots ports turns f.files.seen
+    → LoggerHolds f.later_run f.later_stop_dump f.later_slots ports (latest_answered turns f.answer) f.later_files.seen
 finish_stands laws f ports turns finishes in_use stands = finish_by laws f ports turns (list_all is_settled_slot f.slots) (waiting_stop f.run) refl refl in_use finishes stands

@@ -21,6 +21,7 @@ pub mod TurnedLogger
 pub mod CloseMoves
 pub mod FinishedLogger
 pub mod NewStands
+pub mod LoneCalls
 pub mod TurnParts
 pub mod EndedReady
 pub mod KnownBefore
@@ -29,8 +30,11 @@ pub mod TurnsOwn
 pub mod TurnUses
 pub mod FaultsNoted
 pub mod FilesLeft
+pub mod ManyRose
 pub mod ReasonsKept
 pub mod NamesUndone
 pub mod NamesKept
 pub mod RefusedAsks
 pub mod NamesTaken
+pub mod FairPorts
+pub mod FairTurns

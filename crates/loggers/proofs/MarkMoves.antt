@@ -18,6 +18,7 @@ use Rattle.member_model.specs.OwnCalls.{calls_after, AreOwnCalls, IsOwnCall, Sen
 use Rattle.member_model.specs.ReadRuns.{IsReading}
 use Rattle.member_model.specs.CutRuns.{MarksEnd, HasReadOn}
 use Rattle.member_model.specs.EndedRuns.{EndsBegun}
+use Rattle.member_model.proofs.FairLaws.{NoRequest, lone-push}
 use Rattle.member_model.proofs.ReadLaws.{calls_after-push}
 use Rattle.member_model.proofs.SentLaws.{EachCall-push}
 use Rattle.mid_logger.specs.declared.channel.Channel.{Channel}
@@ -99,8 +100,9 @@ own_more own e keeps none is_own = record {
   own_calls = subst (λ (es : List BufferEntry). AreOwnCalls es) (sym (calls_after-push [] own e)) (is_own, keeps.own_calls);
 }
 
--- a call that sends nothing, names no client, and ends no run
+-- a call that sends nothing, names no client, ends no run, and is no request
 pub record PlainCall (e : BufferEntry) : Type 0 where
+  pub asks : NoRequest e
   pub sends : SendsNone e
   pub is_own : (es : List BufferEntry) → IsOwnCall e es
   pub ends : EndsNone e
@@ -135,16 +137,16 @@ resume_run start reply (Draining run) = tt
 resume_run start reply s = tt
 
 begin_plain : (start : ℕ) (reply : Result ℕ MarkRefusal) → PlainCall (Begin start reply)
-begin_plain start reply = record { sends = tt; is_own = λ es. tt; ends = tt }
+begin_plain start reply = record { sends = tt; is_own = λ es. tt; ends = tt; asks = λ es. tt }
 
 pub refused_quiet : (start : ℕ) (why : MarkRefusal) → QuietCall (Begin start (Err why))
 refused_quiet start why = record { plain = begin_plain start (Err why); client = no_client (Begin start (Err why)) (λ n. tt); run = refused_run start why; gives = refl }
 
 pub pause_quiet : (start : ℕ) (reply : Result ℕ MarkRefusal) → QuietCall (Pause start reply)
-pause_quiet start reply = record { plain = record { sends = tt; is_own = λ es. tt; ends = tt }; client = no_client (Pause start reply) (λ n. tt); run = pause_run start reply; gives = refl }
+pause_quiet start reply = record { plain = record { sends = tt; is_own = λ es. tt; ends = tt; asks = λ es. tt }; client = no_client (Pause start reply) (λ n. tt); run = pause_run start reply; gives = refl }
 
 pub resume_quiet : (start : ℕ) (reply : Result ℕ MarkRefusal) → QuietCall (Resume start reply)
-resume_quiet start reply = record { plain = record { sends = tt; is_own = λ es. tt; ends = tt }; client = no_client (Resume start reply) (λ n. tt); run = resume_run start reply; gives = refl }
+resume_quiet start reply = record { plain = record { sends = tt; is_own = λ es. tt; ends = tt; asks = λ es. tt }; client = no_client (Resume start reply) (λ n. tt); run = resume_run start reply; gives = refl }
 
 grows_quiet : (p q : Access) (e : BufferEntry) → q.own ≡ p.own ++ e ∷ [] → q.got ≡ p.got → EndsNone e → GrowsOn p q
 grows_quiet p q e own got ends = record { more = e ∷ []; given = []; own = own; got = got ∙ sym (append-nil p.got); quiet = (ends, tt) }
@@ -162,7 +164,7 @@ quiet_steps note turns slots later buffer p q seen e quiet own got many from kep
   given = [];
   own = own;
   got = got ∙ sym (append-nil p.got);
-  calls = λ calls. port_grown turns p q (grows_quiet p q e own got quiet.ends) (rw own (own_more p.own e calls.calls quiet.sends (quiet.is_own (calls_after [] p.own)))) calls;
+  calls = λ calls. port_grown turns p q (grows_quiet p q e own got quiet.ends) (rw own (own_more p.own e calls.calls quiet.sends (quiet.is_own (calls_after [] p.own)))) (λ are. rw own (lone-push p.own e (quiet.asks (calls_after [] p.own)) are)) calls;
   ended = λ are stop states tells ended so. rw own (ended_stays p.own (e ∷ []) stop.order.start ended (quiet.ends, tt) so);
 }
 
@@ -433,6 +435,7 @@ ends_stands law calls ended Spare H turns start buffer a b ends turn none never 
       got = called.called.got_is ∙ sym (append-nil p.got);
       calls = λ kept. rw called.called.own (record {
         calls = own_more p.own (End start reply) kept.calls tt tt;
+        alone = lone-push p.own (End start reply) tt kept.alone;
         told = EachCall-push (IsEndTold turns) p.own (End start reply) kept.told turn;
         once = λ are. once_more p.own start reply (never are) (kept.once are);
       });

@@ -26,15 +26,15 @@ use Rattle.loggers.specs.declared.logged_run.RunPart.TheVariants.{Refused, Start
 use Rattle.loggers.specs.Moments.{RunFiles, LoggerMoment, HaveFilesOpen}
 use Rattle.loggers.specs.SlotPulls.{PullsSlot}
 use Rattle.loggers.specs.Finishing.{LoggerFinish, FinishesLogger, FinishesBy, EndsFiles, is_settled_slot, waiting_stop}
-use Rattle.loggers.specs.LoggerStands.{LoggerStands, logger_turn, ChannelKept, HasHead, IsHeadTold, IsStopWaiting, IsStartedStage, IsStoppingStage, IsStageOf, IsStagePart, IsRunTold, IsPartTold}
+use Rattle.loggers.specs.LoggerStands.{LoggerHolds, logger_turn, ChannelKept, HasHead, IsHeadTold, IsStopWaiting, IsStartedStage, IsStoppingStage, IsStageOf, IsStagePart, IsRunTold, IsPartTold}
 use Rattle.loggers.specs.OtherFiles.{specs_in, HaveRunsAmong, LeavesOtherFiles}
-use Rattle.loggers.specs.Reasons.{StaysOrRose}
 use Rattle.loggers.specs.LeftNames.{IsOpenName, NamesLeft, NoneRose, IsStoppedRunOf, IsStoppedName, IsNameLeft, AreTaken, KeepsNames, StopsOpenRuns, HaveStoppedRuns, StandingHasStarted, StandingHasStopped, PullsKeepStopped, TurnsKeepNames, PullsKeepNames, FinishesKeepNames}
 use Rattle.loggers.proofs.FaultsNoted.{turn_faults, pull_faults, finish_faults}
 use Rattle.loggers.proofs.FilesLeft.{FileChanges, spec_at, no_run, turns_leave_files, pulls_leave_files, finishes_leave_files}
 use Rattle.loggers.proofs.FinishedLogger.{Waits, run_waits}
 use Rattle.loggers.proofs.NamesTaken.{turn_taken}
 use Rattle.loggers.proofs.SlotLists.{one_changed}
+use Rattle.loggers.proofs.ManyRose.{StaysOrRose, by_stays}
 use Rattle.loggers.proofs.NamesUndone.{none_first, none_last, turn_left, pull_left, ends_left}
 use Rattle.loggers.proofs.StoppedRuns.{there_is}
 use Rattle.loggers.proofs.TurnsKnown.{across, stop_answered}
@@ -115,7 +115,7 @@ turns_keep_names laws t first turns takes idle gives keeps =
       tells = leaves.files.tells ∙ keeps.tells;
       names = λ tells none.
           let before_none : NoneRose first t.before.files = none_first first.faults t.before.files.faults t.after.files.faults none stays in
-          let now_none : NoneRose t.before.files t.after.files = none_last first.faults t.before.files.faults t.after.files.faults none gives.faults in
+          let now_none : NoneRose t.before.files t.after.files = none_last first.faults t.before.files.faults t.after.files.faults none (by_stays _ first.faults t.before.files.faults gives.faults) in
           let told : IsTrue t.before.files.seen.tells = subst (λ (b : Bool). IsTrue b) (sym keeps.tells) tells in
           let left : NamesLeft (IsNameLeft (specs_in t.before.slots) turns first.seen) t.after.slots t.after.files.seen =
           turn_left (IsNameLeft (specs_in t.before.slots) turns first.seen) t takes idle told now_none (keeps.names tells before_none) in
@@ -185,7 +185,7 @@ record HeadStart (turns : List MemberTurn) (opened : ChannelRun) : Type 0 where
   is_start : IsAcceptedStart turns opened.start begin
   number : begin.order.run ≡ opened.run
 
-head_start : (run : Option LoggedRun) (stop_dump : Option (List ℕ)) (slots : List (Option Channel)) (ports : List Access) (turns : List MemberTurn) (seen : Seen) → LoggerStands run stop_dump slots ports turns seen → (number : ℕ) (c : Channel) (opened : ChannelRun) (a : Access)
+head_start : (run : Option LoggedRun) (stop_dump : Option (List ℕ)) (slots : List (Option Channel)) (ports : List Access) (turns : List MemberTurn) (seen : Seen) → LoggerHolds run stop_dump slots ports turns seen → (number : ℕ) (c : Channel) (opened : ChannelRun) (a : Access)
     → slot_at slots number ≡ Some c → slice_get ports c.spec.buffer ≡ Some a → channel_run c.stage ≡ Some opened → HeadStart turns opened
 head_start run stop_dump slots ports turns seen stands number c opened a there at of =
     let kept : ChannelKept (IsHeadTold turns) seen c a = stands.standing.channels number c a there at in
@@ -213,17 +213,17 @@ its_run (Some r) turns own stage opened at is = (r, refl, part_start r.part turn
 
 pub standing_has_started : StandingHasStarted
 standing_has_started run stop_dump slots ports turns seen stands are number c opened there of =
-    let port : (a : Access) × (slice_get ports c.spec.buffer ≡ Some a) = there_is ports c.spec.buffer (stands.served number c there) in
-    let h : HeadStart turns opened = head_start run stop_dump slots ports turns seen stands number c opened port.0 there port.1 of in
-    let its : (r : LoggedRun) × (run ≡ Some r) × (opened.start ≡ r.start) = its_run run turns port.0.own c.stage opened (stands.stages number c port.0 there port.1) of in
+    let port : (a : Access) × (slice_get ports c.spec.buffer ≡ Some a) = there_is ports c.spec.buffer (stands.holds.served number c there) in
+    let h : HeadStart turns opened = head_start run stop_dump slots ports turns seen stands.holds number c opened port.0 there port.1 of in
+    let its : (r : LoggedRun) × (run ≡ Some r) × (opened.start ≡ r.start) = its_run run turns port.0.own c.stage opened (stands.holds.stages number c port.0 there port.1) of in
     record {
       begin = h.begin;
       is_start = h.is_start;
       number = h.number;
-      on = λ turn has off same. stands.not_off are its.0 turn its.1 has off (same ∙ its.2);
+      on = λ turn has off same. stands.holds.not_off are its.0 turn its.1 has off (same ∙ its.2);
     }
 
-standing_stops : (run : Option LoggedRun) (stop_dump : Option (List ℕ)) (slots : List (Option Channel)) (ports : List Access) (turns : List MemberTurn) (seen : Seen) (time : ℕ) → LoggerStands run stop_dump slots ports turns seen → Waits run time → StopsOpenRuns stop_dump slots turns
+standing_stops : (run : Option LoggedRun) (stop_dump : Option (List ℕ)) (slots : List (Option Channel)) (ports : List Access) (turns : List MemberTurn) (seen : Seen) (time : ℕ) → LoggerHolds run stop_dump slots ports turns seen → Waits run time → StopsOpenRuns stop_dump slots turns
 standing_stops run stop_dump slots ports turns seen time stands w =
     let told_run : IsRunTold (Some w.r) turns stop_dump = subst (λ (x : Option LoggedRun). IsRunTold x turns stop_dump) w.is stands.told in
     let told : IsPartTold (Stopping time) turns w.r.start stop_dump = subst (λ (p : RunPart). IsPartTold p turns w.r.start stop_dump) w.part told_run in
@@ -245,7 +245,7 @@ standing_stops run stop_dump slots ports turns seen time stands w =
     }
 
 pub standing_has_stopped : StandingHasStopped
-standing_has_stopped run stop_dump slots ports turns seen stands time waits = standing_stops run stop_dump slots ports turns seen time stands (run_waits run time waits)
+standing_has_stopped run stop_dump slots ports turns seen stands time waits = standing_stops run stop_dump slots ports turns seen time stands.holds (run_waits run time waits)
 
 pull_stops : PullsChange → (number : ℕ) (answer : Pulled) (slot : Option Channel) (a b : LoggerMoment) (dump : Option (List ℕ)) (turns : List MemberTurn) → slot_at a.slots number ≡ slot → HaveFilesOpen a.slots a.files.seen → PullsSlot slot number answer a b → StopsOpenRuns dump a.slots turns
     → StopsOpenRuns dump b.slots turns

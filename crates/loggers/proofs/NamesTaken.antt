@@ -1,5 +1,5 @@
 -- A logger refuses a start for a name only where that is taken.
-use Rattle.std.specs.Prelude.{◌≡◌, ◌≤◌, ◌<◌, ℕ, zero, suc, Bool, true, false, IsTrue, IsSome, List, slice_set, Option, Some, None, Result, Ok, Err, ⊤, ◌⊎◌, refl}
+use Rattle.std.specs.Prelude.{◌≡◌, ◌≤◌, ◌<◌, ℕ, zero, suc, Bool, true, false, IsTrue, IsSome, List, Option, Some, None, Result, Ok, Err, ⊤, ◌⊎◌, refl}
 use Rattle.std.proofs.Common.{ap, sym, subst, ◌∙◌, arith, inl, inr}
 use Rattle.daq_types.specs.declared.runs.Order.{Order}
 use Rattle.daq_types.specs.declared.runs.Transition.{Transition}
@@ -18,11 +18,11 @@ use Rattle.mid_logger.specs.declared.stage.ChannelRun.{ChannelRun}
 use Rattle.mid_logger.specs.ChannelTurns.{ChannelAt, RefusesRun}
 use Rattle.mid_logger.specs.Channels.{channel_run}
 use Rattle.mid_logger.specs.Patterns.{file_name_by}
-use Rattle.loggers.specs.Moments.{LoggerMoment, StepsSlot, StepsAt, AreIdle}
+use Rattle.loggers.specs.Moments.{LoggerMoment, StepsSlot, AreIdle}
 use Rattle.loggers.specs.ChannelSteps.{OpensChannel}
 use Rattle.loggers.specs.Turning.{LoggerTurn, OpensBelow, UndoesOpens, StartsSo, PausesBuffer, ResumesBuffer, TakesStart, TakesStop, TakesMark, TakesAbort, TakesTurnBy, TakesTurn, IsIdleOutside, is_run_on, is_started, is_of_start, start_answer}
 use Rattle.loggers.specs.OtherFiles.{specs_in}
-use Rattle.loggers.specs.LeftNames.{IsOpenName, NamesLeft, IsNameLeft, IsStoppedName, IsGivenBefore, IsNameTaken}
+use Rattle.loggers.specs.LeftNames.{NamesLeft, IsNameLeft, IsStoppedName, IsGivenBefore, IsNameTaken}
 use Rattle.loggers.proofs.FilesLeft.{spec_at, specs_set, no_run}
 use Rattle.loggers.proofs.NamesUndone.{OpenFrom, Opening, opening_all, opening_first}
 use Rattle.loggers.proofs.SlotLists.{one_changed}

@@ -29,13 +29,13 @@ use Rattle.loggers.specs.ChannelSteps.{OpensChannel, AbortsChannel, PullsChannel
 use Rattle.loggers.specs.SlotPulls.{PullsSlot, PullsNumbered}
 use Rattle.loggers.specs.Finishing.{EndingMoment, EndsSlot, EndsSlotAt, EndsFiles, LoggerFinish, states_idle}
 use Rattle.loggers.specs.Turning.{EndsBuffer, PausesBuffer, ResumesBuffer, LoggerTurn, OpensBelow, BeginsBelow, AbortsAll, UndoesOpens, UndoesBegins, StartsSo, TakesStart, TakesStop, TakesMark, TakesAbort, TakesTurnBy, TakesTurn, IsIdleOutside, is_run_on, is_started, is_of_start, buffers_begun}
-use Rattle.loggers.specs.Reasons.{StaysOrRose}
 use Rattle.loggers.specs.LeftNames.{IsOpenName, NamesLeft, NoneRose}
 use Rattle.loggers.proofs.FaultsNoted.{rose_then, then_rose, counts_then}
 use Rattle.loggers.proofs.FilesLeft.{noted_spec, noted_run, begun_run, ended_run, no_run, settled_run}
 use Rattle.loggers.proofs.InTurns.{turns_keep}
 use Rattle.loggers.proofs.ReadySteps.{ended_files}
-use Rattle.loggers.proofs.ReasonsKept.{opens_kept, begins_kept, ends_kept, aborts_kept, abort_kept, refused_kept, call_kept}
+use Rattle.loggers.proofs.ManyRose.{StaysOrRose}
+use Rattle.loggers.proofs.ReasonsKept.{step_stays, refused_stays, opens_kept, begins_kept, ends_kept, aborts_kept, abort_kept, refused_kept, call_kept}
 use Rattle.loggers.proofs.SlotLists.{same_or_other, one_changed, put_there, many_set}
 
 -- Names, and counts that stay.
@@ -405,13 +405,13 @@ undo_slot Good k many (Some before) a b there s none g = undo_one Good k many be
 
 aborted_count : (n : ℕ) (a b : LoggerMoment) → InTurn (λ k. StepsAt AbortsChannel k) n a b → StaysOrRose a.files.faults b.files.faults
 aborted_count zero a b same = inl (ap (λ (m : LoggerMoment). m.files.faults) same)
-aborted_count (suc n) a b turns = counts_then a.files.faults turns.0.files.faults b.files.faults (aborted_count n a turns.0 turns.1) ((abort_kept n (slot_at turns.0.slots n) turns.0 b refl turns.2).faults)
+aborted_count (suc n) a b turns = counts_then a.files.faults turns.0.files.faults b.files.faults (aborted_count n a turns.0 turns.1) (step_stays turns.0 b (abort_kept n (slot_at turns.0.slots n) turns.0 b refl turns.2))
 
 undo_below : (Good : List ℕ → Option Stored → Type 0) (many n : ℕ) (a b : LoggerMoment) → InTurn (λ k. StepsAt AbortsChannel k) n a b → NoneRose a.files b.files → Undo Good 0 many a → Undo Good n many b
 undo_below Good many zero a b same none g = subst (λ (m : LoggerMoment). Undo Good 0 many m) (sym same) g
 undo_below Good many (suc n) a b turns none g =
     let m : LoggerMoment = turns.0 in
-    let last = (abort_kept n (slot_at m.slots n) m b refl turns.2).faults in
+    let last = step_stays m b (abort_kept n (slot_at m.slots n) m b refl turns.2) in
     undo_slot Good n many (slot_at m.slots n) m b refl turns.2 (none_last a.files.faults m.files.faults b.files.faults none (aborted_count n a m turns.1))
     (undo_below Good many n a m turns.1 (none_first a.files.faults m.files.faults b.files.faults none last) g)
 
@@ -456,9 +456,9 @@ opens_undone : (Good : List ℕ → Option Stored → Type 0) (order : Order) (d
 opens_undone Good order dump why begun a b undoes idle tells none left =
     let r = undoes.opens in
     let m : LoggerMoment = undoes.refused in
-    let early = (opens_kept order dump r.number a r.opened r.opens).faults in
-    let late = (aborts_kept m b undoes.aborts).faults in
-    let middle = (refused_kept order dump why r.number r.channel r.opened m r.there r.refuses).faults in
+    let early = step_stays a r.opened (opens_kept order dump r.number a r.opened r.opens) in
+    let late = step_stays m b (aborts_kept m b undoes.aborts) in
+    let middle = refused_stays why r.opened m (refused_kept order dump why r.number r.channel r.opened m r.there r.refuses) in
     let until : StaysOrRose a.files.faults m.files.faults = counts_then a.files.faults r.opened.files.faults m.files.faults early middle in
     let none_until : Rose a.files.faults m.files.faults → ⊥ = none_first a.files.faults m.files.faults b.files.faults none late in
     undone Good m b undoes.aborts (none_last a.files.faults m.files.faults b.files.faults none until)
@@ -474,8 +474,8 @@ begins_undone Good order dump why begun a b undoes idle tells none left =
     let open_ : Undo Good 0 (length opened.slots) opened = undo_opened Good (length a.slots) opened (opening_all Good order dump (length a.slots) a opened undoes.opens (opening_first Good a idle tells left)) in
     let refused : Undo Good 0 (length opened.slots) m = undo_called Good (length opened.slots) _ begun c.begun m c.refuses.1 (undo_begins Good (length opened.slots) order.start begun opened c.begun c.begins open_) in
     let until : StaysOrRose a.files.faults m.files.faults =
-    counts_then a.files.faults opened.files.faults m.files.faults (opens_kept order dump (length a.slots) a opened undoes.opens).faults
-    (counts_then opened.files.faults c.begun.files.faults m.files.faults (begins_kept order.start begun opened c.begun c.begins).faults (call_kept _ begun c.begun m c.refuses.1).faults) in
+    counts_then a.files.faults opened.files.faults m.files.faults (step_stays a opened (opens_kept order dump (length a.slots) a opened undoes.opens))
+    (counts_then opened.files.faults c.begun.files.faults m.files.faults (step_stays opened c.begun (begins_kept order.start begun opened c.begun c.begins)) (step_stays c.begun m (call_kept _ begun c.begun m c.refuses.1))) in
     undone Good m b undoes.aborts (none_last a.files.faults m.files.faults b.files.faults none until) (same_many Good (length opened.slots) m refused)
 
 starts_left : (Good : List ℕ → Option Stored → Type 0) (result : Result ⊤ Why) (order : Order) (dump : List ℕ) (begun : ℕ) (a b : LoggerMoment) → StartsSo result order dump begun a b → AreIdle a.slots → IsTrue a.files.seen.tells → NoneRose a.files b.files → NamesLeft Good a.slots a.files.seen
@@ -517,7 +517,7 @@ called_off_left Good true t takes tells none left =
     let a : LoggerMoment = t.before in
     let m : LoggerMoment = takes.ended in
     let ended : Undo Good 0 (length a.slots) m = undo_ends Good (length a.slots) t.order.start (buffers_begun t.run) a m takes.ends (left_undo Good a tells left) in
-    undone Good m t.after takes.aborts (none_last a.files.faults m.files.faults t.after.files.faults none (ends_kept t.order.start (buffers_begun t.run) a m takes.ends).faults) (same_many Good (length a.slots) m ended)
+    undone Good m t.after takes.aborts (none_last a.files.faults m.files.faults t.after.files.faults none (step_stays a m (ends_kept t.order.start (buffers_begun t.run) a m takes.ends))) (same_many Good (length a.slots) m ended)
 called_off_left Good false t takes tells none left = same_left Good t.before t.after takes.moment left
 
 turn_by : (Good : List ℕ → Option Stored → Type 0) (transition : Transition) (t : LoggerTurn) → IsIdleOutside t.run t.before.slots → TakesTurnBy transition t → IsTrue t.before.files.seen.tells → NoneRose t.before.files t.after.files → NamesLeft Good t.before.slots t.before.files.seen

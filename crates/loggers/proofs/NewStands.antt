@@ -19,7 +19,7 @@ use Rattle.loggers.specs.SlotPulls.{HasEventRoom}
 use Rattle.loggers.specs.LoggerCalls.{KeepsLoggerCalls}
 use Rattle.loggers.specs.LoggerFaults.{HasFailed}
 use Rattle.loggers.specs.NewLoggers.{IsNewChannel, HasNewChannels, AreUnused, HavePorts, HaveRooms}
-use Rattle.loggers.specs.LoggerStands.{IsHeadTold, PortKept, SlotsStand, LoggerStands}
+use Rattle.loggers.specs.LoggerStands.{IsHeadTold, PortKept, SlotsStand, LoggerHolds}
 
 -- a channel of a new logger is idle and has no client
 record IsFresh (specs : List ChannelSpec) (c : Channel) : Type 0 where
@@ -72,13 +72,13 @@ new_slots specs rooms slots ports seen new unused = record {
         numbers = λ r s is other_is. absurd (let never : None ≡ Some r = sym (ap (λ (x : ChannelStage). written_run x) f.stage) ∙ is in cc (never));
       };
   calls = λ buffer a at.
-      let none : PortKept [] [] = record { calls = record { sends_none = tt; own_calls = tt }; told = tt; once = λ are start m n first. absurd (no_mark start m first) } in
+      let none : PortKept [] [] = record { calls = record { sends_none = tt; own_calls = tt }; alone = tt; told = tt; once = λ are start m n first. absurd (no_mark start m first) } in
       subst (λ (l : List BufferEntry). PortKept [] l) (sym (unused buffer a at).0) none;
   left = λ are stop states tells. absurd tells.stands;
 }
 
 -- what a new logger keeps, with ports on which no call was made
-pub new_stands : (specs : List ChannelSpec) (rooms : List ℕ) (slots : List (Option Channel)) (ports : List Access) (seen : Seen) → HasNewChannels specs rooms slots → HavePorts specs ports → AreUnused ports → LoggerStands None None slots ports [] seen
+pub new_stands : (specs : List ChannelSpec) (rooms : List ℕ) (slots : List (Option Channel)) (ports : List Access) (seen : Seen) → HasNewChannels specs rooms slots → HavePorts specs ports → AreUnused ports → LoggerHolds None None slots ports [] seen
 new_stands specs rooms slots ports seen new have unused = record {
   standing = new_slots specs rooms slots ports seen new unused;
   served = λ n c stood. let f : IsFresh specs c = fresh_at specs rooms slots n c new stood in have f.place c.spec f.there;

@@ -18,7 +18,7 @@ use Rattle.mid_logger.specs.Patterns.{file_name_by}
 use Rattle.mid_logger.specs.Channels.{FileHead, IsOpenFile, channel_run, written_run}
 use Rattle.mid_logger.specs.RecordFiles.{IsGone}
 use Rattle.mid_logger.specs.Beside.{LeavesRunFile, FilesBeside, OpensBeside, LeftBeside}
-use Rattle.mid_logger.specs.Keeping.{OpensFile, OpensKeep, OpensChange, FilesThere, order_head}
+use Rattle.mid_logger.specs.Keeping.{OpensFile, OpensKeep, OpensAlone, OpensChange, FilesThere, order_head}
 use Rattle.loggers.specs.Moments.{LoggerMoment, ChannelStep, StepsChannel, StepsSlot, HaveFilesOpen, IsLoggerReady}
 use Rattle.loggers.specs.ChannelSteps.{OpensChannel}
 use Rattle.loggers.specs.Turning.{OpensBelow, RefusesOpen}
@@ -85,10 +85,10 @@ file_used : (slots : List (Option Channel)) (seen : Seen) (m : ℕ) (d : Channel
 file_used slots seen m d open_files stood s is = (subst (λ (w : Option ChannelRun). IsOpenFile seen d.spec w) is (open_files.files m d stood)).0
 
 -- the opening of a run by one channel, or its refusal, as a step among all channels
-pub open_moves : OpensKeep → OpensChange → FilesThere → OpensBeside → FilesBeside → (order : Order) (dump : List ℕ) (r : Result ⊤ Why) (turns : List MemberTurn) (slots : List (Option Channel)) (ports : List Access) (n : ℕ) (s : ChannelStep) → slot_at slots n ≡ Some s.before
+pub open_moves : OpensKeep → OpensAlone → OpensChange → FilesThere → OpensBeside → FilesBeside → (order : Order) (dump : List ℕ) (r : Result ⊤ Why) (turns : List MemberTurn) (slots : List (Option Channel)) (ports : List Access) (n : ℕ) (s : ChannelStep) → slot_at slots n ≡ Some s.before
     → slice_get ports s.before.spec.buffer ≡ Some s.port → ((m : ℕ) (d : Channel) → slot_at slots m ≡ Some d → (p : Access) × (slice_get ports d.spec.buffer ≡ Some p)) → s.before.stage ≡ Idle → length dump ≤ record_limit → s.later_port.taken_back ≡ [] → HaveFilesOpen slots s.files.seen
     → SlotsStand (IsOrderHead order dump) turns slots ports s.files.seen → OpensChannel order dump r s → Moves (IsOrderHead order dump) turns slots n s.before s.after s.port s.later_port s.files.seen s.later_files.seen
-open_moves keep change file_there beside files order dump r turns slots ports n s there at_port has_port idle small none open_files stands opens =
+open_moves keep alone change file_there beside files order dump r turns slots ports n s there at_port has_port idle small none open_files stands opens =
     let old : Seen = s.files.seen in
     let new : Seen = s.later_files.seen in
     let before : Channel = s.before in
@@ -134,7 +134,7 @@ open_moves keep change file_there beside files order dump r turns slots ports n 
             let never : true ≡ false = sym used ∙ (ap (λ (k : ℕ). old.writes k) (sym same) ∙ free) in
             cc (never);
       };
-      calls = λ calls. port_grown turns s.port s.later_port grows now.stands.port calls;
+      calls = λ calls. port_grown turns s.port s.later_port grows now.stands.port (alone before.spec order dump r _ _ kept.head opens.opens idle none kept.stands) calls;
       grows = grown_on s.port s.later_port grows;
       left = λ c a stop state l. (
         left_stays state c.spec l.head l.run stop.order.time stop.dump a.own a.got old new name l.left file,
@@ -160,23 +160,23 @@ port_there : (slots : List (Option Channel)) (ports : List Access) (seen : Seen)
 port_there slots ports seen ready m d stood = there_is ports d.spec.buffer (ready.served m d stood)
 
 -- what stands behind the step of one channel
-open_stepped : LeftBeside → OpensKeep → OpensChange → FilesThere → OpensBeside → FilesBeside → (order : Order) (dump : List ℕ) (r : Result ⊤ Why) (turns : List MemberTurn) (n : ℕ) (before : Channel) (a b : LoggerMoment) → slot_at a.slots n ≡ Some before → before.stage ≡ Idle
+open_stepped : LeftBeside → OpensKeep → OpensAlone → OpensChange → FilesThere → OpensBeside → FilesBeside → (order : Order) (dump : List ℕ) (r : Result ⊤ Why) (turns : List MemberTurn) (n : ℕ) (before : Channel) (a b : LoggerMoment) → slot_at a.slots n ≡ Some before → before.stage ≡ Idle
     → length dump ≤ record_limit → NoneTakenBack b.ports → IsLoggerReady a.slots a.ports a.files.seen → StepsChannel (OpensChannel order dump r) n before a b → SlotsStand (IsOrderHead order dump) turns a.slots a.ports a.files.seen
     → SlotsStand (IsOrderHead order dump) turns b.slots b.ports b.files.seen
-open_stepped law keep change file_there beside files order dump r turns n before a b there idle small none ready s stands =
+open_stepped law keep alone change file_there beside files order dump r turns n before a b there idle small none ready s stands =
     let step : ChannelStep = record { before = before; after = s.after; port = s.port; later_port = s.later_port; files = a.files; later_files = b.files } in
     let put : slice_get (slice_set a.ports before.spec.buffer s.later_port) before.spec.buffer ≡ Some s.later_port = got_there a.ports before.spec.buffer s.port s.later_port s.at_port in
     let at_last : slice_get b.ports before.spec.buffer ≡ Some s.later_port = subst (λ (l : List Access). slice_get l before.spec.buffer ≡ Some s.later_port) (sym s.ports) put in
     let moves : Moves (IsOrderHead order dump) turns a.slots n before s.after s.port s.later_port a.files.seen b.files.seen =
-    open_moves keep change file_there beside files order dump r turns a.slots a.ports n step there s.at_port (port_there a.slots a.ports a.files.seen ready) idle small (none before.spec.buffer s.later_port at_last) ready.files stands s.step in
+    open_moves keep alone change file_there beside files order dump r turns a.slots a.ports n step there s.at_port (port_there a.slots a.ports a.files.seen ready) idle small (none before.spec.buffer s.later_port at_last) ready.files stands s.step in
     rw (s.slots, s.ports) (moved law (IsOrderHead order dump) turns a.slots a.ports n before s.after s.port s.later_port a.files.seen b.files.seen there s.at_port moves stands)
 
 asks_now : (order : Order) (dump : List ℕ) (s : ChannelStep) → OpensChannel order dump (Ok tt) s → IsAskingStage order.start s.after.stage
 asks_now order dump s opens = subst (λ (x : ChannelStage). IsAskingStage order.start x) (sym opens.opens.asks.stage) refl
 
-opened_slot : LeftBeside → OpensKeep → OpensChange → FilesThere → OpensBeside → FilesBeside → (order : Order) (dump : List ℕ) (turns : List MemberTurn) (many wide k : ℕ) (slot : Option Channel) (a b : LoggerMoment) → slot_at a.slots k ≡ slot → length dump ≤ record_limit → NoneTakenBack b.ports
+opened_slot : LeftBeside → OpensKeep → OpensAlone → OpensChange → FilesThere → OpensBeside → FilesBeside → (order : Order) (dump : List ℕ) (turns : List MemberTurn) (many wide k : ℕ) (slot : Option Channel) (a b : LoggerMoment) → slot_at a.slots k ≡ slot → length dump ≤ record_limit → NoneTakenBack b.ports
     → StepsSlot (OpensChannel order dump (Ok tt)) k slot a b → OpenedTo order dump turns many wide k a → OpenedTo order dump turns many wide (suc k) b
-opened_slot law keep change file_there beside files order dump turns many wide k None a b there small none same to =
+opened_slot law keep alone change file_there beside files order dump turns many wide k None a b there small none same to =
     let now : OpenedTo order dump turns many wide (suc k) a = record {
       standing = to.standing;
       ready = to.ready;
@@ -189,10 +189,10 @@ opened_slot law keep change file_there beside files order dump turns many wide k
       idle = λ n c stood above. to.idle n c stood (omega arith);
     } in
     subst (λ (m : LoggerMoment). OpenedTo order dump turns many wide (suc k) m) (sym same) now
-opened_slot law keep change file_there beside files order dump turns many wide k (Some before) a b there small none s to =
+opened_slot law keep alone change file_there beside files order dump turns many wide k (Some before) a b there small none s to =
     let idle : before.stage ≡ Idle = to.idle k before there (omega arith) in
     let now : OpenedTo order dump turns many wide (suc k) (record { slots = slice_set a.slots k (Some s.after); ports = b.ports; files = b.files }) = record {
-      standing = rw (← s.slots) (open_stepped law keep change file_there beside files order dump (Ok tt) turns k before a b there idle small none to.ready s to.standing);
+      standing = rw (← s.slots) (open_stepped law keep alone change file_there beside files order dump (Ok tt) turns k before a b there idle small none to.ready s to.standing);
       ready = rw (← s.slots) (opened_ready change order dump (Ok tt) k before a b there idle s to.ready);
       long = length-set a.slots k (Some s.after) ∙ to.long;
       ports = ap (λ (l : List Access). length l) s.ports ∙ (length-set a.ports before.spec.buffer s.later_port ∙ to.ports);
@@ -203,19 +203,19 @@ opened_slot law keep change file_there beside files order dump turns many wide k
     } in
     subst (λ (l : List (Option Channel)). OpenedTo order dump turns many wide (suc k) (record { slots = l; ports = b.ports; files = b.files })) (sym s.slots) now
 
-pub opened_below : LeftBeside → OpensKeep → OpensChange → FilesThere → OpensBeside → FilesBeside → (order : Order) (dump : List ℕ) (turns : List MemberTurn) (many wide count : ℕ) (a b : LoggerMoment) → length dump ≤ record_limit → NoneTakenBack b.ports → OpensBelow order dump count a b
+pub opened_below : LeftBeside → OpensKeep → OpensAlone → OpensChange → FilesThere → OpensBeside → FilesBeside → (order : Order) (dump : List ℕ) (turns : List MemberTurn) (many wide count : ℕ) (a b : LoggerMoment) → length dump ≤ record_limit → NoneTakenBack b.ports → OpensBelow order dump count a b
     → OpenedTo order dump turns many wide 0 a → OpenedTo order dump turns many wide count b
-opened_below law keep change file_there beside files order dump turns many wide zero a b small none steps to = subst (λ (m : LoggerMoment). OpenedTo order dump turns many wide 0 m) (sym steps) to
-opened_below law keep change file_there beside files order dump turns many wide (suc n) a b small none steps to =
+opened_below law keep alone change file_there beside files order dump turns many wide zero a b small none steps to = subst (λ (m : LoggerMoment). OpenedTo order dump turns many wide 0 m) (sym steps) to
+opened_below law keep alone change file_there beside files order dump turns many wide (suc n) a b small none steps to =
     let middle : LoggerMoment = steps.0 in
-    opened_slot law keep change file_there beside files order dump turns many wide n (slot_at middle.slots n) middle b refl small none steps.2
-    (opened_below law keep change file_there beside files order dump turns many wide n a middle small (none_opened_slot order dump (Ok tt) n (slot_at middle.slots n) middle b steps.2 none) steps.1 to)
+    opened_slot law keep alone change file_there beside files order dump turns many wide n (slot_at middle.slots n) middle b refl small none steps.2
+    (opened_below law keep alone change file_there beside files order dump turns many wide n a middle small (none_opened_slot order dump (Ok tt) n (slot_at middle.slots n) middle b steps.2 none) steps.1 to)
 
 -- where a channel refuses to open the run
-pub open_refused : LeftBeside → OpensKeep → OpensChange → FilesThere → OpensBeside → FilesBeside → (order : Order) (dump : List ℕ) (why : Why) (turns : List MemberTurn) (many wide : ℕ) (a b : LoggerMoment) → length dump ≤ record_limit → NoneTakenBack b.ports → RefusesOpen order dump why a b
+pub open_refused : LeftBeside → OpensKeep → OpensAlone → OpensChange → FilesThere → OpensBeside → FilesBeside → (order : Order) (dump : List ℕ) (why : Why) (turns : List MemberTurn) (many wide : ℕ) (a b : LoggerMoment) → length dump ≤ record_limit → NoneTakenBack b.ports → RefusesOpen order dump why a b
     → OpenedTo order dump turns many wide 0 a → SlotsStand (IsOrderHead order dump) turns b.slots b.ports b.files.seen
-open_refused law keep change file_there beside files order dump why turns many wide a b small none refuses to =
+open_refused law keep alone change file_there beside files order dump why turns many wide a b small none refuses to =
     let n : ℕ = refuses.number in
     let to_here : OpenedTo order dump turns many wide n refuses.opened =
-    opened_below law keep change file_there beside files order dump turns many wide n a refuses.opened small (none_opened order dump (Err why) n refuses.channel refuses.opened b refuses.refuses none) refuses.opens to in
-    open_stepped law keep change file_there beside files order dump (Err why) turns n refuses.channel refuses.opened b refuses.there (to_here.idle n refuses.channel refuses.there (omega arith)) small none to_here.ready refuses.refuses to_here.standing
+    opened_below law keep alone change file_there beside files order dump turns many wide n a refuses.opened small (none_opened order dump (Err why) n refuses.channel refuses.opened b refuses.refuses none) refuses.opens to in
+    open_stepped law keep alone change file_there beside files order dump (Err why) turns n refuses.channel refuses.opened b refuses.there (to_here.idle n refuses.channel refuses.there (omega arith)) small none to_here.ready refuses.refuses to_here.standing

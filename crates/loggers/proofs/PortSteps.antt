@@ -82,7 +82,7 @@ apart_from seen c d x y one other apart = record {
 }
 
 -- the port of a buffer behind the call: the one that was called, or another
-which_port : (ports : List Access) (buffer : ℕ) (p q : Access) (k : ℕ) (a : Access) → slice_get ports buffer ≡ Some p → slice_get (slice_set ports buffer q) k ≡ Some a → ((k ≡ buffer) × (q ≡ a)) ⊎ ((k ≢ buffer) × (slice_get ports k ≡ Some a))
+pub which_port : (ports : List Access) (buffer : ℕ) (p q : Access) (k : ℕ) (a : Access) → slice_get ports buffer ≡ Some p → slice_get (slice_set ports buffer q) k ≡ Some a → ((k ≡ buffer) × (q ≡ a)) ⊎ ((k ≢ buffer) × (slice_get ports k ≡ Some a))
 which_port ports buffer p q k a there at = elim (same_or_other k buffer) as (λ w. ((k ≡ buffer) × (q ≡ a)) ⊎ ((k ≢ buffer) × (slice_get ports k ≡ Some a))) [
   | inl same ↦ inl (same, let put : slice_get (slice_set ports buffer q) buffer ≡ Some q = got_there ports buffer p q there in cc (put, same, at))
   | inr other ↦ inr (other, got_elsewhere ports buffer k q a other at)

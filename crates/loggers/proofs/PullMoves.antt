@@ -29,6 +29,7 @@ use Rattle.loggers.specs.Moments.{LoggerMoment, ChannelStep, StepsChannel, HaveN
 use Rattle.loggers.specs.ChannelSteps.{PullsChannel}
 use Rattle.loggers.specs.LoggerStands.{IsEndReplied, IsEndedSo, IsEndTold, ChannelKept, PortKept, LeftRun, SlotsApart, SlotsStand}
 use Rattle.loggers.proofs.ReadySteps.{numbers_left}
+use Rattle.loggers.proofs.LoneCalls.{AreLone, pull_lone}
 use Rattle.loggers.proofs.Moved.{Grows, Moves, moved}
 
 -- Files of others.
@@ -214,9 +215,10 @@ told_all turns [] quiet = tt
 told_all turns (e ∷ es) quiet = (told_quiet turns e quiet.0, told_all turns es quiet.1)
 
 -- what a port keeps stands behind such calls, where they are such as a logger makes
-pub port_grown : (turns : List MemberTurn) (x y : Access) → GrowsOn x y → KeepsOwnCalls y.own → PortKept turns x.own → PortKept turns y.own
-port_grown turns x y grows calls kept = record {
+pub port_grown : (turns : List MemberTurn) (x y : Access) → GrowsOn x y → KeepsOwnCalls y.own → (AreLone x → AreLone y) → PortKept turns x.own → PortKept turns y.own
+port_grown turns x y grows calls lone kept = record {
   calls = calls;
+  alone = lone kept.alone;
   told = subst (λ (l : List BufferEntry). EachCall (IsEndTold turns) l) (sym grows.own) (each_both (IsEndTold turns) x.own grows.more kept.told (told_all turns grows.more grows.quiet));
   once = λ are start m n first second. kept.once are start m n
       (mark_before x.own grows.more start m grows.quiet (subst (λ (l : List BufferEntry). MarksEnd l start m) grows.own first))
@@ -285,7 +287,7 @@ pull_moves keep change beside files H turns answer slots n s there file apart ke
         headed = k.headed;
       };
       apart = λ m d other stood was. pulled_apart old new s.before s.after d tells pulls.spec pulls.client changes.1 was;
-      calls = λ calls. port_grown turns s.port s.later_port grows own_stands.port calls;
+      calls = λ calls. port_grown turns s.port s.later_port grows own_stands.port (pull_lone p room pulls.pulls) calls;
       grows = grown_on s.port s.later_port grows;
       left = λ c a stop state l. left_file turns slots n s.before s.after c a stop old new there pulls.spec changes.1.run changes.0 tells state l;
     }

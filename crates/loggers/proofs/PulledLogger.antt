@@ -26,7 +26,7 @@ use Rattle.loggers.specs.declared.logged_run.RunPart.TheVariants.{Refused, Start
 use Rattle.loggers.specs.Moments.{LoggerMoment, StepsChannel, HaveFilesOpen}
 use Rattle.loggers.specs.ChannelSteps.{PullsChannel}
 use Rattle.loggers.specs.SlotPulls.{PullsSlot}
-use Rattle.loggers.specs.LoggerStands.{IsEndedSo, IsEndedRun, IsStartedStage, IsStoppingStage, IsStagePart, IsStageOf, IsHeadTold, LoggerStands}
+use Rattle.loggers.specs.LoggerStands.{IsEndedSo, IsEndedRun, IsStartedStage, IsStoppingStage, IsStagePart, IsStageOf, IsHeadTold, LoggerHolds}
 use Rattle.loggers.proofs.SlotLists.{one_changed, got_there, got_elsewhere, same_or_other}
 use Rattle.loggers.proofs.PullMoves.{GrowsOn, pull_grows, ended_stays, pull_stands}
 
@@ -144,7 +144,7 @@ stage_pulled (Some r) turns own p room pulls at = part_pulled turns own p room r
 -- The logger.
 
 pulled_here : LeftBeside → PullsKeep → PullsChange → PullsBeside → FilesBeside → (run : Option LoggedRun) (stop_dump : Option (List ℕ)) (turns : List MemberTurn) (answer : Pulled) (n : ℕ) (before : Channel) (a b : LoggerMoment) → slot_at a.slots n ≡ Some before
-    → HaveFilesOpen a.slots a.files.seen → StepsChannel (PullsChannel answer) n before a b → LoggerStands run stop_dump a.slots a.ports turns a.files.seen → LoggerStands run stop_dump b.slots b.ports turns b.files.seen
+    → HaveFilesOpen a.slots a.files.seen → StepsChannel (PullsChannel answer) n before a b → LoggerHolds run stop_dump a.slots a.ports turns a.files.seen → LoggerHolds run stop_dump b.slots b.ports turns b.files.seen
 pulled_here law keep change beside files run stop_dump turns answer n before a b there open_files s stands =
     let p : PullOf = record { stage = before.stage; later_stage = s.after.stage; port = s.port; later_port = s.later_port; files = a.files.seen; later_files = b.files.seen; answer = answer } in
     let grows : GrowsOn s.port s.later_port = pull_grows p before.event.room s.step.pulls in
@@ -183,6 +183,6 @@ pulled_here law keep change beside files run stop_dump turns answer n before a b
     }
 
 pub pulled_stands : LeftBeside → PullsKeep → PullsChange → PullsBeside → FilesBeside → (run : Option LoggedRun) (stop_dump : Option (List ℕ)) (turns : List MemberTurn) (answer : Pulled) (n : ℕ) (slot : Option Channel) (a b : LoggerMoment) → slot_at a.slots n ≡ slot
-    → HaveFilesOpen a.slots a.files.seen → PullsSlot slot n answer a b → LoggerStands run stop_dump a.slots a.ports turns a.files.seen → LoggerStands run stop_dump b.slots b.ports turns b.files.seen
-pulled_stands law keep change beside files run stop_dump turns answer n None a b there open_files pulls stands = subst (λ (m : LoggerMoment). LoggerStands run stop_dump m.slots m.ports turns m.files.seen) (sym pulls.1) stands
+    → HaveFilesOpen a.slots a.files.seen → PullsSlot slot n answer a b → LoggerHolds run stop_dump a.slots a.ports turns a.files.seen → LoggerHolds run stop_dump b.slots b.ports turns b.files.seen
+pulled_stands law keep change beside files run stop_dump turns answer n None a b there open_files pulls stands = subst (λ (m : LoggerMoment). LoggerHolds run stop_dump m.slots m.ports turns m.files.seen) (sym pulls.1) stands
 pulled_stands law keep change beside files run stop_dump turns answer n (Some before) a b there open_files pulls stands = pulled_here law keep change beside files run stop_dump turns answer n before a b there open_files pulls stands

@@ -1,103 +1,112 @@
 -- Each call keeps that what a logger answers rests on the counts of the run files.
-use Rattle.std.specs.Prelude.{◌≡◌, ◌<◌, ◌==◌, nat_lt, ℕ, zero, suc, Bool, true, false, if◌then◌else◌, List, [], ◌∷◌, length, map, replicate, slice_get, slice_set, Option, Some, None, Result, Ok, Err, ⊤, ◌⊎◌, refl}
+use Rattle.std.specs.Prelude.{◌≡◌, ◌≤◌, ◌+◌, nat_lt, ℕ, suc, Bool, true, false, cond, is_some, sum_by, List, [], ◌∷◌, length, map, slice_set, Option, Some, None, Result, Ok, Err, ⊤, ◌⊎◌, refl}
 use Rattle.std.specs.List.{list_all}
 use Rattle.std.specs.Option.{option_map}
 use Rattle.std.proofs.Common.{ap, sym, subst, ◌∙◌, arith, inl, inr}
-use Rattle.std.proofs.lemmas.Option.{slice_get_within}
+use Rattle.std.proofs.lemmas.List.Sums.{sum_by-cons}
 use Rattle.daq_types.specs.declared.events.Event.{Event}
 use Rattle.daq_types.specs.declared.runs.ChannelState.{ChannelState}
-use Rattle.daq_types.specs.declared.runs.ChannelState.TheVariants.{Idle as IsIdle, Broken as IsBroken}
+use Rattle.daq_types.specs.declared.runs.ChannelState.TheVariants.{Ended, NoEnd, NoMark, Idle as IsIdle, Writing as IsWriting, Broken as IsBroken}
 use Rattle.daq_types.specs.declared.runs.Order.{Order}
 use Rattle.daq_types.specs.declared.runs.Transition.{Transition}
 use Rattle.daq_types.specs.declared.runs.Transition.TheVariants.{Start, Stop, Pause, Resume, StartAbort}
 use Rattle.daq_types.specs.declared.runs.Why.{Why}
 use Rattle.daq_types.specs.declared.runs.Why.TheVariants.{NotReady, Exists, Fault, BufferRefused}
-use Rattle.daq_io.specs.Counts.{Rose}
+use Rattle.daq_io.specs.Counts.{Rose, RoseBy}
+use Rattle.daq_io.specs.Seen.{Seen}
+use Rattle.daq_io.proofs.Counts.{RoseBy-fewer, RoseBy-then}
 use Rattle.buffer_core.specs.declared.entry.BufferEntry.{BufferEntry}
 use Rattle.buffer_core.specs.declared.replies.Received.{Received}
 use Rattle.buffer_core.specs.declared.replies.Received.TheVariants.{Got, Empty, NoClient, SmallBuf}
 use Rattle.buffer_core.specs.Ports.{Access}
-use Rattle.buffer_core.specs.Slots.{slot_at}
+use Rattle.buffer_core.specs.Slots.{slot_at, passes}
 use Rattle.transitions.specs.declared.answers.Answer.{Answer}
 use Rattle.transitions.specs.declared.answers.Answer.TheVariants.{Yes, No}
-use Rattle.transitions.specs.declared.answers.Tally.{Tally}
-use Rattle.transitions.specs.declared.answers.Tally.TheVariants.{Plain, Front, Channels, Report}
+use Rattle.transitions.specs.declared.answers.Tally.TheVariants.{Plain, Channels}
 use Rattle.member_model.specs.Turns.{MemberTurn, latest_answered}
 use Rattle.mid_logger.specs.declared.channel.Channel.{Channel}
 use Rattle.mid_logger.specs.declared.channel_spec.ChannelSpec.{ChannelSpec}
 use Rattle.mid_logger.specs.declared.pulled.Pulled.{Pulled}
+use Rattle.mid_logger.specs.declared.pulled.Pulled.TheVariants.{NoChannel, Nothing, Dropped, Wrote, Broke}
 use Rattle.mid_logger.specs.declared.stage.BegunRun.{BegunRun}
 use Rattle.mid_logger.specs.declared.stage.ChannelStage.{ChannelStage}
 use Rattle.mid_logger.specs.declared.stage.ChannelStage.TheVariants.{Idle, Asking, Writing, Draining, Drained, Broken}
 use Rattle.mid_logger.specs.Channels.{stage_begun, stage_ended, place_marked, reading_run, is_behind_end}
-use Rattle.mid_logger.specs.ChannelEnds.{ClosesFile, stage_settled, state_otherwise}
-use Rattle.mid_logger.specs.ChannelTurns.{NotesFault, OpenClashes, broken_run, drained_run}
+use Rattle.mid_logger.specs.ChannelEnds.{ClosesRead, ClosesFile, stage_settled, state_otherwise}
+use Rattle.mid_logger.specs.ChannelTurns.{NotesFault, OpenFaults, OpenClashes, broken_run, drained_run}
 use Rattle.mid_logger.specs.Pulls.{PullOf, PullsIn, TakesReply, TakesBy, FindsNone, PullFaults, drains_at_none}
-use Rattle.loggers.specs.Moments.{RunFiles, LoggerMoment, ChannelStep, StepsChannel, StepsSlot, StepsAt, CallsBuffer, MarksBuffer, InTurn, noted_channel, channel_limit, AreIdle}
-use Rattle.loggers.specs.ChannelSteps.{OpensChannel, AbortsChannel, PullsChannel, EndsChannel}
+use Rattle.loggers.specs.Moments.{RunFiles, LoggerMoment, ChannelStep, StepsChannel, StepsSlot, StepsAt, CallsBuffer, MarksBuffer, InTurn, noted_channel, AreIdle}
+use Rattle.loggers.specs.ChannelSteps.{OpensChannel, AbortsChannel, PullsChannel}
 use Rattle.loggers.specs.SlotPulls.{PullsSlot, PullsNumbered}
 use Rattle.loggers.specs.Finishing.{EndingMoment, EndsSlot, EndsSlotAt, EndsFiles, LoggerFinish, FinishesBy, FinishesLogger, is_settled_slot, waiting_stop, states_idle}
-use Rattle.loggers.specs.Turning.{BeginsBuffer, EndsBuffer, PausesBuffer, ResumesBuffer, LoggerTurn, OpensBelow, BeginsBelow, AbortsAll, UndoesOpens, UndoesBegins, StartsSo, TakesStart, TakesStop, TakesMark, TakesAbort, TakesTurnBy, TakesTurn, is_run_on, is_started, is_of_start, buffers_begun, start_answer}
+use Rattle.loggers.specs.Turning.{BeginsBuffer, EndsBuffer, PausesBuffer, ResumesBuffer, LoggerTurn, OpensBelow, BeginsBelow, AbortsAll, StartsAll, UndoesOpens, UndoesBegins, StartsSo, TakesStart, TakesStop, TakesMark, TakesAbort, TakesTurnBy, TakesTurn, is_run_on, is_started, is_of_start, buffers_begun, start_answer}
 use Rattle.loggers.specs.LoggerStands.{logger_turn}
 use Rattle.loggers.specs.NewLoggers.{HasNewChannels}
-use Rattle.loggers.specs.Reasons.{IsReasonSo, IsAnswerSo, StaysOrRose, HasBrokenOff, HasRefusedAsk, GivesReasons}
+use Rattle.loggers.specs.ToldCounts.{faults_of_state, faults_of_refusal, faults_of_answer, clashes_of_answer, counted_of, faults_told, clashes_told, broken_off}
+use Rattle.loggers.specs.Reasons.{IsReasonSo, IsStartSo, NoneFell, AreTurnsSo, HasRefusedAsk, GivesReasons}
 use Rattle.loggers.proofs.InTurns.{turns_keep}
 use Rattle.loggers.proofs.RefusedAsks.{TurnAsks, turn_asks, pull_asks}
-use Rattle.loggers.proofs.StoppedRuns.{there_is}
-use Rattle.loggers.proofs.SlotLists.{same_or_other, one_changed, got_there, got_elsewhere, many_set}
-use Rattle.loggers.proofs.FaultsNoted.{rose_then, then_rose, counts_then, pull_fault}
+use Rattle.loggers.proofs.FaultsNoted.{rose_then, then_rose}
+use Rattle.loggers.proofs.ManyRose.{StaysOrRose, KeepsOff, by_none, by_same, by_stays, fell_same, fell_then, put_counts, off_of, off_at_most, set_off, map_off}
 
--- Counts, and channels that broke off.
+-- What is told and counted, and the channels that broke off.
 
-pub record CountsKept (slots later : List (Option Channel)) (old new : RunFiles) : Type 0 where
-  pub faults : StaysOrRose old.faults new.faults
-  pub clashes : StaysOrRose old.clashes new.clashes
-  pub broken : HasBrokenOff later → HasBrokenOff slots ⊎ Rose old.faults new.faults
+-- Between these two moments so many faults and clashes were told. Each fault that was told, and each channel that broke off,
+-- had a fault of its own that was counted meanwhile, or is one that had broken off before.
+pub record CountsKept (told clashes : ℕ) (slots later : List (Option Channel)) (old new : RunFiles) : Type 0 where
+  pub more : ℕ
+  pub off : told + broken_off later ≤ broken_off slots + more
+  pub rose : RoseBy more old.faults new.faults
+  pub clashed : RoseBy clashes old.clashes new.clashes
 
-kept_same : (slots : List (Option Channel)) (files : RunFiles) → CountsKept slots slots files files
-kept_same slots files = record { faults = inl refl; clashes = inl refl; broken = λ is. inl is }
+pub kept_faults : (told clashes : ℕ) (slots later : List (Option Channel)) (old new : RunFiles) → CountsKept told clashes slots later old new → StaysOrRose old.faults new.faults
+kept_faults told clashes slots later old new kept = by_stays kept.more old.faults new.faults kept.rose
 
-kept_then : (x y z : List (Option Channel)) (f g h : RunFiles) → CountsKept x y f g → CountsKept y z g h → CountsKept x z f h
-kept_then x y z f g h first second = record {
-  faults = counts_then f.faults g.faults h.faults first.faults second.faults;
-  clashes = counts_then f.clashes g.clashes h.clashes first.clashes second.clashes;
-  broken = λ is. elim (second.broken is) as (λ w. HasBrokenOff x ⊎ Rose f.faults h.faults) [
-    | inl middle ↦ early (first.broken middle)
-    | inr rose ↦ inr (then_rose f.faults g.faults h.faults first.faults rose)
-  ];
+kept_clashes : (told clashes : ℕ) (slots later : List (Option Channel)) (old new : RunFiles) → CountsKept told clashes slots later old new → StaysOrRose old.clashes new.clashes
+kept_clashes told clashes slots later old new kept = by_stays clashes old.clashes new.clashes kept.clashed
+
+kept_fell : (told clashes : ℕ) (slots later : List (Option Channel)) (old new : RunFiles) → CountsKept told clashes slots later old new → NoneFell old new
+kept_fell told clashes slots later old new kept = record {
+  faults = RoseBy-fewer 0 kept.more old.faults new.faults (omega arith) kept.rose;
+  clashes = RoseBy-fewer 0 clashes old.clashes new.clashes (omega arith) kept.clashed;
 }
-  where
-    early : HasBrokenOff x ⊎ Rose f.faults g.faults → HasBrokenOff x ⊎ Rose f.faults h.faults
-    early old = elim old as (λ w. HasBrokenOff x ⊎ Rose f.faults h.faults) [
-      | inl was ↦ inl was
-      | inr rose ↦ inr (rose_then f.faults g.faults h.faults rose second.faults)
-    ]
 
--- a channel that is broken off was so before, or a fault was counted
-abbrev BreaksFrom : (before after : ChannelStage) → (f g : ℕ) → Type 0
-BreaksFrom before after f g = (run : BegunRun) → broken_run after ≡ Some run → ((was : BegunRun) × (broken_run before ≡ Some was)) ⊎ Rose f g
+kept_same : (slots : List (Option Channel)) (files : RunFiles) → CountsKept 0 0 slots slots files files
+kept_same slots files = record { more = 0; off = omega arith; rose = by_same files.faults files.faults refl; clashed = by_same files.clashes files.clashes refl }
 
-breaks_same : (before after : ChannelStage) (f g : ℕ) → after ≡ before → BreaksFrom before after f g
-breaks_same before after f g same run off = inl (run, sym (ap broken_run same) ∙ off)
+off_then : (t t1 t2 x y z m n : ℕ) → t ≤ t1 + t2 → t1 + y ≤ x + m → t2 + z ≤ y + n → t + z ≤ x + (m + n)
+off_then t t1 t2 x y z m n many first second = omega arith
 
-breaks_none : (before after : ChannelStage) (f g : ℕ) → broken_run after ≡ None → BreaksFrom before after f g
-breaks_none before after f g none run off = absurd (cc (none, off))
-
-set_kept : (slots : List (Option Channel)) (n : ℕ) (before after : Channel) (old new : RunFiles) → slot_at slots n ≡ Some before → StaysOrRose old.faults new.faults → StaysOrRose old.clashes new.clashes → BreaksFrom before.stage after.stage old.faults new.faults
-    → CountsKept slots (slice_set slots n (Some after)) old new
-set_kept slots n before after old new there faults clashes breaks = record {
-  faults = faults;
-  clashes = clashes;
-  broken = λ is. one_changed (λ k x. broken_run x.stage ≡ Some is.run → HasBrokenOff slots ⊎ Rose old.faults new.faults) slots n after
-      (λ b here off. mine is.run (breaks is.run off))
-      (λ k x other here off. inl (record { number = k; channel = x; run = is.run; there = here; off = off })) before there is.number is.channel is.there is.off;
+-- One behind the other, of which at most what both told is told.
+kept_then : (t c t1 c1 t2 c2 : ℕ) (x y z : List (Option Channel)) (f g h : RunFiles) → t ≤ t1 + t2 → c ≤ c1 + c2 → CountsKept t1 c1 x y f g → CountsKept t2 c2 y z g h → CountsKept t c x z f h
+kept_then t c t1 c1 t2 c2 x y z f g h told clashed first second = record {
+  more = first.more + second.more;
+  off = off_then t t1 t2 (broken_off x) (broken_off y) (broken_off z) first.more second.more told first.off second.off;
+  rose = RoseBy-then first.more second.more f.faults g.faults h.faults first.rose second.rose;
+  clashed = RoseBy-fewer c (c1 + c2) f.clashes h.clashes clashed (RoseBy-then c1 c2 f.clashes g.clashes h.clashes first.clashed second.clashed);
 }
-  where
-    mine : (run : BegunRun) → ((was : BegunRun) × (broken_run before.stage ≡ Some was)) ⊎ Rose old.faults new.faults → HasBrokenOff slots ⊎ Rose old.faults new.faults
-    mine run which = elim which as (λ w. HasBrokenOff slots ⊎ Rose old.faults new.faults) [
-      | inl was ↦ inl (record { number = n; channel = before; run = was.0; there = there; off = was.1 })
-      | inr rose ↦ inr rose
-    ]
+
+-- what a step of one channel tells, and whether it breaks off
+abbrev BreaksBy : (told : ℕ) → (before after : ChannelStage) → (more : ℕ) → Type 0
+BreaksBy told before after more = told + off_of after ≤ off_of before + more
+
+breaks_same : (before after : ChannelStage) (more : ℕ) → after ≡ before → BreaksBy 0 before after more
+breaks_same before after more same = let off : off_of after ≡ off_of before = ap off_of same in omega (arith, off)
+
+breaks_none : (told : ℕ) (before after : ChannelStage) (more : ℕ) → broken_run after ≡ None → told ≤ more → BreaksBy told before after more
+breaks_none told before after more none few = let off : off_of after ≡ 0 = ap (λ (run : Option BegunRun). cond (is_some run) 1 0) none in omega (arith, off, few)
+
+set_part : (told more l s b a : ℕ) → l + b ≡ s + a → told + a ≤ b + more → told + l ≤ s + more
+set_part told more l s b a set breaks = omega arith
+
+set_kept : (told clashes more : ℕ) (slots : List (Option Channel)) (n : ℕ) (before after : Channel) (old new : RunFiles) → slot_at slots n ≡ Some before → BreaksBy told before.stage after.stage more → RoseBy more old.faults new.faults → RoseBy clashes old.clashes new.clashes
+    → CountsKept told clashes slots (slice_set slots n (Some after)) old new
+set_kept told clashes more slots n before after old new there breaks rose clashed = record {
+  more = more;
+  off = set_part told more (broken_off (slice_set slots n (Some after))) (broken_off slots) (off_of before.stage) (off_of after.stage) (set_off slots n before after there) breaks;
+  rose = rose;
+  clashed = clashed;
+}
 
 noted_count : (failed later : Bool) (f g : ℕ) → NotesFault failed later f g → StaysOrRose f g
 noted_count failed later f g noted = elim noted as (λ w. StaysOrRose f g) [
@@ -105,131 +114,157 @@ noted_count failed later f g noted = elim noted as (λ w. StaysOrRose f g) [
   | inr one ↦ inr one.1
 ]
 
-clash_count : (result : Result ⊤ Why) (f g : ℕ) → OpenClashes result f g → StaysOrRose f g
-clash_count (Ok done) f g same = inl same
-clash_count (Err NotReady) f g same = inl same
-clash_count (Err (Exists channel)) f g rose = inr rose
-clash_count (Err (Fault channel)) f g same = inl same
-clash_count (Err BufferRefused) f g same = inl same
-
 -- Steps.
 
+abbrev pub KeptSo : (told clashes : ℕ) → (a b : LoggerMoment) → Type 0
+KeptSo told clashes a b = CountsKept told clashes a.slots b.slots a.files b.files
+
 abbrev pub Kept : (a b : LoggerMoment) → Type 0
-Kept a b = CountsKept a.slots b.slots a.files b.files
+Kept a b = KeptSo 0 0 a b
+
+pub step_stays : (a b : LoggerMoment) → Kept a b → StaysOrRose a.files.faults b.files.faults
+step_stays a b kept = kept_faults 0 0 a.slots b.slots a.files b.files kept
 
 moment_same : (a b : LoggerMoment) → b ≡ a → Kept a b
 moment_same a b same = subst (λ (m : LoggerMoment). Kept a m) (sym same) (kept_same a.slots a.files)
 
 moment_then : (a b c : LoggerMoment) → Kept a b → Kept b c → Kept a c
-moment_then a b c first second = kept_then a.slots b.slots c.slots a.files b.files c.files first second
+moment_then a b c first second = kept_then 0 0 0 0 0 0 a.slots b.slots c.slots a.files b.files c.files (omega arith) (omega arith) first second
+
+-- what was told stays told
+told_then : (told clashes : ℕ) (a b c : LoggerMoment) → KeptSo told clashes a b → Kept b c → KeptSo told clashes a c
+told_then told clashes a b c first second = kept_then told clashes told clashes 0 0 a.slots b.slots c.slots a.files b.files c.files (omega arith) (omega arith) first second
+
+then_told : (told clashes : ℕ) (a b c : LoggerMoment) → Kept a b → KeptSo told clashes b c → KeptSo told clashes a c
+then_told told clashes a b c first second = kept_then told clashes 0 0 told clashes a.slots b.slots c.slots a.files b.files c.files (omega arith) (omega arith) first second
 
 moment_turns : (Step : ℕ → LoggerMoment → LoggerMoment → Type 0) (n : ℕ) (a b : LoggerMoment) → ((k : ℕ) (x y : LoggerMoment) → Step k x y → Kept x y) → InTurn Step n a b → Kept a b
 moment_turns Step n a b each turns = turns_keep Step (λ m. Kept a m) n a b (λ k x y step kept. moment_then a x y kept (each k x y step)) turns (moment_same a a refl)
 
-pub step_kept : (Step : ChannelStep → Type 0) (n : ℕ) (before : Channel) (a b : LoggerMoment) (s : StepsChannel Step n before a b) → slot_at a.slots n ≡ Some before → StaysOrRose a.files.faults b.files.faults → StaysOrRose a.files.clashes b.files.clashes
-    → BreaksFrom before.stage s.after.stage a.files.faults b.files.faults → Kept a b
-step_kept Step n before a b s there faults clashes breaks =
-    subst (λ (l : List (Option Channel)). CountsKept a.slots l a.files b.files) (sym s.slots) (set_kept a.slots n before s.after a.files b.files there faults clashes breaks)
+step_kept : (told clashes more : ℕ) (Step : ChannelStep → Type 0) (n : ℕ) (before : Channel) (a b : LoggerMoment) (s : StepsChannel Step n before a b) → slot_at a.slots n ≡ Some before → BreaksBy told before.stage s.after.stage more → RoseBy more a.files.faults b.files.faults → RoseBy clashes a.files.clashes b.files.clashes
+    → KeptSo told clashes a b
+step_kept told clashes more Step n before a b s there breaks rose clashed =
+    subst (λ (l : List (Option Channel)). CountsKept told clashes a.slots l a.files b.files) (sym s.slots) (set_kept told clashes more a.slots n before s.after a.files b.files there breaks rose clashed)
 
 open_kept : (order : Order) (dump : List ℕ) (n : ℕ) (slot : Option Channel) (a b : LoggerMoment) → slot_at a.slots n ≡ slot → StepsSlot (OpensChannel order dump (Ok tt)) n slot a b → Kept a b
 open_kept order dump n None a b there same = moment_same a b same
-open_kept order dump n (Some before) a b there s = step_kept (OpensChannel order dump (Ok tt)) n before a b s there
-    (noted_count before.failed s.after.failed a.files.faults b.files.faults s.step.failed) (clash_count (Ok tt) a.files.clashes b.files.clashes s.step.clashes)
-    (breaks_none before.stage s.after.stage a.files.faults b.files.faults (ap broken_run s.step.opens.asks.stage))
+open_kept order dump n (Some before) a b there s = step_kept 0 0 0 (OpensChannel order dump (Ok tt)) n before a b s there
+    (breaks_none 0 before.stage s.after.stage 0 (ap broken_run s.step.opens.asks.stage) (omega arith))
+    (by_same a.files.faults b.files.faults s.step.faults) (by_same a.files.clashes b.files.clashes s.step.clashes)
 
-pub refused_kept : (order : Order) (dump : List ℕ) (why : Why) (n : ℕ) (before : Channel) (a b : LoggerMoment) → slot_at a.slots n ≡ Some before → StepsChannel (OpensChannel order dump (Err why)) n before a b → Kept a b
-refused_kept order dump why n before a b there s = step_kept (OpensChannel order dump (Err why)) n before a b s there
-    (noted_count before.failed s.after.failed a.files.faults b.files.faults s.step.failed) (clash_count (Err why) a.files.clashes b.files.clashes s.step.clashes)
-    (breaks_same before.stage s.after.stage a.files.faults b.files.faults s.step.opens.0)
+-- a refusal, by its cause
+
+refused_faults : (why : Why) (f g : ℕ) → OpenFaults (Err why) f g → StaysOrRose f g → RoseBy (faults_of_refusal why) f g
+refused_faults NotReady f g same stays = by_none f g stays
+refused_faults (Exists channel) f g same stays = by_none f g stays
+refused_faults (Fault channel) f g rose stays = rose
+refused_faults BufferRefused f g later stays = by_none f g stays
+
+refused_clashes : (why : Why) (f g : ℕ) → OpenClashes (Err why) f g → RoseBy (clashes_of_answer (No why)) f g
+refused_clashes NotReady f g same = by_same f g same
+refused_clashes (Exists channel) f g rose = rose
+refused_clashes (Fault channel) f g same = by_same f g same
+refused_clashes BufferRefused f g same = by_same f g same
+
+abbrev KeptRefused : Why → (a b : LoggerMoment) → Type 0
+KeptRefused why a b = KeptSo (faults_of_refusal why) (clashes_of_answer (No why)) a b
+
+pub refused_kept : (order : Order) (dump : List ℕ) (why : Why) (n : ℕ) (before : Channel) (a b : LoggerMoment) → slot_at a.slots n ≡ Some before → StepsChannel (OpensChannel order dump (Err why)) n before a b → KeptRefused why a b
+refused_kept order dump why n before a b there s =
+    let off : off_of s.after.stage ≡ off_of before.stage = ap off_of s.step.opens.0 in
+    step_kept (faults_of_refusal why) (clashes_of_answer (No why)) (faults_of_refusal why) (OpensChannel order dump (Err why)) n before a b s there (omega (arith, off))
+    (refused_faults why a.files.faults b.files.faults s.step.faults (noted_count before.failed s.after.failed a.files.faults b.files.faults s.step.failed))
+    (refused_clashes why a.files.clashes b.files.clashes s.step.clashes)
+
+pub refused_stays : (why : Why) (a b : LoggerMoment) → KeptRefused why a b → StaysOrRose a.files.faults b.files.faults
+refused_stays why a b kept = kept_faults (faults_of_refusal why) (clashes_of_answer (No why)) a.slots b.slots a.files b.files kept
 
 pub abort_kept : (n : ℕ) (slot : Option Channel) (a b : LoggerMoment) → slot_at a.slots n ≡ slot → StepsSlot AbortsChannel n slot a b → Kept a b
 abort_kept n None a b there same = moment_same a b same
-abort_kept n (Some before) a b there s = step_kept AbortsChannel n before a b s there
-    (noted_count before.failed s.after.failed a.files.faults b.files.faults s.step.failed) (inl s.step.clashes)
-    (breaks_none before.stage s.after.stage a.files.faults b.files.faults (ap (λ (c : Channel). broken_run c.stage) s.step.channel))
+abort_kept n (Some before) a b there s = step_kept 0 0 0 AbortsChannel n before a b s there
+    (breaks_none 0 before.stage s.after.stage 0 (ap (λ (c : Channel). broken_run c.stage) s.step.channel) (omega arith))
+    (by_none a.files.faults b.files.faults (noted_count before.failed s.after.failed a.files.faults b.files.faults s.step.failed)) (by_same a.files.clashes b.files.clashes s.step.clashes)
 
 -- a pull
 
-takes_break : (behind early : Bool) (p : PullOf) (run : BegunRun) (place : ℕ) (event : Event) (f g : ℕ) → PullFaults p.answer f g → TakesBy behind early p run place event → BreaksFrom p.stage p.later_stage f g
-takes_break true early p run place event f g faults drains = breaks_none p.stage p.later_stage f g (ap broken_run drains.stage)
-takes_break false true p run place event f g faults leaves = breaks_same p.stage p.later_stage f g leaves.stage
-takes_break false false p run place event f g faults takes = elim takes as (λ w. BreaksFrom p.stage p.later_stage f g) [
-  | inl writes ↦ breaks_same p.stage p.later_stage f g writes.stage
-  | inr breaks ↦ λ now off. inr (subst (λ (answer : Pulled). PullFaults answer f g) breaks.answer_is faults)
+-- how many faults it had, by its answer
+abbrev faults_of_pull : Pulled → ℕ
+faults_of_pull Broke = 1
+faults_of_pull answer = 0
+
+abbrev PullBreaks : (p : PullOf) → Type 0
+PullBreaks p = BreaksBy 0 p.stage p.later_stage (faults_of_pull p.answer)
+
+pull_rose : (answer : Pulled) (f g : ℕ) → PullFaults answer f g → RoseBy (faults_of_pull answer) f g
+pull_rose NoChannel f g same = by_same f g same
+pull_rose Nothing f g same = by_same f g same
+pull_rose (Dropped place) f g same = by_same f g same
+pull_rose (Wrote place) f g same = by_same f g same
+pull_rose Broke f g rose = rose
+
+takes_break : (behind early : Bool) (p : PullOf) (run : BegunRun) (place : ℕ) (event : Event) → TakesBy behind early p run place event → PullBreaks p
+takes_break true early p run place event drains = breaks_none 0 p.stage p.later_stage (faults_of_pull p.answer) (ap broken_run drains.stage) (omega arith)
+takes_break false true p run place event leaves = breaks_same p.stage p.later_stage (faults_of_pull p.answer) leaves.stage
+takes_break false false p run place event takes = elim takes as (λ w. PullBreaks p) [
+  | inl writes ↦ breaks_same p.stage p.later_stage (faults_of_pull p.answer) writes.stage
+  | inr breaks ↦
+      let one : faults_of_pull p.answer ≡ 1 = ap faults_of_pull breaks.answer_is in
+      omega (arith, one, off_at_most p.later_stage)
 ]
 
-finds_break : (drains : Bool) (p : PullOf) (run : BegunRun) (f g : ℕ) → FindsNone drains p run → BreaksFrom p.stage p.later_stage f g
-finds_break true p run f g drains = breaks_none p.stage p.later_stage f g (ap broken_run drains.stage)
-finds_break false p run f g leaves = breaks_same p.stage p.later_stage f g leaves.stage
+finds_break : (drains : Bool) (p : PullOf) (run : BegunRun) → FindsNone drains p run → PullBreaks p
+finds_break true p run drains = breaks_none 0 p.stage p.later_stage (faults_of_pull p.answer) (ap broken_run drains.stage) (omega arith)
+finds_break false p run leaves = breaks_same p.stage p.later_stage (faults_of_pull p.answer) leaves.stage
 
-reply_break : (p : PullOf) (run : BegunRun) (reply : Received) (event : Event) (f g : ℕ) → PullFaults p.answer f g → TakesReply p run reply event → BreaksFrom p.stage p.later_stage f g
-reply_break p run (Got place start) event f g faults takes = takes_break (is_behind_end run.ended place) (nat_lt place run.begun) p run place event f g faults takes
-reply_break p run (Empty gate last) event f g faults finds = finds_break (drains_at_none p.stage) p run f g finds
-reply_break p run NoClient event f g faults leaves = breaks_same p.stage p.later_stage f g leaves.stage
-reply_break p run (SmallBuf need) event f g faults never = absurd never
+reply_break : (p : PullOf) (run : BegunRun) (reply : Received) (event : Event) → TakesReply p run reply event → PullBreaks p
+reply_break p run (Got place start) event takes = takes_break (is_behind_end run.ended place) (nat_lt place run.begun) p run place event takes
+reply_break p run (Empty gate last) event finds = finds_break (drains_at_none p.stage) p run finds
+reply_break p run NoClient event leaves = breaks_same p.stage p.later_stage (faults_of_pull p.answer) leaves.stage
+reply_break p run (SmallBuf need) event never = absurd never
 
-pull_break : (reading : Option BegunRun) (p : PullOf) (room f g : ℕ) → PullFaults p.answer f g → PullsIn reading p room → BreaksFrom p.stage p.later_stage f g
-pull_break None p room f g faults leaves = breaks_same p.stage p.later_stage f g leaves.stage
-pull_break (Some run) p room f g faults pulls = reply_break (record p { port = pulls.middle }) run pulls.reply pulls.event f g faults pulls.taken
+pull_break : (reading : Option BegunRun) (p : PullOf) (room : ℕ) → PullsIn reading p room → PullBreaks p
+pull_break None p room leaves = breaks_same p.stage p.later_stage (faults_of_pull p.answer) leaves.stage
+pull_break (Some run) p room pulls = reply_break (record p { port = pulls.middle }) run pulls.reply pulls.event pulls.taken
 
 pulled_kept : (n : ℕ) (answer : Pulled) (slot : Option Channel) (a b : LoggerMoment) → slot_at a.slots n ≡ slot → PullsSlot slot n answer a b → Kept a b
 pulled_kept n answer None a b there pulls = moment_same a b pulls.1
-pulled_kept n answer (Some before) a b there s =
-    let noted : NotesFault before.failed s.after.failed a.files.faults b.files.faults = pull_fault answer before.failed s.after.failed a.files.faults b.files.faults s.step.failed s.step.faults in
-    step_kept (PullsChannel answer) n before a b s there (noted_count before.failed s.after.failed a.files.faults b.files.faults noted) (inl s.step.clashes)
-    (pull_break (reading_run before.stage) _ before.event.room a.files.faults b.files.faults s.step.faults s.step.pulls)
+pulled_kept n answer (Some before) a b there s = step_kept 0 0 (faults_of_pull answer) (PullsChannel answer) n before a b s there
+    (pull_break (reading_run before.stage) _ before.event.room s.step.pulls) (pull_rose answer a.files.faults b.files.faults s.step.faults)
+    (by_same a.files.clashes b.files.clashes s.step.clashes)
 
 -- marks
 
 pub call_kept : (entry : BufferEntry) (buffer : ℕ) (a b : LoggerMoment) → CallsBuffer entry buffer a b → Kept a b
-call_kept entry buffer a b calls = subst (λ (l : List (Option Channel)). CountsKept a.slots l a.files b.files) (sym calls.slots)
-    (subst (λ (files : RunFiles). CountsKept a.slots a.slots a.files files) (sym calls.files) (kept_same a.slots a.files))
+call_kept entry buffer a b calls = subst (λ (l : List (Option Channel)). CountsKept 0 0 a.slots l a.files b.files) (sym calls.slots)
+    (subst (λ (files : RunFiles). CountsKept 0 0 a.slots a.slots a.files files) (sym calls.files) (kept_same a.slots a.files))
 
--- the stage that was broken off before
-abbrev BreaksNone : (note : ChannelStage → ChannelStage) → Type 0
-BreaksNone note = (stage : ChannelStage) → (run : BegunRun) → broken_run (note stage) ≡ Some run → (was : BegunRun) × (broken_run stage ≡ Some was)
+begun_off : (place : ℕ) → KeepsOff (λ stage. stage_begun stage place)
+begun_off place Idle = refl
+begun_off place (Asking opened) = refl
+begun_off place (Writing opened begun) = refl
+begun_off place (Draining was) = refl
+begun_off place (Drained was) = refl
+begun_off place (Broken was) = refl
 
-begun_none : (place : ℕ) → BreaksNone (λ stage. stage_begun stage place)
-begun_none place Idle run off = absurd (cc (off))
-begun_none place (Asking opened) run off = absurd (cc (off))
-begun_none place (Writing opened begun) run off = absurd (cc (off))
-begun_none place (Draining was) run off = absurd (cc (off))
-begun_none place (Drained was) run off = absurd (cc (off))
-begun_none place (Broken was) run off = (was, refl)
+ended_off : (ended : Option ℕ) → KeepsOff (λ stage. stage_ended stage ended)
+ended_off ended Idle = refl
+ended_off ended (Asking opened) = refl
+ended_off ended (Writing opened begun) = refl
+ended_off ended (Draining was) = refl
+ended_off ended (Drained was) = refl
+ended_off ended (Broken was) = refl
 
-ended_none : (ended : Option ℕ) → BreaksNone (λ stage. stage_ended stage ended)
-ended_none ended Idle run off = absurd (cc (off))
-ended_none ended (Asking opened) run off = absurd (cc (off))
-ended_none ended (Writing opened begun) run off = absurd (cc (off))
-ended_none ended (Draining was) run off = absurd (cc (off))
-ended_none ended (Drained was) run off = absurd (cc (off))
-ended_none ended (Broken was) run off = (was, refl)
-
-noted_off : (note : ChannelStage → ChannelStage) (hit : Bool) (c : Channel) (run : BegunRun) → BreaksNone note → broken_run (if hit then record c { stage = note c.stage } else c).stage ≡ Some run → (was : BegunRun) × (broken_run c.stage ≡ Some was)
-noted_off note true c run none off = none c.stage run off
-noted_off note false c run none off = (run, off)
-
-more_off : (o : Option Channel) (slots : List (Option Channel)) → HasBrokenOff slots → HasBrokenOff (o ∷ slots)
-more_off o slots is = record { number = suc is.number; channel = is.channel; run = is.run; there = is.there; off = is.off }
-
-map_off : (note : ChannelStage → ChannelStage) (buffer : ℕ) (slots : List (Option Channel)) (n : ℕ) (c : Channel) (run : BegunRun) → BreaksNone note → slot_at (map (option_map (noted_channel note buffer)) slots) n ≡ Some c → broken_run c.stage ≡ Some run → HasBrokenOff slots
-map_off note buffer [] n c run none there off = absurd (cc (there))
-map_off note buffer (None ∷ os) zero c run none there off = absurd (cc (there))
-map_off note buffer (Some x ∷ os) zero c run none there off =
-    let is : noted_channel note buffer x ≡ c = cc (there) in
-    let was = noted_off note (x.spec.buffer == buffer) x run none (ap (λ (y : Channel). broken_run y.stage) is ∙ off) in
-    record { number = 0; channel = x; run = was.0; there = refl; off = was.1 }
-map_off note buffer (o ∷ os) (suc n) c run none there off = more_off o os (map_off note buffer os n c run none there off)
-
-pub mark_kept : (entry : BufferEntry) (note : ChannelStage → ChannelStage) (buffer : ℕ) (a b : LoggerMoment) → BreaksNone note → MarksBuffer entry note buffer a b → Kept a b
-mark_kept entry note buffer a b none marks =
-    let kept : CountsKept a.slots (map (option_map (noted_channel note buffer)) a.slots) a.files a.files = record {
-      faults = inl refl;
-      clashes = inl refl;
-      broken = λ is. inl (map_off note buffer a.slots is.number is.channel is.run none is.there is.off);
+mark_kept : (entry : BufferEntry) (note : ChannelStage → ChannelStage) (buffer : ℕ) (a b : LoggerMoment) → KeepsOff note → MarksBuffer entry note buffer a b → Kept a b
+mark_kept entry note buffer a b keeps marks =
+    let same : broken_off (map (option_map (noted_channel note buffer)) a.slots) ≡ broken_off a.slots = map_off note buffer a.slots keeps in
+    let kept : CountsKept 0 0 a.slots (map (option_map (noted_channel note buffer)) a.slots) a.files a.files = record {
+      more = 0;
+      off = omega (arith, same);
+      rose = by_same a.files.faults a.files.faults refl;
+      clashed = by_same a.files.clashes a.files.clashes refl;
     } in
-    subst (λ (l : List (Option Channel)). CountsKept a.slots l a.files b.files) (sym marks.noted)
-    (subst (λ (files : RunFiles). CountsKept a.slots (map (option_map (noted_channel note buffer)) a.slots) a.files files) (sym marks.marks.files) kept)
+    subst (λ (l : List (Option Channel)). CountsKept 0 0 a.slots l a.files b.files) (sym marks.noted)
+    (subst (λ (files : RunFiles). CountsKept 0 0 a.slots (map (option_map (noted_channel note buffer)) a.slots) a.files files) (sym marks.marks.files) kept)
 
 -- Turns.
 
@@ -237,38 +272,65 @@ pub opens_kept : (order : Order) (dump : List ℕ) (n : ℕ) (a b : LoggerMoment
 opens_kept order dump n a b opens = moment_turns (λ k. StepsAt (OpensChannel order dump (Ok tt)) k) n a b (λ k x y step. open_kept order dump k (slot_at x.slots k) x y refl step) opens
 
 pub begins_kept : (start n : ℕ) (a b : LoggerMoment) → BeginsBelow start n a b → Kept a b
-begins_kept start n a b begins = moment_turns (λ k. BeginsBuffer start k) n a b (λ k x y step. mark_kept _ (λ stage. stage_begun stage step.0) k x y (begun_none step.0) step.1) begins
+begins_kept start n a b begins = moment_turns (λ k. BeginsBuffer start k) n a b (λ k x y step. mark_kept _ (λ stage. stage_begun stage step.0) k x y (begun_off step.0) step.1) begins
 
 pub ends_kept : (start n : ℕ) (a b : LoggerMoment) → InTurn (λ k. EndsBuffer start k) n a b → Kept a b
-ends_kept start n a b ends = moment_turns (λ k. EndsBuffer start k) n a b (λ k x y step. mark_kept _ (λ stage. stage_ended stage (place_marked step.0)) k x y (ended_none (place_marked step.0)) step.1) ends
+ends_kept start n a b ends = moment_turns (λ k. EndsBuffer start k) n a b (λ k x y step. mark_kept _ (λ stage. stage_ended stage (place_marked step.0)) k x y (ended_off (place_marked step.0)) step.1) ends
 
 pub aborts_kept : (a b : LoggerMoment) → AbortsAll a b → Kept a b
 aborts_kept a b aborts = moment_turns (λ k. StepsAt AbortsChannel k) (length a.slots) a b (λ k x y step. abort_kept k (slot_at x.slots k) x y refl step) aborts
 
-undone_opens_kept : (order : Order) (dump : List ℕ) (why : Why) (begun : ℕ) (a b : LoggerMoment) → UndoesOpens order dump why begun a b → Kept a b
+undone_opens_kept : (order : Order) (dump : List ℕ) (why : Why) (begun : ℕ) (a b : LoggerMoment) → UndoesOpens order dump why begun a b → KeptRefused why a b
 undone_opens_kept order dump why begun a b undoes =
     let r = undoes.opens in
-    moment_then a undoes.refused b
-    (moment_then a r.opened undoes.refused (opens_kept order dump r.number a r.opened r.opens) (refused_kept order dump why r.number r.channel r.opened undoes.refused r.there r.refuses))
+    told_then (faults_of_refusal why) (clashes_of_answer (No why)) a undoes.refused b
+    (then_told (faults_of_refusal why) (clashes_of_answer (No why)) a r.opened undoes.refused (opens_kept order dump r.number a r.opened r.opens) (refused_kept order dump why r.number r.channel r.opened undoes.refused r.there r.refuses))
     (aborts_kept undoes.refused b undoes.aborts)
 
-undone_begins_kept : (order : Order) (dump : List ℕ) (why : Why) (begun : ℕ) (a b : LoggerMoment) → UndoesBegins order dump why begun a b → Kept a b
+undone_begins_kept : (order : Order) (dump : List ℕ) (why : Why) (begun : ℕ) (a b : LoggerMoment) → UndoesBegins order dump why begun a b → KeptRefused why a b
 undone_begins_kept order dump why begun a b undoes =
     let m = undoes.begins in
+    let kept : KeptRefused BufferRefused a b =
     moment_then a undoes.refused b
     (moment_then a undoes.opened undoes.refused (opens_kept order dump (length a.slots) a undoes.opened undoes.opens)
     (moment_then undoes.opened m.begun undoes.refused (begins_kept order.start begun undoes.opened m.begun m.begins) (call_kept _ begun m.begun undoes.refused m.refuses.1)))
-    (aborts_kept undoes.refused b undoes.aborts)
+    (aborts_kept undoes.refused b undoes.aborts) in
+    subst (λ (w : Why). KeptRefused w a b) (sym undoes.why_is) kept
 
-starts_kept : (result : Result ⊤ Why) (order : Order) (dump : List ℕ) (begun : ℕ) (a b : LoggerMoment) → StartsSo result order dump begun a b → Kept a b
+-- what this answer tells of the faults and the clashes that were counted
+abbrev KeptAnswered : Option Answer → (a b : LoggerMoment) → Type 0
+KeptAnswered answer a b = KeptSo (counted_of faults_of_answer answer) (counted_of clashes_of_answer answer) a b
+
+starts_kept : (result : Result ⊤ Why) (order : Order) (dump : List ℕ) (begun : ℕ) (a b : LoggerMoment) → StartsSo result order dump begun a b → KeptAnswered (Some (start_answer result)) a b
 starts_kept (Ok done) order dump begun a b starts =
     moment_then a starts.opened b (opens_kept order dump (length a.slots) a starts.opened starts.opens) (begins_kept order.start (length a.ports) starts.opened b starts.begins)
-starts_kept (Err why) order dump begun a b starts = elim starts as (λ w. Kept a b) [
+starts_kept (Err why) order dump begun a b starts = elim starts as (λ w. KeptRefused why a b) [
   | inl opens ↦ undone_opens_kept order dump why begun a b opens
   | inr begins ↦ undone_begins_kept order dump why begun a b begins
 ]
 
--- why it was refused
+-- What was counted in the turn of a start.
+
+abbrev SameCounts : (old new : RunFiles) → Type 0
+SameCounts old new = (new.faults ≡ old.faults) × (new.clashes ≡ old.clashes)
+
+counts_same : (old new : RunFiles) → new ≡ old → SameCounts old new
+counts_same old new same = (ap (λ (f : RunFiles). f.faults) same, ap (λ (f : RunFiles). f.clashes) same)
+
+same_turns : (Step : ℕ → LoggerMoment → LoggerMoment → Type 0) (n : ℕ) (a b : LoggerMoment) → ((k : ℕ) (x y : LoggerMoment) → Step k x y → SameCounts x.files y.files) → InTurn Step n a b → SameCounts a.files b.files
+same_turns Step n a b each turns = turns_keep Step (λ (m : LoggerMoment). SameCounts a.files m.files) n a b
+    (λ k x y step same. (let now = each k x y step in (now.0 ∙ same.0, now.1 ∙ same.1))) turns (refl, refl)
+
+open_same : (order : Order) (dump : List ℕ) (n : ℕ) (slot : Option Channel) (a b : LoggerMoment) → StepsSlot (OpensChannel order dump (Ok tt)) n slot a b → SameCounts a.files b.files
+open_same order dump n None a b same = counts_same a.files b.files (ap (λ (m : LoggerMoment). m.files) same)
+open_same order dump n (Some before) a b s = (s.step.faults, s.step.clashes)
+
+all_same : (order : Order) (dump : List ℕ) (begun : ℕ) (a b : LoggerMoment) → StartsAll order dump begun a b → SameCounts a.files b.files
+all_same order dump begun a b starts =
+    let m = starts.opened in
+    let first : SameCounts a.files m.files = same_turns (λ k. StepsAt (OpensChannel order dump (Ok tt)) k) (length a.slots) a m (λ k x y step. open_same order dump k (slot_at x.slots k) x y step) starts.opens in
+    let last : SameCounts m.files b.files = same_turns (λ k. BeginsBuffer order.start k) (length a.ports) m b (λ k x y step. counts_same x.files y.files step.1.marks.files) starts.begins in
+    (last.0 ∙ first.0, last.1 ∙ first.1)
 
 opens_reason : (order : Order) (dump : List ℕ) (why : Why) (begun : ℕ) (a b : LoggerMoment) → UndoesOpens order dump why begun a b → IsReasonSo why a.files b.files
 opens_reason order dump NotReady begun a b undoes = tt
@@ -276,76 +338,80 @@ opens_reason order dump (Exists channel) begun a b undoes =
     let r = undoes.opens in
     let m = undoes.refused in
     let early = opens_kept order dump r.number a r.opened r.opens in
-    rose_then a.files.clashes m.files.clashes b.files.clashes (then_rose a.files.clashes r.opened.files.clashes m.files.clashes early.clashes r.refuses.step.clashes) ((aborts_kept m b undoes.aborts).clashes)
+    let late = aborts_kept m b undoes.aborts in
+    rose_then a.files.clashes m.files.clashes b.files.clashes
+    (then_rose a.files.clashes r.opened.files.clashes m.files.clashes (kept_clashes 0 0 a.slots r.opened.slots a.files r.opened.files early) r.refuses.step.clashes)
+    (kept_clashes 0 0 m.slots b.slots m.files b.files late)
 opens_reason order dump (Fault channel) begun a b undoes =
     let r = undoes.opens in
     let m = undoes.refused in
-    let early = opens_kept order dump r.number a r.opened r.opens in
-    rose_then a.files.faults m.files.faults b.files.faults (then_rose a.files.faults r.opened.files.faults m.files.faults early.faults r.refuses.step.faults) ((aborts_kept m b undoes.aborts).faults)
+    rose_then a.files.faults m.files.faults b.files.faults
+    (then_rose a.files.faults r.opened.files.faults m.files.faults (step_stays a r.opened (opens_kept order dump r.number a r.opened r.opens)) r.refuses.step.faults)
+    (step_stays m b (aborts_kept m b undoes.aborts))
 opens_reason order dump BufferRefused begun a b undoes = tt
 
-starts_reason : (result : Result ⊤ Why) (order : Order) (dump : List ℕ) (begun : ℕ) (a b : LoggerMoment) → StartsSo result order dump begun a b → IsAnswerSo (start_answer result) a.files b.files
-starts_reason (Ok done) order dump begun a b starts = tt
+starts_reason : (result : Result ⊤ Why) (order : Order) (dump : List ℕ) (begun : ℕ) (a b : LoggerMoment) → StartsSo result order dump begun a b → IsStartSo (start_answer result) a.files b.files
+starts_reason (Ok done) order dump begun a b starts = all_same order dump begun a b starts
 starts_reason (Err why) order dump begun a b starts = elim starts as (λ w. IsReasonSo why a.files b.files) [
   | inl opens ↦ opens_reason order dump why begun a b opens
   | inr begins ↦ subst (λ (w : Why). IsReasonSo w a.files b.files) (sym begins.why_is) tt
 ]
 
--- what a turn keeps, and what it is answered
-record Turned (t : LoggerTurn) : Type 0 where
-  kept : Kept t.before t.after
-  answered : (answer : Answer) → t.answer ≡ Some answer → IsAnswerSo answer t.before.files t.after.files
+-- What a turn keeps; and what was counted in it, if it is a start.
+record Turned (transition : Transition) (t : LoggerTurn) : Type 0 where
+  kept : KeptAnswered t.answer t.before t.after
+  start : transition ≡ Start → (answer : Answer) → t.answer ≡ Some answer → IsStartSo answer t.before.files t.after.files
 
-answers_by : (t : LoggerTurn) (known : Answer) → t.answer ≡ Some known → IsAnswerSo known t.before.files t.after.files → (answer : Answer) → t.answer ≡ Some answer → IsAnswerSo answer t.before.files t.after.files
-answers_by t known is so answer other =
+-- a turn that is answered so
+answered_kept : (t : LoggerTurn) (known : Option Answer) → t.answer ≡ known → KeptAnswered known t.before t.after → KeptAnswered t.answer t.before t.after
+answered_kept t known is kept = subst (λ (answer : Option Answer). KeptAnswered answer t.before t.after) (sym is) kept
+
+answered_so : (t : LoggerTurn) (known : Answer) → t.answer ≡ Some known → IsStartSo known t.before.files t.after.files → (answer : Answer) → t.answer ≡ Some answer → IsStartSo answer t.before.files t.after.files
+answered_so t known is so answer other =
     let same : known ≡ answer = cc (is, other) in
-    subst (λ (a : Answer). IsAnswerSo a t.before.files t.after.files) same so
+    subst (λ (a : Answer). IsStartSo a t.before.files t.after.files) same so
 
-start_turned : (on : Bool) (t : LoggerTurn) → TakesStart on t → Turned t
-start_turned true t takes = record { kept = moment_same t.before t.after takes.moment; answered = answers_by t (No NotReady) takes.answer_is tt }
+start_turned : (on : Bool) (t : LoggerTurn) → TakesStart on t → Turned Start t
+start_turned true t takes = record {
+  kept = answered_kept t (Some (No NotReady)) takes.answer_is (moment_same t.before t.after takes.moment);
+  start = λ is. answered_so t (No NotReady) takes.answer_is tt;
+}
 start_turned false t takes = record {
-  kept = starts_kept takes.result t.order _ takes.begun t.before t.after takes.starts;
-  answered = answers_by t (start_answer takes.result) takes.answer_is (starts_reason takes.result t.order _ takes.begun t.before t.after takes.starts);
+  kept = answered_kept t (Some (start_answer takes.result)) takes.answer_is (starts_kept takes.result t.order _ takes.begun t.before t.after takes.starts);
+  start = λ is. answered_so t (start_answer takes.result) takes.answer_is (starts_reason takes.result t.order _ takes.begun t.before t.after takes.starts);
 }
 
-stop_turned : (of : Bool) (t : LoggerTurn) → TakesStop of t → Turned t
-stop_turned true t takes = record { kept = ends_kept t.order.start (length t.before.ports) t.before t.after takes.ends; answered = λ answer is. absurd (let none = takes.answer_is in cc (none, is)) }
-stop_turned false t takes = record { kept = moment_same t.before t.after takes.moment; answered = answers_by t (Yes Plain) takes.answer_is tt }
+stop_kept : (of : Bool) (t : LoggerTurn) → TakesStop of t → KeptAnswered t.answer t.before t.after
+stop_kept true t takes = answered_kept t None takes.answer_is (ends_kept t.order.start (length t.before.ports) t.before t.after takes.ends)
+stop_kept false t takes = answered_kept t (Some (Yes Plain)) takes.answer_is (moment_same t.before t.after takes.moment)
 
-pause_turned : (of : Bool) (t : LoggerTurn) → TakesMark PausesBuffer of t → Turned t
-pause_turned true t takes = record {
-  kept = moment_turns (λ k. PausesBuffer t.order.start k) (length t.before.ports) t.before t.after (λ k x y step. call_kept _ k x y step.1) takes.marks;
-  answered = answers_by t (Yes Plain) takes.answer_is tt;
-}
-pause_turned false t takes = record { kept = moment_same t.before t.after takes.moment; answered = answers_by t (Yes Plain) takes.answer_is tt }
+pause_kept : (of : Bool) (t : LoggerTurn) → TakesMark PausesBuffer of t → KeptAnswered t.answer t.before t.after
+pause_kept true t takes = answered_kept t (Some (Yes Plain)) takes.answer_is
+    (moment_turns (λ k. PausesBuffer t.order.start k) (length t.before.ports) t.before t.after (λ k x y step. call_kept _ k x y step.1) takes.marks)
+pause_kept false t takes = answered_kept t (Some (Yes Plain)) takes.answer_is (moment_same t.before t.after takes.moment)
 
-resume_turned : (of : Bool) (t : LoggerTurn) → TakesMark ResumesBuffer of t → Turned t
-resume_turned true t takes = record {
-  kept = moment_turns (λ k. ResumesBuffer t.order.start k) (length t.before.ports) t.before t.after (λ k x y step. call_kept _ k x y step.1) takes.marks;
-  answered = answers_by t (Yes Plain) takes.answer_is tt;
-}
-resume_turned false t takes = record { kept = moment_same t.before t.after takes.moment; answered = answers_by t (Yes Plain) takes.answer_is tt }
+resume_kept : (of : Bool) (t : LoggerTurn) → TakesMark ResumesBuffer of t → KeptAnswered t.answer t.before t.after
+resume_kept true t takes = answered_kept t (Some (Yes Plain)) takes.answer_is
+    (moment_turns (λ k. ResumesBuffer t.order.start k) (length t.before.ports) t.before t.after (λ k x y step. call_kept _ k x y step.1) takes.marks)
+resume_kept false t takes = answered_kept t (Some (Yes Plain)) takes.answer_is (moment_same t.before t.after takes.moment)
 
-called_off_turned : (of : Bool) (t : LoggerTurn) → TakesAbort of t → Turned t
-called_off_turned true t takes = record {
-  kept = moment_then t.before takes.ended t.after (ends_kept t.order.start (buffers_begun t.run) t.before takes.ended takes.ends) (aborts_kept takes.ended t.after takes.aborts);
-  answered = answers_by t (Yes Plain) takes.answer_is tt;
-}
-called_off_turned false t takes = record { kept = moment_same t.before t.after takes.moment; answered = answers_by t (Yes Plain) takes.answer_is tt }
+called_off_kept : (of : Bool) (t : LoggerTurn) → TakesAbort of t → KeptAnswered t.answer t.before t.after
+called_off_kept true t takes = answered_kept t (Some (Yes Plain)) takes.answer_is
+    (moment_then t.before takes.ended t.after (ends_kept t.order.start (buffers_begun t.run) t.before takes.ended takes.ends) (aborts_kept takes.ended t.after takes.aborts))
+called_off_kept false t takes = answered_kept t (Some (Yes Plain)) takes.answer_is (moment_same t.before t.after takes.moment)
 
-turned_by : (transition : Transition) (t : LoggerTurn) → TakesTurnBy transition t → Turned t
+turned_by : (transition : Transition) (t : LoggerTurn) → TakesTurnBy transition t → Turned transition t
 turned_by Start t takes = start_turned (is_run_on t.run) t takes
-turned_by Stop t takes = stop_turned (is_started t.run t.order.start) t takes
-turned_by Pause t takes = pause_turned (is_started t.run t.order.start) t takes
-turned_by Resume t takes = resume_turned (is_started t.run t.order.start) t takes
-turned_by StartAbort t takes = called_off_turned (is_of_start t.run t.order.start) t takes
+turned_by Stop t takes = record { kept = stop_kept (is_started t.run t.order.start) t takes; start = λ is. absurd (cc (is)) }
+turned_by Pause t takes = record { kept = pause_kept (is_started t.run t.order.start) t takes; start = λ is. absurd (cc (is)) }
+turned_by Resume t takes = record { kept = resume_kept (is_started t.run t.order.start) t takes; start = λ is. absurd (cc (is)) }
+turned_by StartAbort t takes = record { kept = called_off_kept (is_of_start t.run t.order.start) t takes; start = λ is. absurd (cc (is)) }
 
 -- Endings.
 
 -- the channels, the files and the states that are told, since the first file was ended
-record EndedSince (slots : List (Option Channel)) (files : RunFiles) (m : EndingMoment) : Type 0 where
-  kept : CountsKept slots m.slots files m.files
-  told : (n : ℕ) → slice_get m.states n ≡ Some IsBroken → HasBrokenOff slots ⊎ Rose files.faults m.files.faults
+abbrev EndedSince : (slots : List (Option Channel)) → (files : RunFiles) → (m : EndingMoment) → Type 0
+EndedSince slots files m = CountsKept (sum_by faults_of_state m.states) 0 slots m.slots files m.files
 
 settled_none : (stage : ChannelStage) → broken_run (stage_settled stage) ≡ None
 settled_none Idle = refl
@@ -355,148 +421,154 @@ settled_none (Draining run) = refl
 settled_none (Drained run) = refl
 settled_none (Broken run) = refl
 
-otherwise_off : (stage : ChannelStage) → IsBroken ≡ state_otherwise stage → (run : BegunRun) × (broken_run stage ≡ Some run)
-otherwise_off Idle is = absurd (cc (is))
-otherwise_off (Asking opened) is = absurd (cc (is))
-otherwise_off (Writing opened begun) is = absurd (cc (is))
-otherwise_off (Draining run) is = absurd (cc (is))
-otherwise_off (Drained run) is = absurd (cc (is))
-otherwise_off (Broken run) is = (run, refl)
+otherwise_off : (stage : ChannelStage) → faults_of_state (state_otherwise stage) ≡ off_of stage
+otherwise_off Idle = refl
+otherwise_off (Asking opened) = refl
+otherwise_off (Writing opened begun) = refl
+otherwise_off (Draining run) = refl
+otherwise_off (Drained run) = refl
+otherwise_off (Broken run) = refl
 
-closed_off : (drained : Option BegunRun) (stage : ChannelStage) (time : ℕ) (dump : Option (List ℕ)) (a b : _) (f g : ℕ) → ClosesFile drained stage IsBroken time dump a b f g → ((run : BegunRun) × (broken_run stage ≡ Some run)) ⊎ Rose f g
-closed_off (Some run) stage time dump a b f g closes = inr closes.1
-closed_off None stage time dump a b f g closes = inl (otherwise_off stage closes.0)
+-- what is told of a channel whose file is ended had a fault, which was counted now, or for which it had broken off
+record ToldBy (stage : ChannelStage) (state : ChannelState) (f g : ℕ) : Type 0 where
+  more : ℕ
+  few : faults_of_state state ≤ off_of stage + more
+  rose : RoseBy more f g
 
-since_same : (slots : List (Option Channel)) (files : RunFiles) (a b : EndingMoment) → b ≡ a → EndedSince slots files a → EndedSince slots files b
-since_same slots files a b same since = subst (λ (m : EndingMoment). EndedSince slots files m) (sym same) since
+none_more : (stage : ChannelStage) (state : ChannelState) (f g : ℕ) → faults_of_state state ≤ off_of stage → StaysOrRose f g → ToldBy stage state f g
+none_more stage state f g few stays = record { more = 0; few = omega (arith, few); rose = by_none f g stays }
 
-since_then : (slots : List (Option Channel)) (f g h : ℕ) → HasBrokenOff slots ⊎ Rose f g → StaysOrRose g h → HasBrokenOff slots ⊎ Rose f h
-since_then slots f g h which stays = elim which as (λ w. HasBrokenOff slots ⊎ Rose f h) [
-  | inl off ↦ inl off
-  | inr rose ↦ inr (rose_then f g h rose stays)
-]
+read_by : (state : ChannelState) (run : BegunRun) (stage : ChannelStage) (time : ℕ) (dump : Option (List ℕ)) (a b : Seen) (f g : ℕ) → ClosesRead state run time dump a b f g → StaysOrRose f g → ToldBy stage state f g
+read_by IsIdle run stage time dump a b f g closes stays = none_more stage IsIdle f g (omega arith) stays
+read_by IsWriting run stage time dump a b f g closes stays = none_more stage IsWriting f g (omega arith) stays
+read_by Ended run stage time dump a b f g closes stays = none_more stage Ended f g (omega arith) stays
+read_by NoEnd run stage time dump a b f g closes stays = none_more stage NoEnd f g (omega arith) stays
+read_by NoMark run stage time dump a b f g closes stays = none_more stage NoMark f g (omega arith) stays
+read_by IsBroken run stage time dump a b f g closes stays = record { more = 1; few = omega arith; rose = closes.1 }
 
-told_here : (slots : List (Option Channel)) (files : RunFiles) (time : ℕ) (dump : Option (List ℕ)) (n : ℕ) (state : ChannelState) (before after : Channel) (a : EndingMoment) (later : RunFiles) → state ≡ IsBroken → slot_at a.slots n ≡ Some before
-    → EndsChannel time dump state before after a.files later → CountsKept slots a.slots files a.files → HasBrokenOff slots ⊎ Rose files.faults later.faults
-told_here slots files time dump n state before after a later is there ends kept =
-    elim (closed_off (drained_run before.stage) before.stage time dump a.files.seen later.seen a.files.faults later.faults
-    (subst (λ (s : ChannelState). ClosesFile (drained_run before.stage) before.stage s time dump a.files.seen later.seen a.files.faults later.faults) is ends.ends)) as (λ w. HasBrokenOff slots ⊎ Rose files.faults later.faults) [
-      | inl off ↦ since_then slots files.faults a.files.faults later.faults (kept.broken (record { number = n; channel = before; run = off.0; there = there; off = off.1 })) (noted_count before.failed after.failed a.files.faults later.faults ends.failed)
-      | inr rose ↦ inr (then_rose files.faults a.files.faults later.faults kept.faults rose)
-    ]
-
-set_state : (xs : List ChannelState) (n : ℕ) (y z : ChannelState) → slice_get (slice_set xs n y) n ≡ Some z → y ≡ z
-set_state xs n y z is =
-    let within : n < length xs = omega (arith, many_set xs n y, slice_get_within (slice_set xs n y) n z is) in
-    let there = there_is xs n within in
-    let put : slice_get (slice_set xs n y) n ≡ Some y = got_there xs n there.0 y there.1 in
-    cc (put, is)
+closed_by : (drained : Option BegunRun) (state : ChannelState) (stage : ChannelStage) (time : ℕ) (dump : Option (List ℕ)) (a b : Seen) (f g : ℕ) → ClosesFile drained stage state time dump a b f g → StaysOrRose f g → ToldBy stage state f g
+closed_by (Some run) state stage time dump a b f g closes stays = read_by state run stage time dump a b f g closes stays
+closed_by None state stage time dump a b f g closes stays =
+    let is : faults_of_state state ≡ off_of stage = ap faults_of_state closes.0 ∙ otherwise_off stage in
+    none_more stage state f g (omega (arith, is)) stays
 
 ends_slot : (slots : List (Option Channel)) (files : RunFiles) (time : ℕ) (dump : Option (List ℕ)) (n : ℕ) (slot : Option Channel) (a b : EndingMoment) → slot_at a.slots n ≡ slot → EndsSlot time dump n slot a b → EndedSince slots files a → EndedSince slots files b
-ends_slot slots files time dump n None a b there same since = since_same slots files a b same since
+ends_slot slots files time dump n None a b there same since = subst (λ (m : EndingMoment). EndedSince slots files m) (sym same) since
 ends_slot slots files time dump n (Some before) a b there ends since =
-    let count : StaysOrRose a.files.faults b.files.faults = noted_count before.failed ends.after.failed a.files.faults b.files.faults ends.ends.failed in
-    let none : broken_run ends.after.stage ≡ None = ap (λ (c : Channel). broken_run c.stage) ends.ends.channel ∙ settled_none before.stage in
-    let now : CountsKept a.slots (slice_set a.slots n (Some ends.after)) a.files b.files =
-    set_kept a.slots n before ends.after a.files b.files there count (inl ends.ends.clashes) (breaks_none before.stage ends.after.stage a.files.faults b.files.faults none) in
-    let here : CountsKept a.slots b.slots a.files b.files = subst (λ (l : List (Option Channel)). CountsKept a.slots l a.files b.files) (sym ends.slots) now in
-    record {
-      kept = kept_then slots a.slots b.slots files a.files b.files since.kept here;
-      told = λ m is.
-          let set : slice_get (slice_set a.states n ends.state) m ≡ Some IsBroken = subst (λ (l : List ChannelState). slice_get l m ≡ Some IsBroken) ends.states is in
-          elim (same_or_other m n) as (λ w. HasBrokenOff slots ⊎ Rose files.faults b.files.faults) [
-            | inl same ↦ told_here slots files time dump n ends.state before ends.after a b.files (set_state a.states n ends.state IsBroken (subst (λ (k : ℕ). slice_get (slice_set a.states n ends.state) k ≡ Some IsBroken) same set)) there ends.ends since.kept
-            | inr other ↦ since_then slots files.faults a.files.faults b.files.faults (since.told m (got_elsewhere a.states n m ends.state IsBroken other set)) count
-          ];
-    }
-
-none_told : (many n : ℕ) → slice_get (replicate many IsIdle) n ≡ Some IsBroken → ⊥
-none_told zero zero is = cc (is)
-none_told zero (suc n) is = cc (is)
-none_told (suc many) zero is = cc (is)
-none_told (suc many) (suc n) is = none_told many n is
+    let c = ends.after in
+    let count : StaysOrRose a.files.faults b.files.faults = noted_count before.failed c.failed a.files.faults b.files.faults ends.ends.failed in
+    let told = closed_by (drained_run before.stage) ends.state before.stage time dump a.files.seen b.files.seen a.files.faults b.files.faults ends.ends.ends count in
+    let none : off_of c.stage ≡ 0 = ap (λ (x : Channel). off_of x.stage) ends.ends.channel ∙ ap (λ (run : Option BegunRun). cond (is_some run) 1 0) (settled_none before.stage) in
+    let breaks : BreaksBy (faults_of_state ends.state) before.stage c.stage told.more = let few = told.few in omega (arith, none, few) in
+    let now : CountsKept (faults_of_state ends.state) 0 a.slots (slice_set a.slots n (Some c)) a.files b.files =
+    set_kept (faults_of_state ends.state) 0 told.more a.slots n before c a.files b.files there breaks told.rose (by_same a.files.clashes b.files.clashes ends.ends.clashes) in
+    let both : CountsKept (sum_by faults_of_state (slice_set a.states n ends.state)) 0 slots (slice_set a.slots n (Some c)) files b.files =
+    kept_then (sum_by faults_of_state (slice_set a.states n ends.state)) 0 (sum_by faults_of_state a.states) 0 (faults_of_state ends.state) 0 slots a.slots (slice_set a.slots n (Some c)) files a.files b.files
+    (put_counts faults_of_state a.states n ends.state) (omega arith) since now in
+    subst (λ (l : List (Option Channel)). CountsKept (sum_by faults_of_state b.states) 0 slots l files b.files) (sym ends.slots)
+    (subst (λ (l : List ChannelState). CountsKept (sum_by faults_of_state l) 0 slots (slice_set a.slots n (Some c)) files b.files) (sym ends.states) both)
 
 ends_all : (f : LoggerFinish) (time : ℕ) (ends : EndsFiles f time) → EndedSince f.slots f.files (record { slots = f.later_slots; files = f.later_files; states = ends.states })
 ends_all f time ends = turns_keep (λ k. EndsSlotAt time f.stop_dump k) (EndedSince f.slots f.files) (length f.slots) (record { slots = f.slots; files = f.files; states = states_idle }) (record { slots = f.later_slots; files = f.later_files; states = ends.states })
-    (λ k x y step since. ends_slot f.slots f.files time f.stop_dump k (slot_at x.slots k) x y refl step since) ends.ends
-    (record { kept = kept_same f.slots f.files; told = λ n is. absurd (none_told channel_limit n is) })
+    (λ k x y step since. ends_slot f.slots f.files time f.stop_dump k (slot_at x.slots k) x y refl step since) ends.ends (kept_same f.slots f.files)
 
 -- From the first moment on.
 
-tally_since : (tally : Tally) (first old new : RunFiles) → StaysOrRose first.faults old.faults → IsAnswerSo (Yes tally) old new → IsAnswerSo (Yes tally) first new
-tally_since Plain first old new faults so = tt
-tally_since (Front sent ended) first old new faults so = tt
-tally_since (Channels states) first old new faults so = λ n is. then_rose first.faults old.faults new.faults faults (so n is)
-tally_since (Report report) first old new faults so = tt
+turns_later : (turns : List MemberTurn) (first old new : RunFiles) → NoneFell old new → AreTurnsSo turns first old → AreTurnsSo turns first new
+turns_later [] first old new fell so = fell_then first old new so fell
+turns_later (t ∷ ts) first old new fell so =
+    let last = so.1.1.1 in
+    (so.0, (so.1.0, (so.1.1.0, record { start = last.start; within = last.within; since = fell_then so.1.0 old new last.since fell })))
 
-answer_since : (answer : Answer) (first old new : RunFiles) → StaysOrRose first.faults old.faults → StaysOrRose first.clashes old.clashes → IsAnswerSo answer old new → IsAnswerSo answer first new
-answer_since (Yes tally) first old new faults clashes so = tally_since tally first old new faults so
-answer_since (No NotReady) first old new faults clashes so = tt
-answer_since (No (Exists channel)) first old new faults clashes so = then_rose first.clashes old.clashes new.clashes clashes so
-answer_since (No (Fault channel)) first old new faults clashes so = then_rose first.faults old.faults new.faults faults so
-answer_since (No BufferRefused) first old new faults clashes so = tt
+-- A call in which so much more is told.
+more_faults : (many told clashes : ℕ) (slots later : List (Option Channel)) (first old new : RunFiles) → CountsKept told clashes slots later old new → RoseBy (many + broken_off slots) first.faults old.faults → RoseBy (told + many + broken_off later) first.faults new.faults
+more_faults many told clashes slots later first old new kept rose =
+    let off = kept.off in
+    RoseBy-fewer (told + many + broken_off later) (many + broken_off slots + kept.more) first.faults new.faults (omega (arith, off))
+    (RoseBy-then (many + broken_off slots) kept.more first.faults old.faults new.faults rose kept.rose)
 
-tally_until : (tally : Tally) (first old new : RunFiles) → StaysOrRose old.faults new.faults → IsAnswerSo (Yes tally) first old → IsAnswerSo (Yes tally) first new
-tally_until Plain first old new faults so = tt
-tally_until (Front sent ended) first old new faults so = tt
-tally_until (Channels states) first old new faults so = λ n is. rose_then first.faults old.faults new.faults (so n is) faults
-tally_until (Report report) first old new faults so = tt
-
-answer_until : (answer : Answer) (first old new : RunFiles) → StaysOrRose old.faults new.faults → StaysOrRose old.clashes new.clashes → IsAnswerSo answer first old → IsAnswerSo answer first new
-answer_until (Yes tally) first old new faults clashes so = tally_until tally first old new faults so
-answer_until (No NotReady) first old new faults clashes so = tt
-answer_until (No (Exists channel)) first old new faults clashes so = rose_then first.clashes old.clashes new.clashes so clashes
-answer_until (No (Fault channel)) first old new faults clashes so = rose_then first.faults old.faults new.faults so faults
-answer_until (No BufferRefused) first old new faults clashes so = tt
+more_clashes : (many clashes told : ℕ) (slots later : List (Option Channel)) (first old new : RunFiles) → CountsKept told clashes slots later old new → RoseBy many first.clashes old.clashes → RoseBy (clashes + many) first.clashes new.clashes
+more_clashes many clashes told slots later first old new kept rose =
+    RoseBy-fewer (clashes + many) (many + clashes) first.clashes new.clashes (omega arith) (RoseBy-then many clashes first.clashes old.clashes new.clashes rose kept.clashed)
 
 -- a call by which no turn was answered
-later_reasons : (slots later : List (Option Channel)) (ports more : List Access) (first old new : RunFiles) (turns : List MemberTurn) → CountsKept slots later old new → (HasRefusedAsk ports → HasRefusedAsk more) → GivesReasons slots ports first old turns → GivesReasons later more first new turns
+later_reasons : (slots later : List (Option Channel)) (ports more : List Access) (first old new : RunFiles) (turns : List MemberTurn) → CountsKept 0 0 slots later old new → (HasRefusedAsk ports → HasRefusedAsk more) → GivesReasons slots ports first old turns → GivesReasons later more first new turns
 later_reasons slots later ports more first old new turns kept stay gives = record {
-  faults = counts_then first.faults old.faults new.faults gives.faults kept.faults;
-  clashes = counts_then first.clashes old.clashes new.clashes gives.clashes kept.clashes;
-  broken = λ is. elim (kept.broken is) as (λ w. Rose first.faults new.faults) [
-    | inl was ↦ rose_then first.faults old.faults new.faults (gives.broken was) kept.faults
-    | inr rose ↦ then_rose first.faults old.faults new.faults gives.faults rose
-  ];
-  answers = λ t answer stands is. answer_until answer first old new kept.faults kept.clashes (gives.answers t answer stands is);
+  faults = RoseBy-fewer (faults_told turns + broken_off later) (0 + faults_told turns + broken_off later) first.faults new.faults (omega arith) (more_faults (faults_told turns) 0 0 slots later first old new kept gives.faults);
+  clashes = RoseBy-fewer (clashes_told turns) (0 + clashes_told turns) first.clashes new.clashes (omega arith) (more_clashes (clashes_told turns) 0 0 slots later first old new kept gives.clashes);
+  in_turns = turns_later turns first old new (kept_fell 0 0 slots later old new kept) gives.in_turns;
   buffers = λ t stands is. stay (gives.buffers t stands is);
 }
 
--- one turn more, by its answer
-one_more : (slots : List (Option Channel)) (ports : List Access) (first new : RunFiles) (turns : List MemberTurn) (t : MemberTurn) → ((answer : Answer) → t.answer ≡ Some answer → IsAnswerSo answer first new) → (t.answer ≡ Some (No BufferRefused) → HasRefusedAsk ports) → GivesReasons slots ports first new turns
-    → GivesReasons slots ports first new (t ∷ turns)
-one_more slots ports first new turns t so refused gives = record {
-  faults = gives.faults;
-  clashes = gives.clashes;
-  broken = gives.broken;
-  answers = λ u answer stands is. elim stands as (λ w. IsAnswerSo answer first new) [
-    | inl same ↦ so answer (ap (λ (x : MemberTurn). x.answer) same ∙ is)
-    | inr old ↦ gives.answers u answer old is
-  ];
-  buffers = λ u stands is. elim stands as (λ w. HasRefusedAsk ports) [
-    | inl same ↦ refused (ap (λ (x : MemberTurn). x.answer) same ∙ is)
-    | inr old ↦ gives.buffers u old is
-  ];
-}
+-- the same with nothing told
+untold : (told clashes : ℕ) (slots later : List (Option Channel)) (old new : RunFiles) → CountsKept told clashes slots later old new → CountsKept 0 0 slots later old new
+untold told clashes slots later old new kept =
+    let off = kept.off in
+    record { more = kept.more; off = omega (arith, off); rose = kept.rose; clashed = RoseBy-fewer 0 clashes old.clashes new.clashes (omega arith) kept.clashed }
+
+-- one turn more
+turn_more_reasons : (slots later : List (Option Channel)) (ports more : List Access) (first old new : RunFiles) (turns : List MemberTurn) (t : MemberTurn) → CountsKept (counted_of faults_of_answer t.answer) (counted_of clashes_of_answer t.answer) slots later old new
+    → (t.transition ≡ Start → (answer : Answer) → t.answer ≡ Some answer → IsStartSo answer old new) → (t.answer ≡ Some (No BufferRefused) → HasRefusedAsk more) → (HasRefusedAsk ports → HasRefusedAsk more)
+    → GivesReasons slots ports first old turns → GivesReasons later more first new (t ∷ turns)
+turn_more_reasons slots later ports more first old new turns t kept start refused stay gives =
+    let told : ℕ = counted_of faults_of_answer t.answer in
+    let clashes : ℕ = counted_of clashes_of_answer t.answer in
+    let all_told : faults_told (t ∷ turns) ≡ told + faults_told turns = sum_by-cons (λ (u : MemberTurn). counted_of faults_of_answer u.answer) t turns in
+    let all_clashes : clashes_told (t ∷ turns) ≡ clashes + clashes_told turns = sum_by-cons (λ (u : MemberTurn). counted_of clashes_of_answer u.answer) t turns in
+    record {
+      faults = subst (λ (many : ℕ). RoseBy (many + broken_off later) first.faults new.faults) (sym all_told) (more_faults (faults_told turns) told clashes slots later first old new kept gives.faults);
+      clashes = subst (λ (many : ℕ). RoseBy many first.clashes new.clashes) (sym all_clashes) (more_clashes (clashes_told turns) clashes told slots later first old new kept gives.clashes);
+      in_turns = (old, (new, (gives.in_turns, record { start = start; within = kept_fell told clashes slots later old new kept; since = fell_same new })));
+      buffers = λ u stands is. elim stands as (λ w. HasRefusedAsk more) [
+        | inl same ↦ refused (ap (λ (x : MemberTurn). x.answer) same ∙ is)
+        | inr before ↦ stay (gives.buffers u before is)
+      ];
+    }
 
 pub turn_reasons : (t : LoggerTurn) (first : RunFiles) (turns : List MemberTurn) → TakesTurn t → GivesReasons t.before.slots t.before.ports first t.before.files turns → GivesReasons t.after.slots t.after.ports first t.after.files (logger_turn t.transition t.order t.dump t.answer ∷ turns)
 turn_reasons t first turns takes gives =
-    let turned : Turned t = turned_by t.transition t takes in
+    let turned : Turned t.transition t = turned_by t.transition t takes in
     let asks : TurnAsks t = turn_asks t takes in
-    one_more t.after.slots t.after.ports first t.after.files turns (logger_turn t.transition t.order t.dump t.answer)
-    (λ answer is. answer_since answer first t.before.files t.after.files gives.faults gives.clashes (turned.answered answer is)) asks.refused
-    (later_reasons t.before.slots t.after.slots t.before.ports t.after.ports first t.before.files t.after.files turns turned.kept asks.stay gives)
+    turn_more_reasons t.before.slots t.after.slots t.before.ports t.after.ports first t.before.files t.after.files turns (logger_turn t.transition t.order t.dump t.answer) turned.kept turned.start asks.refused asks.stay gives
 
 pub pull_reasons : (n : ℕ) (answer : Pulled) (a b : LoggerMoment) (first : RunFiles) (turns : List MemberTurn) → PullsNumbered n answer a b → GivesReasons a.slots a.ports first a.files turns → GivesReasons b.slots b.ports first b.files turns
 pull_reasons n answer a b first turns pulls gives = later_reasons a.slots b.slots a.ports b.ports first a.files b.files turns (pulled_kept n answer (slot_at a.slots n) a b refl pulls) (pull_asks n answer a b pulls) gives
 
-answered_reasons : (slots : List (Option Channel)) (ports : List Access) (first new : RunFiles) (turns : List MemberTurn) (answer : Answer) → IsAnswerSo answer first new → (answer ≡ No BufferRefused → ⊥) → GivesReasons slots ports first new turns
-    → GivesReasons slots ports first new (latest_answered turns (Some answer))
-answered_reasons slots ports first new [] answer so other gives = gives
-answered_reasons slots ports first new (t ∷ ts) answer so other gives =
-    one_more slots ports first new ts (record t { answer = Some answer })
-    (λ given is. let same : answer ≡ given = cc (is) in subst (λ (a : Answer). IsAnswerSo a first new) same so) (λ is. absurd (other (let same : answer ≡ No BufferRefused = cc (is) in same)))
-    (record { faults = gives.faults; clashes = gives.clashes; broken = gives.broken; answers = λ u given stands is. gives.answers u given (inr stands) is; buffers = λ u stands is. gives.buffers u (inr stands) is })
+-- The latest turn, if there is one, is answered with these states.
+answered_reasons : (slots later : List (Option Channel)) (ports : List Access) (first old new : RunFiles) (states : List ChannelState) (turns : List MemberTurn) → CountsKept (sum_by faults_of_state states) 0 slots later old new → GivesReasons slots ports first old turns
+    → GivesReasons later ports first new (latest_answered turns (Some (Yes (Channels states))))
+answered_reasons slots later ports first old new states [] kept gives = later_reasons slots later ports ports first old new [] (untold (sum_by faults_of_state states) 0 slots later old new kept) (λ had. had) gives
+answered_reasons slots later ports first old new states (t ∷ ts) kept gives =
+    let answer : Answer = Yes (Channels states) in
+    let told : ℕ = sum_by faults_of_state states in
+    let before : faults_told (t ∷ ts) ≡ counted_of faults_of_answer t.answer + faults_told ts = sum_by-cons (λ (u : MemberTurn). counted_of faults_of_answer u.answer) t ts in
+    let behind : faults_told (record t { answer = Some answer } ∷ ts) ≡ told + faults_told ts = sum_by-cons (λ (u : MemberTurn). counted_of faults_of_answer u.answer) (record t { answer = Some answer }) ts in
+    let clashes_before : clashes_told (t ∷ ts) ≡ counted_of clashes_of_answer t.answer + clashes_told ts = sum_by-cons (λ (u : MemberTurn). counted_of clashes_of_answer u.answer) t ts in
+    let clashes_behind : clashes_told (record t { answer = Some answer } ∷ ts) ≡ 0 + clashes_told ts = sum_by-cons (λ (u : MemberTurn). counted_of clashes_of_answer u.answer) (record t { answer = Some answer }) ts in
+    let so = gives.in_turns in
+    let last = so.1.1.1 in
+    record {
+      faults = RoseBy-fewer (faults_told (record t { answer = Some answer } ∷ ts) + broken_off later) (told + faults_told (t ∷ ts) + broken_off later) first.faults new.faults (omega (arith, before, behind)) (more_faults (faults_told (t ∷ ts)) told 0 slots later first old new kept gives.faults);
+      clashes = RoseBy-fewer (clashes_told (record t { answer = Some answer } ∷ ts)) (0 + clashes_told (t ∷ ts)) first.clashes new.clashes (omega (arith, clashes_before, clashes_behind)) (more_clashes (clashes_told (t ∷ ts)) 0 told slots later first old new kept gives.clashes);
+      in_turns = (
+        so.0,
+        (
+          so.1.0,
+          (
+            so.1.1.0,
+            record {
+              start = λ is given told_so. let same : answer ≡ given = cc (told_so) in subst (λ (a : Answer). IsStartSo a so.0 so.1.0) same tt;
+              within = last.within;
+              since = fell_then so.1.0 old new last.since (kept_fell told 0 slots later old new kept);
+            },
+          ),
+        ),
+      );
+      buffers = λ u stands is. elim stands as (λ w. HasRefusedAsk ports) [
+        | inl same ↦ absurd (let other : Some answer ≡ Some (No BufferRefused) = ap (λ (x : MemberTurn). x.answer) same ∙ is in cc (other))
+        | inr earlier ↦ gives.buffers u (inr earlier) is
+      ];
+    }
 
 waiting_reasons : (f : LoggerFinish) (ports : List Access) (first : RunFiles) (turns : List MemberTurn) → f.answer ≡ None → f.later_slots ≡ f.slots → f.later_files ≡ f.files → GivesReasons f.slots ports first f.files turns → GivesReasons f.later_slots ports first f.later_files (latest_answered turns f.answer)
 waiting_reasons f ports first turns none slots files gives = rw (none, slots, files) gives
@@ -505,25 +577,26 @@ finish_by : (f : LoggerFinish) (ports : List Access) (first : RunFiles) (turns :
 finish_by f ports first turns settled None leaves gives = waiting_reasons f ports first turns leaves.answer_is leaves.slots leaves.files gives
 finish_by f ports first turns false (Some time) leaves gives = waiting_reasons f ports first turns leaves.answer_is leaves.slots leaves.files gives
 finish_by f ports first turns true (Some time) ends gives =
-    let since = ends_all f time ends in
-    let so : IsAnswerSo (Yes (Channels ends.states)) first f.later_files = λ n is. elim (since.told n is) as (λ w. Rose first.faults f.later_files.faults) [
-      | inl off ↦ rose_then first.faults f.files.faults f.later_files.faults (gives.broken off) since.kept.faults
-      | inr rose ↦ then_rose first.faults f.files.faults f.later_files.faults gives.faults rose
-    ] in
-    let now : GivesReasons f.later_slots ports first f.later_files turns = later_reasons f.slots f.later_slots ports ports first f.files f.later_files turns since.kept (λ had. had) gives in
     subst (λ (answer : Option Answer). GivesReasons f.later_slots ports first f.later_files (latest_answered turns answer)) (sym ends.answer_is)
-    (answered_reasons f.later_slots ports first f.later_files turns (Yes (Channels ends.states)) so (λ e. cc (e)) now)
+    (answered_reasons f.slots f.later_slots ports first f.files f.later_files ends.states turns (ends_all f time ends) gives)
 
 pub finish_reasons : (f : LoggerFinish) (ports : List Access) (first : RunFiles) (turns : List MemberTurn) → FinishesLogger f → GivesReasons f.slots ports first f.files turns → GivesReasons f.later_slots ports first f.later_files (latest_answered turns f.answer)
 finish_reasons f ports first turns finishes gives = finish_by f ports first turns (list_all is_settled_slot f.slots) (waiting_stop f.run) finishes gives
 
 -- A logger whose channels are all idle, and that gave no answer.
+idle_off : (slots : List (Option Channel)) → AreIdle slots → broken_off slots ≡ 0
+idle_off [] idle = refl
+idle_off (None ∷ os) idle = idle_off os (λ n c there. idle (suc n) c there)
+idle_off (Some c ∷ os) idle =
+    let none : off_of c.stage ≡ 0 = ap off_of (idle 0 c refl) in
+    let rest : broken_off os ≡ 0 = idle_off os (λ n x there. idle (suc n) x there) in
+    omega (arith, none, rest, sum_by-cons (λ (slot : Option Channel). cond (passes (λ (x : Channel). is_some (broken_run x.stage)) slot) 1 0) (Some c) os)
+
 pub idle_reasons : (slots : List (Option Channel)) (ports : List Access) → AreIdle slots → (files : RunFiles) → GivesReasons slots ports files files []
 idle_reasons slots ports idle files = record {
-  faults = inl refl;
-  clashes = inl refl;
-  broken = λ is. absurd (let none : broken_run is.channel.stage ≡ None = ap broken_run (idle is.number is.channel is.there) in let off = is.off in cc (none, off));
-  answers = λ t answer stands is. absurd stands;
+  faults = subst (λ (off : ℕ). RoseBy (0 + off) files.faults files.faults) (sym (idle_off slots idle)) (by_same files.faults files.faults refl);
+  clashes = by_same files.clashes files.clashes refl;
+  in_turns = fell_same files;
   buffers = λ t stands is. absurd stands;
 }
 

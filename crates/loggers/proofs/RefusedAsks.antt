@@ -30,7 +30,8 @@ use Rattle.loggers.specs.Moments.{LoggerMoment, ChannelStep, StepsChannel, Steps
 use Rattle.loggers.specs.ChannelSteps.{OpensChannel, AbortsChannel, PullsChannel}
 use Rattle.loggers.specs.SlotPulls.{PullsSlot, PullsNumbered}
 use Rattle.loggers.specs.Turning.{BeginsBuffer, EndsBuffer, PausesBuffer, ResumesBuffer, LoggerTurn, OpensBelow, BeginsBelow, AbortsAll, UndoesOpens, UndoesBegins, StartsSo, TakesStart, TakesStop, TakesMark, TakesAbort, TakesTurnBy, TakesTurn, is_run_on, is_started, is_of_start, buffers_begun, start_answer}
-use Rattle.loggers.specs.Reasons.{IsRefusedAsk, HasRefusedAsk}
+use Rattle.loggers.specs.Reasons.{HasRefusedAsk}
+use Rattle.member_model.specs.FairCalls.{IsRefusedAsk}
 use Rattle.loggers.proofs.InTurns.{turns_keep}
 use Rattle.loggers.proofs.SlotLists.{same_or_other, got_there, kept_there}
 

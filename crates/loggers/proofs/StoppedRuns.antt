@@ -26,7 +26,7 @@ use Rattle.mid_logger.specs.Patterns.{file_name_by}
 use Rattle.mid_logger.specs.Channels.{KeepsOwnCalls, HasReadUntil, HasReadPart}
 use Rattle.mid_logger.specs.ChannelEnds.{HasClosed, HasBroken, last_bytes, state_ended}
 use Rattle.loggers.specs.declared.logged_run.LoggedRun.{LoggedRun}
-use Rattle.loggers.specs.LoggerStands.{logger_channel, logger_channels, logger_port, logger_ports, IsEndedSo, LeftRun, TellsStates, ToldSo, LoggerStands}
+use Rattle.loggers.specs.LoggerStands.{logger_channel, logger_channels, logger_port, logger_ports, IsEndedSo, LeftRun, TellsStates, ToldSo, LoggerHolds}
 
 -- A channel and its port.
 
@@ -191,7 +191,7 @@ record KnownChannel (absent : ℕ → ℕ) (run : Option LoggedRun) (stop_dump :
   is : channel ≡ logger_channel (absent c.spec.number) c
   numbered : channel.number ≡ number
 
-known : (absent : ℕ → ℕ) (run : Option LoggedRun) (stop_dump : Option (List ℕ)) (slots : List (Option Channel)) (ports : List Access) (turns : List MemberTurn) (seen : Seen) (index : ℕ) (channel : LoggerChannel) → LoggerStands run stop_dump slots ports turns seen
+known : (absent : ℕ → ℕ) (run : Option LoggedRun) (stop_dump : Option (List ℕ)) (slots : List (Option Channel)) (ports : List Access) (turns : List MemberTurn) (seen : Seen) (index : ℕ) (channel : LoggerChannel) → LoggerHolds run stop_dump slots ports turns seen
     → slice_get (logger_channels absent slots) index ≡ Some channel → KnownChannel absent run stop_dump slots ports turns seen channel
 known absent run stop_dump slots ports turns seen index channel stands at =
     let f : FoundChannel absent slots channel = found absent slots index channel at in
@@ -231,7 +231,7 @@ told_ended turns slots seen c a stop l = elim l.told as (λ w. EndedParts l.run.
   | inr is ↦ ended_parts l.run.ended stop.dump is
 ]
 
-pub keeps_contract : (run : Option LoggedRun) (stop_dump : Option (List ℕ)) (slots : List (Option Channel)) (ports : List Access) (turns : List MemberTurn) (seen : Seen) (absent : ℕ → ℕ) → LoggerStands run stop_dump slots ports turns seen
+pub keeps_contract : (run : Option LoggedRun) (stop_dump : Option (List ℕ)) (slots : List (Option Channel)) (ports : List Access) (turns : List MemberTurn) (seen : Seen) (absent : ℕ → ℕ) → LoggerHolds run stop_dump slots ports turns seen
     → KeepsLogger (logger_channels absent slots) (logger_ports ports) turns seen
 keeps_contract run stop_dump slots ports turns seen absent stands =
     let calls : (buffer : ℕ) → EachCall SendsNone (logger_ports ports buffer).own × AreOwnCalls (calls_after [] (logger_ports ports buffer).own) =

@@ -56,7 +56,7 @@ turn_more H t turns slots ports seen quiet stands = record {
   apart = stands.apart;
   calls = λ buffer a at.
       let kept : PortKept turns a.own = stands.calls buffer a at in
-      record { calls = kept.calls; told = each_map (IsEndTold turns) (IsEndTold (t ∷ turns)) a.own (end_more t turns) kept.told; once = λ are. kept.once are.1 };
+      record { calls = kept.calls; alone = kept.alone; told = each_map (IsEndTold turns) (IsEndTold (t ∷ turns)) a.own (end_more t turns) kept.told; once = λ are. kept.once are.1 };
   left = λ are stop states tells n c a stood at. elim tells.stands as (λ w. ToldSo (t ∷ turns) slots seen n c a stop states) [
     | inl same ↦ absurd (quiet states (ap (λ (u : MemberTurn). u.answer) same ∙ tells.answered))
     | inr old ↦

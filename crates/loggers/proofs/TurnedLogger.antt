@@ -28,7 +28,7 @@ use Rattle.mid_logger.specs.declared.stage.ChannelStage.{ChannelStage}
 use Rattle.mid_logger.specs.declared.stage.ChannelStage.TheVariants.{Idle, Asking, Writing, Draining, Drained, Broken}
 use Rattle.mid_logger.specs.Channels.{FileHead}
 use Rattle.mid_logger.specs.Beside.{CallsBeside, FilesBeside, OpensBeside, AbortsBeside, LeftBeside}
-use Rattle.mid_logger.specs.Keeping.{OpensKeep, OpensChange, FilesThere, AbortsKeep, AbortsChange, BegunKeeps, EndedKeeps, order_head}
+use Rattle.mid_logger.specs.Keeping.{OpensKeep, OpensAlone, OpensChange, FilesThere, AbortsKeep, AbortsChange, BegunKeeps, EndedKeeps, order_head}
 use Rattle.loggers.specs.declared.logged_run.LoggedRun.{LoggedRun}
 use Rattle.loggers.specs.declared.logged_run.RunPart.{RunPart}
 use Rattle.loggers.specs.declared.logged_run.RunPart.TheVariants.{Refused, Started, Stopping}
@@ -36,7 +36,8 @@ use Rattle.loggers.specs.Moments.{LoggerMoment, InTurn, StepsAt, IsLoggerReady, 
 use Rattle.loggers.specs.ChannelSteps.{AbortsChannel}
 use Rattle.loggers.specs.Turning.{LoggerTurn, LeavesLogger, BeginsBuffer, PausesBuffer, ResumesBuffer, AbortsAll, StartsAll, UndoesOpens, UndoesBegins, StartsSo, TakesStart, TakesStop, TakesMark, TakesAbort, TakesTurnBy, TakesTurn, is_run_on, IsIdleOutside, is_started, is_of_start, buffers_begun, start_answer, start_part}
 use Rattle.loggers.specs.NewLoggers.{NoneTakenBack}
-use Rattle.loggers.specs.LoggerStands.{logger_turn, IsStartedStage, IsStoppingStage, IsStagePart, IsStageOf, HasEndTurn, IsEndTold, HasHead, IsHeadTold, SlotsStand, IsInStarted, HasStart, IsPartTold, IsRunTold, LoggerStands}
+use Rattle.loggers.specs.FairAsks.{HasStart}
+use Rattle.loggers.specs.LoggerStands.{logger_turn, IsStartedStage, IsStoppingStage, IsStagePart, IsStageOf, HasEndTurn, IsEndTold, HasHead, IsHeadTold, SlotsStand, IsInStarted, IsPartTold, IsRunTold, LoggerHolds}
 use Rattle.loggers.proofs.InTurns.{turns_keep}
 use Rattle.loggers.proofs.StoppedRuns.{there_is}
 use Rattle.loggers.proofs.AbortMoves.{abort_stands}
@@ -56,6 +57,7 @@ pub record ChannelLaws : Type 0 where
   pub opens_beside : OpensBeside
   pub aborts_beside : AbortsBeside
   pub opens_keep : OpensKeep
+  pub opens_alone : OpensAlone
   pub opens_change : OpensChange
   pub file_there : FilesThere
   pub aborts_keep : AbortsKeep
@@ -65,11 +67,11 @@ pub record ChannelLaws : Type 0 where
 
 -- The parts of what a logger keeps.
 
-known_of : (run : Option LoggedRun) (stop_dump : Option (List ℕ)) (m : LoggerMoment) (turns : List MemberTurn) → LoggerStands run stop_dump m.slots m.ports turns m.files.seen → TurnsKnown run stop_dump turns
+known_of : (run : Option LoggedRun) (stop_dump : Option (List ℕ)) (m : LoggerMoment) (turns : List MemberTurn) → LoggerHolds run stop_dump m.slots m.ports turns m.files.seen → TurnsKnown run stop_dump turns
 known_of run stop_dump m turns stands = record { starts = stands.starts; stops = stands.stops; told = stands.told; current = stands.current; not_off = stands.not_off; going = stands.going; unready = stands.unready }
 
 all_of : (run : Option LoggedRun) (stop_dump : Option (List ℕ)) (m : LoggerMoment) (turns : List MemberTurn) → TurnsKnown run stop_dump turns → IsLoggerReady m.slots m.ports m.files.seen → SlotsStand (IsHeadTold turns) turns m.slots m.ports m.files.seen
-    → ((n : ℕ) (c : Channel) (a : Access) → slot_at m.slots n ≡ Some c → slice_get m.ports c.spec.buffer ≡ Some a → IsStageOf run turns a.own c.stage) → LoggerStands run stop_dump m.slots m.ports turns m.files.seen
+    → ((n : ℕ) (c : Channel) (a : Access) → slot_at m.slots n ≡ Some c → slice_get m.ports c.spec.buffer ≡ Some a → IsStageOf run turns a.own c.stage) → LoggerHolds run stop_dump m.slots m.ports turns m.files.seen
 all_of run stop_dump m turns known ready standing stages = record {
   standing = standing;
   served = ready.served;
@@ -107,14 +109,14 @@ stage_more None t turns own stage is = is
 stage_more (Some r) t turns own stage is = part_more t turns own r.part r.start stage is
 
 -- where nothing is done at a turn that tells no states
-left_as : (run : Option LoggedRun) (stop_dump : Option (List ℕ)) (m : LoggerMoment) (t : MemberTurn) (turns : List MemberTurn) → TellsNone t → TurnsKnown run stop_dump (t ∷ turns) → IsLoggerReady m.slots m.ports m.files.seen → LoggerStands run stop_dump m.slots m.ports turns m.files.seen
-    → LoggerStands run stop_dump m.slots m.ports (t ∷ turns) m.files.seen
+left_as : (run : Option LoggedRun) (stop_dump : Option (List ℕ)) (m : LoggerMoment) (t : MemberTurn) (turns : List MemberTurn) → TellsNone t → TurnsKnown run stop_dump (t ∷ turns) → IsLoggerReady m.slots m.ports m.files.seen → LoggerHolds run stop_dump m.slots m.ports turns m.files.seen
+    → LoggerHolds run stop_dump m.slots m.ports (t ∷ turns) m.files.seen
 left_as run stop_dump m t turns quiet known ready stands =
     all_of run stop_dump m (t ∷ turns) known ready (told_more t turns m.slots m.ports m.files.seen quiet stands.standing) (λ n c a stood at. stage_more run t turns a.own c.stage (stands.stages n c a stood at))
 
 left_turn : (t : LoggerTurn) (turns : List MemberTurn) (answer : Answer) → LeavesLogger t answer → TellsNone (logger_turn t.transition t.order t.dump (Some answer)) → TurnsKnown t.run t.stop_dump (logger_turn t.transition t.order t.dump (Some answer) ∷ turns)
-    → IsLoggerReady t.before.slots t.before.ports t.before.files.seen → LoggerStands t.run t.stop_dump t.before.slots t.before.ports turns t.before.files.seen
-    → LoggerStands t.later_run t.later_stop_dump t.after.slots t.after.ports (logger_turn t.transition t.order t.dump t.answer ∷ turns) t.after.files.seen
+    → IsLoggerReady t.before.slots t.before.ports t.before.files.seen → LoggerHolds t.run t.stop_dump t.before.slots t.before.ports turns t.before.files.seen
+    → LoggerHolds t.later_run t.later_stop_dump t.after.slots t.after.ports (logger_turn t.transition t.order t.dump t.answer ∷ turns) t.after.files.seen
 left_turn t turns answer leaves quiet known ready stands =
     rw (leaves.answer_is, leaves.run, leaves.stop_dump, leaves.moment) (left_as t.run t.stop_dump t.before (logger_turn t.transition t.order t.dump (Some answer)) turns quiet known ready stands)
 
@@ -161,7 +163,7 @@ started_all laws order dump begun turns a b small none ready starts to =
     let none_opened : NoneTakenBack opened.ports = none_turns (λ buffer. BeginsBuffer order.start buffer) (length a.ports) opened b
     (λ k x y step. none_called (Begin order.start (Ok step.0)) k x (record y { slots = x.slots }) step.1.marks) starts.begins none in
     let all : OpenedTo order dump turns (length a.slots) (length a.ports) (length a.slots) opened =
-    opened_below laws.left laws.opens_keep laws.opens_change laws.file_there laws.opens_beside laws.files order dump turns (length a.slots) (length a.ports) (length a.slots) a opened small none_opened starts.opens to in
+    opened_below laws.left laws.opens_keep laws.opens_alone laws.opens_change laws.file_there laws.opens_beside laws.files order dump turns (length a.slots) (length a.ports) (length a.slots) a opened small none_opened starts.opens to in
     let end : BegunTo (IsOrderHead order dump) turns order.start (length a.ports) (length a.ports) b =
     begun_below laws.left laws.begun (IsOrderHead order dump) turns order.start (length a.ports) (length a.ports) opened b starts.begins (all_asking order dump turns (length a.slots) (length a.ports) opened all) in
     record { standing = end.standing; stages = λ n c stood. end.done n c stood (omega (arith, ready.served n c stood, end.ports)) }
@@ -170,7 +172,7 @@ undone_opens : ChannelLaws → (order : Order) (dump : List ℕ) (why : Why) (be
     → OpenedTo order dump turns (length a.slots) (length a.ports) 0 a → SlotsStand (IsOrderHead order dump) turns b.slots b.ports b.files.seen
 undone_opens laws order dump why begun turns a b small none undoes to =
     aborted_all laws (IsOrderHead order dump) turns (length undoes.refused.slots) undoes.refused b undoes.aborts
-    (open_refused laws.left laws.opens_keep laws.opens_change laws.file_there laws.opens_beside laws.files order dump why turns (length a.slots) (length a.ports) a undoes.refused small (none_aborts undoes.refused b undoes.aborts none) undoes.opens to)
+    (open_refused laws.left laws.opens_keep laws.opens_alone laws.opens_change laws.file_there laws.opens_beside laws.files order dump why turns (length a.slots) (length a.ports) a undoes.refused small (none_aborts undoes.refused b undoes.aborts none) undoes.opens to)
 
 undone_begins : ChannelLaws → (order : Order) (dump : List ℕ) (why : Why) (begun : ℕ) (turns : List MemberTurn) (a b : LoggerMoment) → length dump ≤ record_limit → NoneTakenBack b.ports → UndoesBegins order dump why begun a b
     → OpenedTo order dump turns (length a.slots) (length a.ports) 0 a → SlotsStand (IsOrderHead order dump) turns b.slots b.ports b.files.seen
@@ -182,7 +184,7 @@ undone_begins laws order dump why begun turns a b small none undoes to =
     let none_opened : NoneTakenBack opened.ports = none_turns (λ buffer. BeginsBuffer order.start buffer) begun opened undoes.begins.begun
     (λ k x y step. none_called (Begin order.start (Ok step.0)) k x (record y { slots = x.slots }) step.1.marks) undoes.begins.begins none_begun in
     let all : OpenedTo order dump turns (length a.slots) (length a.ports) (length a.slots) opened =
-    opened_below laws.left laws.opens_keep laws.opens_change laws.file_there laws.opens_beside laws.files order dump turns (length a.slots) (length a.ports) (length a.slots) a opened small none_opened undoes.opens to in
+    opened_below laws.left laws.opens_keep laws.opens_alone laws.opens_change laws.file_there laws.opens_beside laws.files order dump turns (length a.slots) (length a.ports) (length a.slots) a opened small none_opened undoes.opens to in
     aborted_all laws (IsOrderHead order dump) turns (length refused.slots) refused b undoes.aborts
     (begin_refused laws.left laws.calls laws.begun (IsOrderHead order dump) turns order.start (length a.ports) begun opened refused undoes.begins (all_asking order dump turns (length a.slots) (length a.ports) opened all))
 
@@ -201,11 +203,11 @@ record TurnGiven (t : LoggerTurn) (turns : List MemberTurn) : Type 0 where
   later_ready : IsLoggerReady t.after.slots t.after.ports t.after.files.seen
   idle : IsIdleOutside t.run t.before.slots
   later_idle : IsIdleOutside t.later_run t.after.slots
-  stands : LoggerStands t.run t.stop_dump t.before.slots t.before.ports turns t.before.files.seen
+  stands : LoggerHolds t.run t.stop_dump t.before.slots t.before.ports turns t.before.files.seen
 
 -- what stands behind a turn
 abbrev TurnStands : LoggerTurn → List MemberTurn → Type 0
-TurnStands t turns = LoggerStands t.later_run t.later_stop_dump t.after.slots t.after.ports (logger_turn t.transition t.order t.dump t.answer ∷ turns) t.after.files.seen
+TurnStands t turns = LoggerHolds t.later_run t.later_stop_dump t.after.slots t.after.ports (logger_turn t.transition t.order t.dump t.answer ∷ turns) t.after.files.seen
 
 -- a channel does not refuse a run as not ready
 not_unready : (why : Why) (spec : ChannelSpec) (name : List ℕ) (a b : ChannelAt) → RefusesRun why spec name a b → why ≢ NotReady
@@ -216,7 +218,7 @@ not_unready BufferRefused spec name a b refuses is = cc (is)
 
 start_result : ChannelLaws → (t : LoggerTurn) (turns : List MemberTurn) (r : Result ⊤ Why) (begun : ℕ) → length (unwrap_or t.dump []) ≤ record_limit → TurnGiven t turns → AreIdle t.before.slots → StartsSo r t.order (unwrap_or t.dump []) begun t.before t.after
     → t.later_run ≡ Some (record { start = t.order.start; begun = begun; part = start_part r })
-    → LoggerStands (Some (record { start = t.order.start; begun = begun; part = start_part r })) None t.after.slots t.after.ports (logger_turn Start t.order t.dump (Some (start_answer r)) ∷ turns) t.after.files.seen
+    → LoggerHolds (Some (record { start = t.order.start; begun = begun; part = start_part r })) None t.after.slots t.after.ports (logger_turn Start t.order t.dump (Some (start_answer r)) ∷ turns) t.after.files.seen
 start_result laws t turns (Ok done) begun small given idle starts run =
     let turn : MemberTurn = logger_turn Start t.order t.dump (Some (Yes Plain)) in
     let dump : List ℕ = unwrap_or t.dump [] in
@@ -332,7 +334,7 @@ stop_stands laws t turns true is on given takes =
 -- A pause and a resume.
 
 stayed : (t : LoggerTurn) (turns : List MemberTurn) (turn : MemberTurn) (r : LoggedRun) → TurnGiven t turns → t.run ≡ Some r → IsInStarted (Some r) t.order.start → TurnsKnown t.run t.stop_dump (turn ∷ turns) → HaveStayed (IsHeadTold (turn ∷ turns)) (turn ∷ turns) t.before t.after
-    → LoggerStands t.run t.stop_dump t.after.slots t.after.ports (turn ∷ turns) t.after.files.seen
+    → LoggerHolds t.run t.stop_dump t.after.slots t.after.ports (turn ∷ turns) t.after.files.seen
 stayed t turns turn r given is on known have = all_of t.run t.stop_dump t.after (turn ∷ turns) known given.later_ready have.standing
     (λ n c a stood at. stage_started t.run r t.order.start (turn ∷ turns) a.own c.stage is on (going_stages t turns r given is on n c (subst (λ (l : List (Option Channel)). slot_at l n ≡ Some c) have.same stood)))
 
@@ -410,7 +412,7 @@ turn_by laws StartAbort t turns is small given takes = abort_turn laws t turns (
 
 -- what a logger keeps before a turn it keeps behind it, with its answer
 pub turn_stands : ChannelLaws → (t : LoggerTurn) (turns : List MemberTurn) → TakesTurn t → length (unwrap_or t.dump []) ≤ record_limit → IsLoggerReady t.before.slots t.before.ports t.before.files.seen → IsLoggerReady t.after.slots t.after.ports t.after.files.seen
-    → IsIdleOutside t.run t.before.slots → IsIdleOutside t.later_run t.after.slots → NoneOpen turns → NoneTakenBack t.after.ports → LoggerStands t.run t.stop_dump t.before.slots t.before.ports turns t.before.files.seen
-    → LoggerStands t.later_run t.later_stop_dump t.after.slots t.after.ports (logger_turn t.transition t.order t.dump t.answer ∷ turns) t.after.files.seen
+    → IsIdleOutside t.run t.before.slots → IsIdleOutside t.later_run t.after.slots → NoneOpen turns → NoneTakenBack t.after.ports → LoggerHolds t.run t.stop_dump t.before.slots t.before.ports turns t.before.files.seen
+    → LoggerHolds t.later_run t.later_stop_dump t.after.slots t.after.ports (logger_turn t.transition t.order t.dump t.answer ∷ turns) t.after.files.seen
 turn_stands laws t turns takes small ready later_ready idle later_idle open_before none stands =
     turn_by laws t.transition t turns refl small (record { open_before = open_before; none = none; ready = ready; later_ready = later_ready; idle = idle; later_idle = later_idle; stands = stands }) takes

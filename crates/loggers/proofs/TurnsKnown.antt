@@ -18,7 +18,8 @@ use Rattle.loggers.specs.declared.logged_run.LoggedRun.{LoggedRun}
 use Rattle.loggers.specs.declared.logged_run.RunPart.{RunPart}
 use Rattle.loggers.specs.declared.logged_run.RunPart.TheVariants.{Refused, Started, Stopping}
 use Rattle.loggers.specs.Turning.{is_run_on, is_started, is_of_start}
-use Rattle.loggers.specs.LoggerStands.{logger_turn, HasEndTurn, HasStart, IsPartTold, IsRunTold, IsInStarted, HasCurrentRun, IsNotCalledOff, IsGoing, IsInRun, AreUnreadyInRuns, StopsTellStates}
+use Rattle.loggers.specs.FairAsks.{HasStart}
+use Rattle.loggers.specs.LoggerStands.{logger_turn, HasEndTurn, IsPartTold, IsRunTold, IsInStarted, HasCurrentRun, IsNotCalledOff, IsStillGoing, HasRunOn, AreUnreadyInRuns, StopsTellStates}
 
 pub record TurnsKnown (run : Option LoggedRun) (stop_dump : Option (List ℕ)) (turns : List MemberTurn) : Type 0 where
   pub starts : (start : MemberTurn) → (answer : Answer) → HasTurn turns start → start.transition ≡ Start → start.answer ≡ Some answer → IsStartAnswer answer
@@ -26,7 +27,7 @@ pub record TurnsKnown (run : Option LoggedRun) (stop_dump : Option (List ℕ)) (
   pub told : IsRunTold run turns stop_dump
   pub current : AreEngineTurns turns → HasCurrentRun run turns
   pub not_off : AreEngineTurns turns → IsNotCalledOff run turns
-  pub going : AreEngineTurns turns → IsGoing run turns
+  pub going : AreEngineTurns turns → IsStillGoing run turns
   pub unready : AreEngineTurns turns → AreUnreadyInRuns turns
 
 -- The run that is on.
@@ -189,17 +190,17 @@ off_same r s turns same before x u is has called number =
 
 -- The run that goes on.
 
-going_none : (turns : List MemberTurn) → IsGoing None turns
+going_none : (turns : List MemberTurn) → IsStillGoing None turns
 going_none turns r is = absurd (cc (is))
 
 -- a run that does not go on
-going_not : (s : LoggedRun) (turns : List MemberTurn) → s.part ≢ Started → IsGoing (Some s) turns
+going_not : (s : LoggedRun) (turns : List MemberTurn) → s.part ≢ Started → IsStillGoing (Some s) turns
 going_not s turns other r is part has =
     let same : s ≡ r = cc (is) in
     other (ap (λ (x : LoggedRun). x.part) same ∙ part)
 
 -- a turn more, which does not end that run
-going_more : (run : Option LoggedRun) (t : MemberTurn) (turns : List MemberTurn) → ((t.transition ≡ Stop) ⊎ (t.transition ≡ StartAbort) → is_started run t.order.start ≡ true → ⊥) → IsGoing run turns → IsGoing run (t ∷ turns)
+going_more : (run : Option LoggedRun) (t : MemberTurn) (turns : List MemberTurn) → ((t.transition ≡ Stop) ⊎ (t.transition ≡ StartAbort) → is_started run t.order.start ≡ true → ⊥) → IsStillGoing run turns → IsStillGoing run (t ∷ turns)
 going_more run t turns other before r is part has = elim has.stands as (λ w. ⊥) [
   | inl same ↦
       let number : r.start ≡ t.order.start = sym (ap (λ (u : MemberTurn). u.order.start) same ∙ has.of) in
@@ -219,7 +220,7 @@ ends_none t k is stop abort ends = elim ends as (λ w. ⊥) [
 ]
 
 -- the run of a start that comes now
-going_new : (t : MemberTurn) (turns : List MemberTurn) (s : LoggedRun) → t.transition ≡ Start → AreEngineTurns (t ∷ turns) → s.start ≡ t.order.start → IsGoing (Some s) (t ∷ turns)
+going_new : (t : MemberTurn) (turns : List MemberTurn) (s : LoggedRun) → t.transition ≡ Start → AreEngineTurns (t ∷ turns) → s.start ≡ t.order.start → IsStillGoing (Some s) (t ∷ turns)
 going_new t turns s starts are of r is part has =
     let same_run : s ≡ r = cc (is) in
     let new : IsNewStart t.order.start turns = subst (λ (k : Transition). IsNextTurn k t.order.start turns) starts are.0 in
@@ -238,12 +239,12 @@ started_of_start (Some r) start off on = (let is : IsInStarted (Some r) start = 
 
 -- A start that finds a run on.
 
-part_in_run : (part : RunPart) (r : LoggedRun) (turns : List MemberTurn) (stop_dump : Option (List ℕ)) → r.part ≡ part → is_run_on (Some (record r { part = part })) ≡ true → NoneOpen turns → IsPartTold part turns r.start stop_dump → IsGoing (Some r) turns → IsInRun turns
+part_in_run : (part : RunPart) (r : LoggedRun) (turns : List MemberTurn) (stop_dump : Option (List ℕ)) → r.part ≡ part → is_run_on (Some (record r { part = part })) ≡ true → NoneOpen turns → IsPartTold part turns r.start stop_dump → IsStillGoing (Some r) turns → HasRunOn turns
 part_in_run Refused r turns stop_dump is on none told going = absurd (cc (on))
 part_in_run Started r turns stop_dump is on none told going = record { start = r.start; begin = told.1.0; is_start = told.1.1; going = going r refl is }
 part_in_run (Stopping time) r turns stop_dump is on none told going = absurd (subst (λ (l : List MemberTurn). NoneOpen l) told.0.latest none)
 
-in_run : (run : Option LoggedRun) (turns : List MemberTurn) (stop_dump : Option (List ℕ)) → is_run_on run ≡ true → NoneOpen turns → IsRunTold run turns stop_dump → IsGoing run turns → IsInRun turns
+in_run : (run : Option LoggedRun) (turns : List MemberTurn) (stop_dump : Option (List ℕ)) → is_run_on run ≡ true → NoneOpen turns → IsRunTold run turns stop_dump → IsStillGoing run turns → HasRunOn turns
 in_run None turns stop_dump on none told going = absurd (cc (on))
 in_run (Some r) turns stop_dump on none told going = part_in_run r.part r turns stop_dump refl on none told going
 
@@ -252,7 +253,7 @@ in_run (Some r) turns stop_dump on none told going = part_in_run r.part r turns 
 -- a start that is refused
 pub refused_known : (run later : Option LoggedRun) (stop_dump later_dump : Option (List ℕ)) (turns : List MemberTurn) (order : Order) (dump : Option (List ℕ)) (why : Why) → TurnsKnown run stop_dump turns
     → IsRunTold later (logger_turn Start order dump (Some (No why)) ∷ turns) later_dump → (AreEngineTurns (logger_turn Start order dump (Some (No why)) ∷ turns) → IsNotCalledOff later (logger_turn Start order dump (Some (No why)) ∷ turns))
-    → (AreEngineTurns (logger_turn Start order dump (Some (No why)) ∷ turns) → IsGoing later (logger_turn Start order dump (Some (No why)) ∷ turns)) → (AreEngineTurns turns → why ≡ NotReady → IsInRun turns) → TurnsKnown later later_dump (logger_turn Start order dump (Some (No why)) ∷ turns)
+    → (AreEngineTurns (logger_turn Start order dump (Some (No why)) ∷ turns) → IsStillGoing later (logger_turn Start order dump (Some (No why)) ∷ turns)) → (AreEngineTurns turns → why ≡ NotReady → HasRunOn turns) → TurnsKnown later later_dump (logger_turn Start order dump (Some (No why)) ∷ turns)
 refused_known run later stop_dump later_dump turns order dump why known told not_off going found =
     let t : MemberTurn = logger_turn Start order dump (Some (No why)) in
     record {
@@ -367,7 +368,7 @@ left_resume run stop_dump turns order dump none known =
 
 abort_known : (run later : Option LoggedRun) (stop_dump later_dump : Option (List ℕ)) (turns : List MemberTurn) (order : Order) (dump : Option (List ℕ)) → TurnsKnown run stop_dump turns → IsRunTold later (logger_turn StartAbort order dump (Some (Yes Plain)) ∷ turns) later_dump
     → (AreEngineTurns (logger_turn StartAbort order dump (Some (Yes Plain)) ∷ turns) → IsNotCalledOff later (logger_turn StartAbort order dump (Some (Yes Plain)) ∷ turns))
-    → (AreEngineTurns (logger_turn StartAbort order dump (Some (Yes Plain)) ∷ turns) → IsGoing later (logger_turn StartAbort order dump (Some (Yes Plain)) ∷ turns)) → TurnsKnown later later_dump (logger_turn StartAbort order dump (Some (Yes Plain)) ∷ turns)
+    → (AreEngineTurns (logger_turn StartAbort order dump (Some (Yes Plain)) ∷ turns) → IsStillGoing later (logger_turn StartAbort order dump (Some (Yes Plain)) ∷ turns)) → TurnsKnown later later_dump (logger_turn StartAbort order dump (Some (Yes Plain)) ∷ turns)
 abort_known run later stop_dump later_dump turns order dump known told not_off going =
     let t : MemberTurn = logger_turn StartAbort order dump (Some (Yes Plain)) in
     record {

@@ -2,6 +2,7 @@ pub mod Moments
 pub mod ChannelSteps
 pub mod Turning
 pub mod Finishing
+pub mod FairAsks
 pub mod LoggerStands
 pub mod NewLoggers
 pub mod SlotPulls
@@ -9,5 +10,6 @@ pub mod LoggerLaws
 pub mod LoggerCalls
 pub mod LoggerFaults
 pub mod OtherFiles
+pub mod ToldCounts
 pub mod Reasons
 pub mod LeftNames

@@ -14,8 +14,10 @@ use Rattle.buffer_core.specs.Slots.{slot_at}
 use Rattle.transitions.specs.declared.answers.Answer.{Answer}
 use Rattle.transitions.specs.declared.answers.Answer.TheVariants.{Yes, No}
 use Rattle.transitions.specs.declared.answers.Tally.TheVariants.{Channels}
-use Rattle.member_model.specs.Turns.{MemberTurn, HasTurn, HasTurnOf, IsAcceptedStart, NoneOpen, current_run, AreEngineTurns}
+use Rattle.member_model.specs.Turns.{MemberTurn, HasTurn, IsAcceptedStart, NoneOpen, current_run, AreEngineTurns}
 use Rattle.member_model.specs.SentCalls.{EachCall}
+use Rattle.member_model.specs.OwnCalls.{calls_after}
+use Rattle.member_model.specs.FairCalls.{AreLoneRequests}
 use Rattle.member_model.specs.CutRuns.{MarksEnd, RefusesEnd}
 use Rattle.member_model.specs.EndedRuns.{EndsBegun}
 use Rattle.member_model.specs.LoggerKept.{LoggerChannel, LoggerPort, IsStartAnswer, KeepsLogger}
@@ -31,6 +33,7 @@ use Rattle.loggers.specs.declared.logged_run.LoggedRun.{LoggedRun}
 use Rattle.loggers.specs.declared.logged_run.RunPart.{RunPart}
 use Rattle.loggers.specs.declared.logged_run.RunPart.TheVariants.{Refused, Started, Stopping}
 use Rattle.loggers.specs.Moments.{HaveNumbersApart, channel_limit}
+use Rattle.loggers.specs.FairAsks.{HasStart, AsksFairly}
 
 -- The logger as its contract sees it.
 
@@ -146,9 +149,11 @@ abbrev pub IsEndTold : List MemberTurn → BufferEntry → Type 0
 IsEndTold turns (End start reply) = HasEndTurn turns start
 IsEndTold turns entry = ⊤
 
--- What the logger keeps of its calls on a buffer: the end of a run was accepted at one place at most.
+-- What the logger keeps of its calls on a buffer: each request was made while its client had none, and the end of a run was
+-- accepted at one place at most.
 pub record PortKept (turns : List MemberTurn) (own : List BufferEntry) : Type 0 where
   pub calls : KeepsOwnCalls own
+  pub alone : AreLoneRequests (calls_after [] own)
   pub told : EachCall (IsEndTold turns) own
   pub once : AreEngineTurns turns → (start m n : ℕ) → MarksEnd own start m → MarksEnd own start n → m ≡ n
 
@@ -201,9 +206,6 @@ pub record IsStopWaiting (turns : List MemberTurn) (start time : ℕ) (dump : Op
   pub of : order.start ≡ start
   pub at : order.time ≡ time
 
-abbrev pub HasStart : List MemberTurn → (start : ℕ) → Type 0
-HasStart turns start = (begin : MemberTurn) × HasTurnOf turns Start start begin
-
 abbrev pub HasAcceptedStart : List MemberTurn → (start : ℕ) → Type 0
 HasAcceptedStart turns start = (begin : MemberTurn) × IsAcceptedStart turns start begin
 
@@ -233,11 +235,11 @@ IsNotCalledOff run turns = (r : LoggedRun) → (turn : MemberTurn) → run ≡ S
     turn.transition ≡ StartAbort → turn.order.start ≢ r.start
 
 -- while the run goes on that the logger was told to start last, none of these turns ended it
-abbrev pub IsGoing : Option LoggedRun → List MemberTurn → Type 0
-IsGoing run turns = (r : LoggedRun) → run ≡ Some r → r.part ≡ Started → HasEndTurn turns r.start → ⊥
+abbrev pub IsStillGoing : Option LoggedRun → List MemberTurn → Type 0
+IsStillGoing run turns = (r : LoggedRun) → run ≡ Some r → r.part ≡ Started → HasEndTurn turns r.start → ⊥
 
 -- a run is on behind these turns: its start was accepted, and none of them ended it
-pub record IsInRun (turns : List MemberTurn) : Type 0 where
+pub record HasRunOn (turns : List MemberTurn) : Type 0 where
   pub start : ℕ
   pub begin : MemberTurn
   pub is_start : IsAcceptedStart turns start begin
@@ -246,7 +248,7 @@ pub record IsInRun (turns : List MemberTurn) : Type 0 where
 -- a start was refused as not ready only where a run was on behind the turns before it; the latest turn stands first
 abbrev pub AreUnreadyInRuns : List MemberTurn → Type 0
 AreUnreadyInRuns [] = ⊤
-AreUnreadyInRuns (t ∷ ts) = (t.answer ≡ Some (No NotReady) → IsInRun ts) × AreUnreadyInRuns ts
+AreUnreadyInRuns (t ∷ ts) = (t.answer ≡ Some (No NotReady) → HasRunOn ts) × AreUnreadyInRuns ts
 
 -- each answered stop of a run whose start was accepted told states
 abbrev pub StopsTellStates : List MemberTurn → Type 0
@@ -258,8 +260,8 @@ StopsTellStates turns = (begin stop : MemberTurn) → (answer : Answer) → IsAc
 abbrev pub IsHeadTold : List MemberTurn → ChannelRun → FileHead → Type 0
 IsHeadTold turns opened head = HasHead turns opened.start head
 
--- A logger between its calls, with its ports, its turns and the run files.
-pub record LoggerStands (run : Option LoggedRun) (stop_dump : Option (List ℕ)) (slots : List (Option Channel)) (ports : List Access) (turns : List MemberTurn) (seen : Seen) : Type 0 where
+-- What the logger keeps between its calls, with its ports, its turns and the run files.
+pub record LoggerHolds (run : Option LoggedRun) (stop_dump : Option (List ℕ)) (slots : List (Option Channel)) (ports : List Access) (turns : List MemberTurn) (seen : Seen) : Type 0 where
   pub standing : SlotsStand (IsHeadTold turns) turns slots ports seen
   pub served : (n : ℕ) → (c : Channel) → slot_at slots n ≡ Some c → c.spec.buffer < length ports
   pub stages : (n : ℕ) → (c : Channel) → (a : Access) → slot_at slots n ≡ Some c →
@@ -271,8 +273,13 @@ pub record LoggerStands (run : Option LoggedRun) (stop_dump : Option (List ℕ))
   pub told : IsRunTold run turns stop_dump
   pub current : AreEngineTurns turns → HasCurrentRun run turns
   pub not_off : AreEngineTurns turns → IsNotCalledOff run turns
-  pub going : AreEngineTurns turns → IsGoing run turns
+  pub going : AreEngineTurns turns → IsStillGoing run turns
   pub unready : AreEngineTurns turns → AreUnreadyInRuns turns
+
+-- A logger between its calls: it keeps all that, and gives no buffer a cause to refuse a call of it.
+pub record LoggerStands (run : Option LoggedRun) (stop_dump : Option (List ℕ)) (slots : List (Option Channel)) (ports : List Access) (turns : List MemberTurn) (seen : Seen) : Type 0 where
+  pub holds : LoggerHolds run stop_dump slots ports turns seen
+  pub asks : AsksFairly run slots ports turns
 
 -- It keeps the logger's contract, whatever numbers stand for clients that are not attached yet.
 abbrev pub StandingLoggerKeeps : Type 0

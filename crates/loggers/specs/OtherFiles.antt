@@ -1,6 +1,6 @@
 -- Which run files a logger touches: those of its channels in the runs that it was told to start. What the channels are
 -- stays.
-use Rattle.std.specs.Prelude.{◌≡◌, ℕ, List, map, Contains, Option, Some}
+use Rattle.std.specs.Prelude.{◌≡◌, ◌≤◌, ℕ, List, length, map, Contains, Option, Some}
 use Rattle.std.specs.Option.{option_map}
 use Rattle.daq_types.specs.declared.runs.Transition.TheVariants.{Start}
 use Rattle.daq_io.specs.Seen.{Seen}
@@ -11,7 +11,7 @@ use Rattle.mid_logger.specs.declared.pulled.Pulled.{Pulled}
 use Rattle.mid_logger.specs.declared.stage.ChannelRun.{ChannelRun}
 use Rattle.mid_logger.specs.Patterns.{file_name_by}
 use Rattle.mid_logger.specs.Channels.{channel_run}
-use Rattle.loggers.specs.Moments.{LoggerMoment, HaveFilesOpen, IsLoggerReady}
+use Rattle.loggers.specs.Moments.{LoggerMoment, HaveFilesOpen, IsLoggerReady, channel_limit}
 use Rattle.loggers.specs.SlotPulls.{PullsNumbered}
 use Rattle.loggers.specs.Turning.{LoggerTurn, TakesTurn}
 use Rattle.loggers.specs.Finishing.{LoggerFinish, FinishesLogger}
@@ -19,6 +19,13 @@ use Rattle.loggers.specs.Finishing.{LoggerFinish, FinishesLogger}
 -- what the channels are, each at its number
 abbrev pub specs_in : List (Option Channel) → List (Option ChannelSpec)
 specs_in slots = map (option_map (λ c. c.spec)) slots
+
+-- The channels of these slots are those that were declared, each at its number.
+pub record AreDeclared (declared : List ChannelSpec) (slots : List (Option Channel)) : Type 0 where
+  pub few : length slots ≤ channel_limit
+  pub each : (number : ℕ) → (spec : ChannelSpec) → slot_at (specs_in slots) number ≡ Some spec →
+      Contains declared spec × (spec.number ≡ number)
+  pub all : (spec : ChannelSpec) → Contains declared spec → slot_at (specs_in slots) spec.number ≡ Some spec
 
 -- the name is that of the file of one of these channels in one of these runs
 pub record IsRunName (specs : List (Option ChannelSpec)) (runs : List ℕ) (name : List ℕ) : Type 0 where

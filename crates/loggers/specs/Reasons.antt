@@ -1,28 +1,27 @@
--- Why a logger refuses a start, and why a channel breaks off: by the counts of the run files, which rose since some moment
--- before, and by its calls on the buffers that were refused.
-use Rattle.std.specs.Prelude.{◌≡◌, ℕ, List, ◌∷◌, slice_get, Contains, Option, Some, Err, ⊤, ◌⊎◌}
+-- Why a logger refuses a start, and why a channel breaks off: by the counts of the run files, each of which rose since some
+-- moment before by at least what the logger told, and by its calls on the buffers that were refused.
+use Rattle.std.specs.Prelude.{◌≡◌, ◌+◌, ℕ, List, [], ◌∷◌, slice_get, Contains, Option, Some, ⊤}
 use Rattle.daq_types.specs.declared.runs.ChannelState.{ChannelState}
 use Rattle.daq_types.specs.declared.runs.ChannelState.TheVariants.{Broken as IsBroken}
+use Rattle.daq_types.specs.declared.runs.Transition.TheVariants.{Start}
 use Rattle.daq_types.specs.declared.runs.Why.{Why}
 use Rattle.daq_types.specs.declared.runs.Why.TheVariants.{NotReady, Exists, Fault, BufferRefused}
-use Rattle.daq_io.specs.Counts.{Rose}
+use Rattle.daq_io.specs.Counts.{Rose, RoseBy}
 use Rattle.transitions.specs.declared.answers.Answer.{Answer}
 use Rattle.transitions.specs.declared.answers.Answer.TheVariants.{Yes, No}
-use Rattle.transitions.specs.declared.answers.Tally.TheVariants.{Channels}
+use Rattle.transitions.specs.declared.answers.Tally.TheVariants.{Plain, Channels}
 use Rattle.member_model.specs.Turns.{MemberTurn, HasTurn, latest_answered}
+use Rattle.member_model.specs.FairCalls.{IsRefusedAsk}
 use Rattle.buffer_core.specs.declared.entry.BufferEntry.{BufferEntry}
-use Rattle.buffer_core.specs.declared.entry.BufferEntry.TheVariants.{Attach, Request, Begin}
 use Rattle.buffer_core.specs.Ports.{Access}
-use Rattle.buffer_core.specs.Slots.{slot_at}
 use Rattle.mid_logger.specs.declared.channel.Channel.{Channel}
 use Rattle.mid_logger.specs.declared.pulled.Pulled.{Pulled}
-use Rattle.mid_logger.specs.declared.stage.BegunRun.{BegunRun}
-use Rattle.mid_logger.specs.ChannelTurns.{broken_run}
 use Rattle.loggers.specs.Moments.{RunFiles, LoggerMoment}
 use Rattle.loggers.specs.SlotPulls.{PullsNumbered}
 use Rattle.loggers.specs.Turning.{LoggerTurn, TakesTurn}
 use Rattle.loggers.specs.Finishing.{LoggerFinish, FinishesLogger}
 use Rattle.loggers.specs.LoggerStands.{logger_turn}
+use Rattle.loggers.specs.ToldCounts.{faults_told, clashes_told, broken_off}
 
 -- Between these two moments of the run files a start may be refused so: for a name, where a clash of names was counted; and
 -- for a fault, where a fault was. A logger that has a run, or that a buffer refuses, does not look at the files.
@@ -47,26 +46,32 @@ abbrev pub AreAnswersSo : List MemberTurn → (old new : RunFiles) → Type 0
 AreAnswersSo turns old new =
     (t : MemberTurn) → (answer : Answer) → HasTurn turns t → t.answer ≡ Some answer → IsAnswerSo answer old new
 
--- a count stayed, or rose
-abbrev pub StaysOrRose : (old new : ℕ) → Type 0
-StaysOrRose old new = (new ≡ old) ⊎ Rose old new
+-- Between these two moments of the run files neither of their counts fell.
+pub record NoneFell (old new : RunFiles) : Type 0 where
+  pub faults : RoseBy 0 old.faults new.faults
+  pub clashes : RoseBy 0 old.clashes new.clashes
 
--- a channel of these broke off in a run that is not settled
-pub record HasBrokenOff (slots : List (Option Channel)) : Type 0 where
-  pub number : ℕ
-  pub channel : Channel
-  pub run : BegunRun
-  pub there : slot_at slots number ≡ Some channel
-  pub off : broken_run channel.stage ≡ Some run
+-- A start may be answered so in a turn between these two moments of the run files: accepted where no fault and no clash was
+-- counted between them, and refused for a fault or for a name where one was.
+abbrev pub IsStartSo : Answer → (before behind : RunFiles) → Type 0
+IsStartSo (No why) before behind = IsReasonSo why before behind
+IsStartSo (Yes Plain) before behind = (behind.faults ≡ before.faults) × (behind.clashes ≡ before.clashes)
+IsStartSo (Yes tally) before behind = ⊤
 
--- the call was one to attach a client, to make a request or to begin a run, and was refused
-abbrev pub IsRefusedAsk : BufferEntry → Type 0
-IsRefusedAsk (Attach name (Err why)) = ⊤
-IsRefusedAsk (Request client id mask kind (Err why)) = ⊤
-IsRefusedAsk (Begin start (Err why)) = ⊤
-IsRefusedAsk entry = ⊥
+-- The turn stood between these two moments of the run files, and this is a later one.
+pub record IsTurnSo (t : MemberTurn) (before behind now : RunFiles) : Type 0 where
+  pub start : t.transition ≡ Start → (answer : Answer) → t.answer ≡ Some answer → IsStartSo answer before behind
+  pub within : NoneFell before behind
+  pub since : NoneFell behind now
 
--- such a call was made on one of these ports
+-- The run files went through the turns, one after another, from the first of these moments to the other. The latest turn stands
+-- first.
+abbrev pub AreTurnsSo : List MemberTurn → (first now : RunFiles) → Type 0
+AreTurnsSo [] first now = NoneFell first now
+AreTurnsSo (t ∷ ts) first now =
+    (before : RunFiles) × ((behind : RunFiles) × (AreTurnsSo ts first before × IsTurnSo t before behind now))
+
+-- a call to attach a client, to make a request or to begin a run was refused on one of these ports
 pub record HasRefusedAsk (ports : List Access) : Type 0 where
   pub buffer : ℕ
   pub port : Access
@@ -75,14 +80,20 @@ pub record HasRefusedAsk (ports : List Access) : Type 0 where
   pub among : Contains port.own entry
   pub refused : IsRefusedAsk entry
 
--- A logger with these channels, ports and turns, whose run files were so at first, and are so now: each answer that it gave
--- was such; where a channel broke off a fault was counted; and a start was refused for a buffer only where that refused a call.
+-- A logger with these channels, ports and turns, whose run files were so at first, and are so now. There was a fault for each
+-- channel that it told to have broken off, for each that broke off and is not told yet, and for each start that it refused for
+-- one; and a clash for each start that it refused for a name. And a start was refused for a buffer only where that refused a
+-- call.
 pub record GivesReasons (slots : List (Option Channel)) (ports : List Access) (first now : RunFiles) (turns : List MemberTurn) : Type 0 where
-  pub faults : StaysOrRose first.faults now.faults
-  pub clashes : StaysOrRose first.clashes now.clashes
-  pub broken : HasBrokenOff slots → Rose first.faults now.faults
-  pub answers : AreAnswersSo turns first now
+  pub faults : RoseBy (faults_told turns + broken_off slots) first.faults now.faults
+  pub clashes : RoseBy (clashes_told turns) first.clashes now.clashes
+  pub in_turns : AreTurnsSo turns first now
   pub buffers : (t : MemberTurn) → HasTurn turns t → t.answer ≡ Some (No BufferRefused) → HasRefusedAsk ports
+
+-- So each answer that it gave was such.
+abbrev pub ReasonsTell : Type 0
+ReasonsTell = (slots : List (Option Channel)) → (ports : List Access) → (first now : RunFiles) →
+    (turns : List MemberTurn) → GivesReasons slots ports first now turns → AreAnswersSo turns first now
 
 -- A turn, a pull and a call to finish keep that.
 abbrev pub TurnsGiveReasons : Type 0

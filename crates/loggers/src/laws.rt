@@ -2,7 +2,7 @@
 
 ghost use Rattle.loggers.specs.LoggerLaws.{FinishesKeep, TurnsKeep, TurnsLeaveKnown, PullsLeaveKnown, TurnsNote, PullsNote, FinishesNote, NotesFollow};
 ghost use Rattle.loggers.specs.LoggerStands.{StandingLoggerKeeps};
-ghost use Rattle.loggers.specs.Reasons.{TurnsGiveReasons, PullsGiveReasons, FinishesGiveReasons};
+ghost use Rattle.loggers.specs.Reasons.{TurnsGiveReasons, PullsGiveReasons, FinishesGiveReasons, ReasonsTell};
 ghost use Rattle.loggers.specs.LeftNames.{TurnsKeepNames, PullsKeepNames, FinishesKeepNames, StandingHasStarted, StandingHasStopped, PullsKeepStopped};
 ghost use Rattle.loggers.specs.OtherFiles.{TurnsLeaveFiles, PullsLeaveFiles, FinishesLeaveFiles};
 
@@ -65,13 +65,14 @@ pub fn faults_noted()
     ensures follow { NotesFollow }
 {}
 
-/// What a logger answers rests on the counts of the run files, and each call keeps that: a start is refused for a name only
-/// where a clash was counted, for a fault only where one was, and for a buffer only where that refused a call; and a channel is
-/// told to be broken only where a fault was.
+/// What a logger answers rests on the counts of the run files, and each call keeps that: for each start that is refused for a
+/// name a clash was counted, for each that is refused for a fault one was, and for a buffer one is refused only where that
+/// refused a call; and for each channel that is told to be broken a fault was counted.
 pub fn reasons_given()
     ensures turns { TurnsGiveReasons }
     ensures pulls { PullsGiveReasons }
     ensures finishes { FinishesGiveReasons }
+    ensures tell { ReasonsTell }
 {}
 
 /// Where no fault is counted, all names of run files are as they were at first but those of the runs that were stopped, and

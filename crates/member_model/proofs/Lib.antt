@@ -3,3 +3,4 @@ pub mod SentLaws
 pub mod TurnLaws
 pub mod MomentLaws
 pub mod GotRunLaws
+pub mod FairLaws

@@ -1,9 +1,8 @@
 -- Turns among more turns, and the latest turn once it is answered.
-use Rattle.std.specs.Prelude.{◌≡◌, ◌≢◌, ℕ, List, [], ◌∷◌, Option, Some, None, ◌⊎◌}
+use Rattle.std.specs.Prelude.{◌≡◌, ◌≢◌, ℕ, List, ◌∷◌}
 use Rattle.std.proofs.Common.{inl, inr}
 use Rattle.daq_types.specs.declared.runs.Transition.{Transition}
-use Rattle.transitions.specs.declared.answers.Answer.{Answer}
-use Rattle.member_model.specs.Turns.{MemberTurn, HasTurn, HasTurnOf, latest_answered}
+use Rattle.member_model.specs.Turns.{MemberTurn, HasTurnOf}
 
 pub HasTurnOf-more : (u : MemberTurn) {ts : List MemberTurn} {transition : Transition} {start : ℕ} {t : MemberTurn} → HasTurnOf ts transition start t → HasTurnOf (u ∷ ts) transition start t
 HasTurnOf-more u p = record { stands = inr p.stands; is = p.is; of = p.of }

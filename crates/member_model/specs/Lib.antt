@@ -8,3 +8,4 @@ pub mod ReadRuns
 pub mod CutRuns
 pub mod EndedRuns
 pub mod LoggerKept
+pub mod FairCalls

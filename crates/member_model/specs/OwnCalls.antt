@@ -2,11 +2,10 @@
 -- those before it, the latest first.
 use Rattle.std.specs.Prelude.{◌≡◌, ◌≢◌, ℕ, ◌==◌, ◌≤◌, ◌&&◌, nat_le, nat_lt, Bool, true, false, if◌then◌else◌, List, [], ◌∷◌, ◌++◌, map, Ok, ⊤}
 use Rattle.daq_types.specs.declared.events.Event.{Event}
-use Rattle.daq_types.specs.declared.runs.Kind.TheVariants.{All}
 use Rattle.buffer_core.specs.declared.replies.Received.{Received}
 use Rattle.buffer_core.specs.declared.replies.Received.TheVariants.{Got, Empty}
 use Rattle.buffer_core.specs.declared.entry.BufferEntry.{BufferEntry}
-use Rattle.buffer_core.specs.declared.entry.BufferEntry.TheVariants.{Attach, Detach, Request, Cancel, Send, SendInRun, Receive, Begin, End}
+use Rattle.buffer_core.specs.declared.entry.BufferEntry.TheVariants.{Detach, Request, Cancel, Send, SendInRun, Receive}
 use Rattle.buffer_core.specs.Points.{News, Attached, news_of}
 use Rattle.buffer_core.specs.Readers.{LeavesRequests}
 use Rattle.buffer_core.specs.Ports.{GotEvent, name_of, names_given}

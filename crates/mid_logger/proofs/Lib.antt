@@ -10,6 +10,7 @@ pub mod OpenSteps
 pub mod EndSteps
 pub mod BesideSteps
 pub mod OpenBeside
+pub mod OpenAlone
 pub mod LeftSteps
 pub mod Keeping
 pub mod OnePattern

@@ -1,6 +1,6 @@
 -- A text is that of one pattern at the most.
-use Rattle.std.specs.Prelude.{◌≡◌, ◌≢◌, ℕ, suc, ◌<◌, List, [], ◌∷◌, ◌++◌, length, slice_index, refl}
-use Rattle.std.proofs.Common.{arith, ap, sym}
+use Rattle.std.specs.Prelude.{◌≡◌, ◌≢◌, ℕ, suc, List, [], ◌∷◌, ◌++◌, refl}
+use Rattle.std.proofs.Common.{arith}
 use Rattle.mid_logger.specs.Patterns.{NamePattern, HasNoPercent, IsPattern, pattern_text}
 
 -- a text without a percent sign has none behind its first byte

@@ -127,7 +127,7 @@ gave_now past name n = elim (eqb_tells n n) as (λ w. gave_number (Attach name (
   | inr other ↦ absurd (other.1 refl)
 ]
 
-attach_kept : (spec : ChannelSpec) (client later : Option ℕ) (a b : Access) (head : FileHead) (seen : Seen) → HasClient client later a b → NoneTaken b → ChannelStands spec client Idle head a.own a.got seen → ChannelStands spec later Idle head b.own b.got seen
+pub attach_kept : (spec : ChannelSpec) (client later : Option ℕ) (a b : Access) (head : FileHead) (seen : Seen) → HasClient client later a b → NoneTaken b → ChannelStands spec client Idle head a.own a.got seen → ChannelStands spec later Idle head b.own b.got seen
 attach_kept spec (Some c) later a b head seen has none stands = rw (has.0, has.1) stands
 attach_kept spec None (Some n) a b head seen has none stands =
     let attach : BufferEntry = Attach logger_name (Ok n) in

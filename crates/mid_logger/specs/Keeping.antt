@@ -9,6 +9,8 @@ use Rattle.buffer_core.specs.declared.replies.MarkRefusal.{MarkRefusal}
 use Rattle.buffer_core.specs.declared.entry.BufferEntry.{BufferEntry}
 use Rattle.buffer_core.specs.declared.entry.BufferEntry.TheVariants.{Begin, End}
 use Rattle.buffer_core.specs.Ports.{Access, GotEvent}
+use Rattle.member_model.specs.OwnCalls.{calls_after}
+use Rattle.member_model.specs.FairCalls.{AreLoneRequests}
 use Rattle.mid_logger.specs.declared.channel_spec.ChannelSpec.{ChannelSpec}
 use Rattle.mid_logger.specs.declared.stage.ChannelRun.{ChannelRun}
 use Rattle.mid_logger.specs.declared.stage.ChannelStage.{ChannelStage}
@@ -91,6 +93,14 @@ OpensKeep = (spec : ChannelSpec) → (order : Order) → (dump : List ℕ) → (
     ChannelStands spec a.client a.stage head a.port.own a.port.got a.files →
     OnOk r (ChannelStands spec b.client b.stage (order_head order dump) b.port.own b.port.got b.files)
     × OnErr r (ChannelStands spec b.client b.stage head b.port.own b.port.got b.files)
+
+-- An open makes its request, whatever that is replied, while the client has none.
+abbrev pub OpensAlone : Type 0
+OpensAlone = (spec : ChannelSpec) → (order : Order) → (dump : List ℕ) → (r : Result ⊤ Why) → (a b : ChannelAt) →
+    (head : FileHead) →
+    OpensBy r spec order dump a b → a.stage ≡ Idle → b.port.taken_back ≡ [] →
+    ChannelStands spec a.client a.stage head a.port.own a.port.got a.files →
+    AreLoneRequests (calls_after [] a.port.own) → AreLoneRequests (calls_after [] b.port.own)
 
 -- At most the file of this name changed, of which there was none, where names are told; or no file did. Each number
 -- that was in use for writing stays.

@@ -2,7 +2,7 @@
 
 ghost use Rattle.std.specs.Prelude.{◌≡◌};
 ghost use Rattle.mid_logger.specs.Patterns.{NamePattern, IsPattern, pattern_text};
-ghost use Rattle.mid_logger.specs.Keeping.{PullsKeep, PullsChange, AbortsKeep, AbortsChange, ClosesKeep, ClosesChange, OpensKeep, OpensChange, FilesThere, BegunKeeps, EndedKeeps};
+ghost use Rattle.mid_logger.specs.Keeping.{PullsKeep, PullsChange, AbortsKeep, AbortsChange, ClosesKeep, ClosesChange, OpensKeep, OpensChange, OpensAlone, FilesThere, BegunKeeps, EndedKeeps};
 ghost use Rattle.mid_logger.specs.Beside.{AbortsBeside, CallsBeside, ClosesBeside, FilesBeside, LeftBeside, OpensBeside, PullsBeside};
 
 /// A call on the channel's buffer that names another client, and does not end the run that the channel's client reads,
@@ -59,11 +59,13 @@ pub fn closes_kept()
     ensures change { ClosesChange }
 {}
 
-/// What a channel keeps before a run is opened, or refused, it keeps behind that; and at most a new file came into being.
+/// What a channel keeps before a run is opened, or refused, it keeps behind that; and at most a new file came into being. It
+/// makes its request while its client has none.
 pub fn opens_kept()
     ensures keep { OpensKeep }
     ensures change { OpensChange }
     ensures there { FilesThere }
+    ensures alone { OpensAlone }
 {}
 
 /// What a channel keeps before its run is begun or ended in its buffer it keeps behind that.

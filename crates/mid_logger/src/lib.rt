@@ -16,6 +16,3 @@ pub use channel_spec::ChannelSpec;
 pub use pattern::{BadPattern, Pattern};
 pub use pulled::Pulled;
 pub use stage::{BegunRun, ChannelRun, ChannelStage};
-
-#[cfg(test)]
-mod tests;

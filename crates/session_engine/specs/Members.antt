@@ -1,11 +1,20 @@
 -- The members of a session at the engine.
-use Rattle.std.specs.Prelude.{ℕ, suc, Bool, true, false, List, [], ◌∷◌, Ok}
+use Rattle.std.specs.Prelude.{ℕ, suc, Bool, true, false, List, [], ◌∷◌, ◌++◌, map, Ok}
 use Rattle.run_states.specs.declared.sequences.Role.{Role}
-use Rattle.run_states.specs.declared.sequences.Role.TheVariants.{Logger, Analyzer}
+use Rattle.run_states.specs.declared.sequences.Role.TheVariants.{FrontEnd, Logger, Analyzer}
 use Rattle.run_states.specs.Sequences.{sequences_of}
 use Rattle.transitions.specs.declared.entry.EngineEntry.{EngineEntry}
 use Rattle.transitions.specs.declared.entry.EngineEntry.TheVariants.{Register}
 use Rattle.session_engine.specs.declared.opening.MemberName.{MemberName}
+
+-- a member of this role, by its name
+abbrev pub member_in : Role → (name : List ℕ) → MemberName
+member_in role name = record { name = name; role = role }
+
+-- The members of a session by their names, in the order of their client numbers: the front-ends, the logger, and the analyzers.
+abbrev pub members_named : (fronts : List (List ℕ)) → (logger : List ℕ) → (analyzers : List (List ℕ)) → List MemberName
+members_named fronts logger analyzers =
+    map (member_in FrontEnd) fronts ++ member_in Logger logger ∷ map (member_in Analyzer) analyzers
 
 -- the logger alone writes the database's text into the files
 abbrev pub gets_dumps : Role → Bool

@@ -15,6 +15,6 @@ returns c =
     record {
       told = reports_told laws;
       so = reports_so laws;
-      whole = reports_whole c.sees_since.ensures c.fits_members.ensures.all;
+      whole = reports_whole c.sees_events.ensures c.sees_since.ensures c.fits_members.ensures.all;
       got = got_whole c.sees_events.ensures c.fits_members.ensures.all;
     }

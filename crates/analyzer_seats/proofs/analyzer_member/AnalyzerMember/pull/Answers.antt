@@ -13,4 +13,5 @@ pub returns-clause-keeps : goal.returns-clause-keeps
 returns-clause-keeps g c = λ client calls member. record {
   stands = c.pull-pulled.ensures.keeps _ member.stands;
   tells = c.pull-pulled.ensures.tells _ member.tells;
+  blanks = member.blanks;
 }

@@ -1,4 +1,4 @@
-use Rattle.std.specs.Prelude.{Bool, ◌||◌}
+use Rattle.std.specs.Prelude.{◌≡◌, Bool, ◌||◌}
 use Rattle.std.proofs.Common.{ap, sym, refl, subst, ◌∙◌}
 use Rattle.turn_lock.specs.Passes.{own_entries}
 use Rattle.transitions.specs.declared.replies.Polled.TheVariants.{Idle, Closed, NoClient}
@@ -8,6 +8,7 @@ use Rattle.daq_members.specs.declared.seat.Seat.{Seat}
 use Rattle.daq_members.specs.FrontTaken.{turned_by}
 use Rattle.daq_members.proofs.OwnTurnLaws.{none_open, idle_turns, closed_turns, unknown_turns, taken_turns, finished_turns}
 use Rattle.analyzer_seats.specs.AnalyzerTaken.{has_got, analyzer_at}
+use Rattle.analyzer_seats.proofs.BareLaws.{bare_asked, no_blank, bare_taken, reported_ready, bare_finished}
 use Rattle.analyzer_seats.proofs.AnalyzerLaws.{turn_same, blank_so, reported_within, stands_with, analyzer_told, analyzer_finished}
 use Rattle.analyzer_seats.proofs.analyzer_member.AnalyzerMember.turn.Goals as goal
 
@@ -84,16 +85,18 @@ returns-clause-counted g c =
 pub returns-in-Closed-clause-keeps : goal.returns-in-Closed-clause-keeps
 returns-in-Closed-clause-keeps g c = λ member.
     let self = c.args.self.now in
+    let told : member_turns self.seat.client (own_entries c.poll.new.self.pass) ≡ member_turns self.seat.client (own_entries self.seat.pass) =
+    ap (member_turns self.seat.client) (rw c.in-Closed.is at c.poll.ensures.asked) ∙ closed_turns self.seat.client (own_entries self.seat.pass) in
     stands_with self.seat.client self.analyzer (own_entries c.poll.new.self.pass) (member_turns self.seat.client (own_entries self.seat.pass)) _ _
-    (ap (member_turns self.seat.client) (rw c.in-Closed.is at c.poll.ensures.asked) ∙ closed_turns self.seat.client (own_entries self.seat.pass))
-    member.stands member.tells
+    told member.stands member.tells (bare_asked self.seat.client (own_entries self.seat.pass) (own_entries c.poll.new.self.pass) _ (rw c.in-Closed.is at c.poll.ensures.asked) told member.blanks)
 
 pub returns-in-NoClient-clause-keeps : goal.returns-in-NoClient-clause-keeps
 returns-in-NoClient-clause-keeps g c = λ member.
     let self = c.args.self.now in
+    let told : member_turns self.seat.client (own_entries c.poll.new.self.pass) ≡ member_turns self.seat.client (own_entries self.seat.pass) =
+    ap (member_turns self.seat.client) (rw c.in-NoClient.is at c.poll.ensures.asked) ∙ unknown_turns self.seat.client (own_entries self.seat.pass) in
     stands_with self.seat.client self.analyzer (own_entries c.poll.new.self.pass) (member_turns self.seat.client (own_entries self.seat.pass)) _ _
-    (ap (member_turns self.seat.client) (rw c.in-NoClient.is at c.poll.ensures.asked) ∙ unknown_turns self.seat.client (own_entries self.seat.pass))
-    member.stands member.tells
+    told member.stands member.tells (bare_asked self.seat.client (own_entries self.seat.pass) (own_entries c.poll.new.self.pass) _ (rw c.in-NoClient.is at c.poll.ensures.asked) told member.blanks)
 
 pub returns-in-Idle-clause-keeps : goal.returns-in-Idle-clause-keeps
 returns-in-Idle-clause-keeps g c = λ member.
@@ -101,10 +104,10 @@ returns-in-Idle-clause-keeps g c = λ member.
     let client = self.seat.client in
     let calls = own_entries self.seat.pass in
     let pulled = c.pull.ensures.keeps client calls member in
+    let asked = ap (λ (s : Seat). own_entries s.pass) c.pull.ensures.seat ∙ (rw c.in-Idle.is at c.poll.ensures.asked) in
+    let told : member_turns client (own_entries c.pull.new.self.seat.pass) ≡ member_turns client calls = ap (member_turns client) asked ∙ idle_turns client calls c.in-Idle.state in
     stands_with client c.pull.new.self.analyzer (own_entries c.pull.new.self.seat.pass) (member_turns client calls) _ _
-    (ap (λ (s : Seat). member_turns client (own_entries s.pass)) c.pull.ensures.seat
-    ∙ (ap (member_turns client) (rw c.in-Idle.is at c.poll.ensures.asked) ∙ idle_turns client calls c.in-Idle.state))
-    pulled.stands pulled.tells
+    told pulled.stands pulled.tells (bare_asked client calls (own_entries c.pull.new.self.seat.pass) _ asked told member.blanks)
 
 pub returns-in-None-clause-keeps : goal.returns-in-None-clause-keeps
 returns-in-None-clause-keeps g c = λ member.
@@ -113,11 +116,17 @@ returns-in-None-clause-keeps g c = λ member.
     let calls = own_entries self.seat.pass in
     let owed = sym self.seat.owed_is ∙ c.in-None.is in
     let turn = c.on_turn-answer in
-    stands_with client turn.new.self (own_entries c.give.new.self.pass) _ _ _
-    (taken_turns client calls (own_entries c.poll.new.self.pass) (own_entries c.give.new.self.pass) c.in-Turn.transition c.in-Turn.order c.in-Turn.dump c.in-Turn.blank turn.result owed
-    (rw c.in-Turn.is at c.poll.ensures.asked) (rw c.poll.ensures.client at c.give.ensures.gives))
+    let polled = own_entries c.poll.new.self.pass in
+    let later = own_entries c.give.new.self.pass in
+    let asked = rw c.in-Turn.is at c.poll.ensures.asked in
+    let gives = rw c.poll.ensures.client at c.give.ensures.gives in
+    let turns = taken_turns client calls polled later c.in-Turn.transition c.in-Turn.order c.in-Turn.dump c.in-Turn.blank turn.result owed asked gives in
+    stands_with client turn.new.self later _ _ _ turns
     (turn.ensures.keeps c.in-Turn.dump (member_turns client calls) (none_open (member_turns client calls) owed) member.stands)
     (turn.ensures.tells c.in-Turn.dump (member_turns client calls) member.tells)
+    (bare_taken client calls polled later c.in-Turn.transition c.in-Turn.order c.in-Turn.dump c.in-Turn.blank turn.result owed asked gives
+    (no_blank c.in-Turn.transition self.analyzer.wanted c.in-Turn.order c.in-Turn.blank (analyzer_at self.analyzer (g.P.BufferPort.access c.args.port.now)) (analyzer_at turn.new.self (g.P.BufferPort.access turn.new.port)) turn.result turn.ensures.turns)
+    turns member.blanks)
 
 pub returns-clause-keeps : goal.returns-clause-keeps
 returns-clause-keeps g c = λ member.
@@ -126,8 +135,13 @@ returns-clause-keeps g c = λ member.
     let calls = own_entries self.seat.pass in
     let pulled = c.pull-pulled in
     let reading = pulled.ensures.keeps client calls member in
-    stands_with client c.finish-answer.new.self (own_entries c.give-in-Some.new.self.pass) _ _ _
-    (finished_turns client calls (own_entries c.poll.new.self.pass) (own_entries c.give-in-Some.new.self.pass) c.in-Turn.transition c.in-Turn.order c.in-Turn.dump c.in-Turn.blank _ c.finish-answer.result
-    (sym self.seat.owed_is ∙ c.in-Some.is) (rw c.in-Turn.is at c.poll.ensures.asked) (rw (pulled.ensures.seat, c.poll.ensures.client) at c.give-in-Some.ensures.gives))
+    let polled = own_entries c.poll.new.self.pass in
+    let later = own_entries c.give-in-Some.new.self.pass in
+    let asked = rw c.in-Turn.is at c.poll.ensures.asked in
+    let gives = rw (pulled.ensures.seat, c.poll.ensures.client) at c.give-in-Some.ensures.gives in
+    let turns =
+    finished_turns client calls polled later c.in-Turn.transition c.in-Turn.order c.in-Turn.dump c.in-Turn.blank _ c.finish-answer.result (sym self.seat.owed_is ∙ c.in-Some.is) asked gives in
+    stands_with client c.finish-answer.new.self later _ _ _ turns
     (c.finish-answer.ensures.keeps _ _ (member_turns client calls) reading.stands)
     (c.finish-answer.ensures.tells _ _ (member_turns client calls) reading.stands reading.tells)
+    (bare_finished client calls polled later _ c.finish-answer.result asked gives (reported_ready _ c.finish-answer.result c.finish-answer.ensures.answer) turns member.blanks)

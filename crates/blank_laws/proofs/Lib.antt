@@ -1,0 +1,4 @@
+pub mod Wanted
+pub mod Held
+pub mod Points
+pub mod Suffice
