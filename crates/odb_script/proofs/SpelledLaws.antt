@@ -3,16 +3,17 @@ use Rattle.std.specs.Prelude.{◌≡◌, ◌↔◌, ◌≤◌, ℕ, nat_eq, fals
 use Rattle.std.proofs.Common.{ap, sym, ◌∙◌, subst, append_assoc, le-ltb, inl, inr}
 use Rattle.std.specs.List.{starts_with}
 use Rattle.std.proofs.lemmas.List.{append-nil}
+use Rattle.daq_types.specs.declared.runs.Kind.{Kind}
 use Rattle.daq_types.specs.declared.types.Tid.{Tid}
 use Rattle.odb_script.specs.LineWords.{Words, word, ended, faulty, line_words}
 use Rattle.daq_text.specs.Numbers.{number_of}
 use Rattle.odb_script.specs.Numbers.{most_number, most_small}
-use Rattle.odb_script.specs.TypeNames.{is_text, type_named}
+use Rattle.odb_script.specs.TypeNames.{is_text, type_named, kind_named}
 use Rattle.odb_script.specs.declared.forms.Command.{Command}
-use Rattle.odb_script.specs.declared.forms.Command.TheVariants.{Nothing, Buffer, Equip, Channel, Events, Start, Stop, Pause, Resume, Create, CreateDir, Set, Get, List as Ls, Remove, Load, Save, Watch, Notes, Unwatch, Exit}
-use Rattle.odb_script.specs.Forms.{Read, ◌>>=◌, next_text, words_behind, line_end, next_number, last_number, only, with_text, with_number, buffer_form, equip_end, equip_form, channel_end, channel_form, value_form, create_form, set_end, set_form, get_form, watching_form, key_form, declaring_form, named_form, words_form, command_of}
+use Rattle.odb_script.specs.declared.forms.Command.TheVariants.{Nothing, Buffer, Equip, Channel, Analyzer, Events, Start, Stop, Pause, Resume, Create, CreateDir, Set, Get, List as Ls, Remove, Load, Save, Watch, Notes, Unwatch, Exit}
+use Rattle.odb_script.specs.Forms.{Read, ◌>>=◌, next_text, words_behind, line_end, next_number, next_kind, last_number, only, with_text, with_number, buffer_form, equip_end, equip_form, channel_end, channel_form, analyzer_end, analyzer_form, value_form, create_form, set_end, set_form, get_form, watching_form, key_form, declaring_form, named_form, words_form, command_of}
 use Rattle.odb_script.specs.Spelled.{texts_of, Spells, Spelled}
-use Rattle.odb_script.proofs.TableLaws.{number_cases, type_cases, text_cases, no_directory_type}
+use Rattle.odb_script.proofs.TableLaws.{number_cases, type_cases, kind_cases, text_cases, no_directory_type}
 
 -- From the words to the command.
 
@@ -113,6 +114,27 @@ channel ws =
     (t, i, m, refl, is_number, is_id, is_mask))))))
     ws
 
+kind_ends : (front : List (List ℕ)) (make : Kind → Command) → ((text : List ℕ) (k : Kind) → kind_named text ≡ Some k → Spells (front ++ text ∷ []) (make k))
+    → (ws : Words) → Reads front ws (next_kind ws >>= (λ kind. only (make kind) (words_behind ws)))
+kind_ends front make h (word at text ws) = kind_cases text
+    (λ e. rw e tt)
+    (λ k e. rw e (step front at text ws (only (make k) ws) (ends (front ++ text ∷ []) (make k) ws (h text k e))))
+kind_ends front make h (ended at) = tt
+kind_ends front make h (faulty at) = tt
+
+analyzer : (ws : Words) → Reads (codes "analyzer" ∷ []) ws (analyzer_form ws)
+analyzer ws =
+    text_goes_on (codes "analyzer" ∷ [])
+    (λ name behind. next_text behind >>= (λ into. analyzer_end name into (words_behind behind)))
+    (λ name. text_goes_on (codes "analyzer" ∷ name ∷ []) (analyzer_end name)
+    (λ into. number_goes_on (codes "analyzer" ∷ name ∷ into ∷ []) most_small
+    (λ id behind. next_number most_small behind >>= (λ mask. next_kind (words_behind behind) >>= (λ kind. only (Analyzer name into id mask kind) (words_behind (words_behind behind)))))
+    (λ i id is_id. number_goes_on (codes "analyzer" ∷ name ∷ into ∷ i ∷ []) most_small
+    (λ mask behind. next_kind behind >>= (λ kind. only (Analyzer name into id mask kind) (words_behind behind)))
+    (λ m mask is_mask. kind_ends (codes "analyzer" ∷ name ∷ into ∷ i ∷ m ∷ []) (Analyzer name into id mask)
+    (λ k kind is_kind. (i, m, k, refl, is_id, is_mask, is_kind))))))
+    ws
+
 create : (ws : Words) → Reads (codes "create" ∷ []) ws (create_form ws)
 create (word at kind ws) = text_cases kind (codes "DIR")
     (λ same. subst (λ text. Reads (codes "create" ∷ []) (word at text ws) (create_form (word at text ws))) same
@@ -175,6 +197,7 @@ named at name ws =
     text_cases name (codes "buffer") (λ e. subst (Named at ws) e (form at (codes "buffer") ws (buffer_form ws) (buffer ws))) (λ no_buffer.
     text_cases name (codes "equip") (λ e. subst (Named at ws) e (form at (codes "equip") ws (equip_form ws) (equip ws))) (λ no_equip.
     text_cases name (codes "channel") (λ e. subst (Named at ws) e (form at (codes "channel") ws (channel_form ws) (channel ws))) (λ no_channel.
+    text_cases name (codes "analyzer") (λ e. subst (Named at ws) e (form at (codes "analyzer") ws (analyzer_form ws) (analyzer ws))) (λ no_analyzer.
     text_cases name (codes "create") (λ e. subst (Named at ws) e (form at (codes "create") ws (create_form ws) (create ws))) (λ no_create.
     text_cases name (codes "set") (λ e. subst (Named at ws) e (form at (codes "set") ws (set_form ws) (set ws))) (λ no_set.
     text_cases name (codes "get") (λ e. subst (Named at ws) e (form at (codes "get") ws (get_form ws) (get ws))) (λ no_get.
@@ -185,7 +208,7 @@ named at name ws =
     text_cases name (codes "watch") (λ e. subst (Named at ws) e (form at (codes "watch") ws (with_text Watch ws) (text_ends (codes "watch" ∷ []) Watch (λ text. refl) ws))) (λ no_watch.
     text_cases name (codes "notes") (λ e. subst (Named at ws) e (form at (codes "notes") ws (with_number Notes ws) (number_ends (codes "notes" ∷ []) Notes (λ text n number. (text, refl, number)) ws))) (λ no_notes.
     text_cases name (codes "unwatch") (λ e. subst (Named at ws) e (form at (codes "unwatch") ws (with_number Unwatch ws) (number_ends (codes "unwatch" ∷ []) Unwatch (λ text n number. (text, refl, number)) ws))) (λ no_unwatch.
-    rw (no_events, no_start, no_stop, no_pause, no_resume, no_exit, no_buffer, no_equip, no_channel, no_create, no_set, no_get, no_ls, no_rm, no_load, no_save, no_watch, no_notes, no_unwatch) tt)))))))))))))))))))
+    rw (no_events, no_start, no_stop, no_pause, no_resume, no_exit, no_buffer, no_equip, no_channel, no_analyzer, no_create, no_set, no_get, no_ls, no_rm, no_load, no_save, no_watch, no_notes, no_unwatch) tt))))))))))))))))))))
 
 reads : (ws : Words) → Reads [] ws (words_form ws)
 reads (word at name ws) = named at name ws
@@ -256,6 +279,8 @@ spelled ws texts (Equip name id mask buffer limit) h is = elim is.4 [
 ]
 spelled ws texts (Channel number pattern buffer id mask) h is =
     on_six (AreOf (Channel number pattern buffer id mask)) ws (codes "channel") is.0 pattern buffer is.1 is.2 (h ∙ ap Some is.3) (λ i j k l m n o. rw (is.4, is.5, is.6) refl)
+spelled ws texts (Analyzer name buffer id mask kind) h is =
+    on_six (AreOf (Analyzer name buffer id mask kind)) ws (codes "analyzer") name buffer is.0 is.1 is.2 (h ∙ ap Some is.3) (λ i j k l m n o. rw (is.4, is.5, is.6) refl)
 spelled ws texts (Events count) h is = on_two (AreOf (Events count)) ws (codes "events") is.0 (h ∙ ap Some is.1) (λ i j k. rw is.2 refl)
 spelled ws texts Start h is = on_one (AreOf Start) ws (codes "start") (h ∙ ap Some is) (λ i j. refl)
 spelled ws texts Stop h is = on_one (AreOf Stop) ws (codes "stop") (h ∙ ap Some is) (λ i j. refl)

@@ -4,15 +4,17 @@ use Rattle.std.proofs.Common.{ap, sym, ◌∙◌, subst}
 use Rattle.std.specs.List.{starts_with}
 use Rattle.std.proofs.lemmas.Bool.{lt-ltb, le-ltb}
 use Rattle.std.proofs.lemmas.Slice.Eq.{bytes_eq-Decides}
+use Rattle.daq_types.specs.declared.runs.Kind.{Kind}
+use Rattle.daq_types.specs.declared.runs.Kind.TheVariants.{All as GetAll, NonBlocking}
 use Rattle.daq_types.specs.declared.types.Tid.{Tid}
 use Rattle.odb_script.specs.LineWords.{Words, word, ended, faulty, line_words}
 use Rattle.daq_text.specs.Numbers.{number_of}
 use Rattle.odb_script.specs.Numbers.{most_number, most_small}
-use Rattle.odb_script.specs.TypeNames.{is_text, type_named}
+use Rattle.odb_script.specs.TypeNames.{is_text, type_named, kind_named}
 use Rattle.odb_script.specs.declared.forms.Command.{Command}
-use Rattle.odb_script.specs.declared.forms.Command.TheVariants.{Nothing, Buffer, Equip, Channel, Events, Start, Stop, Pause, Resume, Create, CreateDir, Set, Get, List as Ls, Remove, Load, Save, Watch, Notes, Unwatch, Exit}
+use Rattle.odb_script.specs.declared.forms.Command.TheVariants.{Nothing, Buffer, Equip, Channel, Analyzer, Events, Start, Stop, Pause, Resume, Create, CreateDir, Set, Get, List as Ls, Remove, Load, Save, Watch, Notes, Unwatch, Exit}
 use Rattle.odb_script.specs.declared.refusals.LineRefusal.TheVariants.{BadCommand}
-use Rattle.odb_script.specs.Forms.{Read, ◌>>=◌, next_text, words_behind, next_number, last_number, only, with_text, with_number, buffer_form, equip_end, equip_form, channel_end, channel_form, create_form, set_end, set_form, watching_form, key_form, declaring_form, named_form, words_form, command_of}
+use Rattle.odb_script.specs.Forms.{Read, ◌>>=◌, next_text, words_behind, next_number, next_kind, last_number, only, with_text, with_number, buffer_form, equip_end, equip_form, channel_end, channel_form, analyzer_end, analyzer_form, create_form, set_end, set_form, watching_form, key_form, declaring_form, named_form, words_form, command_of}
 use Rattle.odb_script.specs.FormTable.{Piece, exactly, any_text, number_to, a_number, a_small_number, a_type, fits, Form, forms, forms_going_on, form_ended, first_misfit, place_of}
 
 -- What is known of a text: whether it is a number, the name of a type, or one text alone.
@@ -24,6 +26,10 @@ number_cases {A} most text none some =
 pub type_cases : {A : Type 0} (text : List ℕ) → (type_named text ≡ None → A) → ((t : Tid) → type_named text ≡ Some t → A) → A
 type_cases {A} text none some =
     elim (type_named text) as (λ found. type_named text ≡ found → A) [ None ↦ none | Some t ↦ some t ] refl
+
+pub kind_cases : {A : Type 0} (text : List ℕ) → (kind_named text ≡ None → A) → ((k : Kind) → kind_named text ≡ Some k → A) → A
+kind_cases {A} text none some =
+    elim (kind_named text) as (λ found. kind_named text ≡ found → A) [ None ↦ none | Some k ↦ some k ] refl
 
 pub text_cases : {A : Type 0} (text name : List ℕ) → (name ≡ text → A) → (is_text text name ≡ false → A) → A
 text_cases {A} text name same other =
@@ -127,6 +133,39 @@ channel ws =
     (λ pattern. text_goes_on (a_small_number ∷ a_small_number ∷ []) [] (channel_end number pattern) (channel_back number pattern)))
     ws
 
+-- `all` or `some` at the line's end
+abbrev kind_pieces : List Form
+kind_pieces = (exactly (codes "all") ∷ []) ∷ (exactly (codes "some") ∷ []) ∷ []
+
+kind_ends : (make : Kind → Command) (ws : Words) → place_of (next_kind ws >>= (λ kind. only (make kind) (words_behind ws))) ≡ first_misfit kind_pieces ws
+unfolding kind_named
+kind_ends make (word at text ws) = text_cases text (codes "all")
+    (λ same. subst (λ t. place_of (next_kind (word at t ws) >>= (λ kind. only (make kind) ws)) ≡ first_misfit kind_pieces (word at t ws)) same (ends (make GetAll) ws))
+    (λ no_all. text_cases text (codes "some")
+    (λ same. subst (λ t. place_of (next_kind (word at t ws) >>= (λ kind. only (make kind) ws)) ≡ first_misfit kind_pieces (word at t ws)) same (ends (make NonBlocking) ws))
+    (λ no_some. rw (no_all, no_some) refl))
+kind_ends make (ended at) = refl
+kind_ends make (faulty at) = refl
+
+analyzer_back : (name into : List ℕ) (ws : Words) → place_of (analyzer_end name into ws)
+    ≡ first_misfit ((a_small_number ∷ a_small_number ∷ exactly (codes "all") ∷ []) ∷ (a_small_number ∷ a_small_number ∷ exactly (codes "some") ∷ []) ∷ []) ws
+analyzer_back name into ws =
+    number_goes_on most_small (a_small_number ∷ exactly (codes "all") ∷ []) ((a_small_number ∷ exactly (codes "some") ∷ []) ∷ [])
+    (λ id behind. next_number most_small behind >>= (λ mask. next_kind (words_behind behind) >>= (λ kind. only (Analyzer name into id mask kind) (words_behind (words_behind behind)))))
+    (λ id. number_goes_on most_small (exactly (codes "all") ∷ []) ((exactly (codes "some") ∷ []) ∷ [])
+    (λ mask behind. next_kind behind >>= (λ kind. only (Analyzer name into id mask kind) (words_behind behind)))
+    (λ mask. kind_ends (Analyzer name into id mask)))
+    ws
+
+analyzer : (ws : Words) → place_of (analyzer_form ws)
+    ≡ first_misfit ((any_text ∷ any_text ∷ a_small_number ∷ a_small_number ∷ exactly (codes "all") ∷ []) ∷ (any_text ∷ any_text ∷ a_small_number ∷ a_small_number ∷ exactly (codes "some") ∷ []) ∷ []) ws
+analyzer ws =
+    text_goes_on (any_text ∷ a_small_number ∷ a_small_number ∷ exactly (codes "all") ∷ []) ((any_text ∷ a_small_number ∷ a_small_number ∷ exactly (codes "some") ∷ []) ∷ [])
+    (λ name behind. next_text behind >>= (λ into. analyzer_end name into (words_behind behind)))
+    (λ name. text_goes_on (a_small_number ∷ a_small_number ∷ exactly (codes "all") ∷ []) ((a_small_number ∷ a_small_number ∷ exactly (codes "some") ∷ []) ∷ [])
+    (analyzer_end name) (analyzer_back name))
+    ws
+
 pub no_directory_type : type_named (codes "DIR") ≡ None
 unfolding type_named
 no_directory_type = refl
@@ -197,6 +236,7 @@ named at name ws =
     text_cases name (codes "buffer") (λ e. subst (Named at ws) e (buffer ws)) (λ no_buffer.
     text_cases name (codes "equip") (λ e. subst (Named at ws) e (equip ws)) (λ no_equip.
     text_cases name (codes "channel") (λ e. subst (Named at ws) e (channel ws)) (λ no_channel.
+    text_cases name (codes "analyzer") (λ e. subst (Named at ws) e (analyzer ws)) (λ no_analyzer.
     text_cases name (codes "create") (λ e. subst (Named at ws) e (create ws)) (λ no_create.
     text_cases name (codes "set") (λ e. subst (Named at ws) e (set ws)) (λ no_set.
     text_cases name (codes "get") (λ e. subst (Named at ws) e (text_number_ends Get ws)) (λ no_get.
@@ -207,7 +247,7 @@ named at name ws =
     text_cases name (codes "watch") (λ e. subst (Named at ws) e (text_ends Watch ws)) (λ no_watch.
     text_cases name (codes "notes") (λ e. subst (Named at ws) e (number_ends Notes ws)) (λ no_notes.
     text_cases name (codes "unwatch") (λ e. subst (Named at ws) e (number_ends Unwatch ws)) (λ no_unwatch.
-    refused_by_all at name ws (rw (no_events, no_start, no_stop, no_pause, no_resume, no_exit, no_buffer, no_equip, no_channel, no_create, no_set, no_get, no_ls, no_rm, no_load, no_save, no_watch, no_notes, no_unwatch) refl) (rw (no_events, no_start, no_stop, no_pause, no_resume, no_exit, no_buffer, no_equip, no_channel, no_create, no_set, no_get, no_ls, no_rm, no_load, no_save, no_watch, no_notes, no_unwatch) refl))))))))))))))))))))
+    refused_by_all at name ws (rw (no_events, no_start, no_stop, no_pause, no_resume, no_exit, no_buffer, no_equip, no_channel, no_analyzer, no_create, no_set, no_get, no_ls, no_rm, no_load, no_save, no_watch, no_notes, no_unwatch) refl) (rw (no_events, no_start, no_stop, no_pause, no_resume, no_exit, no_buffer, no_equip, no_channel, no_analyzer, no_create, no_set, no_get, no_ls, no_rm, no_load, no_save, no_watch, no_notes, no_unwatch) refl)))))))))))))))))))))
 
 first_named : (ws : Words) → place_of (words_form ws) ≡ first_misfit forms ws
 first_named (word at name ws) = named at name ws

@@ -31,7 +31,7 @@ fits a_type text = is_some (type_named text)
 abbrev pub Form : Type 0
 Form = List Piece
 
--- The table. A form with a word that may be left out has two lines. The first is that of a line of no word.
+-- The table. A form with a word that may be left out, or that may be one of two, has two lines. The first is that of a line of no word.
 abbrev pub forms : List Form
 forms =
     []
@@ -39,6 +39,8 @@ forms =
     ∷ (exactly (codes "equip") ∷ any_text ∷ a_number ∷ a_small_number ∷ any_text ∷ [])
     ∷ (exactly (codes "equip") ∷ any_text ∷ a_number ∷ a_small_number ∷ any_text ∷ a_number ∷ [])
     ∷ (exactly (codes "channel") ∷ a_number ∷ any_text ∷ any_text ∷ a_small_number ∷ a_small_number ∷ [])
+    ∷ (exactly (codes "analyzer") ∷ any_text ∷ any_text ∷ a_small_number ∷ a_small_number ∷ exactly (codes "all") ∷ [])
+    ∷ (exactly (codes "analyzer") ∷ any_text ∷ any_text ∷ a_small_number ∷ a_small_number ∷ exactly (codes "some") ∷ [])
     ∷ (exactly (codes "events") ∷ a_number ∷ [])
     ∷ (exactly (codes "start") ∷ [])
     ∷ (exactly (codes "stop") ∷ [])

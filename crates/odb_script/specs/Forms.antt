@@ -1,13 +1,14 @@
 -- The forms of a script's commands, read word by word.
 use Rattle.std.specs.Prelude.{ℕ, nat_lt, nat_eq, if◌then◌else◌, List, length, Option, Some, None, unwrap_or, Result, Ok, Err, codes}
 use Rattle.std.specs.List.{starts_with}
+use Rattle.daq_types.specs.declared.runs.Kind.{Kind}
 use Rattle.daq_types.specs.declared.types.Tid.{Tid}
 use Rattle.odb_script.specs.LineWords.{Words, word, ended, faulty, line_words}
 use Rattle.daq_text.specs.Numbers.{number_of}
 use Rattle.odb_script.specs.Numbers.{most_number, most_small}
-use Rattle.odb_script.specs.TypeNames.{is_text, type_named}
+use Rattle.odb_script.specs.TypeNames.{is_text, type_named, kind_named}
 use Rattle.odb_script.specs.declared.forms.Command.{Command}
-use Rattle.odb_script.specs.declared.forms.Command.TheVariants.{Nothing, Buffer, Equip, Channel, Events, Start, Stop, Pause, Resume, Create, CreateDir, Set, Get, List as Ls, Remove, Load, Save, Watch, Notes, Unwatch, Exit}
+use Rattle.odb_script.specs.declared.forms.Command.TheVariants.{Nothing, Buffer, Equip, Channel, Analyzer, Events, Start, Stop, Pause, Resume, Create, CreateDir, Set, Get, List as Ls, Remove, Load, Save, Watch, Notes, Unwatch, Exit}
 use Rattle.odb_script.specs.declared.refusals.LineRefusal.{LineRefusal}
 use Rattle.odb_script.specs.declared.refusals.LineRefusal.TheVariants.{BadCommand}
 
@@ -48,6 +49,17 @@ abbrev pub next_number : (most : ℕ) → Words → Read ℕ
 next_number most (word at text ws) = read_number_at at (number_of most text)
 next_number most (ended at) = Err (BadCommand at)
 next_number most (faulty at) = Err (BadCommand at)
+
+-- the next word names no kind of request
+abbrev pub read_kind_at : ℕ → Option Kind → Read Kind
+read_kind_at at None = Err (BadCommand at)
+read_kind_at at (Some kind) = Ok kind
+
+-- the next word, which has to name one
+abbrev pub next_kind : Words → Read Kind
+next_kind (word at text ws) = read_kind_at at (kind_named text)
+next_kind (ended at) = Err (BadCommand at)
+next_kind (faulty at) = Err (BadCommand at)
 
 -- a number at the line's end, which may be left out
 abbrev pub last_number : Words → Read (Option ℕ)
@@ -126,6 +138,21 @@ channel_form ws = do
   buffer ← next_text (words_behind (words_behind ws))
   channel_end number pattern buffer (words_behind (words_behind (words_behind ws)))
 
+-- what stands behind `analyzer NAME BUFFER`
+abbrev pub analyzer_end : (name buffer : List ℕ) → Words → Read Command
+analyzer_end name buffer ws = do
+  id ← next_number most_small ws
+  mask ← next_number most_small (words_behind ws)
+  kind ← next_kind (words_behind (words_behind ws))
+  only (Analyzer name buffer id mask kind) (words_behind (words_behind (words_behind ws)))
+
+-- `analyzer NAME BUFFER ID MASK all`, or `some` in the place of `all`
+abbrev pub analyzer_form : Words → Read Command
+analyzer_form ws = do
+  name ← next_text ws
+  buffer ← next_text (words_behind ws)
+  analyzer_end name buffer (words_behind (words_behind ws))
+
 -- `create DIR PATH`
 abbrev pub directory_form : Words → Read Command
 directory_form = with_text CreateDir
@@ -193,6 +220,7 @@ declaring_form at name ws =
     if is_text name (codes "buffer") then buffer_form ws
     else if is_text name (codes "equip") then equip_form ws
     else if is_text name (codes "channel") then channel_form ws
+    else if is_text name (codes "analyzer") then analyzer_form ws
     else key_form at name ws
 
 -- a run's, that of `exit`, or one of those

@@ -3,9 +3,9 @@ use Rattle.std.specs.Prelude.{◌≡◌, ◌⊎◌, ℕ, List, [], ◌∷◌, Op
 use Rattle.odb_script.specs.LineWords.{Words, word, ended, faulty}
 use Rattle.daq_text.specs.Numbers.{number_of}
 use Rattle.odb_script.specs.Numbers.{most_number, most_small}
-use Rattle.odb_script.specs.TypeNames.{type_named}
+use Rattle.odb_script.specs.TypeNames.{type_named, kind_named}
 use Rattle.odb_script.specs.declared.forms.Command.{Command}
-use Rattle.odb_script.specs.declared.forms.Command.TheVariants.{Nothing, Buffer, Equip, Channel, Events, Start, Stop, Pause, Resume, Create, CreateDir, Set, Get, List as Ls, Remove, Load, Save, Watch, Notes, Unwatch, Exit}
+use Rattle.odb_script.specs.declared.forms.Command.TheVariants.{Nothing, Buffer, Equip, Channel, Analyzer, Events, Start, Stop, Pause, Resume, Create, CreateDir, Set, Get, List as Ls, Remove, Load, Save, Watch, Notes, Unwatch, Exit}
 
 -- the texts of words, where nothing else stands among them
 abbrev pub texts_of : Words → Option (List (List ℕ))
@@ -25,6 +25,9 @@ Spells texts (Equip name id mask buffer limit) =
 Spells texts (Channel number pattern buffer id mask) =
     (n : List ℕ) × (i : List ℕ) × (m : List ℕ) × (texts ≡ codes "channel" ∷ n ∷ pattern ∷ buffer ∷ i ∷ m ∷ [])
     × (number_of most_number n ≡ Some number) × (number_of most_small i ≡ Some id) × (number_of most_small m ≡ Some mask)
+Spells texts (Analyzer name buffer id mask kind) =
+    (i : List ℕ) × (m : List ℕ) × (k : List ℕ) × (texts ≡ codes "analyzer" ∷ name ∷ buffer ∷ i ∷ m ∷ k ∷ [])
+    × (number_of most_small i ≡ Some id) × (number_of most_small m ≡ Some mask) × (kind_named k ≡ Some kind)
 Spells texts (Events count) = (number : List ℕ) × (texts ≡ codes "events" ∷ number ∷ []) × (number_of most_number number ≡ Some count)
 Spells texts Start = texts ≡ codes "start" ∷ []
 Spells texts Stop = texts ≡ codes "stop" ∷ []

@@ -1,7 +1,9 @@
--- The types that a script names.
-use Rattle.std.specs.Prelude.{ℕ, Bool, false, ◌||◌, nat_eq, List, [], ◌∷◌, Option, Some, None}
+-- The types of values and the kinds of requests that a script names.
+use Rattle.std.specs.Prelude.{ℕ, Bool, false, ◌||◌, if◌then◌else◌, nat_eq, List, [], ◌∷◌, Option, Some, None, codes}
 use Rattle.std.specs.List.{find}
 use Rattle.std.specs.Cmp.Lexicographic.{pointwise}
+use Rattle.daq_types.specs.declared.runs.Kind.{Kind}
+use Rattle.daq_types.specs.declared.runs.Kind.TheVariants.{All as GetAll, NonBlocking}
 use Rattle.daq_types.specs.declared.types.Tid.{Tid}
 use Rattle.daq_types.specs.declared.types.Tid.TheVariants.{UInt8, Int8, Char, UInt16, Int16, UInt32, Int32, Bool as Truth, Float, Double, BitField, Text, Array, Struct, Key, Link, Int64, UInt64}
 use Rattle.daq_types.specs.Tids.{tid_name, tid_older_name}
@@ -24,3 +26,10 @@ every_type = UInt8 ∷ Int8 ∷ Char ∷ UInt16 ∷ Int16 ∷ UInt32 ∷ Int32 �
 -- the type that a text names
 unfoldable pub type_named : List ℕ → Option Tid
 type_named text = find (names_type text) every_type
+
+-- the kind of request that a text names: GET_ALL or GET_NONBLOCKING
+unfoldable pub kind_named : List ℕ → Option Kind
+kind_named text =
+    if is_text text (codes "all") then Some GetAll
+    else if is_text text (codes "some") then Some NonBlocking
+    else None

@@ -1,7 +1,7 @@
 //! Worked lines of the script with their commands, and the places at which lines are refused.
 use crate::{Command, LineRefusal};
 use daq_text::TextBuffer;
-use daq_types::NoMemory;
+use daq_types::{Kind, NoMemory};
 use std::test::Fail;
 
 /// Writes a text in angle brackets.
@@ -21,6 +21,14 @@ fn spell_one(text: &mut TextBuffer, name: &str, bytes: &[u8]) -> Result<(), NoMe
 fn spell_number(text: &mut TextBuffer, name: &str, number: u32) -> Result<(), NoMemory> {
     text.text(name.as_bytes())?;
     text.blank_number(number as u64)
+}
+
+/// How a kind of request is written.
+fn kind_text(kind: Kind) -> &'static [u8] {
+    match kind {
+        Kind::All => b" all".as_slice(),
+        Kind::NonBlocking => b" some".as_slice(),
+    }
 }
 
 /// Writes a command of a session's declarations with all its parts, and nothing for any other.
@@ -55,6 +63,19 @@ fn spell_declared(text: &mut TextBuffer, command: Command<'_>) -> Result<(), NoM
             spell_text(text, buffer.as_slice())?;
             text.blank_number(id as u64)?;
             text.blank_number(mask as u64)
+        }
+        Command::Analyzer {
+            name,
+            buffer,
+            id,
+            mask,
+            kind,
+        } => {
+            spell_one(text, "analyzer", name.as_slice())?;
+            spell_text(text, buffer.as_slice())?;
+            text.blank_number(id as u64)?;
+            text.blank_number(mask as u64)?;
+            text.text(kind_text(kind))
         }
         _ => Ok(()),
     }
@@ -176,6 +197,14 @@ fn lines_of_a_session(rt: HostRuntime) -> Result<(), Fail> {
             "channel 0 <run%05d.mid> <SYSTEM> 65535 65535",
         ),
         ("channel 16 \"\" b 0 1", "channel 16 <> <b> 0 1"),
+        (
+            "analyzer ANA SYSTEM 65535 0 all",
+            "analyzer <ANA> <SYSTEM> 65535 0 all",
+        ),
+        (
+            "analyzer A \"b c\" 1 0xffff some",
+            "analyzer <A> <b c> 1 65535 some",
+        ),
         ("pause", "pause"),
         ("resume\t", "resume"),
         ("load a.odb", "load <a.odb>"),
@@ -207,7 +236,11 @@ fn places_in_lines_of_a_session(rt: HostRuntime) {
         ("channel 0 p B 1 65536", 16),
         ("channel 0 p B 1", 15),
         ("channel 0 p B 1 1 x", 18),
-        ("analyzer A B 1 1 all", 0),
+        ("analyzer A", 10),
+        ("analyzer A B 65536 1 all", 13),
+        ("analyzer A B 1 1", 16),
+        ("analyzer A B 1 1 none", 17),
+        ("analyzer A B 1 1 all 1", 21),
         ("pause 1", 6),
         ("resume x", 7),
         ("load", 4),

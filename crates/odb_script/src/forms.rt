@@ -1,14 +1,16 @@
 //! The command of a line, by the name in front and the form that it begins.
 ghost use Rattle.std.specs.Prelude.{◌≡◌, Ok};
 ghost use Rattle.odb_script.specs.Exits.{is_exit};
-ghost use Rattle.odb_script.specs.Forms.{buffer_form, equip_form, channel_form, only, named_form, declaring_form, key_form, watching_form, command_of};
+ghost use Rattle.odb_script.specs.Forms.{buffer_form, equip_form, channel_form, analyzer_form, only, named_form, declaring_form, key_form, watching_form, command_of};
 
 use crate::key_forms::{read_create, read_get, read_set};
 use crate::line_text::LineText;
-use crate::pieces::{end, last_number, next_number, next_small, only_number, only_text, text};
+use crate::pieces::{
+    end, last_number, next_kind, next_number, next_small, only_number, only_text, text,
+};
 use crate::refusals::{LINE_BYTES, LineRefusal};
 use crate::words::{NextWord, WordReader};
-use daq_types::Tid;
+use daq_types::{Kind, Tid};
 
 /// A command of the script. Its texts are words of the line, without quotes; paths and values are read later, by the
 /// database.
@@ -37,6 +39,15 @@ pub enum Command<'a> {
         buffer: LineText<'a>,
         id: u16,
         mask: u16,
+    },
+    /// `analyzer NAME BUFFER ID MASK all`: adds an analyzer, for which senders wait; or `some` in the place of `all`, for
+    /// which they do not.
+    Analyzer {
+        name: LineText<'a>,
+        buffer: LineText<'a>,
+        id: u16,
+        mask: u16,
+        kind: Kind,
     },
     /// `events N`: how many events each front-end sends in the runs that are started from here on.
     Events {
@@ -149,6 +160,25 @@ fn read_channel<'a>(words: &mut WordReader<'a>) -> Result<Command<'a>, LineRefus
     })
 }
 
+/// `analyzer NAME BUFFER ID MASK all` or `some`
+fn read_analyzer<'a>(words: &mut WordReader<'a>) -> Result<Command<'a>, LineRefusal>
+    ensures { result ≡ analyzer_form words.old }
+{
+    let name = text(words)?;
+    let buffer = text(words)?;
+    let id = next_small(words)?;
+    let mask = next_small(words)?;
+    let kind = next_kind(words)?;
+    end(words)?;
+    Ok(Command::Analyzer {
+        name,
+        buffer,
+        id,
+        mask,
+        kind,
+    })
+}
+
 /// A command of one word.
 fn read_only<'a>(
     command: Command<'a>,
@@ -239,6 +269,9 @@ fn read_declaring<'a>(
     }
     if name == b"channel".as_slice() {
         return read_channel(words);
+    }
+    if name == b"analyzer".as_slice() {
+        return read_analyzer(words);
     }
     read_key(at, name, words)
 }

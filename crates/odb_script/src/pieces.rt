@@ -2,20 +2,44 @@
 ghost use Rattle.std.specs.Prelude.{◌≡◌, ◌≤◌, IfOk, IfSome, OnOk};
 ghost use Rattle.daq_text.specs.Numbers.{number_of};
 ghost use Rattle.odb_script.specs.Numbers.{most_small};
-ghost use Rattle.odb_script.specs.TypeNames.{type_named};
-ghost use Rattle.odb_script.specs.Forms.{next_text, words_behind, line_end, read_number_at, next_number as number_next, last_number as number_last, only_text as text_alone, only_number as number_alone};
+ghost use Rattle.odb_script.specs.TypeNames.{type_named, kind_named};
+ghost use Rattle.odb_script.specs.Forms.{next_text, words_behind, line_end, read_number_at, next_number as number_next, read_kind_at, next_kind as kind_next, last_number as number_last, only_text as text_alone, only_number as number_alone};
 
 use crate::line_text::LineText;
 use crate::refusals::LineRefusal;
 use crate::words::{NextWord, WordReader};
 use daq_text::number;
-use daq_types::Tid;
+use daq_types::{Kind, Tid};
 
 /// The type that a word names, with its own name or its older one.
 pub(crate) fn type_of(name: &[u8]) -> Option<Tid>
     ensures { result ≡ type_named name.now }
 {
     Tid::from_name(name)
+}
+
+/// The kind of request that a word names.
+#[tactic(auto, unfolding(crate::specs::TypeNames::kind_named))]
+pub(crate) fn kind_of(name: &[u8]) -> Option<Kind>
+    ensures { result ≡ kind_named name.now }
+{
+    if name == b"all".as_slice() {
+        return Some(Kind::All);
+    }
+    if name == b"some".as_slice() {
+        return Some(Kind::NonBlocking);
+    }
+    None
+}
+
+/// The kind that a word at this place names.
+pub(crate) fn kind_there(at: u32, kind: Option<Kind>) -> Result<Kind, LineRefusal>
+    ensures { result ≡ read_kind_at at kind }
+{
+    match kind {
+        None => Err(LineRefusal::BadCommand { at }),
+        Some(kind) => Ok(kind),
+    }
 }
 
 /// The number of at most `most` that a word is.
@@ -80,6 +104,17 @@ pub(crate) fn next_small(words: &mut WordReader<'_>) -> Result<u16, LineRefusal>
 {
     let number = next_number(words, u16::MAX as u32)?;
     Ok(number as u16)
+}
+
+/// The next word, which has to name a kind of request.
+pub(crate) fn next_kind(words: &mut WordReader<'_>) -> Result<Kind, LineRefusal>
+    ensures kind { result ≡ kind_next words.old }
+    ensures behind { OnOk result (words.new ≡ words_behind words.old) }
+{
+    match words.next() {
+        NextWord::Word { at, text } => kind_there(at, kind_of(text.as_slice())),
+        NextWord::End { at } | NextWord::Faulty { at } => Err(LineRefusal::BadCommand { at }),
+    }
 }
 
 /// A number at the line's end, which may be left out.

@@ -4,5 +4,6 @@
 mod records;
 
 pub use records::{
-    FileRecord, FileRecords, FrontTallies, FrontTally, RunRecord, SentLine, SentLines,
+    FileRecord, FileRecords, FrontTallies, FrontTally, ReportLine, ReportLines, ReportTallies,
+    ReportTally, RunRecord, SentLine, SentLines,
 };

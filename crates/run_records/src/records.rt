@@ -1,4 +1,5 @@
-use daq_types::{BoundedList, ChannelState, FileName, FrontEnded, Name, StartOutcome};
+use daq_types::{BoundedList, Bytes, ChannelState, FileName, FrontEnded, Name, StartOutcome};
+use event_report::Report;
 
 /// What the front-ends of a session sent in a run, in the order of their client numbers.
 pub type FrontTallies = BoundedList<FrontTally, 32>;
@@ -6,8 +7,14 @@ pub type FrontTallies = BoundedList<FrontTally, 32>;
 /// What the channels of a session's logger wrote in a run, in the order of their numbers.
 pub type FileRecords = BoundedList<FileRecord, 16>;
 
+/// What the analyzers of a session counted in a run, in the order of their client numbers.
+pub type ReportTallies = BoundedList<ReportTally, 8>;
+
 /// What the console tells of the front-ends as a run ends, in the order of their declaration.
 pub type SentLines = BoundedList<SentLine, 32>;
+
+/// What the console tells of the analyzers as a run ends, in the order of their declaration.
+pub type ReportLines = BoundedList<ReportLine, 8>;
 
 /// What is kept of a start and of the run that it began.
 #[derive(Debug, Drop)]
@@ -26,6 +33,8 @@ pub struct RunRecord {
     pub fronts: FrontTallies,
     /// What the logger wrote; nothing for a refused start.
     pub files: FileRecords,
+    /// What the analyzers counted; nothing for a refused start.
+    pub reports: ReportTallies,
 }
 
 /// What a front-end sent in a run.
@@ -50,6 +59,15 @@ pub struct FileRecord {
     pub state: ChannelState,
 }
 
+/// What an analyzer counted in a run.
+#[derive(Debug, Drop)]
+pub struct ReportTally {
+    /// Its client number.
+    pub client: u32,
+    /// What it counted.
+    pub report: Report,
+}
+
 /// What the console tells of a front-end as a run ends.
 #[derive(Clone, Copy, Debug)]
 pub struct SentLine {
@@ -57,4 +75,13 @@ pub struct SentLine {
     pub name: Name,
     /// How many events it sent.
     pub sent: u64,
+}
+
+/// What the console tells of an analyzer as a run ends.
+#[derive(Debug, Drop)]
+pub struct ReportLine {
+    /// What stands before each line of the report: the analyzer's name and a blank.
+    pub start: Bytes,
+    /// What it counted.
+    pub report: Report,
 }

@@ -8,6 +8,7 @@ use Rattle.script_desk.specs.declared.halts.Halt.{Halt}
 use Rattle.script_desk.specs.declared.halts.Halt.TheVariants.{NoMemory, SinkFault}
 use Rattle.script_desk.specs.declared.endings.Ending.{Ending}
 use Rattle.script_desk.specs.declared.endings.Ending.TheVariants.{End, TooLong, SourceFault, Halted}
+use Rattle.script_desk.specs.Endings.{SinkByEnding, SourceByEnding}
 use Rattle.script_desk.specs.Halts.{SinkBy}
 use Rattle.script_desk.specs.Playing.{AreLines, CutBy, Played, PlaysFrom, Wrote}
 use Rattle.session_replies.specs.declared.replies.Reply.{Reply}
@@ -47,6 +48,15 @@ ended_by ending (Some halt) = earlier ending halt
 abbrev pub SinkBehind : (closing : Option Halt) → (old new : ℕ) → Type 0
 SinkBehind None old new = new ≡ old
 SinkBehind (Some halt) old new = SinkBy halt old new
+
+-- A script whose lines ended so, and behind which this failed, left the counts of faults of its source and of its sink so: the
+-- sink's was `lines` behind the lines.
+pub record EndCounts (ending : Ending) (closing : Option Halt) (source source_later sink sink_later : ℕ) : Type 0 where
+  pub may : MayFail ending closing
+  pub source_counts : SourceByEnding ending source source_later
+  pub lines : ℕ
+  pub sink_counts : SinkByEnding ending sink lines
+  pub behind : SinkBehind closing lines sink_later
 
 -- the reply of what was done behind the lines, if it has one
 abbrev pub reply_list : Option Reply → List Reply

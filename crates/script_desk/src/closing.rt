@@ -1,9 +1,8 @@
 ghost use Rattle.std.specs.Prelude.{◌≡◌, ◌≤◌, ◌+◌, ℕ, List, Option, false};
 ghost use Rattle.odb_script.specs.declared.forms.Command.{Command};
 ghost use Rattle.odb_script.specs.Forms.{Read};
-ghost use Rattle.script_desk.specs.Endings.{SinkByEnding, SourceByEnding};
 ghost use Rattle.script_desk.specs.Playing.{HasLine};
-ghost use Rattle.script_desk.specs.Closing.{Finished, Finishes, MayFail, SinkBehind};
+ghost use Rattle.script_desk.specs.Closing.{EndCounts, Finished, Finishes, MayFail, SinkBehind};
 
 use crate::answerer::Answerer;
 use crate::console::print_reply;
@@ -68,10 +67,8 @@ pub fn play_out<R: Wait, A: Answerer, S: Source, K: Sink>(
         → Finished A.does A.breaks A.closes A.gives_up first result.0 result.1 source_first
         (S.left source.new) told_first (K.written out.new) (A.stage answerer.new)
         desk.new.refusals }
-    ensures may { MayFail result.0 result.1 }
-    ensures source { SourceByEnding result.0 (S.faults source.old) (S.faults source.new) }
-    ensures sink { (lines : ℕ) × SinkByEnding result.0 (K.faults out.old) lines
-        × SinkBehind result.1 lines (K.faults out.new) }
+    ensures counts { EndCounts result.0 result.1 (S.faults source.old) (S.faults source.new)
+        (K.faults out.old) (K.faults out.new) }
     ensures stays { A.stays answerer.old answerer.new }
 {
     match play_on(rt, alloc, desk, answerer, source, out) {

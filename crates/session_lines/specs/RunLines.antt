@@ -1,5 +1,5 @@
 -- What the commands of runs do, and what they are answered.
-use Rattle.std.specs.Prelude.{◌≡◌, ℕ, ◌-◌, ◌⊎◌, List, [], ◌∷◌, map, take, length, slice_get, Option, Some, None, Result, Err}
+use Rattle.std.specs.Prelude.{◌≡◌, ℕ, ◌-◌, ◌++◌, ◌⊎◌, List, [], ◌∷◌, map, take, length, slice_get, Option, Some, None, Result, Err}
 use Rattle.std.specs.Option.{unwrap_or}
 use Rattle.daq_types.specs.declared.runs.RunState.TheVariants.{Stopped}
 use Rattle.daq_types.specs.declared.runs.Transition.TheVariants.{Pause, Resume}
@@ -16,6 +16,8 @@ use Rattle.run_records.specs.declared.records.RunRecord.{RunRecord}
 use Rattle.run_records.specs.declared.records.FrontTally.{FrontTally}
 use Rattle.run_records.specs.declared.records.FileRecord.{FileRecord}
 use Rattle.run_records.specs.declared.records.SentLine.{SentLine}
+use Rattle.run_records.specs.declared.records.ReportTally.{ReportTally}
+use Rattle.run_records.specs.declared.records.ReportLine.{ReportLine}
 use Rattle.session_setup.specs.SetupLines.{opened_with_defaults}
 use Rattle.session_runs.specs.declared.replies.RunReply.{RunReply}
 use Rattle.session_runs.specs.declared.replies.RunReply.TheVariants as answer
@@ -28,13 +30,18 @@ use Rattle.session_lines.specs.Stages.{Stage, front_names, open_stage, opened_ru
 
 -- Replies.
 
--- the name of a client: those of the front-ends come first, and then the logger's
-abbrev pub member_name : (fronts : List (List ℕ)) → (client : ℕ) → List ℕ
-member_name fronts client = unwrap_or (slice_get fronts client) logger_name
+-- the name of a client: those of the front-ends come first, then the logger's, and then those of the analyzers
+abbrev pub member_name : (fronts analyzers : List (List ℕ)) → (client : ℕ) → List ℕ
+member_name fronts analyzers client = unwrap_or (slice_get (fronts ++ logger_name ∷ analyzers) client) logger_name
 
 -- what the console tells of a front-end
-abbrev pub sent_line : (fronts : List (List ℕ)) → FrontTally → SentLine
-sent_line fronts tally = record { name = member_name fronts tally.client; sent = tally.sent }
+abbrev pub sent_line : (fronts analyzers : List (List ℕ)) → FrontTally → SentLine
+sent_line fronts analyzers tally = record { name = member_name fronts analyzers tally.client; sent = tally.sent }
+
+-- what it tells of an analyzer: its report, with its name and a blank before each line
+abbrev pub report_line : (fronts analyzers : List (List ℕ)) → ReportTally → ReportLine
+report_line fronts analyzers tally =
+    record { start = member_name fronts analyzers tally.client ++ 32 ∷ []; report = tally.report }
 
 -- the last of some records, if there is any
 abbrev pub last_record : List RunRecord → Option RunRecord
@@ -48,17 +55,22 @@ abbrev pub files_in : Option RunRecord → List FileRecord
 files_in None = []
 files_in (Some r) = r.files
 
+abbrev pub reports_in : Option RunRecord → List ReportTally
+reports_in None = []
+reports_in (Some r) = r.reports
+
 -- the reply to a command of runs, where these are what is kept behind it
 abbrev pub reply_for : RunsSeen → RunReply → Reply
 reply_for runs (answer.WrongState state) = WrongState state
 reply_for runs answer.LastStart = LastStart
 reply_for runs (answer.RunNumber have) = RunNumber have
-reply_for runs (answer.StartRefused client why) = StartRefused (member_name runs.fronts client) why
+reply_for runs (answer.StartRefused client why) = StartRefused (member_name runs.fronts runs.analyzers client) why
 reply_for runs (answer.Started run) = run_started run
 reply_for runs (answer.Paused run) = run_paused run
 reply_for runs (answer.Resumed run) = run_resumed run
 reply_for runs (answer.Stopped run) =
-    run_stopped run (map (sent_line runs.fronts) (fronts_in (last_record runs.runs))) (files_in (last_record runs.runs))
+    run_stopped run (map (sent_line runs.fronts runs.analyzers) (fronts_in (last_record runs.runs)))
+    (files_in (last_record runs.runs)) (map (report_line runs.fronts runs.analyzers) (reports_in (last_record runs.runs)))
 
 -- Commands of an open session, by the main thread's own calls. What its members did meanwhile is not said here.
 

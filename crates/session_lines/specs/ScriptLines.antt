@@ -1,7 +1,7 @@
 -- What a line of a script does to a session, and what it is answered.
 use Rattle.std.specs.Prelude.{◌≡◌, ℕ, Bool, true, false, Option, Ok, Err}
 use Rattle.odb_script.specs.declared.forms.Command.{Command}
-use Rattle.odb_script.specs.declared.forms.Command.TheVariants.{Nothing, Buffer, Equip, Channel, Events, Start, Stop, Pause, Resume, Create, CreateDir, Set, Get, List as Ls, Remove, Load, Save, Watch, Notes, Unwatch, Exit}
+use Rattle.odb_script.specs.declared.forms.Command.TheVariants.{Nothing, Buffer, Equip, Channel, Analyzer, Events, Start, Stop, Pause, Resume, Create, CreateDir, Set, Get, List as Ls, Remove, Load, Save, Watch, Notes, Unwatch, Exit}
 use Rattle.odb_script.specs.declared.refusals.LineRefusal.{LineRefusal}
 use Rattle.odb_script.specs.declared.refusals.LineRefusal.TheVariants.{BadCommand as no_command}
 use Rattle.odb_script.specs.Forms.{Read}
@@ -9,7 +9,7 @@ use Rattle.session_replies.specs.declared.replies.Reply.{Reply}
 use Rattle.session_replies.specs.declared.replies.Reply.TheVariants.{Silent, BadCommand}
 use Rattle.session_setup.specs.Setup.{Declared}
 use Rattle.session_lines.specs.Stages.{Stage, with_quota}
-use Rattle.session_lines.specs.SetupReplies.{DeclaresBuffer, DeclaresFront, DeclaresChannel}
+use Rattle.session_lines.specs.SetupReplies.{DeclaresBuffer, DeclaresFront, DeclaresChannel, DeclaresAnalyzer}
 use Rattle.database_desk.specs.DatabaseLines.{BreaksDatabase, DoesDatabase, calls_objects}
 use Rattle.session_lines.specs.RunLines.{BreaksStart, BreaksStop, ClosesRun, DoesPause, DoesResume, DoesStart, DoesStop, runs_on}
 
@@ -28,6 +28,7 @@ DoesCommand number Exit old reply new = (reply ≡ Silent) × (new ≡ old)
 DoesCommand number (Buffer name size) old reply new = SetsUp (DeclaresBuffer name size) old reply new
 DoesCommand number (Equip name id mask buffer limit) old reply new = SetsUp (DeclaresFront name id mask buffer limit) old reply new
 DoesCommand number (Channel n pattern buffer id mask) old reply new = SetsUp (DeclaresChannel n pattern buffer id mask) old reply new
+DoesCommand number (Analyzer name buffer id mask kind) old reply new = SetsUp (DeclaresAnalyzer name buffer id mask kind) old reply new
 DoesCommand number (Events count) old reply new = (reply ≡ Silent) × (new ≡ with_quota count old)
 DoesCommand number Start old reply new = DoesStart old.runs old reply new
 DoesCommand number Stop old reply new = DoesStop old.runs old reply new

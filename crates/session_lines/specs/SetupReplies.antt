@@ -1,11 +1,12 @@
 -- What the lines that declare something do, and what they are answered.
 use Rattle.std.specs.Prelude.{◌≡◌, ℕ, Bool, true, false, List, Option, Some, None, Result, Ok, Err}
+use Rattle.daq_types.specs.declared.runs.Kind.{Kind}
 use Rattle.mid_logger.specs.Patterns.{NamePattern}
 use Rattle.session_setup.specs.declared.refusals.SetupRefusal.{SetupRefusal}
 use Rattle.session_setup.specs.declared.refusals.SetupRefusal.TheVariants.{Opened}
 use Rattle.session_setup.specs.Setup.{Declared}
 use Rattle.session_setup.specs.Refusals.{NameRead, IsNameRead}
-use Rattle.session_setup.specs.SetupLines.{buffer_refusal, with_buffer, equip_refusal, with_front, IsPatternRead, channel_refusal, with_channel}
+use Rattle.session_setup.specs.SetupLines.{buffer_refusal, with_buffer, equip_refusal, with_front, IsPatternRead, channel_refusal, with_channel, analyzer_refusal, with_analyzer}
 use Rattle.session_replies.specs.declared.replies.Reply.{Reply}
 use Rattle.session_replies.specs.declared.replies.Reply.TheVariants.{Silent, Setup}
 
@@ -45,4 +46,10 @@ TakesChannel (Some refusal) number text buffer id mask old reply new = (reply �
 abbrev pub DeclaresChannel : (number : ℕ) → (text buffer : List ℕ) → (id mask : ℕ) → (old : Declared) → Reply → (new : Declared) → Type 0
 DeclaresChannel number text buffer id mask old reply new = SetupUnless old.opened
     ((read : Option NamePattern) × IsPatternRead text read × TakesChannel (channel_refusal old number read text buffer) number text buffer id mask old reply new)
+    old reply new
+
+-- `analyzer NAME BUFFER ID MASK KIND`
+abbrev pub DeclaresAnalyzer : (name buffer : List ℕ) → (id mask : ℕ) → Kind → (old : Declared) → Reply → (new : Declared) → Type 0
+DeclaresAnalyzer name buffer id mask kind old reply new = SetupUnless old.opened
+    ((read : NameRead) × IsNameRead name read × TakesSetup (analyzer_refusal old read name buffer) (with_analyzer old name buffer id mask kind) old reply new)
     old reply new

@@ -1,13 +1,12 @@
 -- Where a session stands between two lines of its script, by what its main thread did.
-use Rattle.std.specs.Prelude.{ℕ, List, [], ◌∷◌, ◌++◌, map, Option, Some, None}
+use Rattle.std.specs.Prelude.{ℕ, List, [], map, Option, Some, None}
 use Rattle.std.specs.Option.{option_map}
-use Rattle.run_states.specs.declared.sequences.Role.TheVariants.{FrontEnd, Logger}
 use Rattle.mid_logger.specs.ChannelTurns.{logger_name}
 use Rattle.transition_lock.specs.declared.shared.SharedEngine.{SharedEngine}
 use Rattle.odb_port.specs.DatabasePorts.{DatabaseAccess}
 use Rattle.database_desk.specs.DatabaseStages.{DatabaseStage, DumpFiles}
 use Rattle.session_engine.specs.declared.opening.MemberName.{MemberName}
-use Rattle.session_engine.specs.Members.{registrations}
+use Rattle.session_engine.specs.Members.{members_named, registrations}
 use Rattle.session_engine.specs.MainSeats.{MainSeen}
 use Rattle.session_setup.specs.Setup.{Declared, nothing_declared}
 use Rattle.session_runs.specs.KeptRuns.{RunsSeen, channels_of}
@@ -63,15 +62,19 @@ runs_with_quota count runs = record runs { quota = count }
 abbrev pub with_quota : ℕ → Stage → Stage
 with_quota count s = record s { quota = count; runs = option_map (runs_with_quota count) s.runs }
 
--- how the members of a session with these front-ends are registered: the front-ends in order, and then the logger
-abbrev pub members_named : (fronts : List (List ℕ)) → List MemberName
-members_named fronts = map (λ (name : List ℕ). record { name = name; role = FrontEnd }) fronts ++ record { name = logger_name; role = Logger } ∷ []
-
 -- the names of the declared front-ends
 abbrev pub front_names : Declared → List (List ℕ)
 front_names d = map (λ front. front.name) d.fronts
 
--- what the main thread keeps as a session opens: no run yet, the front-ends and channels as they were declared, and the
+-- the names of the declared analyzers
+abbrev pub analyzer_names : Declared → List (List ℕ)
+analyzer_names d = map (λ analyzer. analyzer.name) d.analyzers
+
+-- the members of a session of these declarations, as they are registered
+abbrev pub members_declared : Declared → List MemberName
+members_declared d = members_named (front_names d) logger_name (analyzer_names d)
+
+-- what the main thread keeps as a session opens: no run yet, the front-ends, channels and analyzers as they were declared, and the
 -- engine, on which it registered the members
 abbrev pub opened_runs : (quota : ℕ) → Declared → SharedEngine → RunsSeen
 opened_runs quota d engine = record {
@@ -79,6 +82,7 @@ opened_runs quota d engine = record {
   runs = [];
   fronts = front_names d;
   channels = channels_of d.channels;
+  analyzers = analyzer_names d;
   on = None;
-  main = record { engine = engine; own = registrations 0 (members_named (front_names d)) };
+  main = record { engine = engine; own = registrations 0 (members_declared d) };
 }

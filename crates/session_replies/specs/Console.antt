@@ -12,6 +12,8 @@ use Rattle.daq_types.specs.declared.runs.Why.{Why}
 use Rattle.daq_types.specs.declared.runs.Why.TheVariants.{NotReady, Exists, Fault, BufferRefused}
 use Rattle.run_records.specs.declared.records.SentLine.{SentLine}
 use Rattle.run_records.specs.declared.records.FileRecord.{FileRecord}
+use Rattle.run_records.specs.declared.records.ReportLine.{ReportLine}
+use Rattle.event_report.specs.Texts.{report_text}
 use Rattle.session_setup.specs.declared.refusals.SetupRefusal.{SetupRefusal}
 use Rattle.session_setup.specs.declared.refusals.SetupRefusal.TheVariants as setup
 use Rattle.odb_value.specs.declared.items.Item.TheVariants.{Int32}
@@ -87,9 +89,14 @@ file_line file = file.name ++ (32 ∷ (state_name file.state ++ 10 ∷ []))
 abbrev pub file_lines : List FileRecord → List ℕ
 file_lines files = flat_map file_line files
 
--- the end of a run: a line for it, one for each front-end and one for each channel
-abbrev pub stop_text : (run : ℕ) → List SentLine → List FileRecord → List ℕ
-stop_text run fronts files = run_line run (codes "stopped") ++ (sent_lines fronts ++ file_lines files)
+-- what the analyzers counted: of each its report, with its name and a blank before each line
+abbrev pub report_lines : List ReportLine → List ℕ
+report_lines reports = flat_map (λ line. report_text line.start line.report) reports
+
+-- the end of a run: a line for it, one for each front-end and one for each channel, and the reports of the analyzers
+abbrev pub stop_text : (run : ℕ) → List SentLine → List FileRecord → List ReportLine → List ℕ
+stop_text run fronts files reports =
+    run_line run (codes "stopped") ++ (sent_lines fronts ++ (file_lines files ++ report_lines reports))
 
 -- what a script line of this number prints
 abbrev pub text_of : (line : ℕ) → Reply → List ℕ
@@ -103,7 +110,7 @@ text_of line (reply.StartRefused client why) = refused_line line (codes "StartRe
 text_of line (reply.Started run) = run_line run (codes "started")
 text_of line (reply.Paused run) = run_line run (codes "paused")
 text_of line (reply.Resumed run) = run_line run (codes "resumed")
-text_of line (reply.Stopped run fronts files) = stop_text run fronts files
+text_of line (reply.Stopped run fronts files reports) = stop_text run fronts files reports
 text_of line (reply.Database answer) = reply_text line answer
 text_of line (reply.Watch answer) = watch_reply_text line answer
 
@@ -124,7 +131,7 @@ refuses_line (reply.StartRefused client why) = true
 refuses_line (reply.Started run) = false
 refuses_line (reply.Paused run) = false
 refuses_line (reply.Resumed run) = false
-refuses_line (reply.Stopped run fronts files) = false
+refuses_line (reply.Stopped run fronts files reports) = false
 refuses_line (reply.Database answer) = is_refused answer
 refuses_line (reply.Watch answer) = is_watch_refusal answer
 

@@ -3,13 +3,13 @@ ghost use Rattle.std.specs.Fmt.{decimal};
 ghost use Rattle.odb_commands.specs.Texts.{refused_line};
 ghost use Rattle.odb_value.specs.declared.items.Item.TheVariants.{Int32};
 ghost use Rattle.odb_value.specs.ItemTexts.{item_text};
-ghost use Rattle.session_replies.specs.Console.{file_line, file_lines, name_text, run_line, sent_line, sent_lines, setup_text, state_name, state_number, stop_text, text_of, why_text};
+ghost use Rattle.session_replies.specs.Console.{file_line, file_lines, name_text, report_lines, run_line, sent_line, sent_lines, setup_text, state_name, state_number, stop_text, text_of, why_text};
 
 use crate::replies::Reply;
 use daq_text::TextBuffer;
 use daq_types::{ChannelState, Name, NameRefusal, NoMemory, RunState, Why};
 use odb_value::{Item, print_item};
-use run_records::{FileRecord, SentLine};
+use run_records::{FileRecord, ReportLine, SentLine};
 use session_setup::SetupRefusal;
 
 /// The number of a run state.
@@ -227,18 +227,31 @@ fn add_files(text: &mut TextBuffer, files: &[FileRecord]) -> Result<(), NoMemory
     Ok(())
 }
 
+/// Adds the reports of the analyzers, each line behind its analyzer's name.
+fn add_reports(text: &mut TextBuffer, reports: &[ReportLine]) -> Result<(), NoMemory>
+    ensures { OnOk result (text.new ≡ text.old ++ report_lines reports.now) }
+{
+    for line in reports {
+        line.report.print(line.start.as_slice(), text)?;
+    }
+    Ok(())
+}
+
 /// Adds the lines of a run's end.
 fn add_stop(
     text: &mut TextBuffer,
     run: u32,
     fronts: &[SentLine],
     files: &[FileRecord],
+    reports: &[ReportLine],
 ) -> Result<(), NoMemory>
-    ensures { OnOk result (text.new ≡ text.old ++ stop_text run fronts.now files.now) }
+    ensures { OnOk result (text.new ≡ text.old
+        ++ stop_text run fronts.now files.now reports.now) }
 {
     add_run(text, run, b"stopped")?;
     add_fronts(text, fronts)?;
-    add_files(text, files)
+    add_files(text, files)?;
+    add_reports(text, reports)
 }
 
 impl Reply {
@@ -263,9 +276,18 @@ impl Reply {
             Reply::Started { run } => add_run(text, *run, b"started"),
             Reply::Paused { run } => add_run(text, *run, b"paused"),
             Reply::Resumed { run } => add_run(text, *run, b"resumed"),
-            Reply::Stopped { run, fronts, files } => {
-                add_stop(text, *run, fronts.as_slice(), files.as_slice())
-            }
+            Reply::Stopped {
+                run,
+                fronts,
+                files,
+                reports,
+            } => add_stop(
+                text,
+                *run,
+                fronts.as_slice(),
+                files.as_slice(),
+                reports.as_slice(),
+            ),
             Reply::Database { reply } => reply.print(line, text),
             Reply::Watch { reply } => reply.print(line, text),
         }

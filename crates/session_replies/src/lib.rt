@@ -5,8 +5,6 @@ mod console;
 pub mod laws;
 mod refusals;
 mod replies;
-#[cfg(test)]
-mod tests;
 
 pub use refusals::Refusals;
 pub use replies::Reply;

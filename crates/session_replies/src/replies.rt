@@ -1,6 +1,6 @@
 use daq_types::{Name, RunState, Why};
 use odb_commands::CommandReply;
-use run_records::{FileRecords, SentLines};
+use run_records::{FileRecords, ReportLines, SentLines};
 use session_setup::SetupRefusal;
 use watch_commands::WatchReply;
 
@@ -44,11 +44,12 @@ pub enum Reply {
     Resumed {
         run: u32,
     },
-    /// The run of this number ended: what the front-ends sent, and what the channels wrote.
+    /// The run of this number ended: what the front-ends sent, what the channels wrote, and what the analyzers counted.
     Stopped {
         run: u32,
         fronts: SentLines,
         files: FileRecords,
+        reports: ReportLines,
     },
     /// The answer of a command on the rows of the database.
     Database {

@@ -23,14 +23,13 @@ use Rattle.session_engine.specs.MainKnowledge.{known_from}
 use Rattle.session_engine.specs.MadeTransitions.{TransitionIn, going_checks, done_check, DrivesTransition}
 use Rattle.session_engine.specs.declared.opening.MemberName.{MemberName}
 use Rattle.session_engine.specs.Members.{registrations}
-use Rattle.session_runs.specs.declared.channels.RunChannel.{RunChannel}
 use Rattle.session_runs.specs.declared.on.CurrentRun.{CurrentRun}
 use Rattle.session_runs.specs.declared.replies.RunReply.{RunReply}
 use Rattle.session_runs.specs.declared.replies.RunReply.TheVariants.{WrongState, LastStart, RunNumber, StartRefused, Started as run_started, Paused as run_paused, Resumed as run_resumed, Stopped as run_stopped}
 use Rattle.session_runs.specs.KeptRuns.{RunsSeen, record_of, refused_start, behind_start, with_calls}
 use Rattle.session_runs.specs.RunAnswers.{ClockTold, CommandPoint, GotNumber, LacksNumber, BeginsRun, MakesStop, MakesChange, AnswersStart, AnswersStop, AnswersPause, AnswersResume, run_begun}
 use Rattle.session_runs.specs.RunEntries.{StartCalls, StopCalls, start_sheet, later_sheet, dump_saved}
-use Rattle.session_runs.specs.RunsFit.{MainOwn, RecordsFit, calls_joined, StandCalls, FitsStart, FitsStop, FitsWhole, FitsOutcome, FitsRun, FitsCurrent, RunsFit, run_of, start_begun, start_of, start_on, starts_begun}
+use Rattle.session_runs.specs.RunsFit.{RunClients, run_clients, MainOwn, RecordsFit, calls_joined, StandCalls, FitsStart, FitsStop, FitsWhole, FitsOutcome, FitsRun, FitsCurrent, RunsFit, run_of, start_begun, start_of, start_on, starts_begun}
 
 -- Calls behind.
 
@@ -58,18 +57,18 @@ stand_more entries own more stand = record {
       ∙ ap (λ (l : List WatchEntry). stand.before ++ l) (append_assoc entries stand.after more));
 }
 
-abbrev start_more : (own more : MainOwn) (r : CurrentRun) (outcome : StartOutcome) → FitsStart own r outcome → FitsStart (calls_joined own more) r outcome
-start_more own more r outcome fits = record {
+abbrev start_more : (analyzers : ℕ) (own more : MainOwn) (r : CurrentRun) (outcome : StartOutcome) → FitsStart analyzers own r outcome → FitsStart analyzers (calls_joined own more) r outcome
+start_more analyzers own more r outcome fits = record {
   dump = fits.dump;
   tallies = fits.tallies;
-  made = made_more own.engine more.engine Start (start_sheet r.run r.time r.quota fits.dump) r.start outcome fits.tallies fits.made;
+  made = made_more own.engine more.engine Start (start_sheet analyzers r.run r.time r.quota fits.dump) r.start outcome fits.tallies fits.made;
   entries = fits.entries;
   are = fits.are;
   stand = stand_more fits.entries own.database more.database fits.stand;
 }
 
-abbrev stop_more : (fronts : ℕ) (channels : List RunChannel) (own more : MainOwn) (begun : CurrentRun) (r : RunRecord) → FitsStop fronts channels own begun r → FitsStop fronts channels (calls_joined own more) begun r
-stop_more fronts channels own more begun r fits = record {
+abbrev stop_more : (clients : RunClients) (own more : MainOwn) (begun : CurrentRun) (r : RunRecord) → FitsStop clients own begun r → FitsStop clients (calls_joined own more) begun r
+stop_more clients own more begun r fits = record {
   state = fits.state;
   saved = fits.saved;
   tallies = fits.tallies;
@@ -89,37 +88,38 @@ same_own e later d after engine database = ap (λ (x : List EngineEntry). owns x
 joined_again : (one two more : MainOwn) → calls_joined (calls_joined one two) more ≡ calls_joined one (calls_joined two more)
 joined_again one two more = same_own _ _ _ _ (append_assoc one.engine two.engine more.engine) (append_assoc one.database two.database more.database)
 
-outcome_more : (fronts : ℕ) (channels : List RunChannel) (own more : MainOwn) (begun : CurrentRun) (r : RunRecord) (outcome : StartOutcome) → FitsOutcome fronts channels own begun r outcome
-    → FitsOutcome fronts channels (calls_joined own more) begun r outcome
-outcome_more fronts channels own more begun r Completed fits = record {
+outcome_more : (clients : RunClients) (own more : MainOwn) (begun : CurrentRun) (r : RunRecord) (outcome : StartOutcome) → FitsOutcome clients own begun r outcome
+    → FitsOutcome clients (calls_joined own more) begun r outcome
+outcome_more clients own more begun r Completed fits = record {
   early = fits.early;
   late = calls_joined fits.late more;
   calls = ap (λ (o : MainOwn). calls_joined o more) fits.calls ∙ joined_again fits.early fits.late more;
   start = fits.start;
-  stop = stop_more fronts channels fits.late more begun r fits.stop;
+  stop = stop_more clients fits.late more begun r fits.stop;
   state_is = fits.state_is;
 }
-outcome_more fronts channels own more begun r (Refused client why) fits = record {
-  start = start_more own more begun r.outcome fits.start;
+outcome_more clients own more begun r (Refused client why) fits = record {
+  start = start_more clients.analyzers own more begun r.outcome fits.start;
   time = fits.time;
   fronts = fits.fronts;
   files = fits.files;
+  reports = fits.reports;
 }
 
-run_more : (fronts : ℕ) (channels : List RunChannel) (own more : MainOwn) (r : RunRecord) → FitsRun fronts channels own r → FitsRun fronts channels (calls_joined own more) r
-run_more fronts channels own more r fits = (fits.0, outcome_more fronts channels own more (run_of r fits.0) r r.outcome fits.1)
+run_more : (clients : RunClients) (own more : MainOwn) (r : RunRecord) → FitsRun clients own r → FitsRun clients (calls_joined own more) r
+run_more clients own more r fits = (fits.0, outcome_more clients own more (run_of r fits.0) r r.outcome fits.1)
 
-all_more : (fronts : ℕ) (channels : List RunChannel) (own more : MainOwn) (rs : List RunRecord) → AllByRecursion (FitsRun fronts channels own) rs → AllByRecursion (FitsRun fronts channels (calls_joined own more)) rs
-all_more fronts channels own more [] fits = fits
-all_more fronts channels own more (r ∷ rs) fits = (run_more fronts channels own more r fits.0, all_more fronts channels own more rs fits.1)
+all_more : (clients : RunClients) (own more : MainOwn) (rs : List RunRecord) → AllByRecursion (FitsRun clients own) rs → AllByRecursion (FitsRun clients (calls_joined own more)) rs
+all_more clients own more [] fits = fits
+all_more clients own more (r ∷ rs) fits = (run_more clients own more r fits.0, all_more clients own more rs fits.1)
 
 all_one : (P : RunRecord → Type 0) (rs : List RunRecord) (r : RunRecord) → AllByRecursion P rs → P r → AllByRecursion P (rs ++ r ∷ [])
 all_one P [] r all one = (one, all)
 all_one P (x ∷ rs) r all one = (all.0, all_one P rs r all.1 one)
 
-on_more : (own more : MainOwn) (on : Option CurrentRun) → FitsCurrent own on → FitsCurrent (calls_joined own more) on
-on_more own more None fits = fits
-on_more own more (Some r) fits = start_more own more r Completed fits
+on_more : (analyzers : ℕ) (own more : MainOwn) (on : Option CurrentRun) → FitsCurrent analyzers own on → FitsCurrent analyzers (calls_joined own more) on
+on_more analyzers own more None fits = fits
+on_more analyzers own more (Some r) fits = start_more analyzers own more r Completed fits
 
 -- what the main thread called
 abbrev own_of : RunsSeen → List WatchEntry → MainOwn
@@ -132,12 +132,12 @@ more_fit s own more fits =
     let is : calls_joined (own_of s own) silent ≡ own_of s (own ++ more) = same_own _ _ _ _ (append-nil s.main.own) refl in
     record {
       each_start = fits.each_start;
-      runs = subst (λ (o : MainOwn). AllByRecursion (FitsRun (length s.fronts) s.channels o) s.runs) is (all_more (length s.fronts) s.channels (own_of s own) silent s.runs fits.runs);
-      on = subst (λ (o : MainOwn). FitsCurrent o s.on) is (on_more (own_of s own) silent s.on fits.on);
+      runs = subst (λ (o : MainOwn). AllByRecursion (FitsRun (run_clients s) o) s.runs) is (all_more (run_clients s) (own_of s own) silent s.runs fits.runs);
+      on = subst (λ (o : MainOwn). FitsCurrent (length s.analyzers) o s.on) is (on_more (length s.analyzers) (own_of s own) silent s.on fits.on);
     }
 
 -- where no run is on, the records alone fit
-pub records_fit : (s : RunsSeen) (own : List WatchEntry) → RunsFit s own → s.on ≡ None → RecordsFit (length s.fronts) s.channels (own_of s own) s.runs
+pub records_fit : (s : RunsSeen) (own : List WatchEntry) → RunsFit s own → s.on ≡ None → RecordsFit (run_clients s) (own_of s own) s.runs
 records_fit s own fits idle = record {
   each_start = sym (append-nil (map start_of s.runs)) ∙ (ap (λ (o : Option CurrentRun). map start_of s.runs ++ option_to_list (option_map start_on o)) (sym idle) ∙ fits.each_start);
   runs = fits.runs;
@@ -148,8 +148,8 @@ pub opening_fits : (s : RunsSeen) (own : List WatchEntry) → s.runs ≡ [] → 
 opening_fits s own empty idle none = record {
   each_start = ap (λ (rs : List RunRecord). map start_of rs ++ option_to_list (option_map start_on s.on)) empty
       ∙ (ap (λ (o : Option CurrentRun). option_to_list (option_map start_on o)) idle ∙ sym none);
-  runs = subst (λ (rs : List RunRecord). AllByRecursion (FitsRun (length s.fronts) s.channels (own_of s own)) rs) (sym empty) tt;
-  on = subst (λ (o : Option CurrentRun). FitsCurrent (own_of s own) o) (sym idle) tt;
+  runs = subst (λ (rs : List RunRecord). AllByRecursion (FitsRun (run_clients s) (own_of s own)) rs) (sym empty) tt;
+  on = subst (λ (o : Option CurrentRun). FitsCurrent (length s.analyzers) (own_of s own) o) (sym idle) tt;
 }
 
 -- registrations begin no start
@@ -209,9 +209,9 @@ module _ {M : Type 0} (round : M → M → Type 0) where
       → own_of new.runs (own_watched new.database) ≡ calls_joined (own_of old.runs (own_watched old.database)) (fresh t sheet start outcome tallies drives.rounds entries)
   grown grows old new t sheet start outcome tallies entries drives adds = same_own _ _ _ _ drives.calls (grows old.database new.database entries adds)
 
-  start_fits : (own : MainOwn) (r : CurrentRun) (outcome : StartOutcome) (dump : List ℕ) (tallies : List ClientTally) (rounds : ℕ) (entries : List WatchEntry) → StartCalls r.run r.time outcome dump entries
-      → FitsStart (calls_joined own (fresh Start (start_sheet r.run r.time r.quota dump) r.start outcome tallies rounds entries)) r outcome
-  start_fits own r outcome dump tallies rounds entries are = record {
+  start_fits : (analyzers : ℕ) (own : MainOwn) (r : CurrentRun) (outcome : StartOutcome) (dump : List ℕ) (tallies : List ClientTally) (rounds : ℕ) (entries : List WatchEntry) → StartCalls r.run r.time outcome dump entries
+      → FitsStart analyzers (calls_joined own (fresh Start (start_sheet analyzers r.run r.time r.quota dump) r.start outcome tallies rounds entries)) r outcome
+  start_fits analyzers own r outcome dump tallies rounds entries are = record {
     dump = dump;
     tallies = tallies;
     made = record { before = own.engine; between = going_checks rounds; after = []; whole = refl; on = unmarked rounds };
@@ -226,24 +226,24 @@ module _ {M : Type 0} (round : M → M → Type 0) where
 
   -- behind a start that ended so all fit
   started : (s : RunsSeen) (own : List WatchEntry) (r : CurrentRun) (outcome : StartOutcome) (later : MainOwn) (more : MainOwn) → later ≡ calls_joined (own_of s own) more → s.on ≡ None
-      → starts_begun later.engine ≡ starts_begun s.main.own ++ r.start ∷ [] → FitsStart (calls_joined (own_of s own) more) r outcome → RunsFit s own
+      → starts_begun later.engine ≡ starts_begun s.main.own ++ r.start ∷ [] → FitsStart (length s.analyzers) (calls_joined (own_of s own) more) r outcome → RunsFit s own
       → RunsFit (with_calls (behind_start s r outcome) later.engine) later.database
   started s own r Completed later more is idle starts start fits = record {
     each_start = ap (λ (l : List ℕ). l ++ r.start ∷ []) (so_far s own idle fits) ∙ sym starts;
-    runs = subst (λ (o : MainOwn). AllByRecursion (FitsRun (length s.fronts) s.channels o) s.runs) (sym is) (all_more (length s.fronts) s.channels (own_of s own) more s.runs fits.runs);
-    on = subst (λ (o : MainOwn). FitsStart o r Completed) (sym is) start;
+    runs = subst (λ (o : MainOwn). AllByRecursion (FitsRun (run_clients s) o) s.runs) (sym is) (all_more (run_clients s) (own_of s own) more s.runs fits.runs);
+    on = subst (λ (o : MainOwn). FitsStart (length s.analyzers) o r Completed) (sym is) start;
   }
   started s own r (Refused client why) later more is idle starts start fits =
       let rec : RunRecord = refused_start r (Refused client why) in
-      let all : AllByRecursion (FitsRun (length s.fronts) s.channels (calls_joined (own_of s own) more)) (s.runs ++ rec ∷ []) =
-      all_one (FitsRun (length s.fronts) s.channels (calls_joined (own_of s own) more)) s.runs rec (all_more (length s.fronts) s.channels (own_of s own) more s.runs fits.runs)
-      (r.quota, record { start = start; time = refl; fronts = refl; files = refl }) in
+      let all : AllByRecursion (FitsRun (run_clients s) (calls_joined (own_of s own) more)) (s.runs ++ rec ∷ []) =
+      all_one (FitsRun (run_clients s) (calls_joined (own_of s own) more)) s.runs rec (all_more (run_clients s) (own_of s own) more s.runs fits.runs)
+      (r.quota, record { start = start; time = refl; fronts = refl; files = refl; reports = refl }) in
       record {
         each_start = ap (λ (o : Option CurrentRun). map start_of (s.runs ++ rec ∷ []) ++ option_to_list (option_map start_on o)) idle
             ∙ (append-nil (map start_of (s.runs ++ rec ∷ []))
             ∙ (starts_snoc s.runs rec ∙ (ap (λ (l : List ℕ). l ++ r.start ∷ []) (so_far s own idle fits) ∙ sym starts)));
-        runs = subst (λ (o : MainOwn). AllByRecursion (FitsRun (length s.fronts) s.channels o) (s.runs ++ rec ∷ [])) (sym is) all;
-        on = subst (λ (o : MainOwn). FitsCurrent o s.on) (sym is) (on_more (own_of s own) more s.on fits.on);
+        runs = subst (λ (o : MainOwn). AllByRecursion (FitsRun (run_clients s) o) (s.runs ++ rec ∷ [])) (sym is) all;
+        on = subst (λ (o : MainOwn). FitsCurrent (length s.analyzers) o s.on) (sym is) (on_more (length s.analyzers) (own_of s own) more s.on fits.on);
       }
 
   -- the run number was got
@@ -258,14 +258,14 @@ module _ {M : Type 0} (round : M → M → Type 0) where
       let own : List WatchEntry = own_watched old.database in
       let asked : WatchEntry = Call (number_asked got.number.got) in
       let entries : List WatchEntry = asked ∷ begins.entries in
-      let sheet : Sheet = start_sheet run begins.time s.quota begins.dump in
+      let sheet : Sheet = start_sheet (length s.analyzers) run begins.time s.quota begins.dump in
       let whole : AddsEntries old.database new.database entries = (ready.database, got.number.called, begins.adds) in
       let are : StartCalls run begins.time outcome begins.dump entries = record { got = got.number.got; settled = got.number.settled; number = sym got.number.run_is; rest = begins.entries; begins = begins.calls; are = refl } in
       let more : MainOwn = fresh Start sheet begins.start outcome begins.tallies begins.drives.rounds entries in
       let is : own_of new.runs (own_watched new.database) ≡ calls_joined (own_of s own) more = same_own _ _ _ _ begins.drives.calls (grows old.database new.database entries whole) in
       subst (λ (x : RunsSeen). RunsFit x (own_watched new.database)) (sym begins.kept)
       (started s own r outcome (own_of new.runs (own_watched new.database)) more is begins.idle
-      (starts_behind s.main.own new.runs.main.own Start sheet begins.start outcome begins.tallies begins.drives.rounds begins.drives.calls) (start_fits (own_of s own) r outcome begins.dump begins.tallies begins.drives.rounds entries are) (got_fits grows run old ready got fits))
+      (starts_behind s.main.own new.runs.main.own Start sheet begins.start outcome begins.tallies begins.drives.rounds begins.drives.calls) (start_fits (length s.analyzers) (own_of s own) r outcome begins.dump begins.tallies begins.drives.rounds entries are) (got_fits grows run old ready got fits))
 
   lacks_fits : OwnGrows → (have : _) (old new : CommandPoint M) → LacksNumber have old new → RunsFit old.runs (own_watched old.database) → RunsFit new.runs (own_watched new.database)
   lacks_fits grows have old new lacks fits =
@@ -290,13 +290,13 @@ module _ {M : Type 0} (round : M → M → Type 0) where
 
   -- Stops.
 
-  on_start : (own : MainOwn) (on : Option CurrentRun) (r : CurrentRun) → on ≡ Some r → FitsCurrent own on → FitsStart own r Completed
-  on_start own on r is fits = subst (FitsCurrent own) is fits
+  on_start : (analyzers : ℕ) (own : MainOwn) (on : Option CurrentRun) (r : CurrentRun) → on ≡ Some r → FitsCurrent analyzers own on → FitsStart analyzers own r Completed
+  on_start analyzers own on r is fits = subst (FitsCurrent analyzers own) is fits
 
-  abbrev stop_fits : (fronts : ℕ) (channels : List RunChannel) (r : CurrentRun) (time : ℕ) (tallies : List ClientTally) (state : _) (saved : Result (List ℕ) NoMemory) (rounds : ℕ) (entries : List WatchEntry)
+  abbrev stop_fits : (clients : RunClients) (r : CurrentRun) (time : ℕ) (tallies : List ClientTally) (state : _) (saved : Result (List ℕ) NoMemory) (rounds : ℕ) (entries : List WatchEntry)
       → StopCalls state time saved entries
-      → FitsStop fronts channels (fresh Stop (later_sheet r time (dump_saved saved)) r.start Completed tallies rounds entries) r (record_of fronts channels r time tallies)
-  stop_fits fronts channels r time tallies state saved rounds entries are = record {
+      → FitsStop clients (fresh Stop (later_sheet r time (dump_saved saved)) r.start Completed tallies rounds entries) r (record_of clients.fronts clients.channels clients.analyzers r time tallies)
+  stop_fits clients r time tallies state saved rounds entries are = record {
     state = state;
     saved = saved;
     tallies = tallies;
@@ -304,37 +304,37 @@ module _ {M : Type 0} (round : M → M → Type 0) where
     entries = entries;
     are = are;
     stand = record { before = []; after = []; calls = sym (append-nil entries) };
-    tells = record { sent = refl; files = refl };
+    tells = record { sent = refl; files = refl; reports = refl };
   }
 
   pub stopped_fits : OwnGrows → (r : CurrentRun) (saved : Result (List ℕ) NoMemory) (before after : ClockTold) (old new : CommandPoint M) → MakesStop round r saved before after old new
       → RunsFit old.runs (own_watched old.database) → RunsFit new.runs (own_watched new.database)
   stopped_fits grows r saved before after old new stops fits =
       let s : RunsSeen = old.runs in
-      let fronts : ℕ = length s.fronts in
+      let clients : RunClients = run_clients s in
       let own : MainOwn = own_of s (own_watched old.database) in
       let more : MainOwn = fresh Stop (later_sheet r stops.time (dump_saved saved)) r.start Completed stops.tallies stops.drives.rounds stops.entries in
       let later : MainOwn = own_of new.runs (own_watched new.database) in
       let is : later ≡ calls_joined own more = grown grows old new Stop (later_sheet r stops.time (dump_saved saved)) r.start Completed stops.tallies stops.entries stops.drives stops.adds in
-      let rec : RunRecord = record_of fronts s.channels r stops.time stops.tallies in
+      let rec : RunRecord = record_of (length s.fronts) s.channels (length s.analyzers) r stops.time stops.tallies in
       let state : RunState = (known_from s.main.own).state in
-      let whole : FitsWhole fronts s.channels (calls_joined own more) r rec = record {
+      let whole : FitsWhole clients (calls_joined own more) r rec = record {
         early = own;
         late = more;
         calls = refl;
-        start = on_start own s.on r stops.on fits.on;
-        stop = stop_fits fronts s.channels r stops.time stops.tallies state saved stops.drives.rounds stops.entries stops.calls;
+        start = on_start (length s.analyzers) own s.on r stops.on fits.on;
+        stop = stop_fits clients r stops.time stops.tallies state saved stops.drives.rounds stops.entries stops.calls;
         state_is = ap (λ (l : List EngineEntry). (known_from l).state) (sym (append-nil s.main.own));
       } in
       let starts : starts_begun new.runs.main.own ≡ starts_begun s.main.own ++ [] =
       starts_behind s.main.own new.runs.main.own Stop (later_sheet r stops.time (dump_saved saved)) r.start Completed stops.tallies stops.drives.rounds stops.drives.calls in
       let before : map start_of s.runs ++ r.start ∷ [] ≡ starts_begun s.main.own =
       ap (λ (o : Option CurrentRun). map start_of s.runs ++ option_to_list (option_map start_on o)) (sym stops.on) ∙ fits.each_start in
-      let all : AllByRecursion (FitsRun fronts s.channels (calls_joined own more)) (s.runs ++ rec ∷ []) =
-      all_one (FitsRun fronts s.channels (calls_joined own more)) s.runs rec (all_more fronts s.channels own more s.runs fits.runs) (r.quota, whole) in
+      let all : AllByRecursion (FitsRun clients (calls_joined own more)) (s.runs ++ rec ∷ []) =
+      all_one (FitsRun clients (calls_joined own more)) s.runs rec (all_more clients own more s.runs fits.runs) (r.quota, whole) in
       subst (λ (x : RunsSeen). RunsFit x (own_watched new.database)) (sym stops.kept) (record {
         each_start = append-nil (map start_of (s.runs ++ rec ∷ [])) ∙ (starts_snoc s.runs rec ∙ (before ∙ sym (starts ∙ append-nil (starts_begun s.main.own))));
-        runs = subst (λ (o : MainOwn). AllByRecursion (FitsRun fronts s.channels o) (s.runs ++ rec ∷ [])) (sym is) all;
+        runs = subst (λ (o : MainOwn). AllByRecursion (FitsRun clients o) (s.runs ++ rec ∷ [])) (sym is) all;
         on = tt;
       })
 
@@ -363,8 +363,8 @@ module _ {M : Type 0} (round : M → M → Type 0) where
       ∙ (ap (λ (l : List ℕ). starts_begun s.main.own ++ l) (none sheet r.start) ∙ append-nil (starts_begun s.main.own)) in
       subst (λ (x : RunsSeen). RunsFit x (own_watched new.database)) (sym makes.kept) (record {
         each_start = fits.each_start ∙ sym starts;
-        runs = subst (λ (o : MainOwn). AllByRecursion (FitsRun (length s.fronts) s.channels o) s.runs) (sym is) (all_more (length s.fronts) s.channels own more s.runs fits.runs);
-        on = subst (λ (o : MainOwn). FitsCurrent o s.on) (sym is) (on_more own more s.on fits.on);
+        runs = subst (λ (o : MainOwn). AllByRecursion (FitsRun (run_clients s) o) s.runs) (sym is) (all_more (run_clients s) own more s.runs fits.runs);
+        on = subst (λ (o : MainOwn). FitsCurrent (length s.analyzers) o s.on) (sym is) (on_more (length s.analyzers) own more s.on fits.on);
       })
 
   pub answered_pause : OwnGrows → (reply : RunReply) (old new : CommandPoint M) → AnswersPause round reply old new → RunsFit old.runs (own_watched old.database) → RunsFit new.runs (own_watched new.database)

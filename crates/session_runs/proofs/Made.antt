@@ -11,6 +11,7 @@ use Rattle.daq_types.specs.declared.runs.Why.{Why}
 use Rattle.odb_watch.specs.declared.entry.WatchEntry.{WatchEntry}
 use Rattle.odb_port.specs.DatabasePorts.{DatabaseAccess, AddsEntries}
 use Rattle.odb_runinfo.specs.RunSets.{SetsNumbers, state_set}
+use Rattle.event_report.specs.Reports.{Totals}
 use Rattle.transitions.specs.declared.sheet.Sheet.{Sheet}
 use Rattle.transitions.specs.declared.answers.ClientTally.{ClientTally}
 use Rattle.transitions.specs.declared.entry.EngineEntry.{EngineEntry}
@@ -24,21 +25,21 @@ use Rattle.session_runs.specs.declared.on.CurrentRun.{CurrentRun}
 use Rattle.session_runs.specs.declared.replies.RunReply.{RunReply}
 use Rattle.session_runs.specs.declared.replies.RunReply.TheVariants.{WrongState, LastStart, RunNumber, StartRefused, Started as run_started, Paused as run_paused, Resumed as run_resumed, Stopped as run_stopped}
 use Rattle.session_runs.specs.KeptRuns.{RunsSeen, IsInStep, behind_start, behind_stop, record_of, refused_start, with_calls}
-use Rattle.session_runs.specs.RunEntries.{AnnounceCalls, AnnouncesStop, BeginCalls, StopCalls, dump_saved, later_sheet, outcome_sets, start_sheet}
+use Rattle.session_runs.specs.RunEntries.{AnnounceCalls, AnnouncesStop, BeginCalls, StopCalls, blank_reports, dump_saved, later_sheet, outcome_sets, start_sheet}
 use Rattle.session_runs.specs.RunAnswers.{ClockTold, CommandPoint, ReadsClock, AnswersBegin, AnswersStart, AnswersStop, BeginsRun, CutsBegin, CutsStart, GotNumber, MakesStart, MakesStop, StopsUnsaved, point_of, run_begun}
 use Rattle.session_runs.proofs.Calls.{CallsAreEntries, begin_calls, stop_calls}
 use Rattle.session_runs.proofs.Steps.{stop_begins}
 
 -- what is seen of the runs, in parts
-abbrev pub seen_of : (quota : ℕ) → List RunRecord → List (List ℕ) → List RunChannel → Option CurrentRun → MainSeen → RunsSeen
-seen_of quota runs fronts channels on main = record { quota = quota; runs = runs; fronts = fronts; channels = channels; on = on; main = main }
+abbrev pub seen_of : (quota : ℕ) → List RunRecord → List (List ℕ) → List RunChannel → List (List ℕ) → Option CurrentRun → MainSeen → RunsSeen
+seen_of quota runs fronts channels analyzers on main = record { quota = quota; runs = runs; fronts = fronts; channels = channels; analyzers = analyzers; on = on; main = main }
 
-seen_same : (quota : ℕ) (runs later : List RunRecord) (fronts : List (List ℕ)) (channels : List RunChannel) (on then_on : Option CurrentRun) (main after : MainSeen) → runs ≡ later → on ≡ then_on → main ≡ after
-    → seen_of quota runs fronts channels on main ≡ seen_of quota later fronts channels then_on after
-seen_same quota runs later fronts channels on then_on main after are on_is is =
-    ap (λ (l : List RunRecord). seen_of quota l fronts channels on main) are
-    ∙ (ap (λ (o : Option CurrentRun). seen_of quota later fronts channels o main) on_is
-    ∙ ap (λ (m : MainSeen). seen_of quota later fronts channels then_on m) is)
+seen_same : (quota : ℕ) (runs later : List RunRecord) (fronts : List (List ℕ)) (channels : List RunChannel) (analyzers : List (List ℕ)) (on then_on : Option CurrentRun) (main after : MainSeen) → runs ≡ later → on ≡ then_on → main ≡ after
+    → seen_of quota runs fronts channels analyzers on main ≡ seen_of quota later fronts channels analyzers then_on after
+seen_same quota runs later fronts channels analyzers on then_on main after are on_is is =
+    ap (λ (l : List RunRecord). seen_of quota l fronts channels analyzers on main) are
+    ∙ (ap (λ (o : Option CurrentRun). seen_of quota later fronts channels analyzers o main) on_is
+    ∙ ap (λ (m : MainSeen). seen_of quota later fronts channels analyzers then_on m) is)
 
 abbrev main_of : SharedEngine → List EngineEntry → MainSeen
 main_of engine own = record { engine = engine; own = own }
@@ -48,33 +49,40 @@ main_same : (before after : MainSeen) → after.engine ≡ before.engine → aft
 main_same before after is = ap (λ (e : SharedEngine). main_of e after.own) is
 
 -- a run is on
-pub kept_on : (quota : ℕ) (runs later : List RunRecord) (fronts : List (List ℕ)) (channels : List RunChannel) (on : Option CurrentRun) (main after : MainSeen) (r : CurrentRun) → later ≡ runs → after.engine ≡ main.engine
-    → seen_of quota later fronts channels (Some r) after ≡ with_calls (behind_start (seen_of quota runs fronts channels on main) r Completed) after.own
-kept_on quota runs later fronts channels on main after r are engine = seen_same quota later runs fronts channels (Some r) (Some r) after (main_of main.engine after.own) are refl (main_same main after engine)
+pub kept_on : (quota : ℕ) (runs later : List RunRecord) (fronts : List (List ℕ)) (channels : List RunChannel) (analyzers : List (List ℕ)) (on : Option CurrentRun) (main after : MainSeen) (r : CurrentRun) → later ≡ runs → after.engine ≡ main.engine
+    → seen_of quota later fronts channels analyzers (Some r) after ≡ with_calls (behind_start (seen_of quota runs fronts channels analyzers on main) r Completed) after.own
+kept_on quota runs later fronts channels analyzers on main after r are engine = seen_same quota later runs fronts channels analyzers (Some r) (Some r) after (main_of main.engine after.own) are refl (main_same main after engine)
 
 -- a start was refused
-pub kept_refused : (quota : ℕ) (runs between later : List RunRecord) (fronts : List (List ℕ)) (channels : List RunChannel) (on : Option CurrentRun) (main after : MainSeen) (r : CurrentRun) (outcome : StartOutcome) (client : ℕ) (why : Why)
+pub kept_refused : (quota : ℕ) (runs between later : List RunRecord) (fronts : List (List ℕ)) (channels : List RunChannel) (analyzers : List (List ℕ)) (on : Option CurrentRun) (main after : MainSeen) (r : CurrentRun) (outcome : StartOutcome) (client : ℕ) (why : Why)
     (rec : RunRecord) → between ≡ runs → later ≡ between ++ rec ∷ [] → rec ≡ refused_start r outcome → outcome ≡ Refused client why → after.engine ≡ main.engine
-    → seen_of quota later fronts channels on after ≡ with_calls (behind_start (seen_of quota runs fronts channels on main) r (Refused client why)) after.own
-kept_refused quota runs between later fronts channels on main after r outcome client why rec same are is done engine =
+    → seen_of quota later fronts channels analyzers on after ≡ with_calls (behind_start (seen_of quota runs fronts channels analyzers on main) r (Refused client why)) after.own
+kept_refused quota runs between later fronts channels analyzers on main after r outcome client why rec same are is done engine =
     let all : later ≡ runs ++ refused_start r (Refused client why) ∷ [] =
     are ∙ (ap (λ (l : List RunRecord). l ++ rec ∷ []) same ∙ ap (λ (x : RunRecord). runs ++ x ∷ []) (is ∙ ap (refused_start r) done)) in
-    seen_same quota later (runs ++ refused_start r (Refused client why) ∷ []) fronts channels on on after (main_of main.engine after.own) all refl (main_same main after engine)
+    seen_same quota later (runs ++ refused_start r (Refused client why) ∷ []) fronts channels analyzers on on after (main_of main.engine after.own) all refl (main_same main after engine)
 
 -- a run was stopped
-pub kept_stopped : (quota : ℕ) (runs later : List RunRecord) (fronts : List (List ℕ)) (channels : List RunChannel) (on then_on : Option CurrentRun) (main after : MainSeen) (r : CurrentRun) (time : ℕ) (told : List ClientTally)
-    (rec : RunRecord) → later ≡ runs ++ rec ∷ [] → rec ≡ record_of (length fronts) channels r time told → then_on ≡ None → after.engine ≡ main.engine
-    → seen_of quota later fronts channels then_on after ≡ with_calls (behind_stop (seen_of quota runs fronts channels on main) r time told) after.own
-kept_stopped quota runs later fronts channels on then_on main after r time told rec are is off engine =
-    let whole : RunRecord = record_of (length fronts) channels r time told in
-    seen_same quota later (runs ++ whole ∷ []) fronts channels then_on None after (main_of main.engine after.own) (are ∙ ap (λ (x : RunRecord). runs ++ x ∷ []) is) off (main_same main after engine)
+pub kept_stopped : (quota : ℕ) (runs later : List RunRecord) (fronts : List (List ℕ)) (channels : List RunChannel) (analyzers : List (List ℕ)) (on then_on : Option CurrentRun) (main after : MainSeen) (r : CurrentRun) (time : ℕ) (told : List ClientTally)
+    (rec : RunRecord) → later ≡ runs ++ rec ∷ [] → rec ≡ record_of (length fronts) channels (length analyzers) r time told → then_on ≡ None → after.engine ≡ main.engine
+    → seen_of quota later fronts channels analyzers then_on after ≡ with_calls (behind_stop (seen_of quota runs fronts channels analyzers on main) r time told) after.own
+kept_stopped quota runs later fronts channels analyzers on then_on main after r time told rec are is off engine =
+    let whole : RunRecord = record_of (length fronts) channels (length analyzers) r time told in
+    seen_same quota later (runs ++ whole ∷ []) fronts channels analyzers then_on None after (main_of main.engine after.own) (are ∙ ap (λ (x : RunRecord). runs ++ x ∷ []) is) off (main_same main after engine)
 
 -- the record, from what it was made of
-pub recorded : (count fronts : ℕ) (listed channels : List RunChannel) (r : CurrentRun) (time : ℕ) (told tallies : List ClientTally) (rec : RunRecord) → rec ≡ record_of count listed r time told → count ≡ fronts → listed ≡ channels
-    → told ≡ tallies → rec ≡ record_of fronts channels r time tallies
-recorded count fronts listed channels r time told tallies rec is count_is channels_are tallies_are =
-    is ∙ (ap (λ (n : ℕ). record_of n listed r time told) count_is
-    ∙ (ap (λ (l : List RunChannel). record_of fronts l r time told) channels_are ∙ ap (record_of fronts channels r time) tallies_are))
+pub recorded : (count fronts : ℕ) (listed channels : List RunChannel) (others analyzers : ℕ) (r : CurrentRun) (time : ℕ) (told : List ClientTally) (rec : RunRecord) → rec ≡ record_of count listed others r time told → count ≡ fronts → listed ≡ channels
+    → others ≡ analyzers → rec ≡ record_of fronts channels analyzers r time told
+recorded count fronts listed channels others analyzers r time told rec is count_is channels_are analyzers_are =
+    is ∙ (ap (λ (n : ℕ). record_of n listed others r time told) count_is
+    ∙ (ap (λ (l : List RunChannel). record_of fronts l others r time told) channels_are ∙ ap (λ (n : ℕ). record_of fronts channels n r time told) analyzers_are))
+
+-- what a start is begun with, from what it was made of
+pub start_sheet_is : (run time quota : ℕ) (dump : List ℕ) (blanks : List Totals) (count analyzers : ℕ) (sheet : Sheet) → sheet ≡ record { run = run; time = time; quota = quota; dump = Some dump; blanks = blanks } → blanks ≡ blank_reports count
+    → count ≡ analyzers → sheet ≡ start_sheet analyzers run time quota dump
+start_sheet_is run time quota dump blanks count analyzers sheet is made same =
+    let with_blanks : List Totals → Sheet = λ b. record { run = run; time = time; quota = quota; dump = Some dump; blanks = b } in
+    is ∙ ap with_blanks (made ∙ ap blank_reports same)
 
 -- the text was saved, or there was no memory for it
 
@@ -86,6 +94,19 @@ pub saved_some : (saved : Result (List ℕ) NoMemory) → is_err saved ≡ false
 saved_some (Ok dump) is = (dump, refl)
 saved_some (Err wanting) is = absurd (cc (is))
 
+pub not_saved : (saved : Result (List ℕ) NoMemory) → ((dump : List ℕ) → saved ≡ Ok dump → ⊥) → saved ≡ Err (record {})
+not_saved (Ok dump) none = absurd (none dump refl)
+not_saved (Err wanting) none = refl
+
+-- the run was announced, and there was no memory for the text
+pub cut_announced : {M : Type 0} (run time : ℕ) (saved : Result (List ℕ) NoMemory) (before after : ClockTold) (s later : RunsSeen) (a b : DatabaseAccess) (members : M) → later ≡ s → ReadsClock before after time
+    → ((entries : List WatchEntry) × AnnounceCalls run time saved entries × AddsEntries a b entries) → saved ≡ Err (record {}) → CutsBegin run before after (point_of s a members) (point_of later b members)
+cut_announced run time saved before after s later a b members same reading announced is = record {
+  runs = same;
+  members = refl;
+  calls = inr (time, announced.0, reading, subst (λ (r : Result (List ℕ) NoMemory). AnnounceCalls run time r announced.0) is announced.1, announced.2);
+}
+
 same_number : (start number : ℕ) (k : MainKnows) → begin_known k Stop ≡ Ok start → begin_known k Stop ≡ Ok number → start ≡ number
 same_number start number k is also = let both : Ok start ≡ Ok number = sym is ∙ also in cc (both)
 
@@ -96,7 +117,7 @@ module _ {M : Type 0} (round : M → M → Type 0) where
   pub begins_run : CallsAreEntries → (run start time : ℕ) (outcome ended : StartOutcome) (dump : List ℕ) (saved : Result (List ℕ) NoMemory) (sheet : Sheet) (before after : ClockTold) (s later : RunsSeen)
       (a b c : DatabaseAccess) (members turned : M) → s.on ≡ None → begin_known (known_from s.main.own) Start ≡ Ok start → ReadsClock before after time
       → ((entries : List WatchEntry) × AnnounceCalls run time saved entries × AddsEntries a b entries) → saved ≡ Ok dump → SetsNumbers b c (outcome_sets run ended) → ended ≡ outcome
-      → sheet ≡ start_sheet run time s.quota dump
+      → sheet ≡ start_sheet (length s.analyzers) run time s.quota dump
       → ((told : List ClientTally) × DrivesTransition round Start sheet start ended told s.main.own later.main.own members turned)
       → later ≡ with_calls (behind_start s (run_begun s run start time) outcome) later.main.own
       → BeginsRun round run outcome before after (point_of s a members) (point_of later c turned)
@@ -104,7 +125,7 @@ module _ {M : Type 0} (round : M → M → Type 0) where
       let first : AnnounceCalls run time (Ok dump) announced.0 = subst (λ (r : Result (List ℕ) NoMemory). AnnounceCalls run time r announced.0) is announced.1 in
       let last : SetsNumbers b c (outcome_sets run outcome) = subst (λ (o : StartOutcome). SetsNumbers b c (outcome_sets run o)) done sets in
       let whole : (entries : List WatchEntry) × BeginCalls run time outcome dump entries × AddsEntries a c entries = begin_calls are a b c run time outcome dump announced.0 first announced.2 last in
-      let drives : DrivesTransition round Start (start_sheet run time s.quota dump) start ended made.0 s.main.own later.main.own members turned =
+      let drives : DrivesTransition round Start (start_sheet (length s.analyzers) run time s.quota dump) start ended made.0 s.main.own later.main.own members turned =
       subst (λ (x : Sheet). DrivesTransition round Start x start ended made.0 s.main.own later.main.own members turned) sheet_is made.1 in
       record {
         idle = idle;
@@ -117,7 +138,7 @@ module _ {M : Type 0} (round : M → M → Type 0) where
         calls = whole.1;
         adds = whole.2;
         tallies = made.0;
-        drives = subst (λ (o : StartOutcome). DrivesTransition round Start (start_sheet run time s.quota dump) start o made.0 s.main.own later.main.own members turned) done drives;
+        drives = subst (λ (o : StartOutcome). DrivesTransition round Start (start_sheet (length s.analyzers) run time s.quota dump) start o made.0 s.main.own later.main.own members turned) done drives;
         kept = kept;
       }
 

@@ -1,5 +1,5 @@
 -- What the main thread keeps of a session's runs.
-use Rattle.std.specs.Prelude.{◌≡◌, ◌≢◌, ℕ, zero, suc, ◌==◌, if◌then◌else◌, List, [], ◌∷◌, ◌++◌, length, Option, Some, None}
+use Rattle.std.specs.Prelude.{◌≡◌, ◌≢◌, ℕ, zero, suc, ◌+◌, ◌==◌, if◌then◌else◌, List, [], ◌∷◌, ◌++◌, length, Option, Some, None}
 use Rattle.std.specs.Option.{option_or, option_to_list}
 use Rattle.daq_types.specs.declared.runs.RunState.TheVariants.{Stopped}
 use Rattle.daq_types.specs.declared.runs.StartOutcome.{StartOutcome}
@@ -12,16 +12,18 @@ use Rattle.session_engine.specs.MainKnowledge.{MainKnows}
 use Rattle.session_engine.specs.MainSeats.{MainSeen}
 use Rattle.session_runs.specs.declared.channels.RunChannel.{RunChannel}
 use Rattle.session_runs.specs.declared.on.CurrentRun.{CurrentRun}
-use Rattle.session_runs.specs.ToldTallies.{fronts_told, states_told, files_of}
+use Rattle.session_runs.specs.ToldTallies.{fronts_told, states_told, files_of, reports_told}
 
 -- What the main thread keeps: how many events each front-end has to send in the runs that are started from here on; the
 -- records of the runs so far, but for that of the run that is on; the names of the front-ends, which are the first
--- clients; the channels of the logger, which is the client behind them; the run that is on; and its calls on the engine.
+-- clients; the channels of the logger, which is the client behind them; the names of the analyzers, which are the clients
+-- behind that; the run that is on; and its calls on the engine.
 pub record RunsSeen : Type 0 where
   pub quota : ℕ
   pub runs : List RunRecord
   pub fronts : List (List ℕ)
   pub channels : List RunChannel
+  pub analyzers : List (List ℕ)
   pub on : Option CurrentRun
   pub main : MainSeen
 
@@ -64,12 +66,13 @@ refused_start r outcome = record {
   outcome = outcome;
   fronts = [];
   files = [];
+  reports = [];
 }
 
 -- the record of a run that was stopped at this time, by what the clients told in the end of the stop: so many front-ends,
--- and the logger, which is the client behind them
-abbrev pub record_of : (fronts : ℕ) → List RunChannel → CurrentRun → (time : ℕ) → List ClientTally → RunRecord
-record_of fronts channels r time tallies = record {
+-- the logger, which is the client behind them, and so many analyzers behind that
+abbrev pub record_of : (fronts : ℕ) → List RunChannel → (analyzers : ℕ) → CurrentRun → (time : ℕ) → List ClientTally → RunRecord
+record_of fronts channels analyzers r time tallies = record {
   run = r.run;
   start = r.start;
   time0 = r.time;
@@ -77,6 +80,7 @@ record_of fronts channels r time tallies = record {
   outcome = Completed;
   fronts = fronts_told fronts tallies;
   files = files_of (states_told fronts tallies) r.run channels;
+  reports = reports_told (fronts + 1) analyzers tallies;
 }
 
 -- with these calls on the same engine
@@ -90,4 +94,7 @@ behind_start s r (Refused client why) = record s { runs = s.runs ++ refused_star
 
 -- behind a stop: no run is on, and its record is kept
 abbrev pub behind_stop : RunsSeen → CurrentRun → (time : ℕ) → List ClientTally → RunsSeen
-behind_stop s r time tallies = record s { on = None; runs = s.runs ++ record_of (length s.fronts) s.channels r time tallies ∷ [] }
+behind_stop s r time tallies = record s {
+  on = None;
+  runs = s.runs ++ record_of (length s.fronts) s.channels (length s.analyzers) r time tallies ∷ [];
+}

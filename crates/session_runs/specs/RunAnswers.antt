@@ -1,5 +1,5 @@
 -- What the main thread's run commands do, by their replies.
-use Rattle.std.specs.Prelude.{◌≡◌, ◌⊎◌, ℕ, ◌+◌, ℤ, Bool, IsTrue, List, Some, None, Result, Ok, Err, IsOk}
+use Rattle.std.specs.Prelude.{◌≡◌, ◌⊎◌, ℕ, ◌+◌, ℤ, Bool, IsTrue, length, List, Some, None, Result, Ok, Err, IsOk}
 use Rattle.daq_types.specs.declared.memory.NoMemory.{NoMemory}
 use Rattle.daq_types.specs.declared.runs.StartOutcome.{StartOutcome}
 use Rattle.daq_types.specs.declared.runs.StartOutcome.TheVariants.{Completed, Refused}
@@ -109,7 +109,7 @@ module _ {M : Type 0} (round : M → M → Type 0) where
     pub calls : BeginCalls run time outcome dump entries
     pub adds : AddsEntries old.database new.database entries
     pub tallies : List ClientTally
-    pub drives : DrivesTransition round Start (start_sheet run time old.runs.quota dump) start outcome tallies
+    pub drives : DrivesTransition round Start (start_sheet (length old.runs.analyzers) run time old.runs.quota dump) start outcome tallies
         old.runs.main.own new.runs.main.own old.members new.members
     pub kept : new.runs ≡ with_calls (behind_start old.runs (run_begun old.runs run start time) outcome) new.runs.main.own
 

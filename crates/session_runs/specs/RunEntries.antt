@@ -1,6 +1,6 @@
 -- The main thread's calls on the online database in a start and in a stop of a run, with the replies that they got; and
 -- what the transitions are begun with.
-use Rattle.std.specs.Prelude.{◌≡◌, ℕ, List, [], ◌∷◌, ◌++◌, Option, Some, None, Result, Ok, Err}
+use Rattle.std.specs.Prelude.{◌≡◌, ℕ, zero, suc, List, [], ◌∷◌, ◌++◌, Option, Some, None, Result, Ok, Err}
 use Rattle.daq_types.specs.declared.memory.NoMemory.{NoMemory}
 use Rattle.daq_types.specs.declared.runs.RunState.{RunState}
 use Rattle.daq_types.specs.declared.runs.RunState.TheVariants.{Stopped, Running}
@@ -13,14 +13,21 @@ use Rattle.odb_watch.specs.declared.entry.WatchEntry.{WatchEntry}
 use Rattle.odb_watch.specs.declared.entry.WatchEntry.TheVariants.{Call, Save}
 use Rattle.odb_port.specs.DatabasePorts.{IsSettled, row_calls}
 use Rattle.odb_runinfo.specs.RunSets.{Assignment, AreSets, number_asked, have_of, next_run, start_sets, refused_sets, state_set, stop_sets}
+use Rattle.event_report.specs.Reports.{Totals, report_of}
 use Rattle.transitions.specs.declared.sheet.Sheet.{Sheet}
 use Rattle.session_runs.specs.declared.on.CurrentRun.{CurrentRun}
 
 -- Sheets.
 
--- what a start is begun with
-abbrev pub start_sheet : (run time quota : ℕ) → (dump : List ℕ) → Sheet
-start_sheet run time quota dump = record { run = run; time = time; quota = quota; dump = Some dump; blanks = [] }
+-- so many reports of no events
+abbrev pub blank_reports : (count : ℕ) → List Totals
+blank_reports zero = []
+blank_reports (suc n) = report_of [] ∷ blank_reports n
+
+-- what a start is begun with, where there are so many analyzers: a blank report for each
+abbrev pub start_sheet : (analyzers run time quota : ℕ) → (dump : List ℕ) → Sheet
+start_sheet analyzers run time quota dump =
+    record { run = run; time = time; quota = quota; dump = Some dump; blanks = blank_reports analyzers }
 
 -- what any other transition of the run is begun with: the number and the quota of its start
 abbrev pub later_sheet : CurrentRun → (time : ℕ) → (dump : Option (List ℕ)) → Sheet

@@ -1,13 +1,14 @@
 -- What clients told in the end of a transition, as the record of a run keeps it.
-use Rattle.std.specs.Prelude.{ℕ, zero, suc, ◌==◌, if◌then◌else◌, List, [], ◌∷◌, ◌++◌, slice_get, Option, Some, None}
+use Rattle.std.specs.Prelude.{ℕ, zero, suc, ◌+◌, ◌==◌, if◌then◌else◌, List, [], ◌∷◌, ◌++◌, slice_get, Option, Some, None}
 use Rattle.std.specs.Option.{option_map, option_or, option_to_list}
 use Rattle.daq_types.specs.declared.runs.ChannelState.{ChannelState}
 use Rattle.transitions.specs.declared.answers.Tally.{Tally}
-use Rattle.transitions.specs.declared.answers.Tally.TheVariants.{Front, Channels}
+use Rattle.transitions.specs.declared.answers.Tally.TheVariants.{Front, Channels, Report}
 use Rattle.transitions.specs.declared.answers.ClientTally.{ClientTally}
 use Rattle.mid_logger.specs.Patterns.{file_name_by}
 use Rattle.run_records.specs.declared.records.FrontTally.{FrontTally}
 use Rattle.run_records.specs.declared.records.FileRecord.{FileRecord}
+use Rattle.run_records.specs.declared.records.ReportTally.{ReportTally}
 use Rattle.session_runs.specs.declared.channels.RunChannel.{RunChannel}
 
 -- what a front-end's tally tells
@@ -28,6 +29,25 @@ front_told client (told ∷ tallies) = option_or (front_by client told) (front_t
 abbrev pub fronts_told : (count : ℕ) → List ClientTally → List FrontTally
 fronts_told zero tallies = []
 fronts_told (suc n) tallies = fronts_told n tallies ++ option_to_list (front_told n tallies)
+
+-- what an analyzer's tally tells
+abbrev pub report_from : (client : ℕ) → Tally → Option ReportTally
+report_from client (Report report) = Some (record { client = client; report = report })
+report_from client tally = None
+
+-- what one told, where it is this client
+abbrev pub report_by : (client : ℕ) → ClientTally → Option ReportTally
+report_by client told = if told.client == client then report_from client told.tally else None
+
+-- what this client told that it counted: its first such tally
+abbrev pub report_told : (client : ℕ) → List ClientTally → Option ReportTally
+report_told client [] = None
+report_told client (told ∷ tallies) = option_or (report_by client told) (report_told client tallies)
+
+-- what the analyzers told, of which there are so many: they are the clients from this number on
+abbrev pub reports_told : (first count : ℕ) → List ClientTally → List ReportTally
+reports_told first zero tallies = []
+reports_told first (suc n) tallies = reports_told first n tallies ++ option_to_list (report_told (first + n) tallies)
 
 -- what a logger's tally tells of its channels, by their numbers
 abbrev pub states_in : Tally → Option (List ChannelState)

@@ -1,5 +1,5 @@
 //! How the records of runs stand to the main thread's own calls: each function does nothing, and its contract is the law.
-ghost use Rattle.std.specs.Prelude.{◌≡◌, ◌++◌, [], ℕ, List, length, None};
+ghost use Rattle.std.specs.Prelude.{◌≡◌, ◌++◌, [], ℕ, List, None};
 ghost use Rattle.odb_port.specs.DatabasePorts.{own_watched};
 ghost use Rattle.odb_watch.specs.declared.entry.WatchEntry.{WatchEntry};
 ghost use Rattle.session_engine.specs.declared.opening.MemberName.{MemberName};
@@ -7,7 +7,7 @@ ghost use Rattle.session_engine.specs.Members.{registrations};
 ghost use Rattle.session_runs.specs.declared.replies.RunReply.{RunReply};
 ghost use Rattle.session_runs.specs.KeptRuns.{RunsSeen};
 ghost use Rattle.session_runs.specs.RunAnswers.{AnswersPause, AnswersResume, AnswersStart, AnswersStop, ClockTold, CommandPoint, CutsStart, StopsUnsaved};
-ghost use Rattle.session_runs.specs.RunsFit.{RecordsFit, RunsFit, starts_begun};
+ghost use Rattle.session_runs.specs.RunsFit.{run_clients, RecordsFit, RunsFit, starts_begun};
 
 use odb_port::laws::{calls_add_up, entries_add_up};
 use session_engine::Rounds;
@@ -50,6 +50,6 @@ pub fn runs_fit()
     ensures more { (s : RunsSeen) (own more : List WatchEntry) → RunsFit s own
         → RunsFit s (own ++ more) }
     ensures records { (s : RunsSeen) (own : List WatchEntry) → RunsFit s own → s.on ≡ None
-        → RecordsFit (length s.fronts) s.channels
+        → RecordsFit (run_clients s)
         (record { engine = s.main.own; database = own }) s.runs }
 {}

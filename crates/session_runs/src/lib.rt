@@ -17,4 +17,4 @@ mod tallied;
 pub use channels::{RunChannel, RunChannels};
 pub use on::CurrentRun;
 pub use replies::RunReply;
-pub use runs::{FrontNames, Runs};
+pub use runs::{AnalyzerNames, FrontNames, Runs};

@@ -1,20 +1,58 @@
 // A transition, and what it is begun with.
-ghost use Rattle.std.specs.Prelude.{◌≡◌, ◌≢◌, ◌≤◌, [], List, length, Ok, IsOk, IfSome};
+ghost use Rattle.std.specs.Prelude.{◌≡◌, ◌≢◌, ◌≤◌, [], List, length, Some, Ok, IsOk, IfOk, IfSome};
 ghost use Rattle.daq_types.specs.declared.runs.StartOutcome.TheVariants.{Completed};
 ghost use Rattle.daq_types.specs.declared.runs.Transition.TheVariants.{Start};
 ghost use Rattle.odb_ascii.specs.Dumps.{dump_limit};
 ghost use Rattle.transitions.specs.declared.answers.ClientTally.{ClientTally};
-ghost use Rattle.transitions.specs.EngineHistories.{IsSheet};
+ghost use Rattle.std.specs.List.{AllByRecursion};
+ghost use Rattle.transitions.specs.EngineHistories.{IsSheet, IsBlank};
+ghost use Rattle.session_runs.specs.RunEntries.{blank_reports};
 ghost use Rattle.session_engine.specs.MainKnowledge.{known_from, begin_known, known_behind};
 ghost use Rattle.session_engine.specs.MadeTransitions.{DrivesTransition};
 
-use daq_types::{BoundedList, Bytes, Transition};
+use daq_types::{BoundedList, Bytes, NoMemory, Transition};
+use event_report::Report;
 use session_engine::{Made, MainSeat, Rounds};
 use std::alloc::Global;
 use std::sync::Wait;
-use transitions::{Sheet, Tallies};
+use transitions::{Reports, Sheet, Tallies};
 
-/// What a transition is begun with, where no member counts in a report. Takes no memory.
+/// So many reports of no events.
+pub(crate) fn blank_reports(alloc: Global, count: usize) -> Result<Reports, NoMemory>
+    ensures made { IfOk result (λ blanks. blanks ≡ blank_reports count) }
+    ensures blank { IfOk result (λ blanks. AllByRecursion IsBlank blanks) }
+{
+    let mut blanks = Reports::new(alloc)?;
+    for _place in 0..count {
+        let report = Report::new(alloc)?;
+        blanks.try_push(report)?;
+    }
+    Ok(blanks)
+}
+
+/// What a start is begun with. Takes no memory.
+pub(crate) fn start_sheet(run: u32, time: u32, quota: u32, dump: Bytes, blanks: Reports) -> Sheet
+    requires dump { length dump ≤ dump_limit }
+    requires blanks { AllByRecursion IsBlank blanks }
+    ensures is { result ≡ record {
+      run = run;
+      time = time;
+      quota = quota;
+      dump = Some dump;
+      blanks = blanks;
+    } }
+    ensures sheet { IsSheet result }
+{
+    Sheet {
+        run,
+        time,
+        quota,
+        dump: Some(dump),
+        blanks,
+    }
+}
+
+/// What any other transition is begun with: only a start has reports to be counted in. Takes no memory.
 pub(crate) fn sheet_for(
     alloc: Global,
     run: u32,

@@ -3,7 +3,7 @@ ghost use Rattle.std.specs.Prelude.{◌≡◌, [], IfOk};
 
 use daq_types::{BoundedList, NoMemory};
 use odb_runinfo::KeyPaths;
-use run_records::{FileRecords, FrontTallies};
+use run_records::{FileRecords, FrontTallies, ReportTallies};
 use std::alloc::Global;
 
 /// The run that is on.
@@ -24,9 +24,11 @@ pub struct CurrentRun {
 pub(crate) struct RunRooms {
     pub fronts: FrontTallies,
     pub files: FileRecords,
+    pub reports: ReportTallies,
     pub paths: KeyPaths,
     ghost no_fronts: { fronts ≡ [] },
     ghost no_files: { files ≡ [] },
+    ghost no_reports: { reports ≡ [] },
 }
 
 /// The run that is on, with these.
@@ -41,10 +43,12 @@ impl RunRooms {
     pub fn new(alloc: Global) -> Result<RunRooms, NoMemory> {
         let fronts = BoundedList::new(alloc)?;
         let files = BoundedList::new(alloc)?;
+        let reports = BoundedList::new(alloc)?;
         let paths = KeyPaths::new(alloc)?;
         Ok(RunRooms {
             fronts,
             files,
+            reports,
             paths,
         })
     }

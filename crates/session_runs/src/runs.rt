@@ -17,6 +17,9 @@ use transitions::Tallies;
 /// The names of the front-ends, which are the first clients, in the order of their numbers.
 pub type FrontNames = BoundedList<Name, 32>;
 
+/// The names of the analyzers, which are the clients behind the logger, in the order of their numbers.
+pub type AnalyzerNames = BoundedList<Name, 8>;
+
 /// What the main thread keeps of a session's runs: the quota of the runs to come, the records, the run that is on with all
 /// that its end needs, and the main thread's place at the engine. By its own calls there it knows what the engine allows, so
 /// a run is on exactly where the engine's state is not stopped.
@@ -27,6 +30,7 @@ pub struct Runs<'a> {
     pub(crate) runs: Vec<RunRecord>,
     pub(crate) fronts: FrontNames,
     pub(crate) channels: RunChannels,
+    pub(crate) analyzers: AnalyzerNames,
     pub(crate) tallies: Tallies,
     pub(crate) on: Option<OpenRun>,
 }
@@ -44,6 +48,7 @@ impl<'a> Model for Runs<'a> {
       runs = r.runs.items;
       fronts = r.fronts;
       channels = r.channels;
+      analyzers = r.analyzers;
       on = option_map (λ o. o.run) r.on;
       main = r.seat;
     } };
@@ -51,27 +56,31 @@ impl<'a> Model for Runs<'a> {
     ghost invariant = { λ r. (r.tallies ≡ [])
         × (length r.fronts ≤ 32)
         × (length r.channels ≤ 16)
+        × (length r.analyzers ≤ 8)
         × ForSome r.on (λ _. vec_len r.runs < vec_capacity r.runs)
         × IsInStep (option_map (λ o. o.run) r.on) (known_from r.seat.own) };
 }
 
 impl<'a> Runs<'a> {
-    /// No run yet, with this quota. The front-ends are the first clients of the engine, and the logger of these channels is
-    /// the client behind them.
+    /// No run yet, with this quota. The front-ends are the first clients of the engine, the logger of these channels is the
+    /// client behind them, and the analyzers are those behind that.
     pub fn new(
         alloc: Global,
         seat: MainSeat<'a>,
         quota: u32,
         fronts: FrontNames,
         channels: &[ChannelSpec],
+        analyzers: AnalyzerNames,
     ) -> Result<Runs<'a>, NoMemory>
         requires stopped { (known_from seat.own).state ≡ Stopped }
         requires few { length fronts ≤ 32 }
+        requires few_analyzers { length analyzers ≤ 8 }
         ensures { IfOk result (λ runs. runs ≡ record {
           quota = quota;
           runs = [];
           fronts = fronts;
           channels = channels_of channels.now;
+          analyzers = analyzers;
           on = None;
           main = seat.entry;
         }) }
@@ -84,6 +93,7 @@ impl<'a> Runs<'a> {
             runs: Vec::new(alloc),
             fronts,
             channels,
+            analyzers,
             tallies,
             on: None,
         })
@@ -109,6 +119,13 @@ impl<'a> Runs<'a> {
         ensures { result.now ≡ self.now.fronts }
     {
         self.fronts.as_slice()
+    }
+
+    /// The names of the analyzers.
+    pub fn analyzers(&self) -> &[Name]
+        ensures { result.now ≡ self.now.analyzers }
+    {
+        self.analyzers.as_slice()
     }
 
     /// The records so far.

@@ -11,7 +11,7 @@ ghost use Rattle.session_runs.specs.KeptRuns.{refused_start};
 ghost use Rattle.session_runs.specs.RunEntries.{AnnounceCalls, outcome_sets};
 ghost use Rattle.session_runs.specs.RunAnswers.{AnswersStart, CutsStart, AnswersBegin, CutsBegin, ReadsClock, clock_of, point_of};
 
-use crate::making::{make_untold, sheet_for};
+use crate::making::{blank_reports, make_untold, start_sheet};
 use crate::on::{CurrentRun, OpenRun, RunRooms};
 use crate::refusing::refusal_of;
 use crate::replies::RunReply;
@@ -74,7 +74,12 @@ fn set_outcome<R: Wait, D: WatchPort>(
 fn refused_record(rooms: RunRooms, run: CurrentRun, outcome: StartOutcome) -> RunRecord
     ensures { result ≡ refused_start run outcome }
 {
-    let RunRooms { fronts, files, .. } = rooms;
+    let RunRooms {
+        fronts,
+        files,
+        reports,
+        ..
+    } = rooms;
     RunRecord {
         run: run.run,
         start: run.start,
@@ -83,6 +88,7 @@ fn refused_record(rooms: RunRooms, run: CurrentRun, outcome: StartOutcome) -> Ru
         outcome,
         fronts,
         files,
+        reports,
     }
 }
 
@@ -121,13 +127,15 @@ impl<'a> Runs<'a> {
     {
         self.runs.reserve(1)?;
         let rooms = RunRooms::new(alloc)?;
+        let count = self.analyzers.len();
+        let blanks = blank_reports(alloc, count)?;
         calls_add_up();
         let (time, saved) = announce(rt, alloc, &rooms.paths, database, clock, run);
         let Ok(dump) = saved else {
             return Err(NoMemory);
         };
         let quota = self.quota;
-        let sheet = sheet_for(alloc, run, time, quota, Some(dump));
+        let sheet = start_sheet(run, time, quota, dump, blanks);
         let made = make_untold(
             rt,
             &mut self.seat,

@@ -12,7 +12,7 @@ use crate::making::sheet_for;
 use crate::on::{CurrentRun, OpenRun, RunRooms};
 use crate::replies::RunReply;
 use crate::runs::Runs;
-use crate::tallied::{take_files, take_fronts};
+use crate::tallied::{take_files, take_fronts, take_reports};
 use daq_io::Clock;
 use daq_types::{Bytes, NoMemory, RunState, StartOutcome, Transition};
 use odb_port::WatchPort;
@@ -22,7 +22,7 @@ use run_records::RunRecord;
 use session_engine::Rounds;
 use std::alloc::Global;
 use std::sync::Wait;
-use transitions::ClientTally;
+use transitions::Tallies;
 
 /// Announces a stop in the database, before it begins: reads the clock, sets the run's parameters, and takes the text of the
 /// database.
@@ -63,20 +63,24 @@ fn record_of(
     time: u32,
     count: u32,
     channels: &[RunChannel],
-    tallies: &[ClientTally],
+    analyzers: u32,
+    tallies: &mut Tallies,
 ) -> RunRecord
     requires fronts { count ≤ 32 }
     requires channels { length channels.now ≤ 16 }
-    ensures { result ≡ record_of count channels.now ended.run time tallies.now }
+    requires analyzers { analyzers ≤ 8 }
+    ensures { result ≡ record_of count channels.now analyzers ended.run time tallies.old }
 {
     let OpenRun { run, rooms } = ended;
     let RunRooms {
         mut fronts,
         mut files,
+        mut reports,
         ..
     } = rooms;
-    take_fronts(&mut fronts, count, tallies);
-    take_files(&mut files, run.run, channels, count, tallies);
+    take_fronts(&mut fronts, count, tallies.as_slice());
+    take_files(&mut files, run.run, channels, count, tallies.as_slice());
+    take_reports(&mut reports, count + 1, analyzers, tallies);
     RunRecord {
         run: run.run,
         start: run.start,
@@ -85,6 +89,7 @@ fn record_of(
         outcome: StartOutcome::Completed,
         fronts,
         files,
+        reports,
     }
 }
 
@@ -126,12 +131,14 @@ impl<'a> Runs<'a> {
             .paths
             .set_state(rt, alloc, database, RunState::Stopped);
         let count = self.fronts.len() as u32;
+        let analyzers = self.analyzers.len() as u32;
         self.runs.push_reserved(record_of(
             open,
             time,
             count,
             self.channels.as_slice(),
-            self.tallies.as_slice(),
+            analyzers,
+            &mut self.tallies,
         ));
         self.tallies.clear();
         if lacking {

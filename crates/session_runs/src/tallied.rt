@@ -1,12 +1,14 @@
 // What the clients told in the end of a transition, taken into the record of a run.
-ghost use Rattle.std.specs.Prelude.{◌≡◌, ◌≤◌, ◌<◌, ◌+◌, ◌++◌, [], length};
+ghost use Rattle.std.specs.Prelude.{◌≡◌, ◌≢◌, ◌≤◌, ◌<◌, ◌+◌, ◌++◌, [], ℕ, length, slice_get, Some, IfNone};
 ghost use Rattle.std.specs.Option.{option_map, option_to_list};
-ghost use Rattle.session_runs.specs.ToldTallies.{front_told, fronts_told, states_told, files_of, files_told, file_told, front_by, states_by};
+ghost use Rattle.transitions.specs.declared.answers.ClientTally.{ClientTally};
+ghost use Rattle.session_runs.specs.ToldTallies.{front_told, fronts_told, states_told, files_of, files_told, file_told, front_by, states_by, report_by, report_told, reports_told};
 
 use crate::channels::RunChannel;
 use daq_types::ChannelState;
-use run_records::{FileRecord, FileRecords, FrontTallies, FrontTally};
-use transitions::{ClientTally, Tally};
+use run_records::{FileRecord, FileRecords, FrontTallies, FrontTally, ReportTallies, ReportTally};
+use std::mem::replace;
+use transitions::{ClientTally, Tallies, Tally};
 
 /// What this client told that it sent.
 fn front_told(client: u32, tallies: &[ClientTally]) -> Option<FrontTally>
@@ -117,5 +119,82 @@ pub(crate) fn take_files(
 {
     if let Some(states) = states_told(logger, tallies) {
         take_told(files, run, channels, states);
+    }
+}
+
+/// Takes the report that one told, where it is this client. Who told no report has what it told as before.
+fn report_by(client: u32, told: &mut ClientTally) -> Option<ReportTally>
+    ensures told { result ≡ report_by client told.old }
+    ensures same { IfNone result (told.new ≡ told.old) }
+    ensures others { (other : ℕ) → other ≢ client
+        → report_by other told.new ≡ report_by other told.old }
+{
+    if told.client != client {
+        return None;
+    }
+    match replace(&mut told.tally, Tally::Plain) {
+        Tally::Report(report) => Some(ReportTally { client, report }),
+        tally => {
+            told.tally = tally;
+            None
+        }
+    }
+}
+
+/// Takes the report that was told at this place, where it is this client that told it.
+fn report_at(client: u32, tallies: &mut Tallies, place: usize) -> Option<ReportTally>
+    requires { place < length tallies.old }
+    ensures told { (told : ClientTally) × (slice_get tallies.old place ≡ Some told)
+        × (result ≡ report_by client told) }
+    ensures same { IfNone result (tallies.new ≡ tallies.old) }
+    ensures others { (other : ℕ) → other ≢ client
+        → report_told other tallies.new ≡ report_told other tallies.old }
+{
+    let Some(told) = tallies.get_mut(place) else {
+        unreachable!()
+    };
+    report_by(client, told)
+}
+
+/// Takes the report that this client told.
+fn report_told(client: u32, tallies: &mut Tallies) -> Option<ReportTally>
+    ensures told { result ≡ report_told client tallies.old }
+    ensures others { (other : ℕ) → other ≢ client
+        → report_told other tallies.new ≡ report_told other tallies.old }
+{
+    for place in 0..tallies.len() {
+        if let Some(report) = report_at(client, tallies, place) {
+            return Some(report);
+        }
+    }
+    None
+}
+
+/// Takes in a report, if there is one.
+fn take_report(reports: &mut ReportTallies, report: Option<ReportTally>)
+    requires { length reports.old < 8 }
+    ensures taken { reports.new ≡ reports.old ++ option_to_list report }
+    ensures one { length reports.new ≤ length reports.old + 1 }
+{
+    if let Some(report) = report {
+        reports.push(report);
+    }
+}
+
+/// Takes in what so many clients from this number on told that they counted. The reports are moved, so no memory is taken.
+pub(crate) fn take_reports(
+    reports: &mut ReportTallies,
+    first: u32,
+    count: u32,
+    tallies: &mut Tallies,
+)
+    requires empty { reports.old ≡ [] }
+    requires few { count ≤ 8 }
+    requires small { first ≤ 64 }
+    ensures { reports.new ≡ reports_told first count tallies.old }
+{
+    for place in 0..count {
+        let report = report_told(first + place, tallies);
+        take_report(reports, report);
     }
 }

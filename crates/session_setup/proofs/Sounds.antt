@@ -13,11 +13,13 @@ use Rattle.daq_types.specs.declared.names.NameRefusal.{NameRefusal}
 use Rattle.mid_logger.specs.Patterns.{NamePattern}
 use Rattle.mid_logger.specs.declared.channel_spec.ChannelSpec.{ChannelSpec}
 use Rattle.odb_path.specs.Paths.{same_name}
+use Rattle.daq_types.specs.declared.runs.Kind.{Kind}
+use Rattle.session_setup.specs.declared.declared.AnalyzerDeclared.{AnalyzerDeclared}
 use Rattle.session_setup.specs.declared.declared.BufferDeclared.{BufferDeclared}
 use Rattle.session_setup.specs.declared.declared.FrontDeclared.{FrontDeclared}
-use Rattle.session_setup.specs.Setup.{Declared, AreSound, system_name, system_size, most_in_all, is_buffer_size, is_front_id, total_size, has_buffer, buffer_named, has_front_id, has_channel}
-use Rattle.session_setup.specs.SetupLines.{first_resized, with_buffer, with_front, with_channel, number_of_buffer, buffer_refusal, equip_refusal, channel_refusal, default_front, default_channel}
-use Rattle.session_setup.proofs.Taken.{buffer_taken, front_taken, channel_taken}
+use Rattle.session_setup.specs.Setup.{Declared, AreSound, system_name, system_size, most_in_all, is_buffer_size, is_front_id, total_size, has_buffer, buffer_named, analyzer_named, has_front_id, has_channel}
+use Rattle.session_setup.specs.SetupLines.{first_resized, with_buffer, with_front, with_channel, with_analyzer, number_of_buffer, buffer_refusal, equip_refusal, channel_refusal, analyzer_refusal, default_front, default_channel}
+use Rattle.session_setup.proofs.Taken.{buffer_taken, front_taken, channel_taken, analyzer_taken}
 
 or_left : (a b : Bool) → a || b ≡ false → a ≡ false
 or_left true b h = absurd (cc)
@@ -75,12 +77,15 @@ front_added d front sound few in_range fresh new_id known = record {
   channel_numbers = sound.channel_numbers;
   numbers_differ = sound.numbers_differ;
   channel_buffers = sound.channel_buffers;
+  few_analyzers = sound.few_analyzers;
+  analyzer_names = sound.analyzer_names;
+  analyzer_buffers = sound.analyzer_buffers;
 }
 
 pub front_sound : (d : Declared) (read : Result (List ℕ) NameRefusal) (name : List ℕ) (id mask : ℕ) (buffer : List ℕ) (limit : ℕ) → AreSound d → equip_refusal d read name id buffer ≡ None → AreSound (with_front d name id mask buffer limit)
 front_sound d read name id mask buffer limit sound taken =
     let t = front_taken d read name id buffer taken in
-    front_added d (record { name = name; id = id; mask = mask; buffer = number_of_buffer d buffer; limit = limit }) sound t.few t.in_range (or_right _ _ t.fresh) t.new_id (number_within d buffer sound)
+    front_added d (record { name = name; id = id; mask = mask; buffer = number_of_buffer d buffer; limit = limit }) sound t.few t.in_range (or_left _ _ (or_right _ _ t.fresh)) t.new_id (number_within d buffer sound)
 
 pub default_front_sound : (d : Declared) → AreSound d → d.fronts ≡ [] → AreSound (record d { fronts = d.fronts ++ default_front ∷ [] })
 default_front_sound d sound empty = front_added d default_front sound (rw empty (omega arith)) refl (rw empty refl) (rw empty refl) (some_buffer d.buffers sound.system)
@@ -103,6 +108,9 @@ channel_added d channel sound small new_number known = record {
   channel_numbers = All-push (λ (c : ChannelSpec). c.number < 16) d.channels channel sound.channel_numbers small;
   numbers_differ = distinct_push nat_eq (λ (c : ChannelSpec). c.number) d.channels channel sound.numbers_differ new_number;
   channel_buffers = All-push (λ (c : ChannelSpec). c.buffer < length d.buffers) d.channels channel sound.channel_buffers known;
+  few_analyzers = sound.few_analyzers;
+  analyzer_names = sound.analyzer_names;
+  analyzer_buffers = sound.analyzer_buffers;
 }
 
 pub channel_sound : (d : Declared) (number : ℕ) (pattern : NamePattern) (text buffer : List ℕ) (id mask : ℕ) → AreSound d → channel_refusal d number (Some pattern) text buffer ≡ None → AreSound (with_channel d number pattern buffer id mask)
@@ -112,6 +120,34 @@ channel_sound d number pattern text buffer id mask sound taken =
 
 pub default_channel_sound : (d : Declared) → AreSound d → d.channels ≡ [] → AreSound (record d { channels = d.channels ++ default_channel ∷ [] })
 default_channel_sound d sound empty = channel_added d default_channel sound (omega arith) (rw empty refl) (some_buffer d.buffers sound.system)
+
+-- One analyzer more.
+
+pub analyzer_added : (d : Declared) (analyzer : AnalyzerDeclared) → AreSound d → length d.analyzers < 8 → analyzer_named d.analyzers analyzer.name ≡ false → analyzer.buffer < length d.buffers
+    → AreSound (record d { analyzers = d.analyzers ++ analyzer ∷ [] })
+analyzer_added d analyzer sound few fresh known = record {
+  system = sound.system;
+  few_buffers = sound.few_buffers;
+  sizes = sound.sizes;
+  total = sound.total;
+  buffer_names = sound.buffer_names;
+  few_fronts = sound.few_fronts;
+  front_ids = sound.front_ids;
+  front_names = sound.front_names;
+  ids_differ = sound.ids_differ;
+  front_buffers = sound.front_buffers;
+  channel_numbers = sound.channel_numbers;
+  numbers_differ = sound.numbers_differ;
+  channel_buffers = sound.channel_buffers;
+  few_analyzers = omega (arith, few, length-append d.analyzers (analyzer ∷ []));
+  analyzer_names = distinct_push same_name (λ (a : AnalyzerDeclared). a.name) d.analyzers analyzer sound.analyzer_names fresh;
+  analyzer_buffers = All-push (λ (a : AnalyzerDeclared). a.buffer < length d.buffers) d.analyzers analyzer sound.analyzer_buffers known;
+}
+
+pub analyzer_sound : (d : Declared) (read : Result (List ℕ) NameRefusal) (name buffer : List ℕ) (id mask : ℕ) (kind : Kind) → AreSound d → analyzer_refusal d read name buffer ≡ None → AreSound (with_analyzer d name buffer id mask kind)
+analyzer_sound d read name buffer id mask kind sound taken =
+    let t = analyzer_taken d read name buffer taken in
+    analyzer_added d (record { name = name; buffer = number_of_buffer d buffer; id = id; mask = mask; kind = kind }) sound t.few (or_right _ _ (or_right _ _ t.fresh)) (number_within d buffer sound)
 
 abbrev IsSmall : ChannelSpec → Type 0
 IsSmall channel = channel.number < 16
@@ -174,6 +210,9 @@ buffers_sound d true name size sound sized few total fresh = let same = length_r
   channel_numbers = sound.channel_numbers;
   numbers_differ = sound.numbers_differ;
   channel_buffers = All-weaker (λ (c : ChannelSpec). c.buffer < length d.buffers) (λ (c : ChannelSpec). c.buffer < length (first_resized size d.buffers)) (λ c h. omega (arith, h, same)) d.channels sound.channel_buffers;
+  few_analyzers = sound.few_analyzers;
+  analyzer_names = sound.analyzer_names;
+  analyzer_buffers = All-weaker (λ (a : AnalyzerDeclared). a.buffer < length d.buffers) (λ (a : AnalyzerDeclared). a.buffer < length (first_resized size d.buffers)) (λ a h. omega (arith, h, same)) d.analyzers sound.analyzer_buffers;
 }
 buffers_sound d false name size sound sized few total fresh = let new : BufferDeclared = record { name = name; size = size } in let more = length-append d.buffers (new ∷ []) in record {
   system = system_stays d.buffers new sound.system;
@@ -189,6 +228,9 @@ buffers_sound d false name size sound sized few total fresh = let new : BufferDe
   channel_numbers = sound.channel_numbers;
   numbers_differ = sound.numbers_differ;
   channel_buffers = All-weaker (λ (c : ChannelSpec). c.buffer < length d.buffers) (λ (c : ChannelSpec). c.buffer < length (d.buffers ++ new ∷ [])) (λ c h. omega (arith, h, more)) d.channels sound.channel_buffers;
+  few_analyzers = sound.few_analyzers;
+  analyzer_names = sound.analyzer_names;
+  analyzer_buffers = All-weaker (λ (a : AnalyzerDeclared). a.buffer < length d.buffers) (λ (a : AnalyzerDeclared). a.buffer < length (d.buffers ++ new ∷ [])) (λ a h. omega (arith, h, more)) d.analyzers sound.analyzer_buffers;
 }
 
 not_known : (is_system known : Bool) → not is_system && known ≡ false → is_system ≡ false → known ≡ false
@@ -205,10 +247,11 @@ no_items [] h = refl
 no_items (x ∷ xs) h = let none : length (x ∷ xs) ≡ 0 = eqb-true (length (x ∷ xs)) 0 (sym h) in absurd (omega (arith, none))
 
 -- The declarations of a session for which nothing is declared.
-pub nothing_sound : (buffers : List BufferDeclared) (fronts : List FrontDeclared) (channels : List ChannelSpec)
-    → buffers ≡ record { name = system_name; size = system_size } ∷ [] → fronts ≡ [] → channels ≡ [] → AreSound (record { opened = false; buffers = buffers; fronts = fronts; channels = channels })
+pub nothing_sound : (buffers : List BufferDeclared) (fronts : List FrontDeclared) (channels : List ChannelSpec) (analyzers : List AnalyzerDeclared)
+    → buffers ≡ record { name = system_name; size = system_size } ∷ [] → fronts ≡ [] → channels ≡ [] → analyzers ≡ []
+    → AreSound (record { opened = false; buffers = buffers; fronts = fronts; channels = channels; analyzers = analyzers })
 unfolding IsDistinct
-nothing_sound buffers fronts channels b f c = rw (b, f, c) record {
+nothing_sound buffers fronts channels analyzers b f c a = rw (b, f, c, a) record {
   system = refl;
   few_buffers = omega arith;
   sizes = All-cons HasSize (record { name = system_name; size = system_size }) [] refl (All-nil HasSize);
@@ -222,4 +265,7 @@ nothing_sound buffers fronts channels b f c = rw (b, f, c) record {
   channel_numbers = All-nil IsSmall;
   numbers_differ = tt;
   channel_buffers = All-nil (λ (channel : ChannelSpec). channel.buffer < 1);
+  few_analyzers = omega arith;
+  analyzer_names = tt;
+  analyzer_buffers = All-nil (λ (analyzer : AnalyzerDeclared). analyzer.buffer < 1);
 }

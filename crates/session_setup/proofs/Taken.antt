@@ -10,7 +10,7 @@ use Rattle.session_setup.specs.declared.refusals.SetupRefusal.{SetupRefusal}
 use Rattle.session_setup.specs.declared.refusals.SetupRefusal.TheVariants.{Exists, BadBufferSize, TooMany, SameName, BadId, SameId, NoBuffer, BadChannel, SameChannel, BadPattern}
 use Rattle.session_setup.specs.Setup.{Declared, most_in_all, is_buffer_size, is_front_id, total_size, has_buffer, has_front_id, has_channel, is_member_name}
 use Rattle.session_setup.specs.Refusals.{first_refusal, refused_if, name_refusal}
-use Rattle.session_setup.specs.SetupLines.{buffers_with, is_taken_name, buffer_tests, equip_tests, channel_tests, buffer_refusal, equip_refusal, channel_refusal}
+use Rattle.session_setup.specs.SetupLines.{buffers_with, is_taken_name, buffer_tests, equip_tests, channel_tests, analyzer_tests, buffer_refusal, equip_refusal, channel_refusal, analyzer_refusal}
 
 -- where a list has no refusal, each of its entries is none
 pub none_of : (list : List (Option SetupRefusal)) → first_refusal list ≡ None → AllByRecursion (λ entry. entry ≡ None) list
@@ -78,4 +78,18 @@ channel_taken d number read text buffer h = let none = none_of (channel_tests d 
   new_number = passed (has_channel d.channels number) SameChannel none.1.1.0;
   patterned = passed (is_none read) BadPattern none.1.1.1.0;
   known = is_true (has_buffer d.buffers buffer) (passed (not (has_buffer d.buffers buffer)) NoBuffer none.1.1.1.1.1.0);
+}
+
+pub record AnalyzerTaken (d : Declared) (read : Result (List ℕ) NameRefusal) (name buffer : List ℕ) : Type 0 where
+  pub named : name_refusal read ≡ None
+  pub fresh : is_member_name d name ≡ false
+  pub known : has_buffer d.buffers buffer ≡ true
+  pub few : length d.analyzers < 8
+
+pub analyzer_taken : (d : Declared) (read : Result (List ℕ) NameRefusal) (name buffer : List ℕ) → analyzer_refusal d read name buffer ≡ None → AnalyzerTaken d read name buffer
+analyzer_taken d read name buffer h = let none = none_of (analyzer_tests d read name buffer) h in record {
+  named = none.1.0;
+  fresh = passed (is_member_name d name) SameName none.1.1.0;
+  known = is_true (has_buffer d.buffers buffer) (passed (not (has_buffer d.buffers buffer)) NoBuffer none.1.1.1.0);
+  few = below 8 (length d.analyzers) (passed (nat_le 8 (length d.analyzers)) (TooMany 8) none.1.1.1.1.0);
 }

@@ -1,9 +1,11 @@
--- What a session has before it opens: its buffers, its front-ends and the channels of its logger.
-use Rattle.std.specs.Prelude.{◌≡◌, ℕ, ◌%◌, ◌<◌, ◌≤◌, ◌==◌, ◌&&◌, ◌||◌, Bool, false, nat_le, nat_eq, IsTrue, List, [], ◌∷◌, length, map, take, sum_by, position, All, Option, codes}
+-- What a session has before it opens: its buffers, its front-ends, the channels of its logger, and its analyzers.
+use Rattle.std.specs.Prelude.{◌≡◌, ℕ, ◌%◌, ◌<◌, ◌≤◌, ◌==◌, ◌&&◌, ◌||◌, Bool, true, false, nat_le, nat_eq, IsTrue, List, [], ◌∷◌, length, map, take, sum_by, position, All, Option, codes}
 use Rattle.std.specs.List.{list_any, IsDistinct}
 use Rattle.odb_path.specs.Paths.{same_name}
 use Rattle.mid_logger.specs.declared.channel_spec.ChannelSpec.{ChannelSpec}
+use Rattle.session_setup.specs.declared.declared.AnalyzerDeclared.{AnalyzerDeclared}
 use Rattle.session_setup.specs.declared.declared.BufferDeclared.{BufferDeclared}
+use Rattle.session_setup.specs.declared.declared.DeclaredLists.{DeclaredLists}
 use Rattle.session_setup.specs.declared.declared.FrontDeclared.{FrontDeclared}
 
 -- The declarations of a session, each list in their order, and whether the session was opened. A buffer's number is
@@ -13,6 +15,7 @@ pub record Declared : Type 0 where
   pub buffers : List BufferDeclared
   pub fronts : List FrontDeclared
   pub channels : List ChannelSpec
+  pub analyzers : List AnalyzerDeclared
 
 -- the name of the buffer that is there from the beginning, and its size then
 abbrev pub system_name : List ℕ
@@ -32,6 +35,17 @@ nothing_declared = record {
   buffers = record { name = system_name; size = system_size } ∷ [];
   fronts = [];
   channels = [];
+  analyzers = [];
+}
+
+-- the declarations of these lists, with which a session opens
+abbrev pub declared_by : DeclaredLists → Declared
+declared_by lists = record {
+  opened = true;
+  buffers = lists.buffers;
+  fronts = lists.fronts;
+  channels = lists.channels;
+  analyzers = lists.analyzers;
 }
 
 -- a size that a buffer may have, in bytes
@@ -54,9 +68,12 @@ buffer_named buffers name = position (λ buffer. same_name buffer.name name) buf
 abbrev pub has_buffer : List BufferDeclared → List ℕ → Bool
 has_buffer buffers name = list_any (λ buffer. same_name buffer.name name) buffers
 
--- a front-end has this name; one sends events of this id; a channel has this number
+-- a front-end has this name; an analyzer has it; a front-end sends events of this id; a channel has this number
 abbrev pub front_named : List FrontDeclared → List ℕ → Bool
 front_named fronts name = list_any (λ front. same_name front.name name) fronts
+
+abbrev pub analyzer_named : List AnalyzerDeclared → List ℕ → Bool
+analyzer_named analyzers name = list_any (λ analyzer. same_name analyzer.name name) analyzers
 
 abbrev pub has_front_id : List FrontDeclared → ℕ → Bool
 has_front_id fronts id = list_any (λ front. front.id == id) fronts
@@ -64,13 +81,17 @@ has_front_id fronts id = list_any (λ front. front.id == id) fronts
 abbrev pub has_channel : List ChannelSpec → ℕ → Bool
 has_channel channels number = list_any (λ channel. channel.number == number) channels
 
--- a member of the session has this name: a front-end, or the logger
+-- a front-end or an analyzer has this name
+abbrev pub is_declared_name : Declared → List ℕ → Bool
+is_declared_name d name = front_named d.fronts name || analyzer_named d.analyzers name
+
+-- a member of the session has it: one of them, or the logger
 abbrev pub is_member_name : Declared → List ℕ → Bool
-is_member_name d name = same_name (codes "Logger") name || front_named d.fronts name
+is_member_name d name = same_name (codes "Logger") name || is_declared_name d name
 
 -- What all declarations keep: SYSTEM is the first buffer; sizes, ids and numbers are in their ranges, and their lists
--- within the limits; no two buffers, front-ends or channels are called the same; and each front-end and channel has a
--- buffer that is there.
+-- within the limits; no two buffers, front-ends, channels or analyzers are called the same; and each front-end,
+-- channel and analyzer has a buffer that is there.
 pub record AreSound (d : Declared) : Type 0 where
   pub system : map (λ buffer. buffer.name) (take 1 d.buffers) ≡ system_name ∷ []
   pub few_buffers : length d.buffers ≤ 8
@@ -85,3 +106,6 @@ pub record AreSound (d : Declared) : Type 0 where
   pub channel_numbers : All (λ channel. channel.number < 16) d.channels
   pub numbers_differ : IsDistinct nat_eq (map (λ channel. channel.number) d.channels)
   pub channel_buffers : All (λ channel. channel.buffer < length d.buffers) d.channels
+  pub few_analyzers : length d.analyzers ≤ 8
+  pub analyzer_names : IsDistinct same_name (map (λ analyzer. analyzer.name) d.analyzers)
+  pub analyzer_buffers : All (λ analyzer. analyzer.buffer < length d.buffers) d.analyzers

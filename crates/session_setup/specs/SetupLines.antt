@@ -1,9 +1,11 @@
--- What the lines `buffer`, `equip` and `channel` refuse, and what they leave where they are taken.
+-- What the lines `buffer`, `equip`, `channel` and `analyzer` refuse, and what they leave where they are taken.
 use Rattle.std.specs.Prelude.{◌≡◌, ℕ, ◌&&◌, Bool, true, not, if◌then◌else◌, nat_le, nat_lt, List, [], ◌∷◌, ◌++◌, length, Option, Some, None, is_none, unwrap_or, codes}
 use Rattle.odb_path.specs.Paths.{same_name}
 use Rattle.daq_types.specs.Names.{is_compressed}
 use Rattle.mid_logger.specs.Patterns.{NamePattern, IsPattern, IsPatternText, pattern_text}
 use Rattle.mid_logger.specs.declared.channel_spec.ChannelSpec.{ChannelSpec}
+use Rattle.daq_types.specs.declared.runs.Kind.{Kind}
+use Rattle.session_setup.specs.declared.declared.AnalyzerDeclared.{AnalyzerDeclared}
 use Rattle.session_setup.specs.declared.declared.BufferDeclared.{BufferDeclared}
 use Rattle.session_setup.specs.declared.declared.FrontDeclared.{FrontDeclared}
 use Rattle.session_setup.specs.declared.refusals.SetupRefusal.{SetupRefusal}
@@ -100,6 +102,29 @@ channel_declared number pattern buffer id mask =
 abbrev pub with_channel : Declared → (number : ℕ) → NamePattern → (buffer : List ℕ) → (id mask : ℕ) → Declared
 with_channel d number pattern buffer id mask = record d {
   channels = d.channels ++ channel_declared number pattern (number_of_buffer d buffer) id mask ∷ [];
+}
+
+-- the tests of `analyzer NAME BUFFER ID MASK KIND`
+abbrev pub analyzer_tests : Declared → NameRead → (name buffer : List ℕ) → LineTests
+analyzer_tests d read name buffer =
+    refused_if d.opened Opened
+    ∷ name_refusal read
+    ∷ refused_if (is_member_name d name) SameName
+    ∷ refused_if (not (has_buffer d.buffers buffer)) NoBuffer
+    ∷ refused_if (nat_le 8 (length d.analyzers)) (TooMany 8)
+    ∷ []
+
+abbrev pub analyzer_refusal : Declared → NameRead → (name buffer : List ℕ) → Option SetupRefusal
+analyzer_refusal d read name buffer = first_refusal (analyzer_tests d read name buffer)
+
+abbrev pub analyzer_declared : (name : List ℕ) → (buffer id mask : ℕ) → Kind → AnalyzerDeclared
+analyzer_declared name buffer id mask kind =
+    record { name = name; buffer = buffer; id = id; mask = mask; kind = kind }
+
+-- the declarations behind it: one analyzer more, behind the others
+abbrev pub with_analyzer : Declared → (name buffer : List ℕ) → (id mask : ℕ) → Kind → Declared
+with_analyzer d name buffer id mask kind = record d {
+  analyzers = d.analyzers ++ analyzer_declared name (number_of_buffer d buffer) id mask kind ∷ [];
 }
 
 -- the front-end of a session that declares none: `equip FE 1 0 SYSTEM`

@@ -2,9 +2,9 @@
 ghost use Rattle.std.specs.Prelude.{◌≡◌, ◌<◌, ◌≤◌, ◌^◌, length};
 ghost use Rattle.daq_types.specs.Names.{is_compressed};
 ghost use Rattle.odb_path.specs.Paths.{same_name};
-ghost use Rattle.session_setup.specs.Setup.{is_buffer_size, is_front_id, total_size, buffer_named, has_buffer, front_named, has_front_id, has_channel};
+ghost use Rattle.session_setup.specs.Setup.{is_buffer_size, is_front_id, total_size, buffer_named, has_buffer, front_named, analyzer_named, has_front_id, has_channel};
 
-use crate::declared::{BufferDeclared, FrontDeclared};
+use crate::declared::{AnalyzerDeclared, BufferDeclared, FrontDeclared};
 use mid_logger::ChannelSpec;
 
 /// Whether two names agree but for the case of their letters.
@@ -53,6 +53,15 @@ pub(crate) fn front_named(fronts: &[FrontDeclared], name: &[u8]) -> bool
     fronts
         .iter()
         .any(|front| is_same(front.name.as_slice(), name))
+}
+
+/// Whether an analyzer has this name.
+pub(crate) fn analyzer_named(analyzers: &[AnalyzerDeclared], name: &[u8]) -> bool
+    ensures { result ≡ analyzer_named analyzers.now name.now }
+{
+    analyzers
+        .iter()
+        .any(|analyzer| is_same(analyzer.name.as_slice(), name))
 }
 
 /// Whether a front-end's events have this id.

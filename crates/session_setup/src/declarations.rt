@@ -1,12 +1,12 @@
 ghost use Rattle.std.specs.Prelude.{◌≡◌, ◌++◌, ◌∷◌, [], length, codes, IfOk, OnOk, OnErr};
-ghost use Rattle.session_setup.specs.Setup.{AreSound, nothing_declared, system_name, total_size, has_buffer};
+ghost use Rattle.session_setup.specs.Setup.{AreSound, nothing_declared, system_name, total_size, has_buffer, is_declared_name, is_member_name};
 ghost use Rattle.session_setup.specs.Refusals.{IsNameRead, name_refusal, ok_unless};
-ghost use Rattle.session_setup.specs.SetupLines.{buffers_with, is_taken_name, buffer_refusal, with_buffer, equip_refusal, with_front, IsPatternRead, channel_refusal, with_channel, number_of_buffer, or_default, default_front, default_channel, opened_with_defaults};
+ghost use Rattle.session_setup.specs.SetupLines.{buffers_with, is_taken_name, buffer_refusal, with_buffer, equip_refusal, with_front, IsPatternRead, channel_refusal, with_channel, analyzer_refusal, with_analyzer, number_of_buffer, or_default, default_front, default_channel, opened_with_defaults};
 
 use crate::checks;
-use crate::declared::{BufferDeclared, DeclaredLists, FrontDeclared};
+use crate::declared::{AnalyzerDeclared, BufferDeclared, DeclaredLists, FrontDeclared};
 use crate::refusals::{SetupRefusal, first_refusal, refused_if};
-use daq_types::{BoundedList, Name, NameRefusal, NoMemory};
+use daq_types::{BoundedList, Kind, Name, NameRefusal, NoMemory};
 use mid_logger::{ChannelSpec, Pattern};
 use std::alloc::Global;
 use std::marker::Model;
@@ -20,14 +20,15 @@ const MOST_BUFFER_BYTES: u64 = 1_073_741_824;
 /// The id and the mask with which a channel asks for all events.
 const ANY: u16 = 0xFFFF;
 
-/// What a session has before it opens: buffers, of which `SYSTEM` is there from the beginning, front-ends, and the
-/// channels of its logger. The room for all that can be declared is taken once.
+/// What a session has before it opens: buffers, of which `SYSTEM` is there from the beginning, front-ends, the channels
+/// of its logger, and analyzers. The room for all that can be declared is taken once.
 #[derive(Debug, Drop)]
 pub struct Declarations {
     opened: bool,
     buffers: BoundedList<BufferDeclared, 8>,
     fronts: BoundedList<FrontDeclared, 32>,
     channels: BoundedList<ChannelSpec, 16>,
+    analyzers: BoundedList<AnalyzerDeclared, 8>,
 }
 
 impl Model for Declarations {
@@ -40,6 +41,7 @@ impl Model for Declarations {
       buffers = d.buffers;
       fronts = d.fronts;
       channels = d.channels;
+      analyzers = d.analyzers;
     } };
 
     ghost invariant = { λ d. AreSound (record {
@@ -47,6 +49,7 @@ impl Model for Declarations {
       buffers = d.buffers;
       fronts = d.fronts;
       channels = d.channels;
+      analyzers = d.analyzers;
     }) };
 }
 
@@ -88,6 +91,7 @@ impl Declarations {
         let mut buffers = BoundedList::new(alloc)?;
         let fronts = BoundedList::new(alloc)?;
         let channels = BoundedList::new(alloc)?;
+        let analyzers = BoundedList::new(alloc)?;
         buffers.push(BufferDeclared {
             name: system_name(),
             size: SYSTEM_BYTES,
@@ -97,6 +101,7 @@ impl Declarations {
             buffers,
             fronts,
             channels,
+            analyzers,
         })
     }
 
@@ -124,11 +129,20 @@ impl Declarations {
         self.channels.as_slice()
     }
 
-    /// The three lists, for themselves, each in its room.
+    /// The analyzers, in the order of their declaration.
+    pub fn analyzers(&self) -> &[AnalyzerDeclared]
+        ensures list { result.now ≡ self.now.analyzers }
+        ensures sound { AreSound self.now }
+    {
+        self.analyzers.as_slice()
+    }
+
+    /// The lists, for themselves, each in its room.
     pub fn into_lists(self) -> DeclaredLists
         ensures buffers { result.buffers ≡ self.buffers }
         ensures fronts { result.fronts ≡ self.fronts }
         ensures channels { result.channels ≡ self.channels }
+        ensures analyzers { result.analyzers ≡ self.analyzers }
         ensures sound { AreSound self }
     {
         let Declarations {
@@ -136,11 +150,13 @@ impl Declarations {
             buffers,
             fronts,
             channels,
+            analyzers,
         } = self;
         DeclaredLists {
             buffers,
             fronts,
             channels,
+            analyzers,
         }
     }
 
@@ -230,6 +246,37 @@ impl Declarations {
         Ok(())
     }
 
+    /// `analyzer NAME BUFFER ID MASK all` or `some`: one more analyzer. A refusal leaves all as it was.
+    pub fn analyzer(
+        &mut self,
+        name: &[u8],
+        buffer: &[u8],
+        id: u16,
+        mask: u16,
+        kind: Kind,
+    ) -> Result<(), SetupRefusal>
+        ensures answer { (read : _) × IsNameRead name.now read
+            × (result ≡ ok_unless (analyzer_refusal self.old read name.now buffer.now)) }
+        ensures added { OnOk result (self.new
+            ≡ with_analyzer self.old name.now buffer.now id mask kind) }
+        ensures same { OnErr result (self.new ≡ self.old) }
+    {
+        let read = Name::new(name);
+        if let Some(refusal) = self.analyzer_refusal(&read, name, buffer) {
+            return Err(refusal);
+        }
+        let Ok(name) = read else { unreachable!() };
+        let buffer = self.number_of_buffer(buffer);
+        self.add_analyzer(AnalyzerDeclared {
+            name,
+            buffer,
+            id,
+            mask,
+            kind,
+        });
+        Ok(())
+    }
+
     /// Opens the session: from here on nothing can be declared. Where no front-end was declared there is one, `FE`,
     /// whose events have id 1; and where no channel was, there is channel 0, for all events of `SYSTEM`.
     pub fn open(&mut self)
@@ -278,8 +325,7 @@ impl Declarations {
         ensures answer { result ≡ equip_refusal self.now read.now name.now id buffer.now }
         ensures sound { AreSound self.now }
     {
-        let is_member = checks::is_same(b"Logger", name)
-            || checks::front_named(self.fronts.as_slice(), name);
+        let is_member = self.is_member(name);
         let has_id = checks::has_front_id(self.fronts.as_slice(), id);
         let has_buffer = self.has_buffer(buffer);
         first_refusal(&[
@@ -314,6 +360,42 @@ impl Declarations {
             refused_if(checks::is_compressed(pattern), SetupRefusal::Compressed),
             refused_if(!has_buffer, SetupRefusal::NoBuffer),
         ])
+    }
+
+    /// The first refusal of `analyzer`.
+    fn analyzer_refusal(
+        &self,
+        read: &Result<Name, NameRefusal>,
+        name: &[u8],
+        buffer: &[u8],
+    ) -> Option<SetupRefusal>
+        ensures answer { result ≡ analyzer_refusal self.now read.now name.now buffer.now }
+        ensures sound { AreSound self.now }
+    {
+        let is_named = self.is_member(name);
+        let has_buffer = self.has_buffer(buffer);
+        first_refusal(&[
+            refused_if(self.opened, SetupRefusal::Opened),
+            name_refusal(read),
+            refused_if(is_named, SetupRefusal::SameName),
+            refused_if(!has_buffer, SetupRefusal::NoBuffer),
+            refused_if(8 <= self.analyzers.len(), SetupRefusal::TooMany { most: 8 }),
+        ])
+    }
+
+    /// Whether a member of the session has this name.
+    fn is_member(&self, name: &[u8]) -> bool
+        ensures { result ≡ is_member_name self.now name.now }
+    {
+        checks::is_same(b"Logger", name) || self.is_declared(name)
+    }
+
+    /// Whether a front-end or an analyzer has this name.
+    fn is_declared(&self, name: &[u8]) -> bool
+        ensures { result ≡ is_declared_name self.now name.now }
+    {
+        checks::front_named(self.fronts.as_slice(), name)
+            || checks::analyzer_named(self.analyzers.as_slice(), name)
     }
 
     /// Whether another buffer than `SYSTEM` has this name.
@@ -383,6 +465,17 @@ impl Declarations {
         ensures { self.new ≡ record self.old { channels = self.old.channels ++ channel ∷ [] } }
     {
         self.channels.push(channel);
+    }
+
+    /// One more analyzer, where that is allowed.
+    fn add_analyzer(&mut self, analyzer: AnalyzerDeclared)
+        requires { AreSound (record self.old {
+          analyzers = self.old.analyzers
+              ++ analyzer ∷ [];
+        }) }
+        ensures { self.new ≡ record self.old { analyzers = self.old.analyzers ++ analyzer ∷ [] } }
+    {
+        self.analyzers.push(analyzer);
     }
 
     /// Declares a front-end where there is none.

@@ -1,4 +1,4 @@
-use daq_types::{BoundedList, Name};
+use daq_types::{BoundedList, Kind, Name};
 use mid_logger::ChannelSpec;
 
 /// A buffer of a session.
@@ -25,6 +25,21 @@ pub struct FrontDeclared {
     pub limit: u32,
 }
 
+/// An analyzer of a session, which counts what it asks for.
+#[derive(Clone, Copy, Debug)]
+pub struct AnalyzerDeclared {
+    /// Its name.
+    pub name: Name,
+    /// The number of the buffer that it reads.
+    pub buffer: u32,
+    /// The id of the events that it asks for, 65,535 for those of any.
+    pub id: u16,
+    /// Their trigger mask, 65,535 for any.
+    pub mask: u16,
+    /// Whether senders wait for it.
+    pub kind: Kind,
+}
+
 /// The lists of a session's declarations, each in its order and in room for as many as there may be.
 #[derive(Debug, Drop)]
 pub struct DeclaredLists {
@@ -34,4 +49,6 @@ pub struct DeclaredLists {
     pub fronts: BoundedList<FrontDeclared, 32>,
     /// The channels of the logger.
     pub channels: BoundedList<ChannelSpec, 16>,
+    /// The analyzers.
+    pub analyzers: BoundedList<AnalyzerDeclared, 8>,
 }

@@ -1,4 +1,5 @@
-//! What a script declares before the first start of its session: buffers, front-ends and the channels of the logger.
+//! What a script declares before the first start of its session: buffers, front-ends, the channels of the
+//! logger, and analyzers.
 #![tactic(auto)]
 
 mod checks;
@@ -6,9 +7,7 @@ mod declarations;
 mod declared;
 pub mod laws;
 mod refusals;
-#[cfg(test)]
-mod tests;
 
 pub use declarations::Declarations;
-pub use declared::{BufferDeclared, DeclaredLists, FrontDeclared};
+pub use declared::{AnalyzerDeclared, BufferDeclared, DeclaredLists, FrontDeclared};
 pub use refusals::SetupRefusal;

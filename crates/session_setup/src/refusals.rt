@@ -14,7 +14,7 @@ pub enum SetupRefusal {
     Exists,
     /// The size is no multiple of 8, or not from 256 to 268,435,456.
     BadBufferSize,
-    /// There would be more than so many: buffers, front-ends, or bytes of all buffers together.
+    /// There would be more than so many: buffers, front-ends, analyzers, or bytes of all buffers together.
     TooMany { most: u32 },
     /// A member of this name is there.
     SameName,

@@ -56,6 +56,7 @@ pub fn run_watch_command<R: Wait, P: WatchPort, E: Files>(
         | Command::Buffer { .. }
         | Command::Equip { .. }
         | Command::Channel { .. }
+        | Command::Analyzer { .. }
         | Command::Events { .. }
         | Command::Start
         | Command::Stop

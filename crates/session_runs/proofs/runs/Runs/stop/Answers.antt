@@ -20,14 +20,14 @@ returns-then-lacking-clause-unsaved g c =
     let after = clock_of (g.C.Clock.tells c.announce_stop-time.new.clock) (g.C.Clock.ahead c.announce_stop-time.new.clock) in
     let was_on : Option CurrentRun = option_map (λ o. o.run) inside.on in
     let is_on : Option CurrentRun = option_map (λ o. o.run) c.take.new.self in
-    let s : RunsSeen = seen_of inside.quota inside.runs.items inside.fronts inside.channels was_on inside.seat in
-    let later : RunsSeen = seen_of inside.quota c.push_reserved.new.self.items inside.fronts inside.channels is_on seat in
+    let s : RunsSeen = seen_of inside.quota inside.runs.items inside.fronts inside.channels inside.analyzers was_on inside.seat in
+    let later : RunsSeen = seen_of inside.quota c.push_reserved.new.self.items inside.fronts inside.channels inside.analyzers is_on seat in
     let on : was_on ≡ Some r = ap (option_map (λ o. o.run)) (sym c.take.ensures.value ∙ c.in-Some.is) in
     let off : is_on ≡ None = ap (option_map (λ o. o.run)) c.take.ensures.after in
-    let rec = recorded c.len-count.result (length inside.fronts) c.as_slice.result.now inside.channels r time c.as_slice-2.result.now c.make.new.tallies c.record_of.result c.record_of.ensures c.len-count.ensures c.as_slice.ensures c.as_slice-2.ensures in
-    let kept = kept_stopped inside.quota inside.runs.items c.push_reserved.new.self.items inside.fronts inside.channels was_on is_on inside.seat seat r time c.make.new.tallies c.record_of.result c.push_reserved.ensures.items rec off c.make.ensures.engine in
+    let rec = recorded c.len-count.result (length inside.fronts) c.as_slice.result.now inside.channels c.len-analyzers.result (length inside.analyzers) r time c.make.new.tallies c.record_of.result c.record_of.ensures c.len-count.ensures c.as_slice.ensures c.len-analyzers.ensures in
+    let kept = kept_stopped inside.quota inside.runs.items c.push_reserved.new.self.items inside.fronts inside.channels inside.analyzers was_on is_on inside.seat seat r time c.make.new.tallies c.record_of.result c.push_reserved.ensures.items rec off c.make.ensures.engine in
     let does = stops_run g.M.Rounds.round c.calls_add_up.ensures.are r c.make.result.start time c.make.result.outcome c.state-state.result saved c.sheet_for-sheet.result c.make.new.tallies before after s later (access c.args.database.now)
-    (access c.announce_stop-time.new.database) (access c.set_state.new.database) c.args.members.now c.make.new.members on c.self.invariant.4 c.state-state.ensures.between c.state-state.ensures.state c.make.ensures.begun c.announce_stop-time.ensures.reading
+    (access c.announce_stop-time.new.database) (access c.set_state.new.database) c.args.members.now c.make.new.members on c.self.invariant.5 c.state-state.ensures.between c.state-state.ensures.state c.make.ensures.begun c.announce_stop-time.ensures.reading
     c.announce_stop-time.ensures.calls c.set_state.ensures (c.sheet_for-sheet.ensures.is ∙ ap (later_sheet r time) c.dump_saved.ensures) c.make.ensures.made c.make.ensures.completed kept in
     let new = point_of later (access c.set_state.new.database) c.make.new.members in
     let makes = subst (λ (x : RunsSeen). MakesStop g.M.Rounds.round r saved before after (point_of x (access c.args.database.now) c.args.members.now) new) c.self.view_is does in
@@ -46,14 +46,14 @@ returns-clause-did g c =
     let after = clock_of (g.C.Clock.tells c.announce_stop-time.new.clock) (g.C.Clock.ahead c.announce_stop-time.new.clock) in
     let was_on : Option CurrentRun = option_map (λ o. o.run) inside.on in
     let is_on : Option CurrentRun = option_map (λ o. o.run) c.take.new.self in
-    let s : RunsSeen = seen_of inside.quota inside.runs.items inside.fronts inside.channels was_on inside.seat in
-    let later : RunsSeen = seen_of inside.quota c.push_reserved.new.self.items inside.fronts inside.channels is_on seat in
+    let s : RunsSeen = seen_of inside.quota inside.runs.items inside.fronts inside.channels inside.analyzers was_on inside.seat in
+    let later : RunsSeen = seen_of inside.quota c.push_reserved.new.self.items inside.fronts inside.channels inside.analyzers is_on seat in
     let on : was_on ≡ Some r = ap (option_map (λ o. o.run)) (sym c.take.ensures.value ∙ c.in-Some.is) in
     let off : is_on ≡ None = ap (option_map (λ o. o.run)) c.take.ensures.after in
-    let rec = recorded c.len-count.result (length inside.fronts) c.as_slice.result.now inside.channels r time c.as_slice-2.result.now c.make.new.tallies c.record_of.result c.record_of.ensures c.len-count.ensures c.as_slice.ensures c.as_slice-2.ensures in
-    let kept = kept_stopped inside.quota inside.runs.items c.push_reserved.new.self.items inside.fronts inside.channels was_on is_on inside.seat seat r time c.make.new.tallies c.record_of.result c.push_reserved.ensures.items rec off c.make.ensures.engine in
+    let rec = recorded c.len-count.result (length inside.fronts) c.as_slice.result.now inside.channels c.len-analyzers.result (length inside.analyzers) r time c.make.new.tallies c.record_of.result c.record_of.ensures c.len-count.ensures c.as_slice.ensures c.len-analyzers.ensures in
+    let kept = kept_stopped inside.quota inside.runs.items c.push_reserved.new.self.items inside.fronts inside.channels inside.analyzers was_on is_on inside.seat seat r time c.make.new.tallies c.record_of.result c.push_reserved.ensures.items rec off c.make.ensures.engine in
     let does = stops_run g.M.Rounds.round c.calls_add_up.ensures.are r c.make.result.start time c.make.result.outcome c.state-state.result saved c.sheet_for-sheet.result c.make.new.tallies before after s later (access c.args.database.now)
-    (access c.announce_stop-time.new.database) (access c.set_state.new.database) c.args.members.now c.make.new.members on c.self.invariant.4 c.state-state.ensures.between c.state-state.ensures.state c.make.ensures.begun c.announce_stop-time.ensures.reading
+    (access c.announce_stop-time.new.database) (access c.set_state.new.database) c.args.members.now c.make.new.members on c.self.invariant.5 c.state-state.ensures.between c.state-state.ensures.state c.make.ensures.begun c.announce_stop-time.ensures.reading
     c.announce_stop-time.ensures.calls c.set_state.ensures (c.sheet_for-sheet.ensures.is ∙ ap (later_sheet r time) c.dump_saved.ensures) c.make.ensures.made c.make.ensures.completed kept in
     let new = point_of later (access c.set_state.new.database) c.make.new.members in
     let makes = subst (λ (x : RunsSeen). MakesStop g.M.Rounds.round r saved before after (point_of x (access c.args.database.now) c.args.members.now) new) c.self.view_is does in
