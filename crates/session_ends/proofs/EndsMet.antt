@@ -1,5 +1,5 @@
 -- What a session's record and its members' seats show is what the laws of closed sessions ask for.
-use Rattle.std.specs.Prelude.{◌≡◌, ℕ, zero, suc, ◌+◌, ◌<◌, ◌≤◌, ◌==◌, Bool, true, false, if◌then◌else◌, nat_lt, List, [], ◌∷◌, ◌++◌, length, map, slice_get, Option, Some, None, refl, ◌⊎◌}
+use Rattle.std.specs.Prelude.{◌≡◌, ℕ, zero, suc, ◌+◌, ◌-◌, ◌<◌, ◌≤◌, ◌==◌, Bool, true, false, if◌then◌else◌, nat_lt, List, [], ◌∷◌, ◌++◌, length, map, slice_get, Option, Some, None, refl, ◌⊎◌}
 use Rattle.std.specs.Option.{option_map}
 use Rattle.std.proofs.Common.{ap, sym, subst, ◌∙◌, arith, inl, inr, add-one}
 use Rattle.std.proofs.lemmas.Bool.{ltb-true, ltb-false}
@@ -13,7 +13,7 @@ use Rattle.daq_io.specs.Seen.{Seen}
 use Rattle.buffer_core.specs.declared.entry.BufferEntry.{BufferEntry}
 use Rattle.buffer_core.specs.Window.{opening}
 use Rattle.buffer_core.specs.Histories.{History, IsLegal}
-use Rattle.buffer_core.specs.Ports.{Access}
+use Rattle.buffer_core.specs.Ports.{Access, GotEvent}
 use Rattle.local_port.specs.Ported.{given_in}
 use Rattle.buffer_lock.specs.SharedPorts.{ported_by, access_to}
 use Rattle.turn_lock.specs.Passes.{passes_of}
@@ -25,23 +25,29 @@ use Rattle.transitions.specs.EngineHistories.{IsLegalEngine}
 use Rattle.odb_watch.specs.declared.entry.WatchEntry.{WatchEntry}
 use Rattle.odb_port.specs.DatabasePorts.{own_watched}
 use Rattle.member_model.specs.TurnCalls.{member_turns}
+use Rattle.mid_logger.specs.ChannelTurns.{logger_name}
 use Rattle.frontend_kit.specs.declared.generator.Generator.{Generator}
+use Rattle.session_setup.specs.declared.declared.AnalyzerDeclared.{AnalyzerDeclared}
 use Rattle.session_setup.specs.declared.declared.FrontDeclared.{FrontDeclared}
 use Rattle.session_engine.specs.declared.opening.MemberName.{MemberName}
-use Rattle.session_engine.specs.Members.{registrations}
+use Rattle.session_engine.specs.Members.{members_named, registrations}
 use Rattle.daq_members.specs.OwnTurns.{are_calls_for}
 use Rattle.daq_members.specs.FrontSeats.{FrontSeen, IsSeated}
 use Rattle.daq_members.specs.LoggerSeats.{LoggerSeen, IsLoggerSeated}
 use Rattle.daq_members.specs.FrontTaken.{FrontMemberStands}
+use Rattle.analyzer_seats.specs.AnalyzerTaken.{AnalyzerMemberStands}
+use Rattle.analyzer_seats.specs.SeatedAnalyzers.{AnalyzerSeen, IsAnalyzerSeated}
 use Rattle.session_objects.specs.declared.objects.SessionBuffer.{SessionBuffer}
 use Rattle.session_objects.specs.declared.record.BufferRecord.{BufferRecord}
 use Rattle.session_objects.specs.declared.record.SessionRecord.{SessionRecord}
-use Rattle.session_objects.specs.Calls.{FrontCalls, SessionCalls, told_of_engine, told_of_buffer, told_of_database, told_through, client_port, port_of_caller, front_port, engine_calls_by, database_seen_by, HoldsParts}
-use Rattle.session_objects.specs.Members.{generator_of, generator_takes, generator_makes, IsFrontOf, front_calls, session_calls}
-use Rattle.session_objects.specs.Names.{front_member_name, member_names}
-use Rattle.session_laws.specs.ClosedSessions.{ClosedBuffer, ClosedFront, ClosedSession, logger_client, logger_caller, history_in, history_of_buffer, members_of, engine_calls, calls_on_buffer, calls_on_database}
-use Rattle.session_laws.specs.MembersAtEnd.{FrontAtEnd, IsAccessTo, LoggerAtEnd, MainAtEnd, NoOthers, MembersAtEnd}
-use Rattle.session_ends.specs.EndedSessions.{closed_buffer, closed_front, closed_session, SessionEnded}
+use Rattle.session_objects.specs.Calls.{AnalyzerCalls, FrontCalls, SessionCalls, told_of_engine, told_of_buffer, told_of_database, told_through, client_port, port_behind, reader_port, port_of_caller, front_port, analyzer_port, analyzer_engine, engine_calls_behind, engine_calls_by, database_seen_by, HoldsParts}
+use Rattle.session_objects.specs.Objects.{first_analyzer}
+use Rattle.session_objects.specs.Members.{generator_of, generator_takes, generator_makes, IsAnalyzerOf, IsFrontOf, analyzer_calls, front_calls, session_calls}
+use Rattle.session_objects.specs.Names.{member_names}
+use Rattle.session_laws.specs.ClosedSessions.{ClosedAnalyzer, ClosedBuffer, ClosedFront, ClosedSession, logger_client, logger_caller, analyzer_client, size_in, history_in, history_of_buffer, got_from_buffer, members_of, engine_calls, calls_on_buffer, calls_on_database}
+use Rattle.session_laws.specs.MembersAtEnd.{AnalyzerAtEnd, FrontAtEnd, IsAccessTo, LoggerAtEnd, MainAtEnd, NoOthers, MembersAtEnd}
+use Rattle.session_laws.proofs.LoggerEnd.{GotAll}
+use Rattle.session_ends.specs.EndedSessions.{closed_analyzer, closed_buffer, closed_front, closed_session, SessionEnded}
 
 -- Lists.
 
@@ -83,28 +89,35 @@ below client n callers less is = omega arith
 
 -- What stands of a session that ended.
 
-module _ {D F : Type 0} {g : _} (seen : F → Seen) (fronts : List FrontDeclared) (logger : LoggerSeen F) (r : SessionRecord D g) (ended : SessionEnded seen fronts logger r) where
+module _ {D F : Type 0} {g : _} (seen : F → Seen) (fronts : List FrontDeclared) (analyzers : List AnalyzerDeclared) (logger : LoggerSeen F) (r : SessionRecord D g) (ended : SessionEnded seen fronts analyzers logger r) where
   abbrev calls : SessionCalls
-  calls = session_calls ended.own ended.database ended.seats logger
+  calls = session_calls ended.own ended.database ended.seats logger ended.readers
 
   abbrev closed : ClosedSession
-  closed = closed_session (first_database ended.shared) fronts logger.slots (seen logger.first) (seen logger.files) r
+  closed = closed_session (first_database ended.shared) fronts analyzers logger.slots (seen logger.first) (seen logger.files) r
 
   pub number : logger_client closed ≡ length fronts
   number = many closed_front fronts
 
+  pub many_readers : length closed.analyzers ≡ length analyzers
+  many_readers = many closed_analyzer analyzers
+
   -- The engine.
+
+  -- the calls of the client, where it is none of the front-ends
+  abbrev behind : ℕ → List EngineEntry
+  behind client = engine_calls_behind calls (client - length (map front_calls ended.seats))
 
   pub engine_by_main : engine_calls closed main_caller ≡ ended.own
   engine_by_main = part_own (told_of_engine calls) _ (history_of r.engine) 0 ended.own ended.calls.engine (omega (arith, ended.callers.engine)) (λ s told. told)
 
-  engine_by : (client : ℕ) → client < length fronts + 1 → engine_calls closed (caller_of_client client) ≡ engine_calls_by logger.calls (slice_get (map front_calls ended.seats) client)
+  engine_by : (client : ℕ) → client < length fronts + 1 + length analyzers → engine_calls closed (caller_of_client client) ≡ engine_calls_by (behind client) (slice_get (map front_calls ended.seats) client)
   engine_by client less =
-      subst (λ (n : ℕ). entries_by n (history_of r.engine) ≡ engine_calls_by logger.calls (slice_get (map front_calls ended.seats) client)) (sym (add-one client))
-      (part_own (told_of_engine calls) _ (history_of r.engine) (suc client) (engine_calls_by logger.calls (slice_get (map front_calls ended.seats) client)) ended.calls.engine (omega (arith, ended.callers.engine, less))
-      (λ s told. subst (λ (n : ℕ). entries_by n s ≡ engine_calls_by logger.calls (slice_get (map front_calls ended.seats) client)) (add-one client) told))
+      subst (λ (n : ℕ). entries_by n (history_of r.engine) ≡ engine_calls_by (behind client) (slice_get (map front_calls ended.seats) client)) (sym (add-one client))
+      (part_own (told_of_engine calls) _ (history_of r.engine) (suc client) (engine_calls_by (behind client) (slice_get (map front_calls ended.seats) client)) ended.calls.engine (omega (arith, ended.callers.engine, less))
+      (λ s told. subst (λ (n : ℕ). entries_by n s ≡ engine_calls_by (behind client) (slice_get (map front_calls ended.seats) client)) (add-one client) told))
 
-  no_engine : (by : ℕ) → length fronts + 2 ≤ by → engine_calls closed by ≡ []
+  no_engine : (by : ℕ) → length fronts + 2 + length analyzers ≤ by → engine_calls closed by ≡ []
   no_engine by past = ended.calls.engine.others by (omega (arith, ended.callers.engine, past))
 
   -- The database.
@@ -138,8 +151,8 @@ module _ {D F : Type 0} {g : _} (seen : F → Seen) (fronts : List FrontDeclared
     pub closed_at : slice_get (map closed_buffer r.buffers) buffer ≡ Some (closed_buffer b)
     pub size : shared.size ≡ b.size
     pub legal : IsLegal (opening b.size) (history_of b.closed)
-    pub holds : HoldsParts (told_of_buffer fronts calls buffer shared.size) (passes_of (lock_of shared.shared)) (history_of b.closed)
-    pub callers : passes_of (lock_of shared.shared) ≡ length fronts + 2
+    pub holds : HoldsParts (told_of_buffer fronts analyzers calls buffer shared.size) (passes_of (lock_of shared.shared)) (history_of b.closed)
+    pub callers : passes_of (lock_of shared.shared) ≡ length fronts + 2 + length analyzers
 
   at_buffer : (buffer : ℕ) (b : BufferRecord) → slice_get r.buffers buffer ≡ Some b → AtBuffer buffer b
   at_buffer buffer b at =
@@ -169,17 +182,17 @@ module _ {D F : Type 0} {g : _} (seen : F → Seen) (fronts : List FrontDeclared
   untold buffer size number None s none told = told
   untold buffer size number (Some a) s none told = absurd (cc (none))
 
-  none_by : (buffer caller : ℕ) → caller < length fronts + 2 → port_of_caller fronts calls buffer caller ≡ None → calls_on_buffer closed caller buffer ≡ []
+  none_by : (buffer caller : ℕ) → caller < length fronts + 2 + length analyzers → port_of_caller fronts analyzers calls buffer caller ≡ None → calls_on_buffer closed caller buffer ≡ []
   none_by buffer caller less none = elim (found r.buffers buffer) as (λ w. calls_on_buffer closed caller buffer ≡ []) [
     | inl b ↦
         let a : AtBuffer buffer b.0 = at_buffer buffer b.0 b.1 in
         ap (entries_by caller) (history_at buffer b.0 a)
-        ∙ part_own (told_of_buffer fronts calls buffer a.shared.size) _ (history_of b.0.closed) caller [] a.holds (omega (arith, a.callers, less))
-        (λ s told. ap (entries_by caller) (untold buffer a.shared.size caller (port_of_caller fronts calls buffer caller) s none told))
+        ∙ part_own (told_of_buffer fronts analyzers calls buffer a.shared.size) _ (history_of b.0.closed) caller [] a.holds (omega (arith, a.callers, less))
+        (λ s told. ap (entries_by caller) (untold buffer a.shared.size caller (port_of_caller fronts analyzers calls buffer caller) s none told))
     | inr absent ↦ ap (entries_by caller) (no_buffer buffer absent)
   ]
 
-  others_none : (buffer by : ℕ) → length fronts + 2 ≤ by → calls_on_buffer closed by buffer ≡ []
+  others_none : (buffer by : ℕ) → length fronts + 2 + length analyzers ≤ by → calls_on_buffer closed by buffer ≡ []
   others_none buffer by past = elim (found r.buffers buffer) as (λ w. calls_on_buffer closed by buffer ≡ []) [
     | inl b ↦ (let a : AtBuffer buffer b.0 = at_buffer buffer b.0 b.1 in ap (entries_by by) (history_at buffer b.0 a) ∙ a.holds.others by (omega (arith, a.callers, past)))
     | inr absent ↦ ap (entries_by by) (no_buffer buffer absent)
@@ -190,12 +203,12 @@ module _ {D F : Type 0} {g : _} (seen : F → Seen) (fronts : List FrontDeclared
   told_access size number None a s is told = absurd (cc (is))
   told_access size number (Some b) a s is told = (let same : b ≡ a = cc (is) in subst (λ (x : Access). x ≡ access_to x.buffer (ported_by number (opening size) s)) same told)
 
-  access_at : (buffer client : ℕ) (b : BufferRecord) (here : AtBuffer buffer b) (a : Access) → client < length fronts + 1 → port_of_caller fronts calls buffer (suc client) ≡ Some a → IsAccessTo (caller_of_client client) (closed_buffer b) a
+  access_at : (buffer client : ℕ) (b : BufferRecord) (here : AtBuffer buffer b) (a : Access) → client < length fronts + 1 + length analyzers → port_of_caller fronts analyzers calls buffer (suc client) ≡ Some a → IsAccessTo (caller_of_client client) (closed_buffer b) a
   access_at buffer client b here a less is =
       let part = here.holds.parts (suc client) (omega (arith, here.callers, less)) in
       let size : ℕ = here.shared.size in
       let s : History = part.0 in
-      let port : a ≡ access_to a.buffer (ported_by (suc client) (opening size) s) = told_access size (suc client) (port_of_caller fronts calls buffer (suc client)) a s is part.2 in
+      let port : a ≡ access_to a.buffer (ported_by (suc client) (opening size) s) = told_access size (suc client) (port_of_caller fronts analyzers calls buffer (suc client)) a s is part.2 in
       subst (λ (n : ℕ). IsAccessTo n (closed_buffer b) a) (sym (add-one client))
       (record {
         seen = s;
@@ -211,15 +224,15 @@ module _ {D F : Type 0} {g : _} (seen : F → Seen) (fronts : List FrontDeclared
   seat_at client less = there ended.seats client (omega (arith, ended.members.many, less))
 
   ports_of : (buffer client : ℕ) (d : FrontDeclared) (front : FrontSeen Generator) → slice_get fronts client ≡ Some d → slice_get ended.seats client ≡ Some front
-      → port_of_caller fronts calls buffer (suc client) ≡ (if d.buffer == buffer then Some front.port else None)
+      → port_of_caller fronts analyzers calls buffer (suc client) ≡ (if d.buffer == buffer then Some front.port else None)
   ports_of buffer client d front at seat =
-      ap (λ (o : Option FrontDeclared). client_port buffer o (slice_get (map front_calls ended.seats) client) logger.ports) at
+      ap (λ (o : Option FrontDeclared). client_port buffer o (slice_get (map front_calls ended.seats) client) (port_behind analyzers calls buffer (client - length fronts))) at
       ∙ ap (λ (o : Option FrontCalls). if d.buffer == buffer then front_port o else None) (map_at front_calls ended.seats client front seat)
 
   own_port : (client : ℕ) (d : FrontDeclared) (front : FrontSeen Generator) → slice_get fronts client ≡ Some d → slice_get ended.seats client ≡ Some front → (b : BufferRecord) → AtBuffer d.buffer b → front.port.own ≡ calls_on_buffer closed (caller_of_client client) d.buffer
   own_port client d front at seat b here =
       let same : (d.buffer == d.buffer) ≡ true = elim (eqb_tells d.buffer d.buffer) as (λ w. (d.buffer == d.buffer) ≡ true) [ inl hit ↦ hit.0 | inr never ↦ absurd (never.1 refl) ] in
-      let port : port_of_caller fronts calls d.buffer (suc client) ≡ Some front.port =
+      let port : port_of_caller fronts analyzers calls d.buffer (suc client) ≡ Some front.port =
       ports_of d.buffer client d front at seat ∙ ap (λ (y : Bool). if y then Some front.port else None) same in
       let within : client < length fronts = slice_get_within fronts client d at in
       let access : IsAccessTo (caller_of_client client) (closed_buffer b) front.port = access_at d.buffer client b here front.port (omega arith) port in
@@ -239,7 +252,7 @@ module _ {D F : Type 0} {g : _} (seen : F → Seen) (fronts : List FrontDeclared
       let of : IsFrontOf ended.objects ended.shared client d front = ended.members.each client d front at seat.1 in
       let seated : IsSeated generator_takes generator_makes front = ended.seated client front seat.1 in
       let by : ℕ = caller_of_client client in
-      let engine : front.calls ≡ engine_calls closed by = sym (engine_by client (omega arith) ∙ ap (engine_calls_by logger.calls) (map_at front_calls ended.seats client front seat.1)) in
+      let engine : front.calls ≡ engine_calls closed by = sym (engine_by client (omega arith) ∙ ap (engine_calls_by (behind client)) (map_at front_calls ended.seats client front seat.1)) in
       let sent_to = buffer_there client d at in
       let own : front.port.own ≡ calls_on_buffer closed by d.buffer = own_port client d front at seat.1 sent_to.0 sent_to.1 in
       let database : own_watched front.database ≡ calls_on_database closed by = ap (λ (n : ℕ). entries_by n front.database.seen) of.access_caller ∙ sym (database_by client less front seat.1) in
@@ -257,7 +270,7 @@ module _ {D F : Type 0} {g : _} (seen : F → Seen) (fronts : List FrontDeclared
             (subst (λ (l : List EngineEntry). FrontMemberStands client d.name (generator_takes (generator_of d)) (generator_makes (generator_of d)) front.run l front.port.own (own_watched front.database)) engine second));
         elsewhere = λ buffer other.
             let differs : (d.buffer == buffer) ≡ false = elim (eqb_tells d.buffer buffer) as (λ w. (d.buffer == buffer) ≡ false) [ inl hit ↦ absurd (other (sym hit.1)) | inr never ↦ never.0 ] in
-            let none : port_of_caller fronts calls buffer (suc client) ≡ None = ports_of buffer client d front at seat.1 ∙ ap (λ (y : Bool). if y then Some front.port else None) differs in
+            let none : port_of_caller fronts analyzers calls buffer (suc client) ≡ None = ports_of buffer client d front at seat.1 ∙ ap (λ (y : Bool). if y then Some front.port else None) differs in
             subst (λ (n : ℕ). calls_on_buffer closed n buffer ≡ []) (sym (add-one client)) (none_by buffer (suc client) (omega arith) none);
       }
 
@@ -274,11 +287,14 @@ module _ {D F : Type 0} {g : _} (seen : F → Seen) (fronts : List FrontDeclared
   pub logger_engine : engine_calls closed (logger_caller closed) ≡ logger.calls
   logger_engine =
       subst (λ (n : ℕ). engine_calls closed (caller_of_client n) ≡ logger.calls) (sym number)
-      (engine_by (length fronts) (omega arith) ∙ ap (engine_calls_by logger.calls) logger_seat)
+      (engine_by (length fronts) (omega arith)
+      ∙ (ap (engine_calls_by (behind (length fronts))) logger_seat
+      ∙ ap (engine_calls_behind calls) (let first : length fronts - length (map front_calls ended.seats) ≡ 0 = omega (arith, many front_calls ended.seats, ended.members.many) in first)))
 
-  logger_port : (buffer : ℕ) (a : Access) → slice_get logger.ports buffer ≡ Some a → port_of_caller fronts calls buffer (suc (length fronts)) ≡ Some a
+  logger_port : (buffer : ℕ) (a : Access) → slice_get logger.ports buffer ≡ Some a → port_of_caller fronts analyzers calls buffer (suc (length fronts)) ≡ Some a
   logger_port buffer a at =
-      ap (λ (o : Option FrontDeclared). client_port buffer o (slice_get (map front_calls ended.seats) (length fronts)) logger.ports) (slice_get_past fronts (length fronts) (omega arith)) ∙ at
+      ap (λ (o : Option FrontDeclared). client_port buffer o (slice_get (map front_calls ended.seats) (length fronts)) (port_behind analyzers calls buffer (length fronts - length fronts))) (slice_get_past fronts (length fronts) (omega arith))
+      ∙ (ap (port_behind analyzers calls buffer) (let first : length fronts - length fronts ≡ 0 = omega arith in first) ∙ at)
 
   logger_ends : LoggerAtEnd closed
   logger_ends =
@@ -302,24 +318,108 @@ module _ {D F : Type 0} {g : _} (seen : F → Seen) (fronts : List FrontDeclared
         others = λ none. rw (← turns) (seated.others none);
       }
 
+  -- The analyzers.
+
+  -- the analyzer at this place has this client number
+  abbrev IsAt : (place client : ℕ) → Type 0
+  IsAt place client = client ≡ first_analyzer fronts + place
+
+  reader_ports : (buffer place client : ℕ) (d : AnalyzerDeclared) (reader : AnalyzerSeen) → IsAt place client → slice_get analyzers place ≡ Some d → slice_get ended.readers place ≡ Some reader
+      → port_of_caller fronts analyzers calls buffer (suc client) ≡ (if d.buffer == buffer then Some reader.port else None)
+  reader_ports buffer place client d reader is at seat =
+      let past : client - length fronts ≡ suc place = omega (arith, is) in
+      ap (λ (o : Option FrontDeclared). client_port buffer o (slice_get (map front_calls ended.seats) client) (port_behind analyzers calls buffer (client - length fronts))) (slice_get_past fronts client (omega (arith, is)))
+      ∙ (ap (port_behind analyzers calls buffer) past
+      ∙ (ap (λ (o : Option AnalyzerDeclared). reader_port buffer o (slice_get (map analyzer_calls ended.readers) place)) at
+      ∙ ap (λ (o : Option AnalyzerCalls). if d.buffer == buffer then analyzer_port o else None) (map_at analyzer_calls ended.readers place reader seat)))
+
+  reader_engine : (place client : ℕ) (reader : AnalyzerSeen) → IsAt place client → place < length analyzers → slice_get ended.readers place ≡ Some reader → reader.calls ≡ engine_calls closed (caller_of_client client)
+  reader_engine place client reader is less seat =
+      let none : slice_get (map front_calls ended.seats) client ≡ None = slice_get_past (map front_calls ended.seats) client (omega (arith, many front_calls ended.seats, ended.members.many, is)) in
+      let past : client - length (map front_calls ended.seats) ≡ suc place = omega (arith, many front_calls ended.seats, ended.members.many, is) in
+      sym (engine_by client (omega (arith, is, less))
+      ∙ (ap (engine_calls_by (behind client)) none
+      ∙ (ap (engine_calls_behind calls) past
+      ∙ ap analyzer_engine (map_at analyzer_calls ended.readers place reader seat))))
+
+  read_there : (place : ℕ) (d : AnalyzerDeclared) → slice_get analyzers place ≡ Some d → (b : BufferRecord) × AtBuffer d.buffer b
+  read_there place d at =
+      let within : d.buffer < length r.buffers = omega (arith, ended.histories.many, ended.callers.read_from place d at) in
+      let b = there r.buffers d.buffer within in
+      (b.0, at_buffer d.buffer b.0 b.1)
+
+  reader_access : (place client : ℕ) (d : AnalyzerDeclared) (reader : AnalyzerSeen) → IsAt place client → slice_get analyzers place ≡ Some d → slice_get ended.readers place ≡ Some reader → (b : BufferRecord) → AtBuffer d.buffer b
+      → IsAccessTo (caller_of_client client) (closed_buffer b) reader.port
+  reader_access place client d reader is at seat b here =
+      let same : (d.buffer == d.buffer) ≡ true = elim (eqb_tells d.buffer d.buffer) as (λ w. (d.buffer == d.buffer) ≡ true) [ inl hit ↦ hit.0 | inr never ↦ absurd (never.1 refl) ] in
+      let port : port_of_caller fronts analyzers calls d.buffer (suc client) ≡ Some reader.port =
+      reader_ports d.buffer place client d reader is at seat ∙ ap (λ (y : Bool). if y then Some reader.port else None) same in
+      access_at d.buffer client b here reader.port (omega (arith, is, slice_get_within analyzers place d at)) port
+
+  reader_ends : GotAll → (place client : ℕ) (d : AnalyzerDeclared) → IsAt place client → slice_get analyzers place ≡ Some d → AnalyzerAtEnd closed client (closed_analyzer d)
+  reader_ends all place client d is at =
+      let less : place < length analyzers = slice_get_within analyzers place d at in
+      let seat = there ended.readers place (omega (arith, ended.members.analyzers_are.many, less)) in
+      let reader : AnalyzerSeen = seat.0 in
+      let of : IsAnalyzerOf ended.objects (first_analyzer fronts + place) d reader = ended.members.analyzers_are.each place d reader at seat.1 in
+      let seated : IsAnalyzerSeated reader = ended.readers_seated place reader seat.1 in
+      let its : reader.client ≡ client = of.is ∙ sym is in
+      let by : ℕ = caller_of_client client in
+      let engine : reader.calls ≡ engine_calls closed by = reader_engine place client reader is less seat.1 in
+      let read = read_there place d at in
+      let access : IsAccessTo by (closed_buffer read.0) reader.port = reader_access place client d reader is at seat.1 read.0 read.1 in
+      let own : reader.port.own ≡ calls_on_buffer closed by d.buffer = access.own ∙ (sym access.part.own ∙ sym (ap (entries_by by) (history_at d.buffer read.0 read.1))) in
+      let got : reader.port.got ≡ got_from_buffer closed by d.buffer =
+      access.got
+      ∙ (sym (all (history_of read.0.closed) access.seen by (opening read.0.size) access.part)
+      ∙ sym (ap (λ (o : Option ClosedBuffer). given_in by (opening (size_in o)) (history_in o)) read.1.closed_at)) in
+      record {
+        speaks = subst (λ (l : List EngineEntry). are_calls_for client l ≡ true) engine (subst (λ (n : ℕ). are_calls_for n reader.calls ≡ true) its seated.speaks);
+        analyzer = reader.analyzer;
+        wanted = of.wanted;
+        stands = subst (λ (l : List GotEvent). AnalyzerMemberStands client reader.analyzer (engine_calls closed by) (calls_on_buffer closed by d.buffer) l) got
+            (subst (λ (o : List BufferEntry). AnalyzerMemberStands client reader.analyzer (engine_calls closed by) o reader.port.got) own
+            (subst (λ (l : List EngineEntry). AnalyzerMemberStands client reader.analyzer l reader.port.own reader.port.got) engine
+            (subst (λ (n : ℕ). AnalyzerMemberStands n reader.analyzer reader.calls reader.port.own reader.port.got) its seated.stands)));
+        elsewhere = λ buffer other.
+            let differs : (d.buffer == buffer) ≡ false = elim (eqb_tells d.buffer buffer) as (λ w. (d.buffer == buffer) ≡ false) [ inl hit ↦ absurd (other (sym hit.1)) | inr never ↦ never.0 ] in
+            let none : port_of_caller fronts analyzers calls buffer (suc client) ≡ None = reader_ports buffer place client d reader is at seat.1 ∙ ap (λ (y : Bool). if y then Some reader.port else None) differs in
+            subst (λ (n : ℕ). calls_on_buffer closed n buffer ≡ []) (sym (add-one client)) (none_by buffer (suc client) (omega (arith, is, less)) none);
+      }
+
+  analyzers_end : GotAll → (place : ℕ) (a : ClosedAnalyzer) → slice_get (map closed_analyzer analyzers) place ≡ Some a → AnalyzerAtEnd closed (analyzer_client closed place) a
+  analyzers_end all place a at =
+      let d = mapped closed_analyzer analyzers place a at in
+      let is : IsAt place (analyzer_client closed place) = omega (arith, number) in
+      subst (λ (x : ClosedAnalyzer). AnalyzerAtEnd closed (analyzer_client closed place) x) d.2 (reader_ends all place (analyzer_client closed place) d.0 is d.1)
+
   -- The main thread.
 
-  names_of : (ds : List FrontDeclared) → members_of (map closed_front ds) ≡ member_names ds
-  names_of [] = refl
-  names_of (d ∷ ds) = ap (λ (l : List MemberName). front_member_name d ∷ l) (names_of ds)
+  reader_names : (readers : List AnalyzerDeclared) → map (λ (a : ClosedAnalyzer). a.name) (map closed_analyzer readers) ≡ map (λ (d : AnalyzerDeclared). d.name) readers
+  reader_names [] = refl
+  reader_names (d ∷ readers) = ap (λ (l : List (List ℕ)). d.name ∷ l) (reader_names readers)
+
+  front_names : (ds : List FrontDeclared) → map (λ (f : ClosedFront). f.name) (map closed_front ds) ≡ map (λ (d : FrontDeclared). d.name) ds
+  front_names [] = refl
+  front_names (d ∷ ds) = ap (λ (l : List (List ℕ)). d.name ∷ l) (front_names ds)
+
+  names_of : members_of (map closed_front fronts) (map closed_analyzer analyzers) ≡ member_names fronts analyzers
+  names_of =
+      ap (λ (names : List (List ℕ)). members_named names logger_name (map (λ (a : ClosedAnalyzer). a.name) (map closed_analyzer analyzers))) (front_names fronts)
+      ∙ ap (λ (names : List (List ℕ)). members_named (map (λ (d : FrontDeclared). d.name) fronts) logger_name names) (reader_names analyzers)
 
   main_ends : MainAtEnd closed
   main_ends = record {
     later = ended.later;
-    calls = engine_by_main ∙ (ended.begins ∙ ap (λ (l : List MemberName). registrations 0 l ++ ended.later) (sym (names_of fronts)));
+    calls = engine_by_main ∙ (ended.begins ∙ ap (λ (l : List MemberName). registrations 0 l ++ ended.later) (sym names_of));
     steers = ended.steers;
     buffers = λ buffer. none_by buffer 0 (omega arith) refl;
   }
 
   others : NoOthers closed
   others = record {
-    engine = λ by past. no_engine by (omega (arith, number, past));
-    buffers = λ by past buffer. others_none buffer by (omega (arith, number, past));
+    engine = λ by past. no_engine by (omega (arith, number, many_readers, past));
+    buffers = λ by past buffer. others_none buffer by (omega (arith, number, many_readers, past));
     database = λ by past. no_database by (omega (arith, number, past));
   }
 
@@ -328,18 +428,20 @@ module _ {D F : Type 0} {g : _} (seen : F → Seen) (fronts : List FrontDeclared
       let c = mapped closed_buffer r.buffers n b at in
       subst (λ (x : ClosedBuffer). IsLegal (opening x.size) x.history) c.2 (at_buffer n c.0 c.1).legal
 
-  pub ends_met : MembersAtEnd closed
-  ends_met = record {
+  pub ends_met : GotAll → MembersAtEnd closed
+  ends_met all = record {
     buffers = legal_at;
     database = (_, ended.histories.database);
     engine = subst (λ (s : EngineState). IsLegalEngine s (history_of r.engine)) ended.opening ended.histories.engine;
     fronts = front_ends;
     logger = logger_ends;
+    analyzers = analyzers_end all;
+    few_analyzers = omega (arith, ended.few_analyzers, many_readers);
     main = main_ends;
     others = others;
   }
 
   -- the ports of its logger are those that the seat shows
-  pub ends_ports : ends_met.logger.ports ≡ logger.ports
+  pub ends_ports : (all : GotAll) → (ends_met all).logger.ports ≡ logger.ports
   unfolding ends_met logger_ends
-  ends_ports = refl
+  ends_ports all = refl

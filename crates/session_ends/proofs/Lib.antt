@@ -1,3 +1,2 @@
 pub mod EndsMet
-pub mod ChannelsMet
 pub mod RecordsMet

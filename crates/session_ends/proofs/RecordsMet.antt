@@ -1,7 +1,7 @@
 -- The counts and the records of a session that ended.
 use Rattle.std.specs.Prelude.{◌≡◌, ◌⊎◌, ℕ, zero, suc, IsTrue, List, [], ◌∷◌, ◌++◌, length, map, slice_get, Contains, Option, Some, None, refl}
 use Rattle.std.specs.List.{AllByRecursion}
-use Rattle.std.proofs.Common.{ap, sym, subst, ◌∙◌, arith, inl, inr, append_assoc, append-nil}
+use Rattle.std.proofs.Common.{ap, sym, subst, ◌∙◌, arith, inl, inr, append-nil}
 use Rattle.daq_types.specs.Callers.{main_caller}
 use Rattle.daq_types.specs.declared.runs.StartOutcome.{StartOutcome}
 use Rattle.daq_types.specs.declared.runs.StartOutcome.TheVariants.{Completed, Refused}
@@ -22,48 +22,48 @@ use Rattle.loggers.specs.LoggerStands.{logger_channel, logger_channels}
 use Rattle.loggers.specs.NewLoggers.{NoneTakenBack}
 use Rattle.loggers.specs.Reasons.{GivesReasons}
 use Rattle.loggers.specs.LeftNames.{NoneRose, KeepsNames}
+use Rattle.loggers.specs.OtherFiles.{AreDeclared}
 use Rattle.session_engine.specs.MadeTransitions.{TransitionIn}
+use Rattle.session_setup.specs.declared.declared.AnalyzerDeclared.{AnalyzerDeclared}
 use Rattle.session_setup.specs.declared.declared.FrontDeclared.{FrontDeclared}
 use Rattle.run_records.specs.declared.records.RunRecord.{RunRecord}
 use Rattle.session_runs.specs.declared.channels.RunChannel.{RunChannel}
 use Rattle.session_runs.specs.declared.on.CurrentRun.{CurrentRun}
 use Rattle.session_runs.specs.KeptRuns.{channels_of}
 use Rattle.session_runs.specs.RunEntries.{start_sheet}
-use Rattle.session_runs.specs.RunsFit.{MainOwn, FitsRun, FitsOutcome, FitsRefused, FitsWhole, RecordsFit, run_of, start_begun, start_of, starts_begun}
+use Rattle.session_runs.specs.RunsFit.{MainOwn, RunClients, FitsRun, FitsOutcome, FitsRefused, FitsWhole, RecordsFit, run_of, start_of, starts_begun}
 use Rattle.daq_members.specs.LoggerSeats.{LoggerSeen, HasLoggerReasons, KeepsLoggerNames}
 use Rattle.session_objects.specs.declared.record.SessionRecord.{SessionRecord}
 use Rattle.session_laws.specs.ClosedSessions.{ClosedSession, logger_client, logger_caller, engine_calls}
-use Rattle.session_laws.specs.MembersAtEnd.{MembersAtEnd}
 use Rattle.session_laws.specs.EndLaws.{SessionHolds}
 use Rattle.session_laws.specs.CountedFaults.{LoggerReasons, LoggerNames, CountsHold, CountsTell}
-use Rattle.session_laws.specs.RecordedRuns.{ListsFile, run_channels, AreDeclared, ChannelsAgree, RecordsHold}
+use Rattle.session_laws.specs.RecordedRuns.{ListsFile, run_channels, clients_in, ChannelsAgree, RecordsHold}
+use Rattle.session_laws.specs.OneAnswer.{OneAnswer, OneAnswerEach}
+use Rattle.session_laws.specs.RefusedRecords.{RecordsRefused}
 use Rattle.session_laws.specs.OtherNames.{RefusesStart, GivesNoName, IsUnmadeName, AreStartsOver}
 use Rattle.session_laws.specs.MadeRuns.{RunIn}
 use Rattle.composition.specs.SessionRuns.{SessionRun}
+use Rattle.session_laws.proofs.LoggerEnd.{GotAll}
+use Rattle.session_laws.proofs.OneEach.{starts_joined}
 use Rattle.session_laws.proofs.RecordsMade.{made_then}
 use Rattle.session_ends.specs.EndedSessions.{closed_session, SessionEnded}
-use Rattle.session_ends.specs.EndedRecords.{RecordSo, IsInNoRecord}
-use Rattle.session_ends.proofs.EndsMet.{number, logger_engine, engine_by_main, ends_met, ends_ports}
+use Rattle.session_ends.specs.EndedRecords.{clients_declared, RecordSo, RefusalSo, IsInNoRecord}
+use Rattle.session_ends.proofs.EndsMet.{number, many_readers, logger_engine, engine_by_main, ends_met, ends_ports}
 
 all_at : {X : Type 0} (P : X → Type 0) (xs : List X) → AllByRecursion P xs → (n : ℕ) (x : X) → slice_get xs n ≡ Some x → P x
 all_at P [] all n x at = absurd (cc (at))
 all_at P (y ∷ xs) all zero x at = subst P (cc (at)) all.0
 all_at P (y ∷ xs) all (suc n) x at = all_at P xs all.1 n x at
 
-whole : (fronts : ℕ) (channels : List RunChannel) (own : MainOwn) (begun : CurrentRun) (r : RunRecord) (o : StartOutcome) → o ≡ Completed → FitsOutcome fronts channels own begun r o → FitsWhole fronts channels own begun r
-whole fronts channels own begun r Completed is fits = fits
-whole fronts channels own begun r (Refused client why) is fits = absurd (cc (is))
+whole : (clients : RunClients) (own : MainOwn) (begun : CurrentRun) (r : RunRecord) (o : StartOutcome) → o ≡ Completed → FitsOutcome clients own begun r o → FitsWhole clients own begun r
+whole clients own begun r Completed is fits = fits
+whole clients own begun r (Refused client why) is fits = absurd (cc (is))
 
-was_refused : (fronts : ℕ) (channels : List RunChannel) (own : MainOwn) (begun : CurrentRun) (r : RunRecord) (client : ℕ) (why : Why) (o : StartOutcome) → o ≡ Refused client why → FitsOutcome fronts channels own begun r o → FitsRefused own begun r
-was_refused fronts channels own begun r client why Completed is fits = absurd (cc (is))
-was_refused fronts channels own begun r client why (Refused c w) is fits = fits
+was_refused : (clients : RunClients) (own : MainOwn) (begun : CurrentRun) (r : RunRecord) (client : ℕ) (why : Why) (o : StartOutcome) → o ≡ Refused client why → FitsOutcome clients own begun r o → FitsRefused clients own begun r
+was_refused clients own begun r client why Completed is fits = absurd (cc (is))
+was_refused clients own begun r client why (Refused c w) is fits = fits
 
 -- Lists.
-
-starts_joined : (own more : List EngineEntry) → starts_begun (own ++ more) ≡ starts_begun own ++ starts_begun more
-starts_joined [] more = refl
-starts_joined (e ∷ own) more =
-    ap (λ (l : List ℕ). start_begun e ++ l) (starts_joined own more) ∙ sym (append_assoc (start_begun e) (starts_begun own) (starts_begun more))
 
 -- what stands in a list of images is the image of a member
 record MappedAt {X Y : Type 0} (f : X → Y) (xs : List X) (y : Y) : Type 0 where
@@ -87,53 +87,87 @@ channel_listed (None ∷ slots) (suc n) c at = channel_listed slots n c at
 channel_listed (Some x ∷ slots) zero c at = (let same : x ≡ c = cc (at) in (0, ap (λ (y : Channel). Some (logger_channel 0 y)) same))
 channel_listed (Some x ∷ slots) (suc n) c at = (let later = channel_listed slots n c at in (suc later.0, later.1))
 
-module _ {D F : Type 0} {g : _} (seen : F → Seen) (fronts : List FrontDeclared) (logger : LoggerSeen F) (r : SessionRecord D g) (ended : SessionEnded seen fronts logger r) where
+module _ {D F : Type 0} {g : _} (seen : F → Seen) (fronts : List FrontDeclared) (analyzers : List AnalyzerDeclared) (logger : LoggerSeen F) (r : SessionRecord D g) (ended : SessionEnded seen fronts analyzers logger r) where
   abbrev closed : ClosedSession
-  closed = closed_session (first_database ended.shared) fronts logger.slots (seen logger.first) (seen logger.files) r
+  closed = closed_session (first_database ended.shared) fronts analyzers logger.slots (seen logger.first) (seen logger.files) r
 
   its_number : logger_client closed ≡ length fronts
-  its_number = number seen fronts logger r ended
+  its_number = number seen fronts analyzers logger r ended
 
   turns : member_turns logger.client logger.calls ≡ member_turns (logger_client closed) (engine_calls closed (logger_caller closed))
   turns =
       ap (λ (n : ℕ). member_turns n logger.calls) (ended.members.logger.is ∙ sym its_number)
-      ∙ ap (member_turns (logger_client closed)) (sym (logger_engine seen fronts logger r ended))
+      ∙ ap (member_turns (logger_client closed)) (sym (logger_engine seen fronts analyzers logger r ended))
 
-  pub counts_met : CountsTell → (read : F → RunFiles) → HasLoggerReasons read logger → KeepsLoggerNames read logger → CountsHold closed (read logger.first) (read logger.files)
-  counts_met tell read reasons names =
-      let members : MembersAtEnd closed = ends_met seen fronts logger r ended in
-      let its : LoggerReasons closed members (read logger.first) (read logger.files) =
-      subst (λ (ports : List Access). GivesReasons logger.slots ports (read logger.first) (read logger.files) (member_turns (logger_client closed) (engine_calls closed (logger_caller closed)))) (sym (ends_ports seen fronts logger r ended))
-      (subst (λ (ts : List MemberTurn). GivesReasons logger.slots logger.ports (read logger.first) (read logger.files) ts) turns reasons) in
-      let its_names : LoggerNames closed members (read logger.first) (read logger.files) = λ none.
+  -- what the logger's answers rest on, and the names that it left
+  reasons_met : (all : GotAll) → (read : F → RunFiles) → HasLoggerReasons read logger → LoggerReasons closed (ends_met seen fronts analyzers logger r ended all) (read logger.first) (read logger.files)
+  reasons_met all read reasons =
+      subst (λ (ports : List Access). GivesReasons logger.slots ports (read logger.first) (read logger.files) (member_turns (logger_client closed) (engine_calls closed (logger_caller closed)))) (sym (ends_ports seen fronts analyzers logger r ended all))
+      (subst (λ (ts : List MemberTurn). GivesReasons logger.slots logger.ports (read logger.first) (read logger.files) ts) turns reasons)
+
+  kept_met : (all : GotAll) → (read : F → RunFiles) → KeepsLoggerNames read logger → LoggerNames closed (ends_met seen fronts analyzers logger r ended all) (read logger.first) (read logger.files)
+  kept_met all read names = λ none.
       subst (λ (ts : List MemberTurn). KeepsNames logger.slots (read logger.first) (read logger.files) ts) turns
-      (names (subst (λ (ports : List Access). NoneTakenBack ports) (ends_ports seen fronts logger r ended) none)) in
-      tell closed members (read logger.first) (read logger.files) its its_names
+      (names (subst (λ (ports : List Access). NoneTakenBack ports) (ends_ports seen fronts analyzers logger r ended all) none))
+
+  pub counts_met : GotAll → CountsTell → (read : F → RunFiles) → HasLoggerReasons read logger → KeepsLoggerNames read logger → CountsHold closed (read logger.first) (read logger.files)
+  counts_met all tell read reasons names =
+      tell closed (ends_met seen fronts analyzers logger r ended all) (read logger.first) (read logger.files) (reasons_met all read reasons) (kept_met all read names)
+
+  clients_with : (count : ℕ) → List RunChannel → (readers : ℕ) → RunClients
+  clients_with count channels readers = record { fronts = count; channels = channels; analyzers = readers }
+
+  -- those who are told of in the records are those that were declared
+  same_clients : ChannelsAgree → (channels : List ChannelSpec) → AreDeclared channels logger.slots → clients_declared fronts channels analyzers ≡ clients_in closed
+  unfolding clients_with
+  same_clients agree channels declared =
+      ap (λ (n : ℕ). clients_with n (channels_of channels) (length analyzers)) (sym its_number)
+      ∙ (ap (λ (cs : List RunChannel). clients_with (logger_client closed) cs (length analyzers)) (sym (agree channels logger.slots declared))
+      ∙ ap (clients_with (logger_client closed) (run_channels logger.slots)) (sym (many_readers seen fronts analyzers logger r ended)))
 
   pub record_met : RecordsHold → ChannelsAgree → (channels : List ChannelSpec) → AreDeclared channels logger.slots → (holds : SessionHolds closed) → (own : MainOwn) → (more : List EngineEntry) → ended.own ≡ own.engine ++ more
-      → AllByRecursion (FitsRun (length fronts) (channels_of channels) own) r.runs → (place : ℕ) → (kept : RunRecord) → slice_get r.runs place ≡ Some kept → kept.outcome ≡ Completed → RecordSo closed holds.moments own kept
+      → AllByRecursion (FitsRun (clients_declared fronts channels analyzers) own) r.runs → (place : ℕ) → (kept : RunRecord) → slice_get r.runs place ≡ Some kept → kept.outcome ≡ Completed → RecordSo closed holds.moments own kept
   record_met hold agree channels declared holds own more calls all place kept at done =
-      let fit : FitsRun (length fronts) (channels_of channels) own kept = all_at (FitsRun (length fronts) (channels_of channels) own) r.runs all place kept at in
+      let fit : FitsRun (clients_declared fronts channels analyzers) own kept = all_at (FitsRun (clients_declared fronts channels analyzers) own) r.runs all place kept at in
       let begun : CurrentRun = run_of kept fit.0 in
-      let plain : FitsWhole (length fronts) (channels_of channels) own begun kept = whole (length fronts) (channels_of channels) own begun kept kept.outcome done fit.1 in
-      let counted : FitsWhole (logger_client closed) (channels_of channels) own begun kept = subst (λ (n : ℕ). FitsWhole n (channels_of channels) own begun kept) (sym its_number) plain in
-      let fits : FitsWhole (logger_client closed) (run_channels logger.slots) own begun kept = subst (λ (cs : List RunChannel). FitsWhole (logger_client closed) cs own begun kept) (sym (agree channels logger.slots declared)) counted in
+      let plain : FitsWhole (clients_declared fronts channels analyzers) own begun kept = whole (clients_declared fronts channels analyzers) own begun kept kept.outcome done fit.1 in
+      let fits : FitsWhole (clients_in closed) own begun kept = subst (λ (clients : RunClients). FitsWhole clients own begun kept) (same_clients agree channels declared) plain in
       record {
         quota = fit.0;
         fits = fits;
-        holds = hold closed holds own more (engine_by_main seen fronts logger r ended ∙ calls) kept fit.0 fits;
+        holds = hold closed holds own more (engine_by_main seen fronts analyzers logger r ended ∙ calls) kept fit.0 fits;
       }
+
+  pub refusal_met : RecordsRefused → ChannelsAgree → (first now : RunFiles) → CountsHold closed first now → (channels : List ChannelSpec) → AreDeclared channels logger.slots → (own : MainOwn) → (more : List EngineEntry) → ended.own ≡ own.engine ++ more
+      → AllByRecursion (FitsRun (clients_declared fronts channels analyzers) own) r.runs → (place : ℕ) → (kept : RunRecord) → slice_get r.runs place ≡ Some kept → (client : ℕ) → (why : Why) → kept.outcome ≡ Refused client why → RefusalSo closed first now own kept client why
+  refusal_met refused agree first now counts channels declared own more calls all place kept at client why is =
+      let fit : FitsRun (clients_declared fronts channels analyzers) own kept = all_at (FitsRun (clients_declared fronts channels analyzers) own) r.runs all place kept at in
+      let begun : CurrentRun = run_of kept fit.0 in
+      let plain : FitsRefused (clients_declared fronts channels analyzers) own begun kept = was_refused (clients_declared fronts channels analyzers) own begun kept client why kept.outcome is fit.1 in
+      let fits : FitsRefused (clients_in closed) own begun kept = subst (λ (clients : RunClients). FitsRefused clients own begun kept) (same_clients agree channels declared) plain in
+      record {
+        quota = fit.0;
+        fits = fits;
+        so = refused closed first now counts own more (engine_by_main seen fronts analyzers logger r ended ∙ calls) kept fit.0 client why is fits;
+      }
+
+  pub one_met : GotAll → OneAnswerEach → ChannelsAgree → (read : F → RunFiles) → HasLoggerReasons read logger → KeepsLoggerNames read logger → (channels : List ChannelSpec) → AreDeclared channels logger.slots → (own : MainOwn) → (more : List EngineEntry) → ended.own ≡ own.engine ++ more
+      → RecordsFit (clients_declared fronts channels analyzers) own r.runs → OneAnswer closed r.runs (read logger.first) (read logger.files)
+  one_met all each agree read reasons names channels declared own more calls fits =
+      each closed (ends_met seen fronts analyzers logger r ended all) (read logger.first) (read logger.files) (reasons_met all read reasons) (kept_met all read names) own more
+      (engine_by_main seen fronts analyzers logger r ended ∙ calls) r.runs
+      (subst (λ (clients : RunClients). RecordsFit clients own r.runs) (same_clients agree channels declared) fits)
 
   -- Names.
 
   -- a start of a record was refused, or the record holds what it has of the run
-  over_at : (holds : SessionHolds closed) (own : MainOwn) (more : List EngineEntry) → engine_calls closed main_caller ≡ own.engine ++ more → (channels : List RunChannel) (kept : RunRecord) (o : StartOutcome) → kept.outcome ≡ o → FitsRun (length fronts) channels own kept
+  over_at : (holds : SessionHolds closed) (own : MainOwn) (more : List EngineEntry) → engine_calls closed main_caller ≡ own.engine ++ more → (clients : RunClients) (kept : RunRecord) (o : StartOutcome) → kept.outcome ≡ o → FitsRun clients own kept
       → (kept.outcome ≡ Completed → RecordSo closed holds.moments own kept) → RefusesStart (engine_calls closed main_caller) kept.start ⊎ RecordSo closed holds.moments own kept
-  over_at holds own more calls channels kept Completed is fit so = inr (so is)
-  over_at holds own more calls channels kept (Refused client why) is fit so =
-      let refused : FitsRefused own (run_of kept fit.0) kept = was_refused (length fronts) channels own (run_of kept fit.0) kept client why kept.outcome is fit.1 in
+  over_at holds own more calls clients kept Completed is fit so = inr (so is)
+  over_at holds own more calls clients kept (Refused client why) is fit so =
+      let refused : FitsRefused clients own (run_of kept fit.0) kept = was_refused clients own (run_of kept fit.0) kept client why kept.outcome is fit.1 in
       let start = refused.start in
-      let sheet : Sheet = start_sheet kept.run kept.time0 fit.0 start.dump in
+      let sheet : Sheet = start_sheet clients.analyzers kept.run kept.time0 fit.0 start.dump in
       let made : TransitionIn own.engine Start sheet kept.start (Refused client why) start.tallies = subst (λ (x : StartOutcome). TransitionIn own.engine Start sheet kept.start x start.tallies) is start.made in
       inl (record {
         sheet = sheet;
@@ -151,10 +185,10 @@ module _ {D F : Type 0} {g : _} (seen : F → Seen) (fronts : List FrontDeclared
     is : kept.start ≡ start
     over : RefusesStart (engine_calls closed main_caller) kept.start ⊎ RecordSo closed holds.moments own kept
 
-  of_start : (holds : SessionHolds closed) (channels : List ChannelSpec) (own : MainOwn) (more : List EngineEntry) → ended.own ≡ own.engine ++ more → starts_begun more ≡ [] → RecordsFit (length fronts) (channels_of channels) own r.runs
+  of_start : (holds : SessionHolds closed) (channels : List ChannelSpec) (own : MainOwn) (more : List EngineEntry) → ended.own ≡ own.engine ++ more → starts_begun more ≡ [] → RecordsFit (clients_declared fronts channels analyzers) own r.runs
       → ((place : ℕ) (kept : RunRecord) → slice_get r.runs place ≡ Some kept → kept.outcome ≡ Completed → RecordSo closed holds.moments own kept) → (start : ℕ) → Contains (starts_begun (engine_calls closed main_caller)) start → OfStart holds own start
   of_start holds channels own more calls none fits so start among =
-      let whole_calls : engine_calls closed main_caller ≡ own.engine ++ more = engine_by_main seen fronts logger r ended ∙ calls in
+      let whole_calls : engine_calls closed main_caller ≡ own.engine ++ more = engine_by_main seen fronts analyzers logger r ended ∙ calls in
       let starts : starts_begun (engine_calls closed main_caller) ≡ map start_of r.runs =
       ap starts_begun whole_calls
       ∙ (starts_joined own.engine more
@@ -167,12 +201,12 @@ module _ {D F : Type 0} {g : _} (seen : F → Seen) (fronts : List FrontDeclared
         kept = found.x;
         at = found.at;
         is = found.is;
-        over = over_at holds own more whole_calls (channels_of channels) found.x found.x.outcome refl (all_at (FitsRun (length fronts) (channels_of channels) own) r.runs fits.runs found.place found.x found.at)
+        over = over_at holds own more whole_calls (clients_declared fronts channels analyzers) found.x found.x.outcome refl (all_at (FitsRun (clients_declared fronts channels analyzers) own) r.runs fits.runs found.place found.x found.at)
             (so found.place found.x found.at);
       }
 
   -- each start is over
-  pub starts_met : (holds : SessionHolds closed) (channels : List ChannelSpec) (own : MainOwn) (more : List EngineEntry) → ended.own ≡ own.engine ++ more → starts_begun more ≡ [] → RecordsFit (length fronts) (channels_of channels) own r.runs
+  pub starts_met : (holds : SessionHolds closed) (channels : List ChannelSpec) (own : MainOwn) (more : List EngineEntry) → ended.own ≡ own.engine ++ more → starts_begun more ≡ [] → RecordsFit (clients_declared fronts channels analyzers) own r.runs
       → ((place : ℕ) (kept : RunRecord) → slice_get r.runs place ≡ Some kept → kept.outcome ≡ Completed → RecordSo closed holds.moments own kept) → AreStartsOver (engine_calls closed main_caller)
   starts_met holds channels own more calls none fits so start among =
       let o : OfStart holds own start = of_start holds channels own more calls none fits so start among in
@@ -182,7 +216,7 @@ module _ {D F : Type 0} {g : _} (seen : F → Seen) (fronts : List FrontDeclared
         | inr so_far ↦ inr (so_far.holds.run, so_far.holds.made, so_far.holds.start)
       ])
 
-  unmade : (holds : SessionHolds closed) (channels : List ChannelSpec) (own : MainOwn) (more : List EngineEntry) → ended.own ≡ own.engine ++ more → starts_begun more ≡ [] → RecordsFit (length fronts) (channels_of channels) own r.runs
+  unmade : (holds : SessionHolds closed) (channels : List ChannelSpec) (own : MainOwn) (more : List EngineEntry) → ended.own ≡ own.engine ++ more → starts_begun more ≡ [] → RecordsFit (clients_declared fronts channels analyzers) own r.runs
       → ((place : ℕ) (kept : RunRecord) → slice_get r.runs place ≡ Some kept → kept.outcome ≡ Completed → RecordSo closed holds.moments own kept) → (name : List ℕ) → IsInNoRecord r.runs name → IsUnmadeName closed name
   unmade holds channels own more calls none fits so name unlisted start among =
       let o : OfStart holds own start = of_start holds channels own more calls none fits so start among in
@@ -199,6 +233,6 @@ module _ {D F : Type 0} {g : _} (seen : F → Seen) (fronts : List FrontDeclared
         })
       ])
 
-  pub names_met : (holds : SessionHolds closed) (first now : RunFiles) → CountsHold closed first now → (channels : List ChannelSpec) (own : MainOwn) (more : List EngineEntry) → ended.own ≡ own.engine ++ more → starts_begun more ≡ [] → RecordsFit (length fronts) (channels_of channels) own r.runs
+  pub names_met : (holds : SessionHolds closed) (first now : RunFiles) → CountsHold closed first now → (channels : List ChannelSpec) (own : MainOwn) (more : List EngineEntry) → ended.own ≡ own.engine ++ more → starts_begun more ≡ [] → RecordsFit (clients_declared fronts channels analyzers) own r.runs
       → ((place : ℕ) (kept : RunRecord) → slice_get r.runs place ≡ Some kept → kept.outcome ≡ Completed → RecordSo closed holds.moments own kept) → IsTrue first.seen.tells → NoneRose first now → (name : List ℕ) → IsInNoRecord r.runs name → now.seen.at name ≡ first.seen.at name
   names_met holds first now counts channels own more calls none fits so tells stays name unlisted = counts.names tells stays name (unmade holds channels own more calls none fits so name unlisted)

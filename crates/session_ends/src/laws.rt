@@ -2,8 +2,9 @@
 
 ghost use Rattle.loggers.specs.Moments.{RunFiles};
 ghost use Rattle.session_ends.specs.EndedSessions.{EndsSo, HoldsSo};
-ghost use Rattle.session_ends.specs.EndedRecords.{ChannelsStay, CountsSo, RecordsSo, StartsSo, NamesSo};
+ghost use Rattle.session_ends.specs.EndedRecords.{CountsSo, RecordsSo, StartsOverSo, NamesSo, RefusalsSo, OneAnswerSo};
 
+use buffer_lock::laws as buffers;
 use daq_io::Files;
 use odb_lock::{LockedDatabase, WatchedSeen};
 use odb_tree::Database;
@@ -18,7 +19,9 @@ pub fn members_end<D: Database, F: Files>(_kept: &SessionRecord<D>)
 where
     LockedDatabase<D>: Machine<State = WatchedSeen, Entry = WatchEntry>,
     ensures { EndsSo F.seen _kept.now }
-{}
+{
+    buffers::got_all();
+}
 
 /// So each run that the main thread made holds what its members told, and the files of other names are as they were.
 pub fn session_ended<D: Database, F: Files>(kept: &SessionRecord<D>)
@@ -36,13 +39,9 @@ where
     LockedDatabase<D>: Machine<State = WatchedSeen, Entry = WatchEntry>,
     ensures { (read : F → RunFiles) → CountsSo F.seen read _kept.now }
 {
+    buffers::got_all();
     closed::counts_tell();
 }
-
-/// The channels of a logger that opened with those that were declared stay these.
-pub fn channels_stay()
-    ensures { ChannelsStay }
-{}
 
 /// The record of each completed start holds what it has of the run.
 pub fn records_end<D: Database, F: Files>(_kept: &SessionRecord<D>)
@@ -58,7 +57,7 @@ where
 pub fn starts_end<D: Database, F: Files>(kept: &SessionRecord<D>)
 where
     LockedDatabase<D>: Machine<State = WatchedSeen, Entry = WatchEntry>,
-    ensures { StartsSo F.seen kept.now }
+    ensures { StartsOverSo F.seen kept.now }
 {
     session_ended::<D, F>(kept);
     records_end::<D, F>(kept);
@@ -73,4 +72,28 @@ where
     session_ended::<D, F>(kept);
     counts_end::<D, F>(kept);
     records_end::<D, F>(kept);
+}
+
+/// The start of each record that was refused was refused by a front-end or by the logger, for a cause that the counts of the run
+/// files tell.
+pub fn refusals_end<D: Database, F: Files>(kept: &SessionRecord<D>)
+where
+    LockedDatabase<D>: Machine<State = WatchedSeen, Entry = WatchEntry>,
+    ensures { (read : F → RunFiles) → RefusalsSo F.seen read kept.now }
+{
+    counts_end::<D, F>(kept);
+    closed::records_refused();
+    closed::channels_agree();
+}
+
+/// One fault of the run files gives one answer, and so does one clash of their names: each start that was refused for one, and each
+/// file that broke off, had its own, which was counted.
+pub fn one_answer_end<D: Database, F: Files>(_kept: &SessionRecord<D>)
+where
+    LockedDatabase<D>: Machine<State = WatchedSeen, Entry = WatchEntry>,
+    ensures { (read : F → RunFiles) → OneAnswerSo F.seen read _kept.now }
+{
+    buffers::got_all();
+    closed::one_answer();
+    closed::channels_agree();
 }

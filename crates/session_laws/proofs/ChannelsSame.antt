@@ -6,10 +6,10 @@ use Rattle.std.proofs.lemmas.Bool.Decides.{eqb_tells}
 use Rattle.buffer_core.specs.Slots.{slot_at}
 use Rattle.mid_logger.specs.declared.channel.Channel.{Channel}
 use Rattle.mid_logger.specs.declared.channel_spec.ChannelSpec.{ChannelSpec}
-use Rattle.loggers.specs.OtherFiles.{specs_in}
+use Rattle.loggers.specs.OtherFiles.{AreDeclared, specs_in}
 use Rattle.session_runs.specs.declared.channels.RunChannel.{RunChannel}
 use Rattle.session_runs.specs.KeptRuns.{run_channel, channel_numbered, channels_below}
-use Rattle.session_laws.specs.RecordedRuns.{run_channels, AreDeclared, ChannelsAgree}
+use Rattle.session_laws.specs.RecordedRuns.{run_channels, ChannelsAgree}
 
 -- The channel of a number among those that were declared.
 

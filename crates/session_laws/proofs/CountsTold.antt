@@ -24,8 +24,10 @@ use Rattle.member_model.specs.TurnCalls.{member_turns}
 use Rattle.member_model.specs.LoggerKept.{LoggerChannel, IsStateSo}
 use Rattle.loggers.specs.Moments.{RunFiles}
 use Rattle.loggers.specs.LoggerStands.{logger_channels}
-use Rattle.loggers.specs.Reasons.{AreStatesSo}
+use Rattle.loggers.specs.Reasons.{AreStatesSo, AreAnswersSo, ReasonsTell}
 use Rattle.loggers.specs.LeftNames.{NoneRose}
+use Rattle.analyzers.specs.AnalyzerKept.{IsReaderReason}
+use Rattle.blank_laws.specs.BlankLaws.{BlanksSuffice}
 use Rattle.engine_laws.specs.BegunTurns.{HasTransition, IsRefusedTurn, IsTallyOfTurn}
 use Rattle.engine_laws.specs.EngineLaws.{MainHasTransition, RefusalsAreAnswers, TalliesAreAnswers, RunsAreOver}
 use Rattle.composition.specs.Sessions.{Session, buffer_calls}
@@ -33,30 +35,35 @@ use Rattle.composition.specs.SessionRuns.{SessionRun, IsStoppedRun, ToldState}
 use Rattle.composition.specs.CompositionLaws.{IsComposed}
 use Rattle.composition.proofs.FilesTogether.{yes_channels}
 use Rattle.composition.proofs.SessionTurns.{speaks}
-use Rattle.session_laws.specs.ClosedSessions.{ClosedFront, ClosedSession, logger_client, logger_caller, engine_calls, session_of, session_front}
+use Rattle.session_laws.specs.ClosedSessions.{ClosedFront, ClosedSession, logger_client, logger_caller, engine_calls, calls_on_buffer, session_of, session_front, ClosedAnalyzer, analyzer_client}
 use Rattle.session_laws.specs.MembersAtEnd.{MembersAtEnd}
 use Rattle.session_engine.specs.MadeTransitions.{TransitionIn}
 use Rattle.session_laws.specs.MadeRuns.{RunIn}
 use Rattle.session_laws.specs.EndLaws.{EndsComposed, MadeAreStopped}
-use Rattle.session_laws.specs.CountedFaults.{LoggerReasons, LoggerNames, IsLoggerReason, IsRefusedSo, state_by_dump, CountsTell}
+use Rattle.session_laws.specs.CountedFaults.{LoggerReasons, LoggerNames, IsLoggerReason, IsReaderRefusal, IsRefusedSo, state_by_dump, CountsTell}
 use Rattle.session_laws.proofs.EachCaller.{by_caller}
 use Rattle.session_laws.proofs.FrontsEnd.{front_listed}
 use Rattle.session_laws.proofs.KeptTogether.{names_own}
-use Rattle.session_laws.proofs.LoggerRefusals.{never_unready, refused_ask}
+use Rattle.session_laws.proofs.LoggerRefusals.{never_unready}
+use Rattle.session_laws.proofs.NoneRefused.{AskLaws, logger_granted, reader_granted}
+use Rattle.session_laws.proofs.BlanksGiven.{few_blanks}
 use Rattle.session_laws.proofs.RunsMade.{has_made}
 use Rattle.session_laws.specs.OtherNames.{AreStartsOver, IsTakenName}
 use Rattle.session_laws.proofs.TakenNames.{taken_name}
 use Rattle.session_laws.proofs.UndoneNames.{UndoneLaws, firsts_stay, undone_stay}
 
--- the laws of engines, and those of closed sessions
+-- the laws of engines, of loggers, and of closed sessions
 pub record CountLaws : Type 0 where
   pub main : MainHasTransition
   pub refusals : RefusalsAreAnswers
   pub tallies : TalliesAreAnswers
+  pub tell : ReasonsTell
   pub composed : EndsComposed
   pub stopped : MadeAreStopped
   pub undone : UndoneLaws
   pub over : RunsAreOver
+  pub asking : AskLaws
+  pub blanks : BlanksSuffice
 
 -- Refusals.
 
@@ -69,7 +76,7 @@ refused_turn laws c ends sheet start client why tallies has =
 abbrev RefusesBy : (c : ClosedSession) → (first now : RunFiles) → (sheet : Sheet) → (start : ℕ) → (why : Why) → (tallies : List ClientTally) → (by : ℕ) → Type 0
 RefusesBy c first now sheet start why tallies by =
     (client : ℕ) → by ≡ caller_of_client client → (turn : MemberTurn) → HasTurn (member_turns client (engine_calls c by)) turn → turn.transition ≡ Start → turn.answer ≡ Some (No why) → HasTransition c.engine Start sheet start (Refused client why) tallies
-    → IsRefusedSo c first now (order_for sheet start Stopped) client why
+    → IsRefusedSo c first now sheet start client why
 
 main_refuses : (c : ClosedSession) (first now : RunFiles) (sheet : Sheet) (start : ℕ) (why : Why) (tallies : List ClientTally) → RefusesBy c first now sheet start why tallies main_caller
 main_refuses c first now sheet start why tallies client is turn stands starts answered has = absurd (omega (arith, is))
@@ -82,26 +89,47 @@ front_refuses laws c ends first now sheet start why tallies n f at client is tur
     let so = composed.1.fronts_refuse (session_front n f (composed.0 n)) (n, front_listed c composed.0 n f at) sheet start why tallies mine in
     inl (record { front = f; stands = subst (λ (k : ℕ). slice_get c.fronts k ≡ Some f) (sym same) at; why_is = so.0; no_part = so.1 })
 
+-- each answer of the logger rests on what was counted
+answers_so : CountLaws → (c : ClosedSession) (ends : MembersAtEnd c) (first now : RunFiles) → LoggerReasons c ends first now → AreAnswersSo (member_turns (logger_client c) (engine_calls c (logger_caller c))) first now
+answers_so laws c ends first now reasons = laws.tell c.slots ends.logger.ports first now (member_turns (logger_client c) (engine_calls c (logger_caller c))) reasons
+
 -- why the logger answered so
 logger_reason : CountLaws → (c : ClosedSession) (ends : MembersAtEnd c) (first now : RunFiles) → LoggerReasons c ends first now → (why : Why) (turn : MemberTurn) → HasTurn (member_turns (logger_client c) (engine_calls c (logger_caller c))) turn → turn.transition ≡ Start → turn.answer ≡ Some (No why)
-    → IsLoggerReason c why first now
+    → IsLoggerReason why first now
 logger_reason laws c ends first now reasons NotReady turn stands starts answered = absurd (never_unready laws.undone laws.over c ends turn stands starts answered)
-logger_reason laws c ends first now reasons (Exists channel) turn stands starts answered = reasons.answers turn (No (Exists channel)) stands answered
-logger_reason laws c ends first now reasons (Fault channel) turn stands starts answered = reasons.answers turn (No (Fault channel)) stands answered
-logger_reason laws c ends first now reasons BufferRefused turn stands starts answered = refused_ask c ends (reasons.buffers turn stands answered)
+logger_reason laws c ends first now reasons (Exists channel) turn stands starts answered = answers_so laws c ends first now reasons turn (No (Exists channel)) stands answered
+logger_reason laws c ends first now reasons (Fault channel) turn stands starts answered = answers_so laws c ends first now reasons turn (No (Fault channel)) stands answered
+logger_reason laws c ends first now reasons BufferRefused turn stands starts answered = absurd (logger_granted laws.undone laws.asking c ends laws.over (reasons.buffers turn stands answered))
 
 logger_refuses : CountLaws → (c : ClosedSession) (ends : MembersAtEnd c) (first now : RunFiles) → LoggerReasons c ends first now → (sheet : Sheet) (start : ℕ) (why : Why) (tallies : List ClientTally) → RefusesBy c first now sheet start why tallies (logger_caller c)
 logger_refuses laws c ends first now reasons sheet start why tallies client is turn stands starts answered has =
     let same : client ≡ logger_client c = omega (arith, is) in
     let mine : HasTurn (member_turns (logger_client c) (engine_calls c (logger_caller c))) turn = subst (λ (k : ℕ). HasTurn (member_turns k (engine_calls c (logger_caller c))) turn) same stands in
-    inr (same, logger_reason laws c ends first now reasons why turn mine starts answered)
+    inr (inl (same, logger_reason laws c ends first now reasons why turn mine starts answered))
+
+-- why an analyzer did
+reader_reason : CountLaws → (c : ClosedSession) (ends : MembersAtEnd c) (place : ℕ) (a : ClosedAnalyzer) → slice_get c.analyzers place ≡ Some a → (sheet : Sheet) (start : ℕ) (tallies : List ClientTally) (why : Why)
+    → HasTransition c.engine Start sheet start (Refused (analyzer_client c place) why) tallies → IsReaderReason (calls_on_buffer c (caller_of_client (analyzer_client c place)) a.buffer) why → IsReaderRefusal c sheet (analyzer_client c place) why
+reader_reason laws c ends place a at sheet start tallies NotReady has so =
+    record { place = place; analyzer = a; stands = at; is = refl; why_is = refl; few_blanks = few_blanks laws.blanks c ends place a at sheet start tallies has }
+reader_reason laws c ends place a at sheet start tallies (Exists channel) has so = absurd so
+reader_reason laws c ends place a at sheet start tallies (Fault channel) has so = absurd so
+reader_reason laws c ends place a at sheet start tallies BufferRefused has so = absurd (reader_granted laws.undone laws.asking c ends place a at so)
+
+reader_refuses : CountLaws → (c : ClosedSession) → MembersAtEnd c → (first now : RunFiles) (sheet : Sheet) (start : ℕ) (why : Why) (tallies : List ClientTally) (place : ℕ) (a : ClosedAnalyzer) → slice_get c.analyzers place ≡ Some a → RefusesBy c first now sheet start why tallies (caller_of_client (analyzer_client c place))
+reader_refuses laws c ends first now sheet start why tallies place a at client is turn stands starts answered has =
+    let n : ℕ = analyzer_client c place in
+    let same : client ≡ n = omega (arith, is) in
+    let mine : HasTurn (member_turns n (engine_calls c (caller_of_client n))) turn = subst (λ (k : ℕ). HasTurn (member_turns k (engine_calls c (caller_of_client n))) turn) same stands in
+    let of : HasTransition c.engine Start sheet start (Refused n why) tallies = subst (λ (k : ℕ). HasTransition c.engine Start sheet start (Refused k why) tallies) same has in
+    inr (inr (subst (λ (k : ℕ). IsReaderRefusal c sheet k why) (sym same) (reader_reason laws c ends place a at sheet start tallies why of ((ends.analyzers place a at).stands.stands.asks.refusals turn why mine answered))))
 
 other_refuses : (c : ClosedSession) (first now : RunFiles) (sheet : Sheet) (start : ℕ) (why : Why) (tallies : List ClientTally) (by : ℕ) → engine_calls c by ≡ [] → RefusesBy c first now sheet start why tallies by
 other_refuses c first now sheet start why tallies by none client is turn stands starts answered has =
     absurd (subst (λ (calls : List EngineEntry). HasTurn (member_turns client calls) turn) none stands)
 
 refused_so : CountLaws → (c : ClosedSession) (ends : MembersAtEnd c) (first now : RunFiles) → LoggerReasons c ends first now → (sheet : Sheet) (start client : ℕ) (why : Why) (tallies : List ClientTally) → TransitionIn (engine_calls c main_caller) Start sheet start (Refused client why) tallies
-    → IsRefusedSo c first now (order_for sheet start Stopped) client why
+    → IsRefusedSo c first now sheet start client why
 refused_so laws c ends first now reasons sheet start client why tallies made =
     let has : HasTransition c.engine Start sheet start (Refused client why) tallies = has_made laws.main c.engine Start sheet start (Refused client why) tallies ends.engine made in
     let r = refused_turn laws c ends sheet start client why tallies has in
@@ -109,6 +137,7 @@ refused_so laws c ends first now reasons sheet start client why tallies made =
     (main_refuses c first now sheet start why tallies)
     (λ n f at. front_refuses laws c ends first now sheet start why tallies n f at)
     (logger_refuses laws c ends first now reasons sheet start why tallies)
+    (λ place a at. reader_refuses laws c ends first now sheet start why tallies place a at)
     (λ by past. other_refuses c first now sheet start why tallies by (ends.others.engine by past))
     (caller_of_client client) client refl r.turn r.stands r.starts r.answered has
 
@@ -128,7 +157,7 @@ broken_so laws c ends first now reasons moments r made channel told =
     let t : IsTallyOfTurn c.engine n (member_turns n (engine_calls c (logger_caller c))) (state_at (engine_past run.stopped.earlier)) Stop r.last r.start Completed (Channels told.states) =
     laws.tallies (logger_caller c) n c.engine ends.engine (speaks n c.engine (names_own c ends)) Stop r.last r.start Completed r.last_tallies run.stopped told.index (Channels told.states) told.told in
     let answered : t.turn.answer ≡ Some (Yes (Channels told.states)) = t.answered ∙ ap (λ (a : Answer). Some a) (yes_channels t.answer told.states t.tally_is) in
-    let so : AreStatesSo told.states first now = reasons.answers t.turn (Yes (Channels told.states)) t.stands answered in
+    let so : AreStatesSo told.states first now = answers_so laws c ends first now reasons t.turn (Yes (Channels told.states)) t.stands answered in
     so channel.number told.state_is
 
 with_dump : (dump : Option (List ℕ)) → (dump ≡ None → ⊥) → Ended ≡ state_by_dump dump
@@ -155,20 +184,11 @@ ended_so laws c ends first now reasons stays moments r made index channel at sta
 
 -- Names that were taken.
 
--- a start that was refused for a name was refused by the logger
-by_logger : (c : ClosedSession) (first now : RunFiles) (order : Order) (client number : ℕ) → IsRefusedSo c first now order client (Exists number) → client ≡ logger_client c
-by_logger c first now order client number so = elim so as (λ w. client ≡ logger_client c) [
-  | inl front ↦ absurd (let never : Exists number ≡ NotReady = front.why_is in cc (never))
-  | inr mine ↦ mine.0
-]
-
 taken_so : CountLaws → (c : ClosedSession) (ends : MembersAtEnd c) (first now : RunFiles) → LoggerReasons c ends first now → LoggerNames c ends first now → IsTrue first.seen.tells → NoneRose first now → AreStartsOver (engine_calls c main_caller)
-    → (sheet : Sheet) (start client number : ℕ) (tallies : List ClientTally) → TransitionIn (engine_calls c main_caller) Start sheet start (Refused client (Exists number)) tallies → IsTakenName c first.seen sheet.run start number
-taken_so laws c ends first now reasons names tells none over sheet start client number tallies made =
+    → (sheet : Sheet) (start number : ℕ) (tallies : List ClientTally) → TransitionIn (engine_calls c main_caller) Start sheet start (Refused (logger_client c) (Exists number)) tallies → IsTakenName c first.seen sheet.run start number
+taken_so laws c ends first now reasons names tells none over sheet start number tallies made =
     let n : ℕ = logger_client c in
-    let same : client ≡ n = by_logger c first now (order_for sheet start Stopped) client number (refused_so laws c ends first now reasons sheet start client (Exists number) tallies made) in
-    let mine : TransitionIn (engine_calls c main_caller) Start sheet start (Refused n (Exists number)) tallies = subst (λ (k : ℕ). TransitionIn (engine_calls c main_caller) Start sheet start (Refused k (Exists number)) tallies) same made in
-    let has : HasTransition c.engine Start sheet start (Refused n (Exists number)) tallies = has_made laws.main c.engine Start sheet start (Refused n (Exists number)) tallies ends.engine mine in
+    let has : HasTransition c.engine Start sheet start (Refused n (Exists number)) tallies = has_made laws.main c.engine Start sheet start (Refused n (Exists number)) tallies ends.engine made in
     let r = refused_turn laws c ends sheet start n (Exists number) tallies has in
     taken_name laws.undone laws.over c ends first now names tells none over r.turn r.stands r.starts number r.answered sheet.run start (ap (λ (o : Order). o.run) r.of_begin.order) (ap (λ (o : Order). o.start) r.of_begin.order)
 

@@ -1,5 +1,5 @@
 -- The callers of a closed session, and what holds of each call since it holds of each caller's own.
-use Rattle.std.specs.Prelude.{◌≡◌, ℕ, zero, suc, ◌<◌, ◌==◌, ◌&&◌, Bool, true, false, List, [], ◌∷◌, ◌++◌, length, slice_get, Some, refl}
+use Rattle.std.specs.Prelude.{◌≡◌, ℕ, zero, suc, ◌+◌, ◌<◌, ◌==◌, ◌&&◌, Bool, true, false, List, [], ◌∷◌, ◌++◌, length, slice_get, Some, refl}
 use Rattle.std.specs.List.{AllByRecursion}
 use Rattle.std.proofs.Common.{ap, sym, subst, ◌∙◌, arith, inl, inr, add-one, eq-eqb}
 use Rattle.std.proofs.lemmas.Bool.Decides.{eqb_tells}
@@ -7,7 +7,7 @@ use Rattle.daq_types.specs.Callers.{entries_by, main_caller, caller_of_client}
 use Rattle.daq_types.proofs.CallersLaws.{entries_by-append}
 use Rattle.transitions.specs.declared.entry.EngineEntry.{EngineEntry}
 use Rattle.daq_members.specs.OwnTurns.{is_call_for, are_calls_for}
-use Rattle.session_laws.specs.ClosedSessions.{ClosedFront, ClosedSession, logger_caller}
+use Rattle.session_laws.specs.ClosedSessions.{ClosedAnalyzer, ClosedFront, ClosedSession, analyzer_client, last_caller, logger_caller}
 
 -- Own calls.
 
@@ -47,34 +47,51 @@ none_all P xs none = subst (AllByRecursion P) (sym none) tt
 
 -- Who the callers are.
 
--- the client of this number: a front-end, the logger, or none
-pub data IsClient (fronts : List ClosedFront) (client : ℕ) : Type 0 where
-  IsFront : (f : ClosedFront) → slice_get fronts client ≡ Some f → IsClient fronts client
-  IsLogger : client ≡ length fronts → IsClient fronts client
-  IsNone : length fronts < client → IsClient fronts client
+-- the client of this number: a front-end, the logger, an analyzer, or none
+pub data IsClient (fronts : List ClosedFront) (analyzers : List ClosedAnalyzer) (client : ℕ) : Type 0 where
+  IsFront : (f : ClosedFront) → slice_get fronts client ≡ Some f → IsClient fronts analyzers client
+  IsLogger : client ≡ length fronts → IsClient fronts analyzers client
+  IsReader : (place : ℕ) (a : ClosedAnalyzer) → slice_get analyzers place ≡ Some a → client ≡ suc (length fronts) + place → IsClient fronts analyzers client
+  IsNone : length fronts + length analyzers < client → IsClient fronts analyzers client
 
-next_client : (f : ClosedFront) (fs : List ClosedFront) (n : ℕ) → IsClient fs n → IsClient (f ∷ fs) (suc n)
-next_client f fs n (IsFront g at) = IsFront g at
-next_client f fs n (IsLogger is) = IsLogger (omega arith)
-next_client f fs n (IsNone past) = IsNone (omega arith)
+next_client : (f : ClosedFront) (fs : List ClosedFront) (analyzers : List ClosedAnalyzer) (n : ℕ) → IsClient fs analyzers n → IsClient (f ∷ fs) analyzers (suc n)
+next_client f fs analyzers n (IsFront g at) = IsFront g at
+next_client f fs analyzers n (IsLogger is) = IsLogger (omega arith)
+next_client f fs analyzers n (IsReader place a at is) = IsReader place a at (omega arith)
+next_client f fs analyzers n (IsNone past) = IsNone (omega arith)
 
-client_of : (fronts : List ClosedFront) (client : ℕ) → IsClient fronts client
-client_of [] zero = IsLogger refl
-client_of [] (suc n) = IsNone (omega arith)
-client_of (f ∷ fs) zero = IsFront f refl
-client_of (f ∷ fs) (suc n) = next_client f fs n (client_of fs n)
+next_reader : (x : ClosedAnalyzer) (analyzers : List ClosedAnalyzer) (n : ℕ) → IsClient [] analyzers (suc n) → IsClient [] (x ∷ analyzers) (suc (suc n))
+next_reader x analyzers n (IsFront g at) = absurd (cc at)
+next_reader x analyzers n (IsLogger is) = absurd (omega arith)
+next_reader x analyzers n (IsReader place a at is) = IsReader (suc place) a at (omega arith)
+next_reader x analyzers n (IsNone past) = IsNone (omega arith)
 
-by_client : (P : ℕ → Type 0) (fronts : List ClosedFront) (n : ℕ) → ((f : ClosedFront) → slice_get fronts n ≡ Some f → P (caller_of_client n)) → P (caller_of_client (length fronts))
-    → (caller_of_client (length fronts) < caller_of_client n → P (caller_of_client n)) → IsClient fronts n → P (caller_of_client n)
-by_client P fronts n front logger other (IsFront f at) = front f at
-by_client P fronts n front logger other (IsLogger is) = subst (λ (k : ℕ). P (caller_of_client k)) (sym is) logger
-by_client P fronts n front logger other (IsNone past) = other (omega arith)
+reader_of : (analyzers : List ClosedAnalyzer) (n : ℕ) → IsClient [] analyzers (suc n)
+reader_of [] n = IsNone (omega arith)
+reader_of (x ∷ analyzers) zero = IsReader 0 x refl (omega arith)
+reader_of (x ∷ analyzers) (suc n) = next_reader x analyzers n (reader_of analyzers n)
 
--- what holds of the main thread, of each front-end, of the logger, and of all others, holds of each caller
+client_of : (fronts : List ClosedFront) (analyzers : List ClosedAnalyzer) (client : ℕ) → IsClient fronts analyzers client
+client_of [] analyzers zero = IsLogger refl
+client_of [] analyzers (suc n) = reader_of analyzers n
+client_of (f ∷ fs) analyzers zero = IsFront f refl
+client_of (f ∷ fs) analyzers (suc n) = next_client f fs analyzers n (client_of fs analyzers n)
+
+by_client : (P : ℕ → Type 0) (fronts : List ClosedFront) (analyzers : List ClosedAnalyzer) (n : ℕ) → ((f : ClosedFront) → slice_get fronts n ≡ Some f → P (caller_of_client n)) → P (caller_of_client (length fronts))
+    → ((place : ℕ) (a : ClosedAnalyzer) → slice_get analyzers place ≡ Some a → P (caller_of_client (suc (length fronts) + place)))
+    → (caller_of_client (length fronts + length analyzers) < caller_of_client n → P (caller_of_client n)) → IsClient fronts analyzers n → P (caller_of_client n)
+by_client P fronts analyzers n front logger reader other (IsFront f at) = front f at
+by_client P fronts analyzers n front logger reader other (IsLogger is) = subst (λ (k : ℕ). P (caller_of_client k)) (sym is) logger
+by_client P fronts analyzers n front logger reader other (IsReader place a at is) = subst (λ (k : ℕ). P (caller_of_client k)) (sym is) (reader place a at)
+by_client P fronts analyzers n front logger reader other (IsNone past) = other (omega arith)
+
+-- what holds of the main thread, of each front-end, of the logger, of each analyzer, and of all others, holds of each caller
 pub by_caller : (P : ℕ → Type 0) (c : ClosedSession) → P main_caller → ((client : ℕ) (f : ClosedFront) → slice_get c.fronts client ≡ Some f → P (caller_of_client client)) → P (logger_caller c)
-    → ((by : ℕ) → logger_caller c < by → P by) → (by : ℕ) → P by
-by_caller P c main fronts logger others zero = main
-by_caller P c main fronts logger others (suc n) = subst P (add-one n) (by_client P c.fronts n (fronts n) logger (others (caller_of_client n)) (client_of c.fronts n))
+    → ((place : ℕ) (a : ClosedAnalyzer) → slice_get c.analyzers place ≡ Some a → P (caller_of_client (analyzer_client c place)))
+    → ((by : ℕ) → last_caller c < by → P by) → (by : ℕ) → P by
+by_caller P c main fronts logger readers others zero = main
+by_caller P c main fronts logger readers others (suc n) =
+    subst P (add-one n) (by_client P c.fronts c.analyzers n (fronts n) logger readers (others (caller_of_client n)) (client_of c.fronts c.analyzers n))
 
 -- Calls for one client.
 

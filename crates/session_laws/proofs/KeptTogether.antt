@@ -13,18 +13,26 @@ use Rattle.transitions.specs.declared.entry.EngineEntry.TheVariants.{Register, B
 use Rattle.session_engine.specs.declared.opening.MemberName.{MemberName}
 use Rattle.session_engine.specs.Members.{registrations}
 use Rattle.loggers.specs.LoggerStands.{StandingLoggerKeeps}
+use Rattle.buffer_core.specs.Window.{opening}
+use Rattle.local_port.specs.GotNames.{named_in}
+use Rattle.member_model.specs.TurnCalls.{member_turns}
+use Rattle.analyzers.specs.declared.analyzer_run.EventRequest.{EventRequest}
+use Rattle.analyzers.specs.AnalyzerKept.{KeepsAnalyzer}
+use Rattle.analyzer_seats.specs.AnalyzerTaken.{MemberAnalyzersKeep}
 use Rattle.caller_laws.specs.CallerLaws.{PortTells}
 use Rattle.engine_laws.specs.BegunTurns.{WantsAlone, OneWantsDump}
-use Rattle.composition.specs.Sessions.{Session, SessionFront, HasFront, NamesOwnClient, IsMemberCaller, IsRegistered, MembersKeep}
+use Rattle.composition.specs.Sessions.{Session, SessionAnalyzer, SessionFront, HasAnalyzer, HasFront, NamesOwnClient, IsMemberCaller, IsRegistered, MembersKeep}
 use Rattle.daq_members.specs.OwnTurns.{is_call_for}
 use Rattle.daq_members.specs.FrontTaken.{FrontKeeps}
-use Rattle.session_laws.specs.ClosedSessions.{ClosedFront, ClosedSession, logger_client, logger_caller, members_of, history_of_buffer, engine_calls, calls_on_buffer, session_front, session_of}
-use Rattle.session_laws.specs.MembersAtEnd.{FrontAtEnd, SteersEngine, MembersAtEnd}
+use Rattle.session_runs.specs.RunsFit.{SteersEngine}
+use Rattle.session_laws.specs.ClosedSessions.{ClosedAnalyzer, ClosedFront, ClosedSession, analyzer_client, logger_client, logger_caller, members_of, size_of_buffer, history_of_buffer, engine_calls, calls_on_buffer, got_from_buffer, session_analyzer, session_front, session_of}
+use Rattle.session_laws.specs.MembersAtEnd.{AnalyzerAtEnd, FrontAtEnd, MembersAtEnd}
 use Rattle.session_laws.proofs.EachCaller.{each_by, all_both, all_each, none_all, by_caller, each_for}
-use Rattle.session_laws.proofs.Registrations.{front_at, logger_at, wants_dump}
+use Rattle.session_laws.proofs.Registrations.{AtReader, analyzer_at, front_at, logger_at, wants_dump}
 use Rattle.session_laws.proofs.MainFirst.{registered}
 use Rattle.session_laws.proofs.GotSent.{got_sent, legal_buffer}
 use Rattle.session_laws.proofs.LoggerEnd.{GotAll, logger_keeps}
+use Rattle.session_laws.proofs.ReadersEnd.{IsReaderOf, analyzer_listed, reader_of}
 use Rattle.session_laws.proofs.FrontsEnd.{FrontKept, front_kept, choose, IsFrontOf, front_of, front_listed}
 
 -- On the engine each names its own client.
@@ -50,18 +58,20 @@ names_steered (Check reply tallies) is = tt
 names_steered (Close reply) is = tt
 
 -- what holds of the registrations and of what the main thread did behind them holds of its calls
-main_calls : (c : ClosedSession) (ends : MembersAtEnd c) (P : EngineEntry → Type 0) → AllByRecursion P (registrations 0 (members_of c.fronts)) → ((e : EngineEntry) → SteersEngine e → P e) → AllByRecursion P (engine_calls c main_caller)
+pub main_calls : (c : ClosedSession) (ends : MembersAtEnd c) (P : EngineEntry → Type 0) → AllByRecursion P (registrations 0 (members_of c.fronts c.analyzers)) → ((e : EngineEntry) → SteersEngine e → P e) → AllByRecursion P (engine_calls c main_caller)
 main_calls c ends P registered steered =
     subst (AllByRecursion P) (sym ends.main.calls)
-    (all_both P (registrations 0 (members_of c.fronts)) ends.main.later registered (all_each SteersEngine P ends.main.later steered ends.main.steers))
+    (all_both P (registrations 0 (members_of c.fronts c.analyzers)) ends.main.later registered (all_each SteersEngine P ends.main.later steered ends.main.steers))
 
 pub names_own : (c : ClosedSession) → MembersAtEnd c → AllByRecursion NamesOwnClient c.engine
 names_own c ends =
     each_by (λ by e. NamesOwnClient (by, e)) c.engine
     (by_caller (λ by. AllByRecursion (λ e. NamesOwnClient (by, e)) (engine_calls c by)) c
-    (main_calls c ends (λ e. NamesOwnClient (main_caller, e)) (names_registered 0 (members_of c.fronts)) names_steered)
+    (main_calls c ends (λ e. NamesOwnClient (main_caller, e)) (names_registered 0 (members_of c.fronts c.analyzers)) names_steered)
     (λ client f at. each_for client (λ e. NamesOwnClient (caller_of_client client, e)) (names_call client) (engine_calls c (caller_of_client client)) (ends.fronts client f at).speaks)
     (each_for (logger_client c) (λ e. NamesOwnClient (logger_caller c, e)) (names_call (logger_client c)) (engine_calls c (logger_caller c)) ends.logger.speaks)
+    (λ place a at. (let client : ℕ = analyzer_client c place in
+    each_for client (λ e. NamesOwnClient (caller_of_client client, e)) (names_call client) (engine_calls c (caller_of_client client)) (ends.analyzers place a at).speaks))
     (λ by past. none_all (λ e. NamesOwnClient (by, e)) (engine_calls c by) (ends.others.engine by past)))
 
 -- The logger alone wants the dump.
@@ -87,9 +97,11 @@ one_dump c ends =
     let n : ℕ = logger_client c in
     each_by (λ by e. WantsAlone n (by, e)) c.engine
     (by_caller (λ by. AllByRecursion (λ e. WantsAlone n (by, e)) (engine_calls c by)) c
-    (main_calls c ends (λ e. WantsAlone n (main_caller, e)) (wants_dump 0 n c.fronts (omega arith)) (wants_steered n main_caller))
+    (main_calls c ends (λ e. WantsAlone n (main_caller, e)) (wants_dump 0 n c.fronts c.analyzers (omega arith)) (wants_steered n main_caller))
     (λ client f at. each_for client (λ e. WantsAlone n (caller_of_client client, e)) (wants_call n (caller_of_client client) client) (engine_calls c (caller_of_client client)) (ends.fronts client f at).speaks)
     (each_for n (λ e. WantsAlone n (logger_caller c, e)) (wants_call n (logger_caller c) n) (engine_calls c (logger_caller c)) ends.logger.speaks)
+    (λ place a at. (let client : ℕ = analyzer_client c place in
+    each_for client (λ e. WantsAlone n (caller_of_client client, e)) (wants_call n (caller_of_client client) client) (engine_calls c (caller_of_client client)) (ends.analyzers place a at).speaks))
     (λ by past. none_all (λ e. WantsAlone n (by, e)) (engine_calls c by) (ends.others.engine by past)))
 
 -- The callers of a buffer.
@@ -104,28 +116,45 @@ front_calls c moments client f at ends buffer = elim (eqb_tells f.buffer buffer)
   | inr differs ↦ inl (ends.elsewhere buffer (λ is. differs.1 (sym is)))
 ]
 
+reader_calls : (c : ClosedSession) (moments : ℕ → List ℕ) (place : ℕ) (a : ClosedAnalyzer) → slice_get c.analyzers place ≡ Some a → AnalyzerAtEnd c (analyzer_client c place) a → (buffer : ℕ) → MayCall c moments buffer (caller_of_client (analyzer_client c place))
+reader_calls c moments place a at ends buffer = elim (eqb_tells a.buffer buffer) as (λ w. MayCall c moments buffer (caller_of_client (analyzer_client c place))) [
+  | inl same ↦
+      inr (inr (inr (record { analyzer = session_analyzer c (analyzer_client c place) a; stands = (place, analyzer_listed c place a at); buffer_is = same.1; caller_is = refl })))
+  | inr differs ↦ inl (ends.elsewhere buffer (λ is. differs.1 (sym is)))
+]
+
 member_callers : (c : ClosedSession) → MembersAtEnd c → (moments : ℕ → List ℕ) → (buffer by : ℕ) → MayCall c moments buffer by
 member_callers c ends moments buffer =
     by_caller (MayCall c moments buffer) c
     (inl (ends.main.buffers buffer))
     (λ client f at. front_calls c moments client f at (ends.fronts client f at) buffer)
     (inr (inl refl))
+    (λ place a at. reader_calls c moments place a at (ends.analyzers place a at) buffer)
     (λ by past. inl (ends.others.buffers by past buffer))
 
 -- The members are registered.
 
 front_registered : (c : ClosedSession) → MembersAtEnd c → (moments : ℕ → List ℕ) (client : ℕ) (f : ClosedFront) → slice_get c.fronts client ≡ Some f → IsRegistered (session_of c moments) client Start × IsRegistered (session_of c moments) client Stop
 front_registered c ends moments client f at =
-    let m = front_at c.fronts client f at in (
+    let m = front_at c.fronts c.analyzers client f at in (
       registered c ends client m.0 m.1 Start 500 (ap (λ (r : Role). sequence_for (sequences_of r) Start) m.2) moments,
       registered c ends client m.0 m.1 Stop 500 (ap (λ (r : Role). sequence_for (sequences_of r) Stop) m.2) moments,
     )
 
 logger_registered : (c : ClosedSession) → MembersAtEnd c → (moments : ℕ → List ℕ) → IsRegistered (session_of c moments) (logger_client c) Start × IsRegistered (session_of c moments) (logger_client c) Stop
 logger_registered c ends moments =
-    let m = logger_at c.fronts in (
+    let m = logger_at c.fronts c.analyzers in (
       registered c ends (logger_client c) m.0 m.1 Start 200 (ap (λ (r : Role). sequence_for (sequences_of r) Start) m.2) moments,
       registered c ends (logger_client c) m.0 m.1 Stop 800 (ap (λ (r : Role). sequence_for (sequences_of r) Stop) m.2) moments,
+    )
+
+reader_registered : (c : ClosedSession) → MembersAtEnd c → (moments : ℕ → List ℕ) (place : ℕ) (a : ClosedAnalyzer) → slice_get c.analyzers place ≡ Some a
+    → IsRegistered (session_of c moments) (analyzer_client c place) Start × IsRegistered (session_of c moments) (analyzer_client c place) Stop
+reader_registered c ends moments place a at =
+    let client : ℕ = analyzer_client c place in
+    let m : AtReader c.fronts c.analyzers client = analyzer_at c.fronts c.analyzers place client a at refl in (
+      registered c ends client m.member m.at Start 300 (ap (λ (r : Role). sequence_for (sequences_of r) Start) m.role) moments,
+      registered c ends client m.member m.at Stop 900 (ap (λ (r : Role). sequence_for (sequences_of r) Stop) m.role) moments,
     )
 
 -- All together.
@@ -137,8 +166,21 @@ each_front c moments P each f has =
     let of : IsFrontOf c moments f = front_of c moments f has in
     subst P (sym of.is) (each of.client of.front of.at)
 
-pub members_keep : PortTells → GotAll → StandingLoggerKeeps → FrontKeeps → (c : ClosedSession) → MembersAtEnd c → (moments : ℕ → List ℕ) × MembersKeep (session_of c moments)
-members_keep tells all stands keeps c ends =
+-- and so of its analyzers
+each_analyzer : (c : ClosedSession) (moments : ℕ → List ℕ) (P : SessionAnalyzer → Type 0) → ((place : ℕ) (a : ClosedAnalyzer) → slice_get c.analyzers place ≡ Some a → P (session_analyzer c (analyzer_client c place) a))
+    → (a : SessionAnalyzer) → HasAnalyzer (session_of c moments) a → P a
+each_analyzer c moments P each a has =
+    let of : IsReaderOf c a = reader_of c a has in
+    subst P (sym of.is) (each of.place of.analyzer of.at)
+
+analyzer_keeps : MemberAnalyzersKeep → (c : ClosedSession) (client : ℕ) (a : ClosedAnalyzer) → AnalyzerAtEnd c client a
+    → KeepsAnalyzer a.wanted (calls_on_buffer c (caller_of_client client) a.buffer) (got_from_buffer c (caller_of_client client) a.buffer) (member_turns client (engine_calls c (caller_of_client client)))
+analyzer_keeps law c client a ends =
+    subst (λ (w : EventRequest). KeepsAnalyzer w (calls_on_buffer c (caller_of_client client) a.buffer) (got_from_buffer c (caller_of_client client) a.buffer) (member_turns client (engine_calls c (caller_of_client client)))) ends.wanted
+    (law client ends.analyzer (engine_calls c (caller_of_client client)) (calls_on_buffer c (caller_of_client client) a.buffer) (got_from_buffer c (caller_of_client client) a.buffer) ends.stands)
+
+pub members_keep : PortTells → GotAll → StandingLoggerKeeps → FrontKeeps → MemberAnalyzersKeep → (c : ClosedSession) → MembersAtEnd c → (moments : ℕ → List ℕ) × MembersKeep (session_of c moments)
+members_keep tells all stands keeps reads c ends =
     let chosen = choose c.fronts (FrontKept c) (λ client f at. front_kept keeps c client f (ends.fronts client f at)) in
     let moments : ℕ → List ℕ = chosen.0 in
     let s : Session = session_of c moments in (
@@ -153,10 +195,13 @@ members_keep tells all stands keeps c ends =
         fronts_set = each_front c moments (λ f. _) (λ client f at. (chosen.1 client f at).told);
         logger_keeps = logger_keeps stands all c ends;
         logger_got = λ buffer. got_sent tells _ (logger_caller c) (history_of_buffer c buffer) (legal_buffer c ends buffer);
-        analyzers_keep = λ a has. absurd (cc (has.1));
-        analyzers_got = λ a has. absurd (cc (has.1));
+        analyzers_keep = each_analyzer c moments (λ a. _) (λ place a at. analyzer_keeps reads c (analyzer_client c place) a (ends.analyzers place a at));
+        analyzers_got = each_analyzer c moments (λ a. _) (λ place a at. (
+          got_sent tells (size_of_buffer c a.buffer) (caller_of_client (analyzer_client c place)) (history_of_buffer c a.buffer) (legal_buffer c ends a.buffer),
+          record { named_so = sym (named_in (caller_of_client (analyzer_client c place)) (opening (size_of_buffer c a.buffer)) (history_of_buffer c a.buffer)) },
+        ));
         fronts_registered = each_front c moments (λ f. _) (front_registered c ends moments);
-        analyzers_registered = λ a has. absurd (cc (has.1));
+        analyzers_registered = each_analyzer c moments (λ a. _) (reader_registered c ends moments);
         logger_registered = logger_registered c ends moments;
         one_dump = one_dump c ends;
       },

@@ -1,26 +1,23 @@
--- Why the logger of a closed session refused a start: never as not ready, and for a buffer only where that refused a call.
-use Rattle.std.specs.Prelude.{◌≡◌, ℕ, List, [], ◌∷◌, slice_get, Contains, Option, Some}
-use Rattle.std.proofs.Common.{ap, sym, subst, ◌∙◌, inl, inr}
+-- The logger of a closed session never refused a start as not ready; and its calls on a buffer are those that its port told it.
+use Rattle.std.specs.Prelude.{◌≡◌, ℕ, List, [], ◌∷◌, slice_get, Option, Some}
+use Rattle.std.proofs.Common.{ap, sym, ◌∙◌, inl, inr}
 use Rattle.daq_types.specs.Callers.{entries_by}
 use Rattle.daq_types.specs.declared.runs.Transition.TheVariants.{Start, Stop, StartAbort}
 use Rattle.daq_types.specs.declared.runs.Why.TheVariants.{NotReady}
 use Rattle.run_states.specs.declared.sequences.Role.{Role}
 use Rattle.run_states.specs.Sequences.{sequence_for, sequences_of}
-use Rattle.buffer_core.specs.declared.entry.BufferEntry.{BufferEntry}
 use Rattle.buffer_core.specs.Ports.{Access}
 use Rattle.transitions.specs.declared.answers.Answer.TheVariants.{No}
 use Rattle.member_model.specs.Turns.{MemberTurn, HasTurn, AreEngineTurns}
 use Rattle.member_model.specs.TurnCalls.{member_turns}
-use Rattle.loggers.specs.LoggerStands.{IsInRun, AreUnreadyInRuns}
-use Rattle.loggers.specs.Reasons.{HasRefusedAsk}
+use Rattle.loggers.specs.LoggerStands.{HasRunOn, AreUnreadyInRuns}
 use Rattle.engine_laws.specs.BegunTurns.{IsOver, StartsComeLast, IsAlwaysCalled}
 use Rattle.engine_laws.specs.EngineLaws.{RunsAreOver}
 use Rattle.composition.proofs.SessionTurns.{speaks}
 use Rattle.session_laws.specs.ClosedSessions.{ClosedBuffer, ClosedSession, logger_client, logger_caller, history_in, engine_calls, calls_on_buffer}
 use Rattle.session_laws.specs.MembersAtEnd.{IsAccessTo, MembersAtEnd}
-use Rattle.session_laws.specs.CountedFaults.{WasRefusedAsk}
 use Rattle.session_laws.proofs.KeptTogether.{names_own}
-use Rattle.session_laws.proofs.LoggerEnd.{BothAt, Both, Neither, both_at, none_taken_back}
+use Rattle.session_laws.proofs.LoggerEnd.{BothAt, Both, Neither, none_taken_back}
 use Rattle.session_laws.proofs.MainFirst.{registered}
 use Rattle.session_laws.proofs.Registrations.{logger_at}
 use Rattle.session_laws.proofs.UndoneNames.{UndoneLaws}
@@ -32,7 +29,7 @@ never_in_run : (ts : List MemberTurn) (t : MemberTurn) → AreUnreadyInRuns ts �
 never_in_run [] t unready last has starts answered = has
 never_in_run (u ∷ us) t unready last has starts answered = elim has as (λ w. ⊥) [
   | inl same ↦
-      let run : IsInRun us = unready.0 (ap (λ (x : MemberTurn). x.answer) same ∙ answered) in
+      let run : HasRunOn us = unready.0 (ap (λ (x : MemberTurn). x.answer) same ∙ answered) in
       let first = run.is_start.is_start in
       let over : IsOver us run.begin.order.start = (last.0 (ap (λ (x : MemberTurn). x.transition) same ∙ starts)).over run.begin first.stands first.is in
       run.going (record { turn = over.turn; stands = over.stands; ends = over.ends; of = over.of ∙ first.of })
@@ -43,7 +40,7 @@ never_in_run (u ∷ us) t unready last has starts answered = elim has as (λ w. 
 pub always_called : (c : ClosedSession) → MembersAtEnd c → IsAlwaysCalled c.engine (logger_client c)
 always_called c ends earlier later caller begun sheet start whole =
     let n : ℕ = logger_client c in
-    let m = logger_at c.fronts in (
+    let m = logger_at c.fronts c.analyzers in (
       registered c ends n m.0 m.1 Stop 800 (ap (λ (role : Role). sequence_for (sequences_of role) Stop) m.2) (λ client. []) earlier later caller begun sheet start whole,
       registered c ends n m.0 m.1 StartAbort 800 (ap (λ (role : Role). sequence_for (sequences_of role) StartAbort) m.2) (λ client. []) earlier later caller begun sheet start whole,
     )
@@ -54,18 +51,13 @@ never_unready laws over c ends turn has starts answered =
     let turns : List MemberTurn = member_turns n (engine_calls c (logger_caller c)) in
     let are : AreEngineTurns turns = laws.facts.gives (logger_caller c) n c.engine ends.engine (speaks n c.engine (names_own c ends)) in
     let last : StartsComeLast turns = over (logger_caller c) n c.engine ends.engine (speaks n c.engine (names_own c ends)) (always_called c ends) in
-    let unready : AreUnreadyInRuns turns = (ends.logger.stands (none_taken_back c ends)).unready are in
+    let unready : AreUnreadyInRuns turns = (ends.logger.stands (none_taken_back c ends)).holds.unready are in
     never_in_run turns turn unready last has starts answered
 
 -- Buffers.
 
-own_by : (c : ClosedSession) (ends : MembersAtEnd c) (buffer : ℕ) (a : Access) → slice_get ends.logger.ports buffer ≡ Some a → BothAt ends.logger.ports c.buffers buffer → calls_on_buffer c (logger_caller c) buffer ≡ a.own
+pub own_by : (c : ClosedSession) (ends : MembersAtEnd c) (buffer : ℕ) (a : Access) → slice_get ends.logger.ports buffer ≡ Some a → BothAt ends.logger.ports c.buffers buffer → calls_on_buffer c (logger_caller c) buffer ≡ a.own
 own_by c ends buffer a at (Both x b at_x at_b) =
     let acc : IsAccessTo (logger_caller c) b a = ends.logger.access buffer a b at at_b in
     ap (λ (o : Option ClosedBuffer). entries_by (logger_caller c) (history_in o)) at_b ∙ (acc.part.own ∙ sym acc.own)
 own_by c ends buffer a at (Neither none nor) = absurd (cc (none, at))
-
-pub refused_ask : (c : ClosedSession) (ends : MembersAtEnd c) → HasRefusedAsk ends.logger.ports → WasRefusedAsk c
-refused_ask c ends had =
-    let own : calls_on_buffer c (logger_caller c) had.buffer ≡ had.port.own = own_by c ends had.buffer had.port had.at (both_at ends.logger.ports c.buffers had.buffer ends.logger.many) in
-    record { buffer = had.buffer; entry = had.entry; among = subst (λ (l : List BufferEntry). Contains l had.entry) (sym own) had.among; refused = had.refused }

@@ -26,10 +26,10 @@ may_call s (y ∷ xs) x ys legal = may_call (engine_after s y.1) xs x ys legal.2
 no_begin : (t : Transition) (sheet : Sheet) (start : ℕ) (k : ℕ) (m : MemberName) → Begin t sheet (Ok start) ≡ registration k m → ⊥
 no_begin t sheet start k m is = absurd (cc (is))
 
-pub registered : (c : ClosedSession) → MembersAtEnd c → (client : ℕ) (m : MemberName) → slice_get (members_of c.fronts) client ≡ Some m
+pub registered : (c : ClosedSession) → MembersAtEnd c → (client : ℕ) (m : MemberName) → slice_get (members_of c.fronts c.analyzers) client ≡ Some m
     → (transition : Transition) (sequence : ℕ) → sequence_for (sequences_of m.role) transition ≡ Some sequence → (moments : ℕ → List ℕ) → IsRegistered (session_of c moments) client transition
 registered c ends client m at transition sequence called moments earlier later caller begun sheet start whole =
-    let members : List MemberName = members_of c.fronts in
+    let members : List MemberName = members_of c.fronts c.analyzers in
     let begin : EngineEntry = Begin begun sheet (Ok start) in
     let may : IsEngineCaller caller (Begin begun sheet (Ok start)) = may_call engine_opening earlier (caller, Begin begun sheet (Ok start)) later (subst (IsLegalEngine engine_opening) whole ends.engine) in
     let by_main : c.engine ≡ earlier ++ (main_caller, begin) ∷ later = whole ∙ ap (λ (n : ℕ). earlier ++ (n, Begin begun sheet (Ok start)) ∷ later) may.0 in

@@ -1,5 +1,5 @@
 -- The records of a session's runs against its histories and its run files.
-use Rattle.std.specs.Prelude.{◌≡◌, ◌+◌, ◌<◌, ◌⊎◌, ℕ, zero, suc, Bool, if◌then◌else◌, List, [], ◌∷◌, ◌++◌, length, slice_get, Option, Some, None, Ok, refl}
+use Rattle.std.specs.Prelude.{◌≡◌, ◌+◌, ◌<◌, ℕ, zero, suc, Bool, if◌then◌else◌, List, [], ◌∷◌, ◌++◌, length, slice_get, Option, Some, None, Ok, refl}
 use Rattle.std.specs.Option.{option_map, option_or, option_to_list}
 use Rattle.std.proofs.Common.{ap, sym, subst, ◌∙◌, arith, inl, inr, append_assoc, length-append}
 use Rattle.std.proofs.lemmas.Bool.Decides.{eqb_tells}
@@ -38,6 +38,8 @@ use Rattle.session_laws.specs.MadeRuns.{RunIn, RunHolds}
 use Rattle.session_laws.specs.EndLaws.{SessionHolds}
 use Rattle.session_laws.specs.RecordedRuns.{FrontRecordHolds, FileRecordHolds, run_channels, RecordsHold}
 use Rattle.session_laws.proofs.RunsMade.{file_so}
+use Rattle.session_laws.proofs.ListedTold.{tally_is, or_there, got_before, got_last, same_or_less}
+use Rattle.session_laws.proofs.ReportsMade.{many_analyzers, many_reports, report_record}
 
 -- The transitions of a run that was made.
 
@@ -55,7 +57,7 @@ made_then own more t sheet start outcome tallies m =
       on = m.on;
     }
 
-made_behind : (first own : List EngineEntry) (t : Transition) (sheet : Sheet) (start : ℕ) (outcome : StartOutcome) (tallies : List ClientTally) → TransitionIn own t sheet start outcome tallies → TransitionIn (first ++ own) t sheet start outcome tallies
+pub made_behind : (first own : List EngineEntry) (t : Transition) (sheet : Sheet) (start : ℕ) (outcome : StartOutcome) (tallies : List ClientTally) → TransitionIn own t sheet start outcome tallies → TransitionIn (first ++ own) t sheet start outcome tallies
 made_behind first own t sheet start outcome tallies m = record {
   before = first ++ m.before;
   between = m.between;
@@ -78,9 +80,6 @@ front_in_so client (Report report) t is = absurd (cc (is))
 pub record SaysFront (client : ℕ) (told : ClientTally) (t : FrontTally) : Type 0 where
   pub of : t.client ≡ client
   pub is : told ≡ record { client = client; tally = Front t.sent t.ended }
-
-tally_is : (told : ClientTally) (client : ℕ) (tally : Tally) → told.client ≡ client → told.tally ≡ tally → told ≡ record { client = client; tally = tally }
-tally_is told client tally of is = ap (λ (n : ℕ). record { client = n; tally = told.tally }) of ∙ ap (λ (y : Tally). record { client = client; tally = y }) is
 
 front_by_so : (client : ℕ) (told : ClientTally) (t : FrontTally) → front_by client told ≡ Some t → SaysFront client told t
 front_by_so client told t is = elim (eqb_tells told.client client) as (λ w. SaysFront client told t) [
@@ -107,10 +106,6 @@ told_so : (client : ℕ) (tallies : List ClientTally) (t : FrontTally) → front
 told_so client [] t is = absurd (cc (is))
 told_so client (x ∷ xs) t is = first_told client x xs t (front_by client x) refl is (λ later. told_so client xs t later)
 
-or_there : {X : Type 0} (o rest : Option X) (x : X) → rest ≡ Some x → (y : X) × (option_or o rest ≡ Some y)
-or_there None rest x is = (x, is)
-or_there (Some y) rest x is = (y, refl)
-
 by_itself : (client sent : ℕ) (ended : FrontEnded) → front_by client (record { client = client; tally = Front sent ended }) ≡ Some (record { client = client; sent = sent; ended = ended })
 by_itself client sent ended = elim (eqb_tells client client) as (λ w. front_by client (record { client = client; tally = Front sent ended }) ≡ Some (record { client = client; sent = sent; ended = ended })) [
   | inl same ↦ ap (λ (b : Bool). if b then Some (record { client = client; sent = sent; ended = ended }) else None) same.0
@@ -128,17 +123,6 @@ told_there client (x ∷ xs) (suc index) sent ended at =
 
 -- The front-ends of a record, at their client numbers.
 
-got_before : {X : Type 0} (xs ys : List X) (k : ℕ) (x : X) → slice_get xs k ≡ Some x → slice_get (xs ++ ys) k ≡ Some x
-got_before [] ys k x at = absurd (cc (at))
-got_before (y ∷ xs) ys zero x at = at
-got_before (y ∷ xs) ys (suc k) x at = got_before xs ys k x at
-
-got_last : {X : Type 0} (xs : List X) (x : X) (k : ℕ) → length xs ≡ k → slice_get (xs ++ x ∷ []) k ≡ Some x
-got_last [] x zero is = refl
-got_last [] x (suc k) is = absurd (omega arith)
-got_last (y ∷ xs) x zero is = absurd (omega arith)
-got_last (y ∷ xs) x (suc k) is = got_last xs x k (omega arith)
-
 -- each client below this number told
 abbrev AllTold : (n : ℕ) → List ClientTally → Type 0
 AllTold n tallies = (k : ℕ) → k < n → (t : FrontTally) × (front_told k tallies ≡ Some t)
@@ -152,9 +136,6 @@ many_told (suc n) tallies all =
     let last = all n (omega arith) in
     let before : length (fronts_told n tallies) ≡ n = many_told n tallies (λ k less. all k (omega arith)) in
     ap length (one_listed n tallies last.0 last.1) ∙ (length-append (fronts_told n tallies) (last.0 ∷ []) ∙ omega arith)
-
-same_or_less : (k n : ℕ) → k < suc n → (k ≡ n) ⊎ (k < n)
-same_or_less k n less = elim (eqb_tells k n) as (λ w. (k ≡ n) ⊎ (k < n)) [ inl same ↦ inl same.1 | inr differs ↦ inr (let ne : k ≡ n → ⊥ = differs.1 in omega arith) ]
 
 listed_at : (n : ℕ) (tallies : List ClientTally) → AllTold n tallies → (k : ℕ) → k < n → (t : FrontTally) → front_told k tallies ≡ Some t → slice_get (fronts_told n tallies) k ≡ Some t
 listed_at zero tallies all k less t is = absurd (omega arith)
@@ -197,7 +178,7 @@ first_states client x xs states (Some s) by is later =
     let same : s ≡ states = cc (is) in
     record { index = 0; at = ap Some (states_by_so client x states (by ∙ ap Some same)) }
 
-states_so : (client : ℕ) (tallies : List ClientTally) (states : List ChannelState) → states_told client tallies ≡ Some states → ToldStates client tallies states
+pub states_so : (client : ℕ) (tallies : List ClientTally) (states : List ChannelState) → states_told client tallies ≡ Some states → ToldStates client tallies states
 states_so client [] states is = absurd (cc (is))
 states_so client (x ∷ xs) states is = first_states client x xs states (states_by client x) refl is (λ later. states_so client xs states later)
 
@@ -239,10 +220,10 @@ logger_channel_at (Some c ∷ slots) (suc place) channel at = (let found : IsLog
 
 -- A record.
 
-abbrev record_run : (r : RunRecord) (quota : ℕ) (dump : List ℕ) (last_dump : Option (List ℕ)) (first_tallies last_tallies : List ClientTally) → SessionRun
-record_run r quota dump last_dump first_tallies last_tallies = record {
+abbrev record_run : (analyzers : ℕ) (r : RunRecord) (quota : ℕ) (dump : List ℕ) (last_dump : Option (List ℕ)) (first_tallies last_tallies : List ClientTally) → SessionRun
+record_run analyzers r quota dump last_dump first_tallies last_tallies = record {
   start = r.start;
-  first = start_sheet r.run r.time0 quota dump;
+  first = start_sheet analyzers r.run r.time0 quota dump;
   last = later_sheet (run_of r quota) r.time1 last_dump;
   first_tallies = first_tallies;
   last_tallies = last_tallies;
@@ -413,7 +394,7 @@ pub records_hold : RecordsHold
 records_hold c holds own more same r quota fits =
     let n : ℕ = logger_client c in
     let begun : CurrentRun = run_of r quota in
-    let run : SessionRun = record_run r quota fits.start.dump (dump_saved fits.stop.saved) fits.start.tallies fits.stop.tallies in
+    let run : SessionRun = record_run (length c.analyzers) r quota fits.start.dump (dump_saved fits.stop.saved) fits.start.tallies fits.stop.tallies in
     let early : List EngineEntry = fits.early.engine in
     let late : List EngineEntry = fits.late.engine in
     let joined : (early ++ late) ++ more ≡ engine_calls c main_caller = sym (same ∙ ap (λ (o : MainOwn). o.engine ++ more) fits.calls) in
@@ -440,4 +421,6 @@ records_hold c holds own more same r quota fits =
       files = λ place file at.
           file_record c holds run all.stopped r.run refl (states_told n fits.stop.tallies) refl place file (subst (λ (l : List FileRecord). slice_get l place ≡ Some file) tells.files at);
       each_file = λ index channel at. (let found : HasFile r.files (channel.name r.run) = listed index channel at in record { place = found.place; file = found.file; at = found.at; is = found.is });
+      many_reports = ap length tells.reports ∙ (many_reports c holds run all.stopped ∙ sym (many_analyzers c (suc (length c.fronts)) c.analyzers));
+      reports = report_record c holds run all.stopped r.reports tells.reports;
     }

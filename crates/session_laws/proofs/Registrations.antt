@@ -1,29 +1,51 @@
 -- How the members of a closed session are registered, and which of them wants the dump.
-use Rattle.std.specs.Prelude.{◌≡◌, ℕ, zero, suc, ◌+◌, List, [], ◌∷◌, ◌++◌, length, slice_get, Some, refl}
+use Rattle.std.specs.Prelude.{◌≡◌, ℕ, zero, suc, ◌+◌, ◌<◌, List, [], ◌∷◌, ◌++◌, length, map, slice_get, Some, refl}
 use Rattle.std.specs.List.{AllByRecursion}
-use Rattle.std.proofs.Common.{ap, sym, ◌∙◌, arith}
+use Rattle.std.proofs.Common.{ap, sym, subst, ◌∙◌, arith}
 use Rattle.daq_types.specs.Callers.{main_caller}
-use Rattle.run_states.specs.declared.sequences.Role.TheVariants.{FrontEnd, Logger}
+use Rattle.run_states.specs.declared.sequences.Role.TheVariants.{Analyzer, FrontEnd, Logger}
 use Rattle.transitions.specs.declared.entry.EngineEntry.{EngineEntry}
 use Rattle.engine_laws.specs.BegunTurns.{WantsAlone}
 use Rattle.session_engine.specs.declared.opening.MemberName.{MemberName}
-use Rattle.session_engine.specs.Members.{registration, registrations}
+use Rattle.session_engine.specs.Members.{member_in, registration, registrations}
 use Rattle.mid_logger.specs.ChannelTurns.{logger_name}
-use Rattle.session_laws.specs.ClosedSessions.{ClosedFront, members_of}
+use Rattle.session_laws.specs.ClosedSessions.{ClosedAnalyzer, ClosedFront, members_of}
 
 -- The members in their order.
 
-pub front_member : ClosedFront → MemberName
-front_member f = record { name = f.name; role = FrontEnd }
+abbrev pub analyzer_members : List ClosedAnalyzer → List MemberName
+analyzer_members readers = map (member_in Analyzer) (map (λ (a : ClosedAnalyzer). a.name) readers)
 
-pub front_at : (fs : List ClosedFront) (k : ℕ) (f : ClosedFront) → slice_get fs k ≡ Some f → (m : MemberName) × (slice_get (members_of fs) k ≡ Some m) × (m.role ≡ FrontEnd)
-front_at [] k f at = absurd (cc (at))
-front_at (g ∷ fs) zero f at = (record { name = g.name; role = FrontEnd }, refl, refl)
-front_at (g ∷ fs) (suc k) f at = front_at fs k f at
+pub front_at : (fs : List ClosedFront) (readers : List ClosedAnalyzer) (k : ℕ) (f : ClosedFront) → slice_get fs k ≡ Some f → (m : MemberName) × (slice_get (members_of fs readers) k ≡ Some m) × (m.role ≡ FrontEnd)
+front_at [] readers k f at = absurd (cc (at))
+front_at (g ∷ fs) readers zero f at = (record { name = g.name; role = FrontEnd }, refl, refl)
+front_at (g ∷ fs) readers (suc k) f at = front_at fs readers k f at
 
-pub logger_at : (fs : List ClosedFront) → (m : MemberName) × (slice_get (members_of fs) (length fs) ≡ Some m) × (m.role ≡ Logger)
-logger_at [] = (record { name = logger_name; role = Logger }, refl, refl)
-logger_at (f ∷ fs) = logger_at fs
+pub logger_at : (fs : List ClosedFront) (readers : List ClosedAnalyzer) → (m : MemberName) × (slice_get (members_of fs readers) (length fs) ≡ Some m) × (m.role ≡ Logger)
+logger_at [] readers = (record { name = logger_name; role = Logger }, refl, refl)
+logger_at (f ∷ fs) readers = logger_at fs readers
+
+reader_at : (readers : List ClosedAnalyzer) (k : ℕ) (a : ClosedAnalyzer) → slice_get readers k ≡ Some a → (m : MemberName) × (slice_get (analyzer_members readers) k ≡ Some m) × (m.role ≡ Analyzer)
+reader_at [] k a at = absurd (cc (at))
+reader_at (x ∷ readers) zero a at = (record { name = x.name; role = Analyzer }, refl, refl)
+reader_at (x ∷ readers) (suc k) a at = reader_at readers k a at
+
+-- the member of this client number is that of an analyzer
+pub record AtReader (fs : List ClosedFront) (readers : List ClosedAnalyzer) (client : ℕ) : Type 0 where
+  pub member : MemberName
+  pub at : slice_get (members_of fs readers) client ≡ Some member
+  pub role : member.role ≡ Analyzer
+
+pub analyzer_at : (fs : List ClosedFront) (readers : List ClosedAnalyzer) (k client : ℕ) (a : ClosedAnalyzer) → slice_get readers k ≡ Some a → client ≡ suc (length fs) + k → AtReader fs readers client
+analyzer_at [] readers k zero a at is = absurd (omega arith)
+analyzer_at [] readers k (suc n) a at is =
+    let same : k ≡ n = omega arith in
+    let found = reader_at readers n a (subst (λ (i : ℕ). slice_get readers i ≡ Some a) same at) in
+    record { member = found.0; at = found.1; role = found.2 }
+analyzer_at (f ∷ fs) readers k zero a at is = absurd (omega arith)
+analyzer_at (f ∷ fs) readers k (suc n) a at is =
+    let found = analyzer_at fs readers k n a at (omega arith) in
+    record { member = found.member; at = found.at; role = found.role }
 
 -- One registration among them.
 
@@ -59,6 +81,10 @@ behind_all first (m ∷ ms) (x ∷ xs) b ys zs none is =
 
 -- The dump.
 
-pub wants_dump : (first n : ℕ) (fs : List ClosedFront) → first + length fs ≡ n → AllByRecursion (λ e. WantsAlone n (main_caller, e)) (registrations first (members_of fs))
-wants_dump first n [] number = (((λ is. omega arith), (λ is. refl)), tt)
-wants_dump first n (f ∷ fs) number = (((λ is. absurd (cc (is))), (λ is. absurd (omega arith))), wants_dump (suc first) n fs (omega arith))
+readers_want : (first n : ℕ) (readers : List ClosedAnalyzer) → n < first → AllByRecursion (λ e. WantsAlone n (main_caller, e)) (registrations first (analyzer_members readers))
+readers_want first n [] past = tt
+readers_want first n (a ∷ readers) past = (((λ is. absurd (cc (is))), (λ is. absurd (omega arith))), readers_want (suc first) n readers (omega arith))
+
+pub wants_dump : (first n : ℕ) (fs : List ClosedFront) (readers : List ClosedAnalyzer) → first + length fs ≡ n → AllByRecursion (λ e. WantsAlone n (main_caller, e)) (registrations first (members_of fs readers))
+wants_dump first n [] readers number = (((λ is. omega arith), (λ is. refl)), readers_want (suc first) n readers (omega arith))
+wants_dump first n (f ∷ fs) readers number = (((λ is. absurd (cc (is))), (λ is. absurd (omega arith))), wants_dump (suc first) n fs readers (omega arith))

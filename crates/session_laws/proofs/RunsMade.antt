@@ -14,11 +14,12 @@ use Rattle.transitions.specs.Engines.{engine_opening}
 use Rattle.member_model.specs.LoggerKept.{LoggerChannel}
 use Rattle.engine_laws.specs.BegunTurns.{HasTransition}
 use Rattle.engine_laws.specs.EngineLaws.{MainHasTransition}
-use Rattle.composition.specs.Sessions.{Session, SessionFront, HasFront}
-use Rattle.composition.specs.SessionRuns.{SessionRun, IsStoppedRun, ToldState}
+use Rattle.event_report.specs.Reports.{Totals}
+use Rattle.composition.specs.Sessions.{Session, SessionAnalyzer, SessionFront, HasAnalyzer, HasFront}
+use Rattle.composition.specs.SessionRuns.{SessionRun, IsStoppedRun, TellsTotals, ToldState}
 use Rattle.composition.specs.CompositionLaws.{IsComposed}
 use Rattle.session_engine.specs.MadeTransitions.{TransitionIn}
-use Rattle.session_laws.specs.MadeRuns.{FrontHolds, IsFileSo, ChannelHolds}
+use Rattle.session_laws.specs.MadeRuns.{FrontHolds, IsFileSo, ChannelHolds, ReportIsSo, ReaderHolds}
 use Rattle.session_laws.specs.EndLaws.{MadeAreStopped, StoppedHold}
 
 pub has_made : MainHasTransition → (history : EngineHistory) (t : Transition) (sheet : Sheet) (start : ℕ) (outcome : StartOutcome) (tallies : List ClientTally) → IsLegalEngine engine_opening history
@@ -55,5 +56,21 @@ channel_holds s composed r run index channel at =
     let told = composed.channels_told r run index channel at in
     record { state = told.0; told = told.1; so = told.2; file = file_so s composed r run index channel at told.0 told.1 }
 
+pub report_so : (s : Session) → IsComposed s → (r : SessionRun) → IsStoppedRun s r → (a : SessionAnalyzer) → HasAnalyzer s a → (report : Totals) → TellsTotals r a.client report → ReportIsSo s r a report
+report_so s composed r run a has report tells = record {
+  told = composed.reports_so r run a has report tells;
+  whole = composed.reports_whole r a has report (composed.reports_so r run a has report tells);
+}
+
+reader_holds : (s : Session) → IsComposed s → (r : SessionRun) → IsStoppedRun s r → (a : SessionAnalyzer) → HasAnalyzer s a → ReaderHolds s r a
+reader_holds s composed r run a has =
+    let told = composed.reports_told r run a has in
+    record { report = told.0; tells = told.1; so = report_so s composed r run a has told.0 told.1 }
+
 pub stopped_hold : StoppedHold
-stopped_hold s composed r run = record { stopped = run; fronts = front_holds s composed r run; channels = channel_holds s composed r run }
+stopped_hold s composed r run = record {
+  stopped = run;
+  fronts = front_holds s composed r run;
+  channels = channel_holds s composed r run;
+  analyzers = reader_holds s composed r run;
+}

@@ -128,7 +128,7 @@ module _ (laws : UndoneLaws) (c : ClosedSession) (ends : MembersAtEnd c) where
   called_off start r =
       let n : ℕ = logger_client c in
       let has : HasTransition c.engine Start r.sheet start (Refused r.client r.why) r.tallies = has_made laws.main c.engine Start r.sheet start (Refused r.client r.why) r.tallies ends.engine r.made in
-      let m = logger_at c.fronts in
+      let m = logger_at c.fronts c.analyzers in
       let is : IsRegisteredIn has.earlier n StartAbort =
       registered c ends n m.0 m.1 StartAbort 800 (ap (λ (role : Role). sequence_for (sequences_of role) StartAbort) m.2) (λ client. []) has.earlier (has.between ++ (has.closer, Check (Done (Refused r.client r.why)) r.tallies) ∷ has.later) has.opener Start r.sheet start has.whole in
       laws.calls_off (logger_caller c) n c.engine ends.engine (speaks n c.engine (names_own c ends)) r.sheet start r.client r.why r.tallies has is

@@ -1,10 +1,9 @@
 -- A session whose objects are closed: the one history of each object, its members, and the run files.
-use Rattle.std.specs.Prelude.{ℕ, suc, Bool, List, [], ◌∷◌, length, slice_get, Option, Some, None}
+use Rattle.std.specs.Prelude.{◌≡◌, ℕ, suc, ◌+◌, Bool, List, [], ◌∷◌, length, map, slice_get, Option, Some, None}
 use Rattle.daq_types.specs.Callers.{caller_of_client, entries_by}
 use Rattle.daq_types.specs.declared.events.Event.{Event}
 use Rattle.daq_types.specs.declared.runs.Order.{Order}
 use Rattle.daq_io.specs.Seen.{Seen}
-use Rattle.run_states.specs.declared.sequences.Role.TheVariants.{FrontEnd, Logger}
 use Rattle.buffer_core.specs.declared.entry.BufferEntry.{BufferEntry}
 use Rattle.buffer_core.specs.Window.{opening}
 use Rattle.buffer_core.specs.Histories.{History}
@@ -18,7 +17,9 @@ use Rattle.mid_logger.specs.declared.channel.Channel.{Channel}
 use Rattle.mid_logger.specs.ChannelTurns.{logger_name}
 use Rattle.loggers.specs.LoggerStands.{logger_channels}
 use Rattle.session_engine.specs.declared.opening.MemberName.{MemberName}
-use Rattle.composition.specs.Sessions.{Session, SessionFront}
+use Rattle.session_engine.specs.Members.{members_named}
+use Rattle.analyzers.specs.declared.analyzer_run.EventRequest.{EventRequest}
+use Rattle.composition.specs.Sessions.{HasFront, Session, SessionAnalyzer, SessionFront}
 
 -- a buffer: its size, and all calls on it from its opening on
 pub record ClosedBuffer : Type 0 where
@@ -32,9 +33,16 @@ pub record ClosedFront : Type 0 where
   pub takes : Order → Bool
   pub makes : Order → ℕ → Event
 
+-- an analyzer: its name, the number of its buffer, and which events it asks for there
+pub record ClosedAnalyzer : Type 0 where
+  pub name : List ℕ
+  pub buffer : ℕ
+  pub wanted : EventRequest
+
 -- A session: its buffers, each at its number; the history of the engine; what the database opened with, and its history; the
--- front-ends, each at its client number; the logger's channels, each at its number; and the run files, as they were at first
--- and as they are. The logger's client number is the one behind those of the front-ends.
+-- front-ends, each at its client number; the logger's channels, each at its number; the analyzers, in order; and the run files,
+-- as they were at first and as they are. The logger's client number is the one behind those of the front-ends, and behind it
+-- come those of the analyzers.
 pub record ClosedSession : Type 0 where
   pub buffers : List ClosedBuffer
   pub engine : EngineHistory
@@ -42,15 +50,26 @@ pub record ClosedSession : Type 0 where
   pub database : List (ℕ × WatchEntry)
   pub fronts : List ClosedFront
   pub slots : List (Option Channel)
+  pub analyzers : List ClosedAnalyzer
   pub first_files : Seen
   pub files : Seen
 
--- the client numbers are those below the logger's and the logger's own
+-- the client numbers are those below the logger's, the logger's own, and those behind it
 abbrev pub logger_client : ClosedSession → ℕ
 logger_client c = length c.fronts
 
 abbrev pub logger_caller : ClosedSession → ℕ
 logger_caller c = caller_of_client (logger_client c)
+
+abbrev pub analyzer_client : ClosedSession → (place : ℕ) → ℕ
+analyzer_client c place = suc (length c.fronts) + place
+
+-- the last of the members, and its caller
+abbrev pub last_client : ClosedSession → ℕ
+last_client c = length c.fronts + length c.analyzers
+
+abbrev pub last_caller : ClosedSession → ℕ
+last_caller c = caller_of_client (last_client c)
 
 -- a number that no buffer has stands for one that has no room and no calls
 abbrev pub size_in : Option ClosedBuffer → ℕ
@@ -82,10 +101,10 @@ calls_on_database c by = entries_by by c.database
 abbrev pub got_from_buffer : ClosedSession → (by buffer : ℕ) → List GotEvent
 got_from_buffer c by buffer = given_in by (opening (size_of_buffer c buffer)) (history_of_buffer c buffer)
 
--- how the members are registered: the front-ends in order, and then the logger
-abbrev pub members_of : List ClosedFront → List MemberName
-members_of [] = record { name = logger_name; role = Logger } ∷ []
-members_of (f ∷ fs) = record { name = f.name; role = FrontEnd } ∷ members_of fs
+-- how the members are registered: the front-ends in order, then the logger, and then the analyzers in order
+abbrev pub members_of : List ClosedFront → List ClosedAnalyzer → List MemberName
+members_of fronts analyzers =
+    members_named (map (λ (f : ClosedFront). f.name) fronts) logger_name (map (λ (a : ClosedAnalyzer). a.name) analyzers)
 
 -- The session as the law of composition sees it.
 
@@ -105,7 +124,21 @@ abbrev pub session_fronts : (client : ℕ) → List ClosedFront → (moments : (
 session_fronts client [] moments = []
 session_fronts client (f ∷ fs) moments = session_front client f (moments client) ∷ session_fronts (suc client) fs moments
 
--- A channel that has no client is listed with number 0 for it. There are no analyzers.
+-- an analyzer with its client number, and what its calls on its buffer gave
+abbrev pub session_analyzer : ClosedSession → (client : ℕ) → ClosedAnalyzer → SessionAnalyzer
+session_analyzer c client a = record {
+  client = client;
+  buffer = a.buffer;
+  wanted = a.wanted;
+  got = got_from_buffer c (caller_of_client client) a.buffer;
+}
+
+-- the analyzers with the client numbers from this one on
+abbrev pub session_analyzers : ClosedSession → (client : ℕ) → List ClosedAnalyzer → List SessionAnalyzer
+session_analyzers c client [] = []
+session_analyzers c client (a ∷ analyzers) = session_analyzer c client a ∷ session_analyzers c (suc client) analyzers
+
+-- A channel that has no client is listed with number 0 for it.
 abbrev pub session_of : ClosedSession → (moments : (client : ℕ) → List ℕ) → Session
 session_of c moments = record {
   size = λ buffer. size_of_buffer c buffer;
@@ -116,6 +149,16 @@ session_of c moments = record {
   logger = logger_client c;
   channels = logger_channels (λ number. 0) c.slots;
   got = λ buffer. got_from_buffer c (logger_caller c) buffer;
-  analyzers = [];
+  analyzers = session_analyzers c (suc (length c.fronts)) c.analyzers;
   files = c.files;
 }
+
+-- The members of a closed session stand in that session, each under its client number: the front-ends, and no others, and the
+-- analyzers.
+pub record ListsMembers (c : ClosedSession) (moments : (client : ℕ) → List ℕ) : Type 0 where
+  pub fronts : (client : ℕ) → (f : ClosedFront) → slice_get c.fronts client ≡ Some f →
+      slice_get (session_of c moments).fronts client ≡ Some (session_front client f (moments client))
+  pub front_of : (f : SessionFront) → HasFront (session_of c moments) f → (client : ℕ) × (front : ClosedFront)
+      × (slice_get c.fronts client ≡ Some front) × (f ≡ session_front client front (moments client))
+  pub analyzers : (place : ℕ) → (a : ClosedAnalyzer) → slice_get c.analyzers place ≡ Some a →
+      slice_get (session_of c moments).analyzers place ≡ Some (session_analyzer c (analyzer_client c place) a)

@@ -1,5 +1,5 @@
 -- What the counts of a closed session's run files tell of its starts, its channels and the names of the files.
-use Rattle.std.specs.Prelude.{◌≡◌, ℕ, false, true, IsTrue, List, slice_get, Contains, Option, Some, None, ◌⊎◌}
+use Rattle.std.specs.Prelude.{◌≡◌, ℕ, false, true, IsTrue, List, ◌<◌, length, slice_get, Option, Some, None, ◌⊎◌}
 use Rattle.daq_types.specs.Callers.{main_caller}
 use Rattle.daq_types.specs.declared.runs.ChannelState.{ChannelState}
 use Rattle.daq_types.specs.declared.runs.ChannelState.TheVariants.{Broken, Ended, NoEnd}
@@ -11,7 +11,6 @@ use Rattle.daq_types.specs.declared.runs.Why.{Why}
 use Rattle.daq_types.specs.declared.runs.Why.TheVariants.{NotReady, Exists, Fault, BufferRefused}
 use Rattle.daq_io.specs.Counts.{Rose}
 use Rattle.daq_io.specs.Seen.{Stored}
-use Rattle.buffer_core.specs.declared.entry.BufferEntry.{BufferEntry}
 use Rattle.transitions.specs.declared.sheet.Sheet.{Sheet}
 use Rattle.transitions.specs.declared.answers.ClientTally.{ClientTally}
 use Rattle.transitions.specs.EngineCalls.{order_for}
@@ -20,10 +19,10 @@ use Rattle.member_model.specs.LoggerKept.{LoggerChannel}
 use Rattle.loggers.specs.Moments.{RunFiles}
 use Rattle.loggers.specs.LoggerStands.{logger_channels}
 use Rattle.loggers.specs.NewLoggers.{NoneTakenBack}
-use Rattle.loggers.specs.Reasons.{IsRefusedAsk, GivesReasons}
+use Rattle.loggers.specs.Reasons.{GivesReasons}
 use Rattle.loggers.specs.LeftNames.{NoneRose, KeepsNames}
 use Rattle.composition.specs.SessionRuns.{SessionRun, ToldState}
-use Rattle.session_laws.specs.ClosedSessions.{ClosedFront, ClosedSession, logger_client, logger_caller, engine_calls, calls_on_buffer, session_of}
+use Rattle.session_laws.specs.ClosedSessions.{ClosedFront, ClosedSession, logger_client, logger_caller, engine_calls, session_of, ClosedAnalyzer, analyzer_client}
 use Rattle.session_laws.specs.MembersAtEnd.{MembersAtEnd}
 use Rattle.session_engine.specs.MadeTransitions.{TransitionIn}
 use Rattle.session_laws.specs.MadeRuns.{RunIn}
@@ -48,25 +47,29 @@ pub record IsFrontRefusal (c : ClosedSession) (order : Order) (client : ℕ) (wh
   pub why_is : why ≡ NotReady
   pub no_part : front.takes order ≡ false
 
--- a call of the logger on a buffer, to attach a client, to make a request or to begin a run, was refused
-pub record WasRefusedAsk (c : ClosedSession) : Type 0 where
-  pub buffer : ℕ
-  pub entry : BufferEntry
-  pub among : Contains (calls_on_buffer c (logger_caller c) buffer) entry
-  pub refused : IsRefusedAsk entry
+-- Why the logger refuses a start: for a name, where a clash of names was counted, or for a fault, where one was.
+abbrev pub IsLoggerReason : Why → (first now : RunFiles) → Type 0
+IsLoggerReason NotReady first now = ⊥
+IsLoggerReason (Exists channel) first now = Rose first.clashes now.clashes
+IsLoggerReason (Fault channel) first now = Rose first.faults now.faults
+IsLoggerReason BufferRefused first now = ⊥
 
--- Why the logger refuses a start: for a name only where a clash of names was counted, for a fault only where one was, and for a
--- buffer only where that refused a call; and never as not ready.
-abbrev pub IsLoggerReason : ClosedSession → Why → (first now : RunFiles) → Type 0
-IsLoggerReason c NotReady first now = ⊥
-IsLoggerReason c (Exists channel) first now = Rose first.clashes now.clashes
-IsLoggerReason c (Fault channel) first now = Rose first.faults now.faults
-IsLoggerReason c BufferRefused first now = WasRefusedAsk c
+-- The client is an analyzer that refused a start with this sheet as NotReady: the sheet has fewer blank reports than there are
+-- analyzers.
+pub record IsReaderRefusal (c : ClosedSession) (sheet : Sheet) (client : ℕ) (why : Why) : Type 0 where
+  pub place : ℕ
+  pub analyzer : ClosedAnalyzer
+  pub stands : slice_get c.analyzers place ≡ Some analyzer
+  pub is : client ≡ analyzer_client c place
+  pub why_is : why ≡ NotReady
+  pub few_blanks : length sheet.blanks < length c.analyzers
 
--- A start with this order was refused by this client for this reason: by a front-end, or by the logger.
-abbrev pub IsRefusedSo : ClosedSession → (first now : RunFiles) → Order → (client : ℕ) → Why → Type 0
-IsRefusedSo c first now order client why =
-    IsFrontRefusal c order client why ⊎ ((client ≡ logger_client c) × IsLoggerReason c why first now)
+-- A start with this sheet and this number was refused by this client for this reason: by a front-end, by the logger, or by an
+-- analyzer. No buffer is a reason.
+abbrev pub IsRefusedSo : ClosedSession → (first now : RunFiles) → Sheet → (start client : ℕ) → Why → Type 0
+IsRefusedSo c first now sheet start client why =
+    IsFrontRefusal c (order_for sheet start Stopped) client why
+    ⊎ (((client ≡ logger_client c) × IsLoggerReason why first now) ⊎ IsReaderRefusal c sheet client why)
 
 -- how the file of a channel ends that did not break off, where the stop's sheet has this dump
 abbrev pub state_by_dump : (dump : Option (List ℕ)) → ChannelState
@@ -82,7 +85,7 @@ state_by_dump (Some dump) = Ended
 pub record CountsHold (c : ClosedSession) (first now : RunFiles) : Type 0 where
   pub refused : (sheet : Sheet) → (start client : ℕ) → (why : Why) → (tallies : List ClientTally) →
       TransitionIn (engine_calls c main_caller) Start sheet start (Refused client why) tallies →
-      IsRefusedSo c first now (order_for sheet start Stopped) client why
+      IsRefusedSo c first now sheet start client why
   pub started : (sheet : Sheet) → (start : ℕ) → (tallies : List ClientTally) →
       TransitionIn (engine_calls c main_caller) Start sheet start Completed tallies →
       (client : ℕ) → (f : ClosedFront) → slice_get c.fronts client ≡ Some f →
@@ -98,8 +101,8 @@ pub record CountsHold (c : ClosedSession) (first now : RunFiles) : Type 0 where
   pub kept : IsTrue first.seen.tells → NoneRose first now → (name : List ℕ) → (file : Stored) →
       first.seen.at name ≡ Some file → now.seen.at name ≡ Some file
   pub taken : IsTrue first.seen.tells → NoneRose first now → AreStartsOver (engine_calls c main_caller) →
-      (sheet : Sheet) → (start client number : ℕ) → (tallies : List ClientTally) →
-      TransitionIn (engine_calls c main_caller) Start sheet start (Refused client (Exists number)) tallies →
+      (sheet : Sheet) → (start number : ℕ) → (tallies : List ClientTally) →
+      TransitionIn (engine_calls c main_caller) Start sheet start (Refused (logger_client c) (Exists number)) tallies →
       IsTakenName c first.seen sheet.run start number
 
 -- So it is with a closed session, by what the logger's answers rest on and by the names that it left.

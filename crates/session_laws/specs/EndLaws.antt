@@ -4,7 +4,7 @@ use Rattle.daq_types.specs.Callers.{entries_by, main_caller}
 use Rattle.composition.specs.Sessions.{Session, EngineLegal, MembersKeep}
 use Rattle.composition.specs.SessionRuns.{SessionRun, IsStoppedRun}
 use Rattle.composition.specs.CompositionLaws.{IsComposed}
-use Rattle.session_laws.specs.ClosedSessions.{ClosedSession, calls_on_database, session_of}
+use Rattle.session_laws.specs.ClosedSessions.{ClosedSession, ListsMembers, calls_on_database, session_of}
 use Rattle.session_laws.specs.MembersAtEnd.{MembersAtEnd}
 use Rattle.session_laws.specs.MadeRuns.{RunIn, RunHolds}
 use Rattle.session_laws.specs.OtherNames.{IsOtherName}
@@ -19,6 +19,10 @@ EndsKeep = (c : ClosedSession) → MembersAtEnd c →
 abbrev pub EndsComposed : Type 0
 EndsComposed = (c : ClosedSession) → MembersAtEnd c →
     (moments : (client : ℕ) → List ℕ) × IsComposed (session_of c moments)
+
+-- The members of a closed session stand under their client numbers, whatever the moments of the front-ends' turns.
+abbrev pub MembersListed : Type 0
+MembersListed = (c : ClosedSession) → (moments : (client : ℕ) → List ℕ) → ListsMembers c moments
 
 -- A run that the main thread's own calls tell is one of the session that was not refused and was stopped.
 abbrev pub MadeAreStopped : Type 0

@@ -5,3 +5,5 @@ pub mod OtherNames
 pub mod EndLaws
 pub mod CountedFaults
 pub mod RecordedRuns
+pub mod OneAnswer
+pub mod RefusedRecords

@@ -1,15 +1,22 @@
 -- A run that the main thread's own calls on the engine tell, and all that is so of it.
 use Rattle.std.specs.Prelude.{◌≡◌, ℕ, List, slice_get, Some, ⊤}
+use Rattle.daq_types.specs.Callers.{caller_of_client, entries_by}
 use Rattle.daq_types.specs.declared.runs.ChannelState.{ChannelState}
 use Rattle.daq_types.specs.declared.runs.ChannelState.TheVariants.{Ended, Broken}
 use Rattle.daq_types.specs.declared.runs.FrontEnded.{FrontEnded}
 use Rattle.daq_types.specs.declared.runs.StartOutcome.TheVariants.{Completed}
 use Rattle.daq_types.specs.declared.runs.Transition.TheVariants.{Start, Stop}
+use Rattle.buffer_core.specs.Histories.{History}
+use Rattle.buffer_core.specs.Ports.{GotEvent}
 use Rattle.transitions.specs.declared.entry.EngineEntry.{EngineEntry}
+use Rattle.member_model.specs.Turns.{MemberTurn}
 use Rattle.member_model.specs.LoggerKept.{LoggerChannel, IsStateSo}
 use Rattle.session_engine.specs.MadeTransitions.{TransitionIn}
-use Rattle.composition.specs.Sessions.{Session, SessionFront, HasFront, buffer_calls}
-use Rattle.composition.specs.SessionRuns.{SessionRun, IsStoppedRun, TellsFront, FrontSent, SetAtStop, ToldState, HoldsRunFile, HoldsFilePart}
+use Rattle.event_report.specs.Reports.{Totals}
+use Rattle.analyzers.specs.declared.analyzer_run.EventRequest.{EventRequest}
+use Rattle.analyzers.specs.AnalyzerKept.{IsReportOfRun}
+use Rattle.composition.specs.Sessions.{Session, SessionAnalyzer, SessionFront, HasAnalyzer, HasFront, buffer_calls, turns_of}
+use Rattle.composition.specs.SessionRuns.{SessionRun, IsStoppedRun, TellsFront, FrontSent, SetAtStop, ToldState, HoldsRunFile, HoldsFilePart, TellsTotals, SawThrough, CountsAll}
 
 -- A run stands among these calls: its start, which was not refused, and a stop with its start number.
 pub record RunIn (own : List EngineEntry) (r : SessionRun) : Type 0 where
@@ -39,8 +46,30 @@ pub record ChannelHolds (s : Session) (r : SessionRun) (channel : LoggerChannel)
   pub so : IsStateSo (buffer_calls s channel.buffer s.logger) r.start r.last.dump state
   pub file : IsFileSo state s r channel
 
--- The run was not refused, and was stopped; and what holds of it in each front-end and each channel.
+-- What was told of a run is the report of it, by the history of a buffer and a caller that asked there for events like these,
+-- got these, and has these turns on the engine: the caller made its request at the run's start, the only one that stood, was told
+-- how many events the buffer had taken, and then found nothing or got an event at or behind that number, all while the request
+-- stood; and the report is that of the events of the run that it got from the request on until then. And where the caller saw the
+-- run through by that request, it counted all events of the run that it asked for, and got no others of the run.
+pub record ReportHolds (history : History) (caller : ℕ) (asked : EventRequest) (got : List GotEvent) (turns : List MemberTurn)
+    (start : ℕ) (report : Totals) : Type 0 where
+  pub told : IsReportOfRun asked (entries_by caller history) got turns start report
+  pub whole : SawThrough history caller told → CountsAll history told
+
+-- so it is with a report of an analyzer of a session
+abbrev pub ReportIsSo : Session → SessionRun → SessionAnalyzer → Totals → Type 0
+ReportIsSo s r a report =
+    ReportHolds (s.history a.buffer) (caller_of_client a.client) a.wanted a.got (turns_of s a.client) r.start report
+
+-- An analyzer in the run: it told a report at the stop, and that is so.
+pub record ReaderHolds (s : Session) (r : SessionRun) (a : SessionAnalyzer) : Type 0 where
+  pub report : Totals
+  pub tells : TellsTotals r a.client report
+  pub so : ReportIsSo s r a report
+
+-- The run was not refused, and was stopped; and what holds of it in each front-end, each channel, and each analyzer.
 pub record RunHolds (s : Session) (r : SessionRun) : Type 0 where
   pub stopped : IsStoppedRun s r
   pub fronts : (f : SessionFront) → HasFront s f → FrontHolds s r f
   pub channels : (index : ℕ) → (channel : LoggerChannel) → slice_get s.channels index ≡ Some channel → ChannelHolds s r channel
+  pub analyzers : (a : SessionAnalyzer) → HasAnalyzer s a → ReaderHolds s r a

@@ -1,6 +1,6 @@
 -- What is known of a session's members when its objects are closed: each history is legal, and each caller's calls are those
 -- of a member that keeps its contract, or of the main thread.
-use Rattle.std.specs.Prelude.{◌≡◌, ◌≢◌, ℕ, ◌<◌, true, List, [], ◌++◌, length, slice_get, Option, Some, ⊤}
+use Rattle.std.specs.Prelude.{◌≡◌, ◌≢◌, ℕ, ◌<◌, ◌≤◌, true, List, [], ◌++◌, length, slice_get, Option, Some}
 use Rattle.std.specs.List.{AllByRecursion}
 use Rattle.daq_types.specs.Callers.{caller_of_client, main_caller}
 use Rattle.buffer_core.specs.Window.{opening}
@@ -8,7 +8,6 @@ use Rattle.buffer_core.specs.Histories.{History, IsLegal}
 use Rattle.buffer_core.specs.Ports.{Access}
 use Rattle.local_port.specs.Ported.{given_in, taken_back_in}
 use Rattle.transitions.specs.declared.entry.EngineEntry.{EngineEntry}
-use Rattle.transitions.specs.declared.entry.EngineEntry.TheVariants.{Begin, Check, Close}
 use Rattle.transitions.specs.Engines.{engine_opening}
 use Rattle.transitions.specs.EngineHistories.{IsLegalEngine}
 use Rattle.odb_watch.specs.Steps.{IsLegalDatabase}
@@ -21,10 +20,13 @@ use Rattle.loggers.specs.NewLoggers.{NoneTakenBack}
 use Rattle.loggers.specs.LoggerStands.{LoggerStands}
 use Rattle.loggers.specs.OtherFiles.{specs_in, KeepsOtherFiles}
 use Rattle.session_engine.specs.Members.{registrations}
+use Rattle.session_runs.specs.RunsFit.{SteersEngine}
 use Rattle.daq_members.specs.OwnTurns.{are_calls_for}
 use Rattle.daq_members.specs.StartedRuns.{started_runs}
 use Rattle.daq_members.specs.FrontTaken.{FrontMemberStands}
-use Rattle.session_laws.specs.ClosedSessions.{ClosedBuffer, ClosedFront, ClosedSession, logger_client, logger_caller, members_of, engine_calls, calls_on_buffer, calls_on_database}
+use Rattle.analyzers.specs.Analyzers.{AnalyzerState}
+use Rattle.analyzer_seats.specs.AnalyzerTaken.{AnalyzerMemberStands}
+use Rattle.session_laws.specs.ClosedSessions.{ClosedAnalyzer, ClosedBuffer, ClosedFront, ClosedSession, logger_client, logger_caller, analyzer_client, last_caller, members_of, engine_calls, calls_on_buffer, calls_on_database, got_from_buffer}
 
 -- The front-end with this client number: on the engine it polls and answers for its own client alone; it keeps its contract
 -- over its calls on the engine, on its buffer and on the database; and it called on no other buffer.
@@ -60,25 +62,28 @@ pub record LoggerAtEnd (c : ClosedSession) : Type 0 where
       KeepsOtherFiles (specs_in c.slots) (started_runs (member_turns (logger_client c) (engine_calls c (logger_caller c))))
       c.first_files c.files
 
--- the call begins a transition, checks one, or closes the engine
-abbrev pub SteersEngine : EngineEntry → Type 0
-SteersEngine (Begin transition sheet reply) = ⊤
-SteersEngine (Check reply tallies) = ⊤
-SteersEngine (Close reply) = ⊤
-SteersEngine entry = ⊥
+-- The analyzer with this client number: on the engine it polls and answers for its own client alone; it keeps its contract over
+-- its calls on the engine and on its buffer, and what these gave; and it called on no other buffer.
+pub record AnalyzerAtEnd (c : ClosedSession) (client : ℕ) (a : ClosedAnalyzer) : Type 0 where
+  pub speaks : are_calls_for client (engine_calls c (caller_of_client client)) ≡ true
+  pub analyzer : AnalyzerState
+  pub wanted : analyzer.wanted ≡ a.wanted
+  pub stands : AnalyzerMemberStands client analyzer (engine_calls c (caller_of_client client))
+      (calls_on_buffer c (caller_of_client client) a.buffer) (got_from_buffer c (caller_of_client client) a.buffer)
+  pub elsewhere : (buffer : ℕ) → buffer ≢ a.buffer → calls_on_buffer c (caller_of_client client) buffer ≡ []
 
 -- The main thread: on the engine it registered the members, and then made and ended transitions; and it called on no buffer.
 pub record MainAtEnd (c : ClosedSession) : Type 0 where
   pub later : List EngineEntry
-  pub calls : engine_calls c main_caller ≡ registrations 0 (members_of c.fronts) ++ later
+  pub calls : engine_calls c main_caller ≡ registrations 0 (members_of c.fronts c.analyzers) ++ later
   pub steers : AllByRecursion SteersEngine later
   pub buffers : (buffer : ℕ) → calls_on_buffer c main_caller buffer ≡ []
 
 -- There are no callers of the engine and of the buffers but the main thread and the members, and none of the database but the
 -- main thread and the front-ends, whose callers are the numbers from 1 on.
 pub record NoOthers (c : ClosedSession) : Type 0 where
-  pub engine : (by : ℕ) → logger_caller c < by → engine_calls c by ≡ []
-  pub buffers : (by : ℕ) → logger_caller c < by → (buffer : ℕ) → calls_on_buffer c by buffer ≡ []
+  pub engine : (by : ℕ) → last_caller c < by → engine_calls c by ≡ []
+  pub buffers : (by : ℕ) → last_caller c < by → (buffer : ℕ) → calls_on_buffer c by buffer ≡ []
   pub database : (by : ℕ) → length c.fronts < by → calls_on_database c by ≡ []
 
 -- All that.
@@ -89,5 +94,8 @@ pub record MembersAtEnd (c : ClosedSession) : Type 0 where
   pub database : IsLegalDatabase c.opened c.database
   pub fronts : (client : ℕ) → (f : ClosedFront) → slice_get c.fronts client ≡ Some f → FrontAtEnd c client f
   pub logger : LoggerAtEnd c
+  pub analyzers : (place : ℕ) → (a : ClosedAnalyzer) → slice_get c.analyzers place ≡ Some a →
+      AnalyzerAtEnd c (analyzer_client c place) a
+  pub few_analyzers : length c.analyzers ≤ 8
   pub main : MainAtEnd c
   pub others : NoOthers c

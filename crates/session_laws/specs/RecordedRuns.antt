@@ -1,25 +1,24 @@
 -- What a closed session's histories and run files hold of the records of its runs.
-use Rattle.std.specs.Prelude.{◌≡◌, ◌≤◌, ℕ, List, [], ◌∷◌, ◌++◌, length, slice_get, Contains, Option, Some, None}
+use Rattle.std.specs.Prelude.{◌≡◌, ℕ, List, [], ◌∷◌, ◌++◌, length, slice_get, Option, Some, None}
 use Rattle.daq_types.specs.Callers.{entries_by, main_caller}
 use Rattle.member_model.specs.LoggerKept.{LoggerChannel}
 use Rattle.transitions.specs.declared.sheet.Sheet.{Sheet}
 use Rattle.transitions.specs.declared.entry.EngineEntry.{EngineEntry}
-use Rattle.buffer_core.specs.Slots.{slot_at}
 use Rattle.mid_logger.specs.declared.channel.Channel.{Channel}
 use Rattle.mid_logger.specs.declared.channel_spec.ChannelSpec.{ChannelSpec}
-use Rattle.loggers.specs.Moments.{channel_limit}
-use Rattle.loggers.specs.OtherFiles.{specs_in}
+use Rattle.loggers.specs.OtherFiles.{AreDeclared}
 use Rattle.run_records.specs.declared.records.FrontTally.{FrontTally}
 use Rattle.run_records.specs.declared.records.FileRecord.{FileRecord}
+use Rattle.run_records.specs.declared.records.ReportTally.{ReportTally}
 use Rattle.run_records.specs.declared.records.RunRecord.{RunRecord}
 use Rattle.session_runs.specs.declared.channels.RunChannel.{RunChannel}
 use Rattle.session_runs.specs.KeptRuns.{run_channel, channels_of}
 use Rattle.session_runs.specs.RunEntries.{start_sheet, later_sheet, dump_saved}
-use Rattle.session_runs.specs.RunsFit.{MainOwn, FitsWhole, run_of}
-use Rattle.composition.specs.Sessions.{Session, SessionFront}
-use Rattle.composition.specs.SessionRuns.{SessionRun, IsStoppedRun, TellsFront, FrontSent, SetAtStop, ToldState}
+use Rattle.session_runs.specs.RunsFit.{MainOwn, RunClients, FitsWhole, run_of}
+use Rattle.composition.specs.Sessions.{Session, SessionAnalyzer, SessionFront}
+use Rattle.composition.specs.SessionRuns.{SessionRun, IsStoppedRun, TellsFront, FrontSent, SetAtStop, TellsTotals, ToldState}
 use Rattle.session_laws.specs.ClosedSessions.{ClosedSession, logger_client, engine_calls, session_of}
-use Rattle.session_laws.specs.MadeRuns.{RunIn, IsFileSo}
+use Rattle.session_laws.specs.MadeRuns.{RunIn, IsFileSo, ReportIsSo}
 use Rattle.session_laws.specs.EndLaws.{SessionHolds}
 
 -- What the record has of a front-end is what this told at the stop; it sent that, the first events of its equipment, and set
@@ -41,6 +40,12 @@ pub record FileRecordHolds (s : Session) (run : SessionRun) (file : FileRecord) 
   pub told : ToldState s run channel file.state
   pub has : IsFileSo file.state s run channel
 
+-- What the record has of an analyzer is the report that this told at the stop, and that is so.
+pub record ReportRecordHolds (s : Session) (run : SessionRun) (a : SessionAnalyzer) (tally : ReportTally) : Type 0 where
+  pub client : tally.client ≡ a.client
+  pub tells : TellsTotals run a.client tally.report
+  pub so : ReportIsSo s run a tally.report
+
 -- the record has a file of this name
 pub record ListsFile (r : RunRecord) (name : List ℕ) : Type 0 where
   pub place : ℕ
@@ -49,8 +54,9 @@ pub record ListsFile (r : RunRecord) (name : List ℕ) : Type 0 where
   pub is : file.name ≡ name
 
 -- The record of a run that was not refused, which was started with the first and stopped with the last of these sheets: it is
--- that of a run of the session, and so is what it has of each front-end, at the place of its client number, and of each file.
--- The main thread's calls tell that run. The record has all front-ends, and a file for each channel.
+-- that of a run of the session, and so is what it has of each front-end, at the place of its client number, of each file, and of
+-- each analyzer, in the order of their client numbers. The main thread's calls tell that run. The record has all front-ends, a
+-- file for each channel, and all analyzers.
 pub record RecordHolds (s : Session) (r : RunRecord) (first last : Sheet) : Type 0 where
   pub run : SessionRun
   pub made : RunIn (entries_by main_caller s.engine) run
@@ -65,6 +71,9 @@ pub record RecordHolds (s : Session) (r : RunRecord) (first last : Sheet) : Type
   pub files : (place : ℕ) → (file : FileRecord) → slice_get r.files place ≡ Some file → FileRecordHolds s run file
   pub each_file : (index : ℕ) → (channel : LoggerChannel) → slice_get s.channels index ≡ Some channel →
       ListsFile r (channel.name run.first.run)
+  pub many_reports : length r.reports ≡ length s.analyzers
+  pub reports : (place : ℕ) → (a : SessionAnalyzer) → slice_get s.analyzers place ≡ Some a →
+      (tally : ReportTally) × (slice_get r.reports place ≡ Some tally) × ReportRecordHolds s run a tally
 
 -- the channels of a logger, as the records of its runs name them, in order of number
 abbrev pub run_channels : List (Option Channel) → List RunChannel
@@ -72,22 +81,19 @@ run_channels [] = []
 run_channels (None ∷ slots) = run_channels slots
 run_channels (Some c ∷ slots) = run_channel c.spec ∷ run_channels slots
 
--- The channels of these slots are those that were declared, each at its number.
-pub record AreDeclared (specs : List ChannelSpec) (slots : List (Option Channel)) : Type 0 where
-  pub few : length slots ≤ channel_limit
-  pub each : (number : ℕ) → (spec : ChannelSpec) → slot_at (specs_in slots) number ≡ Some spec →
-      Contains specs spec × (spec.number ≡ number)
-  pub all : (spec : ChannelSpec) → Contains specs spec → slot_at (specs_in slots) spec.number ≡ Some spec
-
--- Then the records name the channels that were declared, in order of number.
+-- Where the channels of these slots are those that were declared, the records name them in order of number.
 abbrev pub ChannelsAgree : Type 0
 ChannelsAgree = (specs : List ChannelSpec) → (slots : List (Option Channel)) → AreDeclared specs slots →
     run_channels slots ≡ channels_of specs
+
+-- who is told of in the records of the session's runs
+abbrev pub clients_in : ClosedSession → RunClients
+clients_in c = record { fronts = logger_client c; channels = run_channels c.slots; analyzers = length c.analyzers }
 
 -- The record of each run that was not refused holds so, where it fits the main thread's own calls up to some point, with the
 -- sheets that these calls tell: the dumps are what the database's text was saved as.
 abbrev pub RecordsHold : Type 0
 RecordsHold = (c : ClosedSession) → (holds : SessionHolds c) → (own : MainOwn) → (more : List EngineEntry) →
-    engine_calls c main_caller ≡ own.engine ++ more → (r : RunRecord) → (quota : ℕ) → (fits : FitsWhole (logger_client c) (run_channels c.slots) own (run_of r quota) r) →
+    engine_calls c main_caller ≡ own.engine ++ more → (r : RunRecord) → (quota : ℕ) → (fits : FitsWhole (clients_in c) own (run_of r quota) r) →
     RecordHolds (session_of c holds.moments) r
-    (start_sheet r.run r.time0 quota fits.start.dump) (later_sheet (run_of r quota) r.time1 (dump_saved fits.stop.saved))
+    (start_sheet (length c.analyzers) r.run r.time0 quota fits.start.dump) (later_sheet (run_of r quota) r.time1 (dump_saved fits.stop.saved))

@@ -1,9 +1,13 @@
 //! Laws of closed sessions: each function does nothing, and its contract is the law.
 
 ghost use Rattle.session_laws.specs.CountedFaults.{CountsTell};
+ghost use Rattle.session_laws.specs.OneAnswer.{OneAnswerEach};
 ghost use Rattle.session_laws.specs.RecordedRuns.{ChannelsAgree, RecordsHold};
-ghost use Rattle.session_laws.specs.EndLaws.{EndsKeep, EndsComposed, MadeAreStopped, StoppedHold, OtherNamesStay, EndsHold};
+ghost use Rattle.session_laws.specs.RefusedRecords.{RecordsRefused};
+ghost use Rattle.session_laws.specs.EndLaws.{EndsKeep, EndsComposed, MembersListed, MadeAreStopped, StoppedHold, OtherNamesStay, EndsHold};
 
+use analyzer_seats::laws as seats;
+use blank_laws::laws as blanks;
 use buffer_lock::laws as buffers;
 use caller_laws::laws as callers;
 use composition::laws as sessions;
@@ -22,6 +26,7 @@ pub fn members_keep()
     buffers::got_all();
     loggers_laws::logger_keeps();
     members::front_keeps();
+    seats::analyzers_keep();
 }
 
 /// So all that the law of composition says is so of a closed session.
@@ -32,6 +37,12 @@ pub fn ends_composed()
     sessions::composed();
 }
 
+/// The front-ends and the analyzers of a closed session stand in the session that the law of composition sees, each under its
+/// client number.
+pub fn members_listed()
+    ensures { MembersListed }
+{}
+
 /// A run that the main thread's own calls on the engine tell, by its start and its stop with their replies, is one of the
 /// session that was not refused and was stopped.
 pub fn made_are_stopped()
@@ -41,8 +52,9 @@ pub fn made_are_stopped()
 }
 
 /// Of a run that was not refused and was stopped: each front-end sent what it told at the stop, the first events of its
-/// equipment, and set that number in the database; and what was told of each channel is so: the file of one that ended is the
-/// run file of all events of the run that it asks for, that of one that broke off a part of it.
+/// equipment, and set that number in the database; what was told of each channel is so: the file of one that ended is the run
+/// file of all events of the run that it asks for, that of one that broke off a part of it; and each analyzer told a report, which
+/// is that of the events of the run that its client got.
 pub fn stopped_hold()
     ensures { StoppedHold }
 {}
@@ -71,10 +83,10 @@ pub fn channels_agree()
 {}
 
 /// Of a closed session, by the counts of its run files: a start was refused by a front-end as NotReady, whose equipment takes
-/// no part in the run, or by the logger, for a name only where a clash was counted, for a fault only where one was, and for a buffer only where that
-/// refused a call; each
-/// front-end's equipment takes part in a run that was started; and where no fault was counted each channel of each run ended,
-/// or the stop's sheet had no dump, and each name that no channel gives in a run that came about is as it was.
+/// no part in the run; by the logger, for a name only where a clash was counted, and for a fault only where one was; or by an
+/// analyzer as NotReady, only where the sheet had fewer blank reports than there are analyzers. No start was refused for a
+/// buffer. Each front-end's equipment takes part in a run that was started; and where no fault was counted each channel of each
+/// run ended, or the stop's sheet had no dump, and each name that no channel gives in a run that came about is as it was.
 pub fn counts_tell()
     ensures { CountsTell }
 {
@@ -87,6 +99,11 @@ pub fn counts_tell()
     turns::runs_over();
     engine::start_numbers_rise();
     loggers_laws::names_kept();
+    loggers_laws::reasons_given();
+    callers::refuses_for_cause();
+    callers::fits_members();
+    callers::ends_runs();
+    blanks::blanks_suffice();
     members_keep();
     ends_composed();
     made_are_stopped();
@@ -98,3 +115,27 @@ pub fn counts_tell()
 pub fn records_hold()
     ensures { RecordsHold }
 {}
+
+/// The start of each record that was refused was refused by a front-end as NotReady, whose equipment takes no part in the run, or
+/// by the logger, for a name only where a clash of names was counted, and for a fault only where one was: each start is begun
+/// with a blank report for each analyzer, so none refused.
+pub fn records_refused()
+    ensures { RecordsRefused }
+{}
+
+/// One fault gives one answer: the count of faults of the run files rose by at least as many as the starts that were refused for
+/// one and the files that broke off, and that of clashes by at least as many as the starts that were refused for a name. A start
+/// that the logger refused for a fault or for a name had it in the logger's own turn, and in that of a start that came about
+/// neither was counted.
+pub fn one_answer()
+    ensures { OneAnswerEach }
+{
+    turns::main_has_transition();
+    turns::gives_turns();
+    turns::turns_begun();
+    turns::tallies_answered();
+    turns::called_told();
+    engine::start_numbers_rise();
+    members_keep();
+    counts_tell();
+}

@@ -1,9 +1,9 @@
 -- A logger that made no call, and its ports.
-use Rattle.std.proofs.Common.{◌≡◌, ◌∙◌, ℕ, zero, suc, ◌<◌, ◌≤◌, ◌-◌, min, List, [], ◌∷◌, length, map, ap, sym, refl, subst, arith}
-use Rattle.std.specs.Prelude.{slice_get, Option, Some, None}
+use Rattle.std.proofs.Common.{◌≡◌, ◌∙◌, ℕ, zero, suc, ◌<◌, ◌-◌, min, List, [], ◌∷◌, length, map, ap, sym, refl, subst, arith}
+use Rattle.std.specs.Prelude.{slice_get, Some}
 use Rattle.std.specs.Option.{option_map}
 use Rattle.std.proofs.lemmas.List.{length-map}
-use Rattle.std.proofs.lemmas.Option.{slice_get_within, slice_get-map}
+use Rattle.std.proofs.lemmas.Option.{slice_get-map}
 use Rattle.daq_model.specs.Events.{event_limit}
 use Rattle.buffer_core.specs.Window.{Window}
 use Rattle.buffer_core.specs.Ports.{Access}

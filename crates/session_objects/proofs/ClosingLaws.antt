@@ -1,6 +1,5 @@
 -- What the passes of a lock tell of its closed history.
-use Rattle.std.proofs.Common.{◌≡◌, ℕ, ◌<◌, List, [], subst}
-use Rattle.std.specs.Prelude.{All, Contains}
+use Rattle.std.proofs.Common.{ℕ, List, [], subst}
 use Rattle.std.proofs.lemmas.List.Elements.{All-contains}
 use Rattle.turn_lock.specs.declared.lock.Turns.{Turns}
 use Rattle.turn_lock.specs.declared.lock.Pass.{Pass}

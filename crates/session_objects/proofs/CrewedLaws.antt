@@ -1,5 +1,5 @@
 -- The members of a session as their crew is made.
-use Rattle.std.proofs.Common.{◌≡◌, ◌∙◌, ℕ, zero, suc, ◌<◌, ◌≤◌, ◌+◌, Bool, false, List, [], ◌∷◌, length, get_or, map, ap, sym, refl, subst, arith}
+use Rattle.std.proofs.Common.{◌≡◌, ◌∙◌, ℕ, ◌<◌, ◌≤◌, ◌+◌, List, [], length, ap, sym, refl, subst, arith}
 use Rattle.std.specs.Prelude.{slice_get, Option, Some, None, IfSome}
 use Rattle.std.proofs.lemmas.Option.{slice_get_within}
 use Rattle.daq_types.specs.Callers.{caller_of_client}
@@ -21,21 +21,22 @@ use Rattle.loggers.specs.Reasons.{GivesReasons}
 use Rattle.loggers.specs.NewLoggers.{HasNewChannels}
 use Rattle.loggers.specs.LoggerFaults.{HasFailed}
 use Rattle.frontend_kit.specs.declared.generator.Generator.{Generator}
+use Rattle.session_setup.specs.declared.declared.AnalyzerDeclared.{AnalyzerDeclared}
 use Rattle.session_setup.specs.declared.declared.FrontDeclared.{FrontDeclared}
 use Rattle.daq_members.specs.declared.logger_member.LoggerMember.{LoggerMember}
 use Rattle.daq_members.specs.FrontSeats.{FrontSeen}
 use Rattle.daq_members.specs.LoggerSeats.{LoggerSeen}
 use Rattle.daq_members.specs.LoggerTaken.{HaveCaller}
-use Rattle.daq_members.specs.Crews.{CrewSeen, crew_seen, AreMembers}
-use Rattle.session_objects.specs.declared.objects.SessionBuffer.{SessionBuffer}
+use Rattle.analyzer_seats.specs.SeatedAnalyzers.{AnalyzerSeen}
+use Rattle.session_crew.specs.Crews.{CrewSeen, crew_seen, AreMembers}
 use Rattle.session_objects.specs.declared.objects.SessionObjects.{SessionObjects}
-use Rattle.session_objects.specs.Members.{new_front, new_ports, event_rooms, IsNewFront, IsNewLogger, AreBareMembers, AreNewMembers}
+use Rattle.session_objects.specs.Members.{new_ports, event_rooms, IsNewFront, IsNewAnalyzer, IsNewLogger, AreBareMembers, AreNewMembers}
 use Rattle.session_objects.proofs.BareLaws.{new_port_callers}
 use Rattle.session_objects.proofs.ChangeLaws.{there_below}
 
-module _ {D : Type 0} (fronts : List FrontDeclared) (channels : List ChannelSpec) (objects : SessionObjects) (shared : SharedOdb D)
-    (seats : List (FrontSeen Generator)) (member : LoggerMember) (accesses : List Access)
-    (bare : AreBareMembers fronts channels objects shared seats member accesses) where
+module _ {D : Type 0} (fronts : List FrontDeclared) (analyzers : List AnalyzerDeclared) (channels : List ChannelSpec) (objects : SessionObjects) (shared : SharedOdb D)
+    (seats : List (FrontSeen Generator)) (member : LoggerMember) (accesses : List Access) (readers : List AnalyzerSeen)
+    (bare : AreBareMembers fronts analyzers channels objects shared seats member accesses readers) where
   -- it made no call, so it had no turn
   no_turns : member_turns member.seat.client (own_entries member.seat.pass) ≡ []
   no_turns = ap (λ (es : List EngineEntry). member_turns member.seat.client es) bare.calls
@@ -75,14 +76,27 @@ module _ {D : Type 0} (fronts : List FrontDeclared) (channels : List ChannelSpec
       let many : length seats ≡ length fronts = bare.many in
       let d = there_below fronts number (omega arith) in (d.0, bare.each number d.0 front d.1 at)
 
+  analyzer_at : (place : ℕ) (analyzer : AnalyzerSeen) → slice_get readers place ≡ Some analyzer →
+      (d : AnalyzerDeclared) × IsNewAnalyzer objects (length fronts + 1 + place) d analyzer
+  analyzer_at place analyzer at =
+      let l : place < length readers = slice_get_within readers place analyzer at in
+      let many : length readers ≡ length analyzers = bare.analyzers_are.many in
+      let d = there_below analyzers place (omega arith) in (d.0, bare.analyzers_are.each place d.0 analyzer d.1 at)
+
   -- And with it the members are a crew.
-  pub members_bare : {F : Type 0} (logger : LoggerSeen F) → length fronts ≤ 32 → logger.engine ≡ member.seat.engine.now → logger.client ≡ member.seat.client → AreMembers seats logger
-  members_bare logger few engine client =
-      let many : length seats ≡ length fronts = bare.many in record {
+  pub members_bare : {F : Type 0} (logger : LoggerSeen F) → length fronts ≤ 32 → length analyzers ≤ 8 → logger.engine ≡ member.seat.engine.now →
+      logger.client ≡ member.seat.client → AreMembers seats logger readers
+  members_bare logger few few_analyzers engine client =
+      let many : length seats ≡ length fronts = bare.many in
+      let many_readers : length readers ≡ length analyzers = bare.analyzers_are.many in record {
         few = omega arith;
         numbers = λ number front at. (let f = front_at number front at in ap (λ (z : FrontSeen Generator). z.client) f.1.is);
         logger_number = client ∙ bare.is ∙ sym many;
         engine = λ number front at. (let f = front_at number front at in ap (λ (z : FrontSeen Generator). z.engine) f.1.is ∙ sym (engine ∙ bare.engine));
+        analyzer_numbers = λ place analyzer at. (let a = analyzer_at place analyzer at in
+            ap (λ (z : AnalyzerSeen). z.client) a.1.is ∙ ap (λ (n : ℕ). n + 1 + place) (sym many));
+        analyzer_engine = λ place analyzer at. (let a = analyzer_at place analyzer at in
+            ap (λ (z : AnalyzerSeen). z.engine) a.1.is ∙ sym (engine ∙ bare.engine));
       }
 
   pub logger_bare : {F : Type 0} (files : F) (logger : LoggerSeen F) → logger.engine ≡ member.seat.engine.now → logger.client ≡ member.seat.client →
@@ -105,8 +119,14 @@ module _ {D : Type 0} (fronts : List FrontDeclared) (channels : List ChannelSpec
       }
 
   -- So are the members of the crew that is made of them.
-  pub crewed : {F K : Type 0} (files : F) (pick : K) (logger : LoggerSeen F) (crew : CrewSeen Generator F K) → crew ≡ crew_seen seats logger pick →
-      IsNewLogger objects (length fronts) channels files logger → AreNewMembers fronts channels objects shared files pick crew
+  pub crewed : {F K : Type 0} (files : F) (pick : K) (logger : LoggerSeen F) (crew : CrewSeen Generator F K) → crew ≡ crew_seen seats logger readers pick →
+      IsNewLogger objects (length fronts) channels files logger → AreNewMembers fronts analyzers channels objects shared files pick crew
   crewed files pick logger crew is new =
-      let P : CrewSeen Generator _ _ → Type 0 = λ c. AreNewMembers fronts channels objects shared files pick c in
-      subst P (sym is) (record { many = bare.many; each = bare.each; logger = new; has_pick = refl })
+      let P : CrewSeen Generator _ _ → Type 0 = λ c. AreNewMembers fronts analyzers channels objects shared files pick c in
+      subst P (sym is) (record {
+        many = bare.many;
+        each = bare.each;
+        logger = new;
+        analyzers_are = bare.analyzers_are;
+        has_pick = refl;
+      })

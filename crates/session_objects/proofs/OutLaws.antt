@@ -1,11 +1,12 @@
 -- Which passes are out.
-use Rattle.std.proofs.Common.{◌≡◌, ◌≢◌, ◌⊎◌, ℕ, zero, suc, ◌+◌, ◌<◌, ◌≤◌, Bool, true, false, List, [], ◌∷◌, length, sym, ap, ◌∙◌, refl, subst, inl, inr, ⊎_elim, arith, add-one, if◌then◌else◌}
-use Rattle.std.specs.Prelude.{Contains, ◌==◌, nat_lt, slice_get, Option, Some, None}
+use Rattle.std.proofs.Common.{◌≡◌, ◌≢◌, ℕ, zero, suc, ◌+◌, ◌<◌, ◌≤◌, Bool, true, false, List, [], ◌∷◌, length, sym, ap, ◌∙◌, refl, subst, ⊎_elim, arith, add-one, if◌then◌else◌}
+use Rattle.std.specs.Prelude.{Contains, nat_lt, slice_get}
 use Rattle.std.proofs.lemmas.Bool.{lt-ltb, le-ltb}
 use mathlib.Core.Logic.{dite}
 use native.Mathlib.Decide.{ℕ_discrete, dec_le}
+use Rattle.session_setup.specs.declared.declared.AnalyzerDeclared.{AnalyzerDeclared}
 use Rattle.session_setup.specs.declared.declared.FrontDeclared.{FrontDeclared}
-use Rattle.session_objects.specs.Kept.{callers_down, senders_down, sends_into, callers_with_logger}
+use Rattle.session_objects.specs.Kept.{callers_down, senders_down, sends_into, callers_with_logger, readers_down, reads_from}
 use Rattle.session_objects.proofs.RosterLaws.{at_first, in_rest, in_list, none_in}
 
 -- the main thread and the first so many clients are out
@@ -50,6 +51,10 @@ module _ (fronts : List FrontDeclared) (buffer : ℕ) where
   senders_only zero k has = absurd (none_in k has)
   senders_only (suc n) k has = over n k (sends_into buffer (slice_get fronts n)) (senders_only n k) has
 
+  -- with the logger, they and it alone
+  pub logger_only : (m k : ℕ) → Contains (callers_with_logger fronts m buffer) k → k < suc (suc (length fronts))
+  logger_only m k has = over (length fronts) k (nat_lt buffer m) (senders_only (length fronts) k) has
+
   -- one front-end more
   pub senders_with : (n : ℕ) → sends_into buffer (slice_get fronts n) ≡ true → senders_down fronts (suc n) buffer ≡ suc n ∷ senders_down fronts n buffer
   senders_with n e = rw e refl
@@ -82,6 +87,56 @@ module _ (fronts : List FrontDeclared) (buffer : ℕ) where
 
   pub logger_still : (m : ℕ) → buffer ≢ m → callers_with_logger fronts (m + 1) buffer ≡ callers_with_logger fronts m buffer
   logger_still m other = let P : ℕ → Type 0 = λ k. callers_with_logger fronts k buffer ≡ callers_with_logger fronts m buffer in subst P (sym (add-one m)) (logger_beside m other)
+
+module _ (analyzers : List AnalyzerDeclared) (first buffer : ℕ) where
+  -- behind another reader they are the same still
+  behind_one : (s : Bool) (x : ℕ) (xs : List ℕ) (k : ℕ) → Contains xs k → Contains (if s then x ∷ xs else xs) k
+  behind_one true x xs k has = in_rest x xs k has
+  behind_one false x xs k has = has
+
+  -- each of the first so many analyzers that reads the buffer has its pass of it
+  pub readers_all : (n place : ℕ) → place < n → reads_from buffer (slice_get analyzers place) ≡ true →
+      Contains (readers_down analyzers first n buffer) (suc (first + place))
+  readers_all zero place l r = absurd (omega arith)
+  readers_all (suc n) place l r = dite (ℕ_discrete place n) (λ e. here e)
+      (λ other. behind_one (reads_from buffer (slice_get analyzers n)) (suc (first + n)) (readers_down analyzers first n buffer) (suc (first + place)) (readers_all n place (omega arith) r))
+    where
+      last : (b : Bool) → b ≡ true → Contains (if b then suc (first + n) ∷ readers_down analyzers first n buffer else readers_down analyzers first n buffer) (suc (first + n))
+      last true e = at_first (suc (first + n)) (readers_down analyzers first n buffer) (suc (first + n)) refl
+      last false e = absurd (cc)
+
+      here : place ≡ n → Contains (readers_down analyzers first (suc n) buffer) (suc (first + place))
+      here e = let P : ℕ → Type 0 = λ m. Contains (readers_down analyzers first (suc n) buffer) (suc (first + m)) in
+          let Q : ℕ → Type 0 = λ m. reads_from buffer (slice_get analyzers m) ≡ true in
+          subst P (sym e) (last (reads_from buffer (slice_get analyzers n)) (subst Q e r))
+
+  beyond : (n k : ℕ) (s : Bool) → (Contains (readers_down analyzers first n buffer) k → k < suc (first + n)) →
+      Contains (if s then suc (first + n) ∷ readers_down analyzers first n buffer else readers_down analyzers first n buffer) k → k < suc (first + suc n)
+  beyond n k true below has = ⊎_elim (λ e. omega arith) (λ h. let l : k < suc (first + n) = below h in omega arith)
+      (in_list (suc (first + n)) (readers_down analyzers first n buffer) k has)
+  beyond n k false below has = let l : k < suc (first + n) = below has in omega arith
+
+  -- and they alone
+  pub readers_only : (n k : ℕ) → Contains (readers_down analyzers first n buffer) k → k < suc (first + n)
+  readers_only zero k has = absurd (none_in k has)
+  readers_only (suc n) k has = beyond n k (reads_from buffer (slice_get analyzers n)) (readers_only n k) has
+
+  -- one analyzer more
+  readers_with : (n : ℕ) → reads_from buffer (slice_get analyzers n) ≡ true →
+      readers_down analyzers first (suc n) buffer ≡ suc (first + n) ∷ readers_down analyzers first n buffer
+  readers_with n e = rw e refl
+
+  readers_without : (n : ℕ) → reads_from buffer (slice_get analyzers n) ≡ false →
+      readers_down analyzers first (suc n) buffer ≡ readers_down analyzers first n buffer
+  readers_without n e = rw e refl
+
+  pub readers_next : (n : ℕ) → reads_from buffer (slice_get analyzers n) ≡ true →
+      readers_down analyzers first (n + 1) buffer ≡ suc (first + n) ∷ readers_down analyzers first n buffer
+  readers_next n e = ap (λ (m : ℕ). readers_down analyzers first m buffer) (add-one n) ∙ readers_with n e
+
+  pub readers_still : (n : ℕ) → reads_from buffer (slice_get analyzers n) ≡ false →
+      readers_down analyzers first (n + 1) buffer ≡ readers_down analyzers first n buffer
+  readers_still n e = ap (λ (m : ℕ). readers_down analyzers first m buffer) (add-one n) ∙ readers_without n e
 
 pub down_next : (n : ℕ) → callers_down (n + 1) ≡ (n + 1) ∷ callers_down n
 down_next n = let P : ℕ → Type 0 = λ m. callers_down m ≡ m ∷ callers_down n in subst P (sym (add-one n)) refl

@@ -1,6 +1,6 @@
 -- Passes that are taken out of a lock's, and put back.
-use Rattle.std.proofs.Common.{◌≡◌, ◌≢◌, ◌⊎◌, ℕ, zero, suc, ◌+◌, ◌<◌, List, [], ◌∷◌, ◌++◌, length, map, sym, ap, ◌∙◌, refl, subst, inl, inr, ⊎_elim, arith, length-append, get_or, None}
-use Rattle.std.specs.Prelude.{All, Contains}
+use Rattle.std.proofs.Common.{◌≡◌, ◌⊎◌, ℕ, zero, suc, ◌+◌, ◌<◌, List, [], ◌∷◌, ◌++◌, length, map, sym, ap, ◌∙◌, refl, subst, inl, inr, ⊎_elim, arith, length-append, get_or, None}
+use Rattle.std.specs.Prelude.{Contains}
 use Rattle.std.proofs.lemmas.List.Elements.{All-contains, All-weaker, Contains-append_left, Contains-append_right, Contains-append_cases, Contains-push}
 use mathlib.Core.Logic.{dite}
 use native.Mathlib.Decide.{ℕ_discrete}
@@ -9,8 +9,8 @@ use Rattle.turn_lock.specs.declared.lock.Pass.{Pass}
 use Rattle.turn_lock.specs.declared.roster.Passes.{Passes}
 use Rattle.turn_lock.specs.Passes.{number_of, seen_by, held_by, passes_of, IsOf}
 use Rattle.turn_lock.specs.Roster.{items_of, numbers_of, numbers_below, room_of, ArePassesOf, AreIdle, AreFresh, IsFresh}
-use Rattle.turn_lock.specs.Closing.{AreComplete, TakesOut}
-use Rattle.session_objects.specs.Rosters.{HasPass, KeepsPasses, KeepsFresh, TakesFresh, PutsBack, nothing_seen}
+use Rattle.turn_lock.specs.Closing.{TakesOut}
+use Rattle.session_objects.specs.Rosters.{HasPass, KeepsPasses, KeepsFresh, PutsBack, nothing_seen}
 
 module _ {X : Type 0} where
   -- the first of a list, or one of the others

@@ -1,16 +1,17 @@
 -- A front-end as it takes its seat.
-use Rattle.std.proofs.Common.{◌≡◌, ◌∙◌, ℕ, ◌≤◌, List, [], ap, sym, refl, subst, arith}
-use Rattle.std.specs.Prelude.{Option, Some, None, IsTrue}
+use Rattle.std.proofs.Common.{◌≡◌, ℕ, ◌≤◌, List, [], sym, subst, arith}
+use Rattle.std.specs.Prelude.{None, IsTrue}
 use Rattle.std.proofs.lemmas.Grind.{common_steps}
 use Rattle.buffer_core.specs.declared.entry.BufferEntry.{BufferEntry}
-use Rattle.buffer_core.specs.Ports.{Access}
+use Rattle.buffer_core.specs.Ports.{GotEvent}
 use Rattle.odb_watch.specs.declared.entry.WatchEntry.{WatchEntry}
-use Rattle.odb_port.specs.DatabasePorts.{DatabaseAccess}
 use Rattle.transitions.specs.declared.entry.EngineEntry.{EngineEntry}
-use Rattle.transition_lock.specs.declared.shared.SharedEngine.{SharedEngine}
-use Rattle.front_ends.specs.declared.front_run.FrontRun.{FrontRun}
 use Rattle.front_ends.specs.Fronts.{FrontState}
 use Rattle.frontend_kit.specs.declared.generator.Generator.{Generator}
+use Rattle.analyzers.specs.Analyzers.{AnalyzerState}
+use Rattle.analyzers.specs.AnalyzerKept.{AnalyzerStands, AnalyzerTells}
+use Rattle.analyzer_seats.specs.AnalyzerTaken.{AnalyzerMemberStands}
+use Rattle.analyzer_seats.specs.SeatedAnalyzers.{AnalyzerSeen}
 use Rattle.daq_members.specs.FrontSeats.{FrontSeen}
 use Rattle.daq_members.specs.FrontTaken.{FrontMemberStands}
 use Rattle.session_setup.specs.Setup.{is_buffer_size}
@@ -42,6 +43,26 @@ stands_yet client later name equipment front calls own sets same is none_called 
     let D : List BufferEntry → Type 0 = λ bs. FrontMemberStands client name (generator_takes equipment) (generator_makes equipment) None [] bs sets in
     let E : List WatchEntry → Type 0 = λ ws. FrontMemberStands client name (generator_takes equipment) (generator_makes equipment) None [] [] ws in
     subst A (sym same) (subst B (sym is) (subst C (sym none_called) (subst D (sym none_own) (subst E (sym none_set) stands))))
+
+-- what is seen of an analyzer is told by its parts
+pub analyzer_same : (a b : AnalyzerSeen) → a.engine ≡ b.engine → a.client ≡ b.client → a.analyzer ≡ b.analyzer → a.calls ≡ b.calls → a.port ≡ b.port → a ≡ b
+analyzer_same a b engine client analyzer calls port = λ j. record {
+  engine = engine j;
+  client = client j;
+  analyzer = analyzer j;
+  calls = calls j;
+  port = port j;
+}
+
+-- an analyzer that made no call keeps its contract, whatever its client number
+pub analyzer_stands_yet : (client : ℕ) (analyzer : AnalyzerState) (calls : List EngineEntry) (own : List BufferEntry) (got : List GotEvent) →
+    calls ≡ [] → own ≡ [] → got ≡ [] → AnalyzerStands analyzer.wanted analyzer.client analyzer.run [] [] [] → AnalyzerTells analyzer.run [] →
+    AnalyzerMemberStands client analyzer calls own got
+analyzer_stands_yet client analyzer calls own got none_called none_own none_got stands tells =
+    let A : List EngineEntry → Type 0 = λ cs. AnalyzerMemberStands client analyzer cs own got in
+    let B : List BufferEntry → Type 0 = λ bs. AnalyzerMemberStands client analyzer [] bs got in
+    let C : List GotEvent → Type 0 = λ gs. AnalyzerMemberStands client analyzer [] [] gs in
+    subst A (sym none_called) (subst B (sym none_own) (subst C (sym none_got) (record { stands = stands; tells = tells; blanks = λ t has. absurd has })))
 
 -- an event of a generator fits into each buffer
 pub wide_enough : (size : ℕ) → IsTrue (is_buffer_size size) → 104 ≤ size

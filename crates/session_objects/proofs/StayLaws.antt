@@ -1,17 +1,20 @@
 -- The members of a session stay the same over their turns.
-use Rattle.std.proofs.Common.{◌≡◌, ℕ, zero, suc, ◌<◌, ◌≤◌, List, [], ◌∷◌, length, get_or, sym, ap, ◌∙◌, refl, subst, arith}
+use Rattle.std.proofs.Common.{◌≡◌, ℕ, zero, suc, ◌+◌, ◌<◌, ◌≤◌, List, [], ◌∷◌, length, get_or, sym, ap, ◌∙◌, refl, subst, arith}
 use Rattle.std.specs.Prelude.{slice_get, Option, Some, None, Contains}
 use Rattle.std.proofs.lemmas.Option.{slice_get-get_or, slice_get_within, slice_get-map, get_or_from_slice_get}
 use Rattle.odb_lock.specs.declared.shared.SharedOdb.{SharedOdb}
 use Rattle.buffer_core.specs.Ports.{Access}
 use Rattle.frontend_kit.specs.declared.generator.Generator.{Generator}
+use Rattle.session_setup.specs.declared.declared.AnalyzerDeclared.{AnalyzerDeclared}
 use Rattle.session_setup.specs.declared.declared.FrontDeclared.{FrontDeclared}
 use Rattle.mid_logger.specs.declared.channel_spec.ChannelSpec.{ChannelSpec}
 use Rattle.daq_members.specs.FrontSeats.{FrontSeen, IsSameFront}
 use Rattle.daq_members.specs.LoggerSeats.{LoggerSeen, IsSameLogger}
-use Rattle.daq_members.specs.Crews.{CrewSeen, CrewTold, IsSameCrew}
+use Rattle.session_crew.specs.Crews.{CrewSeen, CrewTold, IsSameCrew}
+use Rattle.analyzer_seats.specs.SeatedAnalyzers.{AnalyzerSeen, IsSameAnalyzer}
+use Rattle.analyzer_seats.specs.ManyAnalyzers.{AreSameAnalyzers}
 use Rattle.loggers.specs.Moments.{IsSameAccess, channel_limit}
-use Rattle.loggers.specs.OtherFiles.{specs_in}
+use Rattle.loggers.specs.OtherFiles.{AreDeclared, specs_in}
 use Rattle.loggers.specs.NewLoggers.{new_channel, IsNewChannel}
 use Rattle.buffer_core.specs.Slots.{slot_at}
 use Rattle.mid_logger.specs.declared.channel.Channel.{Channel}
@@ -22,7 +25,7 @@ use Rattle.std.specs.Option.{option_map}
 use Rattle.std.proofs.lemmas.List.{length-map}
 use Rattle.daq_types.specs.Callers.{caller_of_client}
 use Rattle.session_objects.proofs.ChangeLaws.{some_same}
-use Rattle.session_objects.specs.Members.{ring_identity, generator_of, generator_takes, generator_makes, IsFrontOf, IsLoggerOf, ArePortsTo, AreMembersOf, IsNewFront, IsNewLogger, AreNewMembers, HasDeclaredChannels, new_front, new_port, event_rooms, event_room_of}
+use Rattle.session_objects.specs.Members.{ring_identity, generator_takes, generator_makes, IsFrontOf, IsLoggerOf, AreMembersOf, IsAnalyzerOf, AreAnalyzersOf, IsNewAnalyzer, AreNewAnalyzers, IsNewFront, IsNewLogger, AreNewMembers, new_port, event_rooms, event_room_of}
 
 module _ {D : Type 0} (objects : SessionObjects) (database : SharedOdb D) where
   front_stays : (client : ℕ) (declared : FrontDeclared) (before after : FrontSeen Generator) →
@@ -56,13 +59,60 @@ module _ {D : Type 0} (objects : SessionObjects) (database : SharedOdb D) where
     };
   }
 
-  pub members_stay : {F K : Type 0} (fronts : List FrontDeclared) (told : CrewTold Generator F K) (before after : CrewSeen Generator F K) →
+  analyzer_stays : (client : ℕ) (declared : AnalyzerDeclared) (before after : AnalyzerSeen) → IsSameAnalyzer before after →
+      IsAnalyzerOf objects client declared before → IsAnalyzerOf objects client declared after
+  analyzer_stays client declared before after same a = record {
+    is = same.client ∙ a.is;
+    wanted = same.wanted ∙ a.wanted;
+    engine = same.engine ∙ a.engine;
+    buffer = a.buffer;
+    has_buffer = a.has_buffer;
+    port = same.port.0 ∙ a.port;
+    port_caller = same.port.1 ∙ a.port_caller;
+  }
+
+  analyzers_stay : (first : ℕ) (declared : List AnalyzerDeclared) (before after : List AnalyzerSeen) → AreSameAnalyzers before after →
+      AreAnalyzersOf objects first declared before → AreAnalyzersOf objects first declared after
+  analyzers_stay first declared before after same are = record {
+    many = same.count ∙ are.many;
+    each = λ place wanted analyzer d a.
+        let l : place < length after = slice_get_within after place analyzer a in
+        let c : length after ≡ length before = same.count in
+        let was : AnalyzerSeen = get_or before place analyzer in
+        let at : slice_get before place ≡ Some was = slice_get-get_or before place analyzer (omega arith) in
+        analyzer_stays (first + place) wanted was analyzer (same.each place was analyzer at a) (are.each place wanted was d at);
+  }
+
+  -- new analyzers are those that were declared
+  new_are_analyzers : (first : ℕ) (declared : List AnalyzerDeclared) (seats : List AnalyzerSeen) → AreNewAnalyzers objects first declared seats →
+      AreAnalyzersOf objects first declared seats
+  new_are_analyzers first declared seats n = record {
+    many = n.many;
+    each = λ place wanted analyzer d a. new_is (first + place) wanted analyzer (n.each place wanted analyzer d a);
+  }
+    where
+      new_is : (client : ℕ) (wanted : AnalyzerDeclared) (analyzer : AnalyzerSeen) → IsNewAnalyzer objects client wanted analyzer →
+          IsAnalyzerOf objects client wanted analyzer
+      new_is client wanted analyzer a = let P : AnalyzerSeen → Type 0 = λ seen. IsAnalyzerOf objects client wanted seen in
+          subst P (sym a.is) (record {
+            is = refl;
+            wanted = refl;
+            engine = refl;
+            buffer = a.buffer;
+            has_buffer = a.has_buffer;
+            port = refl;
+            port_caller = refl;
+          })
+
+  pub members_stay : {F K : Type 0} (fronts : List FrontDeclared) (analyzers : List AnalyzerDeclared) (told : CrewTold Generator F K) (before after : CrewSeen Generator F K) →
       told.takes ≡ generator_takes → told.makes ≡ generator_makes → IsSameCrew told before after →
-      AreMembersOf fronts objects database before.fronts before.logger → AreMembersOf fronts objects database after.fronts after.logger
-  members_stay fronts told before after takes makes same m = record {
+      AreMembersOf fronts analyzers objects database before.fronts before.logger before.analyzers →
+      AreMembersOf fronts analyzers objects database after.fronts after.logger after.analyzers
+  members_stay fronts analyzers told before after takes makes same m = record {
     many = same.fronts.count ∙ m.many;
     each = λ client declared front d f. one client declared front d f;
     logger = logger_stays (length fronts) before.logger after.logger same.logger m.logger;
+    analyzers_are = analyzers_stay (length fronts + 1) analyzers before.analyzers after.analyzers same.analyzers m.analyzers_are;
   }
     where
       one : (client : ℕ) (declared : FrontDeclared) (front : FrontSeen Generator) → slice_get fronts client ≡ Some declared →
@@ -77,9 +127,9 @@ module _ {D : Type 0} (objects : SessionObjects) (database : SharedOdb D) where
           front_stays client declared was front (subst Q makes (subst P takes (same.fronts.each client was front at f))) (m.each client declared was d at)
 
   -- new members are those of the session
-  pub new_are_members : {F K : Type 0} (fronts : List FrontDeclared) (channels : List ChannelSpec) (files : F) (pick : K) (crew : CrewSeen Generator F K) →
-      AreNewMembers fronts channels objects database files pick crew → AreMembersOf fronts objects database crew.fronts crew.logger
-  new_are_members fronts channels files pick crew n = record {
+  pub new_are_members : {F K : Type 0} (fronts : List FrontDeclared) (analyzers : List AnalyzerDeclared) (channels : List ChannelSpec) (files : F) (pick : K) (crew : CrewSeen Generator F K) →
+      AreNewMembers fronts analyzers channels objects database files pick crew → AreMembersOf fronts analyzers objects database crew.fronts crew.logger crew.analyzers
+  new_are_members fronts analyzers channels files pick crew n = record {
     many = n.many;
     each = λ client declared front d f. new_is client declared front (n.each client declared front d f);
     logger = record {
@@ -90,6 +140,7 @@ module _ {D : Type 0} (objects : SessionObjects) (database : SharedOdb D) where
         each = λ number buffer port at there. new_port_is number buffer port at (ap (λ (ps : List Access). slice_get ps number) (sym n.logger.ports) ∙ there);
       };
     };
+    analyzers_are = new_are_analyzers (length fronts + 1) analyzers crew.analyzers n.analyzers_are;
   }
     where
       new_is : (client : ℕ) (declared : FrontDeclared) (front : FrontSeen Generator) → IsNewFront objects database client declared front →
@@ -119,7 +170,7 @@ module _ {D : Type 0} (objects : SessionObjects) (database : SharedOdb D) where
 
 -- The logger keeps its channels.
 pub channels_stay : {F : Type 0} (channels : List ChannelSpec) (before after : LoggerSeen F) → IsSameLogger before after →
-    HasDeclaredChannels channels before → HasDeclaredChannels channels after
+    AreDeclared channels before.slots → AreDeclared channels after.slots
 channels_stay channels before after same d =
     let P : List (Option ChannelSpec) → (number : ℕ) → (spec : ChannelSpec) → Type 0 = λ specs number spec. slot_at specs number ≡ Some spec in
     let count : length after.slots ≡ length before.slots =
@@ -141,7 +192,7 @@ channel_there None spec e = absurd (cc)
 channel_there (Some c) spec e = (c, refl, some_same c.spec spec e)
 
 pub new_channels_are : {F : Type 0} (objects : SessionObjects) (client : ℕ) (channels : List ChannelSpec) (files : F) (logger : LoggerSeen F) →
-    IsNewLogger objects client channels files logger → HasDeclaredChannels channels logger
+    IsNewLogger objects client channels files logger → AreDeclared channels logger.slots
 new_channels_are objects client channels files logger n =
     let many : length logger.slots ≡ channel_limit = n.slots.many in record {
       few = omega arith;

@@ -1,6 +1,6 @@
 -- Sound declarations give members that can be had.
-use Rattle.std.proofs.Common.{◌≡◌, ◌≢◌, ℕ, zero, suc, ◌+◌, ◌<◌, ◌≤◌, Bool, true, false, List, [], ◌∷◌, length, map, sym, ap, ◌∙◌, refl, subst, arith, eq-eqb}
-use Rattle.std.specs.Prelude.{All, Contains, IsTrue, nat_eq, slice_get, Some, None}
+use Rattle.std.proofs.Common.{◌≡◌, ◌≢◌, ℕ, zero, suc, ◌<◌, true, false, List, [], ◌∷◌, length, map, sym, ap, ◌∙◌, refl, arith, eq-eqb}
+use Rattle.std.specs.Prelude.{All, IsTrue, nat_eq, slice_get, Some}
 use Rattle.std.specs.List.{IsDistinct, AllByRecursion}
 use Rattle.std.proofs.lemmas.List.Elements.{All-contains}
 use Rattle.std.proofs.lemmas.Map.Keys.{IsDistinct-head, IsDistinct-tail}
@@ -12,14 +12,13 @@ use Rattle.odb_lock.specs.declared.shared.SharedOdb.{SharedOdb}
 use Rattle.odb_lock.specs.SharedOdbs.{odb_lock_of}
 use Rattle.mid_logger.specs.declared.channel_spec.ChannelSpec.{ChannelSpec}
 use Rattle.front_ends.specs.FrontIds.{IsFrontId}
-use Rattle.loggers.specs.NewLoggers.{HaveNumbers}
-use Rattle.session_setup.specs.declared.declared.BufferDeclared.{BufferDeclared}
+use Rattle.session_setup.specs.declared.declared.AnalyzerDeclared.{AnalyzerDeclared}
 use Rattle.session_setup.specs.declared.declared.FrontDeclared.{FrontDeclared}
 use Rattle.session_setup.specs.declared.declared.DeclaredLists.{DeclaredLists}
-use Rattle.session_setup.specs.Setup.{AreSound, is_front_id}
+use Rattle.session_setup.specs.Setup.{AreSound, declared_by, is_front_id}
 use Rattle.session_objects.specs.declared.objects.SessionBuffer.{SessionBuffer}
 use Rattle.session_objects.specs.declared.objects.SessionObjects.{SessionObjects}
-use Rattle.session_objects.specs.Objects.{declared_by, caller_count, AreObjectsOf, HaveCallers, SuitMembers}
+use Rattle.session_objects.specs.Objects.{caller_count, AreObjectsOf, SuitMembers}
 use Rattle.session_objects.proofs.ChangeLaws.{some_same, there_below}
 
 -- what holds of all holds of the one at a place
@@ -50,7 +49,7 @@ is_id : (id : ℕ) → IsTrue (is_front_id id) → IsFrontId id
 is_id id h = record { least = grind (arith, common_steps, h); most = grind (arith, common_steps, h) }
 
 pub suits : {D : Type 0} (lists : DeclaredLists) (objects : SessionObjects) (shared : SharedOdb D) → AreSound (declared_by lists) → AreObjectsOf lists objects →
-    length lists.fronts < passes_of (odb_lock_of shared) → SuitMembers lists.fronts lists.channels objects shared
+    length lists.fronts < passes_of (odb_lock_of shared) → SuitMembers lists.fronts lists.analyzers lists.channels objects shared
 suits lists objects shared sound o below =
     let many : length objects.buffers.items ≡ length lists.buffers = o.buffers.many in record {
       callers = record {
@@ -60,8 +59,12 @@ suits lists objects shared sound o below =
         sent_into = λ client front at.
             let P : FrontDeclared → Type 0 = λ f. f.buffer < length lists.buffers in
             let l : front.buffer < length lists.buffers = at_place P lists.fronts client front sound.front_buffers at in omega arith;
+        read_from = λ place analyzer at.
+            let P : AnalyzerDeclared → Type 0 = λ a. a.buffer < length lists.buffers in
+            let l : analyzer.buffer < length lists.buffers = at_place P lists.analyzers place analyzer sound.analyzer_buffers at in omega arith;
       };
       few = sound.few_fronts;
+      few_analyzers = sound.few_analyzers;
       ids = λ client front at. is_id front.id
           (let P : FrontDeclared → Type 0 = λ f. IsTrue (is_front_id f.id) in at_place P lists.fronts client front sound.front_ids at);
       numbers = record {
@@ -74,7 +77,7 @@ suits lists objects shared sound o below =
     }
   where
     count : (number : ℕ) (buffer : SessionBuffer) → slice_get objects.buffers.items number ≡ Some buffer →
-        passes_of (lock_of buffer.shared) ≡ caller_count lists.fronts
+        passes_of (lock_of buffer.shared) ≡ caller_count lists.fronts lists.analyzers
     count number buffer at =
         let l : number < length objects.buffers.items = slice_get_within objects.buffers.items number buffer at in
         let many : length objects.buffers.items ≡ length lists.buffers = o.buffers.many in

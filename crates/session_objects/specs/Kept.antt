@@ -1,19 +1,17 @@
 -- The passes that the main thread keeps of the session's objects, while others are with the members.
-use Rattle.std.specs.Prelude.{◌≡◌, ℕ, zero, suc, ◌==◌, ◌<◌, ◌++◌, ◌∷◌, [], Bool, false, if◌then◌else◌, nat_lt, List, slice_get, length, Option, Some, None}
+use Rattle.std.specs.Prelude.{◌≡◌, ℕ, zero, suc, ◌+◌, ◌==◌, ◌++◌, ◌∷◌, [], Bool, false, if◌then◌else◌, nat_lt, List, slice_get, length, Option, Some, None}
 use Rattle.daq_types.specs.Callers.{main_caller}
-use Rattle.turn_lock.specs.declared.roster.Passes.{Passes}
-use Rattle.buffer_core.specs.Window.{Window}
-use Rattle.buffer_core.specs.declared.entry.BufferEntry.{BufferEntry}
-use Rattle.buffer_lock.specs.declared.locked.Locked.{Locked}
 use Rattle.buffer_lock.specs.SharedBuffers.{lock_of}
 use Rattle.transition_lock.specs.SharedEngines.{engine_lock_of}
 use Rattle.odb_lock.specs.declared.shared.SharedOdb.{SharedOdb}
 use Rattle.odb_lock.specs.SharedOdbs.{odb_lock_of}
+use Rattle.session_setup.specs.declared.declared.AnalyzerDeclared.{AnalyzerDeclared}
 use Rattle.session_setup.specs.declared.declared.FrontDeclared.{FrontDeclared}
 use Rattle.session_objects.specs.declared.objects.SessionBuffer.{SessionBuffer}
 use Rattle.session_objects.specs.declared.objects.SessionObjects.{SessionObjects}
 use Rattle.session_objects.specs.declared.passes.SessionPasses.{SessionPasses}
 use Rattle.session_objects.specs.Rosters.{KeepsFresh}
+use Rattle.session_objects.specs.Objects.{first_analyzer}
 
 -- The numbers of the passes that are with those that call by them: of the engine; of each buffer, by its number; and of
 -- the database.
@@ -68,6 +66,31 @@ out_to_logger fronts buffers = record {
   buffers = callers_with_logger fronts buffers;
   database = callers_down (length fronts);
 }
+
+-- the analyzer reads the buffer of this number
+abbrev pub reads_from : (buffer : ℕ) → Option AnalyzerDeclared → Bool
+reads_from buffer None = false
+reads_from buffer (Some analyzer) = analyzer.buffer == buffer
+
+-- the callers of a buffer among so many analyzers, the last one first, where the first analyzer has this client number
+abbrev pub readers_down : List AnalyzerDeclared → (first analyzers : ℕ) → (buffer : ℕ) → List ℕ
+readers_down analyzers first zero buffer = []
+readers_down analyzers first (suc n) buffer =
+    if reads_from buffer (slice_get analyzers n) then suc (first + n) ∷ readers_down analyzers first n buffer
+    else readers_down analyzers first n buffer
+
+-- All front-ends and the logger have their passes, and the first so many analyzers have theirs of the engine and of their
+-- buffers.
+abbrev pub out_to_analyzers : List FrontDeclared → List AnalyzerDeclared → (buffers : ℕ) → (count : ℕ) → OutNumbers
+out_to_analyzers fronts analyzers buffers count = record {
+  engine = callers_down (first_analyzer fronts + count);
+  buffers = λ number. readers_down analyzers (first_analyzer fronts) count number ++ callers_with_logger fronts buffers number;
+  database = callers_down (length fronts);
+}
+
+-- All members have their passes.
+abbrev pub out_to_members : List FrontDeclared → List AnalyzerDeclared → (buffers : ℕ) → OutNumbers
+out_to_members fronts analyzers buffers = out_to_analyzers fronts analyzers buffers (length analyzers)
 
 -- All passes of these objects are here but those with these numbers, and none of them made a call.
 pub record HasFreshBut {D : Type 0} {g : _} (out : OutNumbers) (objects : SessionObjects) (shared : SharedOdb D) (passes : SessionPasses D g) : Type 0 where

@@ -1,5 +1,5 @@
 -- The members of a session, as their seats show them.
-use Rattle.std.specs.Prelude.{◌≡◌, ◌≤◌, ℕ, ◌-◌, min, Bool, nat_le, List, [], map, slice_get, length, Contains, Option, Some, None}
+use Rattle.std.specs.Prelude.{◌≡◌, ℕ, ◌+◌, ◌-◌, min, Bool, nat_le, List, [], map, slice_get, length, Option, Some, None}
 use Rattle.daq_types.specs.Callers.{caller_of_client}
 use Rattle.daq_types.specs.declared.events.Event.{Event}
 use Rattle.daq_types.specs.declared.runs.Order.{Order}
@@ -7,14 +7,12 @@ use Rattle.daq_model.specs.Events.{event_limit}
 use Rattle.daq_model.specs.Generator.{generated_event}
 use Rattle.mid_logger.specs.declared.channel_spec.ChannelSpec.{ChannelSpec}
 use Rattle.loggers.specs.NewLoggers.{HasNewChannels}
-use Rattle.loggers.specs.Moments.{RunFiles, channel_limit, AreIdle, IsLoggerReady}
+use Rattle.loggers.specs.Moments.{RunFiles, AreIdle, IsLoggerReady}
 use Rattle.loggers.specs.LoggerFaults.{HasFailed}
-use Rattle.loggers.specs.OtherFiles.{specs_in}
 use Rattle.loggers.specs.Reasons.{GivesReasons}
 use Rattle.loggers.specs.declared.logger.Logger.{Logger}
 use Rattle.turn_lock.specs.Passes.{own_entries}
 use Rattle.daq_members.specs.declared.logger_member.LoggerMember.{LoggerMember}
-use Rattle.buffer_core.specs.Slots.{slot_at}
 use Rattle.loggers.specs.SlotPulls.{HasEventRoom}
 use Rattle.loggers.specs.LoggerStands.{LoggerStands}
 use Rattle.daq_io.specs.Seen.{Seen}
@@ -29,14 +27,18 @@ use Rattle.odb_port.specs.DatabasePorts.{DatabaseAccess}
 use Rattle.odb_lock.specs.declared.shared.SharedOdb.{SharedOdb}
 use Rattle.odb_lock.specs.SharedAccesses.{shared_access, odb_identity}
 use Rattle.frontend_kit.specs.declared.generator.Generator.{Generator}
+use Rattle.session_setup.specs.declared.declared.AnalyzerDeclared.{AnalyzerDeclared}
 use Rattle.session_setup.specs.declared.declared.FrontDeclared.{FrontDeclared}
-use Rattle.session_setup.specs.declared.declared.DeclaredLists.{DeclaredLists}
 use Rattle.daq_members.specs.FrontSeats.{FrontSeen}
 use Rattle.daq_members.specs.LoggerSeats.{LoggerSeen}
-use Rattle.daq_members.specs.Crews.{CrewSeen}
+use Rattle.analyzers.specs.declared.analyzer_run.EventRequest.{EventRequest}
+use Rattle.analyzers.specs.Analyzers.{AnalyzerState}
+use Rattle.analyzer_seats.specs.SeatedAnalyzers.{AnalyzerSeen}
+use Rattle.session_crew.specs.Crews.{CrewSeen}
 use Rattle.session_objects.specs.declared.objects.SessionBuffer.{SessionBuffer}
 use Rattle.session_objects.specs.declared.objects.SessionObjects.{SessionObjects}
-use Rattle.session_objects.specs.Calls.{FrontCalls, SessionCalls}
+use Rattle.session_objects.specs.Objects.{first_analyzer}
+use Rattle.session_objects.specs.Calls.{FrontCalls, AnalyzerCalls, SessionCalls}
 
 -- a ring's value is its window
 abbrev pub ring_window : Window → Window
@@ -85,28 +87,56 @@ pub record IsLoggerOf {F : Type 0} (objects : SessionObjects) (client : ℕ) (lo
   pub engine : logger.engine ≡ objects.engine
   pub ports : ArePortsTo objects.buffers.items (caller_of_client client) logger.ports
 
--- The members are those of a session of these declarations: the front-ends, in their order, and behind them the logger.
-pub record AreMembersOf {D F : Type 0} (fronts : List FrontDeclared) (objects : SessionObjects) (shared : SharedOdb D)
-    (seats : List (FrontSeen Generator)) (last : LoggerSeen F) : Type 0 where
+-- the events that were asked for
+abbrev pub request_of : AnalyzerDeclared → EventRequest
+request_of declared = record { id = declared.id; mask = declared.mask; kind = declared.kind }
+
+-- The analyzer with this client number is the one that was declared: it asks for the same events; it asks the session's
+-- engine and reads its own buffer, each as its own caller.
+pub record IsAnalyzerOf (objects : SessionObjects) (client : ℕ) (declared : AnalyzerDeclared) (analyzer : AnalyzerSeen) : Type 0 where
+  pub is : analyzer.client ≡ client
+  pub wanted : analyzer.analyzer.wanted ≡ request_of declared
+  pub engine : analyzer.engine ≡ objects.engine
+  pub buffer : SessionBuffer
+  pub has_buffer : slice_get objects.buffers.items declared.buffer ≡ Some buffer
+  pub port : analyzer.port.buffer ≡ ring_identity buffer.shared
+  pub port_caller : analyzer.port.caller ≡ caller_of_client client
+
+-- The analyzers are those that were declared, in their order, and the first has this client number.
+pub record AreAnalyzersOf (objects : SessionObjects) (first : ℕ) (declared : List AnalyzerDeclared) (seats : List AnalyzerSeen) : Type 0 where
+  pub many : length seats ≡ length declared
+  pub each : (place : ℕ) → (wanted : AnalyzerDeclared) → (analyzer : AnalyzerSeen) → slice_get declared place ≡ Some wanted →
+      slice_get seats place ≡ Some analyzer → IsAnalyzerOf objects (first + place) wanted analyzer
+
+-- The members are those of a session of these declarations: the front-ends, in their order, behind them the logger, and
+-- behind that the analyzers.
+pub record AreMembersOf {D F : Type 0} (fronts : List FrontDeclared) (analyzers : List AnalyzerDeclared) (objects : SessionObjects)
+    (shared : SharedOdb D) (seats : List (FrontSeen Generator)) (last : LoggerSeen F) (readers : List AnalyzerSeen) : Type 0 where
   pub many : length seats ≡ length fronts
   pub each : (client : ℕ) → (declared : FrontDeclared) → (front : FrontSeen Generator) →
       slice_get fronts client ≡ Some declared → slice_get seats client ≡ Some front →
       IsFrontOf objects shared client declared front
   pub logger : IsLoggerOf objects (length fronts) last
+  pub analyzers_are : AreAnalyzersOf objects (first_analyzer fronts) analyzers readers
 
 -- what the seat of a front-end shows of its calls
 abbrev pub front_calls : FrontSeen Generator → FrontCalls
 front_calls front = record { engine = front.calls; port = front.port; database = front.database.seen }
 
+-- what the seat of an analyzer shows of its calls
+abbrev pub analyzer_calls : AnalyzerSeen → AnalyzerCalls
+analyzer_calls analyzer = record { engine = analyzer.calls; port = analyzer.port }
+
 -- all calls of a session, by what the main thread and the members know
 abbrev pub session_calls : {F : Type 0} → (engine : List EngineEntry) → (database : List (ℕ × WatchEntry)) →
-    List (FrontSeen Generator) → LoggerSeen F → SessionCalls
-session_calls engine database seats logger = record {
+    List (FrontSeen Generator) → LoggerSeen F → List AnalyzerSeen → SessionCalls
+session_calls engine database seats logger readers = record {
   main_engine = engine;
   main_database = database;
   fronts = map front_calls seats;
   logger_engine = logger.calls;
   logger_ports = logger.ports;
+  analyzers = map analyzer_calls readers;
 }
 
 -- As they are at first.
@@ -151,6 +181,32 @@ pub record IsNewFront {D : Type 0} (objects : SessionObjects) (shared : SharedOd
   pub has_buffer : slice_get objects.buffers.items declared.buffer ≡ Some buffer
   pub is : front ≡ new_front objects shared client declared buffer
 
+-- the analyzer that was declared, with so much room for an event, in no run
+abbrev pub idle_analyzer : (room : ℕ) → AnalyzerDeclared → AnalyzerState
+idle_analyzer room declared = record { wanted = request_of declared; room = room; client = None; run = None }
+
+-- the seat of an analyzer that made no call, with room for each event of its buffer
+abbrev pub new_analyzer : SessionObjects → (client : ℕ) → AnalyzerDeclared → SessionBuffer → AnalyzerSeen
+new_analyzer objects client declared buffer = record {
+  engine = objects.engine;
+  client = client;
+  analyzer = idle_analyzer (event_room_of (Some buffer)) declared;
+  calls = [];
+  port = new_port buffer.shared (caller_of_client client);
+}
+
+-- The analyzer with this client number is the one that was declared, with a port to its buffer, and made no call.
+pub record IsNewAnalyzer (objects : SessionObjects) (client : ℕ) (declared : AnalyzerDeclared) (analyzer : AnalyzerSeen) : Type 0 where
+  pub buffer : SessionBuffer
+  pub has_buffer : slice_get objects.buffers.items declared.buffer ≡ Some buffer
+  pub is : analyzer ≡ new_analyzer objects client declared buffer
+
+-- The analyzers are those that were declared, in their order, none made a call, and the first has this client number.
+pub record AreNewAnalyzers (objects : SessionObjects) (first : ℕ) (declared : List AnalyzerDeclared) (seats : List AnalyzerSeen) : Type 0 where
+  pub many : length seats ≡ length declared
+  pub each : (place : ℕ) → (wanted : AnalyzerDeclared) → (analyzer : AnalyzerSeen) → slice_get declared place ≡ Some wanted →
+      slice_get seats place ≡ Some analyzer → IsNewAnalyzer objects (first + place) wanted analyzer
+
 -- The logger has this client number, a port to each buffer, and a channel for each that was declared, with room for each
 -- event of its buffer; and it made no call.
 pub record IsNewLogger {F : Type 0} (objects : SessionObjects) (client : ℕ) (channels : List ChannelSpec) (files : F)
@@ -181,19 +237,21 @@ pub record IsMadeLogger (buffers : List SessionBuffer) (declared : List ChannelS
   pub room : (caller number : ℕ) → HasEventRoom number logger.channels (new_ports buffers caller)
 
 -- The members are those of a session of these declarations, and none made a call.
-pub record AreNewMembers {D F K : Type 0} (fronts : List FrontDeclared) (channels : List ChannelSpec) (objects : SessionObjects)
-    (shared : SharedOdb D) (files : F) (pick : K) (crew : CrewSeen Generator F K) : Type 0 where
+pub record AreNewMembers {D F K : Type 0} (fronts : List FrontDeclared) (analyzers : List AnalyzerDeclared) (channels : List ChannelSpec)
+    (objects : SessionObjects) (shared : SharedOdb D) (files : F) (pick : K) (crew : CrewSeen Generator F K) : Type 0 where
   pub many : length crew.fronts ≡ length fronts
   pub each : (client : ℕ) → (declared : FrontDeclared) → (front : FrontSeen Generator) →
       slice_get fronts client ≡ Some declared → slice_get crew.fronts client ≡ Some front →
       IsNewFront objects shared client declared front
   pub logger : IsNewLogger objects (length fronts) channels files crew.logger
+  pub analyzers_are : AreNewAnalyzers objects (first_analyzer fronts) analyzers crew.analyzers
   pub has_pick : crew.pick ≡ pick
 
--- The members, before the run files are the logger's: the front-ends; the logger with its place at the engine; and what its
--- ports tell.
-pub record AreBareMembers {D : Type 0} (fronts : List FrontDeclared) (channels : List ChannelSpec) (objects : SessionObjects)
-    (shared : SharedOdb D) (seats : List (FrontSeen Generator)) (logger : LoggerMember) (accesses : List Access) : Type 0 where
+-- The members, before the run files are the logger's: the front-ends; the logger with its place at the engine; what its
+-- ports tell; and the analyzers.
+pub record AreBareMembers {D : Type 0} (fronts : List FrontDeclared) (analyzers : List AnalyzerDeclared) (channels : List ChannelSpec)
+    (objects : SessionObjects) (shared : SharedOdb D) (seats : List (FrontSeen Generator)) (logger : LoggerMember)
+    (accesses : List Access) (readers : List AnalyzerSeen) : Type 0 where
   pub many : length seats ≡ length fronts
   pub each : (client : ℕ) → (declared : FrontDeclared) → (front : FrontSeen Generator) →
       slice_get fronts client ≡ Some declared → slice_get seats client ≡ Some front →
@@ -203,10 +261,4 @@ pub record AreBareMembers {D : Type 0} (fronts : List FrontDeclared) (channels :
   pub is : logger.seat.client ≡ length fronts
   pub calls : own_entries logger.seat.pass ≡ []
   pub ports : accesses ≡ new_ports objects.buffers.items (caller_of_client (length fronts))
-
--- The logger's channels are those that were declared, each at its number.
-pub record HasDeclaredChannels {F : Type 0} (declared : List ChannelSpec) (logger : LoggerSeen F) : Type 0 where
-  pub few : length logger.slots ≤ channel_limit
-  pub each : (number : ℕ) → (spec : ChannelSpec) → slot_at (specs_in logger.slots) number ≡ Some spec →
-      Contains declared spec × (spec.number ≡ number)
-  pub all : (spec : ChannelSpec) → Contains declared spec → slot_at (specs_in logger.slots) spec.number ≡ Some spec
+  pub analyzers_are : AreNewAnalyzers objects (first_analyzer fronts) analyzers readers

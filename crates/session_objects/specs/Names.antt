@@ -1,17 +1,13 @@
 -- How the members of a session are registered.
-use Rattle.std.specs.Prelude.{List, [], ◌∷◌, ◌++◌, map, codes}
-use Rattle.run_states.specs.declared.sequences.Role.TheVariants.{FrontEnd, Logger}
+use Rattle.std.specs.Prelude.{List, map}
+use Rattle.mid_logger.specs.ChannelTurns.{logger_name}
 use Rattle.session_engine.specs.declared.opening.MemberName.{MemberName}
+use Rattle.session_engine.specs.Members.{members_named}
+use Rattle.session_setup.specs.declared.declared.AnalyzerDeclared.{AnalyzerDeclared}
 use Rattle.session_setup.specs.declared.declared.FrontDeclared.{FrontDeclared}
 
--- a front-end by its name
-abbrev pub front_member_name : FrontDeclared → MemberName
-front_member_name front = record { name = front.name; role = FrontEnd }
-
--- the logger by its name
-abbrev pub logger_member_name : MemberName
-logger_member_name = record { name = codes "Logger"; role = Logger }
-
--- the front-ends in the order of their declaration, and behind them the logger
-abbrev pub member_names : List FrontDeclared → List MemberName
-member_names fronts = map front_member_name fronts ++ logger_member_name ∷ []
+-- the front-ends in the order of their declaration, behind them the logger, and behind that the analyzers in the order of
+-- theirs
+abbrev pub member_names : List FrontDeclared → List AnalyzerDeclared → List MemberName
+member_names fronts analyzers =
+    members_named (map (λ (f : FrontDeclared). f.name) fronts) logger_name (map (λ (a : AnalyzerDeclared). a.name) analyzers)

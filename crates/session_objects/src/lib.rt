@@ -20,4 +20,6 @@ pub use opening::OpenedObjects;
 pub use passes::{SessionPasses, take_main};
 pub use record::{BufferRecord, BufferRecords, RunRecords, SessionRecord};
 pub use returning::Returned;
-pub use seats::{SessionCrew, SessionFront, SessionLogger, SessionParts};
+pub use seats::{
+    SessionAnalyzer, SessionAnalyzers, SessionCrew, SessionFront, SessionLogger, SessionParts,
+};

@@ -6,18 +6,22 @@ ghost use Rattle.daq_io.specs.Seen.{Seen};
 ghost use Rattle.turn_lock.specs.Passes.{own_entries};
 ghost use Rattle.buffer_lock.specs.SharedPorts.{access_by};
 ghost use Rattle.odb_lock.specs.SharedAccesses.{access_by_pass};
+ghost use Rattle.analyzers.specs.AnalyzerKept.{AnalyzerStands, AnalyzerTells};
 ghost use Rattle.front_ends.specs.FrontIds.{IsFrontId};
 ghost use Rattle.loggers.specs.NewLoggers.{HaveNumbers};
-ghost use Rattle.session_objects.specs.Objects.{HaveCallers, SuitMembers};
-ghost use Rattle.session_objects.specs.Kept.{out_to_fronts, out_to_ports, out_to_logger, HasFreshBut};
-ghost use Rattle.session_objects.specs.Members.{ring_window, new_port, new_access, generator_of, event_room_of, event_rooms, IsNewFront, IsMadeLogger, AreBareMembers, AreNewMembers, AreMembersOf, HasDeclaredChannels};
+ghost use Rattle.loggers.specs.OtherFiles.{AreDeclared};
+ghost use Rattle.session_objects.specs.Objects.{first_analyzer, HaveCallers, SuitMembers};
+ghost use Rattle.session_objects.specs.Kept.{out_to_fronts, out_to_ports, out_to_logger, out_to_analyzers, out_to_members, HasFreshBut};
+ghost use Rattle.session_objects.specs.Members.{ring_window, new_port, new_access, generator_of, event_room_of, event_rooms, idle_analyzer, IsNewFront, IsNewAnalyzer, AreNewAnalyzers, IsMadeLogger, AreBareMembers, AreNewMembers, AreMembersOf};
 
 use crate::objects::{SessionBuffer, SessionObjects};
 use crate::passes::{SessionPasses, take_fresh};
-use crate::seats::{SessionCrew, SessionFront};
+use crate::seats::{SessionAnalyzer, SessionAnalyzers, SessionCrew, SessionFront};
+use analyzer_seats::{AnalyzerMember, AnalyzerSeat, AnalyzerSeats};
+use analyzers::Analyzer;
 use buffer_lock::SharedPort;
 use daq_io::{Files, Gate, Pick};
-use daq_members::{Crew, EndlessPort, FrontMember, FrontSeat, LoggerMember, LoggerSeat, Seat};
+use daq_members::{EndlessPort, FrontMember, FrontSeat, LoggerMember, LoggerSeat, Seat};
 use daq_types::{BoundedList, NoMemory};
 use event_header::MAX_DATA;
 use frontend_kit::Generator;
@@ -28,7 +32,8 @@ use odb_port::WatchPort;
 use odb_tree::Database;
 use odb_watch::WatchEntry;
 use ring_buffer::RingBuffer;
-use session_setup::FrontDeclared;
+use session_crew::Crew;
+use session_setup::{AnalyzerDeclared, FrontDeclared};
 use std::alloc::Global;
 use turn_lock::Machine;
 
@@ -53,12 +58,20 @@ where
     access: SharedAccess<'a, D>,
 }
 
+/// What an analyzer calls by: its place at the engine, and its port to its buffer.
+#[derive(Drop)]
+struct AnalyzerPlaces<'a> {
+    seat: Seat<'a>,
+    port: SharedPort<'a, RingBuffer>,
+}
+
 /// The members, but for the run files and the pick.
 #[derive(Drop)]
 struct BareMembers<'a, P: EndlessPort, A: WatchPort> {
     fronts: Vec<FrontSeat<'a, Generator, P, A>>,
     logger: LoggerMember<'a>,
     ports: Ports<P>,
+    analyzers: AnalyzerSeats<'a, P>,
 }
 
 /// The equipment that was declared.
@@ -113,18 +126,38 @@ fn make_logger(
     Ok(logger)
 }
 
+/// The analyzer that was declared, with room for the events of its buffer.
+fn make_analyzer(
+    alloc: Global,
+    buffers: &[SessionBuffer],
+    declared: &AnalyzerDeclared,
+) -> Result<Analyzer, NoMemory>
+    requires { declared.now.buffer < length buffers.now }
+    ensures made { IfOk result (λ analyzer. analyzer
+        ≡ idle_analyzer (event_room_of (slice_get buffers.now declared.now.buffer)) declared.now) }
+    ensures stands { IfOk result (λ analyzer. AnalyzerStands analyzer.wanted analyzer.client
+        analyzer.run [] [] []) }
+    ensures tells { IfOk result (λ analyzer. AnalyzerTells analyzer.run []) }
+{
+    let room = event_room_of(buffers, declared.buffer as usize);
+    let AnalyzerDeclared { id, mask, kind, .. } = *declared;
+    let analyzer = Analyzer::new(alloc, id, mask, kind, room)?;
+    Ok(analyzer)
+}
+
 impl SessionObjects {
     /// The places of the front-end with this client number, with its passes of its objects.
     fn place_front<'a, D: Database>(
         &'a self,
         database: &'a SharedOdb<D>,
         declared: &[FrontDeclared],
+        analyzers: &[AnalyzerDeclared],
         client: u32,
         passes: &mut SessionPasses<D>,
     ) -> FrontPlaces<'a, D>
         requires client { client < length declared.now }
         requires few { length declared.now ≤ 32 }
-        requires callers { HaveCallers declared.now self.now database.now }
+        requires callers { HaveCallers declared.now analyzers.now self.now database.now }
         requires out { HasFreshBut (out_to_fronts declared.now client) self.now database.now
             passes.old }
         ensures out { HasFreshBut (out_to_fronts declared.now (client + 1)) self.now database.now
@@ -153,6 +186,7 @@ impl SessionObjects {
         alloc: Global,
         database: &'a SharedOdb<D>,
         declared: &[FrontDeclared],
+        analyzers: &[AnalyzerDeclared],
         client: u32,
         passes: &mut SessionPasses<D>,
     ) -> Result<SessionFront<'a, D>, NoMemory>
@@ -160,7 +194,7 @@ impl SessionObjects {
         requires few { length declared.now ≤ 32 }
         requires ids { (client : ℕ) → (d : _) → slice_get declared.now client ≡ Some d →
             IsFrontId d.id }
-        requires callers { HaveCallers declared.now self.now database.now }
+        requires callers { HaveCallers declared.now analyzers.now self.now database.now }
         requires out { HasFreshBut (out_to_fronts declared.now client) self.now database.now
             passes.old }
         ensures out { OnOk result (HasFreshBut (out_to_fronts declared.now (client + 1)) self.now
@@ -169,7 +203,7 @@ impl SessionObjects {
             IsNewFront self.now database.now client d front) }
     {
         let FrontPlaces { seat, port, access } = self.place_front(
-            database, declared, client, passes,
+            database, declared, analyzers, client, passes,
         );
         let front = &declared[client as usize];
         let member = FrontMember::new(alloc, seat, front.name, generator_of(front))?;
@@ -182,12 +216,13 @@ impl SessionObjects {
         alloc: Global,
         database: &'a SharedOdb<D>,
         declared: &[FrontDeclared],
+        analyzers: &[AnalyzerDeclared],
         passes: &mut SessionPasses<D>,
     ) -> Result<Vec<SessionFront<'a, D>>, NoMemory>
         requires few { length declared.now ≤ 32 }
         requires ids { (client : ℕ) → (d : _) → slice_get declared.now client ≡ Some d →
             IsFrontId d.id }
-        requires callers { HaveCallers declared.now self.now database.now }
+        requires callers { HaveCallers declared.now analyzers.now self.now database.now }
         requires out { HasFreshBut (out_to_fronts declared.now 0) self.now database.now
             passes.old }
         ensures out { OnOk result (HasFreshBut (out_to_fronts declared.now (length declared.now))
@@ -199,7 +234,7 @@ impl SessionObjects {
     {
         let mut fronts = Vec::new(alloc);
         for client in 0..declared.len() as u32 {
-            let front = self.seat_front(alloc, database, declared, client, passes)?;
+            let front = self.seat_front(alloc, database, declared, analyzers, client, passes)?;
             fronts.push(front)?;
         }
         Ok(fronts)
@@ -211,10 +246,11 @@ impl SessionObjects {
         alloc: Global,
         database: &SharedOdb<D>,
         declared: &[FrontDeclared],
+        analyzers: &[AnalyzerDeclared],
         passes: &mut SessionPasses<D>,
     ) -> Result<Ports<SharedPort<'a, RingBuffer>>, NoMemory>
         requires few { length declared.now ≤ 32 }
-        requires callers { HaveCallers declared.now self.now database.now }
+        requires callers { HaveCallers declared.now analyzers.now self.now database.now }
         requires out { HasFreshBut (out_to_ports declared.now 0) self.now database.now passes.old }
         ensures out { OnOk result (HasFreshBut (out_to_ports declared.now
             (length self.now.buffers.items)) self.now database.now passes.new) }
@@ -236,10 +272,11 @@ impl SessionObjects {
         &'a self,
         database: &SharedOdb<D>,
         declared: &[FrontDeclared],
+        analyzers: &[AnalyzerDeclared],
         passes: &mut SessionPasses<D>,
     ) -> Seat<'a>
         requires few { length declared.now ≤ 32 }
-        requires callers { HaveCallers declared.now self.now database.now }
+        requires callers { HaveCallers declared.now analyzers.now self.now database.now }
         requires out { HasFreshBut (out_to_ports declared.now (length self.now.buffers.items))
             self.now database.now passes.old }
         ensures out { HasFreshBut (out_to_logger declared.now (length self.now.buffers.items))
@@ -253,65 +290,161 @@ impl SessionObjects {
         Seat::new(&self.engine, pass, client)
     }
 
+    /// The places of the analyzer at this place of the list, with its passes of its objects.
+    fn place_analyzer<'a, D: Database>(
+        &'a self,
+        database: &SharedOdb<D>,
+        declared: &[FrontDeclared],
+        analyzers: &[AnalyzerDeclared],
+        place: u32,
+        passes: &mut SessionPasses<D>,
+    ) -> AnalyzerPlaces<'a>
+        requires place { place < length analyzers.now }
+        requires few { length declared.now ≤ 32 }
+        requires few_analyzers { length analyzers.now ≤ 8 }
+        requires callers { HaveCallers declared.now analyzers.now self.now database.now }
+        requires out { HasFreshBut (out_to_analyzers declared.now analyzers.now
+            (length self.now.buffers.items) place) self.now database.now passes.old }
+        ensures out { HasFreshBut (out_to_analyzers declared.now analyzers.now
+            (length self.now.buffers.items) (place + 1)) self.now database.now passes.new }
+        ensures client { result.seat.client ≡ first_analyzer declared.now + place }
+        ensures engine { result.seat.engine.now ≡ self.now.engine }
+        ensures calls { own_entries result.seat.pass ≡ [] }
+        ensures port { (d buffer : _) → slice_get analyzers.now place ≡ Some d →
+            slice_get self.now.buffers.items d.buffer ≡ Some buffer →
+            access_by ring_window result.port
+            ≡ new_port buffer.shared (caller_of_client (first_analyzer declared.now + place)) }
+    {
+        let client = declared.len() as u32 + 1 + place;
+        let number = analyzers[place as usize].buffer as usize;
+        let pass = passes.take_of_buffer(number, client + 1);
+        let port = SharedPort::new(&self.buffers[number].shared, pass);
+        let pass = take_fresh(&mut passes.engine, client + 1);
+        let seat = Seat::new(&self.engine, pass, client);
+        AnalyzerPlaces { seat, port }
+    }
+
+    /// The analyzer at this place of the list.
+    fn seat_analyzer<'a, D: Database>(
+        &'a self,
+        alloc: Global,
+        database: &SharedOdb<D>,
+        declared: &[FrontDeclared],
+        analyzers: &[AnalyzerDeclared],
+        place: u32,
+        passes: &mut SessionPasses<D>,
+    ) -> Result<SessionAnalyzer<'a>, NoMemory>
+        requires place { place < length analyzers.now }
+        requires few { length declared.now ≤ 32 }
+        requires few_analyzers { length analyzers.now ≤ 8 }
+        requires callers { HaveCallers declared.now analyzers.now self.now database.now }
+        requires out { HasFreshBut (out_to_analyzers declared.now analyzers.now
+            (length self.now.buffers.items) place) self.now database.now passes.old }
+        ensures out { OnOk result (HasFreshBut (out_to_analyzers declared.now analyzers.now
+            (length self.now.buffers.items) (place + 1)) self.now database.now passes.new) }
+        ensures analyzer { IfOk result (λ analyzer. (d : _) →
+            slice_get analyzers.now place ≡ Some d →
+            IsNewAnalyzer self.now (first_analyzer declared.now + place) d analyzer) }
+    {
+        let analyzer = make_analyzer(alloc, &self.buffers, &analyzers[place as usize])?;
+        let AnalyzerPlaces { seat, port } = self.place_analyzer(
+            database, declared, analyzers, place, passes,
+        );
+        let member = AnalyzerMember::new(seat, analyzer);
+        Ok(AnalyzerSeat::new(member, port))
+    }
+
+    /// All analyzers.
+    fn seat_analyzers<'a, D: Database>(
+        &'a self,
+        alloc: Global,
+        database: &SharedOdb<D>,
+        declared: &[FrontDeclared],
+        analyzers: &[AnalyzerDeclared],
+        passes: &mut SessionPasses<D>,
+    ) -> Result<SessionAnalyzers<'a>, NoMemory>
+        requires few { length declared.now ≤ 32 }
+        requires few_analyzers { length analyzers.now ≤ 8 }
+        requires callers { HaveCallers declared.now analyzers.now self.now database.now }
+        requires out { HasFreshBut (out_to_analyzers declared.now analyzers.now
+            (length self.now.buffers.items) 0) self.now database.now passes.old }
+        ensures out { OnOk result (HasFreshBut (out_to_members declared.now analyzers.now
+            (length self.now.buffers.items)) self.now database.now passes.new) }
+        ensures analyzers { IfOk result (λ seats. AreNewAnalyzers self.now
+            (first_analyzer declared.now) analyzers.now seats) }
+    {
+        let mut seats = BoundedList::new(alloc)?;
+        for place in 0..analyzers.len() as u32 {
+            let analyzer = self.seat_analyzer(alloc, database, declared, analyzers, place, passes)?;
+            seats.push(analyzer);
+        }
+        Ok(seats)
+    }
+
     /// The members, but for the run files and the pick. All memory that they need is taken here.
     fn bare_members<'a, D: Database>(
         &'a self,
         alloc: Global,
         database: &'a SharedOdb<D>,
         declared: &[FrontDeclared],
+        analyzers: &[AnalyzerDeclared],
         channels: ChannelSpecs,
         passes: &mut SessionPasses<D>,
     ) -> Result<BareMembers<'a, SharedPort<'a, RingBuffer>, SharedAccess<'a, D>>, NoMemory>
-        requires suit { SuitMembers declared.now channels self.now database.now }
+        requires suit { SuitMembers declared.now analyzers.now channels self.now database.now }
         requires out { HasFreshBut (out_to_fronts declared.now 0) self.now database.now
             passes.old }
-        ensures out { OnOk result (HasFreshBut (out_to_logger declared.now
+        ensures out { OnOk result (HasFreshBut (out_to_members declared.now analyzers.now
             (length self.now.buffers.items)) self.now database.now passes.new) }
-        ensures members { IfOk result (λ bare. AreBareMembers declared.now channels self.now
-            database.now bare.fronts.items bare.logger (map (access_by ring_window) bare.ports)) }
+        ensures members { IfOk result (λ bare. AreBareMembers declared.now analyzers.now channels
+            self.now database.now bare.fronts.items bare.logger
+            (map (access_by ring_window) bare.ports) bare.analyzers) }
     {
         let logger = make_logger(alloc, &self.buffers, channels)?;
-        let fronts = self.seat_fronts(alloc, database, declared, passes)?;
-        let ports = self.open_ports(alloc, database, declared, passes)?;
-        let seat = self.place_logger(database, declared, passes);
+        let fronts = self.seat_fronts(alloc, database, declared, analyzers, passes)?;
+        let ports = self.open_ports(alloc, database, declared, analyzers, passes)?;
+        let seat = self.place_logger(database, declared, analyzers, passes);
+        let analyzers = self.seat_analyzers(alloc, database, declared, analyzers, passes)?;
         Ok(BareMembers {
             fronts,
             logger: LoggerMember::new(seat, logger),
             ports,
+            analyzers,
         })
     }
 
-    /// The members of a session of these declarations, none of which made a call: its front-ends, in their order, and the
-    /// logger with these channels. Their passes are taken out of those that are kept. The run files and the pick come back
+    /// The members of a session of these declarations, none of which made a call: its front-ends, in their order, the logger
+    /// with these channels, and its analyzers, in their order. Their passes are taken out of those that are kept. The run files and the pick come back
     /// where memory is wanting for the members.
     pub fn crew<'a, D: Database, F: Files, K: Pick, G: Gate>(
         &'a self,
         alloc: Global,
         database: &'a SharedOdb<D>,
         declared: &[FrontDeclared],
+        analyzers: &[AnalyzerDeclared],
         channels: ChannelSpecs,
         passes: &mut SessionPasses<D>,
         files: F,
         pick: K,
         gate: &'a G,
     ) -> Result<SessionCrew<'a, D, F, K, G>, Unmanned<F, K>>
-        requires suit { SuitMembers declared.now channels self.now database.now }
+        requires suit { SuitMembers declared.now analyzers.now channels self.now database.now }
         requires out { HasFreshBut (out_to_fronts declared.now 0) self.now database.now
             passes.old }
-        ensures members { IfOk result (λ crew. AreNewMembers declared.now channels self.now
-            database.now files pick crew) }
-        ensures are { IfOk result (λ crew. AreMembersOf declared.now self.now database.now
-            crew.fronts crew.logger) }
-        ensures channels { IfOk result (λ crew. HasDeclaredChannels channels crew.logger) }
-        ensures out { OnOk result (HasFreshBut (out_to_logger declared.now
+        ensures members { IfOk result (λ crew. AreNewMembers declared.now analyzers.now channels
+            self.now database.now files pick crew) }
+        ensures are { IfOk result (λ crew. AreMembersOf declared.now analyzers.now self.now
+            database.now crew.fronts crew.logger crew.analyzers) }
+        ensures channels { IfOk result (λ crew. AreDeclared channels crew.logger.slots) }
+        ensures out { OnOk result (HasFreshBut (out_to_members declared.now analyzers.now
             (length self.now.buffers.items)) self.now database.now passes.new) }
         ensures files { IfErr result (λ unmanned. unmanned.files ≡ files) }
         ensures pick { IfErr result (λ unmanned. unmanned.pick ≡ pick) }
     {
-        match self.bare_members(alloc, database, declared, channels, passes) {
+        match self.bare_members(alloc, database, declared, analyzers, channels, passes) {
             Ok(bare) => {
                 let logger = LoggerSeat::new(bare.logger, bare.ports, files);
-                Ok(Crew::new(bare.fronts, logger, pick, gate))
+                Ok(Crew::new(bare.fronts, logger, bare.analyzers, pick, gate))
             }
             Err(NoMemory) => Err(Unmanned { files, pick }),
         }

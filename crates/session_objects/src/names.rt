@@ -1,16 +1,19 @@
 // How the members of a session are registered.
-ghost use Rattle.std.specs.Prelude.{◌≡◌, ◌++◌, ◌∷◌, [], map, codes, IfOk};
-ghost use Rattle.session_objects.specs.Names.{front_member_name, logger_member_name, member_names};
+ghost use Rattle.std.specs.Prelude.{◌≡◌, ◌++◌, map, IfOk, OnOk};
+ghost use Rattle.run_states.specs.declared.sequences.Role.TheVariants.{Analyzer, FrontEnd};
+ghost use Rattle.mid_logger.specs.ChannelTurns.{logger_name};
+ghost use Rattle.session_engine.specs.Members.{member_in};
+ghost use Rattle.session_objects.specs.Names.{member_names};
 
 use daq_types::{Name, NoMemory};
 use run_states::Role;
 use session_engine::MemberName;
-use session_setup::FrontDeclared;
+use session_setup::{AnalyzerDeclared, FrontDeclared};
 use std::alloc::Global;
 
 /// The name of the logger.
 fn logger_name() -> Name
-    ensures { result ≡ codes "Logger" }
+    ensures { result ≡ logger_name }
 {
     match Name::new(b"Logger") {
         Ok(name) => name,
@@ -18,9 +21,10 @@ fn logger_name() -> Name
     }
 }
 
-/// The members of a session in the order of their client numbers: the front-ends as they were declared, and the logger.
-pub fn member_names(alloc: Global, fronts: &[FrontDeclared]) -> Result<Vec<MemberName>, NoMemory>
-    ensures { IfOk result (λ names. names.items ≡ member_names fronts.now) }
+/// The front-ends as they were declared.
+fn front_member_names(alloc: Global, fronts: &[FrontDeclared]) -> Result<Vec<MemberName>, NoMemory>
+    ensures { IfOk result (λ names. names.items
+        ≡ map (λ front. member_in FrontEnd front.name) fronts.now) }
 {
     let mut names = Vec::new(alloc);
     for front in fronts {
@@ -29,9 +33,40 @@ pub fn member_names(alloc: Global, fronts: &[FrontDeclared]) -> Result<Vec<Membe
             role: Role::FrontEnd,
         })?;
     }
+    Ok(names)
+}
+
+/// Puts the analyzers as they were declared behind these members.
+fn push_analyzers(
+    names: &mut Vec<MemberName>,
+    analyzers: &[AnalyzerDeclared],
+) -> Result<(), NoMemory>
+    ensures { OnOk result (names.new.items
+        ≡ names.old.items ++ map (λ analyzer. member_in Analyzer analyzer.name) analyzers.now) }
+{
+    for analyzer in analyzers {
+        names.push(MemberName {
+            name: analyzer.name,
+            role: Role::Analyzer,
+        })?;
+    }
+    Ok(())
+}
+
+/// The members of a session in the order of their client numbers: the front-ends as they were declared, the logger, and the
+/// analyzers as they were declared.
+pub fn member_names(
+    alloc: Global,
+    fronts: &[FrontDeclared],
+    analyzers: &[AnalyzerDeclared],
+) -> Result<Vec<MemberName>, NoMemory>
+    ensures { IfOk result (λ names. names.items ≡ member_names fronts.now analyzers.now) }
+{
+    let mut names = front_member_names(alloc, fronts)?;
     names.push(MemberName {
         name: logger_name(),
         role: Role::Logger,
     })?;
+    push_analyzers(&mut names, analyzers)?;
     Ok(names)
 }

@@ -7,9 +7,9 @@ ghost use Rattle.buffer_lock.specs.SharedBuffers.{lock_of};
 ghost use Rattle.transition_lock.specs.SharedEngines.{engine_lock_of};
 ghost use Rattle.odb_lock.specs.declared.shared.SharedOdb.{SharedOdb as DatabaseShared};
 ghost use Rattle.odb_lock.specs.SharedOdbs.{odb_lock_of};
-ghost use Rattle.session_setup.specs.Setup.{is_buffer_size, AreSound};
+ghost use Rattle.session_setup.specs.Setup.{declared_by, is_buffer_size, AreSound};
 ghost use Rattle.session_objects.specs.Rosters.{KeepsFresh};
-ghost use Rattle.session_objects.specs.Objects.{declared_by, IsBufferOf, AreBuffersOf, AreObjectsOf};
+ghost use Rattle.session_objects.specs.Objects.{IsBufferOf, AreBuffersOf, AreObjectsOf};
 ghost use Rattle.session_objects.specs.Kept.{out_to_fronts, HasFreshBut};
 
 use crate::objects::{SessionBuffer, SessionObjects};
@@ -27,7 +27,7 @@ use transition_lock::{EnginePass, SharedEngine};
 use transitions::Engine;
 use turn_lock::Machine;
 
-/// How many callers an object has besides the front-ends: the main thread and the logger.
+/// How many callers an object has besides the front-ends and the analyzers: the main thread and the logger.
 const OTHER_CALLERS: u32 = 2;
 
 /// The objects of a session, as they open.
@@ -100,8 +100,8 @@ fn open_buffers(
 }
 
 impl SessionObjects {
-    /// The objects of a session of these declarations, which its main thread, its front-ends and its logger call. All memory
-    /// that they need is taken here. The passes of the database, of which the main thread has its own, are kept with the
+    /// The objects of a session of these declarations, which its main thread and its members call. All memory that they need
+    /// is taken here. The passes of the database, of which the main thread has its own, are kept with the
     /// others.
     pub fn open<D: Database>(
         alloc: Global,
@@ -120,7 +120,7 @@ impl SessionObjects {
             opened.main) }
         ensures fresh { IfOk result (λ opened. IsFresh opened.main) }
     {
-        let callers = lists.fronts.len() as u32 + OTHER_CALLERS;
+        let callers = lists.fronts.len() as u32 + OTHER_CALLERS + lists.analyzers.len() as u32;
         let OpenedBuffers { buffers, passes } = open_buffers(
             alloc,
             lists.buffers.as_slice(),

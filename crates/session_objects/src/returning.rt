@@ -7,23 +7,25 @@ ghost use Rattle.transition_lock.specs.SharedEngines.{engine_lock_of};
 ghost use Rattle.odb_lock.specs.SharedOdbs.{odb_lock_of};
 ghost use Rattle.session_objects.specs.Rosters.{IsMainPass};
 ghost use Rattle.session_objects.specs.Calls.{SessionCalls};
-ghost use Rattle.session_objects.specs.Objects.{HaveCallers};
-ghost use Rattle.session_objects.specs.Kept.{out_to_fronts, out_to_ports, out_to_logger, HasFreshBut};
+ghost use Rattle.session_objects.specs.Objects.{first_analyzer, HaveCallers};
+ghost use Rattle.session_objects.specs.Kept.{out_to_fronts, out_to_ports, out_to_logger, out_to_analyzers, out_to_members, HasFreshBut};
 ghost use Rattle.session_objects.specs.Records.{HasCallsBut, HasCalls};
-ghost use Rattle.session_objects.specs.Members.{ring_window, ArePortsTo, IsFrontOf, IsLoggerOf, AreMembersOf, front_calls, session_calls};
+ghost use Rattle.session_objects.specs.Members.{ring_window, ArePortsTo, IsFrontOf, IsLoggerOf, IsAnalyzerOf, AreAnalyzersOf, AreMembersOf, front_calls, analyzer_calls, session_calls};
 
 use crate::objects::SessionObjects;
 use crate::passes::SessionPasses;
-use crate::seats::{SessionFront, SessionLogger, SessionParts};
+use crate::seats::{SessionAnalyzer, SessionAnalyzers, SessionFront, SessionLogger, SessionParts};
+use analyzer_seats::AnalyzerParts;
 use buffer_lock::SharedPort;
 use daq_io::{Files, Pick};
-use daq_members::{CrewParts, FrontParts, LoggerParts};
+use daq_members::{FrontParts, LoggerParts};
 use loggers::Ports;
 use odb_lock::{LockedDatabase, OdbPass, SharedOdb, WatchedSeen};
 use odb_tree::Database;
 use odb_watch::WatchEntry;
 use ring_buffer::RingBuffer;
-use session_setup::FrontDeclared;
+use session_crew::CrewParts;
+use session_setup::{AnalyzerDeclared, FrontDeclared};
 use transition_lock::EnginePass;
 use turn_lock::Machine;
 
@@ -44,6 +46,7 @@ impl SessionObjects {
         &self,
         database: &SharedOdb<D>,
         declared: &[FrontDeclared],
+        analyzers: &[AnalyzerDeclared],
         client: usize,
         front: SessionFront<'a, D>,
         passes: &mut SessionPasses<D>,
@@ -52,10 +55,10 @@ impl SessionObjects {
         requires client { (d : _) × (slice_get declared.now client ≡ Some d)
             × IsFrontOf self.now database.now client d front }
         requires calls { slice_get calls.fronts client ≡ Some (front_calls front) }
-        requires out { HasCallsBut (out_to_fronts declared.now (client + 1)) declared.now calls
-            self.now database.now passes.old }
-        ensures { HasCallsBut (out_to_fronts declared.now client) declared.now calls self.now
-            database.now passes.new }
+        requires out { HasCallsBut (out_to_fronts declared.now (client + 1)) declared.now
+            analyzers.now calls self.now database.now passes.old }
+        ensures { HasCallsBut (out_to_fronts declared.now client) declared.now
+            analyzers.now calls self.now database.now passes.new }
     {
         let FrontParts {
             pass,
@@ -73,6 +76,7 @@ impl SessionObjects {
         &self,
         database: &SharedOdb<D>,
         declared: &[FrontDeclared],
+        analyzers: &[AnalyzerDeclared],
         mut fronts: Vec<SessionFront<'a, D>>,
         passes: &mut SessionPasses<D>,
     )
@@ -83,12 +87,12 @@ impl SessionObjects {
             IsFrontOf self.now database.now client d front }
         requires calls { calls.fronts ≡ map front_calls fronts.items }
         requires out { HasCallsBut (out_to_fronts declared.now (length declared.now))
-            declared.now calls self.now database.now passes.old }
-        ensures { HasCallsBut (out_to_fronts declared.now 0) declared.now calls self.now
-            database.now passes.new }
+            declared.now analyzers.now calls self.now database.now passes.old }
+        ensures { HasCallsBut (out_to_fronts declared.now 0) declared.now
+            analyzers.now calls self.now database.now passes.new }
     {
         while let Some(front) = fronts.pop() {
-            self.take_back_front(database, declared, fronts.len(), front, passes);
+            self.take_back_front(database, declared, analyzers, fronts.len(), front, passes);
         }
     }
 
@@ -97,6 +101,7 @@ impl SessionObjects {
         &self,
         database: &SharedOdb<D>,
         declared: &[FrontDeclared],
+        analyzers: &[AnalyzerDeclared],
         logger: SessionLogger<'a, F>,
         passes: &mut SessionPasses<D>,
     ) -> F
@@ -106,14 +111,14 @@ impl SessionObjects {
         requires engine { calls.logger_engine ≡ logger.calls }
         requires ports { calls.logger_ports ≡ logger.ports }
         requires out { HasCallsBut (out_to_logger declared.now (length self.now.buffers.items))
-            declared.now calls self.now database.now passes.old }
+            declared.now analyzers.now calls self.now database.now passes.old }
         ensures files { result ≡ logger.entry.files }
         ensures out { HasCallsBut (out_to_fronts declared.now (length declared.now)) declared.now
-            calls self.now database.now passes.new }
+            analyzers.now calls self.now database.now passes.new }
     {
         let LoggerParts { pass, ports, files } = logger.into_parts();
         passes.put_to_engine(pass);
-        self.take_back_ports(database, declared, ports, passes);
+        self.take_back_ports(database, declared, analyzers, ports, passes);
         files
     }
 
@@ -122,6 +127,7 @@ impl SessionObjects {
         &self,
         database: &SharedOdb<D>,
         declared: &[FrontDeclared],
+        analyzers: &[AnalyzerDeclared],
         mut ports: Ports<SharedPort<'a, RingBuffer>>,
         passes: &mut SessionPasses<D>,
     )
@@ -131,12 +137,64 @@ impl SessionObjects {
             (map (access_by ring_window) ports) }
         requires calls { calls.logger_ports ≡ map (access_by ring_window) ports }
         requires out { HasCallsBut (out_to_ports declared.now (length self.now.buffers.items))
-            declared.now calls self.now database.now passes.old }
-        ensures { HasCallsBut (out_to_fronts declared.now (length declared.now)) declared.now calls
-            self.now database.now passes.new }
+            declared.now analyzers.now calls self.now database.now passes.old }
+        ensures { HasCallsBut (out_to_fronts declared.now (length declared.now)) declared.now
+            analyzers.now calls self.now database.now passes.new }
     {
         while let Some(port) = ports.pop() {
             passes.put_to_buffer(ports.len(), port.into_pass());
+        }
+    }
+
+    /// Takes the passes of the analyzer at this place of the list back, which is the last one that has them.
+    fn take_back_analyzer<'a, D: Database>(
+        &self,
+        database: &SharedOdb<D>,
+        declared: &[FrontDeclared],
+        analyzers: &[AnalyzerDeclared],
+        place: usize,
+        analyzer: SessionAnalyzer<'a>,
+        passes: &mut SessionPasses<D>,
+    )
+        ghost calls: { SessionCalls }
+        requires place { (d : _) × (slice_get analyzers.now place ≡ Some d)
+            × IsAnalyzerOf self.now (first_analyzer declared.now + place) d analyzer }
+        requires calls { slice_get calls.analyzers place ≡ Some (analyzer_calls analyzer) }
+        requires fronts { length calls.fronts ≡ length declared.now }
+        requires out { HasCallsBut (out_to_analyzers declared.now analyzers.now
+            (length self.now.buffers.items) (place + 1)) declared.now analyzers.now calls
+            self.now database.now passes.old }
+        ensures { HasCallsBut (out_to_analyzers declared.now analyzers.now
+            (length self.now.buffers.items) place) declared.now analyzers.now calls
+            self.now database.now passes.new }
+    {
+        let AnalyzerParts { pass, port } = analyzer.into_parts();
+        passes.put_to_engine(pass);
+        passes.put_to_buffer(analyzers[place].buffer as usize, port.into_pass());
+    }
+
+    /// Takes the passes of all analyzers back.
+    fn take_back_analyzers<'a, D: Database>(
+        &self,
+        database: &SharedOdb<D>,
+        declared: &[FrontDeclared],
+        analyzers: &[AnalyzerDeclared],
+        mut seats: SessionAnalyzers<'a>,
+        passes: &mut SessionPasses<D>,
+    )
+        ghost calls: { SessionCalls }
+        requires analyzers { AreAnalyzersOf self.now (first_analyzer declared.now) analyzers.now
+            seats }
+        requires calls { calls.analyzers ≡ map analyzer_calls seats }
+        requires fronts { length calls.fronts ≡ length declared.now }
+        requires out { HasCallsBut (out_to_members declared.now analyzers.now
+            (length self.now.buffers.items)) declared.now analyzers.now calls self.now
+            database.now passes.old }
+        ensures { HasCallsBut (out_to_logger declared.now (length self.now.buffers.items))
+            declared.now analyzers.now calls self.now database.now passes.new }
+    {
+        while let Some(analyzer) = seats.pop() {
+            self.take_back_analyzer(database, declared, analyzers, seats.len(), analyzer, passes);
         }
     }
 
@@ -145,6 +203,7 @@ impl SessionObjects {
         &self,
         database: &SharedOdb<D>,
         declared: &[FrontDeclared],
+        analyzers: &[AnalyzerDeclared],
         mut passes: SessionPasses<D>,
         parts: SessionParts<'a, D, F, K>,
         main_engine: EnginePass,
@@ -152,25 +211,28 @@ impl SessionObjects {
     ) -> Returned<D, F, K>
         ghost calls: { SessionCalls }
         requires calls { calls ≡ session_calls (own_entries main_engine) (seen_by main_database)
-            parts.fronts.items parts.logger }
-        requires callers { HaveCallers declared.now self.now database.now }
-        requires members { AreMembersOf declared.now self.now database.now parts.fronts.items
-            parts.logger }
-        requires out { HasFreshBut (out_to_logger declared.now (length self.now.buffers.items))
-            self.now database.now passes }
+            parts.fronts.items parts.logger parts.analyzers }
+        requires callers { HaveCallers declared.now analyzers.now self.now database.now }
+        requires members { AreMembersOf declared.now analyzers.now self.now database.now
+            parts.fronts.items parts.logger parts.analyzers }
+        requires out { HasFreshBut (out_to_members declared.now analyzers.now
+            (length self.now.buffers.items)) self.now database.now passes }
         requires engine { IsMainPass (engine_lock_of self.now.engine) main_engine }
         requires database { IsMainPass (odb_lock_of database.now) main_database }
-        ensures calls { HasCalls declared.now calls self.now database.now result.passes }
+        ensures calls { HasCalls declared.now analyzers.now calls self.now database.now
+            result.passes }
         ensures files { result.files ≡ parts.entry.logger.files }
         ensures pick { result.pick ≡ parts.entry.pick }
     {
         let CrewParts {
             fronts,
             logger,
+            analyzers: seats,
             pick,
         } = parts;
-        let files = self.take_back_logger(database, declared, logger, &mut passes);
-        self.take_back_fronts(database, declared, fronts, &mut passes);
+        self.take_back_analyzers(database, declared, analyzers, seats, &mut passes);
+        let files = self.take_back_logger(database, declared, analyzers, logger, &mut passes);
+        self.take_back_fronts(database, declared, analyzers, fronts, &mut passes);
         passes.put_to_engine(main_engine);
         passes.put_to_database(main_database);
         Returned {
@@ -186,27 +248,29 @@ impl SessionObjects {
         &self,
         database: &SharedOdb<D>,
         declared: &[FrontDeclared],
+        analyzers: &[AnalyzerDeclared],
         passes: SessionPasses<D>,
         parts: SessionParts<'a, D, F, K>,
         main_engine: EnginePass,
         main_database: OdbPass<D>,
     ) -> Returned<D, F, K>
-        requires callers { HaveCallers declared.now self.now database.now }
-        requires members { AreMembersOf declared.now self.now database.now parts.fronts.items
-            parts.logger }
-        requires out { HasFreshBut (out_to_logger declared.now (length self.now.buffers.items))
-            self.now database.now passes }
+        requires callers { HaveCallers declared.now analyzers.now self.now database.now }
+        requires members { AreMembersOf declared.now analyzers.now self.now database.now
+            parts.fronts.items parts.logger parts.analyzers }
+        requires out { HasFreshBut (out_to_members declared.now analyzers.now
+            (length self.now.buffers.items)) self.now database.now passes }
         requires engine { IsMainPass (engine_lock_of self.now.engine) main_engine }
         requires database { IsMainPass (odb_lock_of database.now) main_database }
-        ensures calls { HasCalls declared.now (session_calls (own_entries main_engine)
-            (seen_by main_database) parts.entry.fronts.items parts.entry.logger) self.now
-            database.now result.passes }
+        ensures calls { HasCalls declared.now analyzers.now (session_calls (own_entries main_engine)
+            (seen_by main_database) parts.entry.fronts.items parts.entry.logger
+            parts.entry.analyzers) self.now database.now result.passes }
         ensures files { result.files ≡ parts.entry.logger.files }
         ensures pick { result.pick ≡ parts.entry.pick }
     {
         self.take_back_all(
             database,
             declared,
+            analyzers,
             passes,
             parts,
             main_engine,

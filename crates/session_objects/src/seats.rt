@@ -1,9 +1,11 @@
 // The members of a session, by what they are made of.
+use analyzer_seats::{AnalyzerSeat, AnalyzerSeats};
 use buffer_lock::SharedPort;
-use daq_members::{Crew, CrewParts, FrontSeat, LoggerSeat};
+use daq_members::{FrontSeat, LoggerSeat};
 use frontend_kit::Generator;
 use odb_lock::SharedAccess;
 use ring_buffer::RingBuffer;
+use session_crew::{Crew, CrewParts};
 
 /// A front-end of a session, which generates its events.
 pub type SessionFront<'a, D> = FrontSeat<
@@ -15,6 +17,12 @@ pub type SessionFront<'a, D> = FrontSeat<
 
 /// The logger of a session.
 pub type SessionLogger<'a, F> = LoggerSeat<'a, SharedPort<'a, RingBuffer>, F>;
+
+/// An analyzer of a session.
+pub type SessionAnalyzer<'a> = AnalyzerSeat<'a, SharedPort<'a, RingBuffer>>;
+
+/// The analyzers of a session, in the order of their declaration.
+pub type SessionAnalyzers<'a> = AnalyzerSeats<'a, SharedPort<'a, RingBuffer>>;
 
 /// The members of a session.
 pub type SessionCrew<'a, D, F, K, G> = Crew<

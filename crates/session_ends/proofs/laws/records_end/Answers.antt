@@ -2,4 +2,4 @@ use Rattle.session_ends.proofs.RecordsMet.{record_met}
 use Rattle.session_ends.proofs.laws.records_end.Goals as goal
 
 pub returns : goal.returns
-returns g c = λ fronts logger ended. record_met g.F.Files.seen fronts logger c.args._kept.now ended c.records_hold.ensures c.channels_agree.ensures
+returns g c = λ fronts analyzers logger ended. record_met g.F.Files.seen fronts analyzers logger c.args._kept.now ended c.records_hold.ensures c.channels_agree.ensures

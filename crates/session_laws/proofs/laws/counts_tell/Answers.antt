@@ -24,8 +24,18 @@ returns c =
       main = c.main_has_transition.ensures;
       refusals = c.tallies_answered.ensures.refusals;
       tallies = c.tallies_answered.ensures.tallies;
+      tell = c.reasons_given.ensures.tell;
       composed = c.ends_composed.ensures;
       stopped = c.made_are_stopped.ensures;
       undone = undone;
       over = c.runs_over.ensures;
+      asking = record {
+        attaches = c.refuses_for_cause.ensures.attaches;
+        sum = c.refuses_for_cause.ensures.sum;
+        requests = c.refuses_for_cause.ensures.requests;
+        begins = c.refuses_for_cause.ensures.begins;
+        fits = c.fits_members.ensures.all;
+        senders = c.ends_runs.ensures.senders;
+      };
+      blanks = c.blanks_suffice.ensures;
     })

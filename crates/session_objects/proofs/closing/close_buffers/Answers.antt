@@ -1,7 +1,6 @@
-use Rattle.std.proofs.Common.{◌≡◌, ◌∙◌, ◌+◌, ◌-◌, ◌<◌, ◌≤◌, ◌++◌, ◌∷◌, [], ℕ, suc, List, length, drop, length-append, add-one, ap, sym, refl, subst, arith}
+use Rattle.std.proofs.Common.{◌≡◌, ◌∙◌, ◌+◌, ◌-◌, ◌<◌, ◌++◌, ◌∷◌, [], ℕ, List, length, drop, length-append, add-one, ap, sym, subst, arith}
 use Rattle.std.specs.Prelude.{slice_get, Some}
 use Rattle.std.proofs.lemmas.List.{length-drop}
-use Rattle.std.proofs.lemmas.Option.{slice_get_read, slice_get_within}
 use Rattle.turn_lock.specs.declared.roster.Passes.{Passes}
 use Rattle.turn_lock.specs.Passes.{passes_of}
 use Rattle.turn_lock.specs.Roster.{items_of}
@@ -9,8 +8,8 @@ use Rattle.turn_lock.specs.Closing.{history_of}
 use Rattle.buffer_lock.specs.SharedBuffers.{lock_of}
 use Rattle.session_objects.specs.declared.objects.SessionBuffer.{SessionBuffer}
 use Rattle.session_objects.specs.declared.record.BufferRecord.{BufferRecord}
-use Rattle.session_objects.specs.Records.{IsRecordOf, HoldsAllOf, AreAllPasses}
-use Rattle.session_objects.proofs.ChangeLaws.{each_pushed, some_same, get_drop, drop_next, first_removed}
+use Rattle.session_objects.specs.Records.{IsRecordOf, HoldsAllOf}
+use Rattle.session_objects.proofs.ChangeLaws.{each_pushed, some_same, drop_next, first_removed}
 use Rattle.session_objects.proofs.closing.close_buffers.Goals as goal
 
 pub close_buffer-requires : goal.close_buffer-requires

@@ -1,4 +1,4 @@
-use Rattle.std.proofs.Common.{rules, ◌≡◌, ◌∙◌, ◌<◌, ◌≤◌, ◌+◌, ◌++◌, ◌∷◌, [], ℕ, List, length, map, take, get_or, ap, sym, refl, subst, arith, length-append}
+use Rattle.std.proofs.Common.{rules, ◌≡◌, ◌∙◌, ◌<◌, ◌+◌, ◌++◌, ◌∷◌, [], ℕ, List, length, map, take, ap, sym, refl, subst, arith, length-append}
 use Rattle.std.specs.Prelude.{slice_get, Some}
 use Rattle.std.proofs.Math.Seq.{take-length}
 use Rattle.std.proofs.lemmas.List.{map-append, take_more}
@@ -20,7 +20,7 @@ take_of_buffer-pass-requires-clause-there g c =
     let n : ℕ = c.loop-number.number in
     let l : n < length c.args.self.now.buffers.items = search rules in
     let b = there_below c.args.self.now.buffers.items n l in
-    let count : passes_of (lock_of b.0.shared) ≡ length c.args.declared.now + 2 = c.requires.callers.buffers n b.0 b.1 in
+    let count : passes_of (lock_of b.0.shared) ≡ length c.args.declared.now + 2 + length c.args.analyzers.now = c.requires.callers.buffers n b.0 b.1 in
     λ roster at. port_has c.args.self.now c.args.database.now c.args.declared.now n c.loop-number.passes c.loop-number.invariant.1 b.0 roster b.1 at (omega arith)
 
 pub new-requires-in-loop-number-clause-own : goal.new-requires-in-loop-number-clause-own

@@ -1,8 +1,8 @@
-use Rattle.std.proofs.Common.{rules, ◌≡◌, ◌∙◌, ◌<◌, ◌+◌, ℕ, List, length, ap, sym, refl, subst, arith, get_or}
+use Rattle.std.proofs.Common.{rules, ◌≡◌, ◌∙◌, ◌<◌, ◌+◌, length, ap, sym, refl, subst, arith, get_or}
 use Rattle.std.specs.Prelude.{slice_get, Some, Contains}
 use Rattle.std.proofs.lemmas.Option.{slice_get-get_or, slice_get_read}
 use Rattle.session_objects.proofs.ToldLaws.{new_port_is}
-use Rattle.turn_lock.specs.Passes.{passes_of, number_of, seen_by, IsOf}
+use Rattle.turn_lock.specs.Passes.{passes_of, number_of, seen_by}
 use Rattle.turn_lock.specs.Roster.{numbers_of, ArePassesOf, AreFresh}
 use Rattle.turn_lock.specs.declared.roster.Passes.{Passes}
 use Rattle.buffer_lock.specs.SharedBuffers.{lock_of}
@@ -11,7 +11,6 @@ use Rattle.odb_lock.specs.SharedOdbs.{odb_lock_of}
 use Rattle.session_setup.specs.declared.declared.FrontDeclared.{FrontDeclared}
 use Rattle.session_objects.specs.declared.objects.SessionBuffer.{SessionBuffer}
 use Rattle.session_objects.specs.declared.passes.SessionPasses.{SessionPasses}
-use Rattle.session_objects.specs.Rosters.{TakesFresh, KeepsFresh}
 use Rattle.session_objects.proofs.ChangeLaws.{there_below, some_same}
 use Rattle.session_objects.proofs.PlaceLaws.{buffer_has, engine_has, database_has, front_out}
 use Rattle.session_objects.proofs.objects.SessionObjects.place_front.Goals as goal
@@ -21,7 +20,7 @@ take_of_buffer-pass-requires-clause-there g c =
     let d : FrontDeclared = get_or c.args.declared.now c.args.client c.index-declared-client.result in
     let at_d : slice_get c.args.declared.now c.args.client ≡ Some d = slice_get-get_or c.args.declared.now c.args.client c.index-declared-client.result c.requires.client in
     let b = there_below c.args.self.now.buffers.items d.buffer (c.requires.callers.sent_into c.args.client d at_d) in
-    let count : passes_of (lock_of b.0.shared) ≡ length c.args.declared.now + 2 = c.requires.callers.buffers d.buffer b.0 b.1 in
+    let count : passes_of (lock_of b.0.shared) ≡ length c.args.declared.now + 2 + length c.args.analyzers.now = c.requires.callers.buffers d.buffer b.0 b.1 in
     let within : c.args.client < length c.args.declared.now = c.requires.client in
     λ roster at. buffer_has c.args.self.now c.args.database.now c.args.declared.now c.args.client c.args.passes.now c.requires.out d.buffer b.0 roster b.1 at (omega arith)
 
@@ -74,7 +73,7 @@ new-access-requires-clause-idle g c =
 pub take_fresh-requires-2 : goal.take_fresh-requires-2
 take_fresh-requires-2 g c =
     let within : c.args.client < length c.args.declared.now = c.requires.client in
-    let count : passes_of (engine_lock_of c.args.self.now.engine) ≡ length c.args.declared.now + 2 = c.requires.callers.engine in
+    let count : passes_of (engine_lock_of c.args.self.now.engine) ≡ length c.args.declared.now + 2 + length c.args.analyzers.now = c.requires.callers.engine in
     let P : Passes _ _ _ _ → Type 0 = λ en. Contains (numbers_of en) (c.args.client + 1) in
     subst P (sym c.take_of_buffer-pass.ensures.engine)
     (engine_has c.args.self.now c.args.database.now c.args.declared.now c.args.client c.args.passes.now c.requires.out (omega arith))

@@ -1,4 +1,4 @@
-use Rattle.std.proofs.Common.{rules, ◌≡◌, ◌<◌, ◌+◌, ℕ, length, refl, arith}
+use Rattle.std.proofs.Common.{◌≡◌, ◌+◌, length, refl, arith}
 use Rattle.turn_lock.specs.Passes.{passes_of}
 use Rattle.transition_lock.specs.SharedEngines.{engine_lock_of}
 use Rattle.session_objects.proofs.PlaceLaws.{logger_has_engine, logger_out}
@@ -6,7 +6,7 @@ use Rattle.session_objects.proofs.objects.SessionObjects.place_logger.Goals as g
 
 pub take_fresh-pass-requires : goal.take_fresh-pass-requires
 take_fresh-pass-requires g c =
-    let count : passes_of (engine_lock_of c.args.self.now.engine) ≡ length c.args.declared.now + 2 = c.requires.callers.engine in
+    let count : passes_of (engine_lock_of c.args.self.now.engine) ≡ length c.args.declared.now + 2 + length c.args.analyzers.now = c.requires.callers.engine in
     logger_has_engine c.args.self.now c.args.database.now c.args.declared.now (length c.args.self.now.buffers.items) c.args.passes.now c.requires.out (omega arith)
 
 pub returns-clause-out : goal.returns-clause-out

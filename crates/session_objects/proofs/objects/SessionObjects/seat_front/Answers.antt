@@ -1,4 +1,4 @@
-use Rattle.std.proofs.Common.{rules, ◌≡◌, ◌∙◌, ◌<◌, ◌+◌, ◌≤◌, ℕ, List, length, ap, sym, refl, subst}
+use Rattle.std.proofs.Common.{◌≡◌, ◌∙◌, ◌+◌, ◌≤◌, ℕ, List, length, ap, sym, refl, subst}
 use Rattle.std.specs.Prelude.{slice_get, Some, None, []}
 use Rattle.daq_members.specs.FrontTaken.{FrontMemberStands}
 use Rattle.std.proofs.lemmas.Option.{slice_get_read}
@@ -10,7 +10,6 @@ use Rattle.front_ends.specs.FrontIds.{IsFrontId}
 use Rattle.front_ends.specs.Fronts.{FrontState}
 use Rattle.frontend_kit.specs.declared.generator.Generator.{Generator}
 use Rattle.session_setup.specs.declared.declared.FrontDeclared.{FrontDeclared}
-use Rattle.session_objects.specs.declared.objects.SessionBuffer.{SessionBuffer}
 use Rattle.session_objects.specs.Members.{new_front, IsNewFront, generator_takes, generator_makes}
 use Rattle.session_objects.proofs.ChangeLaws.{there_below, some_same}
 use Rattle.session_objects.proofs.SeatLaws.{seen_same, stands_yet, wide_enough}

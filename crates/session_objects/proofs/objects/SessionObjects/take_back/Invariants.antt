@@ -3,4 +3,4 @@ use Rattle.session_objects.specs.Members.{session_calls}
 use Rattle.session_objects.proofs.objects.SessionObjects.take_back.Given as goal
 
 abbrev pub ghost-take_back_all : goal.ghost-take_back_all
-ghost-take_back_all g a = session_calls (own_entries a.main_engine) (seen_by a.main_database) a.parts.fronts.items a.parts.logger
+ghost-take_back_all g a = session_calls (own_entries a.main_engine) (seen_by a.main_database) a.parts.fronts.items a.parts.logger a.parts.analyzers

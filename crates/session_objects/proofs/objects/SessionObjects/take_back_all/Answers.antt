@@ -1,15 +1,31 @@
-use Rattle.std.proofs.Common.{rules, ◌≡◌, ◌∙◌, ◌<◌, [], ℕ, List, length, map, ap, sym, refl, subst}
+use Rattle.std.proofs.Common.{◌≡◌, ◌∙◌, ◌<◌, [], length, ap, sym, refl, subst}
 use Rattle.std.proofs.lemmas.List.{length-map}
 use Rattle.turn_lock.specs.Roster.{items_of, room_of}
 use Rattle.turn_lock.specs.declared.roster.Passes.{Passes}
 use Rattle.transition_lock.specs.SharedEngines.{engine_lock_of}
 use Rattle.odb_lock.specs.SharedOdbs.{odb_lock_of}
-use Rattle.session_objects.specs.Calls.{SessionCalls, FrontCalls, told_of_engine, told_of_database}
+use Rattle.session_objects.specs.Calls.{SessionCalls, told_of_engine, told_of_database}
 use Rattle.session_objects.specs.Members.{front_calls}
 use Rattle.session_objects.proofs.RosterLaws.{room_for}
 use Rattle.session_objects.proofs.UntoldLaws.{untold}
 use Rattle.session_objects.proofs.ReturnLaws.{main_back}
 use Rattle.session_objects.proofs.objects.SessionObjects.take_back_all.Goals as goal
+
+pub take_back_analyzers-requires : goal.take_back_analyzers-requires
+take_back_analyzers-requires g c =
+    let calls = c.requires.1.1.1.0 in
+    let members = c.requires.1.1.1.1.1.0 in
+    let same : length g.calls.fronts ≡ length c.args.declared.now = ap (λ (k : SessionCalls). length k.fronts) calls ∙ length-map c.args.parts.fronts.items front_calls ∙ members.many in
+    λ κs lives. (
+      lives,
+      (
+        members.analyzers_are,
+        (
+          ap (λ (k : SessionCalls). k.analyzers) calls,
+          (same, untold c.args.declared.now c.args.analyzers.now g.calls same c.args.self.now c.args.database.now c.args.passes c.requires.1.1.1.1.0 c.requires.1.1.1.1.1.1.0),
+        ),
+      ),
+    )
 
 pub take_back_logger-files-requires : goal.take_back_logger-files-requires
 take_back_logger-files-requires g c =
@@ -26,10 +42,7 @@ take_back_logger-files-requires g c =
             same,
             (
               ap (λ (k : SessionCalls). k.logger_engine) calls,
-              (
-                ap (λ (k : SessionCalls). k.logger_ports) calls,
-                untold c.args.declared.now g.calls same c.args.self.now c.args.database.now c.args.passes c.requires.1.1.1.1.0 c.requires.1.1.1.1.1.1.0,
-              ),
+              (ap (λ (k : SessionCalls). k.logger_ports) calls, c.take_back_analyzers.ensures),
             ),
           ),
         ),
@@ -55,7 +68,7 @@ returns-clause-calls g c =
     let calls = c.requires.1.1.1.0 in
     let engine = c.requires.1.1.1.1.1.1.1.0 in
     let database = c.requires.1.1.1.1.1.1.1.1 in
-    main_back c.args.declared.now g.calls c.args.self.now c.args.database.now c.take_back_fronts.new.passes c.put_to_engine.new.self c.put_to_database.new.self
+    main_back c.args.declared.now c.args.analyzers.now g.calls c.args.self.now c.args.database.now c.take_back_fronts.new.passes c.put_to_engine.new.self c.put_to_database.new.self
     c.args.main_engine c.args.main_database c.take_back_fronts.ensures
     c.put_to_engine.ensures.put c.put_to_engine.ensures.buffers c.put_to_engine.ensures.database
     engine.is engine.own engine.idle (sym (ap (λ (k : SessionCalls). k.main_engine) calls))

@@ -5,3 +5,6 @@ ghost-take_back_logger g a = g.calls
 
 abbrev pub ghost-take_back_fronts : goal.ghost-take_back_fronts
 ghost-take_back_fronts g a = g.calls
+
+abbrev pub ghost-take_back_analyzers : goal.ghost-take_back_analyzers
+ghost-take_back_analyzers g a = g.calls

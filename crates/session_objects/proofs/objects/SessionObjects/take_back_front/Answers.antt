@@ -1,7 +1,6 @@
-use Rattle.std.proofs.Common.{◌≡◌, ◌∙◌, ◌<◌, ◌+◌, ℕ, List, length, ap, sym, refl, subst, get_or}
+use Rattle.std.proofs.Common.{◌≡◌, ◌∙◌, ◌+◌, ℕ, ap, sym, subst, get_or}
 use Rattle.std.specs.Prelude.{slice_get, Some}
 use Rattle.std.proofs.lemmas.Option.{slice_get-get_or, slice_get_within}
-use Rattle.daq_members.specs.FrontSeats.{FrontSeen}
 use Rattle.turn_lock.specs.Passes.{number_of, seen_by}
 use Rattle.buffer_core.specs.Ports.{Access}
 use Rattle.transition_lock.specs.declared.shared.SharedEngine.{SharedEngine}
@@ -23,7 +22,7 @@ put_to_buffer-requires-clause-room g c =
     let d0 : FrontDeclared = get_or c.args.declared.now c.args.client c.index-declared-client.result in
     let at0 : slice_get c.args.declared.now c.args.client ≡ Some d0 = slice_get-get_or c.args.declared.now c.args.client c.index-declared-client.result (slice_get_within c.args.declared.now c.args.client d at) in
     let same : d ≡ d0 = some_same d d0 (sym at ∙ at0) in
-    λ roster there. front_room c.args.declared.now g.calls c.args.self.now c.args.database.now c.args.client d is.buffer c.args.passes.now roster at is.has_buffer c.requires.1.1.1
+    λ roster there. front_room c.args.declared.now c.args.analyzers.now g.calls c.args.self.now c.args.database.now c.args.client d is.buffer c.args.passes.now roster at is.has_buffer c.requires.1.1.1
     (ap (λ bs. slice_get bs.items d.buffer) (sym (c.put_to_database.ensures.buffers ∙ c.put_to_engine.ensures.buffers))
     ∙ ap (λ (z : FrontDeclared). slice_get c.put_to_database.new.self.buffers.items z.buffer) same ∙ there)
 
@@ -38,7 +37,7 @@ returns g c =
     let parts = c.into_parts-pass.ensures in
     let port = c.into_parts-pass.result.port in
     let told : Access = c.args.front.port in
-    front_back c.args.declared.now g.calls c.args.self.now c.args.database.now c.args.client d0 is.buffer (front_calls c.args.front)
+    front_back c.args.declared.now c.args.analyzers.now g.calls c.args.self.now c.args.database.now c.args.client d0 is.buffer (front_calls c.args.front)
     c.args.passes.now c.put_to_engine.new.self c.put_to_database.new.self c.put_to_buffer.new.self
     c.into_parts-pass.result.pass c.into_pass.result c.into_pass-2.result
     at0 (ap (λ (z : FrontDeclared). slice_get c.args.self.now.buffers.items z.buffer) same ∙ is.has_buffer) c.requires.1.1.0 c.requires.1.1.1

@@ -1,4 +1,4 @@
-use Rattle.std.proofs.Common.{rules, ◌≡◌, ◌∙◌, ◌<◌, ◌+◌, ◌++◌, ◌∷◌, [], ℕ, List, length, map, ap, sym, refl, subst, arith, append-nil, append_assoc, length-append}
+use Rattle.std.proofs.Common.{rules, ◌≡◌, ◌∙◌, ◌<◌, ◌+◌, ◌++◌, ◌∷◌, [], ℕ, List, length, ap, sym, subst, arith, append-nil, append_assoc, length-append}
 use Rattle.std.specs.Prelude.{slice_get, Some}
 use Rattle.std.specs.Option.{option_map}
 use Rattle.std.proofs.lemmas.Option.{slice_get_within, slice_get-map}
@@ -12,7 +12,7 @@ use Rattle.session_objects.proofs.objects.SessionObjects.take_back_fronts.Goals 
 
 pub loop-front-init : goal.loop-front-init
 loop-front-init g c =
-    let P : ℕ → Type 0 = λ n. HasCallsBut (out_to_fronts c.args.declared.now n) c.args.declared.now g.calls c.args.self.now c.args.database.now c.args.passes.now in
+    let P : ℕ → Type 0 = λ n. HasCallsBut (out_to_fronts c.args.declared.now n) c.args.declared.now c.args.analyzers.now g.calls c.args.self.now c.args.database.now c.args.passes.now in
     (([], sym (append-nil c.args.fronts.items)), subst P (sym c.requires.1.0) c.requires.1.1.1.1)
 
 pub take_back_front-requires : goal.take_back_front-requires
@@ -30,7 +30,7 @@ take_back_front-requires g c =
     let many : length all ≡ length c.args.declared.now = c.requires.1.0 in
     let d = there_below c.args.declared.now n (omega arith) in
     let count : length left ≡ n + 1 = ap length popped ∙ length-append new (x ∷ []) ∙ ap (λ m. m + 1) (sym same) in
-    let P : ℕ → Type 0 = λ m. HasCallsBut (out_to_fronts c.args.declared.now m) c.args.declared.now g.calls c.args.self.now c.args.database.now c.loop-front.passes in
+    let P : ℕ → Type 0 = λ m. HasCallsBut (out_to_fronts c.args.declared.now m) c.args.declared.now c.args.analyzers.now g.calls c.args.self.now c.args.database.now c.loop-front.passes in
     λ κs lives. (
       lives,
       (
@@ -47,11 +47,11 @@ loop-front-preserved g c =
     let inv = c.loop-front.invariant in
     let popped : left ≡ new ++ x ∷ [] = c.in-Some.ensures.items in
     let same : c.len.result ≡ length new = search rules in
-    let P : ℕ → Type 0 = λ m. HasCallsBut (out_to_fronts c.args.declared.now m) c.args.declared.now g.calls c.args.self.now c.args.database.now c.take_back_front.new.passes in
+    let P : ℕ → Type 0 = λ m. HasCallsBut (out_to_fronts c.args.declared.now m) c.args.declared.now c.args.analyzers.now g.calls c.args.self.now c.args.database.now c.take_back_front.new.passes in
     ((x ∷ inv.0.0, inv.0.1 ∙ ap (λ zs. zs ++ inv.0.0) popped ∙ append_assoc new (x ∷ []) inv.0.0), subst P same c.take_back_front.ensures)
 
 pub returns : goal.returns
 returns g c =
     let none : c.loop-front.fronts.items ≡ [] = search rules in
-    let P : ℕ → Type 0 = λ m. HasCallsBut (out_to_fronts c.args.declared.now m) c.args.declared.now g.calls c.args.self.now c.args.database.now c.loop-front.passes in
+    let P : ℕ → Type 0 = λ m. HasCallsBut (out_to_fronts c.args.declared.now m) c.args.declared.now c.args.analyzers.now g.calls c.args.self.now c.args.database.now c.loop-front.passes in
     subst P (ap length none) c.loop-front.invariant.1

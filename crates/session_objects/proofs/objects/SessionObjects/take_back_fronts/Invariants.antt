@@ -7,7 +7,7 @@ use Rattle.session_objects.proofs.objects.SessionObjects.take_back_fronts.Given 
 
 abbrev pub invariant-loop-front : goal.invariant-loop-front
 invariant-loop-front g l = ((done : List (FrontSeen Generator)) × (l.fn.fronts.items ≡ l.fronts.items ++ done))
-    × HasCallsBut (out_to_fronts l.declared (length l.fronts.items)) l.declared g.calls l.self l.database l.passes
+    × HasCallsBut (out_to_fronts l.declared (length l.fronts.items)) l.declared l.analyzers g.calls l.self l.database l.passes
 
 abbrev pub decreases-loop-front : goal.decreases-loop-front
 decreases-loop-front g l = length l.fronts.items

@@ -1,5 +1,4 @@
-use Rattle.std.proofs.Common.{rules, ◌≡◌, ◌∙◌, ◌+◌, ℕ, suc, List, length, map, ap, sym, refl, subst}
-use Rattle.std.specs.Prelude.{slice_get, Some}
+use Rattle.std.proofs.Common.{◌∙◌, ◌+◌, ℕ, suc, List, length, ap, sym, subst}
 use Rattle.std.proofs.lemmas.List.{length-map}
 use Rattle.buffer_core.specs.Ports.{Access}
 use Rattle.transition_lock.specs.declared.shared.SharedEngine.{SharedEngine}
@@ -33,7 +32,7 @@ take_back_ports-requires g c =
           subst P (sym parts.ports) is.ports,
           (
             c.requires.1.1.1.1.1.0 ∙ sym parts.ports,
-            logger_engine_back c.args.declared.now g.calls c.args.self.now c.args.database.now c.args.passes.now c.put_to_engine.new.self c.into_parts-pass.result.pass
+            logger_engine_back c.args.declared.now c.args.analyzers.now g.calls c.args.self.now c.args.database.now c.args.passes.now c.put_to_engine.new.self c.into_parts-pass.result.pass
                 c.requires.1.1.1.0 c.requires.1.1.1.1.1.1
                 c.put_to_engine.ensures.put c.put_to_engine.ensures.buffers c.put_to_engine.ensures.database
                 (parts.number ∙ ap (λ (n : ℕ). n + 1) is.is) (subst Q is.engine parts.own) parts.idle (parts.calls ∙ sym c.requires.1.1.1.1.0),

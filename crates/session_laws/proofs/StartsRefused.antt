@@ -1,0 +1,40 @@
+-- A start of a record was refused by a front-end or by the logger: the sheet had a blank report for each analyzer.
+use Rattle.std.specs.Prelude.{◌≡◌, ℕ, zero, suc, ◌<◌, length, List, refl}
+use Rattle.std.proofs.Common.{sym, subst, arith, inl, inr}
+use Rattle.daq_types.specs.Callers.{main_caller}
+use Rattle.daq_types.specs.declared.runs.StartOutcome.{StartOutcome}
+use Rattle.daq_types.specs.declared.runs.StartOutcome.TheVariants.{Refused}
+use Rattle.daq_types.specs.declared.runs.Transition.TheVariants.{Start}
+use Rattle.daq_types.specs.declared.runs.Why.{Why}
+use Rattle.transitions.specs.declared.sheet.Sheet.{Sheet}
+use Rattle.transitions.specs.declared.entry.EngineEntry.{EngineEntry}
+use Rattle.session_engine.specs.MadeTransitions.{TransitionIn}
+use Rattle.session_runs.specs.RunEntries.{blank_reports, start_sheet}
+use Rattle.session_laws.specs.ClosedSessions.{ClosedSession, engine_calls}
+use Rattle.session_laws.specs.CountedFaults.{IsReaderRefusal}
+use Rattle.session_laws.specs.RefusedRecords.{IsRefusedRecord, RecordsRefused}
+use Rattle.session_laws.proofs.RecordsMade.{made_then}
+
+many_blanks : (n : ℕ) → length (blank_reports n) ≡ n
+many_blanks zero = refl
+many_blanks (suc n) = omega (arith, many_blanks n)
+
+no_reader : (c : ClosedSession) (run time quota client : ℕ) (dump : List ℕ) (why : Why) → IsReaderRefusal c (start_sheet (length c.analyzers) run time quota dump) client why → ⊥
+no_reader c run time quota client dump why reader =
+    let few : length (blank_reports (length c.analyzers)) < length c.analyzers = reader.few_blanks in
+    omega (arith, many_blanks (length c.analyzers))
+
+pub records_refused : RecordsRefused
+records_refused c first now counts own more calls r quota client why is fits =
+    let start = fits.start in
+    let sheet : Sheet = start_sheet (length c.analyzers) r.run r.time0 quota start.dump in
+    let here : TransitionIn own.engine Start sheet r.start (Refused client why) start.tallies = subst (λ (o : StartOutcome). TransitionIn own.engine Start sheet r.start o start.tallies) is start.made in
+    let made : TransitionIn (engine_calls c main_caller) Start sheet r.start (Refused client why) start.tallies =
+    subst (λ (l : List EngineEntry). TransitionIn l Start sheet r.start (Refused client why) start.tallies) (sym calls) (made_then own.engine more Start sheet r.start (Refused client why) start.tallies here) in
+    elim (counts.refused sheet r.start client why start.tallies made) as (λ w. IsRefusedRecord c first now r quota client why) [
+      | inl front ↦ inl front
+      | inr other ↦ elim other as (λ w. IsRefusedRecord c first now r quota client why) [
+        | inl logger ↦ inr logger
+        | inr reader ↦ absurd (no_reader c r.run r.time0 quota client start.dump why reader)
+      ]
+    ]
