@@ -1,0 +1,61 @@
+-- Members of several kinds behind turns of their own.
+use Rattle.std.specs.Prelude.{◌≡◌, ℕ, zero, suc, ◌+◌, ◌≤◌, List, length}
+use Rattle.std.proofs.Common.{sym, subst, arith}
+use Rattle.std.proofs.lemmas.List.Elements.{length_all_zip}
+use Rattle.daq_members.specs.declared.turned.Turned.{Turned}
+use Rattle.session_engine.specs.MadeTransitions.{HadRounds}
+use Rattle.member_threads.specs.Turns.{HadTurns}
+use Rattle.member_threads.specs.Scattered.{MembersSeen, AreFew, HadEach, CameBack, members_seen}
+use Rattle.member_threads.proofs.TurnLaws.{stays, turns_follow, zip_stays, zip_follows}
+
+-- a session's members are few enough
+pub seen_few : {A B C : Type 0} (fronts : List A) (logger : B) (analyzers : List C) → length fronts + 1 + length analyzers ≤ 64 → AreFew (members_seen fronts logger analyzers)
+seen_few fronts logger analyzers few = record { fronts = omega (arith, few); loggers = omega arith; analyzers = omega (arith, few) }
+
+module _ {A B C : Type 0} (ta : A → A → Turned → Type 0) (tb : B → B → Turned → Type 0) (tc : C → C → Turned → Type 0) where
+  each_stays : (members : MembersSeen A B C) → HadEach ta tb tc members members
+  each_stays members = record {
+    fronts = zip_stays (HadTurns ta) (stays ta) members.fronts;
+    loggers = zip_stays (HadTurns tb) (stays tb) members.loggers;
+    analyzers = zip_stays (HadTurns tc) (stays tc) members.analyzers;
+  }
+
+  each_follows : (before between after : MembersSeen A B C) → HadEach ta tb tc before between → HadEach ta tb tc between after → HadEach ta tb tc before after
+  each_follows before between after first then_ = record {
+    fronts = zip_follows (HadTurns ta) (turns_follow ta) before.fronts between.fronts after.fronts first.fronts then_.fronts;
+    loggers = zip_follows (HadTurns tb) (turns_follow tb) before.loggers between.loggers after.loggers first.loggers then_.loggers;
+    analyzers = zip_follows (HadTurns tc) (turns_follow tc) before.analyzers between.analyzers after.analyzers first.analyzers then_.analyzers;
+  }
+
+  -- however many rounds they had
+  rounds_each : {P : Type 0} (away : P → MembersSeen A B C) (count : ℕ) (before after : P) → HadRounds (λ (b a : P). HadEach ta tb tc (away b) (away a)) count before after
+      → HadEach ta tb tc (away before) (away after)
+  rounds_each {P = P} away zero before after same = subst (λ (p : P). HadEach ta tb tc (away before) (away p)) (sym same) (each_stays (away before))
+  rounds_each away (suc n) before after rounds = each_follows (away before) (away rounds.0) (away after) (rounds_each away n before rounds.0 rounds.1) rounds.2
+
+  pub each_behind : {P : Type 0} (away : P → MembersSeen A B C) (count : ℕ) (first : MembersSeen A B C) (before after : P) → HadEach ta tb tc first (away before)
+      → HadRounds (λ (b a : P). HadEach ta tb tc (away b) (away a)) count before after → HadEach ta tb tc first (away after)
+  each_behind away count first before after had rounds = each_follows first (away before) (away after) had (rounds_each away count before after rounds)
+
+  pub each_few : (before after : MembersSeen A B C) → HadEach ta tb tc before after → AreFew before → AreFew after
+  each_few before after had few =
+      let fronts = length_all_zip (HadTurns ta) before.fronts after.fronts had.fronts in
+      let loggers = length_all_zip (HadTurns tb) before.loggers after.loggers had.loggers in
+      let analyzers = length_all_zip (HadTurns tc) before.analyzers after.analyzers had.analyzers in
+      let few_fronts = few.fronts in
+      let few_loggers = few.loggers in
+      let few_analyzers = few.analyzers in
+      record {
+        fronts = omega (arith, fronts, few_fronts);
+        loggers = omega (arith, loggers, few_loggers);
+        analyzers = omega (arith, analyzers, few_analyzers);
+      }
+
+  pub back_behind : (before between after : MembersSeen A B C) → HadEach ta tb tc before between → CameBack ta tb tc between after → CameBack ta tb tc before after
+  back_behind before between after first back = record { had = each_follows before between after first back.had; ended = back.ended }
+
+  -- one logger went, so one came back
+  pub one_back : (fronts : List A) (logger : B) (analyzers : List C) (after : MembersSeen A B C) → HadEach ta tb tc (members_seen fronts logger analyzers) after → length after.loggers ≡ 1
+  one_back fronts logger analyzers after had =
+      let before = members_seen fronts logger analyzers in
+      sym (length_all_zip (HadTurns tb) before.loggers after.loggers had.loggers)

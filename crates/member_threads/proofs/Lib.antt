@@ -1,0 +1,6 @@
+pub mod TurnLaws
+pub mod PostLaws
+pub mod EndLaws
+pub mod EachLaws
+pub mod MemberLaws
+pub mod SendLaws

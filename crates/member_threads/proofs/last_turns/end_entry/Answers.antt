@@ -1,0 +1,17 @@
+use Rattle.std.specs.Prelude.{length}
+use Rattle.std.proofs.Common.{refl}
+use Rattle.std.proofs.lemmas.Option.{slice_get_read}
+use Rattle.member_threads.proofs.last_turns.end_entry.Goals as goal
+
+pub returns : goal.returns
+returns g c =
+    let members = c.args.members.now in
+    let member = c.in-Some.member.now in
+    record {
+      member = member;
+      later = c.until_ended.new.member;
+      stands = slice_get_read members (length members) c.args.place member refl c.requires c.in-Some.ensures.entry.1;
+      had = c.until_ended.ensures.had;
+      ended = c.until_ended.ensures.ended;
+      is = refl;
+    }

@@ -1,0 +1,54 @@
+use Rattle.std.specs.Prelude.{◌≡◌}
+use Rattle.std.proofs.Common.{arith, subst}
+use Rattle.member_threads.specs.Turns.{HadTurns}
+use Rattle.member_threads.proofs.TurnLaws.{turns_follow}
+use Rattle.member_threads.proofs.PostLaws.{one_moved, all_moved, one_ended, one_counted, first_counts}
+use Rattle.member_threads.proofs.posts.call_all_back.Goals as goal
+
+pub loop-post-preserved-in-Ok : goal.loop-post-preserved-in-Ok
+loop-post-preserved-in-Ok g c =
+    let turns = g.M.Member.turns in
+    let at = c.loop-post.invariant in
+    let was : c.in-Ok.handle.promise.was.value ≡ c.in-Some.post = rw c.in-Ok.is at c.post.view_is in
+    let joined : HadTurns turns c.in-Some.post c.join.result = subst (λ m. HadTurns turns m c.join.result) was c.join.ensures in
+    let had : HadTurns turns c.in-Some.post c.finish.result = turns_follow turns c.in-Some.post c.join.result c.finish.result joined c.finish.ensures.had in
+    record {
+      moved = one_moved turns c.args.posts.now c.loop-post.posts c.take_first.new.self c.loop-post.members.items c.push_reserved.new.self.items c.in-Some.post c.finish.result
+          c.in-Some.ensures.first c.in-Some.ensures.rest c.push_reserved.ensures.items at.moved had;
+      ended = one_ended turns c.loop-post.members.items c.push_reserved.new.self.items c.finish.result c.push_reserved.ensures.items at.ended c.finish.ensures.ended;
+      count = one_counted c.loop-post.posts c.take_first.new.self c.in-Some.post _ _ _ c.in-Some.ensures.first c.in-Some.ensures.rest c.push_reserved.ensures.len at.count;
+      room = omega (arith, c.push_reserved.ensures.capacity, at.room);
+    }
+
+pub push_reserved-requires : goal.push_reserved-requires
+push_reserved-requires g c =
+    let at = c.loop-post.invariant in
+    let some = first_counts c.loop-post.posts c.in-Some.post c.in-Some.ensures.first in
+    let count = at.count in
+    let room = at.room in
+    omega (arith, some, count, room, c.requires.few)
+
+pub push_reserved-requires-in-Err : goal.push_reserved-requires-in-Err
+push_reserved-requires-in-Err g c =
+    let at = c.loop-post.invariant in
+    let some = first_counts c.loop-post.posts c.in-Some.post c.in-Some.ensures.first in
+    let count = at.count in
+    let room = at.room in
+    omega (arith, some, count, room, c.requires.few)
+
+pub loop-post-preserved : goal.loop-post-preserved
+loop-post-preserved g c =
+    let turns = g.M.Member.turns in
+    let at = c.loop-post.invariant in
+    let was : c.in-Err.member ≡ c.in-Some.post = rw c.in-Err.is at c.post.view_is in
+    let had : HadTurns turns c.in-Some.post c.finish-in-Err.result = subst (λ m. HadTurns turns m c.finish-in-Err.result) was c.finish-in-Err.ensures.had in
+    record {
+      moved = one_moved turns c.args.posts.now c.loop-post.posts c.take_first.new.self c.loop-post.members.items c.push_reserved-in-Err.new.self.items c.in-Some.post c.finish-in-Err.result
+          c.in-Some.ensures.first c.in-Some.ensures.rest c.push_reserved-in-Err.ensures.items at.moved had;
+      ended = one_ended turns c.loop-post.members.items c.push_reserved-in-Err.new.self.items c.finish-in-Err.result c.push_reserved-in-Err.ensures.items at.ended c.finish-in-Err.ensures.ended;
+      count = one_counted c.loop-post.posts c.take_first.new.self c.in-Some.post _ _ _ c.in-Some.ensures.first c.in-Some.ensures.rest c.push_reserved-in-Err.ensures.len at.count;
+      room = omega (arith, c.push_reserved-in-Err.ensures.capacity, at.room);
+    }
+
+pub returns-clause-had : goal.returns-clause-had
+returns-clause-had g c = all_moved g.M.Member.turns c.args.posts.now c.loop-post.posts c.loop-post.members.items c.in_default.ensures.first c.loop-post.invariant.moved

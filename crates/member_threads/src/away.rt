@@ -1,0 +1,193 @@
+// The members of a session while they are away, and as they come back.
+ghost use Rattle.std.specs.Prelude.{◌≡◌, ◌+◌, ◌≤◌, [], length, vec_capacity, IfOk};
+ghost use Rattle.member_threads.specs.Scattered.{members_seen, nobody, HadEach, CameBack, AreFew};
+
+use crate::member::Member;
+use crate::post::send;
+use crate::posts::{PostList, call_all_back, send_all, turn_all};
+use crate::recall::Recall;
+use daq_io::Gate;
+use daq_types::{BoundedList, NoMemory};
+use session_engine::Rounds;
+use std::alloc::Global;
+use std::marker::Model;
+use std::sync::Wait;
+use std::thread;
+use std::thread::{Scope, Threads};
+
+/// The members of a session, by their kinds.
+#[derive(Drop)]
+pub struct Members<A, B, C> {
+    pub fronts: Vec<A>,
+    pub logger: B,
+    pub analyzers: Vec<C>,
+}
+
+/// Room for members as they come back.
+#[derive(Drop)]
+pub(crate) struct Back<A, B, C> {
+    pub(crate) fronts: Vec<A>,
+    pub(crate) loggers: Vec<B>,
+    pub(crate) analyzers: Vec<C>,
+}
+
+/// The members of a session that are away. Contracts see them as `Post` shows each.
+#[derive(Drop)]
+pub(crate) struct Away<A: Member, B: Member, C: Member> {
+    fronts: PostList<A>,
+    loggers: PostList<B>,
+    analyzers: PostList<C>,
+}
+
+impl<A: Member, B: Member, C: Member> Model for Away<A, B, C> {
+    ghost use Rattle.member_threads.specs.Scattered.{MembersSeen};
+
+    ghost Value = { MembersSeen A B C };
+
+    ghost view = { λ s. record {
+      fronts = s.fronts;
+      loggers = s.loggers;
+      analyzers = s.analyzers;
+    } };
+}
+
+impl<A: Member + Drop, B: Member + Drop, C: Member + Drop> Away<A, B, C> {
+    /// Nobody is away. There is room for as many of each kind as an engine has clients.
+    pub(crate) fn new(alloc: Global) -> Result<Away<A, B, C>, NoMemory>
+        ensures { IfOk result (λ away. away ≡ nobody) }
+    {
+        let fronts = BoundedList::new(alloc)?;
+        let loggers = BoundedList::new(alloc)?;
+        let analyzers = BoundedList::new(alloc)?;
+        Ok(Away {
+            fronts,
+            loggers,
+            analyzers,
+        })
+    }
+
+    /// One turn of each member that is here.
+    fn turn<R: Wait, G: Gate>(&mut self, rt: &R, gate: &G)
+        ensures { HadEach A.turns B.turns C.turns self.old self.new }
+    {
+        turn_all(rt, &mut self.fronts, gate);
+        turn_all(rt, &mut self.loggers, gate);
+        turn_all(rt, &mut self.analyzers, gate);
+    }
+
+    /// All come back, each behind its last turn.
+    pub(crate) fn call_back<R: Threads + Wait, G: Gate>(
+        &mut self,
+        rt: &R,
+        gate: &G,
+        back: &mut Back<A, B, C>,
+    )
+        requires few { AreFew self.old }
+        requires nobody { (back.old.fronts.items ≡ []) × (back.old.loggers.items ≡ [])
+            × (back.old.analyzers.items ≡ []) }
+        requires room { (64 ≤ vec_capacity back.old.fronts) × (64 ≤ vec_capacity back.old.loggers)
+            × (64 ≤ vec_capacity back.old.analyzers) }
+        ensures back { CameBack A.turns B.turns C.turns self.old (record {
+          fronts = back.new.fronts.items;
+          loggers = back.new.loggers.items;
+          analyzers = back.new.analyzers.items;
+        }) }
+        ensures room { 64 ≤ vec_capacity back.new.analyzers }
+    {
+        call_all_back(rt, &mut self.fronts, &mut back.fronts, gate);
+        call_all_back(rt, &mut self.loggers, &mut back.loggers, gate);
+        call_all_back(rt, &mut self.analyzers, &mut back.analyzers, gate);
+    }
+}
+
+impl<A: Member + Drop + Send, B: Member + Drop + Send, C: Member + Drop + Send> Away<A, B, C> {
+    /// Sends the members away, each with its place as its number: the front-ends, the logger, and the analyzers.
+    pub(crate) fn send<'s, E, R: Threads + Wait + Sync, G: Gate + Sync>(
+        &mut self,
+        scope: &'s Scope<'s, E>,
+        rt: &'s R,
+        recall: &'s Recall,
+        gate: &'s G,
+        members: Members<A, B, C>,
+    )
+    where
+        R: 's,
+        A: 's,
+        B: 's,
+        C: 's,
+        G: 's,
+        requires few { length members.fronts.items + 1 + length members.analyzers.items ≤ 64 }
+        requires nobody { self.old ≡ nobody }
+        ensures { HadEach A.turns B.turns C.turns (members_seen members.fronts.items members.logger
+            members.analyzers.items) self.new }
+    {
+        let Members {
+            fronts,
+            logger,
+            analyzers,
+        } = members;
+        let number = fronts.len();
+        send_all(scope, rt, recall, gate, 0, fronts, &mut self.fronts);
+        self.loggers
+            .push(send(scope, rt, recall, gate, number, logger));
+        send_all(
+            scope,
+            rt,
+            recall,
+            gate,
+            number + 1,
+            analyzers,
+            &mut self.analyzers,
+        );
+    }
+}
+
+impl<A, B, C> Back<A, B, C> {
+    /// The members that came back.
+    pub(crate) fn into_members(self) -> Members<A, B, C>
+    where
+        B: Drop,
+        requires { length self.loggers.items ≡ 1 }
+        ensures members { members_seen result.fronts.items result.logger result.analyzers.items
+            ≡ record {
+              fronts = self.fronts.items;
+              loggers = self.loggers.items;
+              analyzers = self.analyzers.items;
+            } }
+        ensures room { vec_capacity result.analyzers ≡ vec_capacity self.analyzers }
+    {
+        let Back {
+            fronts,
+            mut loggers,
+            analyzers,
+        } = self;
+        let Some(logger) = loggers.pop() else {
+            unreachable!()
+        };
+        Members {
+            fronts,
+            logger,
+            analyzers,
+        }
+    }
+}
+
+/// Members that are away, with the gate that they pass. They have rounds as far as they are here.
+#[derive(Drop)]
+pub(crate) struct Posts<'a, A: Member, B: Member, C: Member, G: Gate> {
+    pub(crate) away: Away<A, B, C>,
+    pub(crate) gate: &'a G,
+}
+
+impl<'a, A: Member + Drop, B: Member + Drop, C: Member + Drop, G: Gate> Rounds
+    for Posts<'a, A, B, C, G> {
+    ghost use Rattle.member_threads.specs.Scattered.{HadEach};
+
+    ghost round = { λ before after. HadEach A.turns B.turns C.turns before.away after.away };
+
+    /// One turn of each member that is here. The processor is given up, since the main thread waits for the others.
+    fn round<R: Wait>(&mut self, rt: &R) {
+        self.away.turn(rt, self.gate);
+        thread::yield_now();
+    }
+}

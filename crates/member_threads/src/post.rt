@@ -1,0 +1,101 @@
+// A member that was sent away.
+ghost use Rattle.member_threads.specs.Turns.{HadTurns, HasEnded};
+
+use crate::member::{Member, until_ended};
+use crate::recall::Recall;
+use daq_io::Gate;
+use std::marker::Model;
+use std::snapshot::Snapshot;
+use std::sync::Wait;
+use std::thread::{Promise, PromisedHandle, Scope, Threads};
+
+/// The promise that a member comes back behind turns of its own.
+#[derive(Drop)]
+pub(crate) struct Went<M> {
+    was: Snapshot<M>,
+}
+
+impl<M: Member> Promise<M> for Went<M> {
+    ghost use Rattle.member_threads.specs.Turns.{HadTurns};
+
+    ghost kept_by = { λ went member. HadTurns M.turns went.was.value member };
+}
+
+/// A member that was sent away: its thread, or itself, where no thread could be had. Contracts see the member as far as it is
+/// known here: as it was when its thread began, or as it is.
+#[derive(Drop)]
+pub struct Post<M: Member> {
+    pub(crate) thread: Result<PromisedHandle<M, Went<M>>, M>,
+}
+
+impl<M: Member> Model for Post<M> {
+    ghost use Rattle.member_threads.specs.Posts.{member_of};
+
+    ghost Value = { M };
+
+    ghost view = { λ p. member_of (λ handle. handle.promise.was.value) p.thread };
+}
+
+/// What a member's thread does: the member has its turns until it ends, where it isn't called back before.
+fn go<R: Wait, M: Member, G: Gate>(
+    rt: &R,
+    recall: &Recall,
+    gate: &G,
+    number: usize,
+    mut member: M,
+) -> M
+    ensures { HadTurns M.turns member result }
+{
+    if !recall.is_for(number) {
+        until_ended(rt, &mut member, gate);
+    }
+    member
+}
+
+/// The last turns of a member that came back.
+pub(crate) fn finish<R: Wait, M: Member, G: Gate>(rt: &R, gate: &G, mut member: M) -> M
+    ensures had { HadTurns M.turns member result }
+    ensures ended { HasEnded M.turns result }
+{
+    until_ended(rt, &mut member, gate);
+    member
+}
+
+/// Sends a member away into a thread of its own. Where none can be had it stays here.
+pub(crate) fn send<'s, E, R: Threads + Wait + Sync, M: Member + Drop + Send, G: Gate + Sync>(
+    scope: &'s Scope<'s, E>,
+    rt: &'s R,
+    recall: &'s Recall,
+    gate: &'s G,
+    number: usize,
+    member: M,
+) -> Post<M>
+where
+    R: 's,
+    M: 's,
+    G: 's,
+    ensures { HadTurns M.turns member result }
+{
+    let was = Snapshot::of(&member);
+    let goes = move || go(rt, recall, gate, number, member);
+    match scope.spawn_with(Went { was }, goes) {
+        Ok(handle) => Post { thread: Ok(handle) },
+        Err(refused) => {
+            recall.call(number);
+            Post {
+                thread: Err((refused.value)()),
+            }
+        }
+    }
+}
+
+impl<M: Member> Post<M> {
+    /// One turn, if the member is here.
+    pub(crate) fn turn<R: Wait, G: Gate>(&mut self, rt: &R, gate: &G)
+        ensures { HadTurns M.turns self.old self.new }
+    {
+        if let Err(member) = &mut self.thread {
+            member.turn(rt, gate);
+        }
+    }
+}

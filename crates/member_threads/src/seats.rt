@@ -1,0 +1,39 @@
+// The members of a session: front-ends, the logger and analyzers.
+use crate::member::Member;
+use analyzer_seats::AnalyzerSeat;
+use daq_io::{Files, Gate};
+use daq_members::{EndlessPort, FrontSeat, LoggerSeat, Turned};
+use front_ends::Equipment;
+use odb_port::WatchPort;
+use std::sync::Wait;
+
+impl<'a, E: Equipment, P: EndlessPort, D: WatchPort> Member for FrontSeat<'a, E, P, D> {
+    ghost use Rattle.member_threads.specs.MemberTurns.{FrontTurns};
+
+    ghost turns = { FrontTurns E.takes E.makes };
+
+    fn turn<R: Wait, G: Gate>(&mut self, rt: &R, gate: &G) -> Turned {
+        self.turn(rt, gate)
+    }
+}
+
+impl<'a, P: EndlessPort, F: Files> Member for LoggerSeat<'a, P, F> {
+    ghost use Rattle.daq_members.specs.LoggerSeats.{files_by};
+    ghost use Rattle.member_threads.specs.MemberTurns.{LoggerTurns};
+
+    ghost turns = { LoggerTurns (files_by F.seen F.faults F.clashes F.first) };
+
+    fn turn<R: Wait, G: Gate>(&mut self, rt: &R, gate: &G) -> Turned {
+        self.turn(rt, gate)
+    }
+}
+
+impl<'a, P: EndlessPort> Member for AnalyzerSeat<'a, P> {
+    ghost use Rattle.member_threads.specs.MemberTurns.{AnalyzerTurns};
+
+    ghost turns = { AnalyzerTurns };
+
+    fn turn<R: Wait, G: Gate>(&mut self, rt: &R, gate: &G) -> Turned {
+        self.turn(rt, gate)
+    }
+}
