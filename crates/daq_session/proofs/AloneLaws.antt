@@ -1,23 +1,22 @@
 -- A database that only the main thread called.
-use Rattle.std.proofs.Common.{◌≡◌, ◌≢◌, ◌<◌, ◌≤◌, ℕ, zero, suc, List, [], ◌∷◌, ◌++◌, map, true, false, refl, ap, sym, ◌∙◌, inl, inr, subst, arith, None}
+use Rattle.std.proofs.Common.{◌≡◌, ◌≢◌, ◌<◌, ◌≤◌, ℕ, zero, suc, List, [], ◌∷◌, ◌++◌, map, true, false, refl, ap, sym, ◌∙◌, inl, inr, arith, None}
 use Rattle.std.specs.Prelude.{Bool, cond, ◌==◌, ◌⊎◌, nat_lt}
 use Rattle.std.specs.List.{AllByRecursion, filter}
 use Rattle.std.proofs.lemmas.Bool.{ltb-true, ltb-false}
 use Rattle.std.proofs.lemmas.Bool.Decides.{eqb_tells}
 use Rattle.std.proofs.Math.Logic.{⊎_elim}
 use Rattle.buffer_core.specs.SlotLaws.{split}
-use Rattle.caller_laws.proofs.FirstParts.{IsFirstPart, of_prefix}
 use Rattle.daq_types.specs.Callers.{entries_by, main_caller}
 use Rattle.frontend_kit.specs.declared.generator.Generator.{Generator}
 use Rattle.odb_watch.specs.declared.entry.WatchEntry.{WatchEntry}
 use Rattle.odb_lock.specs.declared.shared.SharedOdb.{SharedOdb}
-use Rattle.daq_members.specs.Crews.{CrewTold}
+use Rattle.session_crew.specs.Crews.{CrewTold}
 use Rattle.session_objects.specs.Calls.{HoldsParts}
 use Rattle.session_lines.specs.Stages.{Stage}
 use Rattle.script_desk.specs.declared.endings.Ending.{Ending}
 use Rattle.daq_session.specs.declared.left.LeftBehind.{LeftBehind}
 use Rattle.daq_session.specs.declared.left.LeftBehind.TheVariants.{Session, Unopened, Nothing}
-use Rattle.daq_session.specs.Sessions.{IsMainAlone, SessionEnds, seen_by_main}
+use Rattle.daq_session.specs.Played.{IsMainAlone, SessionEnds, seen_by_main}
 
 itself : (n : ℕ) → (n == n) ≡ true
 itself n = elim (eqb_tells n n) as (λ w. (n == n) ≡ true) [ inl hit ↦ hit.0 | inr never ↦ absurd (never.1 refl) ]
@@ -55,8 +54,9 @@ others_none callers seen history holds (suc n) other = ⊎_elim
 pub main_alone : (callers : ℕ) (seen history : List (ℕ × WatchEntry)) → 0 < callers → HoldsParts (seen_by_main seen) callers history → AllByRecursion (λ call. call.0 ≡ main_caller) seen
 main_alone callers seen history some holds =
     let first = holds.parts 0 some in
-    let part : IsFirstPart seen history = subst (λ (s : List (ℕ × WatchEntry)). IsFirstPart s history) first.2 (of_prefix first.0 history first.1.begins) in
-    all_main seen part.rest (λ by other. ap (entries_by by) (sym part.is) ∙ others_none callers seen history holds by other)
+    let begins = first.1.begins in
+    let whole : seen ++ begins.0 ≡ history = ap (λ (s : List (ℕ × WatchEntry)). s ++ begins.0) (sym first.2) ∙ begins.1 in
+    all_main seen begins.0 (λ by other. ap (entries_by by) whole ∙ others_none callers seen history holds by other)
 
 -- What a script leaves that opened no session.
 pub unopened_ends : {D F K : Type 0} {g : _} (told : CrewTold Generator F K) (shared : SharedOdb D) (first_files : F) (final : Stage) (ending : Ending) (run_files : F) (left : LeftBehind D g)

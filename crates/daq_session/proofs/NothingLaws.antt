@@ -1,25 +1,26 @@
 -- A script that was not read, for want of memory.
-use Rattle.std.proofs.Common.{◌≡◌, ℕ, List, [], Option, Some, None, refl, sym, inl}
+use Rattle.std.proofs.Common.{◌≡◌, ℕ, List, [], Option, Some, None, refl, sym, subst, inl, arith}
 use Rattle.std.proofs.lemmas.List.{append-nil}
 use Rattle.std.specs.Io.KnownBytes.{Appends, Keeps}
 use Rattle.daq_types.specs.Callers.{main_caller}
+use Rattle.daq_io.specs.declared.objects.Outside.{Outside}
 use Rattle.database_files.specs.declared.replies.FileReply.{FileReply}
-use Rattle.frontend_kit.specs.declared.generator.Generator.{Generator}
 use Rattle.odb_runinfo.specs.RunKeys.{session_rows}
 use Rattle.odb_watch.specs.Steps.{unwatched}
 use Rattle.odb_port.specs.DatabasePorts.{DatabaseAccess}
 use Rattle.odb_lock.specs.SharedAccesses.{shared_access}
-use Rattle.daq_members.specs.Crews.{CrewTold}
+use Rattle.database_desk.specs.DatabaseStages.{DumpFiles}
+use Rattle.session_runs.specs.RunAnswers.{ClockTold}
 use Rattle.session_replies.specs.declared.refusals.Refusals.{Refusals}
-use Rattle.session_lines.specs.Stages.{Stage, first_stage}
+use Rattle.session_lines.specs.Stages.{first_stage}
 use Rattle.session_lines.specs.ScriptLines.{BreaksScriptLine, ClosesScript, DoesScriptLine, GivesUp}
 use Rattle.script_desk.specs.declared.endings.Ending.TheVariants.{Halted}
 use Rattle.script_desk.specs.declared.halts.Halt.TheVariants.{NoMemory as no_memory}
 use Rattle.script_desk.specs.Closing.{Finished}
+use Rattle.session_commands.specs.Endings.{OneReply}
 use Rattle.daq_session.specs.declared.ends.ScriptEnd.TheVariants.{NoMemory}
-use Rattle.daq_session.specs.Environments.{Environment}
+use Rattle.daq_session.specs.Environments.{Environment, OutsideTold, environment}
 use Rattle.daq_session.specs.Sessions.{RunsScript}
-use Rattle.daq_session.proofs.OpeningLaws.{closes_nothing}
 
 appends_nothing : (told : Option (List ℕ)) → Appends told told []
 appends_nothing None = tt
@@ -36,17 +37,17 @@ access = shared_access (record { opened = unwatched session_rows; ports = 0; num
 abbrev none_refused : Refusals
 none_refused = record { count = 0; first = 0 }
 
-nothing_played : (first : Stage) (source told : Option (List ℕ)) → first.runs ≡ None
-    → Finished DoesScriptLine BreaksScriptLine ClosesScript GivesUp first (Halted no_memory) None source source told told first none_refused
-nothing_played first source told closed = record {
+nothing_played : (files : DumpFiles) (clock : ClockTold) (source told : Option (List ℕ))
+    → Finished DoesScriptLine BreaksScriptLine ClosesScript GivesUp (first_stage access files clock) (Halted no_memory) None source source told told (first_stage access files clock) none_refused
+nothing_played files clock source told = record {
   lines = [];
   replies = [];
-  between = first;
+  between = first_stage access files clock;
   plays = refl;
-  cut = first;
+  cut = first_stage access files clock;
   is_cut = inl refl;
   behind = [];
-  closed = inl (record { reply = None; closed = closes_nothing first closed; is = refl });
+  closed = inl (record { reply = None; closed = (refl, refl); is = refl });
   counts = record { count = refl; first = refl };
   are_lines = λ text is. refl;
   numbered = refl;
@@ -56,32 +57,33 @@ nothing_played first source told closed = record {
 }
 
 -- Nothing was done.
-pub nothing_ran : {D F K : Type 0} {g : _} (told : CrewTold Generator F K) (before : Environment) (files : F) (replies : List (ℕ × FileReply)) → replies ≡ []
-    → RunsScript {D = D} {g = g} told before before files files NoMemory replies None
-nothing_ran told before files replies none = record {
-  final = first_stage access before.odb_files before.clock;
-  plays = record {
-    access = access;
-    opens = refl;
-    caller = refl;
-    unseen = refl;
-    ending = Halted no_memory;
-    closing = None;
-    refusals = none_refused;
-    lines = record {
-      finished = nothing_played (first_stage access before.odb_files before.clock) before.source before.written refl;
-      may = tt;
-      source = refl;
-      sink = (before.sink_faults, refl, refl);
-      odb_files = refl;
-      clock = refl;
-    };
-    faulted = None;
-    fault = λ asks. absurd (cc asks);
-    end_is = refl;
-    replies_are = sym none;
-    dumps = record { tells = refl; stay = λ tells name file at. at; added = λ tells name file at. inl at };
-    fault_replies = λ asks. absurd (cc asks);
-  };
-  keeps = record { closed = refl; files = refl; alone = λ other. absurd (other refl) };
-}
+pub nothing_ran : {D S O F E C K : Type 0} {g : _} (told : OutsideTold S O F E C K) (outside : Outside S O F E C K) (replies : List (ℕ × FileReply)) → replies ≡ []
+    → RunsScript {D = D} {g = g} told outside outside NoMemory replies None
+nothing_ran told outside replies none =
+    let before : Environment = environment told outside in
+    record {
+      final = first_stage access before.odb_files before.clock;
+      plays = record {
+        access = access;
+        opens = refl;
+        caller = refl;
+        unseen = refl;
+        ending = Halted no_memory;
+        closing = None;
+        refusals = none_refused;
+        lines = record {
+          finished = nothing_played before.odb_files before.clock before.source before.written;
+          counts = record { may = tt; source_counts = refl; lines = before.sink_faults; sink_counts = refl; behind = refl };
+          odb_files = refl;
+          clock = refl;
+        };
+        faulted = None;
+        fault = λ asks. absurd (cc asks);
+        end_is = refl;
+        replies_are = sym none;
+        dumps = record { tells = refl; stay = λ tells name file at. at; added = λ tells name file at. inl at };
+        fault_replies = λ asks. absurd (cc asks);
+        one_reply = subst (λ (came : List (ℕ × FileReply)). OneReply came before.odb_files before.odb_files) (sym none) (record { faults = omega arith; clashes = omega arith });
+      };
+      keeps = record { closed = refl; files = refl; alone = λ other. absurd (other refl) };
+    }

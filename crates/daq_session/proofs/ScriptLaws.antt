@@ -1,66 +1,60 @@
 -- A whole script, from the parts that play it.
 use Rattle.std.proofs.Common.{◌≡◌, ℕ, ◌<◌, List, [], refl, sym, ap, subst, ◌∙◌, inl, arith, true, length}
 use Rattle.std.specs.Prelude.{Option, Some, None}
-use Rattle.std.specs.List.{list_any}
-use Rattle.daq_types.specs.Callers.{main_caller}
-use Rattle.database_files.specs.declared.replies.FileReply.{FileReply}
 use Rattle.frontend_kit.specs.declared.generator.Generator.{Generator}
 use Rattle.mid_logger.specs.declared.channel_spec.ChannelSpec.{ChannelSpec}
 use Rattle.turn_lock.specs.Passes.{passes_of}
-use Rattle.odb_watch.specs.declared.entry.WatchEntry.{WatchEntry}
-use Rattle.odb_port.specs.DatabasePorts.{DatabaseIdentity}
 use Rattle.odb_lock.specs.declared.shared.SharedOdb.{SharedOdb}
-use Rattle.odb_lock.specs.SharedAccesses.{shared_access}
 use Rattle.odb_lock.specs.SharedOdbs.{odb_lock_of}
-use Rattle.daq_members.specs.Crews.{CrewTold}
+use Rattle.session_crew.specs.Crews.{CrewTold}
 use Rattle.run_records.specs.declared.records.RunRecord.{RunRecord}
-use Rattle.session_setup.specs.Setup.{AreSound, Declared}
+use Rattle.session_setup.specs.Setup.{AreSound, Declared, declared_by}
 use Rattle.session_setup.specs.SetupLines.{opened_with_defaults}
+use Rattle.session_setup.specs.declared.declared.AnalyzerDeclared.{AnalyzerDeclared}
 use Rattle.session_setup.specs.declared.declared.BufferDeclared.{BufferDeclared}
 use Rattle.session_setup.specs.declared.declared.DeclaredLists.{DeclaredLists}
 use Rattle.session_setup.specs.declared.declared.FrontDeclared.{FrontDeclared}
 use Rattle.session_objects.specs.declared.objects.SessionObjects.{SessionObjects}
 use Rattle.session_objects.specs.declared.passes.SessionPasses.{SessionPasses}
-use Rattle.session_objects.specs.Objects.{AreObjectsOf, HaveCallers, declared_by}
-use Rattle.session_replies.specs.declared.refusals.Refusals.{Refusals}
+use Rattle.session_objects.specs.Objects.{AreObjectsOf, HaveCallers}
 use Rattle.session_runs.specs.RunAnswers.{ClockTold}
-use Rattle.database_desk.specs.DatabaseStages.{DatabaseStage, DumpFiles}
-use Rattle.session_lines.specs.Stages.{Stage, first_stage, unopened_stage}
+use Rattle.database_desk.specs.DatabaseStages.{DatabaseStage}
+use Rattle.session_lines.specs.Stages.{Stage, unopened_stage}
 use Rattle.session_lines.specs.RunLines.{CutsOpening}
-use Rattle.session_lines.specs.ScriptLines.{BreaksScriptLine, ClosesScript, DoesScriptLine, GivesUp}
 use Rattle.script_desk.specs.declared.endings.Ending.{Ending}
 use Rattle.script_desk.specs.declared.endings.Ending.TheVariants.{Halted}
-use Rattle.script_desk.specs.declared.halts.Halt.{Halt}
 use Rattle.script_desk.specs.declared.halts.Halt.TheVariants.{NoMemory as no_memory}
-use Rattle.script_desk.specs.Closing.{Finished, ended_by}
 use Rattle.daq_session.specs.declared.left.EndedObjects.{EndedObjects}
-use Rattle.daq_session.specs.Endings.{NotesFailed, asks_files, is_fault}
-use Rattle.daq_session.specs.Sessions.{IsEndOf, IsTold, ObjectsEnd}
-use Rattle.daq_session.specs.KeptDumps.{KeepsDumps}
-use Rattle.daq_session.proofs.DumpLaws.{script_keeps}
-use Rattle.daq_session.proofs.FaultLaws.{script_told}
+use Rattle.daq_session.specs.Played.{IsEndedSession, ObjectsEnd}
 
 -- The declarations.
 
-abbrev opened_lists : List BufferDeclared → List FrontDeclared → List ChannelSpec → Declared
-opened_lists buffers fronts channels = record { opened = true; buffers = buffers; fronts = fronts; channels = channels }
+abbrev opened_lists : List BufferDeclared → List FrontDeclared → List ChannelSpec → List AnalyzerDeclared → Declared
+opened_lists buffers fronts channels analyzers =
+    record { opened = true; buffers = buffers; fronts = fronts; channels = channels; analyzers = analyzers }
+
+-- these lists are those of the declarations
+pub record AreListed (opened : Declared) (lists : DeclaredLists) : Type 0 where
+  pub buffers : lists.buffers ≡ opened.buffers
+  pub fronts : lists.fronts ≡ opened.fronts
+  pub channels : lists.channels ≡ opened.channels
+  pub analyzers : lists.analyzers ≡ opened.analyzers
 
 -- those with which a session opens, in lists for themselves
-pub lists_so : (declared opened : Declared) (lists : DeclaredLists) → opened ≡ opened_with_defaults declared → lists.buffers ≡ opened.buffers → lists.fronts ≡ opened.fronts → lists.channels ≡ opened.channels
-    → opened_with_defaults declared ≡ declared_by lists
-lists_so declared opened lists is buffers fronts channels =
+pub lists_so : (declared opened : Declared) (lists : DeclaredLists) → opened ≡ opened_with_defaults declared → AreListed opened lists → opened_with_defaults declared ≡ declared_by lists
+lists_so declared opened lists is are =
     let d : Declared = opened_with_defaults declared in
-    let same_buffers : lists.buffers ≡ d.buffers = buffers ∙ ap (λ (x : Declared). x.buffers) is in
-    let same_fronts : lists.fronts ≡ d.fronts = fronts ∙ ap (λ (x : Declared). x.fronts) is in
-    let same_channels : lists.channels ≡ d.channels = channels ∙ ap (λ (x : Declared). x.channels) is in
-    sym (ap (λ (b : List BufferDeclared). opened_lists b lists.fronts lists.channels) same_buffers
-    ∙ ap (λ (f : List FrontDeclared). opened_lists d.buffers f lists.channels) same_fronts
-    ∙ ap (λ (c : List ChannelSpec). opened_lists d.buffers d.fronts c) same_channels)
+    let same_buffers : lists.buffers ≡ d.buffers = are.buffers ∙ ap (λ (x : Declared). x.buffers) is in
+    let same_fronts : lists.fronts ≡ d.fronts = are.fronts ∙ ap (λ (x : Declared). x.fronts) is in
+    let same_channels : lists.channels ≡ d.channels = are.channels ∙ ap (λ (x : Declared). x.channels) is in
+    let same_analyzers : lists.analyzers ≡ d.analyzers = are.analyzers ∙ ap (λ (x : Declared). x.analyzers) is in
+    sym (ap (λ (b : List BufferDeclared). opened_lists b lists.fronts lists.channels lists.analyzers) same_buffers
+    ∙ ap (λ (f : List FrontDeclared). opened_lists d.buffers f lists.channels lists.analyzers) same_fronts
+    ∙ ap (λ (c : List ChannelSpec). opened_lists d.buffers d.fronts c lists.analyzers) same_channels
+    ∙ ap (λ (a : List AnalyzerDeclared). opened_lists d.buffers d.fronts d.channels a) same_analyzers)
 
-pub lists_sound : (declared opened : Declared) (lists : DeclaredLists) → opened ≡ opened_with_defaults declared → lists.buffers ≡ opened.buffers → lists.fronts ≡ opened.fronts → lists.channels ≡ opened.channels
-    → AreSound opened → AreSound (declared_by lists)
-lists_sound declared opened lists is buffers fronts channels sound =
-    subst AreSound (is ∙ lists_so declared opened lists is buffers fronts channels) sound
+pub lists_sound : (declared opened : Declared) (lists : DeclaredLists) → opened ≡ opened_with_defaults declared → AreListed opened lists → AreSound opened → AreSound (declared_by lists)
+lists_sound declared opened lists is are sound = subst AreSound (is ∙ lists_so declared opened lists is are) sound
 
 -- the database has a pass for each front-end
 pub few_fronts : {D : Type 0} (shared : SharedOdb D) (lists : DeclaredLists) → passes_of (odb_lock_of shared) ≡ 33 → AreSound (declared_by lists) → length lists.fronts < passes_of (odb_lock_of shared)
@@ -90,8 +84,8 @@ module _ {D F K : Type 0} {g : _} (told : CrewTold Generator F K) (lists : Decla
   objects_left passes records = record { objects = objects; passes = passes; runs = records }
 
   pub some_ended : (session : Option (SessionPasses D g × List RunRecord)) (passes : SessionPasses D g) (records : List RunRecord) → session ≡ Some (passes, records)
-      → AreSound (declared_by lists) → AreObjectsOf lists objects → HaveCallers lists.fronts objects shared
-      → ObjectsEnd told lists objects shared first_files final ending run_files session → IsEndOf told shared first_files final run_files (objects_left passes records)
+      → AreSound (declared_by lists) → AreObjectsOf lists objects → HaveCallers lists.fronts lists.analyzers objects shared
+      → ObjectsEnd told lists objects shared first_files final ending run_files session → IsEndedSession told shared first_files final run_files (objects_left passes records)
   some_ended session passes records is sound are callers ends =
       let all = subst (ObjectsEnd told lists objects shared first_files final ending run_files) is ends in
       record {
@@ -104,27 +98,3 @@ module _ {D F K : Type 0} {g : _} (told : CrewTold Generator F K) (lists : Decla
         is_open = all.1.1;
         ends = all.1.2;
       }
-
--- A script that began where the main thread had seen nothing.
-pub began_unseen : (database : DatabaseIdentity) (seen : List (ℕ × WatchEntry)) (files : DumpFiles) (clock : ClockTold) (ending : Ending) (closing : Option Halt) (source left told_first told : Option (List ℕ)) (final : Stage) (refusals : Refusals) → seen ≡ []
-    → Finished DoesScriptLine BreaksScriptLine ClosesScript GivesUp (first_stage (shared_access database main_caller seen) files clock) ending closing source left told_first told final refusals
-    → Finished DoesScriptLine BreaksScriptLine ClosesScript GivesUp (first_stage (shared_access database main_caller []) files clock) ending closing source left told_first told final refusals
-began_unseen database seen files clock ending closing source left told_first told final refusals unseen finished =
-    subst (λ (s : List (ℕ × WatchEntry)). Finished DoesScriptLine BreaksScriptLine ClosesScript GivesUp (first_stage (shared_access database main_caller s) files clock) ending closing source left told_first told final refusals) unseen finished
-
--- What came of the lines of a whole script tells whether the count of faults of the files of the dumps rose.
-pub faults_told : (first final : Stage) (ending : Ending) (closing : Option Halt) (source left told_first told : Option (List ℕ)) (refusals : Refusals) (files : DumpFiles) (replies : List (ℕ × FileReply)) (clock : ClockTold)
-    → IsTold final files replies clock → Finished DoesScriptLine BreaksScriptLine ClosesScript GivesUp first ending closing source left told_first told final refusals
-    → first.database.replies ≡ [] → asks_files (ended_by ending closing) ≡ true → NotesFailed (list_any is_fault replies) first.database.files.faults files.faults
-faults_told first final ending closing source left told_first told refusals files replies clock is finished none asks =
-    subst (λ (f : DumpFiles). NotesFailed (list_any is_fault replies) first.database.files.faults f.faults) is.files_are
-    (subst (λ (r : List (ℕ × FileReply)). NotesFailed (list_any is_fault r) first.database.files.faults final.database.files.faults) is.replies_are
-    (script_told first final ending closing source left told_first told refusals finished none asks))
-
--- Its files of the dumps stay, and each new one has the name of a `save` line.
-pub dumps_told : (first final : Stage) (ending : Ending) (closing : Option Halt) (source left told_first told : Option (List ℕ)) (refusals : Refusals) (files : DumpFiles) (replies : List (ℕ × FileReply)) (clock : ClockTold)
-    → IsTold final files replies clock → (finished : Finished DoesScriptLine BreaksScriptLine ClosesScript GivesUp first ending closing source left told_first told final refusals)
-    → KeepsDumps finished.lines first.database.files.seen files.seen
-dumps_told first final ending closing source left told_first told refusals files replies clock is finished =
-    subst (λ (f : DumpFiles). KeepsDumps finished.lines first.database.files.seen f.seen) is.files_are
-    (script_keeps first final ending closing source left told_first told refusals finished)

@@ -1,5 +1,5 @@
 -- What is kept of a session is what the laws of ended sessions ask for, so all that they say holds of it.
-use Rattle.std.specs.Prelude.{◌≡◌, ℕ, ◌<◌, Bool, IsTrue, List, [], ◌∷◌, ◌++◌, Ok, length, map, slice_get, Option, Some, refl}
+use Rattle.std.specs.Prelude.{◌≡◌, ℕ, ◌<◌, ◌≤◌, Bool, IsTrue, List, [], ◌∷◌, ◌++◌, Ok, length, map, slice_get, Option, Some, refl}
 use Rattle.std.specs.List.{AllByRecursion}
 use Rattle.std.specs.Option.{option_map, option_to_list}
 use Rattle.std.proofs.Common.{ap, sym, subst, ◌∙◌, append_assoc, arith}
@@ -8,7 +8,8 @@ use Rattle.std.proofs.lemmas.Option.{slice_get_within}
 use Rattle.daq_types.specs.Callers.{entries_by, main_caller}
 use Rattle.daq_types.specs.declared.events.Event.{Event}
 use Rattle.daq_types.specs.declared.runs.Order.{Order}
-use Rattle.daq_types.specs.declared.runs.StartOutcome.TheVariants.{Completed}
+use Rattle.daq_types.specs.declared.runs.StartOutcome.TheVariants.{Completed, Refused}
+use Rattle.daq_types.specs.declared.runs.Why.{Why}
 use Rattle.turn_lock.specs.Closing.{history_of}
 use Rattle.transitions.specs.declared.entry.EngineEntry.{EngineEntry}
 use Rattle.transitions.specs.declared.entry.EngineEntry.TheVariants.{Close}
@@ -22,43 +23,45 @@ use Rattle.odb_watch.specs.declared.entry.WatchEntry.{WatchEntry}
 use Rattle.odb_lock.specs.SharedOdbs.{first_database}
 use Rattle.session_setup.specs.Setup.{Declared}
 use Rattle.session_setup.specs.declared.declared.BufferDeclared.{BufferDeclared}
+use Rattle.session_setup.specs.declared.declared.AnalyzerDeclared.{AnalyzerDeclared}
 use Rattle.session_setup.specs.declared.declared.FrontDeclared.{FrontDeclared}
 use Rattle.mid_logger.specs.declared.channel_spec.ChannelSpec.{ChannelSpec}
 use Rattle.session_engine.specs.declared.opening.MemberName.{MemberName}
 use Rattle.session_engine.specs.Members.{registrations}
 use Rattle.loggers.specs.LeftNames.{NoneRose}
 use Rattle.loggers.specs.Moments.{RunFiles}
+use Rattle.loggers.specs.OtherFiles.{AreDeclared}
 use Rattle.run_records.specs.declared.records.RunRecord.{RunRecord}
 use Rattle.session_runs.specs.declared.channels.RunChannel.{RunChannel}
 use Rattle.session_runs.specs.declared.on.CurrentRun.{CurrentRun}
 use Rattle.session_runs.specs.KeptRuns.{channels_of}
-use Rattle.session_runs.specs.RunsFit.{FitsRun, MainOwn, RecordsFit, start_of, start_on, starts_begun}
-use Rattle.session_lines.specs.Stages.{Stage, front_names, members_named}
-use Rattle.daq_members.specs.Crews.{CrewTold}
+use Rattle.session_runs.specs.RunsFit.{FitsRun, MainOwn, RecordsFit, RunClients, SteersEngine, run_clients, start_of, start_on, starts_begun}
+use Rattle.session_lines.specs.Stages.{Stage, analyzer_names, front_names, members_declared}
+use Rattle.session_crew.specs.Crews.{CrewTold}
 use Rattle.daq_members.specs.FrontSeats.{FrontSeen, IsSeated}
 use Rattle.session_objects.specs.declared.record.BufferRecord.{BufferRecord}
 use Rattle.session_objects.specs.declared.record.SessionRecord.{SessionRecord}
 use Rattle.session_objects.specs.Members.{generator_takes, generator_makes}
-use Rattle.session_objects.specs.Names.{front_member_name, member_names}
+use Rattle.session_objects.specs.Names.{member_names}
 use Rattle.session_laws.specs.ClosedSessions.{ClosedSession, engine_calls}
 use Rattle.session_laws.specs.CountedFaults.{CountsHold}
 use Rattle.session_laws.specs.EndLaws.{SessionHolds}
-use Rattle.session_laws.specs.MembersAtEnd.{MembersAtEnd, SteersEngine}
+use Rattle.session_laws.specs.MembersAtEnd.{MembersAtEnd}
+use Rattle.session_laws.specs.OneAnswer.{OneAnswer}
 use Rattle.session_laws.specs.OtherNames.{AreStartsOver}
-use Rattle.session_laws.specs.RecordedRuns.{AreDeclared}
 use Rattle.session_ends.specs.EndedSessions.{EndsSo, SessionEnded, HoldsSo, closed_session}
-use Rattle.session_ends.specs.EndedRecords.{CountsSo, IsInNoRecord, NamesSo, RecordSo, RecordsSo, StartsSo}
-use Rattle.daq_session.specs.Endings.{closing_calls}
-use Rattle.daq_session.specs.Sessions.{IsSessionRecord, KeepsSession, main_own}
+use Rattle.session_ends.specs.EndedRecords.{CountsSo, IsInNoRecord, NamesSo, OneAnswerSo, RecordSo, RecordsSo, RefusalSo, RefusalsSo, StartsOverSo, clients_declared}
+use Rattle.session_commands.specs.Endings.{closing_calls}
+use Rattle.daq_session.specs.Played.{IsSessionRecord}
+use Rattle.daq_session.specs.Sessions.{KeepsSession, main_own}
 use Rattle.daq_session.specs.ToldRecords.{AreHistoriesOf, AreMainCalls, IsHistoryOf, session_told}
 use Rattle.daq_session.specs.RunNumbers.{GivesNumber}
-use Rattle.daq_session.proofs.SpareLaws.{RunLaws, calls_give, session_spares}
-use Rattle.daq_session.proofs.SteeringLaws.{all_steer}
+use Rattle.daq_session.proofs.NumberLaws.{RunLaws, calls_give, session_spares}
 use Rattle.daq_session.proofs.ToldRuns.{run_tells, there}
 
-same_names : (fronts : List FrontDeclared) → members_named (map (λ front. front.name) fronts) ≡ member_names fronts
-same_names [] = refl
-same_names (f ∷ fronts) = ap (λ (l : List MemberName). front_member_name f ∷ l) (same_names fronts)
+all_joined : {X : Type 0} (P : X → Type 0) (xs ys : List X) → AllByRecursion P xs → AllByRecursion P ys → AllByRecursion P (xs ++ ys)
+all_joined P [] ys first second = second
+all_joined P (x ∷ xs) ys first second = (first.0, all_joined P xs ys first.1 second)
 
 -- What the laws say of a closed session with these runs.
 record LawsHold (c : ClosedSession) (first now : RunFiles) (own : MainOwn) (runs : List RunRecord) : Type 0 where
@@ -66,33 +69,39 @@ record LawsHold (c : ClosedSession) (first now : RunFiles) (own : MainOwn) (runs
   holds : SessionHolds c
   over : AreStartsOver (engine_calls c main_caller)
   counts : CountsHold c first now
+  one : OneAnswer c runs first now
   left : IsTrue first.seen.tells → NoneRose first now → (name : List ℕ) → IsInNoRecord runs name → now.seen.at name ≡ first.seen.at name
   so : (number : ℕ) → (run : RunRecord) → slice_get runs number ≡ Some run → run.outcome ≡ Completed → RecordSo c holds.moments own run
+  refused : (number : ℕ) → (run : RunRecord) → slice_get runs number ≡ Some run → (client : ℕ) → (why : Why) → run.outcome ≡ Refused client why → RefusalSo c first now own run client why
 
 module _ {D F K : Type 0} {g : _} (told : CrewTold Generator F K) (takes : told.takes ≡ generator_takes) (makes : told.makes ≡ generator_makes)
     (first_files : F) (final : Stage) (run_files : F) (r : SessionRecord D g) (kept : IsSessionRecord told first_files final run_files r) where
-  names : members_named (front_names final.declared) ≡ member_names kept.lists.fronts
-  names = ap (λ (d : Declared). members_named (front_names d)) (sym kept.declared) ∙ same_names kept.lists.fronts
+  names : members_declared final.declared ≡ member_names kept.lists.fronts kept.lists.analyzers
+  names = ap members_declared (sym kept.declared)
 
   abbrev later : List EngineEntry
   later = kept.fits.later ++ Close (Ok tt) ∷ []
 
-  begins : closing_calls kept.last.main.own ≡ registrations 0 (member_names kept.lists.fronts) ++ later
+  begins : closing_calls kept.last.main.own ≡ registrations 0 (member_names kept.lists.fronts kept.lists.analyzers) ++ later
   begins =
       ap (λ (l : List EngineEntry). l ++ Close (Ok tt) ∷ []) kept.fits.begins
-      ∙ (append_assoc (registrations 0 (members_named (front_names final.declared))) kept.fits.later (Close (Ok tt) ∷ [])
+      ∙ (append_assoc (registrations 0 (members_declared final.declared)) kept.fits.later (Close (Ok tt) ∷ [])
       ∙ ap (λ (l : List MemberName). registrations 0 l ++ (kept.fits.later ++ Close (Ok tt) ∷ [])) names)
 
   steers : AllByRecursion SteersEngine later
-  steers = all_steer kept.fits.later (Close (Ok tt) ∷ []) kept.fits.steers (tt, tt)
+  steers = all_joined SteersEngine kept.fits.later (Close (Ok tt) ∷ []) kept.fits.steers (tt, tt)
 
-  abbrev ended : SessionEnded told.seen kept.lists.fronts kept.crew.logger r
+  few_analyzers : length kept.lists.analyzers ≤ 8
+  few_analyzers = subst (λ (d : Declared). length d.analyzers ≤ 8) (sym kept.declared) kept.sound.few_analyzers
+
+  abbrev ended : SessionEnded told.seen kept.lists.fronts kept.lists.analyzers kept.crew.logger r
   ended = record {
     objects = kept.objects;
     shared = kept.shared;
     own = closing_calls kept.last.main.own;
     database = final.database.access.seen;
     seats = kept.crew.fronts;
+    readers = kept.crew.analyzers;
     callers = kept.callers;
     opening = kept.are.engine;
     members = kept.members;
@@ -101,8 +110,10 @@ module _ {D F K : Type 0} {g : _} (told : CrewTold Generator F K) (takes : told.
         (subst (λ (m : Generator → Order → ℕ → Event). (client : ℕ) → (front : FrontSeen Generator) → slice_get kept.crew.fronts client ≡ Some front → IsSeated told.takes m front) makes
         kept.keep.fronts);
     logger_seated = kept.keep.logger;
+    readers_seated = kept.keep.analyzers;
     histories = kept.histories;
     calls = kept.calls;
+    few_analyzers = few_analyzers;
     later = later;
     begins = begins;
     steers = steers;
@@ -121,13 +132,30 @@ module _ {D F K : Type 0} {g : _} (told : CrewTold Generator F K) (takes : told.
   its_channels : kept.last.channels ≡ channels_of kept.lists.channels
   its_channels = kept.fits.channels ∙ ap (λ (d : Declared). channels_of d.channels) (sym kept.declared)
 
-  fit : AllByRecursion (FitsRun (length kept.lists.fronts) (channels_of kept.lists.channels) own) r.runs
-  fit =
-      subst (λ (l : List RunRecord). AllByRecursion (FitsRun (length kept.lists.fronts) (channels_of kept.lists.channels) own) l) (sym kept.kept)
-      (subst (λ (c : List RunChannel). AllByRecursion (FitsRun (length kept.lists.fronts) c own) kept.last.runs) its_channels
-      (subst (λ (n : ℕ). AllByRecursion (FitsRun n kept.last.channels own) kept.last.runs) many_fronts kept.fits.fit.runs))
+  many_analyzers : length kept.last.analyzers ≡ length kept.lists.analyzers
+  many_analyzers =
+      ap (λ (l : List (List ℕ)). length l) kept.fits.analyzers
+      ∙ (ap (λ (d : Declared). length (analyzer_names d)) (sym kept.declared) ∙ length-map kept.lists.analyzers (λ (a : AnalyzerDeclared). a.name))
 
-  lists_fit : RecordsFit (length kept.lists.fronts) (channels_of kept.lists.channels) own r.runs
+  abbrev its_clients : RunClients
+  its_clients = clients_declared kept.lists.fronts kept.lists.channels kept.lists.analyzers
+
+  clients_with : (fronts : ℕ) → List RunChannel → (analyzers : ℕ) → RunClients
+  clients_with fronts channels analyzers = record { fronts = fronts; channels = channels; analyzers = analyzers }
+
+  same_clients : run_clients kept.last ≡ its_clients
+  unfolding clients_with
+  same_clients =
+      ap (λ (n : ℕ). clients_with n kept.last.channels (length kept.last.analyzers)) many_fronts
+      ∙ (ap (λ (c : List RunChannel). clients_with (length kept.lists.fronts) c (length kept.last.analyzers)) its_channels
+      ∙ ap (clients_with (length kept.lists.fronts) (channels_of kept.lists.channels)) many_analyzers)
+
+  fit : AllByRecursion (FitsRun its_clients own) r.runs
+  fit =
+      subst (λ (l : List RunRecord). AllByRecursion (FitsRun its_clients own) l) (sym kept.kept)
+      (subst (λ (clients : RunClients). AllByRecursion (FitsRun clients own) kept.last.runs) same_clients kept.fits.fit.runs)
+
+  lists_fit : RecordsFit its_clients own r.runs
   lists_fit =
       let each : map start_of kept.last.runs ≡ starts_begun kept.last.main.own =
       sym (append-nil (map start_of kept.last.runs))
@@ -137,33 +165,35 @@ module _ {D F K : Type 0} {g : _} (told : CrewTold Generator F K) (takes : told.
 
   -- By the objects and seats of the session, and then by what a reader of the record knows of it.
 
-  abbrev closed_by : (opened : Watched) (fronts : List FrontDeclared) (first now : F) → ClosedSession
-  closed_by opened fronts first now = closed_session opened fronts kept.crew.logger.slots (told.seen first) (told.seen now) r
+  abbrev closed_by : (opened : Watched) (fronts : List FrontDeclared) (analyzers : List AnalyzerDeclared) (first now : F) → ClosedSession
+  closed_by opened fronts analyzers first now = closed_session opened fronts analyzers kept.crew.logger.slots (told.seen first) (told.seen now) r
 
-  abbrev Laws : (opened : Watched) (fronts : List FrontDeclared) (first now : F) → Type 0
-  Laws opened fronts first now = LawsHold (closed_by opened fronts first now) (told.read first) (told.read now) own r.runs
+  abbrev Laws : (opened : Watched) (fronts : List FrontDeclared) (analyzers : List AnalyzerDeclared) (first now : F) → Type 0
+  Laws opened fronts analyzers first now = LawsHold (closed_by opened fronts analyzers first now) (told.read first) (told.read now) own r.runs
 
-  laws_first : EndsSo told.seen r → HoldsSo told.seen r → StartsSo told.seen r → CountsSo told.seen told.read r → NamesSo told.seen told.read r → RecordsSo told.seen r
-      → Laws (first_database kept.shared) kept.lists.fronts kept.crew.logger.first kept.crew.logger.files
-  laws_first ends hold starts counts names_so records =
-      let holds = hold kept.lists.fronts kept.crew.logger ended in
+  laws_first : EndsSo told.seen r → HoldsSo told.seen r → StartsOverSo told.seen r → CountsSo told.seen told.read r → OneAnswerSo told.seen told.read r → NamesSo told.seen told.read r → RecordsSo told.seen r → RefusalsSo told.seen told.read r
+      → Laws (first_database kept.shared) kept.lists.fronts kept.lists.analyzers kept.crew.logger.first kept.crew.logger.files
+  laws_first ends hold starts counts one names_so records refusals =
+      let holds = hold kept.lists.fronts kept.lists.analyzers kept.crew.logger ended in
       record {
-        members = ends kept.lists.fronts kept.crew.logger ended;
+        members = ends kept.lists.fronts kept.lists.analyzers kept.crew.logger ended;
         holds = holds;
-        over = starts kept.lists.fronts kept.crew.logger ended kept.lists.channels kept.channels own (Close (Ok tt) ∷ []) refl refl lists_fit;
-        counts = counts kept.lists.fronts kept.crew.logger ended kept.keep.reasons kept.keep.names;
-        left = names_so kept.lists.fronts kept.crew.logger ended kept.keep.reasons kept.keep.names kept.lists.channels kept.channels own (Close (Ok tt) ∷ []) refl refl lists_fit;
-        so = records kept.lists.fronts kept.crew.logger ended kept.lists.channels kept.channels holds own (Close (Ok tt) ∷ []) refl fit;
+        over = starts kept.lists.fronts kept.lists.analyzers kept.crew.logger ended kept.lists.channels kept.channels own (Close (Ok tt) ∷ []) refl refl lists_fit;
+        counts = counts kept.lists.fronts kept.lists.analyzers kept.crew.logger ended kept.keep.reasons kept.keep.names;
+        one = one kept.lists.fronts kept.lists.analyzers kept.crew.logger ended kept.keep.reasons kept.keep.names kept.lists.channels kept.channels own (Close (Ok tt) ∷ []) refl lists_fit;
+        left = names_so kept.lists.fronts kept.lists.analyzers kept.crew.logger ended kept.keep.reasons kept.keep.names kept.lists.channels kept.channels own (Close (Ok tt) ∷ []) refl refl lists_fit;
+        so = records kept.lists.fronts kept.lists.analyzers kept.crew.logger ended kept.lists.channels kept.channels holds own (Close (Ok tt) ∷ []) refl fit;
+        refused = refusals kept.lists.fronts kept.lists.analyzers kept.crew.logger ended kept.keep.reasons kept.keep.names kept.lists.channels kept.channels own (Close (Ok tt) ∷ []) refl fit;
       }
 
-  laws_read : EndsSo told.seen r → HoldsSo told.seen r → StartsSo told.seen r → CountsSo told.seen told.read r → NamesSo told.seen told.read r → RecordsSo told.seen r
-      → Laws (unwatched session_rows) final.declared.fronts first_files run_files
-  laws_read ends hold starts counts names_so records =
-      subst (λ (now : F). Laws (unwatched session_rows) final.declared.fronts first_files now) kept.files
-      (subst (λ (first : F). Laws (unwatched session_rows) final.declared.fronts first kept.crew.logger.files) kept.first
-      (subst (λ (fronts : List FrontDeclared). Laws (unwatched session_rows) fronts kept.crew.logger.first kept.crew.logger.files) (ap (λ (d : Declared). d.fronts) kept.declared)
-      (subst (λ (opened : Watched). Laws opened kept.lists.fronts kept.crew.logger.first kept.crew.logger.files) kept.rows
-      (laws_first ends hold starts counts names_so records))))
+  laws_read : EndsSo told.seen r → HoldsSo told.seen r → StartsOverSo told.seen r → CountsSo told.seen told.read r → OneAnswerSo told.seen told.read r → NamesSo told.seen told.read r → RecordsSo told.seen r → RefusalsSo told.seen told.read r
+      → Laws (unwatched session_rows) final.declared.fronts final.declared.analyzers first_files run_files
+  laws_read ends hold starts counts one names_so records refusals =
+      subst (λ (now : F). Laws (unwatched session_rows) final.declared.fronts final.declared.analyzers first_files now) kept.files
+      (subst (λ (first : F). Laws (unwatched session_rows) final.declared.fronts final.declared.analyzers first kept.crew.logger.files) kept.first
+      (subst (λ (d : Declared). Laws (unwatched session_rows) d.fronts d.analyzers kept.crew.logger.first kept.crew.logger.files) kept.declared
+      (subst (λ (opened : Watched). Laws opened kept.lists.fronts kept.lists.analyzers kept.crew.logger.first kept.crew.logger.files) kept.rows
+      (laws_first ends hold starts counts one names_so records refusals))))
 
   -- The histories.
 
@@ -209,8 +239,8 @@ module _ {D F K : Type 0} {g : _} (told : CrewTold Generator F K) (takes : told.
       }
 
   -- one record for each start
-  records_fit : RecordsFit (length final.declared.fronts) (channels_of final.declared.channels) own r.runs
-  records_fit = subst (λ (d : Declared). RecordsFit (length d.fronts) (channels_of d.channels) own r.runs) kept.declared lists_fit
+  records_fit : RecordsFit (clients_declared final.declared.fronts final.declared.channels final.declared.analyzers) own r.runs
+  records_fit = subst (λ (d : Declared). RecordsFit (clients_declared d.fronts d.channels d.analyzers) own r.runs) kept.declared lists_fit
 
   -- each answer that the run number got
   numbers : RunLaws → (holds : SessionHolds (session_told told final.declared kept.crew.logger.slots first_files run_files r)) → AllByRecursion GivesNumber own.database
@@ -218,14 +248,14 @@ module _ {D F K : Type 0} {g : _} (told : CrewTold Generator F K) (takes : told.
       let c : ClosedSession = session_told told final.declared kept.crew.logger.slots first_files run_files r in
       subst (λ (calls : List WatchEntry). AllByRecursion GivesNumber calls) main_calls.database
       (calls_give laws.stays laws.given main_caller (unwatched session_rows) (history_of r.database) r.database.value.database histories.database
-      (session_spares laws.sets c holds own main_calls.database kept.spares) laws.opens)
+      (session_spares laws.sets laws.listed c holds own main_calls.database kept.spares) laws.opens)
 
   channels : AreDeclared final.declared.channels kept.crew.logger.slots
   channels = subst (λ (l : List ChannelSpec). AreDeclared l kept.crew.logger.slots) (ap (λ (d : Declared). d.channels) kept.declared) kept.channels
 
-  pub keeps : RunLaws → EndsSo told.seen r → HoldsSo told.seen r → StartsSo told.seen r → CountsSo told.seen told.read r → NamesSo told.seen told.read r → RecordsSo told.seen r → KeepsSession told first_files final run_files r
-  keeps number_laws ends hold starts counts names_so records =
-      let laws = laws_read ends hold starts counts names_so records in
+  pub keeps : RunLaws → EndsSo told.seen r → HoldsSo told.seen r → StartsOverSo told.seen r → CountsSo told.seen told.read r → OneAnswerSo told.seen told.read r → NamesSo told.seen told.read r → RecordsSo told.seen r → RefusalsSo told.seen told.read r → KeepsSession told first_files final run_files r
+  keeps number_laws ends hold starts counts one names_so records refusals =
+      let laws = laws_read ends hold starts counts one names_so records refusals in
       let given : AllByRecursion GivesNumber own.database = numbers number_laws laws.holds in
       record {
         sound = kept.sound;
@@ -244,9 +274,11 @@ module _ {D F K : Type 0} {g : _} (told : CrewTold Generator F K) (takes : told.
           holds = laws.holds;
           over = laws.over;
           counts = laws.counts;
+          one_answer = laws.one;
           left = laws.left;
           runs = λ number run at whole.
-              run_tells (session_told told final.declared kept.crew.logger.slots first_files run_files r) final.declared r.buffers kept.sound many_buffers refl refl channels
-              laws.holds.moments own given (told.read first_files) (told.read run_files) laws.counts laws.holds.composed number_laws.among run (laws.so number run at whole);
+              run_tells (session_told told final.declared kept.crew.logger.slots first_files run_files r) final.declared r.buffers kept.sound many_buffers refl refl refl channels
+              laws.holds.moments own given (told.read first_files) (told.read run_files) laws.counts laws.holds.composed number_laws.listed number_laws.among run (laws.so number run at whole);
+          refusals = laws.refused;
         };
       }

@@ -1,9 +1,10 @@
--- What the record of a run tells of its files and its front-ends.
+-- What the record of a run tells of its files, its front-ends and its analyzers.
 use mathlib.Core.List.{IsPrefix}
 use Rattle.std.specs.Prelude.{◌≡◌, ℕ, zero, suc, ◌+◌, ◌-◌, ◌<◌, ℤ, pos, negsuc, Bool, true, false, if◌then◌else◌, nat_lt, List, [], ◌∷◌, ◌++◌, length, map, slice_get, unwrap_or, Contains, Option, Some, None, Result, Ok, Err, refl}
 use Rattle.std.specs.List.{AllByRecursion}
 use Rattle.std.specs.Option.{option_map}
 use Rattle.std.proofs.Common.{ap, sym, subst, ◌∙◌, arith}
+use Rattle.std.proofs.lemmas.List.{length-map}
 use Rattle.std.proofs.lemmas.List.Elements.{All-contains}
 use Rattle.std.proofs.lemmas.Option.{slice_get-map, slice_get_within, get_or_from_slice_get}
 use Rattle.daq_types.specs.Callers.{caller_of_client, entries_by}
@@ -15,11 +16,12 @@ use Rattle.daq_io.specs.Seen.{IsStored}
 use Rattle.daq_model.specs.RunFile.{IsRunFile, run_file}
 use Rattle.turn_lock.specs.Closing.{history_of}
 use Rattle.buffer_core.specs.declared.entry.BufferEntry.{BufferEntry}
-use Rattle.buffer_core.specs.Window.{Sent}
+use Rattle.buffer_core.specs.Window.{Sent, opening}
 use Rattle.buffer_core.specs.Histories.{History}
 use Rattle.buffer_core.specs.Readers.{wanted}
 use Rattle.buffer_core.specs.Runs.{segment}
 use Rattle.buffer_core.specs.Slots.{slot_at}
+use Rattle.local_port.specs.Ported.{given_in}
 use Rattle.caller_laws.specs.CallerLaws.{IsSendOf, SendIsAmong}
 use Rattle.caller_laws.specs.OneCaller.{events_in}
 use Rattle.caller_laws.specs.SentRuns.{events_at_places, places_sent}
@@ -34,6 +36,8 @@ use Rattle.odb_watch.specs.declared.entry.WatchEntry.TheVariants as call
 use Rattle.odb_runinfo.specs.declared.sets.RunNumber.{RunNumber as NoNext}
 use Rattle.odb_runinfo.specs.RunSets.{have_of, next_run, number_asked, number_in}
 use Rattle.member_model.specs.SentCalls.{own_sent}
+use Rattle.member_model.specs.Turns.{MemberTurn}
+use Rattle.member_model.specs.TurnCalls.{member_turns}
 use Rattle.member_model.specs.LoggerKept.{LoggerChannel}
 use Rattle.front_ends.specs.FrontKept.{made_events}
 use Rattle.mid_logger.specs.declared.channel.Channel.{Channel}
@@ -41,9 +45,10 @@ use Rattle.mid_logger.specs.declared.channel_spec.ChannelSpec.{ChannelSpec}
 use Rattle.loggers.specs.LeftNames.{NoneRose}
 use Rattle.loggers.specs.Moments.{RunFiles}
 use Rattle.loggers.specs.LoggerStands.{logger_channel, logger_channels}
-use Rattle.loggers.specs.OtherFiles.{specs_in}
+use Rattle.loggers.specs.OtherFiles.{AreDeclared, specs_in}
 use Rattle.run_records.specs.declared.records.FileRecord.{FileRecord}
 use Rattle.run_records.specs.declared.records.FrontTally.{FrontTally}
+use Rattle.run_records.specs.declared.records.ReportTally.{ReportTally}
 use Rattle.run_records.specs.declared.records.RunRecord.{RunRecord}
 use Rattle.composition.specs.Sessions.{HasFront, Session, SessionFront}
 use Rattle.composition.specs.CompositionLaws.{IsComposed}
@@ -51,17 +56,19 @@ use Rattle.composition.specs.SessionRuns.{HoldsFilePart, HoldsRunFile, IsOfFront
 use Rattle.session_runs.specs.RunEntries.{dump_saved, later_sheet, start_sheet}
 use Rattle.session_runs.specs.RunsFit.{MainOwn, run_of}
 use Rattle.session_setup.specs.Setup.{AreSound, Declared}
+use Rattle.session_setup.specs.declared.declared.AnalyzerDeclared.{AnalyzerDeclared}
 use Rattle.session_setup.specs.declared.declared.FrontDeclared.{FrontDeclared}
 use Rattle.session_objects.specs.declared.record.BufferRecord.{BufferRecord}
-use Rattle.session_objects.specs.Members.{generator_makes, generator_of}
-use Rattle.session_laws.specs.ClosedSessions.{ClosedFront, ClosedSession, history_in, history_of_buffer, session_front, session_fronts, session_of}
+use Rattle.session_objects.specs.Members.{generator_makes, generator_of, request_of}
+use Rattle.session_laws.specs.ClosedSessions.{ClosedAnalyzer, ClosedFront, ClosedSession, analyzer_client, engine_calls, history_in, history_of_buffer, session_analyzer, session_front, session_of, size_in, size_of_buffer}
 use Rattle.session_laws.specs.CountedFaults.{CountsHold, state_by_dump}
-use Rattle.session_laws.specs.MadeRuns.{IsFileSo}
-use Rattle.session_laws.specs.RecordedRuns.{AreDeclared, FileRecordHolds, FrontRecordHolds}
+use Rattle.session_laws.specs.EndLaws.{MembersListed}
+use Rattle.session_laws.specs.MadeRuns.{IsFileSo, ReportHolds}
+use Rattle.session_laws.specs.RecordedRuns.{FileRecordHolds, FrontRecordHolds, ReportRecordHolds}
 use Rattle.session_ends.specs.EndedRecords.{RecordSo}
-use Rattle.session_ends.specs.EndedSessions.{closed_buffer, closed_front}
+use Rattle.session_ends.specs.EndedSessions.{closed_analyzer, closed_buffer, closed_front}
 use Rattle.daq_session.specs.RunNumbers.{GivesNumber, IsNumberBefore}
-use Rattle.daq_session.specs.ToldRecords.{IsOfChannel, IsPartOfRun, IsFileOfRun, IsFrontEvent, IsSentInRun, RunTells, events_of_front}
+use Rattle.daq_session.specs.ToldRecords.{IsCountedInRun, IsOfChannel, IsPartOfRun, IsFileOfRun, IsFrontEvent, IsSentInRun, RunTells, events_of_front}
 
 pub there : {X : Type 0} (xs : List X) (n : ℕ) → n < length xs → (x : X) × (slice_get xs n ≡ Some x)
 there [] n within = absurd (omega arith)
@@ -95,43 +102,6 @@ spec_of c = c.spec
 spec_at : (slots : List (Option Channel)) (n : ℕ) (c : Channel) → slot_at slots n ≡ Some c → slot_at (specs_in slots) n ≡ Some c.spec
 spec_at slots n c at = at_map spec_of slots n ∙ ap (option_map spec_of) at
 
--- A front-end that was declared stands at its client number.
-pub record AtClient (first : ℕ) (fronts : List ClosedFront) (moments : (client : ℕ) → List ℕ) (place : ℕ) (f : ClosedFront) : Type 0 where
-  pub client : ℕ
-  pub is : client ≡ first + place
-  pub at : slice_get (session_fronts first fronts moments) place ≡ Some (session_front client f (moments client))
-
-front_at : (first : ℕ) (fronts : List ClosedFront) (moments : (client : ℕ) → List ℕ) (place : ℕ) (f : ClosedFront) → slice_get fronts place ≡ Some f → AtClient first fronts moments place f
-front_at first [] moments place f at = absurd (cc at)
-front_at first (x ∷ fronts) moments zero f at =
-    let same : x ≡ f = cc at in
-    record { client = first; is = omega arith; at = ap (λ (y : ClosedFront). Some (session_front first y (moments first))) same }
-front_at first (x ∷ fronts) moments (suc place) f at =
-    let later = front_at (suc first) fronts moments place f at in
-    record { client = later.client; is = omega (arith, later.is); at = later.at }
-
-pub front_stands : (fronts : List ClosedFront) (moments : (client : ℕ) → List ℕ) (client : ℕ) (f : ClosedFront) → slice_get fronts client ≡ Some f
-    → slice_get (session_fronts 0 fronts moments) client ≡ Some (session_front client f (moments client))
-front_stands fronts moments client f at =
-    let found = front_at 0 fronts moments client f at in
-    let same : found.client ≡ client = omega (arith, found.is) in
-    subst (λ (n : ℕ). slice_get (session_fronts 0 fronts moments) client ≡ Some (session_front n f (moments n))) same found.at
-
--- A front-end of the session is one of those that were closed.
-pub record FromFront (first : ℕ) (fronts : List ClosedFront) (moments : (client : ℕ) → List ℕ) (place : ℕ) (f : SessionFront) : Type 0 where
-  pub closed : ClosedFront
-  pub at : slice_get fronts place ≡ Some closed
-  pub client : ℕ
-  pub is : client ≡ first + place
-  pub same : session_front client closed (moments client) ≡ f
-
-from_front : (first : ℕ) (fronts : List ClosedFront) (moments : (client : ℕ) → List ℕ) (place : ℕ) (f : SessionFront) → slice_get (session_fronts first fronts moments) place ≡ Some f → FromFront first fronts moments place f
-from_front first [] moments place f at = absurd (cc at)
-from_front first (x ∷ fronts) moments zero f at = record { closed = x; at = refl; client = first; is = omega arith; same = cc at }
-from_front first (x ∷ fronts) moments (suc place) f at =
-    let later = from_front (suc first) fronts moments place f at in
-    record { closed = later.closed; at = later.at; client = later.client; is = omega (arith, later.is); same = later.same }
-
 mapped : {X Y : Type 0} (f : X → Y) (xs : List X) (n : ℕ) (y : Y) → slice_get (map f xs) n ≡ Some y → (x : X) × (slice_get xs n ≡ Some x) × (f x ≡ y)
 mapped f [] n y at = absurd (cc at)
 mapped f (x ∷ xs) zero y at = (x, refl, cc at)
@@ -140,6 +110,9 @@ mapped f (x ∷ xs) (suc n) y at = mapped f xs n y at
 -- The history of a buffer of the record.
 history_there : (buffers : List BufferRecord) (n : ℕ) (b : BufferRecord) → slice_get buffers n ≡ Some b → history_in (slice_get (map closed_buffer buffers) n) ≡ history_of b.closed
 history_there buffers n b at = ap history_in (slice_get-map closed_buffer buffers n ∙ ap (option_map closed_buffer) at)
+
+size_there : (buffers : List BufferRecord) (n : ℕ) (b : BufferRecord) → slice_get buffers n ≡ Some b → size_in (slice_get (map closed_buffer buffers) n) ≡ b.size
+size_there buffers n b at = ap size_in (slice_get-map closed_buffer buffers n ∙ ap (option_map closed_buffer) at)
 
 -- The run number before.
 
@@ -162,13 +135,13 @@ before_next (pos n) run is =
 before_next (negsuc n) run is = absurd (cc is)
 
 module _ (c : ClosedSession) (declared : Declared) (buffers : List BufferRecord) (sound : AreSound declared) (many : length buffers ≡ length declared.buffers)
-    (same_buffers : c.buffers ≡ map closed_buffer buffers) (same_fronts : c.fronts ≡ map closed_front declared.fronts) (channels : AreDeclared declared.channels c.slots)
-    (moments : (client : ℕ) → List ℕ) (own : MainOwn) (given : AllByRecursion GivesNumber own.database) (first now : RunFiles) (counts : CountsHold c first now) (composed : IsComposed (session_of c moments)) (among : SendIsAmong) (run : RunRecord) (so : RecordSo c moments own run) where
+    (same_buffers : c.buffers ≡ map closed_buffer buffers) (same_fronts : c.fronts ≡ map closed_front declared.fronts) (same_analyzers : c.analyzers ≡ map closed_analyzer declared.analyzers) (channels : AreDeclared declared.channels c.slots)
+    (moments : (client : ℕ) → List ℕ) (own : MainOwn) (given : AllByRecursion GivesNumber own.database) (first now : RunFiles) (counts : CountsHold c first now) (composed : IsComposed (session_of c moments)) (listed : MembersListed) (among : SendIsAmong) (run : RunRecord) (so : RecordSo c moments own run) where
   abbrev session : Session
   session = session_of c moments
 
   abbrev first_sheet : Sheet
-  first_sheet = start_sheet run.run run.time0 so.quota so.fits.start.dump
+  first_sheet = start_sheet (length c.analyzers) run.run run.time0 so.quota so.fits.start.dump
 
   abbrev last_sheet : Sheet
   last_sheet = later_sheet (run_of run so.quota) run.time1 (dump_saved so.fits.stop.saved)
@@ -178,6 +151,9 @@ module _ (c : ClosedSession) (declared : Declared) (buffers : List BufferRecord)
 
   its_history : (n : ℕ) (b : BufferRecord) → slice_get buffers n ≡ Some b → history_of_buffer c n ≡ history_of b.closed
   its_history n b at = subst (λ (l : List _). history_in (slice_get l n) ≡ history_of b.closed) (sym same_buffers) (history_there buffers n b at)
+
+  its_size : (n : ℕ) (b : BufferRecord) → slice_get buffers n ≡ Some b → size_of_buffer c n ≡ b.size
+  its_size n b at = subst (λ (l : List _). size_in (slice_get l n) ≡ b.size) (sym same_buffers) (size_there buffers n b at)
 
   -- the channel of a file
   record AtChannel (file : FileRecord) (f : FileRecordHolds session so.holds.run file) : Type 0 where
@@ -272,7 +248,7 @@ module _ (c : ClosedSession) (declared : Declared) (buffers : List BufferRecord)
       let closed_at : slice_get c.fronts client ≡ Some (closed_front d) =
       subst (λ (l : List ClosedFront). slice_get l client ≡ Some (closed_front d)) (sym same_fronts) (slice_get-map closed_front declared.fronts client ∙ ap (option_map closed_front) at) in
       let f : SessionFront = session_front client (closed_front d) (moments client) in
-      let stands : slice_get session.fronts client ≡ Some f = front_stands c.fronts moments client (closed_front d) closed_at in
+      let stands : slice_get session.fronts client ≡ Some f = (listed c moments).fronts client (closed_front d) closed_at in
       let has = so.holds.fronts client f stands in
       record { tally = has.0; told = has.1; stands = (client, stands); holds = has.2 }
 
@@ -322,14 +298,13 @@ module _ (c : ClosedSession) (declared : Declared) (buffers : List BufferRecord)
       let at_place : slice_get (segment (history_of_buffer c buffer) run.start) index ≡ Some (place, x) =
       subst (λ (h : History). slice_get (segment h run.start) index ≡ Some (place, x)) (sym (its_history buffer b at_buffer)) at in
       let of : IsOfFront session buffer run.start place x.event = composed.only_fronts buffer run.start index place x at_place in
-      let found : FromFront 0 c.fronts moments of.stands.0 of.front = from_front 0 c.fronts moments of.stands.0 of.front of.stands.1 in
-      let d = mapped closed_front declared.fronts of.stands.0 found.closed (subst (λ (l : List ClosedFront). slice_get l of.stands.0 ≡ Some found.closed) same_fronts found.at) in
-      let client : ℕ = of.stands.0 in
-      let same_client : found.client ≡ client = omega (arith, found.is) in
-      let same : session_front client (closed_front d.0) (moments client) ≡ of.front =
-      ap (λ (y : ClosedFront). session_front client y (moments client)) d.2 ∙ (ap (λ (n : ℕ). session_front n found.closed (moments n)) (sym same_client) ∙ found.same) in
-      let send : IsSendOf (own_calls client buffer) run.start place x.event = subst (λ (f : SessionFront). IsSendOf (own_calls f.client buffer) run.start place x.event) (sym same) of.send in
-      let its_buffer : d.0.buffer ≡ buffer = subst (λ (f : SessionFront). f.buffer ≡ buffer) (sym same) of.buffer_is in
+      let found = (listed c moments).front_of of.front of.stands in
+      let client : ℕ = found.0 in
+      let d = mapped closed_front declared.fronts client found.1 (subst (λ (l : List ClosedFront). slice_get l client ≡ Some found.1) same_fronts found.2) in
+      let same : of.front ≡ session_front client (closed_front d.0) (moments client) =
+      found.3 ∙ ap (λ (y : ClosedFront). session_front client y (moments client)) (sym d.2) in
+      let send : IsSendOf (own_calls client buffer) run.start place x.event = subst (λ (f : SessionFront). IsSendOf (own_calls f.client buffer) run.start place x.event) same of.send in
+      let its_buffer : d.0.buffer ≡ buffer = subst (λ (f : SessionFront). f.buffer ≡ buffer) same of.buffer_is in
       let a : AtFront client d.0 = at_front client d.0 d.1 in
       let sent : Contains (own_sent (own_calls client d.0.buffer) run.start) x.event =
       subst (λ (n : ℕ). Contains (own_sent (own_calls client n) run.start) x.event) (sym its_buffer) (among (own_calls client buffer) run.start place x.event send) in
@@ -367,5 +342,47 @@ module _ (c : ClosedSession) (declared : Declared) (buffers : List BufferRecord)
       let f : FileRecordHolds session so.holds.run file = so.holds.files place file at in
       counts.ended none moments so.holds.run so.holds.made f.index f.channel f.at file.state f.told ∙ ap (λ (s : Sheet). state_by_dump s.dump) so.holds.last_is
 
+  -- an analyzer that was declared, with its record
+  record AtAnalyzer (place : ℕ) (d : AnalyzerDeclared) : Type 0 where
+    tally : ReportTally
+    told : slice_get run.reports place ≡ Some tally
+    holds : ReportRecordHolds session so.holds.run (session_analyzer c (analyzer_client c place) (closed_analyzer d)) tally
+
+  at_analyzer : (place : ℕ) (d : AnalyzerDeclared) → slice_get declared.analyzers place ≡ Some d → AtAnalyzer place d
+  at_analyzer place d at =
+      let closed_at : slice_get c.analyzers place ≡ Some (closed_analyzer d) =
+      subst (λ (l : List ClosedAnalyzer). slice_get l place ≡ Some (closed_analyzer d)) (sym same_analyzers) (slice_get-map closed_analyzer declared.analyzers place ∙ ap (option_map closed_analyzer) at) in
+      let has = so.holds.reports place (session_analyzer c (analyzer_client c place) (closed_analyzer d)) ((listed c moments).analyzers place (closed_analyzer d) closed_at) in
+      record { tally = has.0; told = has.1; holds = has.2 }
+
+  analyzer_counts : (place : ℕ) (d : AnalyzerDeclared) → AtAnalyzer place d → (b : BufferRecord) → slice_get buffers d.buffer ≡ Some b
+      → (tally : ReportTally) × (slice_get run.reports place ≡ Some tally) × IsCountedInRun (analyzer_client c place) d buffers c.engine run.start tally
+  analyzer_counts place d a b at =
+      let by : ℕ = caller_of_client (analyzer_client c place) in
+      let turns : List MemberTurn = member_turns (analyzer_client c place) (engine_calls c by) in
+      let of_start : ReportHolds (history_of_buffer c d.buffer) by (request_of d) (given_in by (opening (size_of_buffer c d.buffer)) (history_of_buffer c d.buffer)) turns run.start a.tally.report =
+      subst (λ (n : ℕ). ReportHolds (history_of_buffer c d.buffer) by (request_of d) (given_in by (opening (size_of_buffer c d.buffer)) (history_of_buffer c d.buffer)) turns n a.tally.report) so.holds.start a.holds.so in
+      let of_history : ReportHolds (history_of b.closed) by (request_of d) (given_in by (opening (size_of_buffer c d.buffer)) (history_of b.closed)) turns run.start a.tally.report =
+      subst (λ (h : History). ReportHolds h by (request_of d) (given_in by (opening (size_of_buffer c d.buffer)) h) turns run.start a.tally.report) (its_history d.buffer b at) of_start in (
+        a.tally,
+        a.told,
+        record {
+          is = a.holds.client;
+          buffer = b;
+          there = at;
+          counts = subst (λ (size : ℕ). ReportHolds (history_of b.closed) by (request_of d) (given_in by (opening size) (history_of b.closed)) turns run.start a.tally.report) (its_size d.buffer b at) of_history;
+        },
+      )
+
+  analyzers_tell : (place : ℕ) (d : AnalyzerDeclared) → slice_get declared.analyzers place ≡ Some d
+      → (tally : ReportTally) × (slice_get run.reports place ≡ Some tally) × IsCountedInRun (suc (length declared.fronts) + place) d buffers c.engine run.start tally
+  analyzers_tell place d at =
+      let contains : Contains declared.analyzers d = (place, slice_get_within declared.analyzers place d at, get_or_from_slice_get declared.analyzers place d d at) in
+      let within : d.buffer < length declared.buffers = All-contains (λ (x : AnalyzerDeclared). x.buffer < length declared.buffers) declared.analyzers d sound.analyzer_buffers contains in
+      let b = buffer_at d.buffer within in
+      let number : analyzer_client c place ≡ suc (length declared.fronts) + place =
+      ap (λ (l : List ClosedFront). suc (length l) + place) same_fronts ∙ ap (λ (n : ℕ). suc n + place) (length-map declared.fronts closed_front) in
+      subst (λ (n : ℕ). (tally : ReportTally) × (slice_get run.reports place ≡ Some tally) × IsCountedInRun n d buffers c.engine run.start tally) number (analyzer_counts place d (at_analyzer place d at) b.0 b.1)
+
   pub run_tells : RunTells c moments own declared buffers first now run
-  run_tells = record { so = so; number = number_got; files = files_tell; parts = parts_tell; ended = ended_tells; fronts = front_tells; events = events_tell }
+  run_tells = record { so = so; number = number_got; files = files_tell; parts = parts_tell; ended = ended_tells; fronts = front_tells; events = events_tell; reports = analyzers_tell }

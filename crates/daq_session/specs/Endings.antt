@@ -1,28 +1,12 @@
 -- Why a script ended.
-use Rattle.std.specs.Prelude.{◌≡◌, ◌≤◌, ◌⊎◌, ◌++◌, ◌∷◌, [], Ok, ℕ, Bool, true, false, ◌==◌, if◌then◌else◌, List, Option, Some, None}
+use Rattle.std.specs.Prelude.{◌≡◌, ◌≤◌, ◌⊎◌, ℕ, ◌==◌, if◌then◌else◌, List, Option, Some, None}
 use Rattle.daq_io.specs.Counts.{Rose}
-use Rattle.transitions.specs.declared.entry.EngineEntry.{EngineEntry}
-use Rattle.transitions.specs.declared.entry.EngineEntry.TheVariants.{Close}
-use Rattle.database_files.specs.declared.replies.FileReply.{FileReply}
-use Rattle.database_files.specs.declared.replies.FileReply.TheVariants as file
 use Rattle.script_desk.specs.declared.endings.Ending.{Ending}
 use Rattle.script_desk.specs.declared.endings.Ending.TheVariants.{End, TooLong as too_long, SourceFault as source_fault, Halted}
 use Rattle.script_desk.specs.declared.halts.Halt.TheVariants.{NoMemory as no_memory, SinkFault as sink_fault}
 use Rattle.session_replies.specs.declared.refusals.Refusals.{Refusals}
 use Rattle.daq_session.specs.declared.ends.ScriptEnd.{ScriptEnd}
 use Rattle.daq_session.specs.declared.ends.ScriptEnd.TheVariants.{Done, CommandRefused, TooLong, SourceFault, SinkFault, FileFault, NoMemory}
-
--- whether this came of a line that called the files of the database
-abbrev pub is_fault : ℕ × FileReply → Bool
-is_fault (number, file.Done) = false
-is_fault (number, file.Clash) = false
-is_fault (number, file.Fault) = true
-is_fault (number, file.TooLong) = false
-
--- whether a call on files failed, against their count of faults
-abbrev pub NotesFailed : (failed : Bool) → (old new : ℕ) → Type 0
-NotesFailed true old new = Rose old new
-NotesFailed false old new = new ≤ old
 
 -- The file of this name is that of the first fault, of the run files where their count of faults rose, else of the files of the
 -- database where theirs did; or neither grew.
@@ -46,14 +30,3 @@ script_end too_long None refusals = TooLong
 script_end source_fault faulted refusals = SourceFault
 script_end (Halted no_memory) faulted refusals = NoMemory
 script_end (Halted sink_fault) faulted refusals = SinkFault
-
--- the main thread's calls on the engine, with which it is closed
-abbrev pub closing_calls : List EngineEntry → List EngineEntry
-closing_calls own = own ++ Close (Ok tt) ∷ []
-
--- whether the files are asked for a fault, as a script ended so: at its end, or where it is too long
-abbrev pub asks_files : Ending → Bool
-asks_files End = true
-asks_files too_long = true
-asks_files source_fault = false
-asks_files (Halted halt) = false

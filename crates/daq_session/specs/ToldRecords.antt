@@ -1,12 +1,13 @@
 -- What the record of a session tells: the histories of its objects, its runs, and the run files.
 use mathlib.Core.List.{IsPrefix}
-use Rattle.std.specs.Prelude.{◌≡◌, ℕ, IsTrue, ◌++◌, ◌∷◌, [], List, length, slice_get, Contains, Option, Some, Ok}
+use Rattle.std.specs.Prelude.{◌≡◌, ℕ, suc, ◌+◌, IsTrue, ◌++◌, ◌∷◌, [], List, length, slice_get, Contains, Option, Some, Ok}
 use Rattle.std.specs.List.{AllByRecursion}
 use Rattle.daq_types.specs.Callers.{caller_of_client, entries_by, main_caller}
 use Rattle.daq_types.specs.declared.events.Event.{Event}
 use Rattle.daq_types.specs.declared.runs.ChannelState.TheVariants.{Broken, Ended}
 use Rattle.daq_types.specs.declared.runs.RunState.TheVariants.{Stopped}
-use Rattle.daq_types.specs.declared.runs.StartOutcome.TheVariants.{Completed}
+use Rattle.daq_types.specs.declared.runs.StartOutcome.TheVariants.{Completed, Refused}
+use Rattle.daq_types.specs.declared.runs.Why.{Why}
 use Rattle.daq_io.specs.Seen.{Seen, IsStored}
 use Rattle.daq_model.specs.RunFile.{IsRunFile, run_file}
 use Rattle.turn_lock.specs.Closing.{history_of}
@@ -15,16 +16,18 @@ use Rattle.buffer_core.specs.Histories.{IsLegal}
 use Rattle.buffer_core.specs.Delivered.{Delivers}
 use Rattle.buffer_core.specs.Readers.{wanted}
 use Rattle.buffer_core.specs.Runs.{KeepsRuns, segment}
+use Rattle.local_port.specs.Ported.{given_in}
 use Rattle.caller_laws.specs.OneCaller.{events_in}
 use Rattle.caller_laws.specs.SentRuns.{events_at_places, places_sent}
 use Rattle.transitions.specs.declared.entry.EngineEntry.TheVariants.{Close}
 use Rattle.transitions.specs.EngineCalls.{order_for}
-use Rattle.transitions.specs.EngineHistories.{IsLegalEngine}
+use Rattle.transitions.specs.EngineHistories.{EngineHistory, IsLegalEngine}
 use Rattle.transitions.specs.Engines.{engine_opening}
 use Rattle.transitions.specs.TurnOrder.{TurnsInOrder}
 use Rattle.odb_runinfo.specs.RunKeys.{session_rows}
 use Rattle.odb_watch.specs.Steps.{LeadsDatabase, unwatched}
 use Rattle.member_model.specs.SentCalls.{own_sent}
+use Rattle.member_model.specs.TurnCalls.{member_turns}
 use Rattle.front_ends.specs.FrontKept.{made_events}
 use Rattle.frontend_kit.specs.declared.generator.Generator.{Generator}
 use Rattle.mid_logger.specs.Patterns.{file_name_by}
@@ -32,27 +35,30 @@ use Rattle.mid_logger.specs.declared.channel.Channel.{Channel}
 use Rattle.mid_logger.specs.declared.channel_spec.ChannelSpec.{ChannelSpec}
 use Rattle.loggers.specs.LeftNames.{NoneRose}
 use Rattle.loggers.specs.Moments.{RunFiles}
+use Rattle.loggers.specs.OtherFiles.{AreDeclared}
 use Rattle.run_records.specs.declared.records.FileRecord.{FileRecord}
 use Rattle.run_records.specs.declared.records.FrontTally.{FrontTally}
+use Rattle.run_records.specs.declared.records.ReportTally.{ReportTally}
 use Rattle.run_records.specs.declared.records.RunRecord.{RunRecord}
-use Rattle.daq_members.specs.Crews.{CrewTold}
-use Rattle.session_runs.specs.KeptRuns.{channels_of}
+use Rattle.session_crew.specs.Crews.{CrewTold}
 use Rattle.session_runs.specs.RunEntries.{dump_saved, start_sheet}
 use Rattle.session_runs.specs.RunsFit.{MainOwn, RecordsFit}
 use Rattle.session_setup.specs.Setup.{Declared}
+use Rattle.session_setup.specs.declared.declared.AnalyzerDeclared.{AnalyzerDeclared}
 use Rattle.session_setup.specs.declared.declared.BufferDeclared.{BufferDeclared}
 use Rattle.session_setup.specs.declared.declared.FrontDeclared.{FrontDeclared}
 use Rattle.session_objects.specs.declared.record.BufferRecord.{BufferRecord}
 use Rattle.session_objects.specs.declared.record.SessionRecord.{SessionRecord}
-use Rattle.session_objects.specs.Members.{generator_makes, generator_of}
+use Rattle.session_objects.specs.Members.{generator_makes, generator_of, request_of}
 use Rattle.session_objects.specs.Records.{TellsNotes}
 use Rattle.session_laws.specs.ClosedSessions.{ClosedSession, engine_calls}
 use Rattle.session_laws.specs.CountedFaults.{CountsHold, state_by_dump}
 use Rattle.session_laws.specs.EndLaws.{SessionHolds}
+use Rattle.session_laws.specs.MadeRuns.{ReportHolds}
 use Rattle.session_laws.specs.MembersAtEnd.{MembersAtEnd}
+use Rattle.session_laws.specs.OneAnswer.{OneAnswer}
 use Rattle.session_laws.specs.OtherNames.{AreStartsOver}
-use Rattle.session_laws.specs.RecordedRuns.{AreDeclared}
-use Rattle.session_ends.specs.EndedRecords.{IsInNoRecord, RecordSo}
+use Rattle.session_ends.specs.EndedRecords.{IsInNoRecord, RecordSo, RefusalSo, clients_declared}
 use Rattle.session_ends.specs.EndedSessions.{closed_session}
 use Rattle.daq_session.specs.RunNumbers.{GivesNumber, IsNumberBefore}
 
@@ -118,10 +124,10 @@ pub record IsPartOfRun (declared : Declared) (buffers : List BufferRecord) (file
   pub part : IsPrefix bytes (run_file run.run run.time0 first_dump (events_of_run of.channel of.buffer run.start) run.time1 last_dump)
   pub stored : IsStored files file.name bytes
 
--- the first so many events of the front-end's generator in the run
+-- the first so many events of the front-end's generator in the run; what a start is begun with for analyzers is not in its order
 abbrev pub events_of_front : FrontDeclared → RunRecord → (quota : ℕ) → (first_dump : List ℕ) → (sent : ℕ) → List Event
 events_of_front d run quota first_dump sent =
-    made_events (generator_makes (generator_of d)) (order_for (start_sheet run.run run.time0 quota first_dump) run.start Stopped) sent
+    made_events (generator_makes (generator_of d)) (order_for (start_sheet 0 run.run run.time0 quota first_dump) run.start Stopped) sent
 
 -- What the front-end with this client number sent in the run, by its own calls on its buffer, are the first events of its
 -- generator, as many as the record tells, in order. And so they stand between the run's marks in the buffer's history.
@@ -146,10 +152,23 @@ pub record IsFrontEvent (declared : Declared) (run : RunRecord) (quota : ℕ) (f
   pub told : slice_get run.fronts client ≡ Some tally
   pub made : Contains (events_of_front front run quota first_dump tally.sent) event
 
+-- What the record has of the analyzer with this client number is the report of the run, by the history of its buffer and its own
+-- calls there and on the engine.
+pub record IsCountedInRun (client : ℕ) (d : AnalyzerDeclared) (buffers : List BufferRecord) (engine : EngineHistory) (start : ℕ)
+    (tally : ReportTally) : Type 0 where
+  pub is : tally.client ≡ client
+  pub buffer : BufferRecord
+  pub there : slice_get buffers d.buffer ≡ Some buffer
+  pub counts : ReportHolds (history_of buffer.closed) (caller_of_client client) (request_of d)
+      (given_in (caller_of_client client) (opening buffer.size) (history_of buffer.closed))
+      (member_turns client (entries_by (caller_of_client client) engine)) start tally.report
+
 -- What is told of a run that came about. It fits the main thread's calls, which tell its dumps, and holds in the session; its
 -- number is the next of that which its start got; each file of it that ended is the run's file of its channel, and each that broke
 -- off a part of that; where no fault of the run files was counted, each ended, but where the stop had no dump; each front-end sent
--- what the record has of it; and each event between the run's marks in a buffer is one of those that its front-ends sent.
+-- what the record has of it; each event between the run's marks in a buffer is one of those that its front-ends sent;
+-- and each analyzer counted what the record has of it: the events of the run that its client got, and where it saw the run
+-- through, all events of the run for which it asks.
 pub record RunTells (c : ClosedSession) (moments : (client : ℕ) → List ℕ) (own : MainOwn) (declared : Declared)
     (buffers : List BufferRecord) (first now : RunFiles) (run : RunRecord) : Type 0 where
   pub so : RecordSo c moments own run
@@ -168,24 +187,28 @@ pub record RunTells (c : ClosedSession) (moments : (client : ℕ) → List ℕ) 
   pub events : (buffer index place : ℕ) → (b : BufferRecord) → (x : Sent) → slice_get buffers buffer ≡ Some b →
       slice_get (segment (history_of b.closed) run.start) index ≡ Some (place, x) →
       IsFrontEvent declared run so.quota so.fits.start.dump buffer x.event
+  pub reports : (place : ℕ) → (d : AnalyzerDeclared) → slice_get declared.analyzers place ≡ Some d →
+      (tally : ReportTally) × (slice_get run.reports place ≡ Some tally)
+      × IsCountedInRun (suc (length declared.fronts) + place) d buffers c.engine run.start tally
 
 -- The session of a record as its laws see it: its database had the keys of runs; and its logger, with these channels, had the
 -- run files as they were at first and are now.
 abbrev pub session_told : {D F K : Type 0} {g : _} → CrewTold Generator F K → Declared → List (Option Channel) → (first_files files : F) → SessionRecord D g → ClosedSession
 session_told told declared slots first_files files r =
-    closed_session (unwatched session_rows) declared.fronts slots (told.seen first_files) (told.seen files) r
+    closed_session (unwatched session_rows) declared.fronts declared.analyzers slots (told.seen first_files) (told.seen files) r
 
 -- What the record of a session of these declarations tells, in which these are the main thread's calls: the histories of its
 -- objects; one record for each start that was begun, in order, each of which fits these calls; each answer that the run number
 -- got; the channels of its logger, which are those that were declared; who called, and that each member kept its contract over
 -- its own calls; all that the laws say of the session, of its runs, its files, its front-ends and its callers; that each start is
--- over; what the counts of its run files tell; that each run file that is in no record is as it was, where no fault was counted;
--- and each of its runs that came about.
+-- over; what the counts of its run files tell; that one fault of these gives one answer; that each run file that is in no record
+-- is as it was, where no fault was counted; each of its runs that came about; and that each other start was refused by a
+-- front-end whose equipment takes no part in the run, or by the logger for a fault or a clash of names that was counted.
 pub record RecordTells {D F K : Type 0} {g : _} (told : CrewTold Generator F K) (declared : Declared) (own : MainOwn)
     (first_files files : F) (r : SessionRecord D g) : Type 0 where
   pub histories : AreHistoriesOf declared r
   pub main : AreMainCalls own r
-  pub fit : RecordsFit (length declared.fronts) (channels_of declared.channels) own r.runs
+  pub fit : RecordsFit (clients_declared declared.fronts declared.channels declared.analyzers) own r.runs
   pub numbers : AllByRecursion GivesNumber own.database
   pub slots : List (Option Channel)
   pub channels : AreDeclared declared.channels slots
@@ -193,9 +216,13 @@ pub record RecordTells {D F K : Type 0} {g : _} (told : CrewTold Generator F K) 
   pub holds : SessionHolds (session_told told declared slots first_files files r)
   pub over : AreStartsOver (engine_calls (session_told told declared slots first_files files r) main_caller)
   pub counts : CountsHold (session_told told declared slots first_files files r) (told.read first_files) (told.read files)
+  pub one_answer : OneAnswer (session_told told declared slots first_files files r) r.runs (told.read first_files) (told.read files)
   pub left : IsTrue (told.read first_files).seen.tells → NoneRose (told.read first_files) (told.read files) →
       (name : List ℕ) → IsInNoRecord r.runs name →
       (told.read files).seen.at name ≡ (told.read first_files).seen.at name
   pub runs : (number : ℕ) → (run : RunRecord) → slice_get r.runs number ≡ Some run → run.outcome ≡ Completed →
       RunTells (session_told told declared slots first_files files r) holds.moments own declared r.buffers
       (told.read first_files) (told.read files) run
+  pub refusals : (number : ℕ) → (run : RunRecord) → slice_get r.runs number ≡ Some run → (client : ℕ) → (why : Why) →
+      run.outcome ≡ Refused client why →
+      RefusalSo (session_told told declared slots first_files files r) (told.read first_files) (told.read files) own run client why

@@ -1,7 +1,8 @@
 // Why a script ended.
 ghost use Rattle.std.specs.Prelude.{◌≡◌, ℕ, true, List, Option, None};
 ghost use Rattle.std.specs.List.{list_any};
-ghost use Rattle.daq_session.specs.Endings.{FaultedFile, NotesFailed, asks_files, is_fault, script_end};
+ghost use Rattle.session_commands.specs.Endings.{NotesFailed, asks_files, is_fault};
+ghost use Rattle.daq_session.specs.Endings.{FaultedFile, script_end};
 
 use daq_io::Files;
 use daq_types::FileName;

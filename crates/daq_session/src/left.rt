@@ -1,33 +1,25 @@
 // What is left behind a script, and what is kept of it.
-ghost use Rattle.std.specs.Prelude.{◌≡◌, ◌<◌, ◌∷◌, [], ℕ, List, Some, None, false};
+ghost use Rattle.std.specs.Prelude.{◌≡◌, ◌<◌, ◌∷◌, [], ℕ, List, Some};
 ghost use Rattle.std.specs.List.{AllByRecursion};
 ghost use Rattle.daq_types.specs.Callers.{main_caller};
 ghost use Rattle.turn_lock.specs.Passes.{passes_of};
-ghost use Rattle.odb_runinfo.specs.RunKeys.{session_rows};
-ghost use Rattle.odb_watch.specs.Steps.{unwatched};
 ghost use Rattle.odb_watch.specs.declared.entry.WatchEntry.{WatchEntry as Called};
 ghost use Rattle.odb_lock.specs.SharedAccesses.{access_by_pass, odb_identity};
-ghost use Rattle.odb_lock.specs.SharedOdbs.{first_database, odb_lock_of};
-ghost use Rattle.daq_members.specs.Crews.{crew_told};
+ghost use Rattle.odb_lock.specs.SharedOdbs.{odb_lock_of};
+ghost use Rattle.session_crew.specs.Crews.{crew_told};
 ghost use Rattle.session_objects.specs.Members.{generator_makes, generator_takes};
 ghost use Rattle.session_objects.specs.Records.{AreAllPasses};
 ghost use Rattle.session_objects.specs.Rosters.{KeepsFresh, KeepsPasses};
-ghost use Rattle.session_lines.specs.Stages.{Stage};
-ghost use Rattle.script_desk.specs.declared.endings.Ending.{Ending as Ended};
-ghost use Rattle.script_desk.specs.declared.endings.Ending.TheVariants.{Halted};
-ghost use Rattle.script_desk.specs.declared.halts.Halt.TheVariants.{NoMemory as no_memory};
-ghost use Rattle.daq_session.specs.declared.ends.ScriptEnd.{ScriptEnd as Cause};
-ghost use Rattle.daq_session.specs.declared.ends.ScriptEnd.TheVariants.{NoMemory};
-ghost use Rattle.daq_session.specs.Keeping.{EndsOver, StageKept, StageSpares};
-ghost use Rattle.daq_session.specs.Sessions.{IsBack, SessionEnds, SessionKept, IsMainAlone, seen_by_main};
+ghost use Rattle.daq_session.specs.Played.{IsBack, IsMainAlone, KeepsLeft, seen_by_main, unopened_lines};
 
 use crate::laws::sessions_hold;
-use crate::played::{LinesEnd, Ready};
-use daq_io::{Clock, Files, Pick};
+use crate::played::LinesEnd;
+use daq_io::{Clock, Files, Pick, Sink, Source};
 use odb_lock::{LockedDatabase, OdbPasses, SharedAccess, SharedOdb, WatchedSeen};
 use odb_tree::Database;
 use odb_watch::WatchEntry;
 use script_desk::Ending;
+use session_commands::{MainSide, Script};
 use session_objects::{RunRecords, SessionObjects, SessionPasses, SessionRecord};
 use turn_lock::Machine;
 
@@ -74,32 +66,27 @@ fn all_passes<'a, D: Database>(
 }
 
 /// What a script came to that opened no session, and what is left of it.
-pub fn leave_unopened<'a, D: Database, E: Files, C: Clock, F: Files, K: Pick>(
+pub fn leave_unopened<'a, S: Source, O: Sink, D: Database, E: Files, C: Clock, F: Files, K: Pick>(
     shared: &SharedOdb<D>,
-    ready: Ready<SharedAccess<'a, D>, E, C>,
+    side: MainSide<SharedAccess<'a, D>, E, C>,
     passes: OdbPasses<D>,
     ending: Ending,
     run_files: F,
     pick: K,
-) -> (LinesEnd<E, C, F, K>, LeftBehind<D>)
-    requires caller { (access_by_pass ready.access).caller ≡ main_caller }
-    requires database { (access_by_pass ready.access).database ≡ odb_identity shared.now }
+    script: Script<S, O>,
+) -> (LinesEnd<S, O, E, C, F, K>, LeftBehind<D>)
+    requires caller { (access_by_pass side.access).caller ≡ main_caller }
+    requires database { (access_by_pass side.access).database ≡ odb_identity shared.now }
     requires others { KeepsFresh (main_caller ∷ []) (odb_lock_of shared.now) passes }
-    ensures ending { result.0.ending ≡ ending }
-    ensures closing { result.0.closing ≡ None }
-    ensures failed { result.0.failed ≡ false }
-    ensures replies { result.0.replies.replies ≡ ready.entry.replies.replies }
-    ensures odb_files { result.0.odb_files ≡ ready.entry.odb_files }
-    ensures clock { result.0.clock ≡ ready.entry.clock }
-    ensures run_files { result.0.run_files ≡ run_files }
-    ensures left { IsMainAlone shared.now (access_by_pass ready.entry.access).seen result.1 }
+    ensures lines { result.0 ≡ unopened_lines ending side.entry run_files pick script }
+    ensures left { IsMainAlone shared.now (access_by_pass side.entry.access).seen result.1 }
 {
-    let Ready {
+    let MainSide {
         access,
-        odb_files,
+        files: odb_files,
         replies,
         clock,
-    } = ready;
+    } = side;
     let passes = all_passes(shared, access, passes);
     let lines = LinesEnd {
         ending,
@@ -110,6 +97,7 @@ pub fn leave_unopened<'a, D: Database, E: Files, C: Clock, F: Files, K: Pick>(
         clock,
         run_files,
         pick,
+        script,
     };
     (lines, LeftBehind::Unopened { passes })
 }
@@ -133,13 +121,8 @@ fn close_objects<D: Database, F: Files, K: Pick>(
     ended: EndedObjects<D>,
 ) -> SessionRecord<D>
     requires back { IsBack shared (LeftBehind.Session ended) }
-    ensures kept { (first_files : F) (final : Stage) (ending : Ended) (end : Cause) (run_files : F)
-        → first_database shared ≡ unwatched session_rows → StageKept final → EndsOver final
-        → StageSpares final
-        → SessionEnds (crew_told generator_takes generator_makes F.seen F.faults F.clashes F.first
-        K.tells K.ahead) shared first_files final ending run_files (LeftBehind.Session ended)
-        → SessionKept (crew_told generator_takes generator_makes F.seen F.faults F.clashes F.first
-        K.tells K.ahead) first_files final end run_files (Some result) }
+    ensures kept { KeepsLeft (crew_told generator_takes generator_makes F.seen F.faults F.clashes
+        F.first K.tells K.ahead) shared (LeftBehind.Session ended) (Some result) }
 {
     let EndedObjects {
         objects,
@@ -158,13 +141,8 @@ pub fn close_left<D: Database, F: Files, K: Pick>(
 ) -> Option<SessionRecord<D>>
     requires some { 0 < passes_of (odb_lock_of shared) }
     requires back { IsBack shared left }
-    ensures kept { (first_files : F) (final : Stage) (ending : Ended) (end : Cause) (run_files : F)
-        → first_database shared ≡ unwatched session_rows → StageKept final → EndsOver final
-        → StageSpares final → (ending ≡ Halted no_memory → end ≡ NoMemory)
-        → SessionEnds (crew_told generator_takes generator_makes F.seen F.faults F.clashes F.first
-        K.tells K.ahead) shared first_files final ending run_files left
-        → SessionKept (crew_told generator_takes generator_makes F.seen F.faults F.clashes F.first
-        K.tells K.ahead) first_files final end run_files result }
+    ensures kept { KeepsLeft (crew_told generator_takes generator_makes F.seen F.faults F.clashes
+        F.first K.tells K.ahead) shared left result }
 {
     match left {
         LeftBehind::Session { ended } => Some(close_objects::<D, F, K>(shared, ended)),

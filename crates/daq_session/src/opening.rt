@@ -12,28 +12,37 @@ ghost use Rattle.transitions.specs.Engines.{engine_opening};
 ghost use Rattle.transition_lock.specs.SharedEngines.{engine_lock_of, first_engine};
 ghost use Rattle.session_lines.specs.Stages.{opened_runs};
 ghost use Rattle.session_lines.specs.RunLines.{CutsKeys, KeysMade};
-ghost use Rattle.session_objects.specs.Kept.{HasFreshBut, out_to_fronts, out_to_logger};
-ghost use Rattle.session_objects.specs.Members.{AreMembersOf, AreNewMembers, HasDeclaredChannels};
-ghost use Rattle.session_objects.specs.Objects.{SuitMembers, declared_by};
+ghost use Rattle.loggers.specs.OtherFiles.{AreDeclared};
+ghost use Rattle.session_setup.specs.Setup.{declared_by};
+ghost use Rattle.session_objects.specs.Kept.{HasFreshBut, out_to_fronts, out_to_members};
+ghost use Rattle.session_objects.specs.Members.{AreMembersOf, AreNewMembers};
+ghost use Rattle.session_objects.specs.Objects.{SuitMembers};
 ghost use Rattle.session_objects.specs.Rosters.{KeepsFresh};
 
-use crate::keys::make_keys;
 use crate::places::Places;
+use buffer_lock::SharedPort;
 use daq_io::{Files, Gate, Pick};
+use daq_members::EndlessPort;
 use daq_types::{BoundedList, Name, NoMemory};
+use front_ends::Equipment;
+use frontend_kit::Generator;
 use loggers::ChannelSpecs;
+use member_threads::{Room, ThreadRoom};
 use mid_logger::ChannelSpec;
 use odb_arena::ArenaTree;
 use odb_lock::{LockedDatabase, OdbPass, OdbPasses, SharedAccess, SharedOdb, WatchedSeen};
+use odb_port::WatchPort;
 use odb_runinfo::open;
 use odb_tree::Database;
 use odb_watch::WatchEntry;
+use ring_buffer::RingBuffer;
+use session_commands::make_keys;
 use session_engine::MainSeat;
 use session_objects::{
     SessionCrew, SessionObjects, SessionPasses, Unmanned, member_names, take_main,
 };
-use session_runs::{FrontNames, Runs};
-use session_setup::{DeclaredLists, FrontDeclared};
+use session_runs::{AnalyzerNames, FrontNames, Runs};
+use session_setup::{AnalyzerDeclared, DeclaredLists, FrontDeclared};
 use std::alloc::Global;
 use std::sync::Wait;
 use transition_lock::EnginePass;
@@ -87,8 +96,19 @@ fn front_names(alloc: Global, fronts: &[FrontDeclared]) -> Result<FrontNames, No
     Ok(names)
 }
 
+/// The names of the analyzers.
+fn analyzer_names(alloc: Global, analyzers: &[AnalyzerDeclared]) -> Result<AnalyzerNames, NoMemory>
+    ensures { IfOk result (λ names. names ≡ map (λ analyzer. analyzer.name) analyzers.now) }
+{
+    let mut names = BoundedList::new(alloc)?;
+    for analyzer in analyzers {
+        names.try_push(analyzer.name)?;
+    }
+    Ok(names)
+}
+
 /// Makes the keys of these front-ends.
-pub fn open_keys<'a, R: Wait, D: Database>(
+fn front_keys<'a, R: Wait, D: Database>(
     rt: &R,
     alloc: Global,
     access: &mut SharedAccess<'a, D>,
@@ -104,6 +124,51 @@ pub fn open_keys<'a, R: Wait, D: Database>(
 {
     let names = front_names(alloc, fronts)?;
     make_keys(rt, alloc, access, names.as_slice())
+}
+
+/// Room for the members of a session while they have threads of their own.
+pub type SessionRoom<'a, D, F> = ThreadRoom<
+    'a,
+    Generator,
+    SharedPort<'a, RingBuffer>,
+    SharedAccess<'a, D>,
+    F,
+>;
+
+/// Room for threads of the members, but where the main thread gives them their turns.
+fn thread_room<
+    'a,
+    X: Equipment + Drop,
+    P: EndlessPort + Drop,
+    D: WatchPort + Drop,
+    F: Files + Drop,
+>(alloc: Global, cooperative: bool) -> Result<Option<ThreadRoom<'a, X, P, D, F>>, NoMemory> {
+    if cooperative {
+        return Ok(None);
+    }
+    let room = Room::new(alloc)?;
+    Ok(Some(room))
+}
+
+/// Takes room for threads of the members, but where the main thread gives them their turns; and makes the keys of the front-ends.
+pub fn open_keys<'a, R: Wait, D: Database, F: Files + Drop>(
+    rt: &R,
+    alloc: Global,
+    cooperative: bool,
+    access: &mut SharedAccess<'a, D>,
+    fronts: &[FrontDeclared],
+) -> Result<Option<SessionRoom<'a, D, F>>, NoMemory>
+    requires few { length fronts.now ≤ 32 }
+    requires main { (access_by_pass access.old).caller ≡ main_caller }
+    ensures made { OnOk result (KeysMade (map (λ front. front.name) fronts.now)
+        (access_by_pass access.old) (access_by_pass access.new)) }
+    ensures cut { OnErr result (CutsKeys (map (λ front. front.name) fronts.now)
+        (access_by_pass access.old) (access_by_pass access.new)) }
+    ensures same { IsSamePort (access_by_pass access.old) (access_by_pass access.new) }
+{
+    let room = thread_room(alloc, cooperative)?;
+    front_keys(rt, alloc, access, fronts)?;
+    Ok(room)
 }
 
 /// The channel once more.
@@ -140,6 +205,7 @@ fn open_runs<'a, R: Wait>(
     quota: u32,
 ) -> Result<Runs<'a>, NoMemory>
     requires few { length lists.now.fronts ≤ 32 }
+    requires few_analyzers { length lists.now.analyzers ≤ 8 }
     requires main { number_of main ≡ main_caller }
     requires own { IsOf (engine_lock_of objects.now.engine) main }
     requires fresh { IsFresh main }
@@ -147,11 +213,15 @@ fn open_runs<'a, R: Wait>(
     ensures { IfOk result (λ runs. runs ≡ opened_runs quota (declared_by lists.now)
         objects.now.engine) }
 {
-    let names = front_names(alloc, lists.fronts.as_slice())?;
-    let members = member_names(alloc, lists.fronts.as_slice())?;
+    let fronts = lists.fronts.as_slice();
+    let analyzers = lists.analyzers.as_slice();
+    let channels = lists.channels.as_slice();
+    let names = front_names(alloc, fronts)?;
+    let readers = analyzer_names(alloc, analyzers)?;
+    let members = member_names(alloc, fronts, analyzers)?;
     let mut seat = MainSeat::new(&objects.engine, main);
     seat.register_all(rt, &members);
-    Runs::new(alloc, seat, quota, names, lists.channels.as_slice())
+    Runs::new(alloc, seat, quota, names, channels, readers)
 }
 
 /// The members of a session that opens, and what the main thread keeps of its runs; or the run files and the pick where there is
@@ -170,22 +240,23 @@ pub fn open_members<'a, R: Wait, D: Database, F: Files, K: Pick, G: Gate>(
     requires own { IsOf (engine_lock_of places.now.objects.now.engine) main }
     requires fresh { IsFresh main }
     requires opening { first_engine places.now.objects.now.engine ≡ engine_opening }
-    requires suit { SuitMembers places.now.lists.now.fronts places.now.lists.now.channels
-        places.now.objects.now places.now.shared.now }
+    requires suit { SuitMembers places.now.lists.now.fronts places.now.lists.now.analyzers
+        places.now.lists.now.channels places.now.objects.now places.now.shared.now }
     requires out { HasFreshBut (out_to_fronts places.now.lists.now.fronts 0)
         places.now.objects.now places.now.shared.now passes.old }
     ensures runs { IfOk result (λ opened. opened.0 ≡ opened_runs quota
         (declared_by places.now.lists.now) places.now.objects.now.engine) }
     ensures members { IfOk result (λ opened. AreNewMembers places.now.lists.now.fronts
-        places.now.lists.now.channels places.now.objects.now places.now.shared.now run_files
-        pick opened.1) }
+        places.now.lists.now.analyzers places.now.lists.now.channels places.now.objects.now
+        places.now.shared.now run_files pick opened.1) }
     ensures are { IfOk result (λ opened. AreMembersOf places.now.lists.now.fronts
-        places.now.objects.now places.now.shared.now opened.1.fronts opened.1.logger) }
-    ensures channels { IfOk result (λ opened. HasDeclaredChannels places.now.lists.now.channels
-        opened.1.logger) }
-    ensures out { OnOk result (HasFreshBut (out_to_logger places.now.lists.now.fronts
-        (length places.now.objects.now.buffers.items)) places.now.objects.now
-        places.now.shared.now passes.new) }
+        places.now.lists.now.analyzers places.now.objects.now places.now.shared.now
+        opened.1.fronts opened.1.logger opened.1.analyzers) }
+    ensures channels { IfOk result (λ opened. AreDeclared places.now.lists.now.channels
+        opened.1.logger.slots) }
+    ensures out { OnOk result (HasFreshBut (out_to_members places.now.lists.now.fronts
+        places.now.lists.now.analyzers (length places.now.objects.now.buffers.items))
+        places.now.objects.now places.now.shared.now passes.new) }
     ensures files { IfErr result (λ unmanned. unmanned.files ≡ run_files) }
     ensures pick { IfErr result (λ unmanned. unmanned.pick ≡ pick) }
 {
@@ -202,9 +273,10 @@ pub fn open_members<'a, R: Wait, D: Database, F: Files, K: Pick, G: Gate>(
         });
     };
     let fronts = places.lists.fronts.as_slice();
+    let analyzers = places.lists.analyzers.as_slice();
     let (objects, shared, gate) = (places.objects, places.shared, places.gate);
     match objects.crew(
-        alloc, shared, fronts, channels, passes, run_files, pick, gate,
+        alloc, shared, fronts, analyzers, channels, passes, run_files, pick, gate,
     ) {
         Ok(crew) => Ok((runs, crew)),
         Err(unmanned) => Err(unmanned),

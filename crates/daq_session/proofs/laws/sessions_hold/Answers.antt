@@ -1,6 +1,6 @@
 use Rattle.std.specs.Prelude.{refl}
+use Rattle.daq_session.proofs.NumberLaws.{RunLaws}
 use Rattle.daq_session.proofs.SessionsEnd.{keeps}
-use Rattle.daq_session.proofs.SpareLaws.{RunLaws}
 use Rattle.daq_session.proofs.laws.sessions_hold.Goals as goal
 
 pub returns : goal.returns
@@ -10,6 +10,7 @@ returns g c = λ first_files final run_files is.
       given = c.run_number_given.ensures.value;
       opens = c.run_number_opens.ensures;
       sets = c.own_calls_spare.ensures.sets;
+      listed = c.members_listed.ensures;
       among = c.sent_by.ensures.among;
     } in
-    keeps _ refl refl first_files final run_files c.args.kept.now is laws c.members_end.ensures c.session_ended.ensures c.starts_end.ensures (c.counts_end.ensures _) (c.names_end.ensures _) c.records_end.ensures
+    keeps _ refl refl first_files final run_files c.args.kept.now is laws c.members_end.ensures c.session_ended.ensures c.starts_end.ensures (c.counts_end.ensures _) (c.one_answer_end.ensures _) (c.names_end.ensures _) c.records_end.ensures (c.refusals_end.ensures _)

@@ -5,7 +5,7 @@ use Rattle.odb_watch.specs.declared.entry.WatchEntry.{WatchEntry}
 use Rattle.odb_lock.specs.SharedAccesses.{access_by_pass}
 use Rattle.odb_lock.specs.SharedOdbs.{odb_lock_of}
 use Rattle.session_objects.proofs.RosterLaws.{at_first, fresh_tells, puts_keep, room_for}
-use Rattle.daq_session.specs.Sessions.{seen_by_main}
+use Rattle.daq_session.specs.Played.{seen_by_main}
 use Rattle.daq_session.proofs.left.all_passes.Goals as goal
 
 untold : (calls : List (ℕ × WatchEntry)) (number : ℕ) → ¬ Contains (0 ∷ []) number → seen_by_main calls number []

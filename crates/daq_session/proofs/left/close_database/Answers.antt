@@ -1,7 +1,7 @@
 use Rattle.turn_lock.specs.Passes.{passes_of}
 use Rattle.odb_lock.specs.SharedOdbs.{odb_lock_of}
 use Rattle.session_objects.proofs.ClosingLaws.{parts_held}
-use Rattle.daq_session.specs.Sessions.{seen_by_main}
+use Rattle.daq_session.specs.Played.{seen_by_main}
 use Rattle.daq_session.proofs.AloneLaws.{main_alone}
 use Rattle.daq_session.proofs.left.close_database.Goals as goal
 

@@ -1,7 +1,7 @@
 use Rattle.std.proofs.Common.{subst}
 use Rattle.odb_lock.specs.SharedOdbs.{odb_lock_of}
 use Rattle.session_objects.proofs.ClosingLaws.{all_kept}
-use Rattle.daq_session.specs.Sessions.{IsBack, SessionEnds, seen_by_main}
+use Rattle.daq_session.specs.Played.{IsBack, SessionEnds, seen_by_main}
 use Rattle.daq_session.proofs.left.close_left.Goals as goal
 
 pub close_objects-requires : goal.close_objects-requires
@@ -15,7 +15,7 @@ close_database-requires-clause-all g c =
 pub returns-in-Session : goal.returns-in-Session
 returns-in-Session g c = record {
   kept = λ first_files final ending end run_files rows kept over spares memory ends.
-      c.close_objects.ensures.kept first_files final ending end run_files rows kept over spares (subst (SessionEnds _ c.args.shared first_files final ending run_files) c.in-Session.is ends);
+      c.close_objects.ensures.kept first_files final ending end run_files rows kept over spares memory (subst (SessionEnds _ c.args.shared first_files final ending run_files) c.in-Session.is ends);
 }
 
 pub returns-in-Unopened : goal.returns-in-Unopened

@@ -1,7 +1,0 @@
-use Rattle.daq_session.proofs.DeclaringLaws.{taken_so, unless_closed}
-use Rattle.daq_session.proofs.declaring.declare_buffer.Goals as goal
-
-pub returns-clause-did : goal.returns-clause-did
-returns-clause-did c =
-    let answer = c.buffer.ensures.answer in
-    unless_closed _ _ _ _ _ c.requires (answer.0, answer.1, taken_so _ _ _ _ _ _ answer.2 c.buffer.ensures.added c.buffer.ensures.same c.setup_reply.ensures)

@@ -1,0 +1,46 @@
+use Rattle.std.proofs.Common.{◌≡◌, ℕ, List, [], length, refl, ap, ◌∙◌, subst, arith, inl}
+use Rattle.std.specs.Prelude.{Result, Ok, Err, OnErr, OnOk}
+use Rattle.std.proofs.lemmas.List.{length-map}
+use Rattle.odb_port.specs.DatabasePorts.{DatabaseAccess}
+use Rattle.odb_lock.specs.SharedAccesses.{access_by_pass}
+use Rattle.session_lines.specs.RunLines.{CutsKeys, KeysMade}
+use Rattle.daq_session.proofs.MembersLaws.{names_of}
+use Rattle.daq_session.proofs.opening.front_keys.Goals as goal
+
+on_err_so : {T E : Type 0} (r : Result T E) (P : Type 0) → P → OnErr r P
+on_err_so (Ok x) P p = tt
+on_err_so (Err e) P p = p
+
+none_made : (fronts : List (List ℕ)) (access : DatabaseAccess) → CutsKeys fronts access access
+none_made fronts access = record {
+  count = 0;
+  keys = [];
+  makes = refl;
+  between = access;
+  adds = refl;
+  next = inl refl;
+}
+
+pub make_keys-requires-clause-room : goal.make_keys-requires-clause-room
+make_keys-requires-clause-room g c =
+    let names : c.as_slice.result.now ≡ names_of c.args.fronts.now = c.as_slice.ensures ∙ c.in_ok-names.ensures in
+    let few : length (names_of c.args.fronts.now) ≡ length c.args.fronts.now = length-map c.args.fronts.now (λ front. front.name) in
+    omega (arith, c.requires.few, few, ap length names)
+
+pub returns-in_err-names-clause-cut : goal.returns-in_err-names-clause-cut
+returns-in_err-names-clause-cut g c = on_err_so _ _ (none_made (names_of c.args.fronts.now) (access_by_pass c.args.access.now))
+
+pub returns-in_err-names-clause-same : goal.returns-in_err-names-clause-same
+returns-in_err-names-clause-same g c = record { database = refl; caller = refl; undisturbed = refl }
+
+pub returns-clause-made : goal.returns-clause-made
+returns-clause-made g c =
+    let names : c.as_slice.result.now ≡ names_of c.args.fronts.now = c.as_slice.ensures ∙ c.in_ok-names.ensures in
+    let P : List (List ℕ) → Type 0 = λ fronts. OnOk c.make_keys.result (KeysMade fronts (access_by_pass c.args.access.now) (access_by_pass c.make_keys.new.access)) in
+    subst P names c.make_keys.ensures.made
+
+pub returns-clause-cut : goal.returns-clause-cut
+returns-clause-cut g c =
+    let names : c.as_slice.result.now ≡ names_of c.args.fronts.now = c.as_slice.ensures ∙ c.in_ok-names.ensures in
+    let P : List (List ℕ) → Type 0 = λ fronts. OnErr c.make_keys.result (CutsKeys fronts (access_by_pass c.args.access.now) (access_by_pass c.make_keys.new.access)) in
+    subst P names c.make_keys.ensures.cut

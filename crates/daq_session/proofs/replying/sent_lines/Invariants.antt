@@ -1,7 +1,0 @@
--- The lines of the tallies so far.
-use Rattle.std.proofs.Common.{◌≡◌, map, take}
-use Rattle.session_lines.specs.RunLines.{sent_line}
-use Rattle.daq_session.proofs.replying.sent_lines.Given as goal
-
-abbrev pub invariant-loop-tally : goal.invariant-loop-tally
-invariant-loop-tally l = l.lines ≡ map (sent_line l.fronts) (take l.tally-index l.tallies)

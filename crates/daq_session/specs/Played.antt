@@ -1,0 +1,243 @@
+-- How a script is played, part by part: what each part leaves to the next.
+use Rattle.std.specs.Prelude.{◌≡◌, ℕ, zero, suc, false, List, [], Option, Some, None, ⊤}
+use Rattle.daq_types.specs.Callers.{main_caller}
+use Rattle.frontend_kit.specs.declared.generator.Generator.{Generator}
+use Rattle.loggers.specs.OtherFiles.{AreDeclared}
+use Rattle.odb_port.specs.DatabasePorts.{DatabaseAccess, own_watched}
+use Rattle.odb_runinfo.specs.RunKeys.{session_rows}
+use Rattle.odb_watch.specs.Steps.{unwatched}
+use Rattle.odb_watch.specs.declared.entry.WatchEntry.{WatchEntry}
+use Rattle.odb_lock.specs.declared.access.SharedAccess.{SharedAccess}
+use Rattle.odb_lock.specs.declared.shared.SharedOdb.{SharedOdb}
+use Rattle.odb_lock.specs.SharedAccesses.{access_by_pass, odb_identity, shared_access}
+use Rattle.odb_lock.specs.SharedOdbs.{first_database, odb_lock_of}
+use Rattle.run_records.specs.declared.records.RunRecord.{RunRecord}
+use Rattle.session_crew.specs.Crews.{CrewSeen, CrewTold, KeepContracts}
+use Rattle.session_setup.specs.declared.declared.AnalyzerDeclared.{AnalyzerDeclared}
+use Rattle.session_setup.specs.declared.declared.DeclaredLists.{DeclaredLists}
+use Rattle.session_setup.specs.declared.declared.FrontDeclared.{FrontDeclared}
+use Rattle.session_setup.specs.Setup.{AreSound, Declared, declared_by}
+use Rattle.session_objects.specs.declared.objects.SessionObjects.{SessionObjects}
+use Rattle.session_objects.specs.declared.passes.SessionPasses.{SessionPasses}
+use Rattle.session_objects.specs.declared.record.SessionRecord.{SessionRecord}
+use Rattle.session_objects.specs.Calls.{SessionCalls}
+use Rattle.session_objects.specs.Members.{AreMembersOf, session_calls}
+use Rattle.session_objects.specs.Objects.{AreObjectsOf, HaveCallers}
+use Rattle.session_objects.specs.Records.{HasCalls, HoldsCalls, HoldsHistories}
+use Rattle.session_objects.specs.Rosters.{KeepsPasses}
+use Rattle.session_runs.specs.KeptRuns.{RunsSeen}
+use Rattle.session_lines.specs.Stages.{Stage, first_stage}
+use Rattle.script_desk.specs.declared.endings.Ending.{Ending}
+use Rattle.script_desk.specs.declared.endings.Ending.TheVariants.{Halted}
+use Rattle.script_desk.specs.declared.halts.Halt.TheVariants.{NoMemory as no_memory}
+use Rattle.script_desk.specs.Closing.{EndCounts}
+use Rattle.session_commands.specs.declared.script.Script.{Script}
+use Rattle.session_commands.specs.declared.side.MainSide.{MainSide}
+use Rattle.session_commands.specs.Endings.{NotesFailed, closing_calls}
+use Rattle.session_commands.specs.Finishing.{FinishedAt, FinishesLine, FinishesOpening, ScriptAt, SideTold, script_at, stage_open, stage_unopened}
+use Rattle.session_commands.specs.Keeping.{EndsOver, KnowsRuns, RunsKept, StageKept, StageSpares}
+use Rattle.daq_session.specs.declared.ends.ScriptEnd.{ScriptEnd}
+use Rattle.daq_session.specs.declared.ends.ScriptEnd.TheVariants.{NoMemory}
+use Rattle.daq_session.specs.declared.left.EndedObjects.{EndedObjects}
+use Rattle.daq_session.specs.declared.left.LeftBehind.{LeftBehind}
+use Rattle.daq_session.specs.declared.left.LeftBehind.TheVariants.{Session, Unopened, Nothing}
+use Rattle.daq_session.specs.declared.played.LinesEnd.{LinesEnd}
+use Rattle.daq_session.specs.declared.played.OpenedEnd.{OpenedEnd}
+use Rattle.daq_session.specs.Environments.{OutsideTold}
+use Rattle.daq_session.specs.Sessions.{KeepsSession, SessionKept}
+
+-- The script and the lines of its end.
+
+-- where the lines of a script stand
+abbrev pub lines_at : {S O F E C K : Type 0} → OutsideTold S O F E C K → Script S O → ScriptAt
+lines_at told script = script_at (told.left script.src) (told.written script.out) script.desk.reader script.desk.last
+    script.desk.refusals script.desk.number
+
+-- what the main thread's port to a shared database, the files of the dumps and the clock tell
+abbrev pub side_of : {D S O F E C K : Type 0} {g : _} → OutsideTold S O F E C K → SideTold (SharedAccess D g) E C
+side_of told = record { access = access_by_pass; files = told.dumps; clock = told.clock }
+
+-- what is left of a script that opened no session
+abbrev pub unopened_lines : {P S O E C F K : Type 0} → Ending → MainSide P E C → F → K → Script S O → LinesEnd S O E C F K
+unopened_lines ending side run_files pick script = record {
+  ending = ending;
+  closing = None;
+  failed = false;
+  replies = side.replies;
+  odb_files = side.files;
+  clock = side.clock;
+  run_files = run_files;
+  pick = pick;
+  script = script;
+}
+
+-- The lines ended so over this last stage, and what is behind them: the counts of faults of source and sink are those of such an
+-- end; that of the run files rose exactly where it was noted; and what the outside tells, and what came of the lines that called
+-- the files of the dumps, stand in the stage.
+pub record TellsEnd {S O F E C K : Type 0} (told : OutsideTold S O F E C K) (before : Script S O) (first_files : F)
+    (lines : LinesEnd S O E C F K) (final : Stage) : Type 0 where
+  pub counts : EndCounts lines.ending lines.closing (told.source_faults before.src) (told.source_faults lines.script.src)
+      (told.sink_faults before.out) (told.sink_faults lines.script.out)
+  pub failed : NotesFailed lines.failed (told.crew.read first_files).faults (told.crew.read lines.run_files).faults
+  pub files_are : final.database.files ≡ told.dumps lines.odb_files
+  pub replies_are : final.database.replies ≡ lines.replies.replies
+  pub clock_is : final.clock ≡ told.clock lines.clock
+
+-- The objects of a session.
+
+-- Behind the script of an open session, as the main thread knows it: its members are those of its declarations, and each keeps
+-- its contract; its logger took its seat at the first run files, and has the channels that were declared; and all passes of its
+-- objects are back, which tell the calls of its main thread and of its members.
+pub record OpenedEnds {D F K : Type 0} {g : _} (told : CrewTold Generator F K) (lists : DeclaredLists) (objects : SessionObjects)
+    (shared : SharedOdb D) (first_files : F) (access : DatabaseAccess) (last : RunsSeen) (passes : SessionPasses D g)
+    (records : List RunRecord) (run_files : F) : Type 0 where
+  pub kept : records ≡ last.runs
+  pub knows : KnowsRuns last
+  pub caller : access.caller ≡ main_caller
+  pub crew : CrewSeen Generator F K
+  pub members : AreMembersOf lists.fronts lists.analyzers objects shared crew.fronts crew.logger crew.analyzers
+  pub keep : KeepContracts told crew
+  pub calls : HasCalls lists.fronts lists.analyzers
+      (session_calls (closing_calls last.main.own) access.seen crew.fronts crew.logger crew.analyzers) objects shared passes
+  pub channels : AreDeclared lists.channels crew.logger.slots
+  pub first : crew.logger.first ≡ first_files
+  pub files : crew.logger.files ≡ run_files
+
+-- All passes are back, and the records of the runs; or there are none, where memory was wanting to open the session, and the run
+-- files are what they were.
+abbrev pub ObjectsEnd : {D F K : Type 0} {g : _} → CrewTold Generator F K → DeclaredLists → SessionObjects → SharedOdb D →
+    (first_files : F) → (final : Stage) → Ending → (run_files : F) → Option (SessionPasses D g × List RunRecord) → Type 0
+ObjectsEnd told lists objects shared first_files final ending run_files None =
+    (final.runs ≡ None) × (run_files ≡ first_files) × (ending ≡ Halted no_memory)
+ObjectsEnd told lists objects shared first_files final ending run_files (Some (passes, records)) =
+    (declared_by lists ≡ final.declared) × ((last : RunsSeen) × (final.runs ≡ Some last)
+    × OpenedEnds told lists objects shared first_files final.database.access last passes records run_files)
+
+-- An open session was played from the line that opened it to the end of its script, over its objects.
+pub record PlaysOpened {D S O F E C K : Type 0} {g : _} (told : OutsideTold S O F E C K) (lists : DeclaredLists)
+    (objects : SessionObjects) (shared : SharedOdb D) (first_files : F) (runs : RunsSeen) (side : MainSide (SharedAccess D g) E C)
+    (before : Script S O) (end : OpenedEnd D S O E C F K g) : Type 0 where
+  pub final : Stage
+  pub tells : TellsEnd told before first_files end.lines final
+  pub ends : ObjectsEnd told.crew lists objects shared first_files final end.lines.ending end.lines.run_files end.session
+  pub finishes : FinishesLine (lines_at told before) (lines_at told end.lines.script) (stage_open (side_of told) lists runs side) final
+      end.lines.ending end.lines.closing
+
+-- A session of these declarations was opened over its objects, and played to the end of its script, from its first start on.
+pub record PlaysObjects {D S O F E C K : Type 0} {g : _} (told : OutsideTold S O F E C K) (lists : DeclaredLists)
+    (objects : SessionObjects) (shared : SharedOdb D) (first_files : F) (quota : ℕ) (declared : Declared)
+    (side : MainSide (SharedAccess D g) E C) (before : Script S O) (end : OpenedEnd D S O E C F K g) : Type 0 where
+  pub final : Stage
+  pub tells : TellsEnd told before first_files end.lines final
+  pub ends : ObjectsEnd told.crew lists objects shared first_files final end.lines.ending end.lines.run_files end.session
+  pub finishes : FinishesOpening (lines_at told before) (lines_at told end.lines.script) (stage_unopened (side_of told) quota declared side)
+      final end.lines.ending end.lines.closing
+
+-- What is left behind a script.
+
+-- The objects of the session that a script opened, before they are closed.
+pub record IsEndedSession {D F K : Type 0} {g : _} (told : CrewTold Generator F K) (shared : SharedOdb D) (first_files : F)
+    (final : Stage) (run_files : F) (ended : EndedObjects D g) : Type 0 where
+  pub lists : DeclaredLists
+  pub declared : declared_by lists ≡ final.declared
+  pub sound : AreSound final.declared
+  pub are : AreObjectsOf lists ended.objects
+  pub callers : HaveCallers lists.fronts lists.analyzers ended.objects shared
+  pub last : RunsSeen
+  pub is_open : final.runs ≡ Some last
+  pub ends : OpenedEnds told lists ended.objects shared first_files final.database.access last ended.passes ended.runs run_files
+
+-- what the main thread has seen of a database that nobody else called
+abbrev pub seen_by_main : (calls : List (ℕ × WatchEntry)) → ℕ → List (ℕ × WatchEntry) → Type 0
+seen_by_main calls zero seen = seen ≡ calls
+seen_by_main calls (suc number) seen = seen ≡ []
+
+-- The passes of the database are left, and all but the main thread's have seen nothing.
+abbrev pub IsMainAlone : {D : Type 0} {g : _} → SharedOdb D → List (ℕ × WatchEntry) → LeftBehind D g → Type 0
+IsMainAlone shared calls (Session ended) = ⊥
+IsMainAlone shared calls (Unopened passes) = KeepsPasses (seen_by_main calls) [] (odb_lock_of shared) passes
+IsMainAlone shared calls Nothing = ⊥
+
+-- What is left behind a script that ended so: the objects of its session; or the database alone, which only the main thread
+-- called; or nothing, where there was no memory to open a session. Where none was opened, the run files are what they were.
+abbrev pub SessionEnds : {D F K : Type 0} {g : _} → CrewTold Generator F K → SharedOdb D → (first_files : F) → (final : Stage) →
+    Ending → (run_files : F) → LeftBehind D g → Type 0
+SessionEnds told shared first_files final ending run_files (Session ended) =
+    IsEndedSession told shared first_files final run_files ended
+SessionEnds told shared first_files final ending run_files (Unopened passes) =
+    (final.runs ≡ None) × (run_files ≡ first_files) × IsMainAlone shared final.database.access.seen (Unopened passes)
+SessionEnds told shared first_files final ending run_files Nothing =
+    (final.runs ≡ None) × (run_files ≡ first_files) × (ending ≡ Halted no_memory)
+
+-- A session of these declarations was to be opened, and its script was played to the end from its first start on.
+pub record PlaysSession {D S O F E C K : Type 0} {g : _} (told : OutsideTold S O F E C K) (shared : SharedOdb D) (first_files : F)
+    (quota : ℕ) (declared : Declared) (side : MainSide (SharedAccess D g) E C) (before : Script S O)
+    (lines : LinesEnd S O E C F K) (left : LeftBehind D g) : Type 0 where
+  pub final : Stage
+  pub tells : TellsEnd told before first_files lines final
+  pub ends : SessionEnds told.crew shared first_files final lines.ending lines.run_files left
+  pub finishes : FinishesOpening (lines_at told before) (lines_at told lines.script) (stage_unopened (side_of told) quota declared side)
+      final lines.ending lines.closing
+
+-- A script was played from its beginning to its end, over a database that its main thread had not called before.
+pub record PlaysAll {D S O F E C K : Type 0} {g : _} (told : OutsideTold S O F E C K) (shared : SharedOdb D) (odb_files : E) (clock : C)
+    (first_files : F) (before : Script S O) (lines : LinesEnd S O E C F K) (left : LeftBehind D g) : Type 0 where
+  pub final : Stage
+  pub tells : TellsEnd told before first_files lines final
+  pub ends : SessionEnds told.crew shared first_files final lines.ending lines.run_files left
+  pub finished : FinishedAt
+      (first_stage (shared_access (odb_identity shared) main_caller []) (told.dumps odb_files) (told.clock clock))
+      (told.left before.src) (told.written before.out) lines.ending lines.closing (lines_at told lines.script) final
+
+-- What is kept of it.
+
+-- the passes of what is left are all here
+abbrev pub IsBack : {D : Type 0} {g : _} → SharedOdb D → LeftBehind D g → Type 0
+IsBack shared (Session ended) = (fronts : List FrontDeclared) × (analyzers : List AnalyzerDeclared) × (calls : SessionCalls)
+    × HasCalls fronts analyzers calls ended.objects shared ended.passes
+IsBack shared (Unopened passes) = (calls : List (ℕ × WatchEntry)) × IsMainAlone shared calls (Unopened passes)
+IsBack shared Nothing = ⊤
+
+-- The record of a session: the histories of its objects, which are those of its declarations, and hold the calls of its main
+-- thread and of its members, each of which keeps its contract; and the records of its runs. Its logger took its seat at the
+-- first run files, and has the channels that were declared.
+pub record IsSessionRecord {D F K : Type 0} {g : _} (told : CrewTold Generator F K) (first_files : F) (final : Stage) (run_files : F)
+    (r : SessionRecord D g) : Type 0 where
+  pub lists : DeclaredLists
+  pub declared : declared_by lists ≡ final.declared
+  pub sound : AreSound final.declared
+  pub objects : SessionObjects
+  pub are : AreObjectsOf lists objects
+  pub shared : SharedOdb D
+  pub rows : first_database shared ≡ unwatched session_rows
+  pub last : RunsSeen
+  pub is_open : final.runs ≡ Some last
+  pub callers : HaveCallers lists.fronts lists.analyzers objects shared
+  pub fits : RunsKept final.declared (own_watched final.database.access) last
+  pub over : last.on ≡ None
+  pub spares : StageSpares final
+  pub kept : r.runs ≡ last.runs
+  pub caller : final.database.access.caller ≡ main_caller
+  pub crew : CrewSeen Generator F K
+  pub members : AreMembersOf lists.fronts lists.analyzers objects shared crew.fronts crew.logger crew.analyzers
+  pub keep : KeepContracts told crew
+  pub channels : AreDeclared lists.channels crew.logger.slots
+  pub first : crew.logger.first ≡ first_files
+  pub files : crew.logger.files ≡ run_files
+  pub histories : HoldsHistories objects shared r
+  pub calls : HoldsCalls lists.fronts lists.analyzers
+      (session_calls (closing_calls last.main.own) final.database.access.seen crew.fronts crew.logger crew.analyzers)
+      objects shared r
+
+-- such a record keeps the session
+abbrev pub RecordsKeep : {D F K : Type 0} {g : _} → CrewTold Generator F K → SessionRecord D g → Type 0
+RecordsKeep {D} {F} told r = (first_files : F) → (final : Stage) → (run_files : F) →
+    IsSessionRecord told first_files final run_files r → KeepsSession told first_files final run_files r
+
+-- This is what is kept of a script, by what it left: its last stage is one that a script leaves, and it ended for want of memory
+-- where its lines did.
+abbrev pub KeepsLeft : {D F K : Type 0} {g : _} → CrewTold Generator F K → SharedOdb D → LeftBehind D g → Option (SessionRecord D g) → Type 0
+KeepsLeft {D} {F} told shared left kept = (first_files : F) → (final : Stage) → (ending : Ending) → (end : ScriptEnd) → (run_files : F) →
+    first_database shared ≡ unwatched session_rows → StageKept final → EndsOver final → StageSpares final →
+    (ending ≡ Halted no_memory → end ≡ NoMemory) → SessionEnds told shared first_files final ending run_files left →
+    SessionKept told first_files final end run_files kept

@@ -1,0 +1,78 @@
+-- Each fault and each clash of the files of the dumps that came of a line was counted.
+use Rattle.std.proofs.Common.{◌≡◌, ℕ, List, [], Option, Some, None, refl, sym, subst, arith}
+use Rattle.std.specs.Prelude.{◌≤◌, ◌++◌, Bool, cond, count_by}
+use Rattle.std.proofs.lemmas.List.Sums.{sum_by-append}
+use Rattle.daq_io.specs.Counts.{RoseBy}
+use Rattle.daq_io.proofs.Counts.{RoseBy-then}
+use Rattle.database_files.specs.declared.replies.FileReply.{FileReply}
+use Rattle.database_files.specs.declared.replies.FileReply.TheVariants as file
+use Rattle.watch_commands.specs.WatchCalls.{ClashesIf, FaultsIf}
+use Rattle.database_desk.specs.DatabaseStages.{DumpFiles}
+use Rattle.database_desk.specs.DatabaseLines.{file_replied}
+use Rattle.session_lines.specs.Stages.{Stage}
+use Rattle.session_lines.specs.ScriptLines.{BreaksScriptLine, ClosesScript, DoesScriptLine, GivesUp}
+use Rattle.session_replies.specs.declared.refusals.Refusals.{Refusals}
+use Rattle.script_desk.specs.declared.endings.Ending.{Ending}
+use Rattle.script_desk.specs.declared.halts.Halt.{Halt}
+use Rattle.script_desk.specs.Closing.{Finished}
+use Rattle.script_desk.proofs.KeepingLaws.{closing_keeps, cut_keeps, plays_keep}
+use Rattle.session_commands.specs.Endings.{OneReply, is_clash, is_fault}
+use Rattle.session_commands.proofs.FilesWalk.{FilesKept, KeptByCut, KeptByLine, break_kept, closed_kept, given_up_kept, line_kept}
+
+-- a count that stayed rose by none, and one that rose and does not fall rose as much
+same_rose : (old new : ℕ) → new ≡ old → RoseBy 0 old new
+same_rose old new same = omega (arith, same)
+
+later_rose : (many first old new : ℕ) → old ≤ new → RoseBy many first old → RoseBy many first new
+later_rose many first old new later rose = omega (arith, later, rose)
+
+fault_counted : (came : Option FileReply) (number : ℕ) (old new : ℕ) → FaultsIf came old new → RoseBy (count_by is_fault (file_replied number came)) old new
+fault_counted None number old new same = same_rose old new same
+fault_counted (Some file.Done) number old new same = same_rose old new same
+fault_counted (Some file.Clash) number old new same = same_rose old new same
+fault_counted (Some file.TooLong) number old new same = same_rose old new same
+fault_counted (Some file.Fault) number old new rose = rose
+
+clash_counted : (came : Option FileReply) (number : ℕ) (old new : ℕ) → ClashesIf came old new → RoseBy (count_by is_clash (file_replied number came)) old new
+clash_counted None number old new same = same_rose old new same
+clash_counted (Some file.Done) number old new same = same_rose old new same
+clash_counted (Some file.Clash) number old new rose = rose
+clash_counted (Some file.TooLong) number old new same = same_rose old new same
+clash_counted (Some file.Fault) number old new same = same_rose old new same
+
+-- one line more
+counted_more : (passes : ℕ × FileReply → Bool) (replies came : List (ℕ × FileReply)) (first old new : ℕ) → RoseBy (count_by passes replies) first old → RoseBy (count_by passes came) old new → RoseBy (count_by passes (replies ++ came)) first new
+counted_more passes replies came first old new before rose =
+    subst (λ (many : ℕ). RoseBy many first new) (sym (sum_by-append (λ (x : ℕ × FileReply). cond (passes x) 1 0) replies came))
+    (RoseBy-then (count_by passes replies) (count_by passes came) first old new before rose)
+
+-- what came of the lines so far, where the files were so at first
+abbrev Counted : (first : DumpFiles) → List (ℕ × FileReply) → DumpFiles → Type 0
+Counted first replies files = OneReply replies first files
+
+line_counts : (first : DumpFiles) → KeptByLine (Counted first)
+line_counts first came number replies old new faults clashes kept = record {
+  faults = counted_more is_fault replies (file_replied number came) first.faults old.faults new.faults kept.faults (fault_counted came number old.faults new.faults faults);
+  clashes = counted_more is_clash replies (file_replied number came) first.clashes old.clashes new.clashes kept.clashes (clash_counted came number old.clashes new.clashes clashes);
+}
+
+cut_counts : (first : DumpFiles) → KeptByCut (Counted first)
+cut_counts first replies old new later same kept = record {
+  faults = later_rose (count_by is_fault replies) first.faults old.faults new.faults later kept.faults;
+  clashes = subst (λ (n : ℕ). RoseBy (count_by is_clash replies) first.clashes n) (sym same) kept.clashes;
+}
+
+-- nothing came of no line
+pub none_counted : (files : DumpFiles) → OneReply [] files files
+none_counted files = record { faults = same_rose files.faults files.faults refl; clashes = same_rose files.clashes files.clashes refl }
+
+-- So it is behind a whole script, however it ended.
+pub script_counted : (first final : Stage) (ending : Ending) (closing : Option Halt) (source left told_first told : Option (List ℕ)) (refusals : Refusals)
+    → Finished DoesScriptLine BreaksScriptLine ClosesScript GivesUp first ending closing source left told_first told final refusals
+    → first.database.replies ≡ [] → OneReply final.database.replies first.database.files final.database.files
+script_counted first final ending closing source left told_first told refusals finished none =
+    let files : DumpFiles = first.database.files in
+    let began : FilesKept (Counted files) first = subst (λ (came : List (ℕ × FileReply)). OneReply came files files) (sym none) (none_counted files) in
+    closing_keeps DoesScriptLine BreaksScriptLine ClosesScript GivesUp (FilesKept (Counted files)) (closed_kept (Counted files)) (given_up_kept (Counted files)) closing finished.behind finished.cut final finished.closed
+    (cut_keeps DoesScriptLine BreaksScriptLine ClosesScript GivesUp (FilesKept (Counted files)) (break_kept (Counted files) (cut_counts files)) ending source finished.lines finished.between finished.cut finished.is_cut
+    (plays_keep DoesScriptLine BreaksScriptLine ClosesScript GivesUp (FilesKept (Counted files)) (line_kept (Counted files) (line_counts files)) 1 finished.lines finished.replies first finished.between finished.plays began))

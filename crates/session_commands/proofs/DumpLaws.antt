@@ -1,0 +1,258 @@
+-- What a script does to the files of the dumps.
+use Rattle.std.proofs.Common.{◌≡◌, ◌≢◌, ℕ, suc, ◌+◌, List, [], ◌∷◌, length, Option, Some, None, true, false, refl, ap, sym, ◌∙◌, inl, inr, subst, arith}
+use Rattle.std.specs.Prelude.{IsTrue, Contains, Ok, nat_eq, ◌⊎◌}
+use Rattle.std.specs.Cmp.Lexicographic.{pointwise, same_text, other_text}
+use Rattle.std.proofs.Math.Logic.{⊎_elim}
+use Rattle.daq_io.specs.Seen.{KeepsFiles, Seen, Stored, Stores}
+use Rattle.database_files.specs.declared.replies.FileReply.{FileReply}
+use Rattle.database_files.specs.declared.replies.FileReply.TheVariants.{Done, Clash, Fault, TooLong as too_large}
+use Rattle.database_files.specs.WholeFiles.{WritesFile}
+use Rattle.odb_watch.specs.declared.entry.WatchEntry.{WatchEntry}
+use Rattle.watch_commands.specs.declared.replies.WatchAnswer.{WatchAnswer}
+use Rattle.watch_commands.specs.WatchPerforms.{PerformsWatch}
+use Rattle.odb_script.specs.declared.forms.Command.{Command}
+use Rattle.odb_script.specs.declared.forms.Command.TheVariants.{Load, Save, Watch, Notes, Unwatch}
+use Rattle.odb_script.specs.Forms.{Read, command_of}
+use Rattle.session_replies.specs.declared.replies.Reply.{Reply}
+use Rattle.session_replies.specs.declared.refusals.Refusals.{Refusals}
+use Rattle.session_runs.specs.KeptRuns.{RunsSeen}
+use Rattle.database_desk.specs.DatabaseStages.{DatabaseStage, DumpFiles}
+use Rattle.database_desk.specs.DatabaseLines.{BreaksDatabase, CutsDump, CutsRows, DoesDatabase, PerformsDump, PerformsRows}
+use Rattle.session_lines.specs.Stages.{Stage}
+use Rattle.session_lines.specs.RunLines.{BreaksStart, BreaksStop, ClosesRun, CutsOpening, DoesPause, DoesResume, DoesStart, DoesStop}
+use Rattle.session_lines.specs.ScriptLines.{BreaksScriptLine, CallsDatabase, ClosesScript, DoesScriptLine, GivesUp}
+use Rattle.script_desk.specs.declared.endings.Ending.{Ending}
+use Rattle.script_desk.specs.declared.endings.Ending.TheVariants.{End, TooLong as too_long, SourceFault as source_fault, Halted}
+use Rattle.script_desk.specs.declared.halts.Halt.{Halt}
+use Rattle.script_desk.specs.declared.halts.Halt.TheVariants.{NoMemory as no_memory, SinkFault as sink_fault}
+use Rattle.script_desk.specs.Playing.{BreaksAt, CutBy, PlaysFrom}
+use Rattle.script_desk.specs.Closing.{ClosesBy, Finished, GaveUp, IsClosed}
+use Rattle.session_commands.proofs.LineKinds.{LineCut, CutsCalls, CutsStartLine, CutsStopLine, LineKind, CallsRows, Declares, IsPause, IsResume, IsStart, IsStill, IsStop, SetsQuota, line_cut, line_kind}
+use Rattle.session_commands.specs.KeptDumps.{IsSavedBy, KeepsDumps}
+
+-- Names.
+
+name_tells : (x y : List ℕ) → (x ≡ y) ⊎ (x ≢ y)
+name_tells x y = elim (pointwise nat_eq x y) as (λ w. w ≡ pointwise nat_eq x y → (x ≡ y) ⊎ (x ≢ y)) [ true ↦ λ e. inl (same_text x y e) | false ↦ λ e. inr (other_text x y e) ] refl
+
+-- One line.
+
+-- Each file stays, and each new one has the name for which this holds.
+record StepsFiles (Saved : List ℕ → Type 0) (old new : Seen) : Type 0 where
+  tells : new.tells ≡ old.tells
+  stay : IsTrue old.tells → (name : List ℕ) → (file : Stored) → old.at name ≡ Some file → new.at name ≡ Some file
+  added : IsTrue old.tells → (name : List ℕ) → (file : Stored) → new.at name ≡ Some file → (old.at name ≡ Some file) ⊎ Saved name
+
+kept_step : (Saved : List ℕ → Type 0) (old new : Seen) → KeepsFiles old new → StepsFiles Saved old new
+kept_step Saved old new kept = record {
+  tells = kept.tells;
+  stay = λ tells name file at. kept.at name ∙ at;
+  added = λ tells name file at. inl (sym (kept.at name) ∙ at);
+}
+
+same_step : (Saved : List ℕ → Type 0) (old new : Seen) → new ≡ old → StepsFiles Saved old new
+same_step Saved old new same = kept_step Saved old new (record { tells = ap (λ (s : Seen). s.tells) same; at = λ name. ap (λ (s : Seen). s.at name) same })
+
+stored_step : (Saved : List ℕ → Type 0) (old new : Seen) (saved bytes : List ℕ) → Saved saved → Stores old new saved bytes → StepsFiles Saved old new
+stored_step Saved old new saved bytes is stores = record {
+  tells = stores.touches.tells;
+  stay = λ tells name file at.
+      stores.touches.others name (λ same. cc (sym at ∙ (ap old.at same ∙ stores.fresh tells))) ∙ at;
+  added = λ tells name file at. ⊎_elim
+      (λ (same : name ≡ saved). inr (subst Saved (sym same) is))
+      (λ (other : name ≢ saved). inl (sym (stores.touches.others name other) ∙ at))
+      (name_tells name saved);
+}
+
+written_step : (Saved : List ℕ → Type 0) (old new : Seen) (saved text : List ℕ) (came : FileReply) → Saved saved → WritesFile old new saved text came → StepsFiles Saved old new
+written_step Saved old new saved text Done is writes = stored_step Saved old new saved text is writes
+written_step Saved old new saved text Clash is writes = kept_step Saved old new writes.0.files
+written_step Saved old new saved text Fault is writes = ⊎_elim
+    (λ kept. kept_step Saved old new kept.0.files)
+    (λ cut. stored_step Saved old new saved _ is cut.1)
+    writes
+written_step Saved old new saved text too_large is writes = absurd writes
+
+-- the command saves the database into a file of this name
+abbrev Saves : Command → List ℕ → Type 0
+Saves command name = command ≡ Save name
+
+performed_step : (command : Command) (old new : Seen) (calls : List WatchEntry) (answer : WatchAnswer) → PerformsWatch command old new calls answer → StepsFiles (Saves command) old new
+performed_step (Load name) old new calls answer does = ⊎_elim
+    (λ none. same_step (Saves (Load name)) old new none.1)
+    (λ loads. kept_step (Saves (Load name)) old new loads.1.1.files)
+    does
+performed_step (Save name) old new calls answer does = ⊎_elim
+    (λ none. same_step (Saves (Save name)) old new none.1)
+    (λ saves. written_step (Saves (Save name)) old new name saves.1.0 saves.1.1 refl saves.1.3)
+    does
+performed_step (Watch path) old new calls answer does = same_step (Saves (Watch path)) old new does.0
+performed_step (Notes watch) old new calls answer does = same_step (Saves (Notes watch)) old new does.0
+performed_step (Unwatch watch) old new calls answer does = same_step (Saves (Unwatch watch)) old new does.0
+performed_step command old new calls answer does = absurd does
+
+-- what the files of the dumps tell in a stage
+abbrev files_seen : Stage → Seen
+files_seen s = s.database.files.seen
+
+database_step : (number : ℕ) (command : Command) (old : DatabaseStage) (reply : Reply) (new : DatabaseStage) → DoesDatabase number command old reply new → StepsFiles (Saves command) old.files.seen new.files.seen
+database_step number command old reply new does = ⊎_elim
+    (λ (rows : PerformsRows command old reply new). same_step (Saves command) old.files.seen new.files.seen (ap (λ (f : DumpFiles). f.seen) rows.files))
+    (λ (dump : PerformsDump number command old reply new). performed_step command old.files.seen new.files.seen dump.answers.calls dump.answer dump.answers.does)
+    does
+
+stage_step : (Saved : List ℕ → Type 0) (old new : Stage) → new.database.files ≡ old.database.files → StepsFiles Saved (files_seen old) (files_seen new)
+stage_step Saved old new same = same_step Saved (files_seen old) (files_seen new) (ap (λ (f : DumpFiles). f.seen) same)
+
+start_files : (runs : Option RunsSeen) (old : Stage) (reply : Reply) (new : Stage) → DoesStart runs old reply new → new.database.files ≡ old.database.files
+start_files None old reply new does = does.4.files ∙ does.3.files
+start_files (Some runs) old reply new does = does.files
+
+stop_files : (runs : Option RunsSeen) (old : Stage) (reply : Reply) (new : Stage) → DoesStop runs old reply new → new.database.files ≡ old.database.files
+stop_files None old reply new does = ap (λ (s : Stage). s.database.files) does.1
+stop_files (Some runs) old reply new does = does.files
+
+pause_files : (runs : Option RunsSeen) (old : Stage) (reply : Reply) (new : Stage) → DoesPause runs old reply new → new.database.files ≡ old.database.files
+pause_files None old reply new does = ap (λ (s : Stage). s.database.files) does.1
+pause_files (Some runs) old reply new does = does.files
+
+resume_files : (runs : Option RunsSeen) (old : Stage) (reply : Reply) (new : Stage) → DoesResume runs old reply new → new.database.files ≡ old.database.files
+resume_files None old reply new does = ap (λ (s : Stage). s.database.files) does.1
+resume_files (Some runs) old reply new does = does.files
+
+-- the line was read as a `save` of this name
+abbrev SavesLine : Read Command → List ℕ → Type 0
+SavesLine line name = line ≡ Ok (Save name)
+
+calls_step : (number : ℕ) (line : Read Command) (command : Command) (old : Stage) (reply : Reply) (new : Stage) → line ≡ Ok command → CallsDatabase number command old reply new → StepsFiles (SavesLine line) (files_seen old) (files_seen new)
+calls_step number line command old reply new is does =
+    let step = database_step number command old.database reply new.database does.0 in
+    record {
+      tells = step.tells;
+      stay = step.stay;
+      added = λ tells name file at. ⊎_elim
+          (λ (there : (files_seen old).at name ≡ Some file). inl there)
+          (λ (saves : command ≡ Save name). inr (is ∙ ap (λ (c : Command). Ok c) saves))
+          (step.added tells name file at);
+    }
+
+kind_step : (number : ℕ) (line : Read Command) (old : Stage) (reply : Reply) (new : Stage) → LineKind number line old reply new → StepsFiles (SavesLine line) (files_seen old) (files_seen new)
+kind_step number line old reply new (IsStill same) = stage_step (SavesLine line) old new (ap (λ (s : Stage). s.database.files) same)
+kind_step number line old reply new (Declares opened same) = stage_step (SavesLine line) old new (ap (λ (s : Stage). s.database.files) same)
+kind_step number line old reply new (SetsQuota count same) = stage_step (SavesLine line) old new (ap (λ (s : Stage). s.database.files) same)
+kind_step number line old reply new (IsStart does) = stage_step (SavesLine line) old new (start_files old.runs old reply new does)
+kind_step number line old reply new (IsStop does) = stage_step (SavesLine line) old new (stop_files old.runs old reply new does)
+kind_step number line old reply new (IsPause does) = stage_step (SavesLine line) old new (pause_files old.runs old reply new does)
+kind_step number line old reply new (IsResume does) = stage_step (SavesLine line) old new (resume_files old.runs old reply new does)
+kind_step number line old reply new (CallsRows command is does) = calls_step number line command old reply new is does
+
+line_step : (number : ℕ) (line : Read Command) (old : Stage) (reply : Reply) (new : Stage) → DoesScriptLine number line old reply new → StepsFiles (SavesLine line) (files_seen old) (files_seen new)
+line_step number line old reply new does = kind_step number line old reply new (line_kind number line old reply new does)
+
+-- All lines.
+
+first_contained : {X : Type 0} (x : X) (xs : List X) → Contains (x ∷ xs) x
+first_contained x xs = (0, omega arith, refl)
+
+later_contained : {X : Type 0} (y : X) (xs : List X) (x : X) → Contains xs x → Contains (y ∷ xs) x
+later_contained y xs x has = (suc has.0, omega (arith, has.1), has.2)
+
+none_keep : (lines : List (List ℕ)) (old new : Seen) → KeepsFiles old new → KeepsDumps lines old new
+none_keep lines old new kept = record {
+  tells = kept.tells;
+  stay = λ tells name file at. kept.at name ∙ at;
+  added = λ tells name file at. inl (sym (kept.at name) ∙ at);
+}
+
+one_more : (line : List ℕ) (lines : List (List ℕ)) (old between new : Seen) → StepsFiles (SavesLine (command_of line)) old between → KeepsDumps lines between new → KeepsDumps (line ∷ lines) old new
+one_more line lines old between new step keeps = record {
+  tells = keeps.tells ∙ step.tells;
+  stay = λ tells name file at. keeps.stay (subst IsTrue (sym step.tells) tells) name file (step.stay tells name file at);
+  added = λ tells name file at. ⊎_elim
+      (λ (there : between.at name ≡ Some file). ⊎_elim
+      (λ (was : old.at name ≡ Some file). inl was)
+      (λ (saves : command_of line ≡ Ok (Save name)). inr (line, first_contained line lines, saves))
+      (step.added tells name file there))
+      (λ (saved : IsSavedBy lines name). inr (saved.0, later_contained line lines saved.0 saved.1, saved.2))
+      (keeps.added (subst IsTrue (sym step.tells) tells) name file at);
+}
+
+lines_keep : (number : ℕ) (lines : List (List ℕ)) (replies : List Reply) (old new : Stage) → PlaysFrom DoesScriptLine number lines replies old new → KeepsDumps lines (files_seen old) (files_seen new)
+lines_keep number [] [] old new plays = none_keep [] (files_seen old) (files_seen new) (record { tells = ap (λ (s : Stage). (files_seen s).tells) plays; at = λ name. ap (λ (s : Stage). (files_seen s).at name) plays })
+lines_keep number [] (reply ∷ replies) old new plays = absurd plays
+lines_keep number (line ∷ lines) [] old new plays = absurd plays
+lines_keep number (line ∷ lines) (reply ∷ replies) old new plays =
+    one_more line lines (files_seen old) (files_seen plays.0) (files_seen new) (line_step number (command_of line) old reply plays.0 plays.1)
+    (lines_keep (number + 1) lines replies plays.0 new plays.2)
+
+-- Where memory ended no file changed, nor behind the lines.
+
+same_files : (old new : Stage) → new.database.files ≡ old.database.files → KeepsFiles (files_seen old) (files_seen new)
+same_files old new same = record { tells = ap (λ (f : DumpFiles). f.seen.tells) same; at = λ name. ap (λ (f : DumpFiles). f.seen.at name) same }
+
+database_cut : (command : Command) (old new : DatabaseStage) → BreaksDatabase command old new → KeepsFiles old.files.seen new.files.seen
+database_cut command old new broke = ⊎_elim
+    (λ (same : new ≡ old). record { tells = ap (λ (d : DatabaseStage). d.files.seen.tells) same; at = λ name. ap (λ (d : DatabaseStage). d.files.seen.at name) same })
+    (λ (cut : CutsRows command old new ⊎ CutsDump command old new). ⊎_elim
+    (λ (rows : CutsRows command old new). record { tells = ap (λ (f : DumpFiles). f.seen.tells) rows.files; at = λ name. ap (λ (f : DumpFiles). f.seen.at name) rows.files })
+    (λ (dump : CutsDump command old new). dump.kept.files)
+    cut)
+    broke
+
+start_cut : (runs : Option RunsSeen) (old new : Stage) → BreaksStart runs old new → new.database.files ≡ old.database.files
+start_cut None old new broke = ⊎_elim
+    (λ (cut : CutsOpening old new). ap (λ (s : Stage). s.database.files) cut.same)
+    (λ cut. ap (λ (s : Stage). s.database.files) cut.4.same ∙ cut.3.files)
+    broke
+start_cut (Some runs) old new broke = ap (λ (s : Stage). s.database.files) broke.same
+
+stop_cut : (runs : Option RunsSeen) (old new : Stage) → BreaksStop runs old new → new.database.files ≡ old.database.files
+stop_cut None old new broke = absurd broke
+stop_cut (Some runs) old new broke = ap (λ (s : Stage). s.database.files) broke.1
+
+cut_files : (old new : Stage) → LineCut old new → KeepsFiles (files_seen old) (files_seen new)
+cut_files old new (CutsStartLine broke) = same_files old new (start_cut old.runs old new broke)
+cut_files old new (CutsStopLine broke) = same_files old new (stop_cut old.runs old new broke)
+cut_files old new (CutsCalls command broke same) = database_cut command old.database new.database broke
+
+cut_keeps : (ending : Ending) (source : Option (List ℕ)) (lines : List (List ℕ)) (old new : Stage) → CutBy DoesScriptLine BreaksScriptLine ending source lines old new → KeepsFiles (files_seen old) (files_seen new)
+cut_keeps End source lines old new same = same_files old new (ap (λ (s : Stage). s.database.files) same)
+cut_keeps too_long source lines old new same = same_files old new (ap (λ (s : Stage). s.database.files) same)
+cut_keeps source_fault source lines old new same = same_files old new (ap (λ (s : Stage). s.database.files) same)
+cut_keeps (Halted sink_fault) source lines old new same = same_files old new (ap (λ (s : Stage). s.database.files) same)
+cut_keeps (Halted no_memory) source lines old new cut = ⊎_elim
+    (λ (same : new ≡ old). same_files old new (ap (λ (s : Stage). s.database.files) same))
+    (λ (at : BreaksAt DoesScriptLine BreaksScriptLine source lines old new). cut_files old new (line_cut (1 + length lines) (command_of at.line) old new at.broke))
+    cut
+
+run_closed : (runs : Option RunsSeen) (old : Stage) (reply : Option Reply) (new : Stage) → ClosesRun runs old reply new → new.database.files ≡ old.database.files
+run_closed None old reply new closed = ap (λ (s : Stage). s.database.files) closed.1
+run_closed (Some runs) old None new closed = ap (λ (s : Stage). s.database.files) closed.1
+run_closed (Some runs) old (Some reply) new closed = closed.1.files
+
+closing_keeps : (closing : Option Halt) (behind : List Reply) (old new : Stage) → ClosesBy ClosesScript GivesUp closing behind old new → KeepsFiles (files_seen old) (files_seen new)
+closing_keeps closing behind old new by = ⊎_elim
+    (λ (is : IsClosed ClosesScript GivesUp behind old new). same_files old new (run_closed old.runs old is.reply new is.closed))
+    (λ (gave : GaveUp ClosesScript GivesUp closing behind old new). same_files old new (stop_cut old.runs old new gave.gave_up.1))
+    by
+
+files_on : (a b c : Seen) → KeepsFiles a b → KeepsFiles b c → KeepsFiles a c
+files_on a b c ab bc = record { tells = bc.tells ∙ ab.tells; at = λ name. bc.at name ∙ ab.at name }
+
+kept_behind : (lines : List (List ℕ)) (a b c : Seen) → KeepsDumps lines a b → KeepsFiles b c → KeepsDumps lines a c
+kept_behind lines a b c keeps files = record {
+  tells = files.tells ∙ keeps.tells;
+  stay = λ tells name file at. files.at name ∙ keeps.stay tells name file at;
+  added = λ tells name file at. keeps.added tells name file (sym (files.at name) ∙ at);
+}
+
+-- A whole script.
+pub script_keeps : (first final : Stage) (ending : Ending) (closing : Option Halt) (source left told_first told : Option (List ℕ)) (refusals : Refusals)
+    → (finished : Finished DoesScriptLine BreaksScriptLine ClosesScript GivesUp first ending closing source left told_first told final refusals)
+    → KeepsDumps finished.lines first.database.files.seen final.database.files.seen
+script_keeps first final ending closing source left told_first told refusals finished =
+    kept_behind finished.lines (files_seen first) (files_seen finished.between) (files_seen final)
+    (lines_keep 1 finished.lines finished.replies first finished.between finished.plays)
+    (files_on (files_seen finished.between) (files_seen finished.cut) (files_seen final)
+    (cut_keeps ending source finished.lines finished.between finished.cut finished.is_cut)
+    (closing_keeps closing finished.behind finished.cut final finished.closed))

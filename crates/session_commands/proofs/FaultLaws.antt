@@ -1,0 +1,97 @@
+-- The faults of the files of the dumps against what came of the lines that called them.
+use Rattle.std.proofs.Common.{◌≡◌, ℕ, List, [], Option, Some, None, true, false, refl, sym, subst, arith}
+use Rattle.std.specs.Prelude.{Bool, ◌||◌}
+use Rattle.std.specs.List.{list_any}
+use Rattle.std.proofs.lemmas.List.Folds.{list_any-append}
+use Rattle.std.proofs.Math.Logic.{⊎_elim}
+use Rattle.daq_io.specs.Counts.{Rose}
+use Rattle.database_files.specs.declared.replies.FileReply.{FileReply}
+use Rattle.database_files.specs.declared.replies.FileReply.TheVariants as file
+use Rattle.watch_commands.specs.WatchCalls.{FaultsIf}
+use Rattle.session_replies.specs.declared.replies.Reply.{Reply}
+use Rattle.session_replies.specs.declared.refusals.Refusals.{Refusals}
+use Rattle.database_desk.specs.DatabaseStages.{DumpFiles}
+use Rattle.database_desk.specs.DatabaseLines.{file_replied}
+use Rattle.session_lines.specs.Stages.{Stage}
+use Rattle.session_lines.specs.ScriptLines.{BreaksScriptLine, ClosesScript, DoesScriptLine, GivesUp}
+use Rattle.script_desk.specs.declared.endings.Ending.{Ending}
+use Rattle.script_desk.specs.declared.endings.Ending.TheVariants.{End, TooLong as too_long, SourceFault as source_fault, Halted}
+use Rattle.script_desk.specs.declared.halts.Halt.{Halt}
+use Rattle.script_desk.specs.declared.halts.Halt.TheVariants.{NoMemory as no_memory, SinkFault as sink_fault}
+use Rattle.script_desk.specs.Playing.{CutBy}
+use Rattle.script_desk.specs.Closing.{ClosesBy, Finished, GaveUp, IsClosed, ended_by}
+use Rattle.script_desk.proofs.KeepingLaws.{plays_keep}
+use Rattle.session_commands.proofs.FilesWalk.{FilesKept, KeptByLine, closed_kept, line_kept}
+use Rattle.session_commands.specs.Endings.{NotesFailed, asks_files, is_fault}
+
+-- A fault is among these where the count rose, and else the count is what it was.
+abbrev pub Tells : (any : Bool) → (old new : ℕ) → Type 0
+Tells true old new = Rose old new
+Tells false old new = new ≡ old
+
+-- So it is of what came of the lines so far.
+abbrev Told : (first : ℕ) → List (ℕ × FileReply) → DumpFiles → Type 0
+Told first came files = Tells (list_any is_fault came) first files.faults
+
+stays_told : (any : Bool) (first old new : ℕ) → new ≡ old → Tells any first old → Tells any first new
+stays_told any first old new same told = subst (λ (n : ℕ). Tells any first n) (sym same) told
+
+rose_on : (first old new : ℕ) → Rose first old → Rose old new → Rose first new
+rose_on first old new before rose = omega (arith, before, rose)
+
+-- one line more
+told_more : (came : Option FileReply) (number : ℕ) (any : Bool) (first old new : ℕ) → FaultsIf came old new → Tells any first old → Tells (any || list_any is_fault (file_replied number came)) first new
+told_more None number true first old new same told = stays_told true first old new same told
+told_more None number false first old new same told = stays_told false first old new same told
+told_more (Some file.Done) number true first old new same told = stays_told true first old new same told
+told_more (Some file.Done) number false first old new same told = stays_told false first old new same told
+told_more (Some file.Clash) number true first old new same told = stays_told true first old new same told
+told_more (Some file.Clash) number false first old new same told = stays_told false first old new same told
+told_more (Some file.TooLong) number true first old new same told = stays_told true first old new same told
+told_more (Some file.TooLong) number false first old new same told = stays_told false first old new same told
+told_more (Some file.Fault) number true first old new rose told = rose_on first old new told rose
+told_more (Some file.Fault) number false first old new rose told = subst (λ (n : ℕ). Rose n new) told rose
+
+line_tells : (first : ℕ) → KeptByLine (Told first)
+line_tells first came number replies old new faults clashes told =
+    subst (λ (any : Bool). Tells any first new.faults) (sym (list_any-append is_fault replies (file_replied number came)))
+    (told_more came number (list_any is_fault replies) first old.faults new.faults faults told)
+
+-- where the files are asked memory was not wanting, in the lines and behind them
+not_cut : (ending : Ending) (closing : Option Halt) (source : Option (List ℕ)) (lines : List (List ℕ)) (old new : Stage) → asks_files (ended_by ending closing) ≡ true → CutBy DoesScriptLine BreaksScriptLine ending source lines old new → new ≡ old
+not_cut End closing source lines old new asks cut = cut
+not_cut too_long closing source lines old new asks cut = cut
+not_cut source_fault closing source lines old new asks cut = cut
+not_cut (Halted sink_fault) closing source lines old new asks cut = cut
+not_cut (Halted no_memory) None source lines old new asks cut = absurd (cc asks)
+not_cut (Halted no_memory) (Some halt) source lines old new asks cut = absurd (cc asks)
+
+halts_so : (ending : Ending) → asks_files (ended_by ending (Some no_memory)) ≡ true → ⊥
+halts_so End asks = cc asks
+halts_so too_long asks = cc asks
+halts_so source_fault asks = cc asks
+halts_so (Halted no_memory) asks = cc asks
+halts_so (Halted sink_fault) asks = cc asks
+
+closing_told : (first : ℕ) (ending : Ending) (closing : Option Halt) (behind : List Reply) (old new : Stage) → asks_files (ended_by ending closing) ≡ true → ClosesBy ClosesScript GivesUp closing behind old new → FilesKept (Told first) old → FilesKept (Told first) new
+closing_told first ending closing behind old new asks by told = ⊎_elim
+    (λ (is : IsClosed ClosesScript GivesUp behind old new). closed_kept (Told first) old new is.reply is.closed told)
+    (λ (gives : GaveUp ClosesScript GivesUp closing behind old new). absurd (halts_so ending (subst (λ (c : Option Halt). asks_files (ended_by ending c) ≡ true) gives.closing_is asks)))
+    by
+
+notes_told : (any : Bool) (old new : ℕ) → Tells any old new → NotesFailed any old new
+notes_told true old new rose = rose
+notes_told false old new same = omega (arith, same)
+
+-- Where the files are asked behind a whole script, what came of its lines tells whether their count rose.
+pub script_told : (first final : Stage) (ending : Ending) (closing : Option Halt) (source left told_first told : Option (List ℕ)) (refusals : Refusals)
+    → Finished DoesScriptLine BreaksScriptLine ClosesScript GivesUp first ending closing source left told_first told final refusals
+    → first.database.replies ≡ [] → asks_files (ended_by ending closing) ≡ true
+    → NotesFailed (list_any is_fault final.database.replies) first.database.files.faults final.database.files.faults
+script_told first final ending closing source left told_first told refusals finished none asks =
+    let start : ℕ = first.database.files.faults in
+    let began : FilesKept (Told start) first = subst (λ (came : List (ℕ × FileReply)). Tells (list_any is_fault came) start start) (sym none) refl in
+    let played : FilesKept (Told start) finished.between =
+    plays_keep DoesScriptLine BreaksScriptLine ClosesScript GivesUp (FilesKept (Told start)) (line_kept (Told start) (line_tells start)) 1 finished.lines finished.replies first finished.between finished.plays began in
+    let cut : FilesKept (Told start) finished.cut = subst (FilesKept (Told start)) (sym (not_cut ending closing source finished.lines finished.between finished.cut asks finished.is_cut)) played in
+    notes_told (list_any is_fault final.database.replies) start final.database.files.faults (closing_told start ending closing finished.behind finished.cut final asks finished.closed cut)

@@ -1,0 +1,16 @@
+pub mod LineKinds
+pub mod SpareLaws
+pub mod SteeringLaws
+pub mod SpareLines
+pub mod StageLaws
+pub mod DumpLaws
+pub mod FilesWalk
+pub mod FaultLaws
+pub mod CountLaws
+pub mod OverLaws
+pub mod OpeningLaws
+pub mod OpenedLaws
+pub mod DeclaringLaws
+pub mod ReplyLaws
+pub mod KeyLaws
+pub mod CrewLaws

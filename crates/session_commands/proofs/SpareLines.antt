@@ -1,0 +1,111 @@
+-- No line of a script removes anything of `/Runinfo`.
+use Rattle.std.proofs.Common.{◌≡◌, ℕ, List, Option, Some, None, ap, sym, subst}
+use Rattle.std.proofs.Math.Logic.{⊎_elim}
+use Rattle.odb_script.specs.declared.forms.Command.{Command}
+use Rattle.odb_script.specs.Forms.{Read}
+use Rattle.odb_port.specs.DatabasePorts.{own_watched}
+use Rattle.session_replies.specs.declared.replies.Reply.{Reply}
+use Rattle.session_replies.specs.declared.refusals.Refusals.{Refusals}
+use Rattle.session_runs.specs.declared.replies.RunReply.TheVariants as answer
+use Rattle.session_runs.specs.KeptRuns.{RunsSeen}
+use Rattle.session_lines.specs.NothingSaid.{NothingSaid, own_point}
+use Rattle.session_lines.specs.Stages.{Stage}
+use Rattle.session_lines.specs.RunLines.{BreaksStart, BreaksStop, ClosesRun, CutsOpening, CutsRun, DoesPause, DoesResume, DoesStart, DoesStop, OpensSession}
+use Rattle.session_lines.specs.ScriptLines.{BreaksScriptLine, CallsDatabase, ClosesScript, DoesScriptLine, GivesUp}
+use Rattle.script_desk.specs.declared.endings.Ending.{Ending}
+use Rattle.script_desk.specs.declared.halts.Halt.{Halt}
+use Rattle.script_desk.specs.Closing.{Finished}
+use Rattle.script_desk.proofs.KeepingLaws.{closing_keeps, cut_keeps, plays_keep}
+use Rattle.session_commands.specs.Keeping.{AllSpare, StageSpares}
+use Rattle.session_commands.proofs.LineKinds.{LineCut, CutsCalls, CutsStartLine, CutsStopLine, LineKind, CallsRows, Declares, IsPause, IsResume, IsStart, IsStill, IsStop, SetsQuota, line_cut, line_kind}
+use Rattle.session_commands.proofs.SpareLaws.{SpareLaws, SparesOn, broken_on, cut_keys_on, cut_on, database_on, keys_on, later_on, same_on, spare_both}
+use Rattle.session_commands.proofs.SteeringLaws.{pause_moves, resume_moves, start_moves, stop_moves, unsaved_moves}
+
+-- Stages.
+
+moved : (old new : Stage) → SparesOn old.database.access new.database.access → StageSpares old → StageSpares new
+moved old new on spares = subst AllSpare (sym on.1) (spare_both (own_watched old.database.access) on.0 spares on.2)
+
+same_spares : (old new : Stage) → new.database.access ≡ old.database.access → StageSpares old → StageSpares new
+same_spares old new same spares = moved old new (same_on old.database.access new.database.access same) spares
+
+opens_on : SpareLaws → (old ready : Stage) → OpensSession old ready → SparesOn old.database.access ready.database.access
+opens_on laws old ready opens = keys_on laws _ old.database.access ready.database.access opens.keys
+
+start_line : SpareLaws → (runs : Option RunsSeen) (old : Stage) (reply : Reply) (new : Stage) → DoesStart runs old reply new → SparesOn old.database.access new.database.access
+start_line laws None old reply new does = later_on old.database.access does.0.database.access new.database.access (opens_on laws old does.0 does.3)
+    (start_moves laws NothingSaid does.4.answer does.0.clock new.clock (own_point does.1 does.0.database.access) (own_point does.4.after new.database.access) does.4.does).spares
+start_line laws (Some runs) old reply new does = (start_moves laws NothingSaid does.answer old.clock new.clock (own_point runs old.database.access) (own_point does.after new.database.access) does.does).spares
+
+stop_line : SpareLaws → (runs : Option RunsSeen) (old : Stage) (reply : Reply) (new : Stage) → DoesStop runs old reply new → SparesOn old.database.access new.database.access
+stop_line laws None old reply new does = same_on old.database.access new.database.access (ap (λ (s : Stage). s.database.access) does.1)
+stop_line laws (Some runs) old reply new does = (stop_moves laws NothingSaid does.answer old.clock new.clock (own_point runs old.database.access) (own_point does.after new.database.access) does.does).spares
+
+pause_line : SpareLaws → (runs : Option RunsSeen) (old : Stage) (reply : Reply) (new : Stage) → DoesPause runs old reply new → SparesOn old.database.access new.database.access
+pause_line laws None old reply new does = same_on old.database.access new.database.access (ap (λ (s : Stage). s.database.access) does.1)
+pause_line laws (Some runs) old reply new does = (pause_moves laws NothingSaid does.answer (own_point runs old.database.access) (own_point does.after new.database.access) does.does.0).spares
+
+resume_line : SpareLaws → (runs : Option RunsSeen) (old : Stage) (reply : Reply) (new : Stage) → DoesResume runs old reply new → SparesOn old.database.access new.database.access
+resume_line laws None old reply new does = same_on old.database.access new.database.access (ap (λ (s : Stage). s.database.access) does.1)
+resume_line laws (Some runs) old reply new does = (resume_moves laws NothingSaid does.answer (own_point runs old.database.access) (own_point does.after new.database.access) does.does.0).spares
+
+calls_line : SpareLaws → (number : ℕ) (command : Command) (old : Stage) (reply : Reply) (new : Stage) → CallsDatabase number command old reply new → StageSpares old → StageSpares new
+calls_line laws number command old reply new does spares = moved old new (database_on laws number command old.database reply new.database does.0) spares
+
+kind_spares : SpareLaws → (number : ℕ) (line : Read Command) (old : Stage) (reply : Reply) (new : Stage) → LineKind number line old reply new → StageSpares old → StageSpares new
+kind_spares laws number line old reply new (IsStill same) spares = same_spares old new (ap (λ (s : Stage). s.database.access) same) spares
+kind_spares laws number line old reply new (Declares opened same) spares = same_spares old new (ap (λ (s : Stage). s.database.access) same) spares
+kind_spares laws number line old reply new (SetsQuota count same) spares = same_spares old new (ap (λ (s : Stage). s.database.access) same) spares
+kind_spares laws number line old reply new (IsStart does) spares = moved old new (start_line laws old.runs old reply new does) spares
+kind_spares laws number line old reply new (IsStop does) spares = moved old new (stop_line laws old.runs old reply new does) spares
+kind_spares laws number line old reply new (IsPause does) spares = moved old new (pause_line laws old.runs old reply new does) spares
+kind_spares laws number line old reply new (IsResume does) spares = moved old new (resume_line laws old.runs old reply new does) spares
+kind_spares laws number line old reply new (CallsRows command is does) spares = calls_line laws number command old reply new does spares
+
+line_spares : SpareLaws → (number : ℕ) (line : Read Command) (old new : Stage) (reply : Reply) → DoesScriptLine number line old reply new → StageSpares old → StageSpares new
+line_spares laws number line old new reply does spares = kind_spares laws number line old reply new (line_kind number line old reply new does) spares
+
+-- Where memory ended.
+
+cut_run_on : SpareLaws → (before : RunsSeen) (old new : Stage) → CutsRun before old new → SparesOn old.database.access new.database.access
+cut_run_on laws before old new cut = cut_on laws old.clock new.clock (own_point before old.database.access) (own_point before new.database.access) cut.cut
+
+start_breaks : SpareLaws → (runs : Option RunsSeen) (old new : Stage) → BreaksStart runs old new → SparesOn old.database.access new.database.access
+start_breaks laws None old new broke = ⊎_elim
+    (λ (cut : CutsOpening old new). cut_keys_on laws _ old.database.access new.database.access cut.keys)
+    (λ cut. later_on old.database.access cut.0.database.access new.database.access (opens_on laws old cut.0 cut.3) (cut_run_on laws cut.1 cut.0 new cut.4))
+    broke
+start_breaks laws (Some runs) old new broke = cut_run_on laws runs old new broke
+
+stop_breaks : SpareLaws → (runs : Option RunsSeen) (old new : Stage) → BreaksStop runs old new → SparesOn old.database.access new.database.access
+stop_breaks laws None old new broke = absurd broke
+stop_breaks laws (Some runs) old new broke = ⊎_elim
+    (λ stopped. (stop_moves laws NothingSaid (answer.Stopped stopped.0) old.clock new.clock (own_point runs old.database.access) (own_point broke.0 new.database.access) stopped.1).spares)
+    (λ unsaved. (unsaved_moves laws NothingSaid old.clock new.clock (own_point runs old.database.access) (own_point broke.0 new.database.access) unsaved).spares)
+    broke.2
+
+cut_spares : SpareLaws → (old new : Stage) → LineCut old new → StageSpares old → StageSpares new
+cut_spares laws old new (CutsStartLine broke) spares = moved old new (start_breaks laws old.runs old new broke) spares
+cut_spares laws old new (CutsStopLine broke) spares = moved old new (stop_breaks laws old.runs old new broke) spares
+cut_spares laws old new (CutsCalls command broke same) spares = moved old new (broken_on laws command old.database new.database broke) spares
+
+line_breaks : SpareLaws → (number : ℕ) (line : Read Command) (old new : Stage) → BreaksScriptLine number line old new → StageSpares old → StageSpares new
+line_breaks laws number line old new broke spares = cut_spares laws old new (line_cut number line old new broke) spares
+
+-- Behind all lines.
+
+run_closes : SpareLaws → (runs : Option RunsSeen) (old : Stage) (reply : Option Reply) (new : Stage) → ClosesRun runs old reply new → SparesOn old.database.access new.database.access
+run_closes laws None old reply new closed = same_on old.database.access new.database.access (ap (λ (s : Stage). s.database.access) closed.1)
+run_closes laws (Some runs) old None new closed = same_on old.database.access new.database.access (ap (λ (s : Stage). s.database.access) closed.1)
+run_closes laws (Some runs) old (Some reply) new closed = stop_line laws (Some runs) old reply new closed.1
+
+-- A whole script.
+pub script_spares : SpareLaws → (first final : Stage) (ending : Ending) (closing : Option Halt) (source left told_first told : Option (List ℕ)) (refusals : Refusals)
+    → Finished DoesScriptLine BreaksScriptLine ClosesScript GivesUp first ending closing source left told_first told final refusals → StageSpares first → StageSpares final
+script_spares laws first final ending closing source left told_first told refusals finished spares =
+    closing_keeps DoesScriptLine BreaksScriptLine ClosesScript GivesUp StageSpares
+    (λ old new reply closed kept. moved old new (run_closes laws old.runs old reply new closed) kept)
+    (λ old new gave kept. moved old new (stop_breaks laws old.runs old new gave.1) kept)
+    closing finished.behind finished.cut final finished.closed
+    (cut_keeps DoesScriptLine BreaksScriptLine ClosesScript GivesUp StageSpares (line_breaks laws) ending source finished.lines finished.between finished.cut finished.is_cut
+    (plays_keep DoesScriptLine BreaksScriptLine ClosesScript GivesUp StageSpares (line_spares laws) 1 finished.lines finished.replies first finished.between finished.plays spares))

@@ -1,0 +1,110 @@
+-- How the lines of a session's script are played, by where they stand, and by what the main thread has besides its runs.
+use Rattle.std.specs.Prelude.{◌≡◌, ℕ, Bool, List, Option}
+use Rattle.daq_io.specs.Seen.{Seen}
+use Rattle.transitions.specs.declared.entry.EngineEntry.{EngineEntry}
+use Rattle.odb_port.specs.DatabasePorts.{DatabaseAccess}
+use Rattle.odb_script.specs.Lines.{Reading}
+use Rattle.run_records.specs.declared.records.RunRecord.{RunRecord}
+use Rattle.session_setup.specs.declared.declared.DeclaredLists.{DeclaredLists}
+use Rattle.session_setup.specs.Setup.{Declared, declared_by}
+use Rattle.session_runs.specs.KeptRuns.{RunsSeen}
+use Rattle.session_runs.specs.RunAnswers.{ClockTold, clock_of}
+use Rattle.session_replies.specs.declared.refusals.Refusals.{Refusals}
+use Rattle.database_desk.specs.DatabaseStages.{DatabaseStage, DumpFiles, dump_files}
+use Rattle.session_lines.specs.Stages.{Stage, first_stage, open_stage, unopened_stage}
+use Rattle.session_lines.specs.ScriptLines.{BreaksScriptLine, ClosesScript, DoesScriptLine, GivesUp, opens_session}
+use Rattle.script_desk.specs.declared.endings.Ending.{Ending}
+use Rattle.script_desk.specs.declared.halts.Halt.{Halt}
+use Rattle.script_desk.specs.declared.play_end.PlayEnd.{PlayEnd}
+use Rattle.script_desk.specs.Playing.{HasLine, OpensAt, PlaysTo}
+use Rattle.script_desk.specs.Closing.{Finished}
+use Rattle.session_commands.specs.declared.side.MainSide.{MainSide}
+use Rattle.session_commands.specs.Endings.{closing_calls}
+use Rattle.session_commands.specs.Keeping.{KnowsRuns}
+
+-- Stages.
+
+-- What a port to the database, the files of the dumps and a clock tell of themselves.
+pub record SideTold (D E C : Type 0) : Type 0 where
+  pub access : D → DatabaseAccess
+  pub files : E → DumpFiles
+  pub clock : C → ClockTold
+
+-- the same, of what is told in this order
+abbrev pub side_told : {D E C : Type 0} → (access : D → DatabaseAccess) → (seen : E → Seen) → (faults clashes : E → ℕ) →
+    (first : E → Option (List ℕ)) → (tells : C → Bool) → (ahead : C → ℕ → ℕ) → SideTold D E C
+side_told access seen faults clashes first tells ahead = record {
+  access = access;
+  files = λ files. dump_files (seen files) (faults files) (clashes files) (first files);
+  clock = λ clock. clock_of (tells clock) (ahead clock);
+}
+
+module _ {D E C : Type 0} (told : SideTold D E C) where
+  -- the online database, by what the main thread has
+  abbrev pub database_at : MainSide D E C → DatabaseStage
+  database_at side =
+      record { access = told.access side.access; files = told.files side.files; replies = side.replies.replies }
+
+  -- the stage of a session that is not open, and that of an open one
+  abbrev pub stage_unopened : (quota : ℕ) → Declared → MainSide D E C → Stage
+  stage_unopened quota declared side = unopened_stage quota declared (database_at side) (told.clock side.clock)
+
+  abbrev pub stage_open : DeclaredLists → RunsSeen → MainSide D E C → Stage
+  stage_open lists runs side = open_stage (declared_by lists) (database_at side) (told.clock side.clock) runs
+
+-- Lines.
+
+-- Where the lines of a script stand: what is left of the script, what was written so far, what its reader has, whether the line
+-- that was read is the last, which lines were refused, and how many were answered.
+pub record ScriptAt : Type 0 where
+  pub left : Option (List ℕ)
+  pub written : Option (List ℕ)
+  pub reading : Reading
+  pub last : Bool
+  pub refusals : Refusals
+  pub number : ℕ
+
+-- the same, in this order
+abbrev pub script_at : (left written : Option (List ℕ)) → Reading → (last : Bool) → Refusals → (number : ℕ) → ScriptAt
+script_at left written reading last refusals number =
+    record { left = left; written = written; reading = reading; last = last; refusals = refusals; number = number }
+
+-- The lines up to the first start were played, or all of them, of a session in which nothing was declared before.
+abbrev pub PlaysFirst : {D E C : Type 0} (told : SideTold D E C) (access : DatabaseAccess) (files : E) (clock : C)
+    (source written : Option (List ℕ)) → PlayEnd → (behind : ScriptAt) (quota : ℕ) → Declared → MainSide D E C → Type 0
+PlaysFirst told access files clock source written end behind quota declared side =
+    PlaysTo DoesScriptLine BreaksScriptLine opens_session (first_stage access (told.files files) (told.clock clock)) source written
+    end behind.left behind.written behind.reading behind.last (stage_unopened told quota declared side) behind.refusals behind.number
+
+-- A script that began so was played to its end.
+abbrev pub FinishedAt : (first : Stage) (source written : Option (List ℕ)) (ending : Ending) (closing : Option Halt)
+    (behind : ScriptAt) (final : Stage) → Type 0
+FinishedAt first source written ending closing behind final =
+    Finished DoesScriptLine BreaksScriptLine ClosesScript GivesUp first ending closing source behind.left written behind.written
+    final behind.refusals
+
+-- From the line that was read on, a script is played to its end, however it began.
+abbrev pub FinishesLine : (at behind : ScriptAt) (now final : Stage) (ending : Ending) (closing : Option Halt) → Type 0
+FinishesLine at behind now final ending closing =
+    (first : Stage) (source written : Option (List ℕ)) →
+    HasLine DoesScriptLine BreaksScriptLine first source at.left written at.written at.reading at.last now at.refusals at.number →
+    FinishedAt first source written ending closing behind final
+
+-- The same of the first start, which opens the session.
+abbrev pub FinishesOpening : (at behind : ScriptAt) (now final : Stage) (ending : Ending) (closing : Option Halt) → Type 0
+FinishesOpening at behind now final ending closing =
+    (first : Stage) (source written : Option (List ℕ)) →
+    OpensAt DoesScriptLine BreaksScriptLine opens_session first source at.left written at.written at.reading at.last now
+    at.refusals at.number →
+    FinishedAt first source written ending closing behind final
+
+-- An open session was played from the line that opened it to the end of its script, and its engine was closed by the main
+-- thread's last call there: these are the records of its runs, and the main thread's own calls on the engine.
+pub record PlaysOpen {D E C : Type 0} (told : SideTold D E C) (lists : DeclaredLists) (runs : RunsSeen)
+    (before after : MainSide D E C) (at behind : ScriptAt) (ending : Ending) (closing : Option Halt)
+    (records : List RunRecord) (own : List EngineEntry) : Type 0 where
+  pub last : RunsSeen
+  pub records_are : records ≡ last.runs
+  pub own_are : own ≡ closing_calls last.main.own
+  pub knows : KnowsRuns last
+  pub finishes : FinishesLine at behind (stage_open told lists runs before) (stage_open told lists last after) ending closing

@@ -1,0 +1,53 @@
+-- What every line of a script keeps of an open session.
+use Rattle.std.specs.Prelude.{◌≡◌, true, List, ◌++◌, Option, Some, None, ⊤}
+use Rattle.std.specs.List.{AllByRecursion}
+use Rattle.transitions.specs.declared.entry.EngineEntry.{EngineEntry}
+use Rattle.odb_watch.specs.declared.entry.WatchEntry.{WatchEntry}
+use Rattle.odb_port.specs.DatabasePorts.{own_watched}
+use Rattle.session_engine.specs.MainKnowledge.{known_from}
+use Rattle.session_engine.specs.MainSeats.{StandsFree}
+use Rattle.session_engine.specs.Members.{registrations}
+use Rattle.session_setup.specs.Setup.{Declared}
+use Rattle.session_runs.specs.KeptRuns.{IsInStep, RunsSeen, channels_of}
+use Rattle.session_runs.specs.RunsFit.{RunsFit, SteersEngine}
+use Rattle.session_lines.specs.Stages.{Stage, analyzer_names, front_names, members_declared}
+use Rattle.watch_commands.specs.WatchSpares.{SparesWatched}
+
+-- The main thread keeps the names of the declared front-ends, the declared channels and the names of the declared analyzers; it
+-- registered the members on the engine, and made transitions behind that; and the records of the runs fit its calls on the engine
+-- and on the database.
+pub record RunsKept (declared : Declared) (database : List WatchEntry) (runs : RunsSeen) : Type 0 where
+  pub opened : declared.opened ≡ true
+  pub fronts : runs.fronts ≡ front_names declared
+  pub channels : runs.channels ≡ channels_of declared.channels
+  pub analyzers : runs.analyzers ≡ analyzer_names declared
+  pub later : List EngineEntry
+  pub begins : runs.main.own ≡ registrations 0 (members_declared declared) ++ later
+  pub steers : AllByRecursion SteersEngine later
+  pub fit : RunsFit runs database
+
+abbrev pub MayKeep : Declared → List WatchEntry → Option RunsSeen → Type 0
+MayKeep declared database None = ⊤
+MayKeep declared database (Some runs) = RunsKept declared database runs
+
+-- That holds where a session is open.
+abbrev pub StageKept : Stage → Type 0
+StageKept s = MayKeep s.declared (own_watched s.database.access) s.runs
+
+-- By its own calls the main thread stands between two transitions, and a run is on exactly where the engine's state is not
+-- stopped.
+pub record KnowsRuns (runs : RunsSeen) : Type 0 where
+  pub step : IsInStep runs.on (known_from runs.main.own)
+  pub free : StandsFree runs.main.own
+
+-- Where it knows that behind a script, no run is on.
+abbrev pub EndsOver : Stage → Type 0
+EndsOver s = (last : RunsSeen) → s.runs ≡ Some last → KnowsRuns last → last.on ≡ None
+
+-- these calls remove nothing of `/Runinfo`
+abbrev pub AllSpare : List WatchEntry → Type 0
+AllSpare calls = AllByRecursion SparesWatched calls
+
+-- No call of the main thread on the database does.
+abbrev pub StageSpares : Stage → Type 0
+StageSpares s = AllSpare (own_watched s.database.access)

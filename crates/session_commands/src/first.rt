@@ -1,0 +1,104 @@
+// The lines of a script before a first start.
+ghost use Rattle.std.specs.Prelude.{◌≡◌, false, None};
+ghost use Rattle.daq_types.specs.Callers.{main_caller};
+ghost use Rattle.turn_lock.specs.Passes.{number_of, seen_by, held_by, IsOf};
+ghost use Rattle.odb_lock.specs.SharedOdbs.{odb_lock_of};
+ghost use Rattle.odb_lock.specs.SharedAccesses.{access_by_pass, odb_identity, shared_access};
+ghost use Rattle.odb_port.specs.DatabasePorts.{IsSamePort};
+ghost use Rattle.odb_script.specs.Lines.{no_line_read};
+ghost use Rattle.session_setup.specs.Setup.{nothing_declared};
+ghost use Rattle.script_desk.specs.Endings.{SinkCounts, SourceCounts};
+ghost use Rattle.script_desk.specs.Playing.{FitsOn};
+ghost use Rattle.session_commands.specs.Finishing.{PlaysFirst, script_at, side_told};
+
+use crate::lasting::LastingPort;
+use crate::side::MainSide;
+use crate::unopened::Unopened;
+use daq_io::{Clock, Files, Sink, Source};
+use database_desk::DatabaseDesk;
+use database_files::FileReplies;
+use odb_lock::{OdbPass, SharedAccess, SharedOdb};
+use odb_tree::Database;
+use script_desk::{Desk, PlayEnd, play_script};
+use session_setup::Declarations;
+use std::alloc::Global;
+use std::sync::Wait;
+
+/// What the lines before a first start came to, and what the main thread has then.
+#[derive(Drop)]
+pub struct FirstEnd<D: LastingPort, E: Files, C: Clock> {
+    pub end: PlayEnd,
+    /// How many events each front-end has to send in the runs to come.
+    pub quota: u32,
+    pub declarations: Declarations,
+    pub side: MainSide<D, E, C>,
+}
+
+/// Plays the lines of a script up to its first start, or to its end.
+pub fn play_first<'a, R: Wait, D: Database, S: Source, O: Sink, E: Files, C: Clock>(
+    rt: &R,
+    alloc: Global,
+    shared: &'a SharedOdb<D>,
+    main: OdbPass<D>,
+    declarations: Declarations,
+    files: E,
+    clock: C,
+    desk: &mut Desk,
+    src: &mut S,
+    out: &mut O,
+) -> FirstEnd<SharedAccess<'a, D>, E, C>
+    requires main { number_of main ≡ main_caller }
+    requires own { IsOf (odb_lock_of shared.now) main }
+    requires idle { held_by main ≡ None }
+    requires nothing { declarations ≡ nothing_declared }
+    requires unread { desk.old.reader ≡ no_line_read }
+    requires none { desk.old.refusals ≡ record { count = 0; first = 0 } }
+    requires zero { desk.old.number ≡ 0 }
+    ensures played { PlaysFirst
+        (side_told access_by_pass E.seen E.faults E.clashes E.first C.tells C.ahead)
+        (shared_access (odb_identity shared.now) main_caller (seen_by main)) files clock
+        (S.left src.old) (O.written out.old) result.end
+        (script_at (S.left src.new) (O.written out.new) desk.new.reader desk.new.last
+        desk.new.refusals desk.new.number) result.quota result.declarations result.side }
+    ensures fits { FitsOn result.end desk.new.number desk.new.reader.taken }
+    ensures source { SourceCounts result.end (S.faults src.old) (S.faults src.new) }
+    ensures sink { SinkCounts result.end (O.faults out.old) (O.faults out.new) }
+    ensures same { IsSamePort
+        (shared_access (odb_identity shared.now) main_caller (seen_by main))
+        (access_by_pass result.side.access) }
+    ensures closed { result.declarations.opened ≡ false }
+{
+    let mut unopened = Unopened {
+        quota: 0,
+        declarations,
+        database: DatabaseDesk {
+            access: SharedAccess::new(shared, main),
+            files,
+            replies: FileReplies::empty(alloc),
+        },
+        clock,
+    };
+    let end = play_script(rt, alloc, desk, &mut unopened, src, out);
+    let Unopened {
+        quota,
+        declarations,
+        database,
+        clock,
+    } = unopened;
+    let DatabaseDesk {
+        access,
+        files,
+        replies,
+    } = database;
+    FirstEnd {
+        end,
+        quota,
+        declarations,
+        side: MainSide {
+            access,
+            files,
+            replies,
+            clock,
+        },
+    }
+}

@@ -1,0 +1,62 @@
+//! What the lines of a script say together. Each function does nothing, and its contract is the law.
+ghost use Rattle.std.specs.Prelude.{◌≡◌, ℕ, List, Option, None};
+ghost use Rattle.script_desk.specs.declared.endings.Ending.{Ending};
+ghost use Rattle.script_desk.specs.declared.endings.Ending.TheVariants.{Halted};
+ghost use Rattle.script_desk.specs.declared.halts.Halt.{Halt};
+ghost use Rattle.script_desk.specs.declared.halts.Halt.TheVariants.{NoMemory as no_memory};
+ghost use Rattle.script_desk.specs.Playing.{Played};
+ghost use Rattle.script_desk.specs.Closing.{Finished};
+ghost use Rattle.session_replies.specs.declared.refusals.Refusals.{Refusals as Refused};
+ghost use Rattle.session_lines.specs.Stages.{Stage};
+ghost use Rattle.session_lines.specs.RunLines.{CutsOpening, OpensSession};
+ghost use Rattle.session_lines.specs.ScriptLines.{BreaksScriptLine, ClosesScript, DoesScriptLine, GivesUp};
+ghost use Rattle.session_commands.specs.Finishing.{FinishesLine, FinishesOpening, ScriptAt};
+ghost use Rattle.session_commands.specs.KeptByScripts.{KeptByScript};
+
+use crate::unopened::Unopened;
+use daq_io::{Clock, Files};
+use odb_commands::laws::calls_spare_runinfo;
+use odb_lock::{SharedAccess, SharedOdb};
+use odb_port::laws::{calls_add_up, entries_add_up};
+use odb_runinfo::laws::own_calls_spare;
+use odb_tree::Database;
+use script_desk::laws::lines_end;
+use session_lines::PassedOver;
+use session_runs::laws::{commands_fit, runs_fit};
+use watch_commands::laws::watch_commands_spare_runinfo;
+
+/// What the first start does once its session is open it does from where the session was not open. Where there is no memory to
+/// open it, the script ended there. And behind a script that opened no session nothing is done.
+pub fn first_start_opens<'a, D: Database, E: Files, C: Clock>(_shared: &'a SharedOdb<D>)
+    ensures ready { (at behind : ScriptAt) (now ready final : Stage) (ending : Ending)
+        (closing : Option Halt) → OpensSession now ready
+        → FinishesLine at behind ready final ending closing
+        → FinishesOpening at behind now final ending closing }
+    ensures cut { (at : ScriptAt) (now new : Stage) → CutsOpening now new
+        → FinishesOpening at at now new (Halted no_memory) None }
+    ensures unopened { (first now : Stage) (ending : Ending)
+        (source left told_first told : Option (List ℕ)) (refusals : Refused)
+        → Played DoesScriptLine BreaksScriptLine first ending source left told_first told now
+        refusals → now.runs ≡ None
+        → Finished DoesScriptLine BreaksScriptLine ClosesScript GivesUp first ending None source
+        left told_first told now refusals }
+{
+    lines_end::<Unopened<SharedAccess<'a, D>, E, C>>();
+}
+
+/// What a script that was played to its end keeps of its session.
+pub fn scripts_keep()
+    ensures { (first final : Stage) (ending : Ending) (closing : Option Halt)
+        (source left told_first told : Option (List ℕ)) (refusals : Refused)
+        → (finished : Finished DoesScriptLine BreaksScriptLine ClosesScript GivesUp first ending
+        closing source left told_first told final refusals)
+        → KeptByScript finished.lines ending closing first final }
+{
+    commands_fit::<PassedOver>();
+    runs_fit();
+    entries_add_up();
+    calls_add_up();
+    calls_spare_runinfo();
+    watch_commands_spare_runinfo();
+    own_calls_spare();
+}

@@ -1,0 +1,25 @@
+//! The lines of a script in a session: before the first start, where they declare what the session has, and behind it, where its
+//! members have their turns; and what a whole script keeps.
+#![tactic(auto)]
+
+mod commands;
+mod crew_end;
+mod declaring;
+mod first;
+mod keys;
+mod lasting;
+pub mod laws;
+mod main_play;
+mod opened;
+mod replying;
+mod script;
+mod side;
+mod unopened;
+
+pub use crew_end::{CrewEnd, play_crew};
+pub use first::{FirstEnd, play_first};
+pub use keys::make_keys;
+pub use lasting::LastingPort;
+pub use main_play::{MainEnd, MainPlay};
+pub use script::Script;
+pub use side::MainSide;

@@ -1,0 +1,112 @@
+// The main thread's part of an open session: the lines of its script, and the close of its engine.
+ghost use Rattle.std.specs.Prelude.{◌≡◌, ◌≤◌, ◌+◌};
+ghost use Rattle.daq_types.specs.Callers.{main_caller};
+
+use crate::lasting::LastingPort;
+use crate::opened::Opened;
+use crate::script::Script;
+use crate::side::MainSide;
+use daq_io::{Clock, Files, Sink, Source};
+use daq_types::Journal;
+use database_desk::DatabaseDesk;
+use member_threads::Playing;
+use run_records::RunRecord;
+use script_desk::{Ending, Halt, play_out};
+use session_engine::Rounds;
+use session_runs::Runs;
+use session_setup::DeclaredLists;
+use std::alloc::Global;
+use std::sync::Wait;
+use transition_lock::EnginePass;
+
+/// All that the main thread of an open session calls, where a line of its script was read that is not answered yet.
+#[derive(Drop)]
+pub struct MainPlay<'a, S: Source, O: Sink, D: LastingPort, E: Files, C: Clock> {
+    pub alloc: Global,
+    /// What was declared.
+    pub lists: &'a DeclaredLists,
+    pub runs: Runs<'a>,
+    pub side: MainSide<D, E, C>,
+    pub script: Script<S, O>,
+    ghost fits: { script.desk.number + 1 ≤ script.desk.reader.taken },
+    ghost caller: { (D.access side.access).caller ≡ main_caller },
+}
+
+/// What the lines of an open session came to, and what its main thread has then.
+#[derive(Drop)]
+pub struct MainEnd<S: Source, O: Sink, D: LastingPort, E: Files, C: Clock> {
+    pub ending: Ending,
+    /// What failed behind the lines.
+    pub closing: Option<Halt>,
+    /// The main thread's pass of the engine, by which this is closed.
+    pub main: EnginePass,
+    pub records: Journal<RunRecord>,
+    pub side: MainSide<D, E, C>,
+    pub script: Script<S, O>,
+}
+
+impl<'a, S: Source, O: Sink, D: LastingPort, E: Files, C: Clock> Playing
+    for MainPlay<'a, S, O, D, E, C> {
+    ghost use Rattle.script_desk.specs.Closing.{EndCounts};
+    ghost use Rattle.session_commands.specs.Finishing.{script_at, side_told};
+    ghost use Rattle.session_commands.specs.MainEnds.{MainEnds};
+
+    type Played = MainEnd<S, O, D, E, C>;
+
+    ghost plays = { λ main end. MainEnds
+        (side_told D.access E.seen E.faults E.clashes E.first C.tells C.ahead)
+        main.lists.now main.runs main.side end.side
+        (script_at (S.left main.script.src) (O.written main.script.out) main.script.desk.reader
+        main.script.desk.last main.script.desk.refusals main.script.desk.number)
+        (script_at (S.left end.script.src) (O.written end.script.out) end.script.desk.reader
+        end.script.desk.last end.script.desk.refusals end.script.desk.number)
+        end.ending end.closing end.records end.main
+        × EndCounts end.ending end.closing (S.faults main.script.src) (S.faults end.script.src)
+        (O.faults main.script.out) (O.faults end.script.out) };
+
+    /// From the line that was read to the end of the script. The engine is closed behind that.
+    fn play<R: Wait, M: Rounds>(self, rt: &R, members: M) -> (MainEnd<S, O, D, E, C>, M) {
+        let mut opened = Opened {
+            runs: self.runs,
+            crew: members,
+            database: DatabaseDesk {
+                access: self.side.access,
+                files: self.side.files,
+                replies: self.side.replies,
+            },
+            clock: self.side.clock,
+            lists: self.lists,
+            begun: false,
+        };
+        let Script {
+            mut desk,
+            mut src,
+            mut out,
+        } = self.script;
+        let (ending, closing) = play_out(
+            rt,
+            self.alloc,
+            &mut desk,
+            &mut opened,
+            &mut src,
+            &mut out,
+        );
+        opened.runs.on();
+        let (seat, records) = opened.runs.into_parts();
+        seat.state();
+        let end = MainEnd {
+            ending,
+            closing,
+            main: seat.close(rt),
+            records,
+            side: MainSide {
+                access: opened.database.access,
+                files: opened.database.files,
+                replies: opened.database.replies,
+                clock: opened.clock,
+            },
+            script: Script { desk, src, out },
+        };
+        (end, opened.crew)
+    }
+}

@@ -1,0 +1,187 @@
+// The replies to the commands of runs, with the names that were declared and what the records keep.
+ghost use Rattle.std.specs.Prelude.{◌≡◌, ◌≢◌, ◌++◌, ◌∷◌, [], ℕ, map, slice_get, IfOk, OnErr};
+ghost use Rattle.std.specs.Option.{unwrap_or};
+ghost use Rattle.mid_logger.specs.ChannelTurns.{logger_name};
+ghost use Rattle.session_lines.specs.RunLines.{fronts_in, files_in, reports_in, last_record, member_name, reply_for, report_line, sent_line};
+
+use daq_types::{BoundedList, Bytes, Name, NoMemory};
+use run_records::{
+    FileRecord, FileRecords, FrontTally, ReportLine, ReportLines, ReportTally, RunRecord, SentLine,
+    SentLines,
+};
+use session_replies::Reply;
+use session_runs::{RunReply, Runs};
+use std::alloc::Global;
+
+/// The name of the logger.
+fn logger_name() -> Name
+    ensures { result ≡ logger_name }
+{
+    match Name::new(b"Logger") {
+        Ok(name) => name,
+        Err(_) => unreachable!(),
+    }
+}
+
+/// The name of the client at this place behind the front-ends: of the logger, or of an analyzer behind it.
+fn name_behind(analyzers: &[Name], place: usize) -> Name
+    ensures { result ≡ unwrap_or (slice_get (logger_name ∷ analyzers.now) place) logger_name }
+{
+    if place == 0 {
+        return logger_name();
+    }
+    match analyzers.get(place - 1) {
+        Some(name) => *name,
+        None => logger_name(),
+    }
+}
+
+/// The name of a client.
+fn member_name(fronts: &[Name], analyzers: &[Name], client: u32) -> Name
+    ensures { result ≡ member_name fronts.now analyzers.now client }
+{
+    let client = client as usize;
+    if client < fronts.len() {
+        return fronts[client];
+    }
+    name_behind(analyzers, client - fronts.len())
+}
+
+/// What the console tells of the front-ends.
+fn sent_lines(
+    alloc: Global,
+    fronts: &[Name],
+    analyzers: &[Name],
+    tallies: &[FrontTally],
+) -> Result<SentLines, NoMemory>
+    ensures { IfOk result (λ lines. lines ≡ map (sent_line fronts.now analyzers.now) tallies.now) }
+{
+    let mut lines = BoundedList::new(alloc)?;
+    for tally in tallies {
+        lines.try_push(SentLine {
+            name: member_name(fronts, analyzers, tally.client),
+            sent: tally.sent,
+        })?;
+    }
+    Ok(lines)
+}
+
+/// The files of a record once more.
+fn copied_files(alloc: Global, files: &[FileRecord]) -> Result<FileRecords, NoMemory>
+    ensures { IfOk result (λ copied. copied ≡ files.now) }
+{
+    let mut copied = BoundedList::new(alloc)?;
+    for file in files {
+        copied.try_push(*file)?;
+    }
+    Ok(copied)
+}
+
+/// A name with a blank behind it.
+fn line_start(alloc: Global, name: &[u8]) -> Result<Bytes, NoMemory>
+    ensures { IfOk result (λ start. start ≡ name.now ++ 32 ∷ []) }
+{
+    let mut start = Vec::new(alloc);
+    start.extend_from_slice(name)?;
+    start.push(b' ')?;
+    Ok(Bytes::of(start))
+}
+
+/// What the console tells of an analyzer.
+fn report_line(
+    alloc: Global,
+    fronts: &[Name],
+    analyzers: &[Name],
+    tally: &ReportTally,
+) -> Result<ReportLine, NoMemory>
+    ensures { IfOk result (λ line. line ≡ report_line fronts.now analyzers.now tally.now) }
+{
+    let name = member_name(fronts, analyzers, tally.client);
+    let start = line_start(alloc, name.as_slice())?;
+    let report = tally.report.copied(alloc)?;
+    Ok(ReportLine { start, report })
+}
+
+/// What it tells of the analyzers.
+fn report_lines(
+    alloc: Global,
+    fronts: &[Name],
+    analyzers: &[Name],
+    tallies: &[ReportTally],
+) -> Result<ReportLines, NoMemory>
+    ensures { IfOk result (λ lines. lines
+        ≡ map (report_line fronts.now analyzers.now) tallies.now) }
+{
+    let mut lines = BoundedList::new(alloc)?;
+    for tally in tallies {
+        let line = report_line(alloc, fronts, analyzers, tally)?;
+        lines.try_push(line)?;
+    }
+    Ok(lines)
+}
+
+/// The reply to a stop of the run of this number, of which these are the records.
+fn stop_reply(
+    alloc: Global,
+    fronts: &[Name],
+    analyzers: &[Name],
+    records: &[RunRecord],
+    run: u32,
+) -> Result<Reply, NoMemory>
+    ensures { IfOk result (λ reply. reply ≡ Reply.Stopped run
+        (map (sent_line fronts.now analyzers.now) (fronts_in (last_record records.now)))
+        (files_in (last_record records.now))
+        (map (report_line fronts.now analyzers.now) (reports_in (last_record records.now)))) }
+{
+    let Some(record) = records.last() else {
+        let fronts = BoundedList::new(alloc)?;
+        let files = BoundedList::new(alloc)?;
+        let reports = BoundedList::new(alloc)?;
+        return Ok(Reply::Stopped {
+            run,
+            fronts,
+            files,
+            reports,
+        });
+    };
+    let reports = report_lines(alloc, fronts, analyzers, record.reports.as_slice())?;
+    let fronts = sent_lines(alloc, fronts, analyzers, record.fronts.as_slice())?;
+    let files = copied_files(alloc, record.files.as_slice())?;
+    Ok(Reply::Stopped {
+        run,
+        fronts,
+        files,
+        reports,
+    })
+}
+
+/// The reply to a command of runs by which no run was stopped, behind which these are kept.
+pub fn plain_reply(runs: &Runs<'_>, answer: RunReply) -> Reply
+    requires { (run : ℕ) → answer ≢ RunReply.Stopped run }
+    ensures { result ≡ reply_for runs.now answer }
+{
+    match answer {
+        RunReply::WrongState { state } => Reply::WrongState { state },
+        RunReply::LastStart => Reply::LastStart,
+        RunReply::RunNumber { have } => Reply::RunNumber { have },
+        RunReply::StartRefused { client, why } => {
+            let client = member_name(runs.fronts(), runs.analyzers(), client);
+            Reply::StartRefused { client, why }
+        }
+        RunReply::Started { run } => Reply::Started { run },
+        RunReply::Paused { run } => Reply::Paused { run },
+        RunReply::Resumed { run } => Reply::Resumed { run },
+        RunReply::Stopped { .. } => unreachable!(),
+    }
+}
+
+/// The reply to a command of runs, behind which these are kept.
+pub fn reply_for(alloc: Global, runs: &Runs<'_>, answer: RunReply) -> Result<Reply, NoMemory>
+    ensures reply { IfOk result (λ reply. reply ≡ reply_for runs.now answer) }
+    ensures stopped { OnErr result ((run : ℕ) × (answer ≡ RunReply.Stopped run)) }
+{
+    if let RunReply::Stopped { run } = answer {
+        return stop_reply(alloc, runs.fronts(), runs.analyzers(), runs.records(), run);
+    }
+    Ok(plain_reply(runs, answer))
+}

@@ -1,0 +1,153 @@
+// A session that no start opened yet.
+ghost use Rattle.std.specs.Prelude.{◌≡◌, false, None};
+
+use crate::declaring::{declare_analyzer, declare_buffer, declare_channel, declare_front};
+use crate::lasting::LastingPort;
+use daq_io::{Clock, Files};
+use daq_types::{NoMemory, RunState};
+use database_desk::DatabaseDesk;
+use odb_script::{Command, LineRefusal};
+use script_desk::Answerer;
+use session_replies::Reply;
+use session_setup::Declarations;
+use std::alloc::Global;
+use std::sync::Wait;
+
+/// A session that no start opened yet: what is declared so far, and the online database.
+#[derive(Drop)]
+pub struct Unopened<D: LastingPort, E: Files, C: Clock> {
+    /// How many events each front-end has to send in the runs to come.
+    pub quota: u32,
+    pub declarations: Declarations,
+    pub database: DatabaseDesk<D, E>,
+    pub clock: C,
+    ghost closed: { declarations.opened ≡ false },
+}
+
+impl<D: LastingPort, E: Files, C: Clock> Answerer for Unopened<D, E, C> {
+    ghost use Rattle.session_lines.specs.Stages.{Stage, unopened_stage};
+    ghost use Rattle.session_lines.specs.ScriptLines.{BreaksScriptLine, ClosesScript, DoesScriptLine, GivesUp, opens_session};
+    ghost use Rattle.database_desk.specs.DatabaseStages.{database_stage};
+    ghost use Rattle.session_runs.specs.RunAnswers.{clock_of};
+    ghost use Rattle.odb_port.specs.DatabasePorts.{IsSamePort};
+    ghost use Rattle.std.proofs.Common.{refl, ◌∙◌};
+
+    ghost Stage = { Stage };
+
+    ghost stage = { λ s. unopened_stage s.quota s.declarations
+        (database_stage (D.access s.database.access) (E.seen s.database.files)
+        (E.faults s.database.files) (E.clashes s.database.files) (E.first s.database.files)
+        s.database.replies.replies)
+        (clock_of (C.tells s.clock) (C.ahead s.clock)) };
+
+    ghost leaves = { opens_session };
+
+    ghost does = { DoesScriptLine };
+
+    ghost breaks = { BreaksScriptLine };
+
+    ghost closes = { ClosesScript };
+
+    ghost gives_up = { GivesUp };
+
+    ghost stays = { λ a b. IsSamePort (D.access a.database.access)
+        (D.access b.database.access) };
+
+    /// The first start is left to the session that it opens.
+    fn is_left(&self, line: &Result<Command<'_>, LineRefusal>) -> bool {
+        matches!(line, Ok(Command::Start))
+    }
+
+    fn answer<R: Wait>(
+        &mut self,
+        rt: &R,
+        alloc: Global,
+        number: u64,
+        line: Result<Command<'_>, LineRefusal>,
+    ) -> Result<Reply, NoMemory> {
+        let command = match line {
+            Ok(command) => command,
+            Err(LineRefusal::BadCommand { at }) => return Ok(Reply::BadCommand { at }),
+        };
+        match command {
+            Command::Nothing | Command::Exit => Ok(Reply::Silent),
+            Command::Buffer { name, size } => {
+                let reply = declare_buffer(&mut self.declarations, name.as_slice(), size);
+                Ok(reply)
+            }
+            Command::Equip {
+                name,
+                id,
+                mask,
+                buffer,
+                limit,
+            } => {
+                let reply = declare_front(
+                    &mut self.declarations,
+                    name.as_slice(),
+                    id,
+                    mask,
+                    buffer.as_slice(),
+                    limit,
+                );
+                Ok(reply)
+            }
+            Command::Channel {
+                number,
+                pattern,
+                buffer,
+                id,
+                mask,
+            } => {
+                let reply = declare_channel(
+                    &mut self.declarations,
+                    number,
+                    pattern.as_slice(),
+                    buffer.as_slice(),
+                    id,
+                    mask,
+                );
+                Ok(reply)
+            }
+            Command::Analyzer {
+                name,
+                buffer,
+                id,
+                mask,
+                kind,
+            } => {
+                let reply = declare_analyzer(
+                    &mut self.declarations,
+                    name.as_slice(),
+                    buffer.as_slice(),
+                    id,
+                    mask,
+                    kind,
+                );
+                Ok(reply)
+            }
+            Command::Events { count } => {
+                self.quota = count;
+                Ok(Reply::Silent)
+            }
+            Command::Start => unreachable!(),
+            Command::Stop | Command::Pause | Command::Resume => Ok(Reply::WrongState {
+                state: RunState::Stopped,
+            }),
+            command => self.database.answer(rt, alloc, number, &command),
+        }
+    }
+
+    /// There is no run to be stopped.
+    fn close<R: Wait>(&mut self, _rt: &R, _alloc: Global) -> Result<Option<Reply>, NoMemory> {
+        Ok(None)
+    }
+
+    ghost stays_so = { λ a. record { database = refl; caller = refl; undisturbed = refl } };
+
+    ghost stays_on = { λ a b c ab bc. record {
+      database = bc.database ∙ ab.database;
+      caller = bc.caller ∙ ab.caller;
+      undisturbed = bc.undisturbed ∙ ab.undisturbed;
+    } };
+}
