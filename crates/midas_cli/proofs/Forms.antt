@@ -1,5 +1,5 @@
 -- Words of no form.
-use Rattle.std.proofs.Common.{rules, ◌≡◌, ℕ, List, Option, Some, None}
+use Rattle.std.proofs.Common.{◌≡◌, ℕ, List, Option, Some, None}
 use Rattle.command_words.specs.CommandLine.{FormIs, HasForm}
 use Rattle.command_words.specs.declared.forms.Form.{Form}
 

@@ -1,6 +1,7 @@
 -- What a call of a tool comes to.
 use Rattle.std.specs.Prelude.{◌≡◌, ℕ, List, Option, Some}
 use Rattle.daq_io.specs.Seen.{Seen}
+use Rattle.daq_io.specs.declared.objects.Outside.{Outside}
 use Rattle.midas_cli.specs.declared.causes.Cause.{Cause}
 use Rattle.midas_cli.specs.declared.causes.Cause.TheVariants as causes
 use Rattle.midas_tools.specs.Analyses.{Analyzes}
@@ -34,6 +35,18 @@ pub record CallCounts : Type 0 where
   pub files_new : ℕ
   pub clashes_old : ℕ
   pub clashes_new : ℕ
+
+-- the same, of what the sink and the run files of an outside count
+abbrev pub call_counts : {S K F E C P : Type 0} → (sink_faults : K → ℕ) → (faults clashes : F → ℕ) →
+    (before after : Outside S K F E C P) → CallCounts
+call_counts sink_faults faults clashes before after = record {
+  sink_old = sink_faults before.out;
+  sink_new = sink_faults after.out;
+  files_old = faults before.run_files;
+  files_new = faults after.run_files;
+  clashes_old = clashes before.run_files;
+  clashes_new = clashes after.run_files;
+}
 
 -- A tool was run on the file of this name, and this is its cause.
 pub record ToolRan (tool : Tool) (seen : Seen) (name : List ℕ) (told_old told_new : Option (List ℕ)) (counts : CallCounts) (first : Option (List ℕ)) (cause : Cause) : Type 0 where

@@ -10,6 +10,6 @@ mod top;
 mod usage;
 
 pub use causes::Cause;
-pub use outcome::Outcome;
+pub use outcome::{Outcome, Summary};
 pub use real::run_program;
 pub use top::midas;

@@ -12,6 +12,12 @@ use std::thread::Threads;
 /// The status where the words find no memory.
 const NO_MEMORY_STATUS: u8 = 5;
 
+/// How many run files are in use at a time, at most: each channel writes one.
+const RUN_FILES: u32 = 16;
+
+/// How many files of the database are in use at a time, at most.
+const DATABASE_FILES: u32 = 1;
+
 /// The real objects: standard input and output, files of the folder in which the program runs, and the system's clock.
 type RealOutside = Outside<
     StdSource<Stdin>,
@@ -48,8 +54,8 @@ fn real_outside(rt: HostRuntime) -> Result<RealOutside, NoMemory> {
     Ok(Outside {
         src: StdSource::new(rt.alloc(), rt.stdin())?,
         out: StdSink::new(rt.stdout()),
-        run_files: StdFiles::new(rt.alloc(), rt, ".")?,
-        odb_files: StdFiles::new(rt.alloc(), rt, ".")?,
+        run_files: StdFiles::new(rt.alloc(), rt, ".", RUN_FILES)?,
+        odb_files: StdFiles::new(rt.alloc(), rt, ".", DATABASE_FILES)?,
         clock: StdClock::new(rt),
         pick: RoundPick::new(),
     })

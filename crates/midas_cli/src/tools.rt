@@ -1,7 +1,7 @@
 ghost use Rattle.std.specs.Prelude.{◌≡◌, ◌≢◌, [], None};
 ghost use Rattle.daq_io.specs.Seen.{Same};
 ghost use Rattle.midas_cli.specs.Outcomes.{status_of};
-ghost use Rattle.midas_cli.specs.Tools.{IsCauseOf, ToolRan, ToolWrites};
+ghost use Rattle.midas_cli.specs.Tools.{IsCauseOf, ToolRan, ToolWrites, call_counts};
 ghost use Rattle.midas_tools.specs.Findings.{ClashCounts, Completes, FilesByEnd, SinkByEnd};
 
 use crate::causes::Cause;
@@ -61,17 +61,8 @@ pub fn run_tool<S, K: Sink, F: Files, E, C, P>(
 ) -> (Outcome, Outside<S, K, F, E, C, P>)
     ensures status { result.0.status ≡ status_of result.0.cause }
     ensures ran { ToolRan call.tool (F.seen outside.run_files) call.name (K.written outside.out)
-        (K.written result.1.out) (record {
-          sink_old = K.faults outside.out;
-          sink_new = K.faults
-              result.1.out;
-          files_old = F.faults outside.run_files;
-          files_new = F.faults
-              result.1.run_files;
-          clashes_old = F.clashes outside.run_files;
-          clashes_new = F.clashes
-              result.1.run_files;
-        }) (F.first result.1.run_files) result.0.cause }
+        (K.written result.1.out) (call_counts K.faults F.faults F.clashes outside result.1)
+        (F.first result.1.run_files) result.0.cause }
     ensures same { Same (F.seen outside.run_files) (F.seen result.1.run_files) }
     ensures session { result.0.session ≡ None }
     ensures file_replies { result.0.file_replies.replies ≡ [] }

@@ -5,16 +5,12 @@ ghost use Rattle.daq_io.specs.Seen.{Same};
 ghost use Rattle.daq_io.specs.Streams.{AppendsPart};
 ghost use Rattle.command_words.specs.CommandLine.{HasForm, IsGenerate, IsOnFile, IsRunWords};
 ghost use Rattle.command_words.specs.declared.forms.Tool.{Tool};
-ghost use Rattle.daq_members.specs.Crews.{crew_told};
-ghost use Rattle.daq_session.specs.Environments.{environment_of, run_files_of};
+ghost use Rattle.daq_session.specs.Environments.{outside_told};
 ghost use Rattle.daq_session.specs.Sessions.{RunsScript};
-ghost use Rattle.database_desk.specs.DatabaseStages.{dump_files};
-ghost use Rattle.session_objects.specs.Members.{generator_makes, generator_takes};
-ghost use Rattle.session_runs.specs.RunAnswers.{clock_of};
 ghost use Rattle.daq_session.specs.declared.ends.ScriptEnd.{ScriptEnd};
 ghost use Rattle.midas_cli.specs.Generating.{Generates};
 ghost use Rattle.midas_cli.specs.Outcomes.{script_cause, status_of};
-ghost use Rattle.midas_cli.specs.Tools.{ToolRan};
+ghost use Rattle.midas_cli.specs.Tools.{ToolRan, call_counts};
 ghost use Rattle.midas_cli.specs.Usages.{usage_line};
 
 use crate::causes::Cause;
@@ -33,12 +29,12 @@ use std::thread::Threads;
 /// The program, over all that it touches outside itself, which it hands back.
 pub fn midas<
     R: Threads + Wait + Sync,
-    S: Source,
-    K: Sink,
-    F: Files + Send,
-    E: Files,
-    C: Clock,
-    P: Pick,
+    S: Source + Drop,
+    K: Sink + Drop,
+    F: Files + Drop + Send,
+    E: Files + Drop,
+    C: Clock + Drop,
+    P: Pick + Drop,
     G: Gate + Sync,
 >(
     rt: &R,
@@ -60,17 +56,8 @@ pub fn midas<
     // Every name and byte of the run files stays.
     ensures tool { (tool : Tool) → (name : List ℕ) → IsOnFile tool name words.now
         → ToolRan tool (F.seen outside.run_files) name (K.written outside.out)
-        (K.written result.1.out) (record {
-          sink_old = K.faults outside.out;
-          sink_new = K.faults
-              result.1.out;
-          files_old = F.faults outside.run_files;
-          files_new = F.faults
-              result.1.run_files;
-          clashes_old = F.clashes outside.run_files;
-          clashes_new = F.clashes
-              result.1.run_files;
-        }) (F.first result.1.run_files) result.0.cause
+        (K.written result.1.out) (call_counts K.faults F.faults F.clashes outside result.1)
+        (F.first result.1.run_files) result.0.cause
         ⊎ ((result.0.cause ≡ Cause.NoMemory) × (result.1 ≡ outside)) }
     // The words `gen N`: the script of N is written.
     ensures generated { (number : ℕ) → IsGenerate number words.now → Generates number
@@ -90,23 +77,9 @@ pub fn midas<
     // The words of a session: how the script ended, what it did, and what the record of its session tells of the histories, of
     // the runs and of their files; or nothing was done where the words found no memory.
     ensures ran { IsRunWords words.now → ((end : ScriptEnd) × (result.0.cause ≡ script_cause end)
-        × RunsScript
-        (crew_told generator_takes generator_makes F.seen F.faults F.clashes F.first P.tells P.ahead)
-        (environment_of (S.left outside.src) (S.faults outside.src) (K.written outside.out)
-        (K.faults outside.out)
-        (run_files_of (F.seen outside.run_files) (F.faults outside.run_files)
-        (F.clashes outside.run_files) (F.first outside.run_files))
-        (dump_files (E.seen outside.odb_files) (E.faults outside.odb_files)
-        (E.clashes outside.odb_files) (E.first outside.odb_files))
-        (clock_of (C.tells outside.clock) (C.ahead outside.clock)))
-        (environment_of (S.left result.1.src) (S.faults result.1.src) (K.written result.1.out)
-        (K.faults result.1.out)
-        (run_files_of (F.seen result.1.run_files) (F.faults result.1.run_files)
-        (F.clashes result.1.run_files) (F.first result.1.run_files))
-        (dump_files (E.seen result.1.odb_files) (E.faults result.1.odb_files)
-        (E.clashes result.1.odb_files) (E.first result.1.odb_files))
-        (clock_of (C.tells result.1.clock) (C.ahead result.1.clock)))
-        outside.run_files result.1.run_files end result.0.file_replies.replies result.0.session)
+        × RunsScript (outside_told S.left S.faults K.written K.faults F.seen F.faults F.clashes
+        F.first E.seen E.faults E.clashes E.first C.tells C.ahead P.tells P.ahead) outside result.1
+        end result.0.file_replies.replies result.0.session)
         ⊎ ((result.0.cause ≡ Cause.NoMemory) × (result.0.session ≡ None)
         × (result.0.file_replies.replies ≡ []) × (result.1 ≡ outside)) }
 {

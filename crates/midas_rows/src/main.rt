@@ -2,12 +2,22 @@
 //! run files. All of it is printed.
 #![tactic(auto)]
 
+mod database_rows;
+mod fault_rows;
+mod manners;
+mod meeting;
 mod outsides;
 mod playing;
 mod rows;
+mod session_rows;
 mod telling;
 
-use crate::rows::{ROWS, Row};
+use crate::database_rows::DATABASE_ROWS;
+use crate::fault_rows::FAULT_ROWS;
+use crate::manners::{FIRST_FIRST, OTHERS};
+use crate::meeting::{MeetingGate, add_meeting};
+use crate::rows::Row;
+use crate::session_rows::SESSION_ROWS;
 use crate::telling::{Page, tell_row};
 use daq_io::write_all;
 use daq_std::StdSink;
@@ -22,19 +32,35 @@ const NO_MEMORY: u8 = 5;
 
 const NOT_WRITTEN: u8 = 4;
 
-/// Adds a row, with the first member first in each round, and what comes of it with other members first, where that differs.
+/// Adds a row, with the first member first in each round, and what comes of it where it is played otherwise, if that differs.
 fn add_row<R: Threads + Wait + Sync>(
     rt: &R,
     alloc: Global,
     page: &mut Page,
     row: &Row,
 ) -> Result<(), NoMemory> {
-    let told = tell_row(rt, alloc, row, [].as_slice())?;
-    let other = tell_row(rt, alloc, row, [0, 1, 0, 1].as_slice())?;
+    let gate = MeetingGate::of(0);
+    let told = tell_row(rt, alloc, row, FIRST_FIRST, &gate)?;
     page.extend_from_slice(told.as_slice())?;
-    if told.as_slice() != other.as_slice() {
-        page.extend_from_slice(b"With other members first:\n")?;
-        page.extend_from_slice(other.as_slice())?;
+    for manner in &OTHERS {
+        let other = tell_row(rt, alloc, row, *manner, &gate)?;
+        if manner.tells(row) && told.as_slice() != other.as_slice() {
+            page.extend_from_slice(manner.title().as_bytes())?;
+            page.extend_from_slice(other.as_slice())?;
+        }
+    }
+    Ok(())
+}
+
+/// Adds the rows of a table.
+fn add_table<R: Threads + Wait + Sync>(
+    rt: &R,
+    alloc: Global,
+    page: &mut Page,
+    rows: &[Row],
+) -> Result<(), NoMemory> {
+    for row in rows {
+        add_row(rt, alloc, page, row)?;
     }
     Ok(())
 }
@@ -42,9 +68,10 @@ fn add_row<R: Threads + Wait + Sync>(
 /// All rows.
 fn add_rows<R: Threads + Wait + Sync>(rt: &R, alloc: Global) -> Result<Page, NoMemory> {
     let mut page = Vec::new(alloc);
-    for row in &ROWS {
-        add_row(rt, alloc, &mut page, row)?;
-    }
+    add_table(rt, alloc, &mut page, &SESSION_ROWS)?;
+    add_table(rt, alloc, &mut page, &FAULT_ROWS)?;
+    add_table(rt, alloc, &mut page, &DATABASE_ROWS)?;
+    add_meeting(rt, alloc, &mut page)?;
     Ok(page)
 }
 

@@ -1,21 +1,23 @@
+use crate::meeting::MeetingGate;
 use crate::outsides::MemOutside;
-use daq_mem::NoGate;
 use daq_types::{NoMemory, Words};
-use midas_cli::{Outcome, midas};
+use midas_cli::{Summary, midas};
 use std::alloc::Global;
 use std::sync::Wait;
 use std::thread::Threads;
 
-/// Calls the program with these words.
+/// Calls the program with these words. Its members, where it has some, pass this gate.
 pub fn call<R: Threads + Wait + Sync>(
     rt: &R,
     alloc: Global,
     list: &[&str],
     outside: MemOutside,
-) -> Result<(Outcome, MemOutside), NoMemory> {
+    gate: &MeetingGate,
+) -> Result<(Summary, MemOutside), NoMemory> {
     let mut words = Words::new(alloc);
     for word in list {
         words.add(alloc, word)?;
     }
-    Ok(midas(rt, alloc, &words, outside, &NoGate))
+    let (outcome, outside) = midas(rt, alloc, &words, outside, gate);
+    Ok((outcome.into_summary(), outside))
 }

@@ -1,5 +1,5 @@
-//! The scripts.
-use daq_mem::{FileFail, FileOp};
+//! A script of the table, and what is shown of it.
+use daq_mem::FileFail;
 
 /// A script, the outside that it meets, and what is shown behind it.
 #[derive(Clone, Copy)]
@@ -9,6 +9,8 @@ pub struct Row {
     /// A run file that is there already, and a file of the database: name and text.
     pub run_file: Option<(&'static str, &'static str)>,
     pub dump: Option<(&'static str, &'static str)>,
+    /// How many bytes a file may have.
+    pub room: u64,
     /// Which calls fail: reads of the script and writes of the console, counted from 0, and calls on the files.
     pub source_fails: &'static [u64],
     pub sink_fails: &'static [u64],
@@ -19,14 +21,17 @@ pub struct Row {
     pub dumps: &'static [&'static str],
     /// The words of tools that are called then.
     pub tools: &'static [&'static [&'static str]],
+    /// Whether what comes of it rests on the order in which threads have their turns.
+    pub scheduled: bool,
 }
 
 /// A row of which nothing but the text is shown.
-const PLAIN: Row = Row {
+pub const PLAIN: Row = Row {
     title: "",
     script: "",
     run_file: None,
     dump: None,
+    room: 2000,
     source_fails: &[],
     sink_fails: &[],
     run_fails: &[],
@@ -34,295 +39,12 @@ const PLAIN: Row = Row {
     run_files: &[],
     dumps: &[],
     tools: &[],
+    scheduled: false,
 };
 
 /// The tools on the file of run 1.
-const TOOLS: &[&[&str]] = &[
+pub const TOOLS: &[&[&str]] = &[
     &["check", "run00001.mid"],
     &["dump", "run00001.mid"],
     &["analyze", "run00001.mid"],
-];
-
-/// A dump with older names of types.
-const OLDER: &str = "[/Runinfo]\nState = INT : 1\nOnline Mode = INT : 1\nRun number = INT : 41\n\
-    Transition in progress = INT : 0\nStart time = STRING : [32] Mon Mar  4 10:11:12 2024\n\
-    Start time binary = DWORD : 1709547072\nStop time = STRING : [32] \n\
-    Stop time binary = DWORD : 0\n\n[/Equipment/Trigger/Common]\nEvent ID = WORD : 1\n\
-    Trigger mask = WORD : 0\nBuffer = STRING : [32] SYSTEM\nType = INT : 2\n\
-    Source = INT : 16777215\nFormat = STRING : [8] MIDAS\nEnabled = BOOL : y\n\
-    Read on = INT : 257\nPeriod = INT : 500\nEvent limit = DOUBLE : 0\nHidden = BOOL : n\n\n\
-    [/Equipment/Trigger/Settings]\nGains = FLOAT[2] :\n[0] 1.5\n[1] 2.25\n\
-    Names = STRING[2] :\n[32] ADC left\n[32] ADC right\nDelay = DWORD[3] :\n[0] 10\n[1] 20\n\
-    [2] 30\n";
-
-/// What is saved after it was loaded.
-const SAVED: &str = "[/Runinfo]\nState = INT32 : 1\nRun number = INT32 : 41\n\
-    Start time binary = UINT32 : 1709547072\nStop time binary = UINT32 : 0\n\
-    Online Mode = INT32 : 1\nTransition in progress = INT32 : 0\n\
-    Start time = STRING : [32] Mon Mar  4 10:11:12 2024\nStop time = STRING : [32] \n\n\
-    [/Equipment]\n\n[/Equipment/Trigger]\n\n[/Equipment/Trigger/Common]\n\
-    Event ID = UINT16 : 1\nTrigger mask = UINT16 : 0\nBuffer = STRING : [32] SYSTEM\n\
-    Type = INT32 : 2\nSource = INT32 : 16777215\nFormat = STRING : [8] MIDAS\n\
-    Enabled = BOOL : y\nRead on = INT32 : 257\nPeriod = INT32 : 500\nHidden = BOOL : n\n\n\
-    [/Equipment/Trigger/Settings]\nNames = STRING[2] :\n[32] ADC left\n[32] ADC right\n\
-    Delay = UINT32[3] :\n[0] 10\n[1] 20\n[2] 30\n\n";
-
-/// Settings that were saved.
-const SETTINGS: &str =
-    "[/Runinfo]\nState = INT32 : 1\nRun number = INT32 : 0\nStart time binary = UINT32 : 0\n\
-    Stop time binary = UINT32 : 0\n\n[/Settings]\nName = STRING : [32] Muon decay\n\
-    Thresholds = UINT16[3] :\n[0] 0\n[1] 500\n[2] 0\n\n";
-
-/// The rows.
-pub static ROWS: [Row; 34] = [
-    Row {
-        title: "An empty script",
-        script: "",
-        ..PLAIN
-    },
-    Row {
-        title: "A run of no event",
-        script: "events 0\nstart\nstop\n",
-        run_files: &["run00001.mid"],
-        ..PLAIN
-    },
-    Row {
-        title: "A run of one event, and what the tools say of its file",
-        script: "events 1\nstart\nstop\n",
-        tools: TOOLS,
-        ..PLAIN
-    },
-    Row {
-        title: "A run of three events",
-        script: "events 3\nstart\nstop\n",
-        run_files: &["run00001.mid"],
-        tools: TOOLS,
-        ..PLAIN
-    },
-    Row {
-        title: "Two runs, and the number that the front-end sets",
-        script: "events 1\nstart\nstop\nget \"/Equipment/FE/Events sent\"\nstart\nstop\n",
-        ..PLAIN
-    },
-    Row {
-        title: "Two front-ends",
-        script: "equip A 1 0 SYSTEM\nequip B 2 0 SYSTEM\nevents 1\nstart\nstop\n",
-        tools: &[&["check", "run00001.mid"], &["analyze", "run00001.mid"]],
-        ..PLAIN
-    },
-    Row {
-        title: "Two detectors with a file for each, and declarations that are refused",
-        script: "buffer BUF 4096\nequip A 1 0 SYSTEM\nequip B 2 0 BUF\nequip C 2 0 BUF\n\
-            channel 3 b%05d.mid BUF 65535 65535\nchannel 0 run%05d.mid SYSTEM 65535 65535\n\
-            events 4\nstart\nstop\nbuffer X 256\n",
-        tools: &[&["analyze", "b00001.mid"]],
-        ..PLAIN
-    },
-    Row {
-        title: "A start that is refused for a taken name",
-        script: "start\nget \"/Runinfo/Run number\"\n",
-        run_file: Some(("run00001.mid", "as it was")),
-        run_files: &["run00001.mid"],
-        ..PLAIN
-    },
-    Row {
-        title: "A start that is refused for a limit",
-        script: "equip FE 1 0 SYSTEM 10\nevents 11\nstart\nevents 10\nstart\nstop\n",
-        ..PLAIN
-    },
-    Row {
-        title: "A run that is paused and goes on",
-        script: "events 3\nstart\npause\npause\nget /Runinfo/State\nresume\nstop\n",
-        ..PLAIN
-    },
-    Row {
-        title: "A run that is stopped from a pause",
-        script: "events 5\nstart\npause\nstop\n",
-        run_files: &["run00001.mid"],
-        ..PLAIN
-    },
-    Row {
-        title: "Lines without a run, and one that is no command",
-        script: "stop\npause\nresume\n\nfrob\n",
-        ..PLAIN
-    },
-    Row {
-        title: "A second start, and a run that is still on at the end",
-        script: "start\r\nstart\r\n",
-        ..PLAIN
-    },
-    Row {
-        title: "A script that ends in a run",
-        script: "start\nexit\nfrob\n",
-        ..PLAIN
-    },
-    Row {
-        title: "A read of the script that fails",
-        script: "events 3\nstart\nstop\n",
-        source_fails: &[0],
-        ..PLAIN
-    },
-    Row {
-        title: "A write of the console that fails",
-        script: "events 3\nstart\nstop\n",
-        sink_fails: &[0],
-        tools: &[&["check", "run00001.mid"]],
-        ..PLAIN
-    },
-    Row {
-        title: "An append to a run file that fails",
-        script: "events 3\nstart\nstop\n",
-        run_fails: &[FileFail {
-            op: FileOp::Append,
-            call: 2,
-        }],
-        run_files: &["run00001.mid"],
-        ..PLAIN
-    },
-    Row {
-        title: "A run file that cannot be made",
-        script: "events 1\nstart\nstop\n",
-        run_fails: &[FileFail {
-            op: FileOp::Create,
-            call: 0,
-        }],
-        run_files: &["run00001.mid"],
-        ..PLAIN
-    },
-    Row {
-        title: "A run file that is closed in vain",
-        script: "events 3\nstart\nstop\n",
-        run_fails: &[FileFail {
-            op: FileOp::Close,
-            call: 0,
-        }],
-        tools: &[&["check", "run00001.mid"]],
-        ..PLAIN
-    },
-    Row {
-        title: "A file of a refused start that cannot be removed",
-        script: "equip FE 1 0 SYSTEM 10\nevents 11\nstart\nevents 10\nstart\nstop\n",
-        run_fails: &[FileFail {
-            op: FileOp::Remove,
-            call: 0,
-        }],
-        ..PLAIN
-    },
-    Row {
-        title: "A dump that cannot be written",
-        script: "save a.odb\n",
-        dump_fails: &[FileFail {
-            op: FileOp::Append,
-            call: 0,
-        }],
-        dumps: &["a.odb"],
-        ..PLAIN
-    },
-    Row {
-        title: "A dump and a run file that cannot be written",
-        script: "save a.odb\nevents 3\nstart\nstop\n",
-        run_fails: &[FileFail {
-            op: FileOp::Append,
-            call: 2,
-        }],
-        dump_fails: &[FileFail {
-            op: FileOp::Append,
-            call: 0,
-        }],
-        ..PLAIN
-    },
-    Row {
-        title: "Settings",
-        script: "set \"/runinfo/RUN NUMBER\" 7\nget \"/Runinfo/Run number\"\n\
-            get /Runinfo/State 1\nset /Runinfo/State x\nget /Runinfo\nstart\n",
-        ..PLAIN
-    },
-    Row {
-        title: "Keys",
-        script: "create UINT8 /A/b 2\nset /A/b 1 0xff\nget /A/b\nset /A/b 2 1\nset /A/b 0 256\n\
-            create DIR /A\nrm /Runinfo/State\n",
-        ..PLAIN
-    },
-    Row {
-        title: "Names",
-        script: "create STRING /0123456789012345678901234567890\n\
-            create STRING /01234567890123456789012345678901\nls /A//B\nls\nls /\n",
-        ..PLAIN
-    },
-    Row {
-        title: "The run's parameters",
-        script: "start\nget /Runinfo/State\nget \"/Runinfo/Start time binary\"\nstop\n\
-            get /Runinfo/State\nget \"/Runinfo/Stop time binary\"\n\
-            set \"/Runinfo/Run number\" 2147483647\nstart\nset \"/Runinfo/Run number\" -1\n\
-            start\n",
-        ..PLAIN
-    },
-    Row {
-        title: "A key where the number of events would stand",
-        script: "create UINT32 /Equipment/FE\nevents 1\nstart\nstop\nget /Equipment/FE\n\
-            rm /Equipment\nls /\n",
-        ..PLAIN
-    },
-    Row {
-        title: "A watch",
-        script: "watch /B\ncreate UINT32 /A/x\nwatch /A\nset /A/x 1\nnotes 0\nset /A/x 2\n\
-            rm /A/x\nnotes 0\nunwatch 0\nnotes 0\n",
-        ..PLAIN
-    },
-    Row {
-        title: "A dump with older names of types",
-        script: "load a.odb\nsave b.odb\nsave b.odb\n",
-        dump: Some(("a.odb", OLDER)),
-        dumps: &["b.odb"],
-        ..PLAIN
-    },
-    Row {
-        title: "A dump that was saved",
-        script: "load a.odb\nsave b.odb\n",
-        dump: Some(("a.odb", SAVED)),
-        dumps: &["b.odb"],
-        ..PLAIN
-    },
-    Row {
-        title: "A dump with a line at fault, and one that is missing",
-        script: "load a.odb\nls /\nload c.odb\n",
-        dump: Some(("a.odb", "[/A]\nx = INT : 5\ny = INT : five\n")),
-        ..PLAIN
-    },
-    Row {
-        title: "Settings that are saved",
-        script: "# Settings of an experiment, saved for the sessions to come\n\
-            create STRING /Settings/Name\nset /Settings/Name \"Muon decay\"\n\
-            create UINT16 /Settings/Thresholds 3\nset /Settings/Thresholds 1 500\n\
-            save settings.odb\n",
-        dumps: &["settings.odb"],
-        ..PLAIN
-    },
-    Row {
-        title: "Settings that are loaded and watched",
-        script: "# A new session with the settings of save_settings.script, and a watch on them\n\
-            load settings.odb\nwatch /Settings\nset /Settings/Thresholds 2 0x2BC\nnotes 0\n\
-            load settings.odb\nnotes 0\nget /Settings/Thresholds\nunwatch 0\n",
-        dump: Some(("settings.odb", SETTINGS)),
-        ..PLAIN
-    },
-    Row {
-        title: "Words that run no script",
-        script: "",
-        tools: &[
-            &["check", "run00001.mid.gz"],
-            &["check", "no.mid"],
-            &["dump", "-"],
-            &["analyze", "no.mid"],
-            &["gen", "000"],
-            &[],
-            &["check"],
-            &["run", "--"],
-            &["run", "--cooperative", "--cooperative"],
-            &["check", "-v"],
-            &["--help"],
-            &["gen", "4294967296"],
-        ],
-        ..PLAIN
-    },
 ];

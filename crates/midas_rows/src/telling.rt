@@ -1,9 +1,11 @@
+use crate::manners::Manner;
+use crate::meeting::MeetingGate;
 use crate::outsides::{MemOutside, console, outside_of};
 use crate::playing::call;
 use crate::rows::Row;
 use daq_mem::MemFiles;
 use daq_types::{FileName, NoMemory};
-use midas_cli::{Cause, Outcome};
+use midas_cli::{Cause, Summary};
 use run_records::RunRecord;
 use std::alloc::Global;
 use std::sync::Wait;
@@ -12,11 +14,8 @@ use std::thread::Threads;
 /// Text.
 pub type Page = Vec<u8>;
 
-/// The words by which a script is played on one thread.
-const RUN: &[&str] = &["run", "--cooperative"];
-
 /// Adds a line.
-fn add_line(page: &mut Page, line: &str) -> Result<(), NoMemory> {
+pub fn add_line(page: &mut Page, line: &str) -> Result<(), NoMemory> {
     page.extend_from_slice(line.as_bytes())?;
     page.extend_from_slice(b"\n")?;
     Ok(())
@@ -73,7 +72,7 @@ fn add_text(alloc: Global, page: &mut Page, files: &MemFiles, name: &str) -> Res
 }
 
 /// Adds the status and the cause of a call of the program.
-fn add_cause(alloc: Global, page: &mut Page, outcome: &Outcome) -> Result<(), NoMemory> {
+fn add_cause(alloc: Global, page: &mut Page, outcome: &Summary) -> Result<(), NoMemory> {
     let status = outcome.status;
     page.extend_from_slice(format!(in alloc; "status {status}: ")?.as_bytes())?;
     match &outcome.cause {
@@ -107,10 +106,10 @@ fn add_record(alloc: Global, page: &mut Page, record: &RunRecord) -> Result<(), 
 }
 
 /// Adds what a call of the program came to: its status, its starts, and the replies of the files of the database.
-fn add_outcome(alloc: Global, page: &mut Page, outcome: &Outcome) -> Result<(), NoMemory> {
+fn add_outcome(alloc: Global, page: &mut Page, outcome: &Summary) -> Result<(), NoMemory> {
     add_cause(alloc, page, outcome)?;
-    if let Some(session) = &outcome.session {
-        for record in session.runs.as_slice() {
+    if let Some(runs) = &outcome.runs {
+        for record in runs.as_slice() {
             add_record(alloc, page, record)?;
         }
     }
@@ -128,7 +127,7 @@ fn add_played(
     alloc: Global,
     page: &mut Page,
     row: &Row,
-    outcome: &Outcome,
+    outcome: &Summary,
     after: &MemOutside,
 ) -> Result<(), NoMemory> {
     add_line(page, format!(in alloc; "== {}", row.title)?.as_str())?;
@@ -148,7 +147,7 @@ fn add_tool(
     alloc: Global,
     page: &mut Page,
     words: &[&str],
-    outcome: &Outcome,
+    outcome: &Summary,
     after: &MemOutside,
 ) -> Result<(), NoMemory> {
     page.extend_from_slice(b"$ midas")?;
@@ -167,27 +166,29 @@ fn add_tools<R: Threads + Wait + Sync>(
     page: &mut Page,
     row: &Row,
     mut outside: MemOutside,
+    gate: &MeetingGate,
 ) -> Result<(), NoMemory> {
     for words in row.tools {
         outside.out = console(alloc, [].as_slice())?;
-        let (outcome, after) = call(rt, alloc, words, outside)?;
+        let (outcome, after) = call(rt, alloc, words, outside, gate)?;
         add_tool(alloc, page, words, &outcome, &after)?;
         outside = after;
     }
     Ok(())
 }
 
-/// What the script of a row came to, and what the tools then say.
+/// What the script of a row came to that is played so, by members that pass this gate, and what the tools then say.
 pub fn tell_row<R: Threads + Wait + Sync>(
     rt: &R,
     alloc: Global,
     row: &Row,
-    picks: &[u32],
+    manner: Manner,
+    gate: &MeetingGate,
 ) -> Result<Page, NoMemory> {
     let mut page = Vec::new(alloc);
-    let outside = outside_of(alloc, row, picks)?;
-    let (outcome, after) = call(rt, alloc, RUN, outside)?;
+    let outside = outside_of(alloc, row, manner.picks())?;
+    let (outcome, after) = call(rt, alloc, manner.words(), outside, gate)?;
     add_played(alloc, &mut page, row, &outcome, &after)?;
-    add_tools(rt, alloc, &mut page, row, after)?;
+    add_tools(rt, alloc, &mut page, row, after, gate)?;
     Ok(page)
 }

@@ -1,4 +1,4 @@
-use Rattle.std.proofs.Common.{◌⊎◌, inl, inr}
+use Rattle.std.proofs.Common.{inl}
 use Rattle.command_words.specs.declared.forms.Form.TheVariants.{Run, OnFile, Generate}
 use Rattle.midas_cli.proofs.Forms.{no_form}
 use Rattle.midas_cli.proofs.top.midas.Goals as goal

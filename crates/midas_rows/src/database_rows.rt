@@ -1,0 +1,111 @@
+//! The online database, its dumps and its watches.
+use crate::rows::{PLAIN, Row};
+
+/// A dump with older names of types.
+const OLDER: &str = "[/Runinfo]\nState = INT : 1\nOnline Mode = INT : 1\nRun number = INT : 41\n\
+    Transition in progress = INT : 0\nStart time = STRING : [32] Mon Mar  4 10:11:12 2024\n\
+    Start time binary = DWORD : 1709547072\nStop time = STRING : [32] \n\
+    Stop time binary = DWORD : 0\n\n[/Equipment/Trigger/Common]\nEvent ID = WORD : 1\n\
+    Trigger mask = WORD : 0\nBuffer = STRING : [32] SYSTEM\nType = INT : 2\n\
+    Source = INT : 16777215\nFormat = STRING : [8] MIDAS\nEnabled = BOOL : y\n\
+    Read on = INT : 257\nPeriod = INT : 500\nEvent limit = DOUBLE : 0\nHidden = BOOL : n\n\n\
+    [/Equipment/Trigger/Settings]\nGains = FLOAT[2] :\n[0] 1.5\n[1] 2.25\n\
+    Names = STRING[2] :\n[32] ADC left\n[32] ADC right\nDelay = DWORD[3] :\n[0] 10\n[1] 20\n\
+    [2] 30\n";
+
+/// What is saved after it was loaded.
+const SAVED: &str = "[/Runinfo]\nState = INT32 : 1\nRun number = INT32 : 41\n\
+    Start time binary = UINT32 : 1709547072\nStop time binary = UINT32 : 0\n\
+    Online Mode = INT32 : 1\nTransition in progress = INT32 : 0\n\
+    Start time = STRING : [32] Mon Mar  4 10:11:12 2024\nStop time = STRING : [32] \n\n\
+    [/Equipment]\n\n[/Equipment/Trigger]\n\n[/Equipment/Trigger/Common]\n\
+    Event ID = UINT16 : 1\nTrigger mask = UINT16 : 0\nBuffer = STRING : [32] SYSTEM\n\
+    Type = INT32 : 2\nSource = INT32 : 16777215\nFormat = STRING : [8] MIDAS\n\
+    Enabled = BOOL : y\nRead on = INT32 : 257\nPeriod = INT32 : 500\nHidden = BOOL : n\n\n\
+    [/Equipment/Trigger/Settings]\nNames = STRING[2] :\n[32] ADC left\n[32] ADC right\n\
+    Delay = UINT32[3] :\n[0] 10\n[1] 20\n[2] 30\n\n";
+
+/// Settings that were saved.
+const SETTINGS: &str =
+    "[/Runinfo]\nState = INT32 : 1\nRun number = INT32 : 0\nStart time binary = UINT32 : 0\n\
+    Stop time binary = UINT32 : 0\n\n[/Settings]\nName = STRING : [32] Muon decay\n\
+    Thresholds = UINT16[3] :\n[0] 0\n[1] 500\n[2] 0\n\n";
+
+/// The rows.
+pub static DATABASE_ROWS: [Row; 11] = [
+    Row {
+        title: "Settings",
+        script: "set \"/runinfo/RUN NUMBER\" 7\nget \"/Runinfo/Run number\"\n\
+            get /Runinfo/State 1\nset /Runinfo/State x\nget /Runinfo\nstart\n",
+        ..PLAIN
+    },
+    Row {
+        title: "Keys",
+        script: "create UINT8 /A/b 2\nset /A/b 1 0xff\nget /A/b\nset /A/b 2 1\nset /A/b 0 256\n\
+            create DIR /A\nrm /Runinfo/State\n",
+        ..PLAIN
+    },
+    Row {
+        title: "Names",
+        script: "create STRING /0123456789012345678901234567890\n\
+            create STRING /01234567890123456789012345678901\nls /A//B\nls\nls /\n",
+        ..PLAIN
+    },
+    Row {
+        title: "The run's parameters",
+        script: "start\nget /Runinfo/State\nget \"/Runinfo/Start time binary\"\nstop\n\
+            get /Runinfo/State\nget \"/Runinfo/Stop time binary\"\n\
+            set \"/Runinfo/Run number\" 2147483647\nstart\nset \"/Runinfo/Run number\" -1\n\
+            start\n",
+        ..PLAIN
+    },
+    Row {
+        title: "A key where the number of events would stand",
+        script: "create UINT32 /Equipment/FE\nevents 1\nstart\nstop\nget /Equipment/FE\n\
+            rm /Equipment\nls /\n",
+        ..PLAIN
+    },
+    Row {
+        title: "A watch",
+        script: "watch /B\ncreate UINT32 /A/x\nwatch /A\nset /A/x 1\nnotes 0\nset /A/x 2\n\
+            rm /A/x\nnotes 0\nunwatch 0\nnotes 0\n",
+        ..PLAIN
+    },
+    Row {
+        title: "A dump with older names of types",
+        script: "load a.odb\nsave b.odb\nsave b.odb\n",
+        dump: Some(("a.odb", OLDER)),
+        dumps: &["b.odb"],
+        ..PLAIN
+    },
+    Row {
+        title: "A dump that was saved",
+        script: "load a.odb\nsave b.odb\n",
+        dump: Some(("a.odb", SAVED)),
+        dumps: &["b.odb"],
+        ..PLAIN
+    },
+    Row {
+        title: "A dump with a line at fault, and one that is missing",
+        script: "load a.odb\nls /\nload c.odb\n",
+        dump: Some(("a.odb", "[/A]\nx = INT : 5\ny = INT : five\n")),
+        ..PLAIN
+    },
+    Row {
+        title: "Settings that are saved",
+        script: "# Settings of an experiment, saved for the sessions to come\n\
+            create STRING /Settings/Name\nset /Settings/Name \"Muon decay\"\n\
+            create UINT16 /Settings/Thresholds 3\nset /Settings/Thresholds 1 500\n\
+            save settings.odb\n",
+        dumps: &["settings.odb"],
+        ..PLAIN
+    },
+    Row {
+        title: "Settings that are loaded and watched",
+        script: "# A new session with the settings of save_settings.script, and a watch on them\n\
+            load settings.odb\nwatch /Settings\nset /Settings/Thresholds 2 0x2BC\nnotes 0\n\
+            load settings.odb\nnotes 0\nget /Settings/Thresholds\nunwatch 0\n",
+        dump: Some(("settings.odb", SETTINGS)),
+        ..PLAIN
+    },
+];
