@@ -5,5 +5,7 @@ mod Paging
 mod Dumping
 mod Dumped
 mod Complete
+mod Written
+mod ReadBack
 pub mod AreasLaws
 pub mod Printing

@@ -1,16 +1,16 @@
 -- What a reader has given, and what a tool says of it.
-use Rattle.std.proofs.Common.{◌≡◌, ◌≢◌, ◌∙◌, ℕ, ◌+◌, ◌≤◌, List, [], ◌∷◌, ◌++◌, length, Option, Some, None, Result, Ok, Err, IfSome, OnOk, ap, sym, subst, arith, length-append}
+use Rattle.std.proofs.Common.{◌≡◌, ◌≢◌, ◌∙◌, ℕ, ◌≤◌, List, [], ◌∷◌, ◌++◌, length, Option, Some, None, Result, Ok, Err, IfSome, OnOk, ap, sym, subst, arith, length-append}
 use Rattle.std.specs.Prelude.{true, false, is_some, unwrap_or, IsSome, IsNone, ◌↔◌, refl}
 use Rattle.std.proofs.lemmas.List.{append-nil}
 use Rattle.std.specs.Io.KnownBytes.{Consumes, IsAtEnd}
 use Rattle.daq_types.specs.declared.events.Event.{Event}
 use Rattle.daq_model.specs.Events.{encoding, all_encoded}
-use Rattle.daq_model.proofs.Events.{all_encoded-append, length-encoding}
+use Rattle.daq_model.proofs.Events.{length-encoding}
 use Rattle.event_header.specs.declared.head.Header.{Header}
 use Rattle.mid_format.specs.HasRead.{HasRead, nothing_read}
 use Rattle.mid_format.specs.Opened.{run_of}
 use Rattle.mid_format.specs.AtHand.{TakesNext, TakesSoFar}
-use Rattle.mid_format.proofs.ReadLaws.{has_read_none, read_whole, read_fault, events_within}
+use Rattle.mid_format.proofs.ReadLaws.{has_read_none, read_whole, read_fault}
 use Rattle.mid_format.specs.ReadLaws.{ReadsWhole}
 use Rattle.mid_format.specs.declared.faults.MidFault.{MidFault}
 use Rattle.mid_format.specs.declared.faults.MidFault.TheVariants.{ReadFault}

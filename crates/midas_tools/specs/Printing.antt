@@ -1,5 +1,5 @@
 -- Text that goes to a sink by way of a page, which is written when it is full.
-use Rattle.std.specs.Prelude.{◌≡◌, ◌⊎◌, ℕ, ◌+◌, List, [], ◌++◌, Option, Result, Ok, Err}
+use Rattle.std.specs.Prelude.{◌≡◌, ◌⊎◌, ℕ, List, [], ◌++◌, Option, Result, Ok, Err}
 use Rattle.std.specs.Io.KnownBytes.{Appends}
 use Rattle.daq_io.specs.declared.faults.Failed.{Failed}
 use Rattle.daq_io.specs.Streams.{AppendsPart}

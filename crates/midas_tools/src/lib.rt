@@ -9,14 +9,13 @@ mod closing;
 mod dump;
 mod ends;
 mod halts;
+pub mod laws;
 mod line;
 mod lines;
 mod opening;
 mod page;
 mod summary;
 mod telling;
-#[cfg(test)]
-mod tests;
 
 pub use analyze::analyze_file;
 pub use check::check_file;

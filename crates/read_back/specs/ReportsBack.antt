@@ -1,0 +1,86 @@
+-- A run file and a report of one run that came about in a session: what `analyze` prints of the one is the other.
+use Rattle.std.specs.Prelude.{◌≡◌, ℕ, suc, ◌+◌, ◌++◌, IsTrue, List, [], length, slice_get, Contains, Option, Some}
+use Rattle.std.specs.Io.KnownBytes.{Appends}
+use Rattle.daq_types.specs.Callers.{caller_of_client}
+use Rattle.daq_types.specs.declared.runs.ChannelState.TheVariants.{Ended}
+use Rattle.daq_types.specs.declared.runs.StartOutcome.TheVariants.{Completed}
+use Rattle.daq_io.specs.Seen.{Seen}
+use Rattle.turn_lock.specs.Closing.{history_of}
+use Rattle.event_report.specs.Reports.{Totals}
+use Rattle.event_report.specs.Texts.{report_text}
+use Rattle.transitions.specs.EngineHistories.{EngineHistory}
+use Rattle.frontend_kit.specs.declared.generator.Generator.{Generator}
+use Rattle.mid_logger.specs.declared.channel_spec.ChannelSpec.{ChannelSpec}
+use Rattle.loggers.specs.Moments.{RunFiles}
+use Rattle.composition.specs.SessionRuns.{SawThrough}
+use Rattle.run_records.specs.declared.records.FileRecord.{FileRecord}
+use Rattle.run_records.specs.declared.records.ReportTally.{ReportTally}
+use Rattle.run_records.specs.declared.records.RunRecord.{RunRecord}
+use Rattle.session_crew.specs.Crews.{CrewTold}
+use Rattle.session_runs.specs.RunsFit.{MainOwn}
+use Rattle.session_setup.specs.Setup.{AreSound, Declared}
+use Rattle.session_setup.specs.declared.declared.AnalyzerDeclared.{AnalyzerDeclared}
+use Rattle.session_objects.specs.declared.record.BufferRecord.{BufferRecord}
+use Rattle.session_objects.specs.declared.record.SessionRecord.{SessionRecord}
+use Rattle.session_laws.specs.ClosedSessions.{ClosedSession}
+use Rattle.session_lines.specs.Stages.{Stage}
+use Rattle.daq_session.specs.Sessions.{KeepsSession}
+use Rattle.daq_session.specs.ToldRecords.{IsCountedInRun, RunTells}
+use Rattle.midas_tools.specs.Analyses.{Analyzes}
+use Rattle.midas_tools.specs.Findings.{Writes}
+use Rattle.midas_tools.specs.Texts.{run_line}
+use Rattle.midas_tools.specs.declared.ends.ToolEnd.{ToolEnd}
+use Rattle.midas_tools.specs.declared.ends.ToolEnd.TheVariants.{Done}
+
+-- The channel and the analyzer read the same buffer, and ask there for the same events.
+pub record AsksAlike (channel : ChannelSpec) (d : AnalyzerDeclared) : Type 0 where
+  pub buffer : channel.buffer ≡ d.buffer
+  pub id : channel.id ≡ d.id
+  pub mask : channel.mask ≡ d.mask
+
+-- the client number of the analyzer at a place: the front-ends come first, then the logger
+abbrev pub seat_client : Declared → (place : ℕ) → ℕ
+seat_client declared place = suc (length declared.fronts) + place
+
+-- The record of the run has this file, which ended, of a channel that was declared; and of the analyzer at a place it has this
+-- report. The two ask for the same events, and the analyzer saw the run through.
+pub record HasFileAndReport (declared : Declared) (buffers : List BufferRecord) (engine : EngineHistory) (run : RunRecord)
+    (file : FileRecord) (report : Totals) : Type 0 where
+  pub index : ℕ
+  pub file_at : slice_get run.files index ≡ Some file
+  pub ended : file.state ≡ Ended
+  pub channel : ChannelSpec
+  pub is_declared : Contains declared.channels channel
+  pub number : file.channel ≡ channel.number
+  pub place : ℕ
+  pub analyzer : AnalyzerDeclared
+  pub there : slice_get declared.analyzers place ≡ Some analyzer
+  pub alike : AsksAlike channel analyzer
+  pub tally : ReportTally
+  pub told : slice_get run.reports place ≡ Some tally
+  pub report_is : tally.report ≡ report
+  pub counted : IsCountedInRun (seat_client declared place) analyzer buffers engine run.start tally
+  pub through : SawThrough (history_of counted.buffer.closed) (caller_of_client (seat_client declared place)) counted.counts.told
+
+-- A call of `analyze` with this name that ends well writes the number of the run and this report, and nothing else: on any files
+-- that tell the name's file, which is that of these run files, told too.
+abbrev pub PrintsReport : (files : Seen) (name : List ℕ) (run : ℕ) (report : Totals) → Type 0
+PrintsReport files name run report = (seen : Seen) → (told_old told_new : Option (List ℕ)) → (end : ToolEnd) →
+    IsTrue files.tells → IsTrue seen.tells → seen.at name ≡ files.at name →
+    Writes Analyzes seen name told_old told_new end → end ≡ Done →
+    Appends told_old told_new (run_line run ++ report_text [] report)
+
+-- Where the declarations are sound and all is so that is told of a run: the file and the report of one request agree.
+abbrev pub ReportsReadBack : Type 0
+ReportsReadBack = (c : ClosedSession) → (moments : (client : ℕ) → List ℕ) → (own : MainOwn) → (declared : Declared) →
+    (buffers : List BufferRecord) → (first now : RunFiles) → (run : RunRecord) → AreSound declared →
+    RunTells c moments own declared buffers first now run → (file : FileRecord) → (report : Totals) →
+    HasFileAndReport declared buffers c.engine run file report → PrintsReport c.files file.name run.run report
+
+-- So it is with each run that came about of a session of which this record is kept.
+abbrev pub SessionReadsBack : {D F K : Type 0} {g : _} → CrewTold Generator F K → SessionRecord D g → Type 0
+SessionReadsBack {D} {F} told r = (first_files : F) → (final : Stage) → (run_files : F) →
+    KeepsSession told first_files final run_files r → (number : ℕ) → (run : RunRecord) →
+    slice_get r.runs number ≡ Some run → run.outcome ≡ Completed → (file : FileRecord) → (report : Totals) →
+    HasFileAndReport final.declared r.buffers (history_of r.engine) run file report →
+    PrintsReport (told.seen run_files) file.name run.run report

@@ -1,0 +1,30 @@
+//! Laws of what is read back of a session: each function does nothing, and its contract is the law.
+ghost use Rattle.session_crew.specs.Crews.{crew_told};
+ghost use Rattle.session_objects.specs.Members.{generator_makes, generator_takes};
+ghost use Rattle.read_back.specs.ReportsBack.{ReportsReadBack, SessionReadsBack};
+
+use daq_io::{Files, Pick};
+use midas_tools::laws::analysis_printed;
+use odb_lock::{LockedDatabase, WatchedSeen};
+use odb_tree::Database;
+use odb_watch::WatchEntry;
+use session_objects::SessionRecord;
+use turn_lock::Machine;
+
+/// What the record of a run has of an analyzer that saw the run through is what `analyze` prints of the file of a channel that asks
+/// for the same events, behind the number of the run.
+pub fn reports_read_back()
+    ensures { ReportsReadBack }
+{
+    analysis_printed();
+}
+
+/// So it is with each run that came about of a session of which a record is kept, and with its run files as the session left them.
+pub fn sessions_read_back<D: Database, F: Files, K: Pick>(kept: &SessionRecord<D>)
+where
+    LockedDatabase<D>: Machine<State = WatchedSeen, Entry = WatchEntry>,
+    ensures { SessionReadsBack (crew_told generator_takes generator_makes F.seen F.faults F.clashes
+        F.first K.tells K.ahead) kept.now }
+{
+    reports_read_back();
+}
