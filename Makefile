@@ -1,4 +1,4 @@
-.PHONY: run test bench
+.PHONY: run test bench stress
 
 # Builds the program and runs the first script in an empty folder.
 run:
@@ -14,3 +14,8 @@ bench:
 	@./bench/tools.sh crates/midas/out/midas
 	@./bench/run.sh crates/midas/out/midas
 	@./bench/odb.sh crates/midas/out/midas
+
+# Many short sessions in threads, each of which is checked. Builds the program first.
+stress:
+	@(cd crates/midas && rt run -- check none >/dev/null 2>&1) || true
+	@./bench/threads.sh crates/midas/out/midas

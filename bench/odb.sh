@@ -1,7 +1,9 @@
 #!/bin/sh
 # Measures scripts of database commands: 10,000, 20,000 and 40,000 lines over 500, 1,000 and 2,000 keys in 50 directories,
 # half of the lines behind the creations `set` and half `get`, beside a plain Rust program with a hash map that plays the
-# same script to the same text. Prints seconds (the best of three), ratios, growth and the peak memory.
+# same script to the same text. Prints seconds (the best of three), ratios, growth and the peak memory. Then the saving of 5,000,
+# 10,000 and 20,000 keys to a file and the loading of that file: processor time (the least of fifteen), without that of the
+# keys' creation, which a script that only makes them takes.
 # usage: bench/odb.sh PROGRAM
 set -e
 program=$(realpath "$1")
@@ -17,6 +19,7 @@ program = sys.argv[1]
 FEWEST_LINES = 10000
 FEWEST_KEYS = 500
 DIRECTORIES = 50
+FEWEST_SAVED = 5000
 
 
 def path(key):
@@ -58,4 +61,38 @@ for times in (1, 2, 4):
     exponent = math.log(took / first) / math.log(times) if times > 1 else 1
     print("%6d lines  %5d keys  run %6.3f s  %5.1f times plain Rust  growth %5.2f of %d (exponent %4.2f)  peak %d kB"
           % (lines, keys, took, took / plain, took / first, times, exponent, peak))
+
+
+def busy(script, before=lambda: None, runs=15):
+    """The least processor time of `run` on a script."""
+    least = None
+    with open("script", "wb") as out:
+        out.write(script)
+    for _ in range(runs):
+        before()
+        with open("script", "rb") as given, open(os.devnull, "wb") as nothing:
+            process = subprocess.Popen([program, "run"], stdin=given, stdout=nothing)
+            _, status, usage = os.wait4(process.pid, 0)
+        assert status == 0, script[-40:]
+        took = usage.ru_utime + usage.ru_stime
+        least = took if least is None else min(least, took)
+    return least
+
+
+def remove():
+    if os.path.exists("saved.odb"):
+        os.remove("saved.odb")
+
+
+first = None
+for times in (1, 2, 4):
+    keys = times * FEWEST_SAVED
+    made = ("\n".join("create UINT32 " + path(key) for key in range(keys)) + "\n").encode()
+    made_took = busy(made)
+    saved = busy(made + b"save saved.odb\n", remove) - made_took
+    loaded = busy(b"load saved.odb\n") - busy(b"")
+    first = first or saved + loaded
+    exponent = math.log((saved + loaded) / first) / math.log(times) if times > 1 else 1
+    print("%6d keys  save %6.3f s  load %6.3f s of the processor  together %6.3f s  growth %5.2f of %d (exponent %4.2f)"
+          % (keys, saved, loaded, saved + loaded, (saved + loaded) / first, times, exponent))
 PYTHON

@@ -1,7 +1,9 @@
 #!/bin/sh
-# Measures `run` with one front-end, and with four of them over a buffer of 65,536 bytes: runs of 100,000 events and of two,
-# four and ten times as many, beside `cat` of the run file that was written, whose events `check` counts. Prints seconds (the
-# best of three), ratios, growth and the peak memory.
+# Measures `run` of an empty script beside /bin/true; and with one front-end, with four of them over a buffer of 65,536 bytes, and
+# with these and an analyzer: runs of 1,000 and of 100,000 events and of two, four and ten times as many, in threads and, by
+# `run --cooperative`, on one thread, beside `cat` of the run file that was written, whose events `check` counts, and beside a copy
+# of it that is put on the disk. Prints seconds by the clock and of the processor (the least of three, and of a hundred for the
+# empty script), ratios, growth and the peak memory.
 # usage: bench/run.sh PROGRAM
 set -e
 program=$(realpath "$1")
@@ -9,35 +11,39 @@ folder=$(mktemp -d)
 trap 'rm -rf "$folder"' EXIT
 cd "$folder"
 python3 - "$program" <<'PYTHON'
-import math, os, subprocess, sys, time
+import math, os, shutil, subprocess, sys, time
 
 program = sys.argv[1]
 RUN_FILE = "run00001.mid"
 FEWEST = 100000
 
 # What the front-ends are, how many, and the lines that declare them.
+FOUR = b"buffer SYSTEM 65536\n" + b"".join(b"equip FE%d %d 0 SYSTEM\n" % (i, i) for i in (1, 2, 3, 4))
 SESSIONS = (
     ("one front-end", 1, b""),
-    ("four front-ends over a buffer of 65,536 bytes", 4,
-     b"buffer SYSTEM 65536\n" + b"".join(b"equip FE%d %d 0 SYSTEM\n" % (i, i) for i in (1, 2, 3, 4))),
+    ("four front-ends over a buffer of 65,536 bytes", 4, FOUR),
+    ("four front-ends and an analyzer", 4, FOUR + b"analyzer ANA SYSTEM 65535 65535 all\n"),
 )
 
 
 def seconds(command, script=b"", before=lambda: None, runs=3):
-    """The best time of some runs, and the peak memory in kB."""
-    best, peak = None, 0
+    """The least time by the clock and of the processor of some runs, and the peak memory in kB. No shell stands between."""
+    best, least, peak = None, None, 0
+    with open("script", "wb") as out:
+        out.write(script)
     for _ in range(runs):
         before()
-        start = time.time()
-        process = subprocess.Popen(command, shell=True, stdin=subprocess.PIPE)
-        process.stdin.write(script)
-        process.stdin.close()
-        _, status, usage = os.wait4(process.pid, 0)
-        took = time.time() - start
+        with open("script", "rb") as given, open(os.devnull, "wb") as nothing:
+            start = time.perf_counter()
+            process = subprocess.Popen(command, stdin=given, stdout=nothing)
+            _, status, usage = os.wait4(process.pid, 0)
+            took = time.perf_counter() - start
         assert status == 0, command
+        busy = usage.ru_utime + usage.ru_stime
         peak = max(peak, usage.ru_maxrss)
         best = took if best is None else min(best, took)
-    return best, peak
+        least = busy if least is None else min(least, busy)
+    return best, least, peak
 
 
 def remove():
@@ -51,17 +57,42 @@ def counted():
     return int(line.split()[4])
 
 
+def copied():
+    """The least time to copy the run file to the disk, of three."""
+    best = None
+    for _ in range(3):
+        start = time.perf_counter()
+        with open(RUN_FILE, "rb") as given, open("copy", "wb") as copy:
+            shutil.copyfileobj(given, copy, 65536)
+            copy.flush()
+            os.fsync(copy.fileno())
+        took = time.perf_counter() - start
+        os.remove("copy")
+        best = took if best is None else min(best, took)
+    return best
+
+
+took, busy, _ = seconds([program, "run"], runs=100)
+plain, idle, _ = seconds(["/bin/true"], runs=100)
+print("an empty script %.2f ms, %.2f times /bin/true; processor %.2f ms, %.2f times"
+      % (took * 1e3, took / plain, busy * 1e3, busy / idle))
 for title, fronts, declared in SESSIONS:
     print(title)
-    first = None
-    for times in (1, 2, 4, 10):
-        events = times * FEWEST
+    firsts = {}
+    for times in (0.01, 1, 2, 4, 10):
+        events = int(times * FEWEST)
         script = declared + b"events %d\nstart\nstop\n" % (events // fronts)
-        took, peak = seconds("exec %s run > /dev/null" % program, script, remove)
-        assert counted() == events, script
-        read, _ = seconds("exec cat %s > /dev/null" % RUN_FILE)
-        first = first or took
-        exponent = math.log(took / first) / math.log(times) if times > 1 else 1
-        print("%9d events  %6.1f MB  run %7.3f s  %6.1f times cat  growth %5.2f of %2d (exponent %4.2f)  peak %d kB"
-              % (events, os.path.getsize(RUN_FILE) / 1e6, took, took / read, took / first, times, exponent, peak))
+        on_one = None
+        for way, words in (("on one thread", ["--cooperative"]), ("in threads", [])):
+            took, busy, peak = seconds([program, "run"] + words, script, remove)
+            assert counted() == events, script
+            read, _, _ = seconds(["cat", RUN_FILE])
+            # Growth is that from 100,000 events on: a run of 1,000 is there for its peak memory.
+            first = firsts.setdefault(way, took) if times >= 1 else took
+            on_one = on_one or took
+            exponent = math.log(took / first) / math.log(times) if times > 1 else 1
+            print("%9d events  %6.1f MB  %-13s %7.3f s  %5.2f times one thread  processor %7.3f s (%4.2f us an event)  %6.1f times cat"
+                  "  %5.1f times a copy to the disk  growth %5.2f of %4.4g (exponent %4.2f)  peak %d kB"
+                  % (events, os.path.getsize(RUN_FILE) / 1e6, way, took, took / on_one, busy, busy / events * 1e6, took / read,
+                     took / copied(), took / first, times, exponent, peak))
 PYTHON
