@@ -307,44 +307,39 @@ fn most_clients(rt: HostRuntime) -> Result<(), Fail> {
     )
 }
 
+/// Each client below this number finds this turn and answers Yes to it.
+fn each_agrees(
+    rt: &impl Abort,
+    alloc: Global,
+    engine: &mut Engine,
+    clients: u32,
+    turn: Found,
+) -> Result<(), Fail> {
+    for client in 0..clients {
+        make_calls(rt, alloc, engine, &[Poll(client, turn), Yes(client, true)])?;
+    }
+    Ok(())
+}
+
 #[test]
 fn most_tallies(rt: HostRuntime) -> Result<(), Fail> {
-    let mut engine = Engine::new(rt.alloc())?;
+    let alloc = rt.alloc();
+    let mut engine = Engine::new(alloc)?;
     for _ in 0..64u32 {
         let _client = add_client(&mut engine, 500, 500, false);
     }
     let turn = Found::Turn(Start, false, false);
-    make_calls(&rt, rt.alloc(), &mut engine, &[Begin(Start, Ok(1))])?;
-    for client in 0..63u32 {
-        make_calls(
-            &rt,
-            rt.alloc(),
-            &mut engine,
-            &[Poll(client, turn), Yes(client, true)],
-        )?;
-    }
-    make_calls(
-        &rt,
-        rt.alloc(),
-        &mut engine,
-        &[Poll(63, turn), No(63, true)],
-    )?;
-    let call_off = Found::Turn(StartAbort, false, false);
-    for client in 0..64u32 {
-        make_calls(
-            &rt,
-            rt.alloc(),
-            &mut engine,
-            &[Poll(client, call_off), Yes(client, true)],
-        )?;
-    }
+    make_calls(&rt, alloc, &mut engine, &[Begin(Start, Ok(1))])?;
+    each_agrees(&rt, alloc, &mut engine, 63, turn)?;
+    make_calls(&rt, alloc, &mut engine, &[Poll(63, turn), No(63, true)])?;
+    each_agrees(&rt, alloc, &mut engine, 64, Found::Turn(StartAbort, false, false))?;
     let outcome = StartOutcome::Refused {
         client: 63,
         why: Why::NotReady,
     };
     make_calls(
         &rt,
-        rt.alloc(),
+        alloc,
         &mut engine,
         &[
             Check(Progress::Done { outcome }, 127),
