@@ -332,7 +332,13 @@ fn most_tallies(rt: HostRuntime) -> Result<(), Fail> {
     make_calls(&rt, alloc, &mut engine, &[Begin(Start, Ok(1))])?;
     each_agrees(&rt, alloc, &mut engine, 63, turn)?;
     make_calls(&rt, alloc, &mut engine, &[Poll(63, turn), No(63, true)])?;
-    each_agrees(&rt, alloc, &mut engine, 64, Found::Turn(StartAbort, false, false))?;
+    each_agrees(
+        &rt,
+        alloc,
+        &mut engine,
+        64,
+        Found::Turn(StartAbort, false, false),
+    )?;
     let outcome = StartOutcome::Refused {
         client: 63,
         why: Why::NotReady,
