@@ -1,8 +1,6 @@
 //! Texts: one that grows at its end, and the rule by which blanks and numbers are read.
 #![tactic(auto)]
 
-#[cfg(test)]
-mod checks;
 mod numbers;
 mod text_buffer;
 

@@ -4,8 +4,6 @@
 mod bounded_list;
 mod byte_list;
 mod callers;
-#[cfg(test)]
-mod checks;
 mod events;
 mod file_names;
 mod memory;

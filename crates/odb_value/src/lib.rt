@@ -1,8 +1,6 @@
 //! Values of the online database: their items, and the text of an item, both ways.
 #![tactic(auto)]
 
-#[cfg(test)]
-mod checks;
 mod forms;
 mod items;
 mod key_texts;

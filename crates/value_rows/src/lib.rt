@@ -1,4 +1,5 @@
-//! Worked values of events, banks, reports, paths and errors, tried on the calls that read, write or print them.
+//! Worked values of names, texts, items, events, banks, requests, reports, paths and errors, tried on the calls that read,
+//! write or print them.
 #![tactic(auto)]
 
 #[cfg(test)]
@@ -10,6 +11,16 @@ mod generated;
 #[cfg(test)]
 mod headers;
 #[cfg(test)]
+mod items;
+#[cfg(test)]
+mod lists;
+#[cfg(test)]
+mod names;
+#[cfg(test)]
 mod paths;
 #[cfg(test)]
 mod reports;
+#[cfg(test)]
+mod requests;
+#[cfg(test)]
+mod texts;

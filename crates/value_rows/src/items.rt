@@ -1,9 +1,9 @@
-//! Worked rows of items, their texts and values.
-use crate::{
-    CharByte, Item, ItemRefusal, Items, TextBytes, Value, parse_item, print_item, print_key,
-};
+//! Items of the online database, their texts, and values.
 use daq_text::TextBuffer;
 use daq_types::Tid;
+use odb_value::{
+    CharByte, Item, ItemRefusal, Items, TextBytes, Value, parse_item, print_item, print_key,
+};
 use std::process::Abort;
 use std::test::Fail;
 

@@ -1,5 +1,5 @@
-//! Worked rows of texts and numbers.
-use crate::{TextBuffer, behind_blanks, ended, is_blank, number, unsigned};
+//! Texts that grow, and numbers in texts.
+use daq_text::{TextBuffer, behind_blanks, ended, is_blank, number, unsigned};
 use std::test::Fail;
 
 #[test]

@@ -1,9 +1,5 @@
-//! Worked rows of the names, types and lists.
-use crate::{
-    BadFileName, BoundedList, Bytes, Caller, FileName, Journal, Name, NameRefusal, Tid, Transition,
-    Words,
-};
-use std::test::Fail;
+//! Names, and the numbers of types, transitions and callers.
+use daq_types::{BadFileName, Caller, FileName, Name, NameRefusal, Tid, Transition};
 
 /// The refusal of a text, if it is no name.
 fn refusal(text: &[u8]) -> Option<NameRefusal> {
@@ -100,43 +96,4 @@ fn types_by_number_and_name(rt: HostRuntime) {
     assert_eq!(rt; Tid::from_code(19), None);
     assert_eq!(rt; Tid::from_name(b"DWORD"), Some(Tid::UInt32));
     assert_eq!(rt; Tid::from_name(b"dword"), None);
-}
-
-#[test]
-fn words_and_bytes(rt: HostRuntime) -> Result<(), Fail> {
-    let mut words = Words::new(rt.alloc());
-    words.add(rt.alloc(), "check")?;
-    words.add(rt.alloc(), "run00001.mid")?;
-    assert_eq!(rt; words.len(), 2);
-    assert_eq!(rt; words.get(1).unwrap_or("none"), "run00001.mid");
-    assert!(rt; words.get(2).is_none());
-    let bytes = Bytes::of([1, 2].to_vec(rt.alloc())?);
-    assert_eq!(rt; bytes.as_slice(), [1, 2].as_slice());
-    Ok(())
-}
-
-#[test]
-fn lists(rt: HostRuntime) -> Result<(), Fail> {
-    let mut list = BoundedList::<u32, 2>::new(rt.alloc())?;
-    list.push(7);
-    list.push(5);
-    list.try_push(3)?;
-    assert_eq!(rt; list.len(), 3);
-    assert_eq!(rt; list.as_slice(), [7, 5, 3].as_slice());
-    assert_eq!(rt; list.get(1), Some(&5));
-    assert!(rt; list.get(3).is_none());
-    assert_eq!(rt; list.pop(), Some(3));
-    if let Some(first) = list.get_mut(0) {
-        *first = 9;
-    }
-    list.set(1, 4);
-    let mut journal = Journal::of(list.into_vec());
-    assert_eq!(rt; journal.as_slice(), [9, 4].as_slice());
-    journal.append(Journal::of([1, 2].to_vec(rt.alloc())?))?;
-    journal.truncate(3);
-    assert_eq!(rt; journal.take_first(), Some(9));
-    assert_eq!(rt; journal.as_slice(), [4, 1].as_slice());
-    journal.clear();
-    assert_eq!(rt; journal.len(), 0);
-    Ok(())
 }

@@ -1,0 +1,20 @@
+//! Requests, and the events that they match.
+use request_match::{ANY, matches};
+
+#[test]
+fn matches_by_the_rule(rt: HostRuntime) {
+    for (id, mask, event_id, event_mask, matched) in [
+        (ANY, ANY, 1, 0, true),
+        (1, ANY, 1, 0, true),
+        (2, ANY, 1, 0, false),
+        (ANY, 1, 1, 2, false),
+        (ANY, 3, 1, 2, true),
+        (ANY, 0, 1, ANY, false),
+    ] {
+        assert_eq!(rt;
+            matches(id, mask, event_id, event_mask),
+            matched,
+            "{id} {mask} {event_id} {event_mask}"
+        );
+    }
+}
