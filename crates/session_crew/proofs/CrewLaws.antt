@@ -263,7 +263,7 @@ module _ {E F K : Type 0} (told : CrewTold E F K) where
       })
 
   -- Several turns of as many members.
-  pub turns_same : (first count turns : ℕ) (before after : CrewSeen E F K) → TurnFrom told first count turns before after → IsSameCrew told before after × (after.pick ≡ before.pick)
+  turns_same : (first count turns : ℕ) (before after : CrewSeen E F K) → TurnFrom told first count turns before after → IsSameCrew told before after × (after.pick ≡ before.pick)
   turns_same first count zero before after all = (all_same before after all, ap (λ (c : CrewSeen E F K). c.pick) all)
   turns_same first count (suc n) before after all =
       let so_far : IsSameCrew told before all.0 × (all.0.pick ≡ before.pick) = turns_same first count n before all.0 all.2 in
@@ -295,7 +295,7 @@ module _ {E F K : Type 0} (told : CrewTold E F K) where
       (λ here. taken_noted laws (logger_taken told.read before.logger after.logger turned) (turns.logger here).0.turn)
       (λ place is. still_noted before.logger after.logger (turns.analyzer place is).2)
 
-  pub turns_noted : NotedLaws → (first count turns : ℕ) (before after : CrewSeen E F K) → TurnFrom told first count turns before after → NotesRunFaults told before.logger after.logger
+  turns_noted : NotedLaws → (first count turns : ℕ) (before after : CrewSeen E F K) → TurnFrom told first count turns before after → NotesRunFaults told before.logger after.logger
   turns_noted laws first count zero before after all = still_noted before.logger after.logger (ap (λ (c : CrewSeen E F K). c.logger) all)
   turns_noted laws first count (suc n) before after all =
       noted_then laws before.logger all.0.logger after.logger (turns_noted laws first count n before all.0 all.2) (one_noted laws ((first + n) % count) all.0 after all.1 all.3)

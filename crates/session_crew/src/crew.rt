@@ -6,14 +6,12 @@ use analyzer_seats::{AnalyzerSeats, ask_all as ask_analyzers, turn_at};
 use daq_io::{Files, Gate, Pick};
 use daq_members::{EndlessPort, FrontSeat, LoggerSeat, Turned};
 use front_ends::Equipment;
-use loggers::laws as logger_laws;
 use odb_port::WatchPort;
 use session_engine::Rounds;
 use std::marker::Model;
 use std::sync::Wait;
 
-/// What the members of a session are at its end: each behind its last turn. A seat gives back what its member called
-/// with.
+/// The members of a session and the pick, each for itself. A seat gives back what its member called with.
 #[derive(Drop)]
 pub struct CrewParts<'a, E: Equipment, P: EndlessPort, D: WatchPort, F: Files, K: Pick> {
     pub fronts: Vec<FrontSeat<'a, E, P, D>>,
@@ -69,7 +67,7 @@ impl<'a, E: Equipment, P: EndlessPort, D: WatchPort, F: Files, K: Pick, G: Gate>
     K,
     G,
 > {
-    ghost use Rattle.session_crew.specs.Crews.{crew_seen, crew_told, member_count, AreMembers, TurnsFront, TurnsLogger, TurnsMember, TurnFrom, PicksMember, IsSameCrew, NotesRunFaults, KeepContracts};
+    ghost use Rattle.session_crew.specs.Crews.{crew_seen, crew_told, member_count, AreMembers, TurnsFront, TurnsLogger, TurnsMember, TurnFrom, PicksMember, KeepContracts};
     ghost use Rattle.analyzer_seats.specs.ManyAnalyzers.{TurnsAnalyzer};
 
     /// A crew of these members, of which each asks the same engine by the client number that is its place.
@@ -179,28 +177,6 @@ impl<'a, E: Equipment, P: EndlessPort, D: WatchPort, F: Files, K: Pick, G: Gate>
         for step in 0..count {
             self.turn(rt, (first + step) % count);
         }
-    }
-
-    /// Each member has one turn more, in order of number, and then all is given back: behind the close of the engine
-    /// that turn is its last, which is Ended.
-    pub fn end<R: Wait>(mut self, rt: &R) -> CrewParts<'a, E, P, D, F, K>
-        ensures turns { TurnFrom (crew_told E.takes E.makes F.seen F.faults F.clashes F.first
-            K.tells K.ahead) 0 (member_count self.entry) (member_count self.entry) self.entry
-            (crew_seen result.fronts.items result.logger result.analyzers result.pick) }
-        ensures same { IsSameCrew (crew_told E.takes E.makes F.seen F.faults F.clashes F.first
-            K.tells K.ahead) self.entry
-            (crew_seen result.fronts.items result.logger result.analyzers result.pick) }
-        ensures faults { NotesRunFaults (crew_told E.takes E.makes F.seen F.faults F.clashes
-            F.first K.tells K.ahead) self.entry.logger result.logger }
-        ensures pick { result.pick ≡ self.entry.pick }
-        ensures members { AreMembers result.fronts.items result.logger result.analyzers }
-        ensures keep { KeepContracts (crew_told E.takes E.makes F.seen F.faults F.clashes F.first
-            K.tells K.ahead)
-            (crew_seen result.fronts.items result.logger result.analyzers result.pick) }
-    {
-        logger_laws::faults_noted();
-        self.turn_all(rt, 0);
-        self.into_parts()
     }
 
     /// The members and the pick, given back.
