@@ -1,5 +1,5 @@
 -- A database with the journal of its calls.
-use Rattle.std.specs.Prelude.{◌≡◌, ◌⊎◌, ℕ, ◌+◌, ◌≤◌, List, [], ◌∷◌, ◌++◌, map, Err}
+use Rattle.std.specs.Prelude.{◌≡◌, ℕ, ◌+◌, ◌≤◌, List, [], ◌∷◌, ◌++◌, Err}
 use Rattle.odb_tree.specs.declared.entry.DatabaseEntry.{DatabaseEntry}
 use Rattle.odb_tree.specs.declared.entry.DatabaseEntry.TheVariants.{Create, Set, SetAll, Get, ListDir, Resize, PathOf}
 use Rattle.odb_tree.specs.declared.refusals.OdbRefusal.TheVariants.{NoMemory as no_memory}
@@ -38,16 +38,6 @@ pub record KeepsCalls (p q : Noted) : Type 0 where
   pub history : q.history ≡ p.history
   pub room : p.room ≤ q.room
 
--- more calls
-pub record Grows (p q : Noted) (more : List (ℕ × DatabaseEntry)) : Type 0 where
-  pub start : q.start ≡ p.start
-  pub history : q.history ≡ p.history ++ more
-  pub rows : q.rows ≡ replay p.rows more
-
--- calls of the main thread, caller 0
-abbrev pub by_main : List DatabaseEntry → List (ℕ × DatabaseEntry)
-by_main calls = map (λ (entry : DatabaseEntry). (0, entry)) calls
-
 -- the call where memory was wanting for it; a look-up and a removal take none
 abbrev pub unanswered : DatabaseEntry → DatabaseEntry
 unanswered (Create p kind reply) = Create p kind (Err no_memory)
@@ -58,15 +48,3 @@ unanswered (ListDir p reply) = ListDir p (Err no_memory)
 unanswered (Resize p len reply) = Resize p len (Err no_memory)
 unanswered (PathOf row reply) = PathOf row (Err (record {}))
 unanswered entry = entry
-
--- of these calls the first were made, and the last of them may be the one for which memory was wanting
-abbrev pub AreCutShort : (calls made : List (ℕ × DatabaseEntry)) → Type 0
-AreCutShort calls [] = Unit {0}
-AreCutShort [] (e ∷ made) = ⊥
-AreCutShort (c ∷ calls) (e ∷ made) = ((e ≡ c) × AreCutShort calls made) ⊎ ((e ≡ (c.0, unanswered c.1)) × (made ≡ []))
-
--- memory ended before these calls were made and answered: the first of them were, and nobody made any other
-pub record EndsEarly (p q : Noted) (calls : List (ℕ × DatabaseEntry)) : Type 0 where
-  pub made : List (ℕ × DatabaseEntry)
-  pub short : AreCutShort calls made
-  pub grows : Grows p q made
