@@ -1,4 +1,5 @@
 ghost use Rattle.std.specs.Prelude.{◌≡◌, ◌≢◌, ◌≤◌, [], OnOk, IfOk, IfErr, Ok, Err};
+ghost use Rattle.daq_types.specs.Callers.{main_caller};
 ghost use Rattle.daq_types.specs.declared.types.Tid.{Tid};
 ghost use Rattle.odb_value.specs.Items.{tid_of};
 ghost use Rattle.odb_tree.specs.declared.refusals.OdbRefusal.TheVariants.{NoMemory as no_memory};
@@ -8,7 +9,7 @@ ghost use Rattle.odb_tree.specs.Databases.{IsDatabase};
 ghost use Rattle.odb_tree.specs.Histories.{IsLegal, replay};
 ghost use Rattle.odb_journal.specs.Noted.{Does, KeepsCalls};
 
-use daq_types::{Journal, NoMemory};
+use daq_types::{Caller, Journal, NoMemory};
 use odb_path::Path;
 use odb_tree::{Children, Database, DatabaseEntry, NewKey, OdbRefusal};
 use odb_value::{Item, Value};
@@ -18,12 +19,12 @@ use std::snapshot::Snapshot;
 
 /// A database of one thread with the journal of its calls, by whichever caller. Each call is that of the database, and
 /// is noted with its reply, once. There has to be room for it in the journal, so that no call is made that is not
-/// noted. The calls that may make, remove or resize a row are those of caller 0, which is the main thread.
+/// noted. The calls that may make, remove or resize a row are those of the main thread.
 #[derive(Drop)]
 pub struct LocalDatabase<D: Database> {
     start: Snapshot<D>,
     database: D,
-    entries: Vec<(u32, DatabaseEntry)>,
+    entries: Vec<(Caller, DatabaseEntry)>,
 }
 
 impl<D: Database> Model for LocalDatabase<D> {
@@ -143,7 +144,7 @@ impl<D: Database> LocalDatabase<D> {
     }
 
     /// The database, and the journal of its calls.
-    pub fn into_parts(self) -> (D, Journal<(u32, DatabaseEntry)>)
+    pub fn into_parts(self) -> (D, Journal<(Caller, DatabaseEntry)>)
         ensures rows { D.rows result.0 ≡ self.rows }
         ensures history { result.1 ≡ self.history }
         ensures database { IsDatabase self.start }
@@ -159,15 +160,15 @@ impl<D: Database> LocalDatabase<D> {
         (database, Journal::of(entries))
     }
 
-    /// As `Database::create`, by caller 0.
+    /// As `Database::create`, by the main thread.
     pub fn create(&mut self, alloc: Global, path: Path, kind: NewKey) -> Result<u32, OdbRefusal>
         requires room { 1 ≤ self.old.room }
-        ensures did { Does self.old self.new 0 (Create path kind result) }
+        ensures did { Does self.old self.new main_caller (Create path kind result) }
     {
         let _ = path.names();
         let reply = self.database.create(alloc, &path, kind);
         let entry = DatabaseEntry::Create { path, kind, reply };
-        self.entries.push_reserved((0, entry));
+        self.entries.push_reserved((Caller::MAIN, entry));
         reply
     }
 
@@ -175,7 +176,7 @@ impl<D: Database> LocalDatabase<D> {
     pub fn set(
         &mut self,
         alloc: Global,
-        caller: u32,
+        caller: Caller,
         path: Path,
         index: u32,
         item: Item,
@@ -197,21 +198,21 @@ impl<D: Database> LocalDatabase<D> {
         reply
     }
 
-    /// As `Database::set_all`, by caller 0.
+    /// As `Database::set_all`, by the main thread.
     pub fn set_all(&mut self, alloc: Global, path: Path, value: Value) -> Result<u32, OdbRefusal>
         requires room { 1 ≤ self.old.room }
-        ensures did { Does self.old self.new 0 (SetAll path value result) }
+        ensures did { Does self.old self.new main_caller (SetAll path value result) }
     {
         let _ = path.names();
         let _ = value.tid();
         let reply = self.database.set_all(alloc, &path, &value);
         let entry = DatabaseEntry::SetAll { path, value, reply };
-        self.entries.push_reserved((0, entry));
+        self.entries.push_reserved((Caller::MAIN, entry));
         reply
     }
 
     /// As `Database::get`. Where there is no memory to note the value, the call is refused for that, and so noted.
-    pub fn get(&mut self, alloc: Global, caller: u32, path: Path) -> Result<Value, OdbRefusal>
+    pub fn get(&mut self, alloc: Global, caller: Caller, path: Path) -> Result<Value, OdbRefusal>
         requires room { 1 ≤ self.old.room }
         ensures did { Does self.old self.new caller (Get path result) }
     {
@@ -233,7 +234,7 @@ impl<D: Database> LocalDatabase<D> {
     }
 
     /// As `Database::find`. Takes no memory.
-    pub fn find(&mut self, caller: u32, path: Path) -> Result<u32, OdbRefusal>
+    pub fn find(&mut self, caller: Caller, path: Path) -> Result<u32, OdbRefusal>
         requires room { 1 ≤ self.old.room }
         ensures did { Does self.old self.new caller (Find path result) }
         ensures memory { result ≢ Err no_memory }
@@ -246,7 +247,12 @@ impl<D: Database> LocalDatabase<D> {
     }
 
     /// As `Database::list`. Where there is no memory to note the list, the call is refused for that, and so noted.
-    pub fn list(&mut self, alloc: Global, caller: u32, path: Path) -> Result<Children, OdbRefusal>
+    pub fn list(
+        &mut self,
+        alloc: Global,
+        caller: Caller,
+        path: Path,
+    ) -> Result<Children, OdbRefusal>
         requires room { 1 ≤ self.old.room }
         ensures did { Does self.old self.new caller (ListDir path result) }
     {
@@ -267,28 +273,28 @@ impl<D: Database> LocalDatabase<D> {
         }
     }
 
-    /// As `Database::delete`, by caller 0. Takes no memory.
+    /// As `Database::delete`, by the main thread. Takes no memory.
     pub fn delete(&mut self, path: Path) -> Result<u32, OdbRefusal>
         requires room { 1 ≤ self.old.room }
-        ensures did { Does self.old self.new 0 (Delete path result) }
+        ensures did { Does self.old self.new main_caller (Delete path result) }
         ensures memory { result ≢ Err no_memory }
     {
         let _ = path.names();
         let reply = self.database.delete(&path);
         let entry = DatabaseEntry::Delete { path, reply };
-        self.entries.push_reserved((0, entry));
+        self.entries.push_reserved((Caller::MAIN, entry));
         reply
     }
 
-    /// As `Database::resize`, by caller 0.
+    /// As `Database::resize`, by the main thread.
     pub fn resize(&mut self, alloc: Global, path: Path, len: u32) -> Result<u32, OdbRefusal>
         requires room { 1 ≤ self.old.room }
-        ensures did { Does self.old self.new 0 (Resize path len result) }
+        ensures did { Does self.old self.new main_caller (Resize path len result) }
     {
         let _ = path.names();
         let reply = self.database.resize(alloc, &path, len);
         let entry = DatabaseEntry::Resize { path, len, reply };
-        self.entries.push_reserved((0, entry));
+        self.entries.push_reserved((Caller::MAIN, entry));
         reply
     }
 
@@ -296,7 +302,7 @@ impl<D: Database> LocalDatabase<D> {
     pub fn path_of(
         &mut self,
         alloc: Global,
-        caller: u32,
+        caller: Caller,
         row: u32,
     ) -> Result<Option<Path>, NoMemory>
         requires room { 1 ≤ self.old.room }
