@@ -2,6 +2,7 @@
 use Rattle.std.specs.Prelude.{◌≡◌, ℕ, List, [], ◌∷◌, ◌++◌, refl}
 use Rattle.std.proofs.Common.{ap, sym, subst, ◌∙◌}
 use Rattle.std.proofs.lemmas.List.{append-nil, map-append}
+use Rattle.daq_types.specs.Callers.{main_caller}
 use Rattle.odb_tree.specs.declared.entry.DatabaseEntry.{DatabaseEntry}
 use Rattle.odb_tree.specs.Rows.{Rows}
 use Rattle.odb_tree.specs.Histories.{IsLegal}
@@ -37,17 +38,14 @@ adds_own caller p q entry did legal = record {
   room = did.room;
 }
 
--- by a caller of whom it is known that it has this number
-adds_call : (caller number : ℕ) (p q : Noted) (entry : DatabaseEntry) → number ≡ caller → Does p q number entry → IsLegal q.start q.history
-    → AddsCall (local_access (called_by caller p)) (local_access (called_by caller q)) entry
-adds_call caller number p q entry is did legal = adds_own caller p q entry (subst (λ (by : ℕ). Does p q by entry) is did) legal
-
 -- the same of a database that is seen as this one
-pub calls_port : (d : CalledDatabase) (caller number : ℕ) (p q : Noted) (entry : DatabaseEntry) → called_by caller p ≡ d → number ≡ caller → Does p q number entry → IsLegal q.start q.history
+pub calls_port : (d : CalledDatabase) (caller : ℕ) (p q : Noted) (entry : DatabaseEntry) → called_by caller p ≡ d → Does p q caller entry → IsLegal q.start q.history
     → AddsCall (local_access d) (local_access (called_by caller q)) entry
-calls_port d caller number p q entry view is did legal = subst (λ (x : CalledDatabase). AddsCall (local_access x) (local_access (called_by caller q)) entry) view (adds_call caller number p q entry is did legal)
+calls_port d caller p q entry view did legal = subst (λ (x : CalledDatabase). AddsCall (local_access x) (local_access (called_by caller q)) entry) view (adds_own caller p q entry did legal)
 
 -- by the main thread
-pub calls_main : (d : CalledDatabase) (caller : ℕ) (p q : Noted) (entry : DatabaseEntry) → called_by caller p ≡ d → d.caller ≡ 0 → Does p q 0 entry → IsLegal q.start q.history
+pub calls_main : (d : CalledDatabase) (caller : ℕ) (p q : Noted) (entry : DatabaseEntry) → called_by caller p ≡ d → d.caller ≡ main_caller → Does p q main_caller entry → IsLegal q.start q.history
     → AddsCall (local_access d) (local_access (called_by caller q)) entry
-calls_main d caller p q entry view main did legal = calls_port d caller 0 p q entry view (sym (ap (λ (x : CalledDatabase). x.caller) view ∙ main)) did legal
+calls_main d caller p q entry view main did legal =
+    let is : caller ≡ main_caller = ap (λ (x : CalledDatabase). x.caller) view ∙ main in
+    calls_port d caller p q entry view (subst (λ (by : ℕ). Does p q by entry) (sym is) did) legal

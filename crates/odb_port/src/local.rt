@@ -91,8 +91,7 @@ impl<D: Database> DatabasePort for LocalAccess<D> {
         index: u32,
         item: Item,
     ) -> Result<u32, OdbRefusal> {
-        let caller = self.caller.number();
-        let reply = self.database.set(alloc, caller, path, index, item);
+        let reply = self.database.set(alloc, self.caller, path, index, item);
         self.database.tells_legal();
         reply
     }
@@ -110,15 +109,13 @@ impl<D: Database> DatabasePort for LocalAccess<D> {
     }
 
     fn get<R: Wait>(&mut self, _rt: &R, alloc: Global, path: Path) -> Result<Value, OdbRefusal> {
-        let caller = self.caller.number();
-        let reply = self.database.get(alloc, caller, path);
+        let reply = self.database.get(alloc, self.caller, path);
         self.database.tells_legal();
         reply
     }
 
     fn find<R: Wait>(&mut self, _rt: &R, path: Path) -> Result<u32, OdbRefusal> {
-        let caller = self.caller.number();
-        let reply = self.database.find(caller, path);
+        let reply = self.database.find(self.caller, path);
         self.database.tells_legal();
         reply
     }
@@ -129,8 +126,7 @@ impl<D: Database> DatabasePort for LocalAccess<D> {
         alloc: Global,
         path: Path,
     ) -> Result<Children, OdbRefusal> {
-        let caller = self.caller.number();
-        let reply = self.database.list(alloc, caller, path);
+        let reply = self.database.list(alloc, self.caller, path);
         self.database.tells_legal();
         reply
     }
@@ -159,8 +155,7 @@ impl<D: Database> DatabasePort for LocalAccess<D> {
         alloc: Global,
         row: u32,
     ) -> Result<Option<Path>, NoMemory> {
-        let caller = self.caller.number();
-        let reply = self.database.path_of(alloc, caller, row);
+        let reply = self.database.path_of(alloc, self.caller, row);
         self.database.tells_legal();
         reply
     }
