@@ -1,4 +1,5 @@
 ghost use Rattle.std.specs.Prelude.{◌≡◌, ◌≤◌, ◌<◌, ◌^◌, ◌↔◌, ℕ, List, Option, Some, None, Ok, Err, IfSome, IfOk, IsSome, IsNone};
+ghost use Rattle.daq_model.specs.Events.{event_limit};
 ghost use Rattle.daq_types.specs.declared.events.Event.{Event};
 ghost use Rattle.mid_format.specs.AtHand.{TakesNext, TakesSoFar};
 ghost use Rattle.mid_format.specs.HasRead.{HasRead, nothing_read};
@@ -97,7 +98,7 @@ impl<S: Source> MidReader<S> {
     /// ended. An error is the first fault of the bytes, or `ReadFault` where the source failed; every later call answers
     /// it again. After an error `into` holds an event of which only a part was read, or the one from before.
     pub fn next(&mut self, into: &mut EventBuf) -> Result<Option<()>, MidFault>
-        requires { 4194304 ≤ into.old.room }
+        requires { event_limit ≤ into.old.room }
         // What was read is the bytes of the records and of the events that were given, and the fault is theirs.
         ensures reads { ReadsOn (S.left self.old.source) (S.left self.new.source)
             self.old.progress self.new.progress result into.new.event }
@@ -143,7 +144,7 @@ impl<S: Source> MidReader<S> {
 impl<S: Ahead> MidReader<S> {
     /// Does what `next` does. An event that lies whole at hand is looked at there, and copied once.
     pub fn next_at_hand(&mut self, into: &mut EventBuf) -> Result<Option<()>, MidFault>
-        requires { 4194304 ≤ into.old.room }
+        requires { event_limit ≤ into.old.room }
         ensures reads { ReadsOn (S.left self.old.source) (S.left self.new.source)
             self.old.progress self.new.progress result into.new.event }
         ensures fault { self.new.progress.fault ≡ fault_of result }
@@ -174,7 +175,7 @@ impl<S: Ahead> MidReader<S> {
     ) -> Result<Option<()>, MidFault>
         requires so_far { TakesSoFar (T.has_taken taker.old) (S.left self.old.source)
             self.old.progress }
-        requires room { 4194304 ≤ room.old.room }
+        requires room { event_limit ≤ room.old.room }
         // The taker has one event more, the one that was read, or no more at the end and at a fault.
         ensures gives { (first : Option (List ℕ)) → (events : List Event)
             → HasRead first (S.left self.old.source) self.old.progress events
@@ -207,7 +208,7 @@ impl<S: Ahead> MidReader<S> {
     ) -> Result<Option<()>, MidFault>
         requires so_far { TakesSoFar (T.has_taken taker.old) (S.left self.old.source)
             self.old.progress }
-        requires room { 4194304 ≤ room.old.room }
+        requires room { event_limit ≤ room.old.room }
         ensures gives { (first : Option (List ℕ)) → (events : List Event)
             → HasRead first (S.left self.old.source) self.old.progress events
             → T.has_taken taker.old events → TakesNext (T.has_taken taker.new) first

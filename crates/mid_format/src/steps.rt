@@ -1,4 +1,5 @@
 ghost use Rattle.std.specs.Prelude.{◌≡◌, ◌≤◌, ◌<◌, ◌^◌, ◌+◌, ◌↔◌, ℕ, List, Some, None, IfOk, IfErr, OnOk, OnErr, IsSome, IsNone};
+ghost use Rattle.daq_model.specs.Events.{event_limit};
 ghost use Rattle.daq_types.specs.declared.events.Event.{Event};
 ghost use Rattle.mid_format.specs.Parts.{CountsReads};
 ghost use Rattle.mid_format.specs.Steps.{BeginsReading, BeginStops, FinishesReading, FinishStops, IsGoing, StepReads, Stops};
@@ -57,7 +58,7 @@ pub fn step<S: Source>(
     progress: &mut Progress,
     into: &mut EventBuf,
 ) -> Result<Option<()>, MidFault>
-    requires room { 4194304 ≤ into.old.room }
+    requires room { event_limit ≤ into.old.room }
     requires place { progress.old.at ≤ 2 ^ 62 }
     requires going { IsGoing progress.old }
     ensures reads { IfOk result (λ given. StepReads (S.left source.old) (S.left source.new)

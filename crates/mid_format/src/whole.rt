@@ -1,6 +1,7 @@
 //! Events that lie whole at hand.
 
 ghost use Rattle.std.specs.Prelude.{◌≡◌, ◌≤◌, ◌<◌, ◌^◌, ℕ, List, Option, Some, None, Ok, IfSome};
+ghost use Rattle.daq_model.specs.Events.{event_limit};
 ghost use Rattle.daq_types.specs.declared.events.Event.{Event};
 ghost use Rattle.mid_format.specs.AtHand.{StandsWhole, TakesNext, TakesSoFar, event_in};
 ghost use Rattle.mid_format.specs.HasRead.{HasRead};
@@ -60,7 +61,7 @@ pub fn take_whole<S: Ahead>(
     into: &mut EventBuf,
 )
     requires whole { StandsWhole progress.old (S.at_hand source.old) header.now }
-    requires room { 4194304 ≤ into.old.room }
+    requires room { event_limit ≤ into.old.room }
     ensures reads { StepReads (S.left source.old) (S.left source.new) progress.old progress.new
         (Some tt) into.new.event }
     ensures place { progress.new.at ≤ 2 ^ 62 }
