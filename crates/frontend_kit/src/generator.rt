@@ -7,7 +7,7 @@ use arrayvec::ArrayVec;
 use daq_types::Order;
 use event_header::{EventBuf, Header};
 
-/// The most bytes of data that an event of the generator has.
+/// The most bytes of data that an event of a front-end has. An event of the generator has at most as many.
 pub const EVENT_ROOM: u32 = 80;
 
 /// A front-end that generates its data. It needs no memory.
@@ -50,12 +50,15 @@ impl Generator {
     }
 }
 
+/// The room for the data of an event while they are written.
+const BODY_ROOM: usize = EVENT_ROOM as usize;
+
 /// The data of an event while they are written.
-type Body = ArrayVec<u8, 80>;
+type Body = ArrayVec<u8, BODY_ROOM>;
 
 /// Puts these bytes behind those that are there.
 fn append(body: &mut Body, bytes: &[u8])
-    requires { array_vec_len body.old + length bytes.now ≤ 80 }
+    requires { array_vec_len body.old + length bytes.now ≤ EVENT_ROOM }
     ensures items { body.new.items ≡ body.old.items ++ bytes.now }
     ensures length { array_vec_len body.new ≡ array_vec_len body.old + length bytes.now }
 {
@@ -67,7 +70,7 @@ fn write_body(body: &mut Body, id: u16, start: u32, k: u32)
     requires id { 1 ≤ id }
     requires k { 1 ≤ k }
     ensures bytes { body.new.items ≡ generated_body id start k }
-    ensures length { array_vec_len body.new ≤ 80 }
+    ensures length { array_vec_len body.new ≤ EVENT_ROOM }
 {
     let count = 1 + (k - 1) % 16;
     write_heads(body, 4 * count);
@@ -97,7 +100,7 @@ fn write_heads(body: &mut Body, size: u32)
 
 /// Appends so many words: the upper halves of the states of a linear congruential generator behind this state.
 fn append_words(body: &mut Body, state: u64, count: u32)
-    requires room { array_vec_len body.old + 4 * count ≤ 80 }
+    requires room { array_vec_len body.old + 4 * count ≤ EVENT_ROOM }
     ensures bytes { body.new.items ≡ body.old.items ++ words_encoded (generated_words count state) }
     ensures length { array_vec_len body.new ≡ array_vec_len body.old + 4 * count }
 {
