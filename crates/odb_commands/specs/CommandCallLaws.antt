@@ -1,6 +1,7 @@
 -- Laws of what a command does: its calls where the rows give their replies, what they leave alone, and its calls where
 -- memory ended.
 use Rattle.std.specs.Prelude.{List, Option, Some, None}
+use Rattle.daq_types.specs.Callers.{main_caller}
 use Rattle.odb_tree.specs.declared.entry.DatabaseEntry.{DatabaseEntry}
 use Rattle.odb_port.specs.DatabasePorts.{calls_by}
 use Rattle.odb_runinfo.specs.RunNumberKept.{AllSpareRuninfo}
@@ -15,4 +16,4 @@ PerformsIf c (Some answer) = Performs c answer.calls answer.reply
 -- No command replaces a whole value or removes anything of `/Runinfo`.
 
 abbrev pub Spares : List DatabaseEntry → Type 0
-Spares calls = AllSpareRuninfo (calls_by 0 calls)
+Spares calls = AllSpareRuninfo (calls_by main_caller calls)

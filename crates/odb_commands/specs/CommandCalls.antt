@@ -2,6 +2,7 @@
 -- is; and what the command is answered, by its line and these replies alone.
 use Rattle.std.specs.Prelude.{◌≡◌, ◌≢◌, ℕ, Bool, true, false, List, [], ◌∷◌, length, slice_get, Option, Some, None, Result, Ok, Err}
 use Rattle.std.specs.Option.{unwrap_or}
+use Rattle.daq_types.specs.Callers.{main_caller}
 use Rattle.odb_path.specs.declared.refusals.PathRefusal.{PathRefusal}
 use Rattle.odb_path.specs.PathText.{path_reply}
 use Rattle.odb_value.specs.declared.items.Item.{Item}
@@ -124,7 +125,7 @@ abbrev pub IsAnswerOf : Option Answer → (calls : List DatabaseEntry) → (repl
 IsAnswerOf None calls reply = ⊥
 IsAnswerOf (Some answer) calls reply = IsAnswered answer calls reply
 
--- the calls of all but the main thread, caller 0, leave the rows as they are at that point
+-- the calls of all but the main thread leave the rows as they are at that point
 abbrev pub OthersLeave : Rows → List (ℕ × DatabaseEntry) → Type 0
 OthersLeave s [] = Unit {0}
-OthersLeave s (e ∷ history) = (e.0 ≢ 0 → rows_after s e.1 ≡ s) × OthersLeave (rows_after s e.1) history
+OthersLeave s (e ∷ history) = (e.0 ≢ main_caller → rows_after s e.1 ≡ s) × OthersLeave (rows_after s e.1) history

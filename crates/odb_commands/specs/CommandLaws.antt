@@ -1,11 +1,12 @@
 -- No command replaces a whole value or removes anything of `/Runinfo`.
 use Rattle.std.specs.Prelude.{Option, Some, None}
+use Rattle.daq_types.specs.Callers.{main_caller}
 use Rattle.odb_port.specs.DatabasePorts.{calls_by}
 use Rattle.odb_runinfo.specs.RunNumberKept.{AllSpareRuninfo}
 use Rattle.odb_commands.specs.Answers.{Answer}
 
 abbrev pub AnswerSpares : Answer → Type 0
-AnswerSpares answer = AllSpareRuninfo (calls_by 0 answer.calls)
+AnswerSpares answer = AllSpareRuninfo (calls_by main_caller answer.calls)
 
 abbrev pub SparesIf : Option Answer → Type 0
 SparesIf None = Unit {0}
