@@ -1,7 +1,7 @@
 -- A bank appended piece by piece, and a refusal read off the tests in their order.
-use Rattle.std.proofs.Common.{◌≡◌, ℕ, ◌^◌, ◌<◌, ◌≤◌, true, false, ltb, List, [], ◌++◌, length, take, drop, replicate, Some, None, refl, ap, arith, ◌∙◌, append_assoc}
+use Rattle.std.proofs.Common.{◌≡◌, ℕ, ◌^◌, ◌<◌, ◌≤◌, true, false, ltb, List, [], ◌++◌, length, take, drop, replicate, Some, None, refl, ap, ◌∙◌, append_assoc}
 use Rattle.std.specs.Int.{to_le_bytes, w32}
-use Rattle.std.proofs.lemmas.Bool.{ltb-false}
+use Rattle.std.proofs.lemmas.Bool.{leb-false}
 use Rattle.std.proofs.lemmas.List.{take-replicate}
 use Rattle.bank_format.specs.declared.formats.Format.{Format}
 use Rattle.bank_format.specs.declared.formats.Format.TheVariants.{Bank16, Bank32, Bank32A}
@@ -39,7 +39,7 @@ zeros_cut m n e le = ap (λ (k : ℕ). take {A = ℕ} k (replicate 8 0)) e ∙ t
 
 -- a number that is not past 16 bits fits its field
 pub fits_field : (f : Format) (n : ℕ) → is_past_16_bits f n ≡ false → n < 2 ^ 32 → n < field_limit f
-fits_field Bank16 n short lt = let le : n ≤ 65535 = ltb-false _ _ short in omega arith
+fits_field Bank16 n short lt = leb-false _ _ short
 fits_field Bank32 n short lt = lt
 fits_field Bank32A n short lt = lt
 

@@ -1,5 +1,5 @@
 -- The three formats of a bank area.
-use Rattle.std.specs.Prelude.{ℕ, ◌+◌, ◌-◌, ◌*◌, ◌/◌, ◌^◌, ◌==◌, Bool, false, Option, Some, None, nat_lt, if◌then◌else◌}
+use Rattle.std.specs.Prelude.{ℕ, ◌+◌, ◌-◌, ◌*◌, ◌/◌, ◌^◌, ◌==◌, Bool, false, Option, Some, None, nat_le, if◌then◌else◌}
 use Rattle.std.specs.Int.{Width, w16, w32}
 use Rattle.bank_format.specs.declared.formats.Format.{Format}
 use Rattle.bank_format.specs.declared.formats.Format.TheVariants.{Bank16, Bank32, Bank32A}
@@ -40,7 +40,7 @@ header_len Bank32A = 16
 
 -- whether a number does not fit the fields of 16 bits, in the format that has these
 abbrev pub is_past_16_bits : Format → ℕ → Bool
-is_past_16_bits Bank16 n = nat_lt 65535 n
+is_past_16_bits Bank16 n = nat_le (2 ^ 16) n
 is_past_16_bits Bank32 n = false
 is_past_16_bits Bank32A n = false
 
