@@ -3,9 +3,6 @@ ghost use Rattle.std.specs.Prelude.{◌≡◌, ◌≤◌};
 use daq_types::Order;
 use event_header::EventBuf;
 
-/// The most bytes of data that an event of an equipment has.
-pub const EVENT_BYTES: u32 = 80;
-
 /// What a front-end reads out: it makes the events of a run, one at a time.
 pub trait Equipment: Drop {
     ghost use Rattle.std.specs.Prelude.{◌≡◌, ◌≤◌, ℕ, Bool, length, false};
@@ -28,7 +25,7 @@ pub trait Equipment: Drop {
         ensures { result ≡ takes self.now order.now };
 
     /// Puts event k of a run of this order into the room. The events of a run are numbered from 1. It has at most
-    /// 80 bytes of data, and its id is not that of a run record or of a fragment.
+    /// `EVENT_ROOM` bytes of data, and its id is not that of a run record or of a fragment.
     fn event(&mut self, order: &Order, k: u32, into: &mut EventBuf)
         requires fit { fit self.old }
         requires k { 1 ≤ k }

@@ -14,12 +14,13 @@ ghost use Rattle.front_ends.specs.Fronts.{is_done, is_over, front_tally, begun_r
 ghost use Rattle.front_ends.specs.FrontIds.{event_room};
 ghost use Rattle.front_ends.specs.FrontKept.{IsInRun, FrontStands, KeepsMoments};
 
-use crate::equipment::{EVENT_BYTES, Equipment};
+use crate::equipment::Equipment;
 use crate::front_run::FrontRun;
 use crate::front_step::FrontStep;
 use buffer_core::{BufferPort, SendRefusal};
 use daq_types::{FrontEnded, NoMemory, Order, RunState, Transition, Why};
 use event_header::EventBuf;
+use frontend_kit::EVENT_ROOM;
 use std::alloc::Global;
 use std::marker::Model;
 use std::sync::Wait;
@@ -227,7 +228,7 @@ impl<E: Equipment> FrontEnd<E> {
             (λ front. FrontStands (E.takes equipment) (E.makes equipment) front.run [] []) }
         ensures moments { KeepsMoments [] [] [] }
     {
-        let event = EventBuf::new(alloc, EVENT_BYTES)?;
+        let event = EventBuf::new(alloc, EVENT_ROOM)?;
         Ok(FrontEnd {
             equipment,
             event,

@@ -9,7 +9,7 @@ mod front_step;
 mod generator;
 pub mod laws;
 
-pub use equipment::{EVENT_BYTES, Equipment};
+pub use equipment::Equipment;
 pub use front_end::FrontEnd;
 pub use front_run::FrontRun;
 pub use front_step::FrontStep;
