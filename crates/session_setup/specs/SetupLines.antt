@@ -2,6 +2,7 @@
 use Rattle.std.specs.Prelude.{◌≡◌, ℕ, ◌&&◌, Bool, true, not, if◌then◌else◌, nat_le, nat_lt, List, [], ◌∷◌, ◌++◌, length, Option, Some, None, is_none, unwrap_or, codes}
 use Rattle.odb_path.specs.Paths.{same_name}
 use Rattle.daq_types.specs.Names.{is_compressed}
+use Rattle.daq_model.specs.Events.{any}
 use Rattle.mid_logger.specs.Patterns.{NamePattern, IsPattern, IsPatternText, pattern_text}
 use Rattle.mid_logger.specs.declared.channel_spec.ChannelSpec.{ChannelSpec}
 use Rattle.daq_types.specs.declared.runs.Kind.{Kind}
@@ -137,8 +138,8 @@ default_channel = record {
   number = 0;
   pattern = record { front = codes "run"; back = codes ".mid" };
   buffer = 0;
-  id = 65535;
-  mask = 65535;
+  id = any;
+  mask = any;
 }
 
 -- a list, or this one item where it is empty
