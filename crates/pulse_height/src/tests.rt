@@ -4,8 +4,8 @@ ghost use Rattle.std.specs.Prelude.{◌≡◌, ◌≤◌, IfOk};
 use crate::PulseHeight;
 use buffer_core::BufferPort;
 use daq_types::{FrontEnded, NoMemory, Order, RunState, Transition, Why};
-use front_ends::{EVENT_BYTES, Equipment, FrontEnd, FrontStep};
-use frontend_kit::Generator;
+use front_ends::{Equipment, FrontEnd, FrontStep};
+use frontend_kit::{EVENT_ROOM, Generator};
 use local_port::LocalPort;
 use plain_buffer::PlainBuffer;
 use std::alloc::Global;
@@ -57,7 +57,7 @@ fn step<R: Wait, E: Equipment>(
     requires { 104 ≤ port.old.window.size }
     ensures { port.new.window.size ≡ port.old.window.size }
 {
-    port.reserve(1, u64::from(EVENT_BYTES))?;
+    port.reserve(1, u64::from(EVENT_ROOM))?;
     Ok(front.step(rt, port))
 }
 
