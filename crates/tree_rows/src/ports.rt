@@ -70,12 +70,13 @@ fn rows_are_found(rt: HostRuntime) -> Result<(), Fail> {
 fn a_call_is_its_callers(rt: HostRuntime) -> Result<(), Fail> {
     let alloc = rt.alloc();
     let mut port = main_port(alloc)?;
-    port.set_caller(Caller::of_client(0));
+    let member = Caller::of_client(0);
+    port.set_caller(member);
     let set = port.set(&rt, alloc, Path::read(alloc, b"/A/b")?, 1, Item::UInt8(255));
     assert!(rt; set.is_err());
     let (_, journal) = port.into_database().into_parts();
     match journal.as_slice() {
-        [(caller, _)] => assert_eq!(rt; *caller, 1),
+        [(caller, _)] => assert_eq!(rt; *caller, member),
         _ => assert!(rt; false),
     }
     Ok(())

@@ -153,7 +153,7 @@ fn the_front_end_is_there_already(rt: HostRuntime) -> Result<(), Fail> {
     let entries = journal.as_slice();
     assert_eq!(rt; entries.len(), 2);
     let (caller, again) = &entries[1];
-    assert_eq!(rt; *caller, 0);
+    assert_eq!(rt; *caller, Caller::MAIN);
     assert!(rt;
         matches!(
             again,
