@@ -61,7 +61,8 @@ pub(crate) fn sheet_for(
     dump: Option<Bytes>,
 ) -> Sheet
     requires { IfSome dump (λ text. length text ≤ dump_limit) }
-    ensures is { result ≡ record { run = run; time = time; quota = quota; dump = dump; blanks = [] } }
+    ensures is { result
+        ≡ record { run = run; time = time; quota = quota; dump = dump; blanks = [] } }
     ensures sheet { IsSheet result }
 {
     Sheet {
@@ -86,8 +87,8 @@ pub(crate) fn make_untold<R: Wait, M: Rounds>(
     requires sheet { IsSheet sheet }
     requires empty { tallies.old ≡ [] }
     ensures begun { begin_known (known_from seat.old.own) transition ≡ Ok result.start }
-    ensures made { (told : List ClientTally) × DrivesTransition M.round transition sheet result.start
-        result.outcome told seat.old.own seat.new.own members.old members.new }
+    ensures made { (told : List ClientTally) × DrivesTransition M.round transition sheet
+        result.start result.outcome told seat.old.own seat.new.own members.old members.new }
     ensures known { known_from seat.new.own
         ≡ known_behind transition result.outcome (known_from seat.old.own) }
     ensures last { (known_from seat.new.own).starts ≡ result.start }
