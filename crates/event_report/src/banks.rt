@@ -21,6 +21,7 @@ use std::marker::Model;
 pub struct BankTable {
     rows: Vec<BankRow>,
     rest: u64,
+    last: usize,
 }
 
 impl Model for BankTable {
@@ -36,17 +37,20 @@ impl Model for BankTable {
     ghost invariant = { λ t. IsTable row_number t.rows };
 }
 
-/// Where the row with this number stands, or where it would.
-fn find_row(rows: &[BankRow], number: u64) -> Result<usize, usize>
+/// Where the row with this number stands, or where it would. The row at `last` is looked at first.
+fn find_row(rows: &[BankRow], last: usize, number: u64) -> Result<usize, usize>
     requires { IsRising row_number rows.now }
     ensures { MatchResult result (IsRowAt row_number number rows.now)
         (FitsAt row_number number rows.now) }
 {
+    if last < rows.len() && order_number(rows[last].name, rows[last].kind) == number {
+        return Ok(last);
+    }
     rows.binary_search_by_key(&number, |row| order_number(row.name, row.kind))
 }
 
 /// Counts a bank by its name, type and figures, and answers whether there was a row or place for one.
-fn count_row(rows: &mut Vec<BankRow>, bank: BankRow) -> bool
+fn count_row(rows: &mut Vec<BankRow>, last: &mut usize, bank: BankRow) -> bool
     requires table { IsTable row_number rows.old }
     requires sound { All (λ r. FiguresWithin r.figures.count r.figures) rows.old.items }
     requires bank { FiguresWithin bank.figures.count bank.figures }
@@ -57,8 +61,9 @@ fn count_row(rows: &mut Vec<BankRow>, bank: BankRow) -> bool
     ensures within { (m : ℕ) → All (λ r. FiguresWithin m r.figures) rows.old.items
         → All (λ r. FiguresWithin (m + bank.figures.count) r.figures) rows.new.items }
 {
-    match find_row(rows, order_number(bank.name, bank.kind)) {
+    match find_row(rows, *last, order_number(bank.name, bank.kind)) {
         Ok(at) => {
+            *last = at;
             let row = &mut rows[at];
             row.figures = join(&row.figures, &bank.figures);
             true
@@ -91,7 +96,11 @@ impl BankTable {
         ensures { IfOk result (λ table. table ≡ bank_tally []) }
     {
         let rows = Vec::with_capacity(alloc, ROW_LIMIT)?;
-        Ok(BankTable { rows, rest: 0 })
+        Ok(BankTable {
+            rows,
+            rest: 0,
+            last: 0,
+        })
     }
 
     /// The same table once more, in room of its own.
@@ -103,6 +112,7 @@ impl BankTable {
         Ok(BankTable {
             rows,
             rest: self.rest,
+            last: self.last,
         })
     }
 
@@ -127,7 +137,7 @@ impl BankTable {
             kind,
             figures,
         };
-        if !count_row(&mut self.rows, row) {
+        if !count_row(&mut self.rows, &mut self.last, row) {
             self.rest += 1;
         }
     }

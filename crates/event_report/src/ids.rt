@@ -15,6 +15,7 @@ use std::marker::Model;
 pub struct IdTable {
     rows: Vec<IdRow>,
     rest: u64,
+    last: usize,
 }
 
 impl Model for IdTable {
@@ -30,16 +31,19 @@ impl Model for IdTable {
     ghost invariant = { λ t. IsTable id_of t.rows };
 }
 
-/// Where the row of an id stands, or where it would.
-fn find_id(rows: &[IdRow], id: u16) -> Result<usize, usize>
+/// Where the row of an id stands, or where it would. The row at `last` is looked at first.
+fn find_id(rows: &[IdRow], last: usize, id: u16) -> Result<usize, usize>
     requires { IsRising id_of rows.now }
     ensures { MatchResult result (IsRowAt id_of id rows.now) (FitsAt id_of id rows.now) }
 {
+    if last < rows.len() && rows[last].id == id {
+        return Ok(last);
+    }
     rows.binary_search_by_key(&id, |row| row.id)
 }
 
 /// Counts an event with this id, and answers whether there was a row or place for one.
-fn count_id(rows: &mut Vec<IdRow>, id: u16) -> bool
+fn count_id(rows: &mut Vec<IdRow>, last: &mut usize, id: u16) -> bool
     requires table { IsTable id_of rows.old }
     requires small { All (λ r. r.count ≤ 2 ^ 62) rows.old.items }
     ensures taken { result ≡ takes id_of id rows.old.items }
@@ -48,8 +52,9 @@ fn count_id(rows: &mut Vec<IdRow>, id: u16) -> bool
     ensures within { (m : ℕ) → All (λ r. r.count ≤ m) rows.old.items
         → All (λ r. r.count ≤ m + 1) rows.new.items }
 {
-    match find_id(rows, id) {
+    match find_id(rows, *last, id) {
         Ok(at) => {
+            *last = at;
             rows[at].count += 1;
             true
         }
@@ -80,7 +85,11 @@ impl IdTable {
         ensures { IfOk result (λ table. table ≡ id_tally []) }
     {
         let rows = Vec::with_capacity(alloc, ROW_LIMIT)?;
-        Ok(IdTable { rows, rest: 0 })
+        Ok(IdTable {
+            rows,
+            rest: 0,
+            last: 0,
+        })
     }
 
     /// The same table once more, in room of its own.
@@ -92,6 +101,7 @@ impl IdTable {
         Ok(IdTable {
             rows,
             rest: self.rest,
+            last: self.last,
         })
     }
 
@@ -101,7 +111,7 @@ impl IdTable {
         ensures counted { self.new ≡ id_tally_after id self.old }
         ensures within { (m : ℕ) → IdsWithin m self.old → IdsWithin (m + 1) self.new }
     {
-        if !count_id(&mut self.rows, id) {
+        if !count_id(&mut self.rows, &mut self.last, id) {
             self.rest += 1;
         }
     }
