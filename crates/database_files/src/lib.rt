@@ -2,8 +2,6 @@
 //! counts of faults and of clashes, so that a command's reply is owed to its own calls.
 #![tactic(auto)]
 
-#[cfg(test)]
-mod checks;
 mod file_replies;
 mod reading;
 mod replies;

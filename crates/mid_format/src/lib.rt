@@ -2,8 +2,6 @@
 #![tactic(auto)]
 
 mod blocks;
-#[cfg(test)]
-mod checks;
 mod faults;
 pub mod laws;
 mod parts;

@@ -1,10 +1,6 @@
 //! The script of a session: its lines, and the commands that they are.
 #![tactic(auto)]
 
-#[cfg(test)]
-mod checks;
-#[cfg(test)]
-mod form_checks;
 mod forms;
 mod key_forms;
 pub mod laws;

@@ -1,8 +1,8 @@
-//! Files in memory that are written and read back, and the reply where a call fails or a name clashes.
-use crate::{FileRead, FileReplies, FileReply, read_file, write_file};
+//! Files of the online database that are written and read back, and the reply where a call fails or a name clashes.
 use daq_io::Files;
 use daq_mem::{FileFail, FileOp, MemFiles};
 use daq_types::{FileName, NoMemory};
+use database_files::{FileRead, FileReplies, FileReply, read_file, write_file};
 use std::alloc::Global;
 use std::test::Fail;
 

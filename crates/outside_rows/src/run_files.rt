@@ -1,9 +1,10 @@
-//! Worked rows of run files.
+//! Run files, read from a source.
 ghost use Rattle.std.specs.Prelude.{◌≡◌, ◌≤◌, ◌<◌, None, IfOk, vec_len};
 
-use crate::{BlockSource, MidFault, MidReader, begin_record, end_record};
 use daq_io::{Failed, Source, copy_front};
+use daq_mem::MemSource;
 use event_header::EventBuf;
+use mid_format::{BlockSource, MidFault, MidReader, begin_record, end_record};
 use std::alloc::{AllocError, Global};
 use std::test::Fail;
 
@@ -24,45 +25,21 @@ fn one_event(alloc: Global) -> Result<Vec<u8>, AllocError> {
     Ok(file)
 }
 
-/// A source of these bytes in pieces of at most `most` bytes, whose call of the number `fails_at`, from 0, fails. It tells
-/// nothing.
+/// A source of these bytes, one at a time. It tells nothing.
 #[derive(Drop)]
-struct Pieces<'a> {
+struct SingleBytes<'a> {
     rest: &'a [u8],
-    most: usize,
-    fails_at: Option<u64>,
-    calls: u64,
-    faults: u64,
 }
 
-impl Pieces<'_> {
-    /// All of these bytes, as many at a time as are wanted.
-    fn whole(bytes: &[u8]) -> Pieces<'_> {
-        Pieces {
-            rest: bytes,
-            most: bytes.len(),
-            fails_at: None,
-            calls: 0,
-            faults: 0,
-        }
-    }
-}
-
-impl Source for Pieces<'_> {
+impl Source for SingleBytes<'_> {
     ghost left = { λ _. None };
 
-    ghost faults = { λ s. s.faults };
+    ghost faults = { λ _. 0 };
 
     ghost origin = { λ _. None };
 
     fn read(&mut self, into: &mut [u8]) -> Result<usize, Failed> {
-        let fails = self.fails_at == Some(self.calls);
-        self.calls = self.calls.saturating_add(1);
-        if fails {
-            self.faults = self.faults.saturating_add(1);
-            return Err(Failed);
-        }
-        let (front, _) = into.split_at_mut(into.len().min(self.most));
+        let (front, _) = into.split_at_mut(into.len().min(1));
         let count = copy_front(self.rest, front);
         let (_, rest) = self.rest.split_at(count);
         self.rest = rest;
@@ -97,7 +74,7 @@ fn cut(len: usize) -> Result<Option<()>, MidFault> {
 /// What a reader answers to these bytes.
 fn answers_to(alloc: Global, bytes: &[u8]) -> Result<[Result<Option<()>, MidFault>; 2], Fail> {
     let mut into = EventBuf::new(alloc, 4_194_304)?;
-    let mut reader = MidReader::new(Pieces::whole(bytes));
+    let mut reader = MidReader::new(MemSource::new(bytes.to_vec(alloc)?, Vec::new(alloc)));
     Ok(read_two(&mut reader, &mut into))
 }
 
@@ -155,12 +132,10 @@ fn files_with_one_wrong_field(rt: HostRuntime) -> Result<(), Fail> {
 #[test]
 fn a_source_in_single_bytes(rt: HostRuntime) -> Result<(), Fail> {
     let file = one_event(rt.alloc())?;
-    let source = Pieces {
-        most: 1,
-        ..Pieces::whole(file.as_slice())
-    };
     let mut into = EventBuf::new(rt.alloc(), 4_194_304)?;
-    let mut reader = MidReader::new(source);
+    let mut reader = MidReader::new(SingleBytes {
+        rest: file.as_slice(),
+    });
     assert_eq!(rt; reader.run(), None);
     assert_eq!(rt; reader.next(&mut into), Ok(Some(())));
     assert_eq!(rt; into.bytes().len(), 40);
@@ -170,22 +145,18 @@ fn a_source_in_single_bytes(rt: HostRuntime) -> Result<(), Fail> {
     assert_eq!(rt; reader.last(), None);
     assert_eq!(rt; reader.next(&mut into), Ok(None));
     assert_eq!(rt; reader.last(), Some(end_record(1, 1010, 176)));
-    assert_eq!(rt; reader.next(&mut into), Ok(None));
     assert_eq!(rt; reader.into_source().read(&mut [0; 8]), Ok(0));
     Ok(())
 }
 
 #[test]
 fn a_source_that_fails_in_an_event(rt: HostRuntime) -> Result<(), Fail> {
-    let file = one_event(rt.alloc())?;
-    let source = Pieces {
-        fails_at: Some(3),
-        ..Pieces::whole(file.as_slice())
-    };
-    let mut into = EventBuf::new(rt.alloc(), 4_194_304)?;
+    let alloc = rt.alloc();
+    let mut into = EventBuf::new(alloc, 4_194_304)?;
+    let source = MemSource::new(one_event(alloc)?, vec![in alloc; 3]?);
     let mut reader = MidReader::new(source);
-    assert_eq!(rt; reader.next(&mut into), Err(MidFault::ReadFault));
-    assert_eq!(rt; reader.next(&mut into), Err(MidFault::ReadFault));
+    let failed = Err(MidFault::ReadFault);
+    assert_eq!(rt; read_two(&mut reader, &mut into), [failed, failed]);
     assert_eq!(rt; reader.run(), Some(1));
     Ok(())
 }
@@ -213,12 +184,11 @@ fn block_of(alloc: Global, len: u8) -> Result<Vec<u8>, AllocError>
 
 #[test]
 fn events_at_hand(rt: HostRuntime) -> Result<(), Fail> {
-    let file = three_events(rt.alloc())?;
+    let alloc = rt.alloc();
     for len in [1, 39, 80, 229, 255] {
-        let mut into = EventBuf::new(rt.alloc(), 4_194_304)?;
-        let block = block_of(rt.alloc(), len)?;
-        let source = BlockSource::new(Pieces::whole(file.as_slice()), block);
-        let mut reader = MidReader::new(source);
+        let mut into = EventBuf::new(alloc, 4_194_304)?;
+        let file = MemSource::new(three_events(alloc)?, Vec::new(alloc));
+        let mut reader = MidReader::new(BlockSource::new(file, block_of(alloc, len)?));
         assert_eq!(rt; reader.next_at_hand(&mut into), Ok(Some(())));
         assert_eq!(rt; reader.next_at_hand(&mut into), Ok(Some(())), "{len}");
         assert_eq!(rt; reader.place(), 269);

@@ -1,7 +1,7 @@
 //! Worked lines of the script with their commands, and the places at which lines are refused.
-use crate::{Command, LineRefusal};
 use daq_text::TextBuffer;
 use daq_types::{Kind, NoMemory};
+use odb_script::{Command, LineRefusal};
 use std::test::Fail;
 
 /// Writes a text in angle brackets.
@@ -31,26 +31,9 @@ fn kind_text(kind: Kind) -> &'static [u8] {
     }
 }
 
-/// Writes a command of a session's declarations with all its parts, and nothing for any other.
-fn spell_declared(text: &mut TextBuffer, command: Command<'_>) -> Result<(), NoMemory> {
+/// Writes a command that declares a member that reads, with all its parts, and nothing for any other.
+fn spell_reader(text: &mut TextBuffer, command: Command<'_>) -> Result<(), NoMemory> {
     match command {
-        Command::Buffer { name, size } => {
-            spell_one(text, "buffer", name.as_slice())?;
-            text.blank_number(size as u64)
-        }
-        Command::Equip {
-            name,
-            id,
-            mask,
-            buffer,
-            limit,
-        } => {
-            spell_one(text, "equip", name.as_slice())?;
-            text.blank_number(id as u64)?;
-            text.blank_number(mask as u64)?;
-            spell_text(text, buffer.as_slice())?;
-            text.blank_number(limit as u64)
-        }
         Command::Channel {
             number,
             pattern,
@@ -78,6 +61,30 @@ fn spell_declared(text: &mut TextBuffer, command: Command<'_>) -> Result<(), NoM
             text.text(kind_text(kind))
         }
         _ => Ok(()),
+    }
+}
+
+/// Writes a command that declares a buffer or a front-end, with all its parts; other commands in other ways.
+fn spell_declared(text: &mut TextBuffer, command: Command<'_>) -> Result<(), NoMemory> {
+    match command {
+        Command::Buffer { name, size } => {
+            spell_one(text, "buffer", name.as_slice())?;
+            text.blank_number(size as u64)
+        }
+        Command::Equip {
+            name,
+            id,
+            mask,
+            buffer,
+            limit,
+        } => {
+            spell_one(text, "equip", name.as_slice())?;
+            text.blank_number(id as u64)?;
+            text.blank_number(mask as u64)?;
+            spell_text(text, buffer.as_slice())?;
+            text.blank_number(limit as u64)
+        }
+        other => spell_reader(text, other),
     }
 }
 
