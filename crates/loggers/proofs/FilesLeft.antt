@@ -55,7 +55,7 @@ noted_slot : (note : ChannelStage → ChannelStage) (buffer : ℕ) (o : Option C
 noted_slot note buffer None = refl
 noted_slot note buffer (Some c) = ap Some (noted_spec note buffer c)
 
-specs_noted : (note : ChannelStage → ChannelStage) (buffer : ℕ) (slots : List (Option Channel)) → specs_in (map (option_map (noted_channel note buffer)) slots) ≡ specs_in slots
+pub specs_noted : (note : ChannelStage → ChannelStage) (buffer : ℕ) (slots : List (Option Channel)) → specs_in (map (option_map (noted_channel note buffer)) slots) ≡ specs_in slots
 specs_noted note buffer [] = refl
 specs_noted note buffer (o ∷ os) =
     ap (λ (s : Option ChannelSpec). s ∷ specs_in (map (option_map (noted_channel note buffer)) os)) (noted_slot note buffer o)

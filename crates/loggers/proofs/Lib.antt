@@ -31,6 +31,7 @@ pub mod TurnUses
 pub mod FaultsNoted
 pub mod FilesLeft
 pub mod ManyRose
+pub mod RisesKept
 pub mod ReasonsKept
 pub mod NamesUndone
 pub mod NamesKept

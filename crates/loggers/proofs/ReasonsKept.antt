@@ -3,6 +3,7 @@ use Rattle.std.specs.Prelude.{◌≡◌, ◌≤◌, ◌+◌, nat_lt, ℕ, suc, B
 use Rattle.std.specs.List.{list_all}
 use Rattle.std.specs.Option.{option_map}
 use Rattle.std.proofs.Common.{ap, sym, subst, ◌∙◌, arith, inl, inr}
+use Rattle.std.proofs.lemmas.List.{length-map}
 use Rattle.std.proofs.lemmas.List.Sums.{sum_by-cons}
 use Rattle.daq_types.specs.declared.events.Event.{Event}
 use Rattle.daq_types.specs.declared.runs.ChannelState.{ChannelState}
@@ -35,18 +36,20 @@ use Rattle.mid_logger.specs.Channels.{stage_begun, stage_ended, place_marked, re
 use Rattle.mid_logger.specs.ChannelEnds.{ClosesRead, ClosesFile, stage_settled, state_otherwise}
 use Rattle.mid_logger.specs.ChannelTurns.{NotesFault, OpenFaults, OpenClashes, broken_run, drained_run}
 use Rattle.mid_logger.specs.Pulls.{PullOf, PullsIn, TakesReply, TakesBy, FindsNone, PullFaults, drains_at_none}
-use Rattle.loggers.specs.Moments.{RunFiles, LoggerMoment, ChannelStep, StepsChannel, StepsSlot, StepsAt, CallsBuffer, MarksBuffer, InTurn, noted_channel, AreIdle}
+use Rattle.loggers.specs.Moments.{RunFiles, LoggerMoment, ChannelStep, StepsChannel, StepsSlot, StepsAt, CallsBuffer, MarksBuffer, InTurn, noted_channel, AreIdle, channel_limit}
 use Rattle.loggers.specs.ChannelSteps.{OpensChannel, AbortsChannel, PullsChannel}
 use Rattle.loggers.specs.SlotPulls.{PullsSlot, PullsNumbered}
 use Rattle.loggers.specs.Finishing.{EndingMoment, EndsSlot, EndsSlotAt, EndsFiles, LoggerFinish, FinishesBy, FinishesLogger, is_settled_slot, waiting_stop, states_idle}
-use Rattle.loggers.specs.Turning.{BeginsBuffer, EndsBuffer, PausesBuffer, ResumesBuffer, LoggerTurn, OpensBelow, BeginsBelow, AbortsAll, StartsAll, UndoesOpens, UndoesBegins, StartsSo, TakesStart, TakesStop, TakesMark, TakesAbort, TakesTurnBy, TakesTurn, is_run_on, is_started, is_of_start, buffers_begun, start_answer}
+use Rattle.loggers.specs.Turning.{BeginsBuffer, EndsBuffer, PausesBuffer, ResumesBuffer, LoggerTurn, OpensBelow, BeginsBelow, AbortsAll, StartsAll, UndoesOpens, UndoesBegins, StartsSo, TakesStart, TakesStop, TakesMark, TakesAbort, TakesTurnBy, TakesTurn, IsIdleOutside, is_run_on, is_started, is_of_start, buffers_begun, start_answer}
 use Rattle.loggers.specs.LoggerStands.{logger_turn}
 use Rattle.loggers.specs.NewLoggers.{HasNewChannels}
-use Rattle.loggers.specs.ToldCounts.{faults_of_state, faults_of_refusal, faults_of_answer, clashes_of_answer, counted_of, faults_told, clashes_told, broken_off}
-use Rattle.loggers.specs.Reasons.{IsReasonSo, IsStartSo, NoneFell, AreTurnsSo, HasRefusedAsk, GivesReasons}
+use Rattle.loggers.specs.ToldCounts.{faults_of_state, faults_of_refusal, faults_of_answer, clashes_of_answer, undone_by, counted_of, faults_told, clashes_told, starts_undone, broken_off}
+use Rattle.loggers.specs.OtherFiles.{specs_in}
+use Rattle.loggers.specs.Reasons.{IsReasonSo, IsStartSo, NoneFell, NoneClashed, AreTurnsSo, NamesChannels, AnswerFits, IsLatestOpen, HasRefusedAsk, GivesReasons}
 use Rattle.loggers.proofs.InTurns.{turns_keep}
 use Rattle.loggers.proofs.RefusedAsks.{TurnAsks, turn_asks, pull_asks}
 use Rattle.loggers.proofs.FaultsNoted.{rose_then, then_rose}
+use Rattle.loggers.proofs.RisesKept.{RisesKept, FinishTold, told_by, all_same, idle_off, turn_rises, turn_fits, pull_rises, ends_rise_all}
 use Rattle.loggers.proofs.ManyRose.{StaysOrRose, KeepsOff, by_none, by_same, by_stays, fell_same, fell_then, put_counts, off_of, off_at_most, set_off, map_off}
 
 -- What is told and counted, and the channels that broke off.
@@ -311,27 +314,6 @@ starts_kept (Err why) order dump begun a b starts = elim starts as (λ w. KeptRe
 
 -- What was counted in the turn of a start.
 
-abbrev SameCounts : (old new : RunFiles) → Type 0
-SameCounts old new = (new.faults ≡ old.faults) × (new.clashes ≡ old.clashes)
-
-counts_same : (old new : RunFiles) → new ≡ old → SameCounts old new
-counts_same old new same = (ap (λ (f : RunFiles). f.faults) same, ap (λ (f : RunFiles). f.clashes) same)
-
-same_turns : (Step : ℕ → LoggerMoment → LoggerMoment → Type 0) (n : ℕ) (a b : LoggerMoment) → ((k : ℕ) (x y : LoggerMoment) → Step k x y → SameCounts x.files y.files) → InTurn Step n a b → SameCounts a.files b.files
-same_turns Step n a b each turns = turns_keep Step (λ (m : LoggerMoment). SameCounts a.files m.files) n a b
-    (λ k x y step same. (let now = each k x y step in (now.0 ∙ same.0, now.1 ∙ same.1))) turns (refl, refl)
-
-open_same : (order : Order) (dump : List ℕ) (n : ℕ) (slot : Option Channel) (a b : LoggerMoment) → StepsSlot (OpensChannel order dump (Ok tt)) n slot a b → SameCounts a.files b.files
-open_same order dump n None a b same = counts_same a.files b.files (ap (λ (m : LoggerMoment). m.files) same)
-open_same order dump n (Some before) a b s = (s.step.faults, s.step.clashes)
-
-all_same : (order : Order) (dump : List ℕ) (begun : ℕ) (a b : LoggerMoment) → StartsAll order dump begun a b → SameCounts a.files b.files
-all_same order dump begun a b starts =
-    let m = starts.opened in
-    let first : SameCounts a.files m.files = same_turns (λ k. StepsAt (OpensChannel order dump (Ok tt)) k) (length a.slots) a m (λ k x y step. open_same order dump k (slot_at x.slots k) x y step) starts.opens in
-    let last : SameCounts m.files b.files = same_turns (λ k. BeginsBuffer order.start k) (length a.ports) m b (λ k x y step. counts_same x.files y.files step.1.marks.files) starts.begins in
-    (last.0 ∙ first.0, last.1 ∙ first.1)
-
 opens_reason : (order : Order) (dump : List ℕ) (why : Why) (begun : ℕ) (a b : LoggerMoment) → UndoesOpens order dump why begun a b → IsReasonSo why a.files b.files
 opens_reason order dump NotReady begun a b undoes = tt
 opens_reason order dump (Exists channel) begun a b undoes =
@@ -474,11 +456,22 @@ ends_all f time ends = turns_keep (λ k. EndsSlotAt time f.stop_dump k) (EndedSi
 
 -- From the first moment on.
 
-turns_later : (turns : List MemberTurn) (first old new : RunFiles) → NoneFell old new → AreTurnsSo turns first old → AreTurnsSo turns first new
-turns_later [] first old new fell so = fell_then first old new so fell
-turns_later (t ∷ ts) first old new fell so =
+clashed_then : (f g h : RunFiles) → NoneClashed f g → NoneClashed g h → NoneClashed f h
+clashed_then f g h first second = record { fell = fell_then f g h first.fell second.fell; clashes = second.clashes ∙ first.clashes }
+
+turns_later : (turns : List MemberTurn) (first old new : RunFiles) → NoneClashed old new → AreTurnsSo turns first old → AreTurnsSo turns first new
+turns_later [] first old new quiet so = clashed_then first old new so quiet
+turns_later (t ∷ ts) first old new quiet so =
     let last = so.1.1.1 in
-    (so.0, (so.1.0, (so.1.1.0, record { start = last.start; within = last.within; since = fell_then so.1.0 old new last.since fell })))
+    (so.0, (so.1.0, (so.1.1.0, record { start = last.start; within = last.within; clashes = last.clashes; since = clashed_then so.1.0 old new last.since quiet })))
+
+fits_later : (slots later : List (Option Channel)) (turns : List MemberTurn) → specs_in later ≡ specs_in slots → ((t : MemberTurn) → HasTurn turns t → AnswerFits (specs_in slots) t.transition t.answer) → (t : MemberTurn) → HasTurn turns t → AnswerFits (specs_in later) t.transition t.answer
+fits_later slots later turns same fits t stands = subst (λ (specs : List (Option ChannelSpec)). AnswerFits specs t.transition t.answer) (sym same) (fits t stands)
+
+few_later : (slots later : List (Option Channel)) → specs_in later ≡ specs_in slots → length slots ≤ channel_limit → length later ≤ channel_limit
+few_later slots later same few =
+    let many : length (specs_in later) ≡ length (specs_in slots) = ap (λ (l : List (Option ChannelSpec)). length l) same in
+    omega (arith, many, few, length-map later (option_map (λ (c : Channel). c.spec)), length-map slots (option_map (λ (c : Channel). c.spec)))
 
 -- A call in which so much more is told.
 more_faults : (many told clashes : ℕ) (slots later : List (Option Channel)) (first old new : RunFiles) → CountsKept told clashes slots later old new → RoseBy (many + broken_off slots) first.faults old.faults → RoseBy (told + many + broken_off later) first.faults new.faults
@@ -492,64 +485,103 @@ more_clashes many clashes told slots later first old new kept rose =
     RoseBy-fewer (clashes + many) (many + clashes) first.clashes new.clashes (omega arith) (RoseBy-then many clashes first.clashes old.clashes new.clashes rose kept.clashed)
 
 -- a call by which no turn was answered
-later_reasons : (slots later : List (Option Channel)) (ports more : List Access) (first old new : RunFiles) (turns : List MemberTurn) → CountsKept 0 0 slots later old new → (HasRefusedAsk ports → HasRefusedAsk more) → GivesReasons slots ports first old turns → GivesReasons later more first new turns
-later_reasons slots later ports more first old new turns kept stay gives = record {
+later_reasons : (slots later : List (Option Channel)) (ports more : List Access) (first old new : RunFiles) (turns : List MemberTurn) → CountsKept 0 0 slots later old new → RisesKept 0 0 slots later old new → (HasRefusedAsk ports → HasRefusedAsk more) → GivesReasons slots ports first old turns → GivesReasons later more first new turns
+later_reasons slots later ports more first old new turns kept rises stay gives = record {
   faults = RoseBy-fewer (faults_told turns + broken_off later) (0 + faults_told turns + broken_off later) first.faults new.faults (omega arith) (more_faults (faults_told turns) 0 0 slots later first old new kept gives.faults);
   clashes = RoseBy-fewer (clashes_told turns) (0 + clashes_told turns) first.clashes new.clashes (omega arith) (more_clashes (clashes_told turns) 0 0 slots later first old new kept gives.clashes);
-  in_turns = turns_later turns first old new (kept_fell 0 0 slots later old new kept) gives.in_turns;
+  no_fault = λ none.
+      let now = rises.clean (omega (arith, none)) in
+      let off : broken_off slots ≡ 0 = now.0 in
+      now.1 ∙ gives.no_fault (omega (arith, none, off));
+  in_turns = turns_later turns first old new (record { fell = kept_fell 0 0 slots later old new kept; clashes = rises.names refl }) gives.in_turns;
+  fits = fits_later slots later turns rises.specs gives.fits;
+  few = few_later slots later rises.specs gives.few;
   buffers = λ t stands is. stay (gives.buffers t stands is);
 }
 
--- the same with nothing told
-untold : (told clashes : ℕ) (slots later : List (Option Channel)) (old new : RunFiles) → CountsKept told clashes slots later old new → CountsKept 0 0 slots later old new
-untold told clashes slots later old new kept =
-    let off = kept.off in
-    record { more = kept.more; off = omega (arith, off); rose = kept.rose; clashed = RoseBy-fewer 0 clashes old.clashes new.clashes (omega arith) kept.clashed }
-
 -- one turn more
 turn_more_reasons : (slots later : List (Option Channel)) (ports more : List Access) (first old new : RunFiles) (turns : List MemberTurn) (t : MemberTurn) → CountsKept (counted_of faults_of_answer t.answer) (counted_of clashes_of_answer t.answer) slots later old new
+    → RisesKept (told_by t.transition t.answer) (counted_of clashes_of_answer t.answer) slots later old new → AnswerFits (specs_in slots) t.transition t.answer
     → (t.transition ≡ Start → (answer : Answer) → t.answer ≡ Some answer → IsStartSo answer old new) → (t.answer ≡ Some (No BufferRefused) → HasRefusedAsk more) → (HasRefusedAsk ports → HasRefusedAsk more)
     → GivesReasons slots ports first old turns → GivesReasons later more first new (t ∷ turns)
-turn_more_reasons slots later ports more first old new turns t kept start refused stay gives =
+turn_more_reasons slots later ports more first old new turns t kept rises fits start refused stay gives =
     let told : ℕ = counted_of faults_of_answer t.answer in
     let clashes : ℕ = counted_of clashes_of_answer t.answer in
     let all_told : faults_told (t ∷ turns) ≡ told + faults_told turns = sum_by-cons (λ (u : MemberTurn). counted_of faults_of_answer u.answer) t turns in
     let all_clashes : clashes_told (t ∷ turns) ≡ clashes + clashes_told turns = sum_by-cons (λ (u : MemberTurn). counted_of clashes_of_answer u.answer) t turns in
+    let all_undone : starts_undone (t ∷ turns) ≡ undone_by t.transition t.answer + starts_undone turns = sum_by-cons (λ (u : MemberTurn). undone_by u.transition u.answer) t turns in
     record {
       faults = subst (λ (many : ℕ). RoseBy (many + broken_off later) first.faults new.faults) (sym all_told) (more_faults (faults_told turns) told clashes slots later first old new kept gives.faults);
       clashes = subst (λ (many : ℕ). RoseBy many first.clashes new.clashes) (sym all_clashes) (more_clashes (clashes_told turns) clashes told slots later first old new kept gives.clashes);
-      in_turns = (old, (new, (gives.in_turns, record { start = start; within = kept_fell told clashes slots later old new kept; since = fell_same new })));
+      no_fault = λ none.
+          let now = rises.clean (omega (arith, none, all_told, all_undone)) in
+          let off : broken_off slots ≡ 0 = now.0 in
+          now.1 ∙ gives.no_fault (omega (arith, none, off, all_told, all_undone));
+      in_turns = (
+        old,
+        (
+          new,
+          (
+            gives.in_turns,
+            record {
+              start = start;
+              within = kept_fell told clashes slots later old new kept;
+              clashes = rises.names;
+              since = record { fell = fell_same new; clashes = refl };
+            },
+          ),
+        ),
+      );
+      fits = λ u stands. subst (λ (specs : List (Option ChannelSpec)). AnswerFits specs u.transition u.answer) (sym rises.specs)
+          (elim stands as (λ w. AnswerFits (specs_in slots) u.transition u.answer) [
+            | inl same ↦ subst (λ (x : MemberTurn). AnswerFits (specs_in slots) x.transition x.answer) same fits
+            | inr before ↦ gives.fits u before
+          ]);
+      few = few_later slots later rises.specs gives.few;
       buffers = λ u stands is. elim stands as (λ w. HasRefusedAsk more) [
         | inl same ↦ refused (ap (λ (x : MemberTurn). x.answer) same ∙ is)
         | inr before ↦ stay (gives.buffers u before is)
       ];
     }
 
-pub turn_reasons : (t : LoggerTurn) (first : RunFiles) (turns : List MemberTurn) → TakesTurn t → GivesReasons t.before.slots t.before.ports first t.before.files turns → GivesReasons t.after.slots t.after.ports first t.after.files (logger_turn t.transition t.order t.dump t.answer ∷ turns)
-turn_reasons t first turns takes gives =
+pub turn_reasons : (t : LoggerTurn) (first : RunFiles) (turns : List MemberTurn) → TakesTurn t → IsIdleOutside t.run t.before.slots → GivesReasons t.before.slots t.before.ports first t.before.files turns
+    → GivesReasons t.after.slots t.after.ports first t.after.files (logger_turn t.transition t.order t.dump t.answer ∷ turns)
+turn_reasons t first turns takes idle gives =
     let turned : Turned t.transition t = turned_by t.transition t takes in
     let asks : TurnAsks t = turn_asks t takes in
-    turn_more_reasons t.before.slots t.after.slots t.before.ports t.after.ports first t.before.files t.after.files turns (logger_turn t.transition t.order t.dump t.answer) turned.kept turned.start asks.refused asks.stay gives
+    turn_more_reasons t.before.slots t.after.slots t.before.ports t.after.ports first t.before.files t.after.files turns (logger_turn t.transition t.order t.dump t.answer) turned.kept (turn_rises t idle takes) (turn_fits t takes) turned.start asks.refused asks.stay gives
 
 pub pull_reasons : (n : ℕ) (answer : Pulled) (a b : LoggerMoment) (first : RunFiles) (turns : List MemberTurn) → PullsNumbered n answer a b → GivesReasons a.slots a.ports first a.files turns → GivesReasons b.slots b.ports first b.files turns
-pull_reasons n answer a b first turns pulls gives = later_reasons a.slots b.slots a.ports b.ports first a.files b.files turns (pulled_kept n answer (slot_at a.slots n) a b refl pulls) (pull_asks n answer a b pulls) gives
+pull_reasons n answer a b first turns pulls gives = later_reasons a.slots b.slots a.ports b.ports first a.files b.files turns (pulled_kept n answer (slot_at a.slots n) a b refl pulls) (pull_rises n answer (slot_at a.slots n) a b refl pulls) (pull_asks n answer a b pulls) gives
 
--- The latest turn, if there is one, is answered with these states.
-answered_reasons : (slots later : List (Option Channel)) (ports : List Access) (first old new : RunFiles) (states : List ChannelState) (turns : List MemberTurn) → CountsKept (sum_by faults_of_state states) 0 slots later old new → GivesReasons slots ports first old turns
-    → GivesReasons later ports first new (latest_answered turns (Some (Yes (Channels states))))
-answered_reasons slots later ports first old new states [] kept gives = later_reasons slots later ports ports first old new [] (untold (sum_by faults_of_state states) 0 slots later old new kept) (λ had. had) gives
-answered_reasons slots later ports first old new states (t ∷ ts) kept gives =
+-- The latest turn, which is not answered, is a stop, and is answered with these states.
+open_stop : (specs : List (Option ChannelSpec)) (t : MemberTurn) → t.answer ≡ None → AnswerFits specs t.transition t.answer → t.transition ≡ Stop
+open_stop specs t waits fits = (subst (λ (answer : Option Answer). AnswerFits specs t.transition answer) waits fits).kind
+
+answered_reasons : (slots later : List (Option Channel)) (ports : List Access) (first old new : RunFiles) (states : List ChannelState) (turns : List MemberTurn) → CountsKept (sum_by faults_of_state states) 0 slots later old new → RisesKept (sum_by faults_of_state states) 0 slots later old new
+    → NamesChannels (Some (Yes (Channels states))) (specs_in slots) → IsLatestOpen turns → GivesReasons slots ports first old turns → GivesReasons later ports first new (latest_answered turns (Some (Yes (Channels states))))
+answered_reasons slots later ports first old new states [] kept rises named waits gives = absurd waits
+answered_reasons slots later ports first old new states (t ∷ ts) kept rises named waits gives =
     let answer : Answer = Yes (Channels states) in
     let told : ℕ = sum_by faults_of_state states in
+    let stop : t.transition ≡ Stop = open_stop (specs_in slots) t waits (gives.fits t (inl refl)) in
     let before : faults_told (t ∷ ts) ≡ counted_of faults_of_answer t.answer + faults_told ts = sum_by-cons (λ (u : MemberTurn). counted_of faults_of_answer u.answer) t ts in
+    let none_before : counted_of faults_of_answer t.answer ≡ 0 = ap (counted_of faults_of_answer) waits in
     let behind : faults_told (record t { answer = Some answer } ∷ ts) ≡ told + faults_told ts = sum_by-cons (λ (u : MemberTurn). counted_of faults_of_answer u.answer) (record t { answer = Some answer }) ts in
     let clashes_before : clashes_told (t ∷ ts) ≡ counted_of clashes_of_answer t.answer + clashes_told ts = sum_by-cons (λ (u : MemberTurn). counted_of clashes_of_answer u.answer) t ts in
     let clashes_behind : clashes_told (record t { answer = Some answer } ∷ ts) ≡ 0 + clashes_told ts = sum_by-cons (λ (u : MemberTurn). counted_of clashes_of_answer u.answer) (record t { answer = Some answer }) ts in
+    let undone_before : starts_undone (t ∷ ts) ≡ undone_by t.transition t.answer + starts_undone ts = sum_by-cons (λ (u : MemberTurn). undone_by u.transition u.answer) t ts in
+    let undone_behind : starts_undone (record t { answer = Some answer } ∷ ts) ≡ undone_by t.transition (Some answer) + starts_undone ts = sum_by-cons (λ (u : MemberTurn). undone_by u.transition u.answer) (record t { answer = Some answer }) ts in
+    let undone_none : undone_by t.transition t.answer ≡ 0 = ap (λ (k : Transition). undone_by k t.answer) stop in
     let so = gives.in_turns in
     let last = so.1.1.1 in
     record {
       faults = RoseBy-fewer (faults_told (record t { answer = Some answer } ∷ ts) + broken_off later) (told + faults_told (t ∷ ts) + broken_off later) first.faults new.faults (omega (arith, before, behind)) (more_faults (faults_told (t ∷ ts)) told 0 slots later first old new kept gives.faults);
       clashes = RoseBy-fewer (clashes_told (record t { answer = Some answer } ∷ ts)) (0 + clashes_told (t ∷ ts)) first.clashes new.clashes (omega (arith, clashes_before, clashes_behind)) (more_clashes (clashes_told (t ∷ ts)) 0 told slots later first old new kept gives.clashes);
+      no_fault = λ none.
+          let now = rises.clean (omega (arith, none, behind)) in
+          let off : broken_off slots ≡ 0 = now.0 in
+          now.1 ∙ gives.no_fault (omega (arith, none, off, before, none_before, behind, undone_before, undone_behind, undone_none));
       in_turns = (
         so.0,
         (
@@ -559,11 +591,18 @@ answered_reasons slots later ports first old new states (t ∷ ts) kept gives =
             record {
               start = λ is given told_so. let same : answer ≡ given = cc (told_so) in subst (λ (a : Answer). IsStartSo a so.0 so.1.0) same tt;
               within = last.within;
-              since = fell_then so.1.0 old new last.since (kept_fell told 0 slots later old new kept);
+              clashes = λ none. last.clashes (ap (counted_of clashes_of_answer) waits);
+              since = clashed_then so.1.0 old new last.since (record { fell = kept_fell told 0 slots later old new kept; clashes = rises.names refl });
             },
           ),
         ),
       );
+      fits = λ u stands. subst (λ (specs : List (Option ChannelSpec)). AnswerFits specs u.transition u.answer) (sym rises.specs)
+          (elim stands as (λ w. AnswerFits (specs_in slots) u.transition u.answer) [
+            | inl same ↦ subst (λ (x : MemberTurn). AnswerFits (specs_in slots) x.transition x.answer) same (record { kind = stop; channels = named })
+            | inr earlier ↦ gives.fits u (inr earlier)
+          ]);
+      few = few_later slots later rises.specs gives.few;
       buffers = λ u stands is. elim stands as (λ w. HasRefusedAsk ports) [
         | inl same ↦ absurd (let other : Some answer ≡ Some (No BufferRefused) = ap (λ (x : MemberTurn). x.answer) same ∙ is in cc (other))
         | inr earlier ↦ gives.buffers u (inr earlier) is
@@ -573,30 +612,38 @@ answered_reasons slots later ports first old new states (t ∷ ts) kept gives =
 waiting_reasons : (f : LoggerFinish) (ports : List Access) (first : RunFiles) (turns : List MemberTurn) → f.answer ≡ None → f.later_slots ≡ f.slots → f.later_files ≡ f.files → GivesReasons f.slots ports first f.files turns → GivesReasons f.later_slots ports first f.later_files (latest_answered turns f.answer)
 waiting_reasons f ports first turns none slots files gives = rw (none, slots, files) gives
 
-finish_by : (f : LoggerFinish) (ports : List Access) (first : RunFiles) (turns : List MemberTurn) (settled : Bool) (stop : Option ℕ) → FinishesBy settled stop f → GivesReasons f.slots ports first f.files turns → GivesReasons f.later_slots ports first f.later_files (latest_answered turns f.answer)
-finish_by f ports first turns settled None leaves gives = waiting_reasons f ports first turns leaves.answer_is leaves.slots leaves.files gives
-finish_by f ports first turns false (Some time) leaves gives = waiting_reasons f ports first turns leaves.answer_is leaves.slots leaves.files gives
-finish_by f ports first turns true (Some time) ends gives =
+finish_by : (f : LoggerFinish) (ports : List Access) (first : RunFiles) (turns : List MemberTurn) (settled : Bool) (stop : Option ℕ) → FinishesBy settled stop f → IsLatestOpen turns → GivesReasons f.slots ports first f.files turns
+    → GivesReasons f.later_slots ports first f.later_files (latest_answered turns f.answer)
+finish_by f ports first turns settled None leaves waits gives = waiting_reasons f ports first turns leaves.answer_is leaves.slots leaves.files gives
+finish_by f ports first turns false (Some time) leaves waits gives = waiting_reasons f ports first turns leaves.answer_is leaves.slots leaves.files gives
+finish_by f ports first turns true (Some time) ends waits gives =
+    let told : FinishTold f ends.states = ends_rise_all f time ends gives.few in
     subst (λ (answer : Option Answer). GivesReasons f.later_slots ports first f.later_files (latest_answered turns answer)) (sym ends.answer_is)
-    (answered_reasons f.slots f.later_slots ports first f.files f.later_files ends.states turns (ends_all f time ends) gives)
+    (answered_reasons f.slots f.later_slots ports first f.files f.later_files ends.states turns (ends_all f time ends) told.rises told.named waits gives)
 
-pub finish_reasons : (f : LoggerFinish) (ports : List Access) (first : RunFiles) (turns : List MemberTurn) → FinishesLogger f → GivesReasons f.slots ports first f.files turns → GivesReasons f.later_slots ports first f.later_files (latest_answered turns f.answer)
-finish_reasons f ports first turns finishes gives = finish_by f ports first turns (list_all is_settled_slot f.slots) (waiting_stop f.run) finishes gives
+pub finish_reasons : (f : LoggerFinish) (ports : List Access) (first : RunFiles) (turns : List MemberTurn) → FinishesLogger f → IsLatestOpen turns → GivesReasons f.slots ports first f.files turns → GivesReasons f.later_slots ports first f.later_files (latest_answered turns f.answer)
+finish_reasons f ports first turns finishes waits gives = finish_by f ports first turns (list_all is_settled_slot f.slots) (waiting_stop f.run) finishes waits gives
+
+-- The clashes of which the turns tell.
+pub clashes_are_told : (slots : List (Option Channel)) (ports : List Access) (first now : RunFiles) (turns : List MemberTurn) → GivesReasons slots ports first now turns → clashes_told turns ≡ 0 → now.clashes ≡ first.clashes
+clashes_are_told slots ports first now turns gives none = clashes_by turns first now gives.in_turns none
+  where
+    clashes_by : (ts : List MemberTurn) (f g : RunFiles) → AreTurnsSo ts f g → clashes_told ts ≡ 0 → g.clashes ≡ f.clashes
+    clashes_by [] f g so untold = so.clashes
+    clashes_by (t ∷ ts) f g so untold =
+        let all : clashes_told (t ∷ ts) ≡ counted_of clashes_of_answer t.answer + clashes_told ts = sum_by-cons (λ (u : MemberTurn). counted_of clashes_of_answer u.answer) t ts in
+        let last = so.1.1.1 in
+        last.since.clashes ∙ (last.clashes (omega (arith, all, untold)) ∙ clashes_by ts f so.0 so.1.1.0 (omega (arith, all, untold)))
 
 -- A logger whose channels are all idle, and that gave no answer.
-idle_off : (slots : List (Option Channel)) → AreIdle slots → broken_off slots ≡ 0
-idle_off [] idle = refl
-idle_off (None ∷ os) idle = idle_off os (λ n c there. idle (suc n) c there)
-idle_off (Some c ∷ os) idle =
-    let none : off_of c.stage ≡ 0 = ap off_of (idle 0 c refl) in
-    let rest : broken_off os ≡ 0 = idle_off os (λ n x there. idle (suc n) x there) in
-    omega (arith, none, rest, sum_by-cons (λ (slot : Option Channel). cond (passes (λ (x : Channel). is_some (broken_run x.stage)) slot) 1 0) (Some c) os)
-
-pub idle_reasons : (slots : List (Option Channel)) (ports : List Access) → AreIdle slots → (files : RunFiles) → GivesReasons slots ports files files []
-idle_reasons slots ports idle files = record {
+pub idle_reasons : (slots : List (Option Channel)) (ports : List Access) → AreIdle slots → length slots ≤ channel_limit → (files : RunFiles) → GivesReasons slots ports files files []
+idle_reasons slots ports idle few files = record {
   faults = subst (λ (off : ℕ). RoseBy (0 + off) files.faults files.faults) (sym (idle_off slots idle)) (by_same files.faults files.faults refl);
   clashes = by_same files.clashes files.clashes refl;
-  in_turns = fell_same files;
+  no_fault = λ none. refl;
+  in_turns = record { fell = fell_same files; clashes = refl };
+  fits = λ t stands. absurd stands;
+  few = few;
   buffers = λ t stands is. absurd stands;
 }
 

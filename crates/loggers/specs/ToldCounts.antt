@@ -1,10 +1,12 @@
--- How many faults and clashes of the run files a logger told, and how many of its channels broke off in a run that is not
--- settled.
+-- How many faults and clashes of the run files a logger told, in how many turns it undid what was opened, and how many of its
+-- channels broke off in a run that is not settled.
 use Rattle.std.specs.Prelude.{ℕ, is_some, sum_by, count_by, List, Option, Some, None}
 use Rattle.daq_types.specs.declared.runs.ChannelState.{ChannelState}
 use Rattle.daq_types.specs.declared.runs.ChannelState.TheVariants.{Broken as IsBroken}
+use Rattle.daq_types.specs.declared.runs.Transition.{Transition}
+use Rattle.daq_types.specs.declared.runs.Transition.TheVariants.{Start, StartAbort}
 use Rattle.daq_types.specs.declared.runs.Why.{Why}
-use Rattle.daq_types.specs.declared.runs.Why.TheVariants.{Exists, Fault}
+use Rattle.daq_types.specs.declared.runs.Why.TheVariants.{NotReady, Exists, Fault}
 use Rattle.buffer_core.specs.Slots.{passes}
 use Rattle.transitions.specs.declared.answers.Answer.{Answer}
 use Rattle.transitions.specs.declared.answers.Answer.TheVariants.{Yes, No}
@@ -45,6 +47,25 @@ faults_told turns = sum_by (λ t. counted_of faults_of_answer t.answer) turns
 -- the clashes of which they tell
 abbrev pub clashes_told : List MemberTurn → ℕ
 clashes_told turns = sum_by (λ t. counted_of clashes_of_answer t.answer) turns
+
+-- A start that is refused undoes what was opened; but nothing was, where it is refused as not ready.
+abbrev pub undone_of_refusal : Why → ℕ
+undone_of_refusal NotReady = 0
+undone_of_refusal why = 1
+
+abbrev pub undone_of_answer : Answer → ℕ
+undone_of_answer (No why) = undone_of_refusal why
+undone_of_answer (Yes tally) = 0
+
+-- a turn in which what was opened is undone: that of a start that is refused, or a start-abort
+abbrev pub undone_by : Transition → Option Answer → ℕ
+undone_by Start answer = counted_of undone_of_answer answer
+undone_by StartAbort answer = 1
+undone_by transition answer = 0
+
+-- In how many of these turns what was opened was undone. The answer does not tell whether a call on the files failed meanwhile.
+abbrev pub starts_undone : List MemberTurn → ℕ
+starts_undone turns = sum_by (λ t. undone_by t.transition t.answer) turns
 
 -- how many of these channels broke off in a run that is not settled
 abbrev pub broken_off : List (Option Channel) → ℕ

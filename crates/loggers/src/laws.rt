@@ -2,7 +2,7 @@
 
 ghost use Rattle.loggers.specs.LoggerLaws.{FinishesKeep, TurnsKeep, TurnsLeaveKnown, PullsLeaveKnown, TurnsNote, PullsNote, FinishesNote, NotesFollow};
 ghost use Rattle.loggers.specs.LoggerStands.{StandingLoggerKeeps};
-ghost use Rattle.loggers.specs.Reasons.{TurnsGiveReasons, PullsGiveReasons, FinishesGiveReasons, ReasonsTell};
+ghost use Rattle.loggers.specs.Reasons.{TurnsGiveReasons, PullsGiveReasons, FinishesGiveReasons, ReasonsTell, ClashesAreTold};
 ghost use Rattle.loggers.specs.LeftNames.{TurnsKeepNames, PullsKeepNames, FinishesKeepNames, StandingHasStarted, StandingHasStopped, PullsKeepStopped};
 ghost use Rattle.loggers.specs.OtherFiles.{TurnsLeaveFiles, PullsLeaveFiles, FinishesLeaveFiles};
 
@@ -67,12 +67,14 @@ pub fn faults_noted()
 
 /// What a logger answers rests on the counts of the run files, and each call keeps that: for each start that is refused for a
 /// name a clash was counted, for each that is refused for a fault one was, and for a buffer one is refused only where that
-/// refused a call; and for each channel that is told to be broken a fault was counted.
+/// refused a call; and for each channel that is told to be broken a fault was counted. And a fault was counted only where one of
+/// these is told, a channel broke off that is not told yet, or a start was undone; a clash only where a start was refused for one.
 pub fn reasons_given()
     ensures turns { TurnsGiveReasons }
     ensures pulls { PullsGiveReasons }
     ensures finishes { FinishesGiveReasons }
     ensures tell { ReasonsTell }
+    ensures names { ClashesAreTold }
 {}
 
 /// Where no fault is counted, all names of run files are as they were at first but those of the runs that were stopped, and

@@ -1,3 +1,4 @@
+use Rattle.std.proofs.Common.{arith}
 use Rattle.loggers.proofs.NewStands.{new_stands, new_room, new_own, new_failed}
 use Rattle.loggers.proofs.FairTurns.{new_fair}
 use Rattle.loggers.proofs.ReasonsKept.{idle_reasons, new_idle}
@@ -19,4 +20,4 @@ pub returns-clause-failed : goal.returns-clause-failed
 returns-clause-failed c = λ failed. new_failed c.args.specs c.args.rooms.now c.in_ok-channels.channels c.in_ok-channels.ensures failed
 
 pub returns-clause-reasons : goal.returns-clause-reasons
-returns-clause-reasons c = λ ports files. idle_reasons c.in_ok-channels.channels ports (new_idle c.args.specs c.args.rooms.now c.in_ok-channels.channels c.in_ok-channels.ensures) files
+returns-clause-reasons c = λ ports files. idle_reasons c.in_ok-channels.channels ports (new_idle c.args.specs c.args.rooms.now c.in_ok-channels.channels c.in_ok-channels.ensures) (omega (arith, c.in_ok-channels.ensures.many)) files
