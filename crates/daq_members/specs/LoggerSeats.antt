@@ -63,7 +63,8 @@ pub record IsLoggerSeated {F : Type 0} (seen : F → Seen) (logger : LoggerSeen 
 
 -- Each answer of the logger rests on the counts of the run files, as they were when it took its seat and as they are: a
 -- start was refused for a name only where a clash was counted, for a fault only where one was, and for a buffer only where that
--- refused a call; and a channel broke off only where a fault was counted.
+-- refused a call; and a channel broke off only where a fault was counted. And each clash that was counted is told, and so is each
+-- fault, by an answer or by a channel that broke off, or else a start was undone.
 abbrev pub HasLoggerReasons : {F : Type 0} → (read : F → RunFiles) → LoggerSeen F → Type 0
 HasLoggerReasons read logger =
     GivesReasons logger.slots logger.ports (read logger.first) (read logger.files) (member_turns logger.client logger.calls)
