@@ -24,7 +24,8 @@ use Rattle.member_model.specs.TurnCalls.{member_turns}
 use Rattle.member_model.specs.LoggerKept.{LoggerChannel, IsStateSo}
 use Rattle.loggers.specs.Moments.{RunFiles}
 use Rattle.loggers.specs.LoggerStands.{logger_channels}
-use Rattle.loggers.specs.Reasons.{AreStatesSo, AreAnswersSo, ReasonsTell}
+use Rattle.loggers.specs.OtherFiles.{specs_in}
+use Rattle.loggers.specs.Reasons.{AreStatesSo, AreAnswersSo, NamesRefuser, AnswerFits, ReasonsTell}
 use Rattle.loggers.specs.LeftNames.{NoneRose}
 use Rattle.analyzers.specs.AnalyzerKept.{IsReaderReason}
 use Rattle.blank_laws.specs.BlankLaws.{BlanksSuffice}
@@ -93,12 +94,19 @@ front_refuses laws c ends first now sheet start why tallies n f at client is tur
 answers_so : CountLaws → (c : ClosedSession) (ends : MembersAtEnd c) (first now : RunFiles) → LoggerReasons c ends first now → AreAnswersSo (member_turns (logger_client c) (engine_calls c (logger_caller c))) first now
 answers_so laws c ends first now reasons = laws.tell c.slots ends.logger.ports first now (member_turns (logger_client c) (engine_calls c (logger_caller c))) reasons
 
+-- the channel for whose file the logger refused a start is one of its own
+refuser_so : (c : ClosedSession) (ends : MembersAtEnd c) (first now : RunFiles) → LoggerReasons c ends first now → (why : Why) (turn : MemberTurn) → HasTurn (member_turns (logger_client c) (engine_calls c (logger_caller c))) turn → turn.answer ≡ Some (No why) → NamesRefuser why (specs_in c.slots)
+refuser_so c ends first now reasons why turn stands answered =
+    (subst (λ (answer : Option Answer). AnswerFits (specs_in c.slots) turn.transition answer) answered (reasons.fits turn stands)).channels
+
 -- why the logger answered so
 logger_reason : CountLaws → (c : ClosedSession) (ends : MembersAtEnd c) (first now : RunFiles) → LoggerReasons c ends first now → (why : Why) (turn : MemberTurn) → HasTurn (member_turns (logger_client c) (engine_calls c (logger_caller c))) turn → turn.transition ≡ Start → turn.answer ≡ Some (No why)
-    → IsLoggerReason why first now
+    → IsLoggerReason c why first now
 logger_reason laws c ends first now reasons NotReady turn stands starts answered = absurd (never_unready laws.undone laws.over c ends turn stands starts answered)
-logger_reason laws c ends first now reasons (Exists channel) turn stands starts answered = answers_so laws c ends first now reasons turn (No (Exists channel)) stands answered
-logger_reason laws c ends first now reasons (Fault channel) turn stands starts answered = answers_so laws c ends first now reasons turn (No (Fault channel)) stands answered
+logger_reason laws c ends first now reasons (Exists channel) turn stands starts answered =
+    (refuser_so c ends first now reasons (Exists channel) turn stands answered, answers_so laws c ends first now reasons turn (No (Exists channel)) stands answered)
+logger_reason laws c ends first now reasons (Fault channel) turn stands starts answered =
+    (refuser_so c ends first now reasons (Fault channel) turn stands answered, answers_so laws c ends first now reasons turn (No (Fault channel)) stands answered)
 logger_reason laws c ends first now reasons BufferRefused turn stands starts answered = absurd (logger_granted laws.undone laws.asking c ends laws.over (reasons.buffers turn stands answered))
 
 logger_refuses : CountLaws → (c : ClosedSession) (ends : MembersAtEnd c) (first now : RunFiles) → LoggerReasons c ends first now → (sheet : Sheet) (start : ℕ) (why : Why) (tallies : List ClientTally) → RefusesBy c first now sheet start why tallies (logger_caller c)

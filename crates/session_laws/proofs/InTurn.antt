@@ -43,10 +43,10 @@ pub record OneLaws : Type 0 where
 -- Turns between moments.
 
 fell_through : (turns : List MemberTurn) (first now : RunFiles) → AreTurnsSo turns first now → NoneFell first now
-fell_through [] first now so = so
+fell_through [] first now so = so.fell
 fell_through (t ∷ ts) first now so =
     let last = so.1.1.1 in
-    fell_then first so.1.0 now (fell_then first so.0 so.1.0 (fell_through ts first so.0 so.1.1.0) last.within) last.since
+    fell_then first so.1.0 now (fell_then first so.0 so.1.0 (fell_through ts first so.0 so.1.1.0) last.within) last.since.fell
 
 in_turn : (turns : List MemberTurn) (first now : RunFiles) → AreTurnsSo turns first now → (t : MemberTurn) (answer : Answer) → HasTurn turns t → t.transition ≡ Start → t.answer ≡ Some answer → InItsTurn first now answer
 in_turn [] first now so t answer stands starts answered = absurd stands
@@ -58,7 +58,7 @@ in_turn (u ∷ us) first now so t answer stands starts answered =
         behind = so.1.0;
         early = fell_through us first so.0 so.1.1.0;
         within = last.within;
-        late = last.since;
+        late = last.since.fell;
         so = last.start (ap (λ (x : MemberTurn). x.transition) same ∙ starts) answer (ap (λ (x : MemberTurn). x.answer) same ∙ answered);
       }
       | inr old ↦
@@ -68,7 +68,7 @@ in_turn (u ∷ us) first now so t answer stands starts answered =
             behind = earlier.behind;
             early = earlier.early;
             within = earlier.within;
-            late = fell_then earlier.behind so.0 now earlier.late (fell_then so.0 so.1.0 now last.within last.since);
+            late = fell_then earlier.behind so.0 now earlier.late (fell_then so.0 so.1.0 now last.within last.since.fell);
             so = earlier.so;
           }
     ]

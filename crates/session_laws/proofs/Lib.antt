@@ -22,3 +22,4 @@ pub mod ChannelsSame
 pub mod InTurn
 pub mod OneEach
 pub mod StartsRefused
+pub mod RisesTold

@@ -1,11 +1,14 @@
 -- The files of other names are as they were at first.
-use Rattle.std.specs.Prelude.{◌≡◌, ℕ, zero, suc, List, [], ◌∷◌, ◌++◌, Contains, Option, Some, None, Ok, refl, ◌⊎◌}
+use Rattle.std.specs.Prelude.{◌≡◌, ℕ, zero, suc, true, List, [], ◌∷◌, ◌++◌, Contains, Option, Some, None, Ok, refl, ◌⊎◌}
 use Rattle.std.specs.Option.{option_map}
 use Rattle.std.proofs.Common.{ap, sym, subst, ◌∙◌, arith, inl, inr}
 use Rattle.daq_types.specs.Callers.{entries_by, main_caller}
 use Rattle.daq_types.specs.declared.runs.Order.{Order}
+use Rattle.daq_types.specs.declared.runs.RunState.{RunState}
+use Rattle.daq_types.specs.declared.runs.RunState.TheVariants.{Stopped, Running, Paused}
 use Rattle.daq_types.specs.declared.runs.Transition.{Transition}
 use Rattle.daq_types.specs.declared.runs.Transition.TheVariants.{Start, Stop, Pause, Resume, StartAbort}
+use Rattle.run_states.specs.States.{is_allowed}
 use Rattle.buffer_core.specs.Slots.{slot_at}
 use Rattle.transitions.specs.declared.sheet.Sheet.{Sheet}
 use Rattle.transitions.specs.declared.entry.EngineEntry.{EngineEntry}
@@ -68,11 +71,9 @@ pub record StartBegun (c : ClosedSession) (turn : MemberTurn) : Type 0 where
   pub whole : engine_calls c main_caller ≡ before ++ Begin Start sheet (Ok turn.order.start) ∷ after
   pub number : sheet.run ≡ turn.order.run
 
-pub start_begun : TurnsWereBegun → (c : ClosedSession) → MembersAtEnd c → (turn : MemberTurn) → HasTurn (member_turns (logger_client c) (engine_calls c (logger_caller c))) turn → turn.transition ≡ Start → StartBegun c turn
-start_begun law c ends turn has is =
-    let was : WasBegun c.engine turn = law (logger_caller c) (logger_client c) c.engine ends.engine (speaks (logger_client c) c.engine (names_own c ends)) turn has in
+begin_told : (c : ClosedSession) → MembersAtEnd c → (turn : MemberTurn) (was : WasBegun c.engine turn) → was.transition ≡ Start → StartBegun c turn
+begin_told c ends turn was kind =
     let start : ℕ = turn.order.start in
-    let kind : was.transition ≡ Start = of_start was.transition turn was.of_begin.kind is in
     let may : IsEngineCaller was.caller (Begin was.transition was.sheet (Ok start)) =
     may_call engine_opening was.earlier (was.caller, Begin was.transition was.sheet (Ok start)) was.later (subst (IsLegalEngine engine_opening) was.stands ends.engine) in
     let begin : EngineEntry = Begin Start was.sheet (Ok start) in
@@ -87,6 +88,28 @@ start_begun law c ends turn has is =
       whole = ap (entries_by main_caller) stands ∙ own_around main_caller was.earlier was.later begin;
       number = sym (ap (λ (o : Order). o.run) was.of_begin.order);
     }
+
+was_begun : TurnsWereBegun → (c : ClosedSession) → MembersAtEnd c → (turn : MemberTurn) → HasTurn (member_turns (logger_client c) (engine_calls c (logger_caller c))) turn → WasBegun c.engine turn
+was_begun law c ends turn has = law (logger_caller c) (logger_client c) c.engine ends.engine (speaks (logger_client c) c.engine (names_own c ends)) turn has
+
+pub start_begun : TurnsWereBegun → (c : ClosedSession) → MembersAtEnd c → (turn : MemberTurn) → HasTurn (member_turns (logger_client c) (engine_calls c (logger_caller c))) turn → turn.transition ≡ Start → StartBegun c turn
+start_begun law c ends turn has is =
+    let was : WasBegun c.engine turn = was_begun law c ends turn has in
+    begin_told c ends turn was (of_start was.transition turn was.of_begin.kind is)
+
+-- a start-abort is not begun: it comes of a start
+never_begun : (state : RunState) → is_allowed state StartAbort ≡ true → ⊥
+never_begun Stopped allowed = absurd (cc (allowed))
+never_begun Running allowed = absurd (cc (allowed))
+never_begun Paused allowed = absurd (cc (allowed))
+
+pub abort_begun : TurnsWereBegun → (c : ClosedSession) → MembersAtEnd c → (turn : MemberTurn) → HasTurn (member_turns (logger_client c) (engine_calls c (logger_caller c))) turn → turn.transition ≡ StartAbort → StartBegun c turn
+abort_begun law c ends turn has is =
+    let was : WasBegun c.engine turn = was_begun law c ends turn has in
+    elim was.of_begin.kind as (λ w. StartBegun c turn) [
+      | inl same ↦ absurd (never_begun _ (subst (λ (t : Transition). is_allowed _ t ≡ true) (sym same ∙ is) was.of_begin.allowed))
+      | inr off ↦ begin_told c ends turn was off.0
+    ]
 
 starts_run : TurnsWereBegun → (c : ClosedSession) → MembersAtEnd c → (run : ℕ) → StartTurn (member_turns (logger_client c) (engine_calls c (logger_caller c))) run → BeginsStartOf (engine_calls c main_caller) run
 starts_run law c ends run started =

@@ -304,7 +304,7 @@ states_in_tally client states = elim (eqb_tells client client) as (λ w. states_
   | inr differs ↦ absurd (differs.1 refl)
 ]
 
-states_there : (client : ℕ) (tallies : List ClientTally) (index : ℕ) (states : List ChannelState) → slice_get tallies index ≡ Some (record { client = client; tally = Channels states }) → (found : List ChannelState) × (states_told client tallies ≡ Some found)
+pub states_there : (client : ℕ) (tallies : List ClientTally) (index : ℕ) (states : List ChannelState) → slice_get tallies index ≡ Some (record { client = client; tally = Channels states }) → (found : List ChannelState) × (states_told client tallies ≡ Some found)
 states_there client [] index states at = absurd (cc (at))
 states_there client (x ∷ xs) zero states at =
     let same : x ≡ record { client = client; tally = Channels states } = cc (at) in

@@ -109,6 +109,32 @@ one_end (t ∷ ts) start begin stop off are begins ends aborts = elim begins.sta
       ]
 ]
 
+-- and it is stopped once
+pub one_stop : (ts : List MemberTurn) (start : ℕ) (begin one two : MemberTurn) → AreEngineTurns ts → Turned ts Start start begin → Turned ts Stop start one → Turned ts Stop start two → one ≡ two
+one_stop [] start begin one two are begins first second = absurd begins.stands
+one_stop (t ∷ ts) start begin one two are begins first second = elim begins.stands as (λ w. one ≡ two) [
+  | inl same ↦ elim first.stands as (λ w. one ≡ two) [
+    | inl here ↦ absurd (let e : Start ≡ Stop = sym begins.is ∙ (ap (λ (u : MemberTurn). u.transition) (sym same ∙ here) ∙ first.is) in cc (e))
+    | inr later ↦
+        let new : IsNewStart t.order.start ts = next_turn t ts Start (ap (λ (u : MemberTurn). u.transition) same ∙ begins.is) are in
+        absurd (new.1 one later (first.of ∙ sym (ap (λ (u : MemberTurn). u.order.start) same ∙ begins.of)))
+  ]
+  | inr before ↦
+      let start_turn : Turned ts Start start begin = record { stands = before; is = begins.is; of = begins.of } in
+      elim first.stands as (λ w. one ≡ two) [
+        | inl here ↦ elim second.stands as (λ w. one ≡ two) [
+          | inl too ↦ sym here ∙ too
+          | inr later ↦ absurd (none_before t ts start begin two Stop are (inl (ap (λ (u : MemberTurn). u.transition) here ∙ first.is)) (ap (λ (u : MemberTurn). u.order.start) here ∙ first.of) start_turn
+              (record { stands = later; is = second.is; of = second.of }) (inl refl))
+        ]
+        | inr earlier ↦ elim second.stands as (λ w. one ≡ two) [
+          | inl here ↦ absurd (none_before t ts start begin one Stop are (inl (ap (λ (u : MemberTurn). u.transition) here ∙ second.is)) (ap (λ (u : MemberTurn). u.order.start) here ∙ second.of) start_turn
+              (record { stands = earlier; is = first.is; of = first.of }) (inl refl))
+          | inr later ↦ one_stop ts start begin one two are.1 start_turn (record { stands = earlier; is = first.is; of = first.of }) (record { stands = later; is = second.is; of = second.of })
+        ]
+      ]
+]
+
 -- The starts that the main thread began.
 
 pub started_in : (before after : List EngineEntry) (sheet : Sheet) (start : ℕ) → Contains (starts_begun (before ++ Begin Start sheet (Ok start) ∷ after)) start

@@ -19,7 +19,8 @@ use Rattle.member_model.specs.LoggerKept.{LoggerChannel}
 use Rattle.loggers.specs.Moments.{RunFiles}
 use Rattle.loggers.specs.LoggerStands.{logger_channels}
 use Rattle.loggers.specs.NewLoggers.{NoneTakenBack}
-use Rattle.loggers.specs.Reasons.{GivesReasons}
+use Rattle.loggers.specs.OtherFiles.{specs_in}
+use Rattle.loggers.specs.Reasons.{GivesReasons, IsChannelNumber}
 use Rattle.loggers.specs.LeftNames.{NoneRose, KeepsNames}
 use Rattle.composition.specs.SessionRuns.{SessionRun, ToldState}
 use Rattle.session_laws.specs.ClosedSessions.{ClosedFront, ClosedSession, logger_client, logger_caller, engine_calls, session_of, ClosedAnalyzer, analyzer_client}
@@ -47,12 +48,13 @@ pub record IsFrontRefusal (c : ClosedSession) (order : Order) (client : ℕ) (wh
   pub why_is : why ≡ NotReady
   pub no_part : front.takes order ≡ false
 
--- Why the logger refuses a start: for a name, where a clash of names was counted, or for a fault, where one was.
-abbrev pub IsLoggerReason : Why → (first now : RunFiles) → Type 0
-IsLoggerReason NotReady first now = ⊥
-IsLoggerReason (Exists channel) first now = Rose first.clashes now.clashes
-IsLoggerReason (Fault channel) first now = Rose first.faults now.faults
-IsLoggerReason BufferRefused first now = ⊥
+-- Why the logger refuses a start: for the name of the file of one of its channels, where a clash of names was counted, or for a
+-- fault of it, where one was.
+abbrev pub IsLoggerReason : ClosedSession → Why → (first now : RunFiles) → Type 0
+IsLoggerReason c NotReady first now = ⊥
+IsLoggerReason c (Exists channel) first now = IsChannelNumber (specs_in c.slots) channel × Rose first.clashes now.clashes
+IsLoggerReason c (Fault channel) first now = IsChannelNumber (specs_in c.slots) channel × Rose first.faults now.faults
+IsLoggerReason c BufferRefused first now = ⊥
 
 -- The client is an analyzer that refused a start with this sheet as NotReady: the sheet has fewer blank reports than there are
 -- analyzers.
@@ -69,7 +71,7 @@ pub record IsReaderRefusal (c : ClosedSession) (sheet : Sheet) (client : ℕ) (w
 abbrev pub IsRefusedSo : ClosedSession → (first now : RunFiles) → Sheet → (start client : ℕ) → Why → Type 0
 IsRefusedSo c first now sheet start client why =
     IsFrontRefusal c (order_for sheet start Stopped) client why
-    ⊎ (((client ≡ logger_client c) × IsLoggerReason why first now) ⊎ IsReaderRefusal c sheet client why)
+    ⊎ (((client ≡ logger_client c) × IsLoggerReason c why first now) ⊎ IsReaderRefusal c sheet client why)
 
 -- how the file of a channel ends that did not break off, where the stop's sheet has this dump
 abbrev pub state_by_dump : (dump : Option (List ℕ)) → ChannelState

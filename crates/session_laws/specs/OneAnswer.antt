@@ -1,6 +1,7 @@
 -- One fault gives one answer: what the records of a closed session's starts tell of faults and of clashes of names was each
--- counted for itself. And what was counted in the logger's own turn of a start.
-use Rattle.std.specs.Prelude.{◌≡◌, ◌+◌, ℕ, sum_by, List, ◌++◌}
+-- counted for itself. And none is counted without an answer: a count rose only where one of the records tells why. What was
+-- counted in the logger's own turn of a start is said by two moments of the counts that fit.
+use Rattle.std.specs.Prelude.{◌≡◌, ◌+◌, ℕ, sum_by, List, [], ◌++◌, slice_get, Some}
 use Rattle.daq_types.specs.Callers.{main_caller}
 use Rattle.daq_types.specs.declared.runs.StartOutcome.{StartOutcome}
 use Rattle.daq_types.specs.declared.runs.StartOutcome.TheVariants.{Completed, Refused}
@@ -19,7 +20,7 @@ use Rattle.loggers.specs.Reasons.{NoneFell, IsStartSo}
 use Rattle.loggers.specs.ToldCounts.{faults_of_state, faults_of_refusal}
 use Rattle.run_records.specs.declared.records.RunRecord.{RunRecord}
 use Rattle.session_engine.specs.MadeTransitions.{TransitionIn}
-use Rattle.session_runs.specs.RunsFit.{MainOwn, RecordsFit}
+use Rattle.session_runs.specs.RunsFit.{MainOwn, RecordsFit, starts_begun}
 use Rattle.session_laws.specs.ClosedSessions.{ClosedSession, logger_client, engine_calls}
 use Rattle.session_laws.specs.MembersAtEnd.{MembersAtEnd}
 use Rattle.session_laws.specs.CountedFaults.{LoggerReasons, LoggerNames}
@@ -43,8 +44,8 @@ faults_recorded r = faults_of_outcome r.outcome + sum_by (λ file. faults_of_sta
 abbrev pub clashes_recorded : RunRecord → ℕ
 clashes_recorded r = clashes_of_outcome r.outcome
 
--- The logger answered a start so in its turn, which stood between two moments of the run files: they went from the first to the
--- one before the turn, through the turn to the one behind it, and from there to the last.
+-- The logger may have answered a start so in its turn: there are two moments of the run files, from the first to the last, between
+-- which the turn may have stood.
 pub record InItsTurn (first now : RunFiles) (answer : Answer) : Type 0 where
   pub before : RunFiles
   pub behind : RunFiles
@@ -54,8 +55,8 @@ pub record InItsTurn (first now : RunFiles) (answer : Answer) : Type 0 where
   pub so : IsStartSo answer before behind
 
 -- Where the run files were so at first, and are so now: the count of faults rose by at least as many as these records tell, and
--- so did that of clashes. A start that the logger refused for a fault or for a name had it in the logger's own turn; and in
--- that of a start that came about neither was counted.
+-- so did that of clashes. A start that the logger refused for a fault or for a name may have had it in the logger's own turn; and
+-- one that came about may have been taken while neither was counted.
 pub record OneAnswer (c : ClosedSession) (runs : List RunRecord) (first now : RunFiles) : Type 0 where
   pub faults : RoseBy (sum_by faults_recorded runs) first.faults now.faults
   pub clashes : RoseBy (sum_by clashes_recorded runs) first.clashes now.clashes
@@ -71,3 +72,25 @@ OneAnswerEach = (c : ClosedSession) → (ends : MembersAtEnd c) → (first now :
     LoggerNames c ends first now → (own : MainOwn) → (more : List EngineEntry) →
     engine_calls c main_caller ≡ own.engine ++ more → (runs : List RunRecord) → RecordsFit (clients_in c) own runs →
     OneAnswer c runs first now
+
+-- No front-end and no analyzer refused one of these starts.
+abbrev pub LoggerAloneRefused : ClosedSession → List RunRecord → Type 0
+LoggerAloneRefused c runs = (number : ℕ) → (r : RunRecord) → (client : ℕ) → (why : Why) →
+    slice_get runs number ≡ Some r → r.outcome ≡ Refused client why → client ≡ logger_client c
+
+-- None of these starts was refused.
+abbrev pub NoneRefused : List RunRecord → Type 0
+NoneRefused runs = (number : ℕ) → (r : RunRecord) → slice_get runs number ≡ Some r → r.outcome ≡ Completed
+
+-- Where the run files were so at first, and are so now, each rise of a count is told. No clash was counted where no record tells
+-- of one, and no start was refused but by the logger. And no fault was counted where no start was refused, and no file broke off:
+-- a start that is refused is undone, and what fails then is not told.
+pub record RisesTold (c : ClosedSession) (runs : List RunRecord) (first now : RunFiles) : Type 0 where
+  pub clashes : LoggerAloneRefused c runs → sum_by clashes_recorded runs ≡ 0 → now.clashes ≡ first.clashes
+  pub faults : NoneRefused runs → sum_by faults_recorded runs ≡ 0 → now.faults ≡ first.faults
+
+-- So it is with a closed session, where there is one record for each start that the main thread began, and they fit its calls.
+abbrev pub RisesToldEach : Type 0
+RisesToldEach = (c : ClosedSession) → (ends : MembersAtEnd c) → (first now : RunFiles) → LoggerReasons c ends first now →
+    (own : MainOwn) → (more : List EngineEntry) → engine_calls c main_caller ≡ own.engine ++ more → starts_begun more ≡ [] →
+    (runs : List RunRecord) → RecordsFit (clients_in c) own runs → RisesTold c runs first now

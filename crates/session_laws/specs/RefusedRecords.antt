@@ -22,7 +22,7 @@ start_order r quota = record { run = r.run; start = r.start; time = r.time0; fro
 -- analyzer refused it, and no buffer was the reason.
 abbrev pub IsRefusedRecord : ClosedSession → (first now : RunFiles) → RunRecord → (quota client : ℕ) → Why → Type 0
 IsRefusedRecord c first now r quota client why =
-    IsFrontRefusal c (start_order r quota) client why ⊎ ((client ≡ logger_client c) × IsLoggerReason why first now)
+    IsFrontRefusal c (start_order r quota) client why ⊎ ((client ≡ logger_client c) × IsLoggerReason c why first now)
 
 -- So each was whose record fits the main thread's own calls up to some point, where the counts tell why starts are refused.
 abbrev pub RecordsRefused : Type 0

@@ -1,7 +1,7 @@
 //! Laws of closed sessions: each function does nothing, and its contract is the law.
 
 ghost use Rattle.session_laws.specs.CountedFaults.{CountsTell};
-ghost use Rattle.session_laws.specs.OneAnswer.{OneAnswerEach};
+ghost use Rattle.session_laws.specs.OneAnswer.{OneAnswerEach, RisesToldEach};
 ghost use Rattle.session_laws.specs.RecordedRuns.{ChannelsAgree, RecordsHold};
 ghost use Rattle.session_laws.specs.RefusedRecords.{RecordsRefused};
 ghost use Rattle.session_laws.specs.EndLaws.{EndsKeep, EndsComposed, MembersListed, MadeAreStopped, StoppedHold, OtherNamesStay, EndsHold};
@@ -124,9 +124,9 @@ pub fn records_refused()
 {}
 
 /// One fault gives one answer: the count of faults of the run files rose by at least as many as the starts that were refused for
-/// one and the files that broke off, and that of clashes by at least as many as the starts that were refused for a name. A start
-/// that the logger refused for a fault or for a name had it in the logger's own turn, and in that of a start that came about
-/// neither was counted.
+/// one and the files that broke off, and that of clashes by at least as many as the starts that were refused for a name. There are
+/// moments of the counts for the logger's own turn of each start: for one that it refused for a fault or for a name, where such a
+/// one was counted, and for one that came about, where neither was.
 pub fn one_answer()
     ensures { OneAnswerEach }
 {
@@ -138,4 +138,21 @@ pub fn one_answer()
     engine::start_numbers_rise();
     members_keep();
     counts_tell();
+}
+
+/// And none is counted without an answer: no clash, where no record tells of one and no start was refused but by the logger; and
+/// no fault, where no start was refused and no file broke off.
+pub fn rises_told()
+    ensures { RisesToldEach }
+{
+    turns::main_has_transition();
+    turns::gives_turns();
+    turns::turns_begun();
+    turns::tallies_answered();
+    turns::called_told();
+    turns::called_off();
+    engine::start_numbers_rise();
+    loggers_laws::names_kept();
+    loggers_laws::reasons_given();
+    members_keep();
 }

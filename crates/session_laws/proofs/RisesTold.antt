@@ -1,0 +1,439 @@
+-- A count that rose is told by a record: where all that the logger told of a start is in the record of it.
+use Rattle.std.specs.Prelude.{◌≡◌, ◌≤◌, ◌<◌, ◌+◌, ℕ, zero, suc, cond, is_some, sum_by, List, [], ◌∷◌, ◌++◌, length, map, slice_get, Contains, Option, Some, None, refl, ◌⊎◌}
+use Rattle.std.specs.List.{AllByRecursion}
+use Rattle.std.proofs.Common.{ap, sym, subst, ◌∙◌, arith, inl, inr, append-nil}
+use Rattle.std.proofs.lemmas.List.Sums.{sum_by-cons}
+use Rattle.daq_types.specs.Callers.{main_caller}
+use Rattle.daq_types.specs.declared.runs.ChannelState.{ChannelState}
+use Rattle.daq_types.specs.declared.runs.ChannelState.TheVariants.{Idle as IsIdle, Writing as IsWriting, Ended, NoEnd, NoMark, Broken as IsBroken}
+use Rattle.daq_types.specs.declared.runs.Order.{Order}
+use Rattle.daq_types.specs.declared.runs.StartOutcome.{StartOutcome}
+use Rattle.daq_types.specs.declared.runs.StartOutcome.TheVariants.{Completed, Refused}
+use Rattle.daq_types.specs.declared.runs.Transition.{Transition}
+use Rattle.daq_types.specs.declared.runs.Transition.TheVariants.{Start, Stop, Pause, Resume, StartAbort}
+use Rattle.daq_types.specs.declared.runs.Why.{Why}
+use Rattle.daq_types.specs.declared.runs.Why.TheVariants.{NotReady, Exists, Fault, BufferRefused}
+use Rattle.buffer_core.specs.Ports.{Access}
+use Rattle.buffer_core.specs.Slots.{slot_at, passes}
+use Rattle.transitions.specs.declared.sheet.Sheet.{Sheet}
+use Rattle.transitions.specs.declared.answers.Answer.{Answer}
+use Rattle.transitions.specs.declared.answers.Answer.TheVariants.{Yes, No}
+use Rattle.transitions.specs.declared.answers.ClientTally.{ClientTally}
+use Rattle.transitions.specs.declared.answers.Tally.{Tally}
+use Rattle.transitions.specs.declared.answers.Tally.TheVariants.{Plain, Front, Channels, Report}
+use Rattle.transitions.specs.declared.entry.EngineEntry.{EngineEntry}
+use Rattle.transitions.specs.EnginePoints.{engine_past, state_at, tally_of}
+use Rattle.member_model.specs.Turns.{MemberTurn, HasTurn, HasTurnOf, IsAcceptedStart, AreEngineTurns}
+use Rattle.member_model.specs.TurnCalls.{member_turns}
+use Rattle.mid_logger.specs.declared.channel.Channel.{Channel}
+use Rattle.mid_logger.specs.declared.channel_spec.ChannelSpec.{ChannelSpec}
+use Rattle.mid_logger.specs.declared.stage.BegunRun.{BegunRun}
+use Rattle.mid_logger.specs.declared.stage.ChannelStage.{ChannelStage}
+use Rattle.mid_logger.specs.declared.stage.ChannelStage.TheVariants.{Idle, Asking, Writing, Draining, Drained, Broken}
+use Rattle.mid_logger.specs.Channels.{channel_run}
+use Rattle.mid_logger.specs.ChannelTurns.{broken_run}
+use Rattle.loggers.specs.declared.logged_run.LoggedRun.{LoggedRun}
+use Rattle.loggers.specs.declared.logged_run.RunPart.{RunPart}
+use Rattle.loggers.specs.declared.logged_run.RunPart.TheVariants.{Refused as WasRefused, Started, Stopping}
+use Rattle.loggers.specs.Moments.{RunFiles}
+use Rattle.loggers.specs.LoggerStands.{LoggerStands, LoggerHolds, HasEndTurn, IsStageOf, IsStagePart, IsRunTold, IsPartTold, IsStillGoing, ToldSo, TellsStates}
+use Rattle.loggers.specs.LeftNames.{IsStartedRun}
+use Rattle.loggers.specs.OtherFiles.{specs_in}
+use Rattle.loggers.specs.Reasons.{IsAnswerAt, NamesChannels, AnswerFits, ClashesAreTold}
+use Rattle.loggers.specs.ToldCounts.{faults_of_state, faults_of_refusal, faults_of_answer, clashes_of_answer, undone_of_answer, undone_by, counted_of, faults_told, clashes_told, starts_undone, broken_off}
+use Rattle.loggers.proofs.ManyRose.{member_counts, off_of}
+use Rattle.engine_laws.specs.BegunTurns.{HasTransition, HasTally, IsTallyOfTurn, IsRefusedTurn}
+use Rattle.engine_laws.specs.EngineLaws.{RefusalsAreAnswers}
+use Rattle.run_records.specs.declared.records.FileRecord.{FileRecord}
+use Rattle.run_records.specs.declared.records.RunRecord.{RunRecord}
+use Rattle.session_engine.specs.MadeTransitions.{TransitionIn}
+use Rattle.session_runs.specs.declared.channels.RunChannel.{RunChannel}
+use Rattle.session_runs.specs.declared.on.CurrentRun.{CurrentRun}
+use Rattle.session_runs.specs.KeptRuns.{run_channel}
+use Rattle.session_runs.specs.RunEntries.{start_sheet, later_sheet, dump_saved}
+use Rattle.session_runs.specs.RunsFit.{MainOwn, RunClients, FitsRun, FitsOutcome, FitsRefused, FitsWhole, RecordsFit, run_of, start_of, starts_begun}
+use Rattle.session_runs.specs.ToldTallies.{file_in, files_told, files_of, states_told}
+use Rattle.composition.specs.Sessions.{Session, MembersKeep}
+use Rattle.composition.specs.SessionRuns.{SessionRun, IsStoppedRun}
+use Rattle.composition.proofs.FilesTogether.{yes_channels}
+use Rattle.composition.proofs.SessionTurns.{EngineFacts, HasStartTally, StartTally, StopTally, number_of, one_start, start_tally, stop_tally, last_tally, speaks}
+use Rattle.session_laws.specs.ClosedSessions.{ClosedSession, logger_client, logger_caller, engine_calls, session_of}
+use Rattle.session_laws.specs.MembersAtEnd.{MembersAtEnd}
+use Rattle.session_laws.specs.CountedFaults.{LoggerReasons}
+use Rattle.session_laws.specs.MadeRuns.{RunIn}
+use Rattle.session_laws.specs.RecordedRuns.{run_channels, clients_in}
+use Rattle.session_laws.specs.OneAnswer.{faults_recorded, clashes_recorded, clashes_of_outcome, LoggerAloneRefused, NoneRefused, RisesToldEach}
+use Rattle.session_laws.proofs.KeptTogether.{names_own}
+use Rattle.session_laws.proofs.LoggerEnd.{none_taken_back}
+use Rattle.session_laws.proofs.NamesStay.{StartBegun, start_begun, abort_begun, HasSpec, has_spec}
+use Rattle.session_laws.proofs.OneEach.{starts_joined}
+use Rattle.session_laws.proofs.RecordsMade.{made_then, made_behind, ToldStates, states_so, states_there}
+use Rattle.session_laws.proofs.RunsMade.{has_made, made_are_stopped}
+use Rattle.session_laws.proofs.UndoneNames.{UndoneLaws, Turned, one_end, one_stop, started_in, are_turns}
+
+-- the laws of engines and of loggers
+pub record RiseLaws : Type 0 where
+  pub undone : UndoneLaws
+  pub refusals : RefusalsAreAnswers
+  pub names : ClashesAreTold
+
+-- Lists.
+
+all_at : {X : Type 0} (P : X → Type 0) (xs : List X) → AllByRecursion P xs → (n : ℕ) (x : X) → slice_get xs n ≡ Some x → P x
+all_at P [] all n x at = absurd (cc (at))
+all_at P (y ∷ xs) all zero x at = subst P (cc (at)) all.0
+all_at P (y ∷ xs) all (suc n) x at = all_at P xs all.1 n x at
+
+there_within : {X : Type 0} (xs : List X) (n : ℕ) → n < length xs → (x : X) × (slice_get xs n ≡ Some x)
+there_within [] n within = absurd (omega (arith, within))
+there_within (x ∷ xs) zero within = (x, refl)
+there_within (x ∷ xs) (suc n) within = there_within xs n (omega (arith, within))
+
+-- what stands in a list of images is the image of a member
+record MappedAt {X Y : Type 0} (f : X → Y) (xs : List X) (y : Y) : Type 0 where
+  place : ℕ
+  x : X
+  at : slice_get xs place ≡ Some x
+  is : f x ≡ y
+
+mapped_at : {X Y : Type 0} (f : X → Y) (xs : List X) (y : Y) → Contains (map f xs) y → MappedAt f xs y
+mapped_at f [] y has = absurd (omega (arith, has.1))
+mapped_at f (x ∷ xs) y (zero, within, is) = record { place = 0; x = x; at = refl; is = is }
+mapped_at f (x ∷ xs) y (suc k, within, is) =
+    let found : MappedAt f xs y = mapped_at f xs y (k, omega (arith, within), is) in
+    record { place = suc found.place; x = found.x; at = found.at; is = found.is }
+
+-- a list counts for nothing of which no member does
+turns_none : (f : MemberTurn → ℕ) (ts : List MemberTurn) → ((t : MemberTurn) → HasTurn ts t → f t ≡ 0) → sum_by f ts ≡ 0
+turns_none f [] none = refl
+turns_none f (t ∷ ts) none = omega (arith, none t (inl refl), turns_none f ts (λ u has. none u (inr has)), sum_by-cons f t ts)
+
+states_none : (states : List ChannelState) → ((k : ℕ) → slice_get states k ≡ Some IsBroken → ⊥) → sum_by faults_of_state states ≡ 0
+states_none [] none = refl
+states_none (s ∷ ss) none = omega (arith, state_none s (λ is. none 0 (ap (λ (x : ChannelState). Some x) is)), states_none ss (λ k at. none (suc k) at), sum_by-cons faults_of_state s ss)
+  where
+    state_none : (state : ChannelState) → (state ≡ IsBroken → ⊥) → faults_of_state state ≡ 0
+    state_none IsIdle never = refl
+    state_none IsWriting never = refl
+    state_none Ended never = refl
+    state_none NoEnd never = refl
+    state_none NoMark never = refl
+    state_none IsBroken never = absurd (never refl)
+
+abbrev slot_off : Option Channel → ℕ
+slot_off slot = cond (passes (λ (x : Channel). is_some (broken_run x.stage)) slot) 1 0
+
+slots_none : (slots : List (Option Channel)) → ((n : ℕ) (ch : Channel) (run : BegunRun) → slot_at slots n ≡ Some ch → ch.stage ≡ Broken run → ⊥) → broken_off slots ≡ 0
+slots_none [] none = refl
+slots_none (None ∷ os) none = slots_none os (λ n ch run there is. none (suc n) ch run there is)
+slots_none (Some ch ∷ os) none = omega (arith, stage_none ch.stage (λ run is. none 0 ch run refl is), slots_none os (λ n x run there is. none (suc n) x run there is), sum_by-cons slot_off (Some ch) os)
+  where
+    stage_none : (stage : ChannelStage) → ((run : BegunRun) → stage ≡ Broken run → ⊥) → off_of stage ≡ 0
+    stage_none Idle never = refl
+    stage_none (Asking opened) never = refl
+    stage_none (Writing opened begun) never = refl
+    stage_none (Draining run) never = refl
+    stage_none (Drained run) never = refl
+    stage_none (Broken run) never = absurd (never run refl)
+
+-- Records.
+
+abbrev faults_of_file : FileRecord → ℕ
+faults_of_file file = faults_of_state file.state
+
+-- the file of a channel that broke off is among those of the record
+file_counts : (states : List ChannelState) (run : ℕ) (slots : List (Option Channel)) (n : ℕ) (ch : Channel) → slot_at slots n ≡ Some ch → slice_get states ch.spec.number ≡ Some IsBroken → 1 ≤ sum_by faults_of_file (files_told states run (run_channels slots))
+file_counts states run [] n ch there broken = absurd (cc (there))
+file_counts states run (None ∷ os) zero ch there broken = absurd (cc (there))
+file_counts states run (None ∷ os) (suc n) ch there broken = file_counts states run os n ch there broken
+file_counts states run (Some x ∷ os) zero ch there broken =
+    let same : x ≡ ch = cc (there) in
+    let its : slice_get states x.spec.number ≡ Some IsBroken = subst (λ (c : Channel). slice_get states c.spec.number ≡ Some IsBroken) (sym same) broken in
+    let first : FileRecord = file_in run (run_channel x.spec) IsBroken in
+    rw (its) (omega (arith, sum_by-cons faults_of_file first (files_told states run (run_channels os))))
+file_counts states run (Some x ∷ os) (suc n) ch there broken = by_first (slice_get states x.spec.number) refl
+  where
+    rest : 1 ≤ sum_by faults_of_file (files_told states run (run_channels os))
+    rest = file_counts states run os n ch there broken
+    by_first : (o : Option ChannelState) → slice_get states x.spec.number ≡ o → 1 ≤ sum_by faults_of_file (files_told states run (run_channels (Some x ∷ os)))
+    by_first None is = rw (is) rest
+    by_first (Some state) is = rw (is) (omega (arith, rest, sum_by-cons faults_of_file (file_in run (run_channel x.spec) state) (files_told states run (run_channels os))))
+
+whole : (clients : RunClients) (own : MainOwn) (begun : CurrentRun) (r : RunRecord) (o : StartOutcome) → o ≡ Completed → FitsOutcome clients own begun r o → FitsWhole clients own begun r
+whole clients own begun r Completed is fits = fits
+whole clients own begun r (Refused client why) is fits = absurd (cc (is))
+
+was_refused : (clients : RunClients) (own : MainOwn) (begun : CurrentRun) (r : RunRecord) (client : ℕ) (why : Why) (o : StartOutcome) → o ≡ Refused client why → FitsOutcome clients own begun r o → FitsRefused clients own begun r
+was_refused clients own begun r client why Completed is fits = absurd (cc (is))
+was_refused clients own begun r client why (Refused c w) is fits = fits
+
+module _ (laws : RiseLaws) (c : ClosedSession) (ends : MembersAtEnd c) where
+  abbrev ts : List MemberTurn
+  ts = member_turns (logger_client c) (engine_calls c (logger_caller c))
+
+  abbrev its : Session
+  its = session_of c (laws.undone.keep c ends).0
+
+  are : AreEngineTurns ts
+  are = are_turns laws.undone c ends
+
+  stands : LoggerStands ends.logger.run ends.logger.stop_dump c.slots ends.logger.ports ts c.files
+  stands = ends.logger.stands (none_taken_back c ends)
+
+  -- a run that came about, with what the logger told of its files
+  record RunCame (r : RunRecord) : Type 0 where
+    run : SessionRun
+    stopped : IsStoppedRun its run
+    of : run.start ≡ r.start
+    files : r.files ≡ files_of (states_told (logger_client c) run.last_tallies) r.run (run_channels c.slots)
+
+  run_came : (own : MainOwn) (more : List EngineEntry) → engine_calls c main_caller ≡ own.engine ++ more → (r : RunRecord) (quota : ℕ) → FitsWhole (clients_in c) own (run_of r quota) r → RunCame r
+  run_came own more calls r quota fits =
+      let stop = fits.stop in
+      let start = fits.start in
+      let early : List EngineEntry = fits.early.engine in
+      let late : List EngineEntry = fits.late.engine in
+      let first : Sheet = start_sheet (length c.analyzers) r.run r.time0 quota start.dump in
+      let last : Sheet = later_sheet (run_of r quota) r.time1 (dump_saved stop.saved) in
+      let joined : (early ++ late) ++ more ≡ engine_calls c main_caller = sym (calls ∙ ap (λ (o : MainOwn). o.engine ++ more) fits.calls) in
+      let began : TransitionIn (engine_calls c main_caller) Start first r.start Completed start.tallies =
+      subst (λ (l : List EngineEntry). TransitionIn l Start first r.start Completed start.tallies) joined
+      (made_then (early ++ late) more Start first r.start Completed start.tallies (made_then early late Start first r.start Completed start.tallies start.made)) in
+      let ended : TransitionIn (engine_calls c main_caller) Stop last r.start Completed stop.tallies =
+      subst (λ (l : List EngineEntry). TransitionIn l Stop last r.start Completed stop.tallies) joined
+      (made_then (early ++ late) more Stop last r.start Completed stop.tallies (made_behind early late Stop last r.start Completed stop.tallies stop.made)) in
+      let run : SessionRun = record { start = r.start; first = first; last = last; first_tallies = start.tallies; last_tallies = stop.tallies } in
+      let made : RunIn (engine_calls c main_caller) run = record { started = began; stopped = ended } in
+      record { run = run; stopped = made_are_stopped laws.undone.main its ends.engine run made; of = refl; files = stop.tells.files }
+
+  -- the logger's turns in it
+  record TurnsOf (start : ℕ) : Type 0 where
+    begin : MemberTurn
+    starts : Turned ts Start start begin
+    tally : Tally
+    accepted : begin.answer ≡ Some (Yes tally)
+    stop : MemberTurn
+    stops : Turned ts Stop start stop
+    answer : Answer
+    answered : stop.answer ≡ Some answer
+
+  turns_of_run : (r : RunRecord) → RunCame r → TurnsOf r.start
+  turns_of_run r came =
+      let facts : EngineFacts = laws.undone.facts in
+      let n : ℕ = logger_client c in
+      let keep = (laws.undone.keep c ends).1 in
+      let first : HasStartTally its came.run came.stopped n = start_tally facts its keep came.run came.stopped n keep.logger_registered.0 in
+      let b = first.told in
+      let is : b.turn.transition ≡ Start = b.completed refl in
+      let told : HasTally n came.run.last_tallies = last_tally facts its keep came.run came.stopped n keep.logger_registered.1 in
+      let s : StopTally its came.run came.stopped n told.1 = stop_tally facts its keep came.run came.stopped n told.0 told.1 told.2 in
+      record {
+        begin = b.turn;
+        starts = record { stands = b.stands; is = is; of = number_of Start came.run.first came.run.start b.turn b.of_begin ∙ came.of };
+        tally = first.tally;
+        accepted = b.answered ∙ ap (λ (a : Answer). Some a) (b.accepted is);
+        stop = s.turn;
+        stops = record { stands = s.stands; is = s.completed refl; of = number_of Stop came.run.last came.run.start s.turn s.of_begin ∙ came.of };
+        answer = s.answer;
+        answered = s.answered;
+      }
+
+  -- what the logger told of the channels at the stop stands in the record's files
+  states_recorded : (r : RunRecord) (came : RunCame r) (states : List ChannelState) (turn : MemberTurn) → Turned ts Stop r.start turn → turn.answer ≡ Some (Yes (Channels states)) → r.files ≡ files_told states r.run (run_channels c.slots)
+  states_recorded r came states turn stops answered =
+      let facts : EngineFacts = laws.undone.facts in
+      let n : ℕ = logger_client c in
+      let keep = (laws.undone.keep c ends).1 in
+      let turns : TurnsOf r.start = turns_of_run r came in
+      let told : HasTally n came.run.last_tallies = last_tally facts its keep came.run came.stopped n keep.logger_registered.1 in
+      let s : StopTally its came.run came.stopped n told.1 = stop_tally facts its keep came.run came.stopped n told.0 told.1 told.2 in
+      let here : turn ≡ s.turn = one_stop ts r.start turns.begin turn s.turn are turns.starts stops (record { stands = s.stands; is = s.completed refl; of = number_of Stop came.run.last came.run.start s.turn s.of_begin ∙ came.of }) in
+      let answer : Some (Yes (Channels states)) ≡ Some s.answer = sym answered ∙ (ap (λ (t : MemberTurn). t.answer) here ∙ s.answered) in
+      let is : Yes (Channels states) ≡ s.answer = cc (answer) in
+      let tally : told.1 ≡ Channels states = s.tally_is ∙ ap tally_of (sym is) in
+      let found = states_there n came.run.last_tallies told.0 states (subst (λ (x : Tally). slice_get came.run.last_tallies told.0 ≡ Some (record { client = n; tally = x })) tally told.2) in
+      let says : ToldStates n came.run.last_tallies found.0 = states_so n came.run.last_tallies found.0 found.1 in
+      let other : StopTally its came.run came.stopped n (Channels found.0) = stop_tally facts its keep came.run came.stopped n says.index (Channels found.0) says.at in
+      let there : turn ≡ other.turn = one_stop ts r.start turns.begin turn other.turn are turns.starts stops (record { stands = other.stands; is = other.completed refl; of = number_of Stop came.run.last came.run.start other.turn other.of_begin ∙ came.of }) in
+      let second : other.answer ≡ Yes (Channels found.0) = yes_channels other.answer found.0 other.tally_is in
+      let both : Some (Yes (Channels states)) ≡ Some (Yes (Channels found.0)) = sym answered ∙ (ap (λ (t : MemberTurn). t.answer) there ∙ (other.answered ∙ ap (λ (a : Answer). Some a) second)) in
+      let same : found.0 ≡ states = cc (both) in
+      came.files ∙ (ap (λ (o : Option (List ChannelState)). files_of o r.run (run_channels c.slots)) found.1 ∙ ap (λ (l : List ChannelState). files_told l r.run (run_channels c.slots)) same)
+
+  module _ (first now : RunFiles) (reasons : LoggerReasons c ends first now) (own : MainOwn) (more : List EngineEntry) (calls : engine_calls c main_caller ≡ own.engine ++ more) (none_more : starts_begun more ≡ [])
+      (runs : List RunRecord) (fits : RecordsFit (clients_in c) own runs) where
+    -- the record of a start
+    record OfStart (start : ℕ) : Type 0 where
+      place : ℕ
+      kept : RunRecord
+      at : slice_get runs place ≡ Some kept
+      is : kept.start ≡ start
+      fit : FitsRun (clients_in c) own kept
+
+    of_start : (t : MemberTurn) → StartBegun c t → OfStart t.order.start
+    of_start t begun =
+        let start : ℕ = t.order.start in
+        let among : Contains (starts_begun (engine_calls c main_caller)) start = subst (λ (l : List EngineEntry). Contains (starts_begun l) start) (sym begun.whole) (started_in begun.before begun.after begun.sheet start) in
+        let starts : starts_begun (engine_calls c main_caller) ≡ map start_of runs =
+        ap starts_begun calls
+        ∙ (starts_joined own.engine more
+        ∙ (ap (λ (l : List ℕ). starts_begun own.engine ++ l) none_more
+        ∙ (append-nil (starts_begun own.engine)
+        ∙ sym fits.each_start))) in
+        let found : MappedAt start_of runs start = mapped_at start_of runs start (subst (λ (l : List ℕ). Contains l start) starts among) in
+        record { place = found.place; kept = found.x; at = found.at; is = found.is; fit = all_at (FitsRun (clients_in c) own) runs fits.runs found.place found.x found.at }
+
+    came_of : (start : ℕ) (o : OfStart start) → o.kept.outcome ≡ Completed → RunCame o.kept
+    came_of start o done = run_came own more calls o.kept o.fit.0 (whole (clients_in c) own (run_of o.kept o.fit.0) o.kept o.kept.outcome done o.fit.1)
+
+    turns_at : (start : ℕ) (o : OfStart start) → o.kept.outcome ≡ Completed → TurnsOf start
+    turns_at start o done = subst (λ (n : ℕ). TurnsOf n) o.is (turns_of_run o.kept (came_of start o done))
+
+    turn_begun : (t : MemberTurn) → HasTurn ts t → t.transition ≡ Start → OfStart t.order.start
+    turn_begun t has starts = of_start t (start_begun laws.undone.facts.begun c ends t has starts)
+
+    -- a start that came about was not refused by the logger
+    never_refused : (t : MemberTurn) (why : Why) → HasTurn ts t → t.transition ≡ Start → t.answer ≡ Some (No why) → (o : OfStart t.order.start) → o.kept.outcome ≡ Completed → ⊥
+    never_refused t why has starts answered o done =
+        let turns : TurnsOf t.order.start = turns_at t.order.start o done in
+        let same : t ≡ turns.begin = one_start ts t.order.start t turns.begin are (record { stands = has; is = starts; of = refl }) (record { stands = turns.starts.stands; is = turns.starts.is; of = turns.starts.of }) in
+        let both : Some (No why) ≡ Some (Yes turns.tally) = sym answered ∙ (ap (λ (u : MemberTurn). u.answer) same ∙ turns.accepted) in
+        cc (both)
+
+    -- an answer fits its turn
+    fits_as : (t : MemberTurn) (answer : Option Answer) → HasTurn ts t → t.answer ≡ answer → AnswerFits (specs_in c.slots) t.transition answer
+    fits_as t answer has is = subst (λ (a : Option Answer). AnswerFits (specs_in c.slots) t.transition a) is (reasons.fits t has)
+
+    -- Where each start came about, and no file broke off.
+    module _ (all : NoneRefused runs) (quiet : sum_by faults_recorded runs ≡ 0) where
+      refuses_none : (t : MemberTurn) (why : Why) → HasTurn ts t → t.answer ≡ Some (No why) → ⊥
+      refuses_none t why has answered =
+          let starts : t.transition ≡ Start = (fits_as t (Some (No why)) has answered).kind in
+          let o : OfStart t.order.start = turn_begun t has starts in
+          never_refused t why has starts answered o (all o.place o.kept o.at)
+
+      calls_none_off : (t : MemberTurn) → HasTurn ts t → t.transition ≡ StartAbort → ⊥
+      calls_none_off t has aborts =
+          let o : OfStart t.order.start = of_start t (abort_begun laws.undone.facts.begun c ends t has aborts) in
+          let turns : TurnsOf t.order.start = turns_at t.order.start o (all o.place o.kept o.at) in
+          one_end ts t.order.start turns.begin turns.stop t are turns.starts turns.stops (record { stands = has; is = aborts; of = refl })
+
+      breaks_none : (t : MemberTurn) (states : List ChannelState) → HasTurn ts t → t.answer ≡ Some (Yes (Channels states)) → (k : ℕ) → slice_get states k ≡ Some IsBroken → ⊥
+      breaks_none t states has answered k broken =
+          let fit : AnswerFits (specs_in c.slots) t.transition (Some (Yes (Channels states))) = fits_as t (Some (Yes (Channels states))) has answered in
+          let named = fit.channels k broken in
+          let channel : HasSpec c.slots k named.0 = has_spec c.slots k named.0 named.1 in
+          let ch : Channel = channel.channel in
+          let holds = stands.holds in
+          let served = there_within ends.logger.ports ch.spec.buffer (holds.served k ch channel.at) in
+          let port : Access = served.0 in
+          let at_port : slice_get ends.logger.ports ch.spec.buffer ≡ Some port = served.1 in
+          let told : ToldSo ts c.slots c.files k ch port t states = holds.standing.left are t states (record { stands = has; is = fit.kind; answered = answered }) k ch port channel.at at_port in
+          let start = told.left.headed.is_start.is_start in
+          let begin : MemberTurn = told.left.headed.turn in
+          let o : OfStart begin.order.start = turn_begun begin start.stands start.is in
+          let of : o.kept.start ≡ t.order.start = o.is ∙ start.of in
+          let files : o.kept.files ≡ files_told states o.kept.run (run_channels c.slots) = states_recorded o.kept (came_of begin.order.start o (all o.place o.kept o.at)) states t (record { stands = has; is = fit.kind; of = sym of }) answered in
+          let number : slice_get states ch.spec.number ≡ Some IsBroken = subst (λ (i : ℕ). slice_get states i ≡ Some IsBroken) (sym (holds.standing.numbered k ch channel.at)) broken in
+          let some = file_counts states o.kept.run c.slots k ch channel.at number in
+          let same : sum_by faults_of_file o.kept.files ≡ sum_by faults_of_file (files_told states o.kept.run (run_channels c.slots)) = ap (λ (l : List FileRecord). sum_by faults_of_file l) files in
+          omega (arith, some, same, quiet, member_counts faults_recorded runs o.place o.kept o.at)
+
+      faults_none : (t : MemberTurn) → HasTurn ts t → (answer : Option Answer) → t.answer ≡ answer → counted_of faults_of_answer answer ≡ 0
+      faults_none t has None is = refl
+      faults_none t has (Some (No why)) is = absurd (refuses_none t why has is)
+      faults_none t has (Some (Yes Plain)) is = refl
+      faults_none t has (Some (Yes (Front sent ended))) is = refl
+      faults_none t has (Some (Yes (Channels states))) is = states_none states (breaks_none t states has is)
+      faults_none t has (Some (Yes (Report report))) is = refl
+
+      start_none : (t : MemberTurn) → HasTurn ts t → (answer : Option Answer) → t.answer ≡ answer → counted_of undone_of_answer answer ≡ 0
+      start_none t has None is = refl
+      start_none t has (Some (No why)) is = absurd (refuses_none t why has is)
+      start_none t has (Some (Yes tally)) is = refl
+
+      undone_none : (t : MemberTurn) → HasTurn ts t → (transition : Transition) → t.transition ≡ transition → undone_by transition t.answer ≡ 0
+      undone_none t has Start is = start_none t has t.answer refl
+      undone_none t has Stop is = refl
+      undone_none t has Pause is = refl
+      undone_none t has Resume is = refl
+      undone_none t has StartAbort is = absurd (calls_none_off t has is)
+
+      -- a channel that broke off has a run whose stop is not answered
+      off_none : (n : ℕ) (ch : Channel) (run : BegunRun) → slot_at c.slots n ≡ Some ch → ch.stage ≡ Broken run → ⊥
+      off_none n ch run there is =
+          let holds = stands.holds in
+          let started : IsStartedRun ts run.opened = laws.undone.started ends.logger.run ends.logger.stop_dump c.slots ends.logger.ports ts c.files stands are n ch run.opened there (ap channel_run is) in
+          let start = started.is_start.is_start in
+          let o : OfStart started.begin.order.start = turn_begun started.begin start.stands start.is in
+          let turns : TurnsOf run.opened.start = subst (λ (s : ℕ). TurnsOf s) start.of (turns_at started.begin.order.start o (all o.place o.kept o.at)) in
+          let served = there_within ends.logger.ports ch.spec.buffer (holds.served n ch there) in
+          let port : Access = served.0 in
+          let at_port : slice_get ends.logger.ports ch.spec.buffer ≡ Some port = served.1 in
+          let stage : IsStageOf ends.logger.run ts port.own (Broken run) = subst (λ (s : ChannelStage). IsStageOf ends.logger.run ts port.own s) is (holds.stages n ch port there at_port) in
+          by_run ends.logger.run turns port stage holds.told (holds.going are)
+        where
+          ended_turn : (start : ℕ) → run.opened.start ≡ start → TurnsOf run.opened.start → HasEndTurn ts start
+          ended_turn start of turns = record { turn = turns.stop; stands = turns.stops.stands; ends = inl turns.stops.is; of = turns.stops.of ∙ of }
+          by_part : (r : LoggedRun) (part : RunPart) → r.part ≡ part → TurnsOf run.opened.start → (port : Access) → IsStagePart part ts port.own r.start (Broken run) → IsPartTold part ts r.start ends.logger.stop_dump → (r.part ≡ Started → HasEndTurn ts r.start → ⊥) → ⊥
+          by_part r WasRefused part turns port stage told going = absurd (cc (stage))
+          by_part r Started part turns port stage told going = going part (ended_turn r.start stage.of turns)
+          by_part r (Stopping time) part turns port stage told going =
+              let waits = told.0 in
+              let w : MemberTurn = record { transition = Stop; order = waits.order; dump = ends.logger.stop_dump; answer = None } in
+              let has : HasTurn ts w = subst (λ (l : List MemberTurn). HasTurn l w) (sym waits.latest) (inl refl) in
+              let same : w ≡ turns.stop = one_stop ts run.opened.start turns.begin w turns.stop are turns.starts (record { stands = has; is = refl; of = waits.of ∙ sym stage.of }) turns.stops in
+              let both : None ≡ Some turns.answer = ap (λ (u : MemberTurn). u.answer) same ∙ turns.answered in
+              cc (both)
+          by_run : (o : Option LoggedRun) → TurnsOf run.opened.start → (port : Access) → IsStageOf o ts port.own (Broken run) → IsRunTold o ts ends.logger.stop_dump → IsStillGoing o ts → ⊥
+          by_run None turns port stage told going = absurd (cc (stage))
+          by_run (Some r) turns port stage told going = by_part r r.part refl turns port stage told (λ part ended. going r refl part ended)
+
+      faults_so : now.faults ≡ first.faults
+      faults_so =
+          let told : faults_told ts ≡ 0 = turns_none (λ (t : MemberTurn). counted_of faults_of_answer t.answer) ts (λ t has. faults_none t has t.answer refl) in
+          let undone : starts_undone ts ≡ 0 = turns_none (λ (t : MemberTurn). undone_by t.transition t.answer) ts (λ t has. undone_none t has t.transition refl) in
+          let off : broken_off c.slots ≡ 0 = slots_none c.slots off_none in
+          reasons.no_fault (omega (arith, told, undone, off))
+
+    -- Where no start was refused but by the logger, and none for a name.
+    module _ (alone : LoggerAloneRefused c runs) (quiet : sum_by clashes_recorded runs ≡ 0) where
+      refused_at : (t : MemberTurn) (channel : ℕ) → HasTurn ts t → t.transition ≡ Start → t.answer ≡ Some (No (Exists channel)) → (o : OfStart t.order.start) → (outcome : StartOutcome) → o.kept.outcome ≡ outcome → ⊥
+      refused_at t channel has starts answered o Completed is = never_refused t (Exists channel) has starts answered o is
+      refused_at t channel has starts answered o (Refused client why) is =
+          let n : ℕ = logger_client c in
+          let refused : FitsRefused (clients_in c) own (run_of o.kept o.fit.0) o.kept = was_refused (clients_in c) own (run_of o.kept o.fit.0) o.kept client why o.kept.outcome is o.fit.1 in
+          let start = refused.start in
+          let sheet : Sheet = start_sheet (length c.analyzers) o.kept.run o.kept.time0 o.fit.0 start.dump in
+          let by : client ≡ n = alone o.place o.kept client why o.at is in
+          let outcome : o.kept.outcome ≡ Refused n why = is ∙ ap (λ (i : ℕ). Refused i why) by in
+          let here : TransitionIn own.engine Start sheet o.kept.start (Refused n why) start.tallies = subst (λ (x : StartOutcome). TransitionIn own.engine Start sheet o.kept.start x start.tallies) outcome start.made in
+          let made : TransitionIn (engine_calls c main_caller) Start sheet o.kept.start (Refused n why) start.tallies =
+          subst (λ (l : List EngineEntry). TransitionIn l Start sheet o.kept.start (Refused n why) start.tallies) (sym calls) (made_then own.engine more Start sheet o.kept.start (Refused n why) start.tallies here) in
+          let stood : HasTransition c.engine Start sheet o.kept.start (Refused n why) start.tallies = has_made laws.undone.main c.engine Start sheet o.kept.start (Refused n why) start.tallies ends.engine made in
+          let turn : IsRefusedTurn ts (state_at (engine_past stood.earlier)) sheet o.kept.start why = laws.refusals (logger_caller c) n c.engine ends.engine (speaks n c.engine (names_own c ends)) sheet o.kept.start why start.tallies stood in
+          let same : t ≡ turn.turn = one_start ts t.order.start t turn.turn are (record { stands = has; is = starts; of = refl }) (record { stands = turn.stands; is = turn.starts; of = ap (λ (x : Order). x.start) turn.of_begin.order ∙ o.is }) in
+          let both : Some (No (Exists channel)) ≡ Some (No why) = sym answered ∙ (ap (λ (u : MemberTurn). u.answer) same ∙ turn.answered) in
+          let cause : Exists channel ≡ why = cc (both) in
+          let one : clashes_recorded o.kept ≡ 1 = ap clashes_of_outcome (is ∙ ap (λ (w : Why). Refused client w) (sym cause)) in
+          omega (arith, one, quiet, member_counts clashes_recorded runs o.place o.kept o.at)
+
+      clash_none : (t : MemberTurn) → HasTurn ts t → (answer : Option Answer) → t.answer ≡ answer → counted_of clashes_of_answer answer ≡ 0
+      clash_none t has None is = refl
+      clash_none t has (Some (Yes tally)) is = refl
+      clash_none t has (Some (No NotReady)) is = refl
+      clash_none t has (Some (No (Exists channel))) is =
+          let starts : t.transition ≡ Start = (fits_as t (Some (No (Exists channel))) has is).kind in
+          let o : OfStart t.order.start = turn_begun t has starts in
+          absurd (refused_at t channel has starts is o o.kept.outcome refl)
+      clash_none t has (Some (No (Fault channel))) is = refl
+      clash_none t has (Some (No BufferRefused)) is = refl
+
+      clashes_so : now.clashes ≡ first.clashes
+      clashes_so = laws.names c.slots ends.logger.ports first now ts reasons (turns_none (λ (t : MemberTurn). counted_of clashes_of_answer t.answer) ts (λ t has. clash_none t has t.answer refl))
+
+pub rises_told : RiseLaws → RisesToldEach
+rises_told laws c ends first now reasons own more calls none_more runs fits = record {
+  clashes = clashes_so laws c ends first now reasons own more calls none_more runs fits;
+  faults = faults_so laws c ends first now reasons own more calls none_more runs fits;
+}
