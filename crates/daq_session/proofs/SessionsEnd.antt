@@ -47,10 +47,10 @@ use Rattle.session_laws.specs.ClosedSessions.{ClosedSession, engine_calls}
 use Rattle.session_laws.specs.CountedFaults.{CountsHold}
 use Rattle.session_laws.specs.EndLaws.{SessionHolds}
 use Rattle.session_laws.specs.MembersAtEnd.{MembersAtEnd}
-use Rattle.session_laws.specs.OneAnswer.{OneAnswer}
+use Rattle.session_laws.specs.OneAnswer.{OneAnswer, RisesTold}
 use Rattle.session_laws.specs.OtherNames.{AreStartsOver}
 use Rattle.session_ends.specs.EndedSessions.{EndsSo, SessionEnded, HoldsSo, closed_session}
-use Rattle.session_ends.specs.EndedRecords.{CountsSo, IsInNoRecord, NamesSo, OneAnswerSo, RecordSo, RecordsSo, RefusalSo, RefusalsSo, StartsOverSo, clients_declared}
+use Rattle.session_ends.specs.EndedRecords.{CountsSo, IsInNoRecord, NamesSo, OneAnswerSo, RecordSo, RecordsSo, RefusalSo, RefusalsSo, RisesToldSo, StartsOverSo, clients_declared}
 use Rattle.session_commands.specs.Endings.{closing_calls}
 use Rattle.daq_session.specs.Played.{IsSessionRecord}
 use Rattle.daq_session.specs.Sessions.{KeepsSession, main_own}
@@ -70,6 +70,7 @@ record LawsHold (c : ClosedSession) (first now : RunFiles) (own : MainOwn) (runs
   over : AreStartsOver (engine_calls c main_caller)
   counts : CountsHold c first now
   one : OneAnswer c runs first now
+  rises : RisesTold c runs first now
   left : IsTrue first.seen.tells → NoneRose first now → (name : List ℕ) → IsInNoRecord runs name → now.seen.at name ≡ first.seen.at name
   so : (number : ℕ) → (run : RunRecord) → slice_get runs number ≡ Some run → run.outcome ≡ Completed → RecordSo c holds.moments own run
   refused : (number : ℕ) → (run : RunRecord) → slice_get runs number ≡ Some run → (client : ℕ) → (why : Why) → run.outcome ≡ Refused client why → RefusalSo c first now own run client why
@@ -171,9 +172,9 @@ module _ {D F K : Type 0} {g : _} (told : CrewTold Generator F K) (takes : told.
   abbrev Laws : (opened : Watched) (fronts : List FrontDeclared) (analyzers : List AnalyzerDeclared) (first now : F) → Type 0
   Laws opened fronts analyzers first now = LawsHold (closed_by opened fronts analyzers first now) (told.read first) (told.read now) own r.runs
 
-  laws_first : EndsSo told.seen r → HoldsSo told.seen r → StartsOverSo told.seen r → CountsSo told.seen told.read r → OneAnswerSo told.seen told.read r → NamesSo told.seen told.read r → RecordsSo told.seen r → RefusalsSo told.seen told.read r
+  laws_first : EndsSo told.seen r → HoldsSo told.seen r → StartsOverSo told.seen r → CountsSo told.seen told.read r → OneAnswerSo told.seen told.read r → RisesToldSo told.seen told.read r → NamesSo told.seen told.read r → RecordsSo told.seen r → RefusalsSo told.seen told.read r
       → Laws (first_database kept.shared) kept.lists.fronts kept.lists.analyzers kept.crew.logger.first kept.crew.logger.files
-  laws_first ends hold starts counts one names_so records refusals =
+  laws_first ends hold starts counts one rises names_so records refusals =
       let holds = hold kept.lists.fronts kept.lists.analyzers kept.crew.logger ended in
       record {
         members = ends kept.lists.fronts kept.lists.analyzers kept.crew.logger ended;
@@ -181,19 +182,20 @@ module _ {D F K : Type 0} {g : _} (told : CrewTold Generator F K) (takes : told.
         over = starts kept.lists.fronts kept.lists.analyzers kept.crew.logger ended kept.lists.channels kept.channels own (Close (Ok tt) ∷ []) refl refl lists_fit;
         counts = counts kept.lists.fronts kept.lists.analyzers kept.crew.logger ended kept.keep.reasons kept.keep.names;
         one = one kept.lists.fronts kept.lists.analyzers kept.crew.logger ended kept.keep.reasons kept.keep.names kept.lists.channels kept.channels own (Close (Ok tt) ∷ []) refl lists_fit;
+        rises = rises kept.lists.fronts kept.lists.analyzers kept.crew.logger ended kept.keep.reasons kept.lists.channels kept.channels own (Close (Ok tt) ∷ []) refl refl lists_fit;
         left = names_so kept.lists.fronts kept.lists.analyzers kept.crew.logger ended kept.keep.reasons kept.keep.names kept.lists.channels kept.channels own (Close (Ok tt) ∷ []) refl refl lists_fit;
         so = records kept.lists.fronts kept.lists.analyzers kept.crew.logger ended kept.lists.channels kept.channels holds own (Close (Ok tt) ∷ []) refl fit;
         refused = refusals kept.lists.fronts kept.lists.analyzers kept.crew.logger ended kept.keep.reasons kept.keep.names kept.lists.channels kept.channels own (Close (Ok tt) ∷ []) refl fit;
       }
 
-  laws_read : EndsSo told.seen r → HoldsSo told.seen r → StartsOverSo told.seen r → CountsSo told.seen told.read r → OneAnswerSo told.seen told.read r → NamesSo told.seen told.read r → RecordsSo told.seen r → RefusalsSo told.seen told.read r
+  laws_read : EndsSo told.seen r → HoldsSo told.seen r → StartsOverSo told.seen r → CountsSo told.seen told.read r → OneAnswerSo told.seen told.read r → RisesToldSo told.seen told.read r → NamesSo told.seen told.read r → RecordsSo told.seen r → RefusalsSo told.seen told.read r
       → Laws (unwatched session_rows) final.declared.fronts final.declared.analyzers first_files run_files
-  laws_read ends hold starts counts one names_so records refusals =
+  laws_read ends hold starts counts one rises names_so records refusals =
       subst (λ (now : F). Laws (unwatched session_rows) final.declared.fronts final.declared.analyzers first_files now) kept.files
       (subst (λ (first : F). Laws (unwatched session_rows) final.declared.fronts final.declared.analyzers first kept.crew.logger.files) kept.first
       (subst (λ (d : Declared). Laws (unwatched session_rows) d.fronts d.analyzers kept.crew.logger.first kept.crew.logger.files) kept.declared
       (subst (λ (opened : Watched). Laws opened kept.lists.fronts kept.lists.analyzers kept.crew.logger.first kept.crew.logger.files) kept.rows
-      (laws_first ends hold starts counts one names_so records refusals))))
+      (laws_first ends hold starts counts one rises names_so records refusals))))
 
   -- The histories.
 
@@ -253,9 +255,9 @@ module _ {D F K : Type 0} {g : _} (told : CrewTold Generator F K) (takes : told.
   channels : AreDeclared final.declared.channels kept.crew.logger.slots
   channels = subst (λ (l : List ChannelSpec). AreDeclared l kept.crew.logger.slots) (ap (λ (d : Declared). d.channels) kept.declared) kept.channels
 
-  pub keeps : RunLaws → EndsSo told.seen r → HoldsSo told.seen r → StartsOverSo told.seen r → CountsSo told.seen told.read r → OneAnswerSo told.seen told.read r → NamesSo told.seen told.read r → RecordsSo told.seen r → RefusalsSo told.seen told.read r → KeepsSession told first_files final run_files r
-  keeps number_laws ends hold starts counts one names_so records refusals =
-      let laws = laws_read ends hold starts counts one names_so records refusals in
+  pub keeps : RunLaws → EndsSo told.seen r → HoldsSo told.seen r → StartsOverSo told.seen r → CountsSo told.seen told.read r → OneAnswerSo told.seen told.read r → RisesToldSo told.seen told.read r → NamesSo told.seen told.read r → RecordsSo told.seen r → RefusalsSo told.seen told.read r → KeepsSession told first_files final run_files r
+  keeps number_laws ends hold starts counts one rises names_so records refusals =
+      let laws = laws_read ends hold starts counts one rises names_so records refusals in
       let given : AllByRecursion GivesNumber own.database = numbers number_laws laws.holds in
       record {
         sound = kept.sound;
@@ -275,6 +277,7 @@ module _ {D F K : Type 0} {g : _} (told : CrewTold Generator F K) (takes : told.
           over = laws.over;
           counts = laws.counts;
           one_answer = laws.one;
+          rises = laws.rises;
           left = laws.left;
           runs = λ number run at whole.
               run_tells (session_told told final.declared kept.crew.logger.slots first_files run_files r) final.declared r.buffers kept.sound many_buffers refl refl refl channels

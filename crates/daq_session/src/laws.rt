@@ -10,8 +10,8 @@ use odb_runinfo::laws::{own_calls_spare, run_number_given, run_number_opens};
 use odb_tree::Database;
 use odb_watch::WatchEntry;
 use session_ends::laws::{
-    counts_end, members_end, names_end, one_answer_end, records_end, refusals_end, session_ended,
-    starts_end,
+    counts_end, members_end, names_end, one_answer_end, records_end, refusals_end, rises_end,
+    session_ended, starts_end,
 };
 use session_laws::laws::members_listed;
 use session_objects::SessionRecord;
@@ -36,6 +36,7 @@ where
     starts_end::<D, F>(kept);
     counts_end::<D, F>(kept);
     one_answer_end::<D, F>(kept);
+    rises_end::<D, F>(kept);
     refusals_end::<D, F>(kept);
     names_end::<D, F>(kept);
     records_end::<D, F>(kept);

@@ -38,7 +38,7 @@ use Rattle.session_laws.specs.ClosedSessions.{ClosedSession, logger_client, logg
 use Rattle.session_laws.specs.EndLaws.{SessionHolds}
 use Rattle.session_laws.specs.CountedFaults.{LoggerReasons, LoggerNames, CountsHold, CountsTell}
 use Rattle.session_laws.specs.RecordedRuns.{ListsFile, run_channels, clients_in, ChannelsAgree, RecordsHold}
-use Rattle.session_laws.specs.OneAnswer.{OneAnswer, OneAnswerEach}
+use Rattle.session_laws.specs.OneAnswer.{OneAnswer, OneAnswerEach, RisesTold, RisesToldEach}
 use Rattle.session_laws.specs.RefusedRecords.{RecordsRefused}
 use Rattle.session_laws.specs.OtherNames.{RefusesStart, GivesNoName, IsUnmadeName, AreStartsOver}
 use Rattle.session_laws.specs.MadeRuns.{RunIn}
@@ -156,6 +156,13 @@ module _ {D F : Type 0} {g : _} (seen : F → Seen) (fronts : List FrontDeclared
   one_met all each agree read reasons names channels declared own more calls fits =
       each closed (ends_met seen fronts analyzers logger r ended all) (read logger.first) (read logger.files) (reasons_met all read reasons) (kept_met all read names) own more
       (engine_by_main seen fronts analyzers logger r ended ∙ calls) r.runs
+      (subst (λ (clients : RunClients). RecordsFit clients own r.runs) (same_clients agree channels declared) fits)
+
+  pub rises_met : GotAll → RisesToldEach → ChannelsAgree → (read : F → RunFiles) → HasLoggerReasons read logger → (channels : List ChannelSpec) → AreDeclared channels logger.slots → (own : MainOwn) → (more : List EngineEntry) → ended.own ≡ own.engine ++ more → starts_begun more ≡ []
+      → RecordsFit (clients_declared fronts channels analyzers) own r.runs → RisesTold closed r.runs (read logger.first) (read logger.files)
+  rises_met all each agree read reasons channels declared own more calls none fits =
+      each closed (ends_met seen fronts analyzers logger r ended all) (read logger.first) (read logger.files) (reasons_met all read reasons) own more
+      (engine_by_main seen fronts analyzers logger r ended ∙ calls) none r.runs
       (subst (λ (clients : RunClients). RecordsFit clients own r.runs) (same_clients agree channels declared) fits)
 
   -- Names.

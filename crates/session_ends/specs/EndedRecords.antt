@@ -22,7 +22,7 @@ use Rattle.session_objects.specs.declared.record.SessionRecord.{SessionRecord}
 use Rattle.session_laws.specs.ClosedSessions.{ClosedSession, engine_calls, session_of}
 use Rattle.session_laws.specs.EndLaws.{SessionHolds}
 use Rattle.session_laws.specs.CountedFaults.{CountsHold}
-use Rattle.session_laws.specs.OneAnswer.{OneAnswer}
+use Rattle.session_laws.specs.OneAnswer.{OneAnswer, RisesTold}
 use Rattle.session_laws.specs.OtherNames.{AreStartsOver}
 use Rattle.session_laws.specs.RecordedRuns.{ListsFile, RecordHolds, clients_in}
 use Rattle.session_laws.specs.RefusedRecords.{IsRefusedRecord}
@@ -95,6 +95,17 @@ OneAnswerSo {D} {F} seen read r = (fronts : List FrontDeclared) → (analyzers :
     (own : MainOwn) → (more : List EngineEntry) → ended.own ≡ own.engine ++ more →
     RecordsFit (clients_declared fronts channels analyzers) own r.runs →
     OneAnswer (closed_session (first_database ended.shared) fronts analyzers logger.slots (seen logger.first) (seen logger.files) r)
+    r.runs (read logger.first) (read logger.files)
+
+-- And none is counted without an answer: where there is one record for each start that the main thread began, each rise of a
+-- count is told.
+abbrev pub RisesToldSo : {D F : Type 0} {g : _} → (seen : F → Seen) → (read : F → RunFiles) → SessionRecord D g → Type 0
+RisesToldSo {D} {F} seen read r = (fronts : List FrontDeclared) → (analyzers : List AnalyzerDeclared) → (logger : LoggerSeen F) →
+    (ended : SessionEnded seen fronts analyzers logger r) → HasLoggerReasons read logger →
+    (channels : List ChannelSpec) → AreDeclared channels logger.slots →
+    (own : MainOwn) → (more : List EngineEntry) → ended.own ≡ own.engine ++ more → starts_begun more ≡ [] →
+    RecordsFit (clients_declared fronts channels analyzers) own r.runs →
+    RisesTold (closed_session (first_database ended.shared) fronts analyzers logger.slots (seen logger.first) (seen logger.files) r)
     r.runs (read logger.first) (read logger.files)
 
 -- The record of a start that was refused fits the main thread's own calls, with the quota of its start, and was refused so.

@@ -2,7 +2,7 @@
 
 ghost use Rattle.loggers.specs.Moments.{RunFiles};
 ghost use Rattle.session_ends.specs.EndedSessions.{EndsSo, HoldsSo};
-ghost use Rattle.session_ends.specs.EndedRecords.{CountsSo, RecordsSo, StartsOverSo, NamesSo, RefusalsSo, OneAnswerSo};
+ghost use Rattle.session_ends.specs.EndedRecords.{CountsSo, RecordsSo, StartsOverSo, NamesSo, RefusalsSo, OneAnswerSo, RisesToldSo};
 
 use buffer_lock::laws as buffers;
 use daq_io::Files;
@@ -95,5 +95,16 @@ where
 {
     buffers::got_all();
     closed::one_answer();
+    closed::channels_agree();
+}
+
+/// And none is counted without an answer: where there is a record for each start, each rise of a count of the run files is told.
+pub fn rises_end<D: Database, F: Files>(_kept: &SessionRecord<D>)
+where
+    LockedDatabase<D>: Machine<State = WatchedSeen, Entry = WatchEntry>,
+    ensures { (read : F → RunFiles) → RisesToldSo F.seen read _kept.now }
+{
+    buffers::got_all();
+    closed::rises_told();
     closed::channels_agree();
 }

@@ -15,6 +15,7 @@ use Rattle.transitions.specs.declared.entry.EngineEntry.{EngineEntry}
 use Rattle.transitions.specs.declared.entry.EngineEntry.TheVariants.{Begin}
 use Rattle.transitions.specs.Engines.{engine_opening}
 use Rattle.transitions.specs.EngineHistories.{IsEngineCaller, IsLegalEngine}
+use Rattle.transitions.specs.EnginePoints.{engine_past, state_at}
 use Rattle.member_model.specs.Turns.{MemberTurn, HasTurn}
 use Rattle.member_model.specs.TurnCalls.{member_turns}
 use Rattle.mid_logger.specs.declared.channel.Channel.{Channel}
@@ -107,7 +108,7 @@ pub abort_begun : TurnsWereBegun → (c : ClosedSession) → MembersAtEnd c → 
 abort_begun law c ends turn has is =
     let was : WasBegun c.engine turn = was_begun law c ends turn has in
     elim was.of_begin.kind as (λ w. StartBegun c turn) [
-      | inl same ↦ absurd (never_begun _ (subst (λ (t : Transition). is_allowed _ t ≡ true) (sym same ∙ is) was.of_begin.allowed))
+      | inl same ↦ absurd (never_begun (state_at (engine_past was.earlier)) (subst (λ (t : Transition). is_allowed (state_at (engine_past was.earlier)) t ≡ true) (sym same ∙ is) was.of_begin.allowed))
       | inr off ↦ begin_told c ends turn was off.0
     ]
 

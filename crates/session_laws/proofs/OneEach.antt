@@ -224,14 +224,14 @@ starts_apart rise c ends own more calls =
 
 -- Files.
 
-abbrev faults_of_file : FileRecord → ℕ
+abbrev pub faults_of_file : FileRecord → ℕ
 faults_of_file file = faults_of_state file.state
 
 -- the channels have the numbers from this one on
 abbrev AreNumberedFrom : (place : ℕ) → List (Option Channel) → Type 0
 AreNumberedFrom place slots = (n : ℕ) → (c : Channel) → slot_at slots n ≡ Some c → c.spec.number ≡ place + n
 
-abbrev state_counts : Option ChannelState → ℕ
+abbrev pub state_counts : Option ChannelState → ℕ
 state_counts None = 0
 state_counts (Some state) = faults_of_state state
 
@@ -240,7 +240,7 @@ abbrev counts_from : List ChannelState → (place : ℕ) → List (Option Channe
 counts_from states place [] = 0
 counts_from states place (o ∷ os) = state_counts (slice_get states place) + counts_from states (suc place) os
 
-file_first : (run : ℕ) (ch : RunChannel) (rest : List FileRecord) (o : Option ChannelState) → sum_by faults_of_file (option_to_list (option_map (file_in run ch) o) ++ rest) ≡ state_counts o + sum_by faults_of_file rest
+pub file_first : (run : ℕ) (ch : RunChannel) (rest : List FileRecord) (o : Option ChannelState) → sum_by faults_of_file (option_to_list (option_map (file_in run ch) o) ++ rest) ≡ state_counts o + sum_by faults_of_file rest
 file_first run ch rest None = omega arith
 file_first run ch rest (Some state) = sum_by-cons faults_of_file (file_in run ch state) rest
 

@@ -66,7 +66,7 @@ use Rattle.session_laws.specs.OneAnswer.{faults_recorded, clashes_recorded, clas
 use Rattle.session_laws.proofs.KeptTogether.{names_own}
 use Rattle.session_laws.proofs.LoggerEnd.{none_taken_back}
 use Rattle.session_laws.proofs.NamesStay.{StartBegun, start_begun, abort_begun, HasSpec, has_spec}
-use Rattle.session_laws.proofs.OneEach.{starts_joined}
+use Rattle.session_laws.proofs.OneEach.{starts_joined, state_counts, faults_of_file, file_first}
 use Rattle.session_laws.proofs.RecordsMade.{made_then, made_behind, ToldStates, states_so, states_there}
 use Rattle.session_laws.proofs.RunsMade.{has_made, made_are_stopped}
 use Rattle.session_laws.proofs.UndoneNames.{UndoneLaws, Turned, one_end, one_stop, started_in, are_turns}
@@ -138,9 +138,6 @@ slots_none (Some ch ∷ os) none = omega (arith, stage_none ch.stage (λ run is.
 
 -- Records.
 
-abbrev faults_of_file : FileRecord → ℕ
-faults_of_file file = faults_of_state file.state
-
 -- the file of a channel that broke off is among those of the record
 file_counts : (states : List ChannelState) (run : ℕ) (slots : List (Option Channel)) (n : ℕ) (ch : Channel) → slot_at slots n ≡ Some ch → slice_get states ch.spec.number ≡ Some IsBroken → 1 ≤ sum_by faults_of_file (files_told states run (run_channels slots))
 file_counts states run [] n ch there broken = absurd (cc (there))
@@ -148,16 +145,10 @@ file_counts states run (None ∷ os) zero ch there broken = absurd (cc (there))
 file_counts states run (None ∷ os) (suc n) ch there broken = file_counts states run os n ch there broken
 file_counts states run (Some x ∷ os) zero ch there broken =
     let same : x ≡ ch = cc (there) in
-    let its : slice_get states x.spec.number ≡ Some IsBroken = subst (λ (c : Channel). slice_get states c.spec.number ≡ Some IsBroken) (sym same) broken in
-    let first : FileRecord = file_in run (run_channel x.spec) IsBroken in
-    rw (its) (omega (arith, sum_by-cons faults_of_file first (files_told states run (run_channels os))))
-file_counts states run (Some x ∷ os) (suc n) ch there broken = by_first (slice_get states x.spec.number) refl
-  where
-    rest : 1 ≤ sum_by faults_of_file (files_told states run (run_channels os))
-    rest = file_counts states run os n ch there broken
-    by_first : (o : Option ChannelState) → slice_get states x.spec.number ≡ o → 1 ≤ sum_by faults_of_file (files_told states run (run_channels (Some x ∷ os)))
-    by_first None is = rw (is) rest
-    by_first (Some state) is = rw (is) (omega (arith, rest, sum_by-cons faults_of_file (file_in run (run_channel x.spec) state) (files_told states run (run_channels os))))
+    let counts : state_counts (slice_get states x.spec.number) ≡ 1 = ap state_counts (subst (λ (c : Channel). slice_get states c.spec.number ≡ Some IsBroken) (sym same) broken) in
+    omega (arith, counts, file_first run (run_channel x.spec) (files_told states run (run_channels os)) (slice_get states x.spec.number))
+file_counts states run (Some x ∷ os) (suc n) ch there broken =
+    omega (arith, file_counts states run os n ch there broken, file_first run (run_channel x.spec) (files_told states run (run_channels os)) (slice_get states x.spec.number))
 
 whole : (clients : RunClients) (own : MainOwn) (begun : CurrentRun) (r : RunRecord) (o : StartOutcome) → o ≡ Completed → FitsOutcome clients own begun r o → FitsWhole clients own begun r
 whole clients own begun r Completed is fits = fits
