@@ -1,5 +1,5 @@
 -- Each call keeps that what a logger answers rests on the counts of the run files.
-use Rattle.std.specs.Prelude.{◌≡◌, ◌≤◌, ◌+◌, nat_lt, ℕ, suc, Bool, true, false, cond, is_some, sum_by, List, [], ◌∷◌, length, map, slice_set, Option, Some, None, Result, Ok, Err, ⊤, ◌⊎◌, refl}
+use Rattle.std.specs.Prelude.{◌≡◌, ◌≤◌, ◌+◌, nat_lt, ℕ, Bool, true, false, cond, is_some, sum_by, List, [], ◌∷◌, length, map, slice_set, Option, Some, None, Result, Ok, Err, ⊤, ◌⊎◌, refl}
 use Rattle.std.specs.List.{list_all}
 use Rattle.std.specs.Option.{option_map}
 use Rattle.std.proofs.Common.{ap, sym, subst, ◌∙◌, arith, inl, inr}
@@ -20,7 +20,7 @@ use Rattle.buffer_core.specs.declared.entry.BufferEntry.{BufferEntry}
 use Rattle.buffer_core.specs.declared.replies.Received.{Received}
 use Rattle.buffer_core.specs.declared.replies.Received.TheVariants.{Got, Empty, NoClient, SmallBuf}
 use Rattle.buffer_core.specs.Ports.{Access}
-use Rattle.buffer_core.specs.Slots.{slot_at, passes}
+use Rattle.buffer_core.specs.Slots.{slot_at}
 use Rattle.transitions.specs.declared.answers.Answer.{Answer}
 use Rattle.transitions.specs.declared.answers.Answer.TheVariants.{Yes, No}
 use Rattle.transitions.specs.declared.answers.Tally.TheVariants.{Plain, Channels}
@@ -40,7 +40,7 @@ use Rattle.loggers.specs.Moments.{RunFiles, LoggerMoment, ChannelStep, StepsChan
 use Rattle.loggers.specs.ChannelSteps.{OpensChannel, AbortsChannel, PullsChannel}
 use Rattle.loggers.specs.SlotPulls.{PullsSlot, PullsNumbered}
 use Rattle.loggers.specs.Finishing.{EndingMoment, EndsSlot, EndsSlotAt, EndsFiles, LoggerFinish, FinishesBy, FinishesLogger, is_settled_slot, waiting_stop, states_idle}
-use Rattle.loggers.specs.Turning.{BeginsBuffer, EndsBuffer, PausesBuffer, ResumesBuffer, LoggerTurn, OpensBelow, BeginsBelow, AbortsAll, StartsAll, UndoesOpens, UndoesBegins, StartsSo, TakesStart, TakesStop, TakesMark, TakesAbort, TakesTurnBy, TakesTurn, IsIdleOutside, is_run_on, is_started, is_of_start, buffers_begun, start_answer}
+use Rattle.loggers.specs.Turning.{BeginsBuffer, EndsBuffer, PausesBuffer, ResumesBuffer, LoggerTurn, OpensBelow, BeginsBelow, AbortsAll, UndoesOpens, UndoesBegins, StartsSo, TakesStart, TakesStop, TakesMark, TakesAbort, TakesTurnBy, TakesTurn, IsIdleOutside, is_run_on, is_started, is_of_start, buffers_begun, start_answer}
 use Rattle.loggers.specs.LoggerStands.{logger_turn}
 use Rattle.loggers.specs.NewLoggers.{HasNewChannels}
 use Rattle.loggers.specs.ToldCounts.{faults_of_state, faults_of_refusal, faults_of_answer, clashes_of_answer, undone_by, counted_of, faults_told, clashes_told, starts_undone, broken_off}

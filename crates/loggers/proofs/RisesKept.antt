@@ -1,5 +1,5 @@
 -- A fault or a clash that is counted is told: what each step of a logger keeps of that.
-use Rattle.std.specs.Prelude.{◌≡◌, ◌≢◌, ◌≤◌, ◌+◌, ◌<◌, nat_lt, ℕ, zero, suc, Bool, true, false, cond, is_some, sum_by, List, [], ◌∷◌, length, map, replicate, slice_get, slice_set, Option, Some, None, Result, Ok, Err, ⊤, ◌⊎◌, refl}
+use Rattle.std.specs.Prelude.{◌≡◌, ◌≤◌, ◌+◌, ◌<◌, nat_lt, ℕ, zero, suc, Bool, true, false, cond, is_some, sum_by, List, [], ◌∷◌, length, map, replicate, slice_get, slice_set, Option, Some, None, Result, Ok, Err, ⊤, ◌⊎◌, refl}
 use Rattle.std.specs.Option.{option_map}
 use Rattle.std.proofs.Common.{ap, sym, subst, ◌∙◌, arith, inl, inr}
 use Rattle.std.proofs.lemmas.List.Sums.{sum_by-cons}
@@ -32,12 +32,12 @@ use Rattle.mid_logger.specs.ChannelTurns.{OpenClashes, broken_run, drained_run}
 use Rattle.mid_logger.specs.Pulls.{PullOf, PullsIn, TakesReply, TakesBy, FindsNone, PullFaults, drains_at_none}
 use Rattle.loggers.specs.Moments.{RunFiles, LoggerMoment, ChannelStep, StepsChannel, StepsSlot, StepsAt, CallsBuffer, MarksBuffer, InTurn, noted_channel, AreIdle, channel_limit}
 use Rattle.loggers.specs.ChannelSteps.{OpensChannel, AbortsChannel, PullsChannel}
-use Rattle.loggers.specs.SlotPulls.{PullsSlot, PullsNumbered}
+use Rattle.loggers.specs.SlotPulls.{PullsSlot}
 use Rattle.loggers.specs.Finishing.{EndingMoment, EndsSlot, EndsSlotAt, EndsFiles, LoggerFinish, states_idle}
 use Rattle.loggers.specs.Turning.{BeginsBuffer, EndsBuffer, PausesBuffer, ResumesBuffer, LoggerTurn, IsIdleOutside, OpensBelow, BeginsBelow, AbortsAll, StartsAll, UndoesOpens, UndoesBegins, StartsSo, TakesStart, TakesStop, TakesMark, TakesAbort, TakesTurnBy, TakesTurn, is_run_on, is_started, is_of_start, buffers_begun, start_answer}
 use Rattle.loggers.specs.OtherFiles.{specs_in}
-use Rattle.loggers.specs.ToldCounts.{faults_of_state, faults_of_answer, clashes_of_answer, undone_of_answer, undone_by, counted_of, broken_off}
-use Rattle.loggers.specs.Reasons.{IsChannelNumber, IsAnswerAt, NamesRefuser, NamesChannels, AnswerFits}
+use Rattle.loggers.specs.ToldCounts.{faults_of_state, faults_of_answer, clashes_of_answer, undone_by, counted_of, broken_off}
+use Rattle.loggers.specs.Reasons.{IsChannelNumber, NamesRefuser, NamesChannels, AnswerFits}
 use Rattle.loggers.proofs.InTurns.{turns_keep}
 use Rattle.loggers.proofs.SlotLists.{same_or_other, got_elsewhere, many_set}
 use Rattle.loggers.proofs.FilesLeft.{spec_at, specs_set, specs_noted}
@@ -433,7 +433,7 @@ pull_rises n answer (Some before) a b there s =
     step_rises 0 0 (PullsChannel answer) n before a b s there s.step.spec
     (λ none. (
       clean.stays (omega (arith, none)),
-      pulled_faults answer a.files.faults b.files.faults s.step.faults (λ broke. (let off : off_of s.after.stage ≡ 1 = clean.broke broke in omega (arith, none, off)))
+      pulled_faults answer a.files.faults b.files.faults s.step.faults (λ broke. (let off : off_of s.after.stage ≡ 1 = clean.broke broke in omega (arith, none, off))),
     )) (λ none. s.step.clashes)
 
 -- A call to finish.

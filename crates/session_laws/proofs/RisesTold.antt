@@ -18,15 +18,13 @@ use Rattle.buffer_core.specs.Slots.{slot_at, passes}
 use Rattle.transitions.specs.declared.sheet.Sheet.{Sheet}
 use Rattle.transitions.specs.declared.answers.Answer.{Answer}
 use Rattle.transitions.specs.declared.answers.Answer.TheVariants.{Yes, No}
-use Rattle.transitions.specs.declared.answers.ClientTally.{ClientTally}
 use Rattle.transitions.specs.declared.answers.Tally.{Tally}
 use Rattle.transitions.specs.declared.answers.Tally.TheVariants.{Plain, Front, Channels, Report}
 use Rattle.transitions.specs.declared.entry.EngineEntry.{EngineEntry}
 use Rattle.transitions.specs.EnginePoints.{engine_past, state_at, tally_of}
-use Rattle.member_model.specs.Turns.{MemberTurn, HasTurn, HasTurnOf, IsAcceptedStart, AreEngineTurns}
+use Rattle.member_model.specs.Turns.{MemberTurn, HasTurn, AreEngineTurns}
 use Rattle.member_model.specs.TurnCalls.{member_turns}
 use Rattle.mid_logger.specs.declared.channel.Channel.{Channel}
-use Rattle.mid_logger.specs.declared.channel_spec.ChannelSpec.{ChannelSpec}
 use Rattle.mid_logger.specs.declared.stage.BegunRun.{BegunRun}
 use Rattle.mid_logger.specs.declared.stage.ChannelStage.{ChannelStage}
 use Rattle.mid_logger.specs.declared.stage.ChannelStage.TheVariants.{Idle, Asking, Writing, Draining, Drained, Broken}
@@ -36,27 +34,26 @@ use Rattle.loggers.specs.declared.logged_run.LoggedRun.{LoggedRun}
 use Rattle.loggers.specs.declared.logged_run.RunPart.{RunPart}
 use Rattle.loggers.specs.declared.logged_run.RunPart.TheVariants.{Refused as WasRefused, Started, Stopping}
 use Rattle.loggers.specs.Moments.{RunFiles}
-use Rattle.loggers.specs.LoggerStands.{LoggerStands, LoggerHolds, HasEndTurn, IsStageOf, IsStagePart, IsRunTold, IsPartTold, IsStillGoing, ToldSo, TellsStates}
+use Rattle.loggers.specs.LoggerStands.{LoggerStands, HasEndTurn, IsStageOf, IsStagePart, IsRunTold, IsPartTold, IsStillGoing, ToldSo}
 use Rattle.loggers.specs.LeftNames.{IsStartedRun}
 use Rattle.loggers.specs.OtherFiles.{specs_in}
-use Rattle.loggers.specs.Reasons.{IsAnswerAt, NamesChannels, AnswerFits, ClashesAreTold}
-use Rattle.loggers.specs.ToldCounts.{faults_of_state, faults_of_refusal, faults_of_answer, clashes_of_answer, undone_of_answer, undone_by, counted_of, faults_told, clashes_told, starts_undone, broken_off}
+use Rattle.loggers.specs.Reasons.{AnswerFits, ClashesAreTold}
+use Rattle.loggers.specs.ToldCounts.{faults_of_state, faults_of_answer, clashes_of_answer, undone_of_answer, undone_by, counted_of, faults_told, starts_undone, broken_off}
 use Rattle.loggers.proofs.ManyRose.{member_counts, off_of}
-use Rattle.engine_laws.specs.BegunTurns.{HasTransition, HasTally, IsTallyOfTurn, IsRefusedTurn}
+use Rattle.engine_laws.specs.BegunTurns.{HasTransition, HasTally, IsRefusedTurn}
 use Rattle.engine_laws.specs.EngineLaws.{RefusalsAreAnswers}
 use Rattle.run_records.specs.declared.records.FileRecord.{FileRecord}
 use Rattle.run_records.specs.declared.records.RunRecord.{RunRecord}
 use Rattle.session_engine.specs.MadeTransitions.{TransitionIn}
-use Rattle.session_runs.specs.declared.channels.RunChannel.{RunChannel}
 use Rattle.session_runs.specs.declared.on.CurrentRun.{CurrentRun}
 use Rattle.session_runs.specs.KeptRuns.{run_channel}
 use Rattle.session_runs.specs.RunEntries.{start_sheet, later_sheet, dump_saved}
 use Rattle.session_runs.specs.RunsFit.{MainOwn, RunClients, FitsRun, FitsOutcome, FitsRefused, FitsWhole, RecordsFit, run_of, start_of, starts_begun}
-use Rattle.session_runs.specs.ToldTallies.{file_in, files_told, files_of, states_told}
-use Rattle.composition.specs.Sessions.{Session, MembersKeep}
+use Rattle.session_runs.specs.ToldTallies.{files_told, files_of, states_told}
+use Rattle.composition.specs.Sessions.{Session}
 use Rattle.composition.specs.SessionRuns.{SessionRun, IsStoppedRun}
 use Rattle.composition.proofs.FilesTogether.{yes_channels}
-use Rattle.composition.proofs.SessionTurns.{EngineFacts, HasStartTally, StartTally, StopTally, number_of, one_start, start_tally, stop_tally, last_tally, speaks}
+use Rattle.composition.proofs.SessionTurns.{EngineFacts, HasStartTally, StopTally, number_of, one_start, start_tally, stop_tally, last_tally, speaks}
 use Rattle.session_laws.specs.ClosedSessions.{ClosedSession, logger_client, logger_caller, engine_calls, session_of}
 use Rattle.session_laws.specs.MembersAtEnd.{MembersAtEnd}
 use Rattle.session_laws.specs.CountedFaults.{LoggerReasons}
@@ -366,6 +363,7 @@ module _ (laws : RiseLaws) (c : ClosedSession) (ends : MembersAtEnd c) where
         where
           ended_turn : (start : ℕ) → run.opened.start ≡ start → TurnsOf run.opened.start → HasEndTurn ts start
           ended_turn start of turns = record { turn = turns.stop; stands = turns.stops.stands; ends = inl turns.stops.is; of = turns.stops.of ∙ of }
+
           by_part : (r : LoggedRun) (part : RunPart) → r.part ≡ part → TurnsOf run.opened.start → (port : Access) → IsStagePart part ts port.own r.start (Broken run) → IsPartTold part ts r.start ends.logger.stop_dump → (r.part ≡ Started → HasEndTurn ts r.start → ⊥) → ⊥
           by_part r WasRefused part turns port stage told going = absurd (cc (stage))
           by_part r Started part turns port stage told going = going part (ended_turn r.start stage.of turns)
@@ -376,6 +374,7 @@ module _ (laws : RiseLaws) (c : ClosedSession) (ends : MembersAtEnd c) where
               let same : w ≡ turns.stop = one_stop ts run.opened.start turns.begin w turns.stop are turns.starts (record { stands = has; is = refl; of = waits.of ∙ sym stage.of }) turns.stops in
               let both : None ≡ Some turns.answer = ap (λ (u : MemberTurn). u.answer) same ∙ turns.answered in
               cc (both)
+
           by_run : (o : Option LoggedRun) → TurnsOf run.opened.start → (port : Access) → IsStageOf o ts port.own (Broken run) → IsRunTold o ts ends.logger.stop_dump → IsStillGoing o ts → ⊥
           by_run None turns port stage told going = absurd (cc (stage))
           by_run (Some r) turns port stage told going = by_part r r.part refl turns port stage told (λ part ended. going r refl part ended)
