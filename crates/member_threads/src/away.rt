@@ -6,13 +6,13 @@ use crate::member::Member;
 use crate::post::send;
 use crate::posts::{PostList, call_all_back, send_all, turn_all};
 use crate::recall::Recall;
+use crate::stir::{MANY, Stir};
 use daq_io::Gate;
 use daq_types::{BoundedList, NoMemory};
 use session_engine::Rounds;
 use std::alloc::Global;
 use std::marker::Model;
 use std::sync::Wait;
-use std::thread;
 use std::thread::{Scope, Threads};
 
 /// The members of a session, by their kinds.
@@ -66,19 +66,21 @@ impl<A: Member + Drop, B: Member + Drop, C: Member + Drop> Away<A, B, C> {
         })
     }
 
-    /// One turn of each member that is here.
-    fn turn<R: Wait, G: Gate>(&mut self, rt: &R, gate: &G)
+    /// One turn of each member that is here. Says whether one worked.
+    fn turn<R: Wait, G: Gate>(&mut self, rt: &R, stir: &Stir, gate: &G) -> bool
         ensures { HadEach A.turns B.turns C.turns self.old self.new }
     {
-        turn_all(rt, &mut self.fronts, gate);
-        turn_all(rt, &mut self.loggers, gate);
-        turn_all(rt, &mut self.analyzers, gate);
+        let fronts = turn_all(rt, stir, &mut self.fronts, gate);
+        let loggers = turn_all(rt, stir, &mut self.loggers, gate);
+        let analyzers = turn_all(rt, stir, &mut self.analyzers, gate);
+        fronts || loggers || analyzers
     }
 
     /// All come back, each behind its last turn.
     pub(crate) fn call_back<R: Threads + Wait, G: Gate>(
         &mut self,
         rt: &R,
+        stir: &Stir,
         gate: &G,
         back: &mut Back<A, B, C>,
     )
@@ -94,9 +96,10 @@ impl<A: Member + Drop, B: Member + Drop, C: Member + Drop> Away<A, B, C> {
         }) }
         ensures room { 64 ≤ vec_capacity back.new.analyzers }
     {
-        call_all_back(rt, &mut self.fronts, &mut back.fronts, gate);
-        call_all_back(rt, &mut self.loggers, &mut back.loggers, gate);
-        call_all_back(rt, &mut self.analyzers, &mut back.analyzers, gate);
+        stir.call();
+        call_all_back(rt, stir, &mut self.fronts, &mut back.fronts, gate);
+        call_all_back(rt, stir, &mut self.loggers, &mut back.loggers, gate);
+        call_all_back(rt, stir, &mut self.analyzers, &mut back.analyzers, gate);
     }
 }
 
@@ -107,6 +110,7 @@ impl<A: Member + Drop + Send, B: Member + Drop + Send, C: Member + Drop + Send> 
         scope: &'s Scope<'s, E>,
         rt: &'s R,
         recall: &'s Recall,
+        stir: &'s Stir,
         gate: &'s G,
         members: Members<A, B, C>,
     )
@@ -127,13 +131,14 @@ impl<A: Member + Drop + Send, B: Member + Drop + Send, C: Member + Drop + Send> 
             analyzers,
         } = members;
         let number = fronts.len();
-        send_all(scope, rt, recall, gate, 0, fronts, &mut self.fronts);
+        send_all(scope, rt, recall, stir, gate, 0, fronts, &mut self.fronts);
         self.loggers
-            .push(send(scope, rt, recall, gate, number, logger));
+            .push(send(scope, rt, recall, stir, gate, number, logger));
         send_all(
             scope,
             rt,
             recall,
+            stir,
             gate,
             number + 1,
             analyzers,
@@ -172,10 +177,12 @@ impl<A, B, C> Back<A, B, C> {
     }
 }
 
-/// Members that are away, with the gate that they pass. They have rounds as far as they are here.
+/// Members that are away, with the gate that they pass, and what they see of one another's work. They have rounds as far as
+/// they are here.
 #[derive(Drop)]
 pub(crate) struct Posts<'a, A: Member, B: Member, C: Member, G: Gate> {
     pub(crate) away: Away<A, B, C>,
+    pub(crate) stir: &'a Stir,
     pub(crate) gate: &'a G,
 }
 
@@ -185,9 +192,12 @@ impl<'a, A: Member + Drop, B: Member + Drop, C: Member + Drop, G: Gate> Rounds
 
     ghost round = { λ before after. HadEach A.turns B.turns C.turns before.away after.away };
 
-    /// One turn of each member that is here. The processor is given up, since the main thread waits for the others.
+    /// One turn of each member that is here. Where none of them worked, the others are called to look what the main thread did,
+    /// and it waits for them.
     fn round<R: Wait>(&mut self, rt: &R) {
-        self.away.turn(rt, self.gate);
-        thread::yield_now();
+        if !self.away.turn(rt, self.stir, self.gate) {
+            self.stir.call();
+            self.stir.wait(MANY);
+        }
     }
 }

@@ -8,6 +8,7 @@ ghost use Rattle.member_threads.specs.Scattered.{EachEnded, members_seen};
 use crate::last_turns::{end_all, end_entries};
 use crate::playing::Playing;
 use crate::post::finish;
+use crate::stir::Stir;
 use daq_io::{Files, Gate, Pick};
 use daq_members::EndlessPort;
 use front_ends::Equipment;
@@ -57,9 +58,10 @@ pub fn play_in_turns<
         mut analyzers,
         pick,
     } = crew.into_parts();
-    end_all(rt, &mut fronts, gate);
-    let logger = finish(rt, gate, logger);
-    end_entries(rt, &mut analyzers, gate);
+    let stir = Stir::new();
+    end_all(rt, &stir, &mut fronts, gate);
+    let logger = finish(rt, &stir, gate, logger);
+    end_entries(rt, &stir, &mut analyzers, gate);
     let crew = Crew::new(fronts, logger, analyzers, pick, gate);
     (played, crew.into_parts())
 }

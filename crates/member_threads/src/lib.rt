@@ -12,12 +12,14 @@ mod in_threads;
 mod in_turns;
 mod last_turns;
 mod member;
+mod pace;
 mod playing;
 mod post;
 mod posts;
 mod recall;
 mod scattered;
 mod seats;
+mod stir;
 
 pub use away::Members;
 pub use in_threads::{ThreadRoom, play_in_threads};

@@ -3,7 +3,9 @@ ghost use Rattle.member_threads.specs.Turns.{HadTurns, HasEnded};
 
 use crate::member::{Member, until_ended};
 use crate::recall::Recall;
+use crate::stir::Stir;
 use daq_io::Gate;
+use daq_members::Turned;
 use std::marker::Model;
 use std::snapshot::Snapshot;
 use std::sync::Wait;
@@ -40,6 +42,7 @@ impl<M: Member> Model for Post<M> {
 fn go<R: Wait, M: Member, G: Gate>(
     rt: &R,
     recall: &Recall,
+    stir: &Stir,
     gate: &G,
     number: usize,
     mut member: M,
@@ -47,17 +50,17 @@ fn go<R: Wait, M: Member, G: Gate>(
     ensures { HadTurns M.turns member result }
 {
     if !recall.is_for(number) {
-        until_ended(rt, &mut member, gate);
+        until_ended(rt, stir, &mut member, gate);
     }
     member
 }
 
 /// The last turns of a member that came back.
-pub(crate) fn finish<R: Wait, M: Member, G: Gate>(rt: &R, gate: &G, mut member: M) -> M
+pub(crate) fn finish<R: Wait, M: Member, G: Gate>(rt: &R, stir: &Stir, gate: &G, mut member: M) -> M
     ensures had { HadTurns M.turns member result }
     ensures ended { HasEnded M.turns result }
 {
-    until_ended(rt, &mut member, gate);
+    until_ended(rt, stir, &mut member, gate);
     member
 }
 
@@ -66,6 +69,7 @@ pub(crate) fn send<'s, E, R: Threads + Wait + Sync, M: Member + Drop + Send, G: 
     scope: &'s Scope<'s, E>,
     rt: &'s R,
     recall: &'s Recall,
+    stir: &'s Stir,
     gate: &'s G,
     number: usize,
     member: M,
@@ -77,7 +81,7 @@ where
     ensures { HadTurns M.turns member result }
 {
     let was = Snapshot::of(&member);
-    let goes = move || go(rt, recall, gate, number, member);
+    let goes = move || go(rt, recall, stir, gate, number, member);
     match scope.spawn_with(Went { was }, goes) {
         Ok(handle) => Post { thread: Ok(handle) },
         Err(refused) => {
@@ -90,12 +94,14 @@ where
 }
 
 impl<M: Member> Post<M> {
-    /// One turn, if the member is here.
-    pub(crate) fn turn<R: Wait, G: Gate>(&mut self, rt: &R, gate: &G)
+    /// One turn, if the member is here. Says whether it worked.
+    pub(crate) fn turn<R: Wait, G: Gate>(&mut self, rt: &R, gate: &G) -> bool
         ensures { HadTurns M.turns self.old self.new }
     {
         if let Err(member) = &mut self.thread {
-            member.turn(rt, gate);
+            let turned = member.turn(rt, gate);
+            return matches!(turned, Turned::Worked);
         }
+        false
     }
 }

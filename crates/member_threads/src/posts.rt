@@ -6,6 +6,7 @@ ghost use Rattle.member_threads.specs.Turns.{HadTurns, HasEnded};
 use crate::member::Member;
 use crate::post::{Post, finish, send};
 use crate::recall::Recall;
+use crate::stir::Stir;
 use daq_io::Gate;
 use daq_types::{BoundedList, Journal};
 use std::sync::Wait;
@@ -19,6 +20,7 @@ pub(crate) fn send_all<'s, E, R: Threads + Wait + Sync, M: Member + Drop + Send,
     scope: &'s Scope<'s, E>,
     rt: &'s R,
     recall: &'s Recall,
+    stir: &'s Stir,
     gate: &'s G,
     first: usize,
     members: Vec<M>,
@@ -36,33 +38,49 @@ where
     let mut here = Journal::of(members);
     while let Some(member) = here.take_first() {
         let number = first + posts.len();
-        posts.push(send(scope, rt, recall, gate, number, member));
+        posts.push(send(scope, rt, recall, stir, gate, number, member));
     }
 }
 
-/// One turn of the member at this place, if it is here.
-fn turn_at<R: Wait, M: Member, G: Gate>(rt: &R, posts: &mut PostList<M>, gate: &G, place: usize)
+/// One turn of the member at this place, if it is here. Says whether it worked.
+fn turn_at<R: Wait, M: Member, G: Gate>(
+    rt: &R,
+    posts: &mut PostList<M>,
+    gate: &G,
+    place: usize,
+) -> bool
     requires { place < length posts.old }
     ensures { AllZip (HadTurns M.turns) posts.old posts.new }
 {
     let Some(post) = posts.get_mut(place) else {
         unreachable!()
     };
-    post.turn(rt, gate);
+    post.turn(rt, gate)
 }
 
-/// One turn of each of these members that is here.
-pub(crate) fn turn_all<R: Wait, M: Member, G: Gate>(rt: &R, posts: &mut PostList<M>, gate: &G)
+/// One turn of each of these members that is here. Those that worked are counted. Says whether one did.
+pub(crate) fn turn_all<R: Wait, M: Member, G: Gate>(
+    rt: &R,
+    stir: &Stir,
+    posts: &mut PostList<M>,
+    gate: &G,
+) -> bool
     ensures { AllZip (HadTurns M.turns) posts.old posts.new }
 {
+    let mut worked = false;
     for place in 0..posts.len() {
-        turn_at(rt, posts, gate, place);
+        if turn_at(rt, posts, gate, place) {
+            stir.add(1);
+            worked = true;
+        }
     }
+    worked
 }
 
 /// These members come back in order, each behind its last turn.
 pub(crate) fn call_all_back<R: Threads + Wait, M: Member + Drop, G: Gate>(
     rt: &R,
+    stir: &Stir,
     posts: &mut PostList<M>,
     members: &mut Vec<M>,
     gate: &G,
@@ -77,8 +95,8 @@ pub(crate) fn call_all_back<R: Threads + Wait, M: Member + Drop, G: Gate>(
     while let Some(post) = posts.take_first() {
         let Post { thread } = post;
         match thread {
-            Ok(handle) => members.push_reserved(finish(rt, gate, handle.join(rt))),
-            Err(member) => members.push_reserved(finish(rt, gate, member)),
+            Ok(handle) => members.push_reserved(finish(rt, stir, gate, handle.join(rt))),
+            Err(member) => members.push_reserved(finish(rt, stir, gate, member)),
         }
     }
 }

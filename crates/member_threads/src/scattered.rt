@@ -6,6 +6,7 @@ use crate::away::{Away, Back, Members, Posts};
 use crate::member::Member;
 use crate::playing::Playing;
 use crate::recall::Recall;
+use crate::stir::Stir;
 use daq_io::Gate;
 use daq_types::NoMemory;
 use std::alloc::Global;
@@ -59,6 +60,7 @@ fn play_in<
     scope: &'s Scope<'s, X>,
     rt: &'s R,
     recall: &'s Recall,
+    stir: &'s Stir,
     room: Room<A, B, C>,
     members: Members<A, B, C>,
     gate: &'s G,
@@ -78,10 +80,10 @@ where
     ensures room { 64 ≤ vec_capacity result.1.analyzers }
 {
     let Room { mut away, mut back } = room;
-    away.send(scope, rt, recall, gate, members);
-    let (played, posts) = main.play(rt, Posts { away, gate });
-    let Posts { mut away, gate: _ } = posts;
-    away.call_back(rt, gate, &mut back);
+    away.send(scope, rt, recall, stir, gate, members);
+    let (played, posts) = main.play(rt, Posts { away, stir, gate });
+    let Posts { mut away, .. } = posts;
+    away.call_back(rt, stir, gate, &mut back);
     (played, back.into_members())
 }
 
@@ -110,6 +112,8 @@ pub fn play_scattered<
 {
     let recall = Recall::new();
     let recall = &recall;
+    let stir = Stir::new();
+    let stir = &stir;
     thread::scope(
         thread::scope_env(),
         rt,
@@ -120,6 +124,6 @@ pub fn play_scattered<
                 (members_seen members.fronts.items members.logger members.analyzers.items)
                 (members_seen result.1.fronts.items result.1.logger result.1.analyzers.items) }
             ensures room { 64 ≤ vec_capacity result.1.analyzers }
-        { play_in(scope, rt, recall, room, members, gate, main) },
+        { play_in(scope, rt, recall, stir, room, members, gate, main) },
     )
 }
