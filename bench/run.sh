@@ -2,8 +2,9 @@
 # Measures `run` of an empty script beside /bin/true; and with one front-end, with four of them over a buffer of 65,536 bytes, and
 # with these and an analyzer: runs of 1,000 and of 100,000 events and of two, four and ten times as many, in threads and, by
 # `run --cooperative`, on one thread, beside `cat` of the run file that was written, whose events `check` counts, and beside a copy
-# of it that is put on the disk. Prints seconds by the clock and of the processor (the least of three, and of a hundred for the
-# empty script), ratios, growth and the peak memory.
+# of it that is put on the disk; and a hundred short runs of four transitions each, with four front-ends and an analyzer. Prints
+# seconds by the clock and of the processor (the least of three, and of a hundred for the empty script), ratios, growth and the
+# peak memory. TMPDIR=/dev/shm keeps the disk out of the times.
 # usage: bench/run.sh PROGRAM
 set -e
 program=$(realpath "$1")
@@ -16,6 +17,7 @@ import math, os, shutil, subprocess, sys, time
 program = sys.argv[1]
 RUN_FILE = "run00001.mid"
 FEWEST = 100000
+SHORT_RUNS = 100
 
 # What the front-ends are, how many, and the lines that declare them.
 FOUR = b"buffer SYSTEM 65536\n" + b"".join(b"equip FE%d %d 0 SYSTEM\n" % (i, i) for i in (1, 2, 3, 4))
@@ -47,8 +49,9 @@ def seconds(command, script=b"", before=lambda: None, runs=3):
 
 
 def remove():
-    if os.path.exists(RUN_FILE):
-        os.remove(RUN_FILE)
+    for name in os.listdir("."):
+        if name.endswith(".mid"):
+            os.remove(name)
 
 
 def counted():
@@ -95,4 +98,9 @@ for title, fronts, declared in SESSIONS:
                   "  %5.1f times a copy to the disk  growth %5.2f of %4.4g (exponent %4.2f)  peak %d kB"
                   % (events, os.path.getsize(RUN_FILE) / 1e6, way, took, took / on_one, busy, busy / events * 1e6, took / read,
                      took / copied(), took / first, times, exponent, peak))
+for way, words in (("on one thread", ["--cooperative"]), ("in threads", [])):
+    script = SESSIONS[-1][2] + b"events 4\n" + SHORT_RUNS * b"start\npause\nresume\nstop\n"
+    took, busy, _ = seconds([program, "run"] + words, script, remove)
+    print("%d short runs %-13s %6.3f ms a transition, processor %6.3f ms"
+          % (SHORT_RUNS, way, took / SHORT_RUNS / 4 * 1e3, busy / SHORT_RUNS / 4 * 1e3))
 PYTHON
