@@ -1,5 +1,5 @@
 -- Why front-ends refuse a start, and what is known where none did.
-use Rattle.std.specs.Prelude.{◌≡◌, ℕ, Bool, true, false, if◌then◌else◌, List, ◌∷◌, ◌++◌, refl}
+use Rattle.std.specs.Prelude.{◌≡◌, ℕ, Bool, true, false, if◌then◌else◌, ◌∷◌, ◌++◌, refl}
 use Rattle.std.proofs.Common.{ap, sym, ◌∙◌, subst}
 use Rattle.daq_types.specs.Callers.{caller_of_client}
 use Rattle.daq_types.specs.declared.runs.Order.{Order}
@@ -10,7 +10,6 @@ use Rattle.daq_types.specs.declared.runs.Transition.TheVariants.{Start}
 use Rattle.daq_types.specs.declared.runs.Why.{Why}
 use Rattle.daq_types.specs.declared.runs.Why.TheVariants.{NotReady}
 use Rattle.transitions.specs.declared.sheet.Sheet.{Sheet}
-use Rattle.transitions.specs.declared.answers.Answer.{Answer}
 use Rattle.transitions.specs.declared.answers.Answer.TheVariants.{Yes, No}
 use Rattle.transitions.specs.declared.answers.Tally.{Tally}
 use Rattle.transitions.specs.declared.answers.Tally.TheVariants.{Plain}
@@ -23,7 +22,7 @@ use Rattle.transitions.specs.GivenTurns.{SpeaksFor}
 use Rattle.member_model.specs.Turns.{MemberTurn, HasTurn}
 use Rattle.engine_laws.specs.BegunTurns.{IsOfBegin, IsRefusedTurn, IsTallyOfTurn, HasTally}
 use Rattle.engine_laws.specs.EngineLaws.{StartsFromStopped, TalliesAreAnswers, RefusalsAreAnswers, CalledAreTold}
-use Rattle.composition.specs.Sessions.{Session, SessionFront, HasFront, turns_of, MembersKeep}
+use Rattle.composition.specs.Sessions.{Session, turns_of, MembersKeep}
 use Rattle.composition.specs.CompositionLaws.{FrontsRefuse, FrontsTakePart}
 use Rattle.composition.proofs.SessionTurns.{speaks}
 

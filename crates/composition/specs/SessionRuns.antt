@@ -2,7 +2,7 @@
 use mathlib.Core.List.{IsPrefix}
 use Rattle.std.specs.Prelude.{◌≡◌, ◌≢◌, ℕ, List, [], ◌∷◌, ◌++◌, slice_get, unwrap_or, Contains, Some, Ok, ⊤}
 use Rattle.std.specs.List.{AllByRecursion}
-use Rattle.daq_types.specs.Callers.{caller_of_client, entries_by}
+use Rattle.daq_types.specs.Callers.{entries_by}
 use Rattle.daq_types.specs.declared.events.Event.{Event}
 use Rattle.daq_types.specs.declared.runs.ChannelState.{ChannelState}
 use Rattle.daq_types.specs.declared.runs.FrontEnded.{FrontEnded}
