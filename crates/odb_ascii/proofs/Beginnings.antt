@@ -1,5 +1,5 @@
 -- Lines with which nothing begins.
-use Rattle.std.proofs.Common.{◌≡◌, ℕ, ◌<◌, ◌≤◌, Bool, true, false, List, [], ◌∷◌, ◌++◌, length, Ok, refl, sym, ap, ◌∙◌, subst, arith}
+use Rattle.std.proofs.Common.{◌≡◌, ℕ, ◌<◌, ◌≤◌, true, false, List, ◌∷◌, ◌++◌, length, sym, ap, ◌∙◌, subst, arith}
 use Rattle.daq_types.specs.declared.types.Tid.{Tid}
 use Rattle.daq_types.specs.declared.types.Tid.TheVariants as tid
 use Rattle.daq_types.specs.Tids.{IsNamed}
@@ -7,10 +7,10 @@ use Rattle.daq_text.specs.Numbers.{front, behind, is_blank}
 use Rattle.odb_path.specs.Paths.{depth_limit}
 use Rattle.odb_value.specs.declared.items.Item.{Item}
 use Rattle.odb_value.specs.Items.{is_kept}
-use Rattle.odb_lines.specs.LineForms.{HasNo, IsPassed, IsDirLine, without_blanks, is_of_word, IsKeyLine, IsSingle, IsArray}
+use Rattle.odb_lines.specs.LineForms.{IsPassed, IsDirLine, without_blanks, is_of_word, IsKeyLine, IsSingle, IsArray}
 use Rattle.odb_lines.specs.ItemLines.{IsItemAlone}
 use Rattle.odb_lines.proofs.Splitting.{parted}
-use Rattle.odb_ascii.specs.Grammar.{SizedItem, IsKeyIn, IsSingleKey, IsArrayHead, IsSkippedHead, is_skipped}
+use Rattle.odb_ascii.specs.Grammar.{SizedItem, IsSingleKey, IsArrayHead, IsSkippedHead, is_skipped}
 use Rattle.odb_ascii.specs.TextFaults.{BeginsNothing}
 use Rattle.odb_ascii.proofs.TypeNames.{named_once}
 

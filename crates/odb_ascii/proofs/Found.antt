@@ -1,22 +1,20 @@
 -- In a tree each row is found by its path, and what stands in a directory has the directory's path and one name more.
-use Rattle.std.proofs.Common.{◌≡◌, ℕ, zero, suc, ◌+◌, ◌-◌, ◌<◌, ◌≤◌, Bool, true, false, not, cond, ◌&&◌, ◌==◌, List, [], ◌∷◌, ◌++◌, length, map, take, slice_index_or, Option, Some, None, Ok, inl, inr, ◌⊎◌, refl, sym, ap, ◌∙◌, subst, arith, append_assoc, append-nil, length-append}
-use Rattle.std.specs.Option.{option_or, option_map}
-use Rattle.std.specs.List.{filter, flat_map, AllByRecursion}
+use Rattle.std.proofs.Common.{◌≡◌, ℕ, zero, suc, ◌+◌, ◌-◌, ◌<◌, ◌≤◌, Bool, true, false, cond, ◌==◌, List, [], ◌∷◌, ◌++◌, length, take, slice_index_or, Option, Some, None, Ok, inl, inr, refl, sym, ap, ◌∙◌, subst, arith, append_assoc, append-nil, length-append}
+use Rattle.std.specs.Option.{option_or}
 use Rattle.std.proofs.lemmas.Bool.Decides.{nat_tests}
 use Rattle.odb_path.specs.Paths.{depth_limit, is_front, same_path}
 use Rattle.odb_tree.specs.declared.rows.Row.{Row}
-use Rattle.odb_tree.specs.declared.children.Child.{Child}
 use Rattle.odb_tree.specs.declared.refusals.OdbRefusal.{OdbRefusal}
 use Rattle.odb_tree.specs.declared.refusals.OdbRefusal.TheVariants.{NoKey, NotDir}
-use Rattle.odb_tree.specs.Rows.{Rows, row_at, is_key, is_kind, is_child, is_listed, keys_in, dirs_in}
+use Rattle.odb_tree.specs.Rows.{Rows, row_at, is_key, is_child}
 use Rattle.odb_tree.specs.Lookups.{parent_of, obstacle_at, obstacle_from, obstacle_to, found_row, seek, key_or_refusal, key_of, seek_key, dir_fault, not_dir}
-use Rattle.odb_tree.specs.Calls.{last_name, child_of, children_of}
-use Rattle.odb_tree.specs.Trees.{HasDir, IsDir, IsPlaced, ArePlaced, AreApart, IsTree, AreShort}
+use Rattle.odb_tree.specs.Calls.{last_name, child_of}
+use Rattle.odb_tree.specs.Trees.{IsDir, IsPlaced, ArePlaced, AreApart, IsTree, AreShort}
 use Rattle.odb_tree.specs.WalkLaws.{NoneAt}
 use Rattle.odb_tree.proofs.WalkLaws.{and_left, and_right, true_false}
-use Rattle.odb_tree.proofs.Trees.{front_within, long_same, same_long, same_front, same_refl, same_sym, same_trans, is_dir_append}
+use Rattle.odb_tree.proofs.Trees.{front_within, long_same, same_long, same_refl, same_sym, same_trans, is_dir_append}
 use Rattle.odb_tree.proofs.Placed.{none_around}
-use Rattle.odb_ascii.specs.Standing.{IsChildIn, own_path}
+use Rattle.odb_ascii.specs.Standing.{IsChildIn}
 
 -- Rows found by their paths.
 

@@ -1,6 +1,5 @@
 -- A text is loaded: from the lines so far to the next ones.
-use Rattle.std.proofs.Common.{◌≡◌, ◌≢◌, ◌^◌, ℕ, zero, suc, ◌+◌, ◌<◌, ◌≤◌, Bool, true, false, cond, List, [], ◌∷◌, ◌++◌, length, map, Option, Some, None, Result, Ok, Err, refl, sym, ap, ◌∙◌, subst, arith, inl, inr, ⊎_elim}
-use Rattle.std.specs.List.{AllByRecursion}
+use Rattle.std.proofs.Common.{◌≡◌, ◌≢◌, ℕ, suc, ◌+◌, ◌<◌, ◌≤◌, List, [], ◌∷◌, ◌++◌, length, Option, Some, None, Result, Ok, refl, sym, ap, ◌∙◌, subst, arith, inl, inr, ⊎_elim}
 use Rattle.std.proofs.lemmas.List.{append-nil, append_assoc, length-append, length_push}
 use Rattle.std.proofs.lemmas.List.Sums.{sum_by_push}
 use Rattle.odb_tree.specs.declared.refusals.OdbRefusal.{OdbRefusal}
@@ -19,13 +18,12 @@ use Rattle.std.specs.Str.Lines.{lines}
 use Rattle.daq_types.specs.declared.types.Tid.{Tid}
 use Rattle.odb_tree.specs.declared.refusals.OdbRefusal.TheVariants.{NoKey, Exists, NotDir, NotValue, TypeMismatch, BadIndex, Limit, NotKept, NoMemory as none_left}
 use Rattle.odb_value.specs.Values.{items_limit}
-use Rattle.odb_ascii.specs.Dumps.{dump_limit}
 use Rattle.odb_ascii.specs.declared.faults.BlockFault.{BlockFault}
 use Rattle.odb_ascii.specs.declared.faults.BlockFault.TheVariants.{Bad, Refused, NoMemory as no_memory}
 use Rattle.odb_ascii.specs.Blocks.{IsBlock, IsBadAt, IsBlockFault}
-use Rattle.odb_ascii.specs.TextSteps.{TextStep, run_steps, or_refused, act_fault, rows_fault, after_act, watched_act, changes_of_act, changes_in_steps, written, skipped, keys_written, keys_skipped, dir_after, dirs_after}
+use Rattle.odb_ascii.specs.TextSteps.{TextStep, run_steps, or_refused, act_fault, rows_fault, after_act, changes_of_act, changes_in_steps, written, skipped, dir_after, dirs_after}
 use Rattle.odb_ascii.specs.Grammar.{SizedItem, AreItemLines, SpellsAct, SpellsSteps, ArePassed}
-use Rattle.odb_ascii.specs.TextFaults.{IsBegunArray, IsBegunSkipped, LeavesGrammar, IsRefused, FaultPlace, IsTextFault}
+use Rattle.odb_ascii.specs.TextFaults.{IsBegunArray, IsBegunSkipped, LeavesGrammar, IsRefused, IsTextFault}
 use Rattle.odb_ascii.specs.Loads.{IsLoaded, watched_as, IsLoadedTo, counts_with, Place, IsPassedOver, DoesStep, AdvancesText, RefusesFirst, IsTextFaultAt, place_at, IsRoomy, IsNear, broken_at, refused_at}
 
 -- one line more is passed over

@@ -1,5 +1,5 @@
 -- At most one list of steps stands in the grammar with some lines.
-use Rattle.std.proofs.Common.{◌≡◌, ℕ, zero, suc, ◌+◌, ◌<◌, ◌≤◌, ◌==◌, Bool, true, false, cond, List, [], ◌∷◌, ◌++◌, length, map, reverse, Result, Ok, refl, sym, ap, ◌∙◌, subst, arith, inl, inr, ⊎_elim}
+use Rattle.std.proofs.Common.{◌≡◌, ℕ, ◌+◌, ◌==◌, Bool, true, false, cond, List, [], ◌∷◌, ◌++◌, length, reverse, Result, Ok, refl, sym, ap, ◌∙◌, subst, arith, inl, inr, ⊎_elim}
 use Rattle.std.specs.List.{AllByRecursion}
 use Rattle.std.specs.Str.Parse.{digits_value}
 use Rattle.std.proofs.lemmas.List.{reverse-append}
@@ -13,14 +13,14 @@ use Rattle.odb_path.specs.PathText.{path_reply}
 use Rattle.odb_value.specs.declared.items.Item.{Item}
 use Rattle.odb_value.specs.Items.{is_kept}
 use Rattle.odb_value.specs.Values.{HeldValue}
-use Rattle.odb_lines.specs.LineForms.{AreBlanks, HasNo, IsBracketed, IsComment, IsPassed, IsDirLine, IsKeyLine, IsSingle, IsArray, without_blanks, behind_blank}
+use Rattle.odb_lines.specs.LineForms.{AreBlanks, IsComment, IsPassed, IsDirLine, IsKeyLine, IsSingle, IsArray, without_blanks, behind_blank}
 use Rattle.odb_lines.specs.ItemLines.{is_string, IsFrontNumber, IsItemLine, IsItemAlone, IsAloneText}
-use Rattle.odb_lines.proofs.Splitting.{parted, digits_no, bracketed_once, same_parts}
+use Rattle.odb_lines.proofs.Splitting.{digits_no, bracketed_once, same_parts}
 use Rattle.odb_lines.proofs.KeyLines.{single_once}
 use Rattle.odb_ascii.specs.declared.acts.Act.{Act}
 use Rattle.odb_ascii.specs.declared.acts.Act.TheVariants.{Make, Write, Skip}
 use Rattle.odb_ascii.specs.TextSteps.{TextStep, dir_after}
-use Rattle.odb_ascii.specs.Grammar.{SizedItem, AreItemLines, held_with, IsKeyIn, IsSingleKey, IsArrayHead, IsKeptKey, IsSkippedHead, IsSkippedKey, is_skipped, BeginsBracketed, SpellsAct, ArePassed, SpellsSteps}
+use Rattle.odb_ascii.specs.Grammar.{SizedItem, AreItemLines, held_with, IsSingleKey, IsArrayHead, IsKeptKey, IsSkippedHead, IsSkippedKey, BeginsBracketed, SpellsAct, ArePassed, SpellsSteps}
 use Rattle.odb_ascii.proofs.Loads.{same_length}
 use Rattle.odb_ascii.proofs.Beginnings.{key_once, not_both, kept_is_not_skipped}
 

@@ -1,7 +1,6 @@
 -- What stands in a directory, child by child.
-use Rattle.std.proofs.Common.{◌≡◌, ℕ, zero, suc, ◌+◌, ◌<◌, ◌≤◌, Bool, true, false, not, cond, List, [], ◌∷◌, ◌++◌, length, map, get_or, All, Option, Some, None, Ok, inl, inr, ◌⊎◌, refl, sym, ap, ◌∙◌, subst, arith, append_assoc, append-nil}
+use Rattle.std.proofs.Common.{◌≡◌, ℕ, zero, suc, ◌+◌, ◌<◌, Bool, true, false, not, cond, List, [], ◌∷◌, ◌++◌, length, map, get_or, All, Option, Some, None, Ok, refl, sym, ap, ◌∙◌, subst, arith, append_assoc, append-nil}
 use Rattle.std.specs.List.{filter, flat_map}
-use Rattle.std.proofs.lemmas.List.{map-append}
 use Rattle.std.proofs.lemmas.List.Concat.{flat_map-append}
 use Rattle.odb_path.specs.Paths.{depth_limit}
 use Rattle.odb_tree.specs.declared.rows.Row.{Row}
@@ -11,12 +10,12 @@ use Rattle.odb_tree.specs.declared.refusals.OdbRefusal.{OdbRefusal}
 use Rattle.odb_tree.specs.Lookups.{dir_fault}
 use Rattle.odb_tree.specs.Calls.{last_name, child_of, children_of, children_or}
 use Rattle.odb_tree.specs.Trees.{IsDir, IsTree, AreShort}
-use Rattle.odb_tree.specs.Databases.{IsRow, IsDatabase}
+use Rattle.odb_tree.specs.Databases.{IsDatabase}
 use Rattle.odb_tree.proofs.EachRow.{short_rows}
 use Rattle.odb_tree.proofs.WalkLaws.{and_left, and_right}
 use Rattle.odb_ascii.specs.Dumps.{row_text, keys_text, section_text, section_with, root_text, dirs_text}
-use Rattle.odb_ascii.specs.Standing.{IsChildIn, own_path, row_part, key_part, dir_part, begins_with_key}
-use Rattle.odb_ascii.proofs.Found.{RowStands, row_stands, child_stands, dir_there}
+use Rattle.odb_ascii.specs.Standing.{IsChildIn, row_part, key_part, dir_part, begins_with_key}
+use Rattle.odb_ascii.proofs.Found.{RowStands, row_stands, child_stands}
 
 abbrev pub AllStand : Rows → List (List ℕ) → List Row → Type 0
 AllStand s p [] = Unit {0}

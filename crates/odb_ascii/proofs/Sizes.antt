@@ -1,17 +1,16 @@
 -- A dump has few bytes: each row adds at most 1,028 and 13 times the bytes of its value.
-use Rattle.std.proofs.Common.{◌≡◌, ℕ, zero, suc, ◌+◌, ◌-◌, ◌*◌, ◌^◌, ◌<◌, ◌≤◌, Bool, true, false, not, cond, ◌&&◌, ◌==◌, List, [], ◌∷◌, ◌++◌, length, map, get_or, All, Option, Some, None, IfSome, sum_by, refl, sym, ap, ◌∙◌, subst, arith, length-append, lit<, ℤ}
+use Rattle.std.proofs.Common.{◌≡◌, ℕ, zero, suc, ◌+◌, ◌-◌, ◌*◌, ◌^◌, ◌<◌, ◌≤◌, Bool, true, false, not, cond, ◌==◌, List, [], ◌∷◌, ◌++◌, length, All, Option, Some, None, IfSome, sum_by, refl, sym, ap, subst, arith, length-append}
 use Rattle.std.specs.Option.{is_some}
 use Rattle.std.specs.List.{filter, flat_map}
-use Rattle.std.specs.Fmt.{decimal, signed_decimal}
+use Rattle.std.specs.Fmt.{decimal}
 use Rattle.std.proofs.lemmas.Fmt.{length-decimal-le, length_signed_le}
 use Rattle.std.proofs.lemmas.List.Sums.{sum_by-append, sum_by-cons}
 use Rattle.std.proofs.lemmas.List.Sorted.{sum_by-IsPermutation}
 use Rattle.std.proofs.lemmas.Bool.Decides.{nat_tests}
 use Rattle.std.proofs.Math.Nat.{suc-mul}
-use lib.Signed.{mag}
 use Rattle.daq_types.specs.declared.types.Tid.{Tid}
 use Rattle.daq_types.specs.declared.types.Tid.TheVariants as tid
-use Rattle.daq_types.specs.Tids.{tid_name, tid_size}
+use Rattle.daq_types.specs.Tids.{tid_name}
 use Rattle.daq_types.specs.Names.{IsName}
 use Rattle.odb_path.specs.Paths.{depth_limit, is_front, IsPath}
 use Rattle.odb_value.specs.declared.items.Item.{Item}
@@ -21,12 +20,11 @@ use Rattle.odb_value.specs.Values.{HeldValue, IsValue, IsSizeOf, IsShorter, item
 use Rattle.odb_value.specs.ItemTexts.{item_text, char_text, truth_text}
 use Rattle.odb_value.specs.KeyTexts.{bracketed, front_number, item_alone, item_line, item_lines, items_text, key_text}
 use Rattle.odb_tree.specs.declared.rows.Row.{Row}
-use Rattle.odb_tree.specs.Rows.{Rows, is_key, is_kind, is_child, is_listed, keys_in, dirs_in, bytes_of, bytes_in, bytes_of_row, total_of}
+use Rattle.odb_tree.specs.Rows.{Rows, is_key, is_kind, is_child, is_listed, keys_in, dirs_in, bytes_of, bytes_in, bytes_of_row}
 use Rattle.odb_tree.specs.Calls.{last_name}
 use Rattle.odb_tree.specs.Walks.{walk_below, walk}
 use Rattle.odb_tree.proofs.WalkLaws.{and_left, and_right}
-use Rattle.odb_tree.specs.Trees.{IsTree, AreShort}
-use Rattle.odb_tree.specs.Limits.{rows_limit, total_limit}
+use Rattle.odb_tree.specs.Trees.{AreShort}
 use Rattle.odb_tree.specs.Databases.{IsRow, IsDatabase}
 use Rattle.odb_tree.proofs.EachRow.{short_rows}
 use Rattle.odb_tree.proofs.Whole.{has_rows}

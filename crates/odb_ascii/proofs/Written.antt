@@ -1,6 +1,6 @@
 -- Keys as they are written: their values, and the lines that ask for them.
-use Rattle.std.proofs.Common.{◌≡◌, ℕ, zero, suc, ◌+◌, ◌<◌, ◌≤◌, max, Bool, true, false, cond, List, [], ◌∷◌, ◌++◌, length, map, Option, Some, None, Ok, refl, sym, ap, ◌∙◌, subst, arith, inl, inr, le-ltb, lt-ltb}
-use Rattle.std.specs.Prelude.{All, nat_lt, nat_le}
+use Rattle.std.proofs.Common.{◌≡◌, ℕ, ◌+◌, ◌<◌, ◌≤◌, max, Bool, true, false, cond, List, [], ◌∷◌, ◌++◌, length, map, Option, Some, None, Ok, refl, sym, ap, ◌∙◌, subst, arith, inl, inr, le-ltb, lt-ltb}
+use Rattle.std.specs.Prelude.{All, nat_le}
 use Rattle.std.proofs.lemmas.Bool.Decides.{nat_tests}
 use Rattle.daq_text.specs.Numbers.{up_to}
 use Rattle.odb_path.specs.Paths.{depth_limit}
@@ -18,17 +18,17 @@ use Rattle.odb_tree.specs.declared.refusals.OdbRefusal.{OdbRefusal}
 use Rattle.odb_tree.specs.declared.refusals.OdbRefusal.TheVariants.{Limit}
 use Rattle.odb_tree.specs.declared.refusals.What.TheVariants.{Items, Size}
 use Rattle.odb_tree.specs.Rows.{Rows}
-use Rattle.odb_lines.specs.LineForms.{IsPassed, IsDirLine, IsKeyLine, IsSingle, IsArray}
+use Rattle.odb_lines.specs.LineForms.{IsPassed, IsDirLine, IsSingle, IsArray}
 use Rattle.odb_lines.proofs.KeyLines.{single_once}
 use Rattle.odb_lines.specs.ItemLines.{is_string, IsItemAlone}
 use Rattle.odb_ascii.specs.declared.acts.Act.{Act}
 use Rattle.odb_ascii.specs.declared.acts.Act.TheVariants.{Make, Write, Skip}
 use Rattle.odb_ascii.specs.declared.faults.ItemsFault.{ItemsFault}
 use Rattle.odb_ascii.specs.declared.faults.ItemsFault.TheVariants.{BadItem, WideItem, NoMemory}
-use Rattle.odb_ascii.specs.TextSteps.{own_limit, act_fault, rows_fault, many_fault, wide_fault}
-use Rattle.odb_ascii.specs.Grammar.{SizedItem, AreItemLines, size_given, size_for, held_with, IsKeyIn, IsArrayHead, IsSingleKey, IsSkippedHead, is_skipped, BeginsBracketed, SpellsAct}
-use Rattle.odb_ascii.specs.TextFaults.{NextIsNot, IsSomeItemLine, IsBegunArray, BeginsNothing, LeavesGrammar, IsRefused}
-use Rattle.odb_ascii.specs.Blocks.{IsBlock, IsBadAt, IsRefusedAlways, IsBlockFault, block_fault, AreRead, StopsAtItem, IsWideLine, IsAloneRead, IsAloneFault, AreSkipped, SkipsOnlyTo, TakesItem, IsTakeFault}
+use Rattle.odb_ascii.specs.TextSteps.{own_limit, rows_fault, many_fault, wide_fault}
+use Rattle.odb_ascii.specs.Grammar.{SizedItem, size_given, size_for, held_with, IsKeyIn, IsArrayHead, is_skipped}
+use Rattle.odb_ascii.specs.TextFaults.{NextIsNot, IsSomeItemLine, BeginsNothing}
+use Rattle.odb_ascii.specs.Blocks.{IsBlock, IsBadAt, IsRefusedAlways, IsBlockFault, block_fault, AreRead, StopsAtItem, IsAloneRead, IsAloneFault, AreSkipped, SkipsOnlyTo, TakesItem, IsTakeFault}
 use Rattle.std.proofs.lemmas.List.{length_push, length-map, append_assoc}
 use Rattle.odb_lines.specs.ItemLines.{IsItemLine, IsAloneText}
 use Rattle.odb_lines.specs.LineForms.{behind_blank}

@@ -1,4 +1,4 @@
-use Rattle.std.proofs.Common.{◌≡◌, ◌+◌, ◌≤◌, length}
+use Rattle.std.proofs.Common.{◌+◌, ◌≤◌, length}
 use Rattle.std.specs.Str.Lines.{lines}
 use Rattle.odb_ascii.specs.Blocks.{AreRead}
 use Rattle.odb_ascii.proofs.arrays.read_items.Given as goal

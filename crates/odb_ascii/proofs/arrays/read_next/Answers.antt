@@ -1,4 +1,4 @@
-use Rattle.std.proofs.Common.{◌≡◌, ℕ, List, refl}
+use Rattle.std.proofs.Common.{◌≡◌, ℕ, refl}
 use Rattle.std.specs.Str.Lines.{lines}
 use Rattle.odb_value.specs.Values.{size_limit}
 use Rattle.daq_text.specs.Numbers.{up_to}

@@ -1,10 +1,10 @@
-use Rattle.std.proofs.Common.{◌≡◌, ℕ, List, Bool, [], sym, subst, ◌∙◌}
+use Rattle.std.proofs.Common.{◌≡◌, ℕ, List, subst}
 use Rattle.odb_value.specs.declared.items.Item.{Item}
 use Rattle.odb_value.specs.Values.{size_limit}
 use Rattle.daq_text.specs.Numbers.{up_to}
 use Rattle.odb_lines.specs.declared.items.ReadItem.{ReadItem}
 use Rattle.odb_lines.specs.ItemLines.{IsItemAlone}
-use Rattle.odb_ascii.specs.Blocks.{TakesItem, IsAloneFault}
+use Rattle.odb_ascii.specs.Blocks.{TakesItem}
 use Rattle.odb_ascii.proofs.Items.{at_some}
 use Rattle.odb_ascii.proofs.Written.{alone_tid, alone_short, alone_read, alone_fault}
 use Rattle.odb_ascii.proofs.blocks.alone.Goals as goal

@@ -1,8 +1,6 @@
-use Rattle.std.proofs.Common.{◌≡◌, ℕ, ◌+◌, List, ◌∷◌, ◌++◌, [], sym, subst}
+use Rattle.std.proofs.Common.{◌+◌, ◌∷◌, sym, subst}
 use Rattle.std.specs.Str.Lines.{lines}
-use Rattle.odb_value.specs.Values.{HeldValue}
-use Rattle.odb_ascii.specs.declared.faults.BlockFault.{BlockFault}
-use Rattle.odb_ascii.specs.Blocks.{IsBlock, IsBlockFault}
+use Rattle.odb_ascii.specs.Blocks.{IsBlockFault}
 use Rattle.odb_ascii.proofs.Written.{array_value, array_block, array_fault, block_at}
 use Rattle.odb_ascii.proofs.blocks.array_key.Goals as goal
 

@@ -1,4 +1,3 @@
-use Rattle.std.proofs.Common.{◌≡◌, ℕ, List}
 use Rattle.std.specs.Str.Lines.{lines}
 use Rattle.odb_lines.specs.LineForms.{IsDirLine}
 use Rattle.odb_ascii.proofs.Items.{at_some, at_none}

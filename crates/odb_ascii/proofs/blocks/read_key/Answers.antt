@@ -1,6 +1,6 @@
-use Rattle.std.proofs.Common.{◌≡◌, ℕ, List, sym, ◌∙◌}
+use Rattle.std.proofs.Common.{sym, ◌∙◌}
 use Rattle.std.specs.Str.Lines.{lines}
-use Rattle.odb_ascii.proofs.Beginnings.{begins_nothing, other_type, too_deep}
+use Rattle.odb_ascii.proofs.Beginnings.{begins_nothing, other_type}
 use Rattle.odb_ascii.proofs.Written.{bad_line}
 use Rattle.odb_ascii.proofs.blocks.read_key.Goals as goal
 

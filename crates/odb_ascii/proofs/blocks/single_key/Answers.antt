@@ -1,7 +1,7 @@
-use Rattle.std.proofs.Common.{◌≡◌, ℕ, List, ◌∷◌, ◌++◌, [], sym, subst, ap, ◌∙◌}
+use Rattle.std.proofs.Common.{◌∷◌, sym, subst}
 use Rattle.std.specs.Str.Lines.{lines}
-use Rattle.odb_ascii.specs.Blocks.{IsBlock, IsBlockFault}
-use Rattle.odb_ascii.proofs.Written.{single_value, single_block, single_fault, block_at, block_rest}
+use Rattle.odb_ascii.specs.Blocks.{IsBlockFault}
+use Rattle.odb_ascii.proofs.Written.{single_block, single_fault, block_at, block_rest}
 use Rattle.odb_ascii.proofs.blocks.single_key.Goals as goal
 
 pub returns-in-Err-clause-fault : goal.returns-in-Err-clause-fault

@@ -1,4 +1,3 @@
-use Rattle.std.proofs.Common.{◌≡◌, ℕ, List}
 use Rattle.std.specs.Str.Lines.{lines}
 use Rattle.odb_ascii.proofs.Written.{skipped_array, skipped_fault}
 use Rattle.odb_ascii.proofs.blocks.skipped_array.Goals as goal

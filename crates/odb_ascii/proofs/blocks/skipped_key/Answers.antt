@@ -1,4 +1,4 @@
-use Rattle.std.proofs.Common.{◌≡◌, ℕ, List, sym, ◌∙◌}
+use Rattle.std.proofs.Common.{sym, ◌∙◌}
 use Rattle.std.specs.Str.Lines.{lines}
 use Rattle.odb_value.specs.Values.{items_limit}
 use Rattle.odb_ascii.proofs.Beginnings.{begins_nothing}

@@ -1,4 +1,4 @@
-use Rattle.std.proofs.Common.{◌≡◌, ℕ, ◌<◌, List, ◌∷◌, length, sym, subst}
+use Rattle.std.proofs.Common.{ℕ, ◌<◌, List, ◌∷◌, length, sym, subst}
 use Rattle.std.specs.Str.Lines.{lines}
 use Rattle.odb_ascii.specs.Loads.{IsTextFaultAt, place_at, IsRoomy}
 use Rattle.odb_ascii.proofs.Written.{block_rest}

@@ -1,4 +1,4 @@
-use Rattle.std.proofs.Common.{◌≡◌, ℕ, List, arith}
+use Rattle.std.proofs.Common.{arith}
 use Rattle.std.specs.Str.Lines.{lines}
 use Rattle.odb_ascii.proofs.Items.{more_skipped}
 use Rattle.odb_ascii.proofs.skips.skip_items.Goals as goal
