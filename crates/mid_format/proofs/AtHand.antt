@@ -1,13 +1,13 @@
 -- Bytes that lie at hand, and an event that is taken from them whole.
-use Rattle.std.proofs.Common.{◌≡◌, ◌∙◌, ℕ, ◌+◌, ◌-◌, ◌≤◌, ◌^◌, List, [], ◌∷◌, ◌++◌, length, take, drop, Option, Some, None, slice_range, refl, ap, sym, subst, arith, length-take, length-drop, length-append, take-append-drop, append_assoc}
+use Rattle.std.proofs.Common.{◌≡◌, ◌∙◌, ℕ, ◌+◌, ◌-◌, ◌≤◌, ◌^◌, List, [], ◌∷◌, ◌++◌, length, take, drop, Option, Some, None, slice_range, refl, ap, sym, subst, arith, length-take, length-drop, length-append, append_assoc}
 use Rattle.std.proofs.Math.Seq.{take-add}
 use Rattle.std.proofs.lemmas.List.{drop-drop, drop-take}
 use Rattle.std.specs.Io.KnownBytes.{Consumes, prepend_known}
 use Rattle.daq_types.specs.declared.events.Event.{Event}
-use Rattle.daq_model.specs.Events.{encoding, all_encoded, event_limit}
+use Rattle.daq_model.specs.Events.{encoding, all_encoded}
 use Rattle.daq_model.proofs.Events.{all_encoded-append, length-encoding}
 use Rattle.event_header.specs.Held.{HeldEvent}
-use Rattle.event_header.specs.Headers.{header_encoding, event_of}
+use Rattle.event_header.specs.Headers.{header_encoding}
 use Rattle.event_header.specs.declared.head.Header.{Header}
 use Rattle.mid_format.specs.Parts.{ReadsHead, ReadsBody}
 use Rattle.mid_format.specs.HasRead.{HasRead}
@@ -55,9 +55,6 @@ module _ (old : Progress) (bytes : List ℕ) (h : Header) (w : StandsWhole old b
 
   allowed : IsEventHeader old.at h
   allowed = event_allowed w.begin.serial_number old.at h w.fine w.no_end
-
-  pub small_whole : h.data_size ≤ event_limit
-  small_whole = allowed.sized.small
 
   pub within_whole : old.at + 16 + h.data_size ≤ 2 ^ 62
   within_whole = allowed.sized.within

@@ -1,7 +1,7 @@
-ghost use Rattle.std.specs.Prelude.{◌≡◌, ◌≤◌, ◌<◌, ◌^◌, ◌↔◌, ℕ, List, Option, Some, None, Ok, Err, IfSome, IfOk, IsSome, IsNone};
+ghost use Rattle.std.specs.Prelude.{◌≡◌, ◌≤◌, ◌<◌, ◌^◌, ◌↔◌, ℕ, List, Option, Some, None, Ok, Err, IfSome, IfOk, IsSome, IsNone, take, drop};
 ghost use Rattle.daq_model.specs.Events.{event_limit};
 ghost use Rattle.daq_types.specs.declared.events.Event.{Event};
-ghost use Rattle.mid_format.specs.AtHand.{TakesNext, TakesSoFar};
+ghost use Rattle.mid_format.specs.AtHand.{StandsWhole, TakesNext, TakesSoFar, event_in};
 ghost use Rattle.mid_format.specs.HasRead.{HasRead, nothing_read};
 ghost use Rattle.mid_format.specs.Opened.{ReadsOn, CountsNext, fault_of, run_of};
 
@@ -10,9 +10,9 @@ use crate::faults::MidFault;
 use crate::progress::Progress;
 use crate::steps::step;
 use crate::taker::EventTaker;
-use crate::whole::{find_whole, give_whole, take_whole};
+use crate::whole::{find_whole, give_whole, pass_whole};
 use daq_io::Source;
-use event_header::{EventBuf, Header};
+use event_header::{EventBuf, HEADER_BYTES, Header};
 use std::marker::Model;
 
 /// Reads the events of a run file, one at a time, from any source, which may give its bytes in any pieces. Each byte is
@@ -142,28 +142,36 @@ impl<S: Source> MidReader<S> {
 }
 
 impl<S: Ahead> MidReader<S> {
-    /// Does what `next` does. An event that lies whole at hand is looked at there, and copied once.
-    pub fn next_at_hand(&mut self, into: &mut EventBuf) -> Result<Option<()>, MidFault>
-        requires { event_limit ≤ into.old.room }
+    /// The next event's header and data, where they lie whole at hand and nothing is wrong with them. `None` tells
+    /// nothing: `next` reads on.
+    pub fn whole_event(&self) -> Option<(Header, &[u8])>
+        ensures whole { IfSome result (λ event. StandsWhole self.now.progress
+            (S.at_hand self.now.source) event.0) }
+        ensures data { IfSome result (λ event. event.1.now
+            ≡ take event.0.data_size (drop 16 (S.at_hand self.now.source))) }
+    {
+        let bytes = self.source.peek();
+        let header = find_whole(&self.progress, bytes)?;
+        let (_, behind) = bytes.split_at(HEADER_BYTES);
+        let (data, _) = behind.split_at(header.data_size as usize);
+        Some((header, data))
+    }
+
+    /// Reads on behind the event with this header, which lies whole at hand.
+    pub fn pass_event(&mut self, header: &Header)
+        requires { StandsWhole self.old.progress (S.at_hand self.old.source) header.now }
         ensures reads { ReadsOn (S.left self.old.source) (S.left self.new.source)
-            self.old.progress self.new.progress result into.new.event }
-        ensures fault { self.new.progress.fault ≡ fault_of result }
-        ensures end { IfOk result (λ given. IsNone given ↔ IsSome self.new.progress.last) }
-        ensures begun { IsSome self.old.progress.begin → self.new.progress.begin
-            ≡ self.old.progress.begin }
-        ensures onward { IfOk result (λ given. IsSome given → self.old.progress.at
-            < self.new.progress.at) }
+            self.old.progress self.new.progress (Ok (Some tt))
+            (event_in header.now (S.at_hand self.old.source)) }
+        ensures fault { self.new.progress.fault ≡ None }
+        ensures end { self.new.progress.last ≡ None }
+        ensures begun { self.new.progress.begin ≡ self.old.progress.begin }
+        ensures onward { self.old.progress.at < self.new.progress.at }
         ensures limit { self.new.progress.at ≤ 2 ^ 62 }
-        ensures counted { CountsNext self.old.progress.fault (S.faults self.old.source)
-            (S.faults self.new.source) result }
-        ensures room { into.new.room ≡ into.old.room }
+        ensures faults { S.faults self.new.source ≡ S.faults self.old.source }
         ensures origin { S.origin self.new.source ≡ S.origin self.old.source }
     {
-        let Some(header) = find_whole(&self.progress, self.source.peek()) else {
-            return self.next(into);
-        };
-        take_whole(&mut self.source, &mut self.progress, &header, into);
-        Ok(Some(()))
+        pass_whole(&mut self.source, &mut self.progress, header);
     }
 
     /// Reads the next event as `next` does, and gives it to a taker: where it lies, if it lies whole at hand; else by way of

@@ -1,7 +1,6 @@
 //! Events that lie whole at hand.
 
 ghost use Rattle.std.specs.Prelude.{◌≡◌, ◌≤◌, ◌<◌, ◌^◌, ℕ, List, Option, Some, None, Ok, IfSome};
-ghost use Rattle.daq_model.specs.Events.{event_limit};
 ghost use Rattle.daq_types.specs.declared.events.Event.{Event};
 ghost use Rattle.mid_format.specs.AtHand.{StandsWhole, TakesNext, TakesSoFar, event_in};
 ghost use Rattle.mid_format.specs.HasRead.{HasRead};
@@ -12,7 +11,7 @@ use crate::faults::header_fault;
 use crate::progress::Progress;
 use crate::records::END_ID;
 use crate::taker::EventTaker;
-use event_header::{EventBuf, HEADER_BYTES, Header, read_header};
+use event_header::{HEADER_BYTES, Header, read_header};
 
 /// The header of the next event, where that stands whole at the front of these bytes and nothing is wrong with it.
 pub fn find_whole(progress: &Progress, bytes: &[u8]) -> Option<Header>
@@ -51,32 +50,6 @@ pub fn pass_whole<S: Ahead>(source: &mut S, progress: &mut Progress, header: &He
     let size = HEADER_BYTES + header.data_size as usize;
     source.pass(size);
     progress.at += size as u64;
-}
-
-/// Takes the event with this header, which stands whole at hand.
-pub fn take_whole<S: Ahead>(
-    source: &mut S,
-    progress: &mut Progress,
-    header: &Header,
-    into: &mut EventBuf,
-)
-    requires whole { StandsWhole progress.old (S.at_hand source.old) header.now }
-    requires room { event_limit ≤ into.old.room }
-    ensures reads { StepReads (S.left source.old) (S.left source.new) progress.old progress.new
-        (Some tt) into.new.event }
-    ensures place { progress.new.at ≤ 2 ^ 62 }
-    ensures onward { progress.old.at < progress.new.at }
-    ensures begun { progress.new.begin ≡ progress.old.begin }
-    ensures no_fault { progress.new.fault ≡ None }
-    ensures no_end { progress.new.last ≡ None }
-    ensures room { into.new.room ≡ into.old.room }
-    ensures faults { S.faults source.new ≡ S.faults source.old }
-    ensures origin { S.origin source.new ≡ S.origin source.old }
-{
-    let (_, behind) = source.peek().split_at(HEADER_BYTES);
-    let (body, _) = behind.split_at(header.data_size as usize);
-    let _ = into.fill(header, body);
-    pass_whole(source, progress, header);
 }
 
 /// Gives a taker the event with this header, which stands whole at hand.

@@ -10,7 +10,9 @@ use Rattle.daq_io.specs.Counts.{Rose}
 use Rattle.daq_io.specs.Streams.{AppendsPart}
 use Rattle.daq_io.proofs.StreamsLaws.{Appends-nil}
 use Rattle.daq_io.specs.declared.faults.Failed.{Failed}
+use Rattle.event_header.specs.Headers.{event_of, fields_of}
 use Rattle.event_header.specs.declared.head.Header.{Header}
+use Rattle.mid_format.specs.AtHand.{StandsWhole, event_in}
 use Rattle.mid_format.specs.Faults.{OfBytes}
 use Rattle.mid_format.specs.HasRead.{IsReadSoFar, StandsBehind, HasRead, nothing_read}
 use Rattle.mid_format.specs.Parts.{CountedBy}
@@ -21,7 +23,7 @@ use Rattle.mid_format.specs.declared.faults.MidFault.TheVariants.{Truncated, NoB
 use Rattle.mid_format.specs.declared.progress.Progress.{Progress}
 use Rattle.midas_tools.specs.Areas.{AreEventLines, AreLinesOf, Adds}
 use Rattle.midas_tools.proofs.AreasLaws.{AreLinesOf-more}
-use Rattle.midas_tools.specs.Dumps.{DumpsSource, HaltsBehind, ListsTo, SourceHalts, SinkHalts, ReadCounts, EndsUnread, PrintsLines, begin_lines, end_lines, fault_lines, new_begin, EndsAt, IsPart, IsDump, Listing, Printing, PrintsUpTo, PrintsRead, PrintsSome, PrintsDump, ended_text, EndsText, DumpsTo}
+use Rattle.midas_tools.specs.Dumps.{DumpsSource, HaltsBehind, ListsTo, SourceHalts, SinkHalts, ReadCounts, EndsUnread, PrintsLines, PrintsOn, begin_lines, end_lines, fault_lines, new_begin, EndsAt, IsPart, IsDump, Listing, Printing, PrintsUpTo, PrintsRead, PrintsSome, PrintsDump, ended_text, EndsText, DumpsTo}
 use Rattle.midas_tools.specs.Findings.{FaultEnds, Printed, SinkByEnd}
 use Rattle.midas_tools.specs.Printing.{PrintsSoFar, PassesPage}
 use Rattle.midas_tools.proofs.Printing.{PrintsSoFar-none, PrintsSoFar-more, PrintsSoFar-written, PrintsSoFar-all, PrintsSoFar-fails}
@@ -29,6 +31,7 @@ use Rattle.midas_tools.specs.Texts.{bad_line}
 use Rattle.midas_tools.proofs.Reading.{some_of}
 use Rattle.midas_tools.specs.declared.ends.InputFault.TheVariants.{Mid, Compressed, Missing, ScriptTooLong}
 use Rattle.midas_tools.specs.declared.halts.Halt.{Halt}
+use Rattle.midas_tools.specs.declared.halts.Halt.TheVariants.{Bad, SinkFailed, Short, Unread}
 use Rattle.midas_tools.specs.declared.ends.ToolEnd.{ToolEnd}
 use Rattle.midas_tools.specs.declared.ends.ToolEnd.TheVariants.{Done, Input, FileFault, SinkFault, NoMemory}
 
@@ -582,3 +585,28 @@ ended_at r last is e =
 
 pub dumps_source : (source now : Option (List ℕ)) (p : Progress) (told_old told_new : Option (List ℕ)) (end : ToolEnd) → DumpsTo source now p told_old told_new end → DumpsSource source told_old told_new end
 dumps_source source now p told_old told_new end d = record { now = now; progress = p; dumps = d }
+
+-- an event that stood whole at hand was read
+pub stepped_on : (first before after : Option (List ℕ)) (old new : Progress) (told_first told_now : Option (List ℕ)) (page at_hand : List ℕ) (header : Header)
+    → Printing first before old told_first told_now page → StandsWhole old at_hand header → ReadsOn before after old new (Ok (Some tt)) (event_in header at_hand) → new.begin ≡ old.begin
+    → Stepped first after new told_first told_now page (Ok (Some tt)) (event_in header at_hand)
+stepped_on first before after old new told_first told_now page at_hand header p whole reads begun =
+    stepped first before after old new told_first told_now page page true (Ok (Some tt)) (event_in header at_hand) p reads (sym (ap (is_some {T = Header}) whole.begun)) (λ h. begun) (sym (append-nil page))
+
+-- What stopped the printing of what lay at hand stops all of it.
+pub stops_at_hand : (first now : Option (List ℕ)) (progress : Progress) (told_first told_now : Option (List ℕ)) (page : List ℕ) (halt : Halt) → PrintsOn first now progress told_first told_now page (Err halt) → ListsTo first now progress told_first told_now page (Err halt)
+stops_at_hand first now progress told_first told_now page (Bad fault) stops = absurd stops
+stops_at_hand first now progress told_first told_now page SinkFailed stops = stops
+stops_at_hand first now progress told_first told_now page Short stops = stops
+stops_at_hand first now progress told_first told_now page Unread stops = absurd stops
+
+-- No fault of the source is behind that.
+pub counts_at_hand : (first now : Option (List ℕ)) (progress : Progress) (told_first told_now : Option (List ℕ)) (page : List ℕ) (halt : Halt) (old new : ℕ) → PrintsOn first now progress told_first told_now page (Err halt) → new ≡ old → SourceHalts (Err halt) old new
+counts_at_hand first now progress told_first told_now page (Bad fault) old new stops same = absurd stops
+counts_at_hand first now progress told_first told_now page SinkFailed old new stops same = tt
+counts_at_hand first now progress told_first told_now page Short old new stops same = same
+counts_at_hand first now progress told_first told_now page Unread old new stops same = absurd stops
+
+-- an event with these parts
+pub event_again : (header : Header) (body : List ℕ) (event : Event) → header ≡ fields_of event → body ≡ event.body → event_of header body ≡ event
+event_again header body event is_header is_body = ap (λ (h : Header). event_of h body) is_header ∙ ap (λ (b : List ℕ). event_of (fields_of event) b) is_body

@@ -174,6 +174,14 @@ ListsTo first now progress told_first told_now page (Err SinkFailed) = PrintsSom
 ListsTo first now progress told_first told_now page (Err Short) = PrintsLines first told_first told_now
 ListsTo first now progress told_first told_now page (Err Unread) = PrintsRead first now progress told_first told_now
 
+-- What was printed where more of the events were, by whether they all were.
+abbrev pub PrintsOn : (first now : Option (List ℕ)) (progress : Progress) (told_first told_now : Option (List ℕ)) (page : List ℕ) → Result (Unit {0}) Halt → Type 0
+PrintsOn first now progress told_first told_now page (Ok done) = Printing first now progress told_first told_now page
+PrintsOn first now progress told_first told_now page (Err (Bad fault)) = ⊥
+PrintsOn first now progress told_first told_now page (Err SinkFailed) = PrintsSome first told_first told_now
+PrintsOn first now progress told_first told_now page (Err Short) = PrintsLines first told_first told_now
+PrintsOn first now progress told_first told_now page (Err Unread) = ⊥
+
 -- A line found no memory behind this answer of the reader: a fault of the source was met before.
 abbrev pub HaltsBehind : Result (Option (Unit {0})) MidFault → Halt → Type 0
 HaltsBehind given halt = ((given ≡ Err ReadFault) × (halt ≡ Unread)) ⊎ ((given ≢ Err ReadFault) × (halt ≡ Short))

@@ -1,11 +1,12 @@
 ghost use Rattle.std.specs.Prelude.{◌≡◌, ◌++◌, OnOk};
+ghost use Rattle.event_header.specs.Headers.{event_of};
 ghost use Rattle.midas_tools.specs.Areas.{AreBankLines, AreEventLines, Adds, bank_lines};
 
 use crate::lines::{add_bank, add_event, add_no_banks};
 use bank_format::Banks;
 use daq_text::TextBuffer;
 use daq_types::NoMemory;
-use event_header::EventBuf;
+use event_header::Header;
 
 /// Adds a line for each bank that was not given yet.
 fn add_banks(page: &mut TextBuffer, banks: &mut Banks) -> Result<(), NoMemory>
@@ -28,9 +29,9 @@ fn add_area(page: &mut TextBuffer, body: &[u8]) -> Result<(), NoMemory>
 }
 
 /// Adds the lines of an event and of its banks.
-pub fn add_whole_event(page: &mut TextBuffer, event: &EventBuf) -> Result<(), NoMemory>
-    ensures { OnOk result (Adds (AreEventLines event.now.event) page.old page.new) }
+pub fn add_whole_event(page: &mut TextBuffer, header: &Header, body: &[u8]) -> Result<(), NoMemory>
+    ensures { OnOk result (Adds (AreEventLines (event_of header.now body.now)) page.old page.new) }
 {
-    add_event(page, event)?;
-    add_area(page, event.body())
+    add_event(page, header, body)?;
+    add_area(page, body)
 }

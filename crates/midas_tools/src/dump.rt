@@ -1,7 +1,8 @@
 ghost use Rattle.std.specs.Prelude.{◌≡◌, ◌≤◌, ◌++◌, ℕ, List, [], Option, OnOk, IsOk, IsTrue};
 ghost use Rattle.daq_io.specs.Seen.{Same};
+ghost use Rattle.daq_model.specs.Events.{event_limit};
 ghost use Rattle.mid_format.specs.HasRead.{nothing_read};
-ghost use Rattle.midas_tools.specs.Dumps.{DumpsSource, DumpsTo, EndsText, EndsUnread, ListsTo, ReadCounts, SinkHalts, SourceHalts, WritesOn, end_lines, new_begin};
+ghost use Rattle.midas_tools.specs.Dumps.{DumpsSource, DumpsTo, EndsText, EndsUnread, ListsTo, Printing, PrintsOn, ReadCounts, SinkHalts, SourceHalts, WritesOn, end_lines, new_begin};
 ghost use Rattle.midas_tools.specs.Findings.{ClashCounts, Completes, FilesByEnd, SinkByEnd};
 ghost use Rattle.midas_tools.specs.Printing.{PrintsSoFar};
 
@@ -44,6 +45,31 @@ fn add_end(page: &mut TextBuffer, last: Option<Header>) -> Result<(), NoMemory>
     }
 }
 
+/// Prints the events that lie whole at hand, from where they lie.
+fn print_at_hand<S: Ahead, K: Sink>(
+    reader: &mut MidReader<S>,
+    page: &mut TextBuffer,
+    out: &mut K,
+) -> Result<(), Halt>
+    ensures prints { (first told_first : Option (List ℕ))
+        → Printing first (S.left reader.old.source) reader.old.progress told_first
+        (K.written out.old) page.old
+        → PrintsOn first (S.left reader.new.source) reader.new.progress told_first
+        (K.written out.new) page.new result }
+    ensures source { S.faults reader.new.source ≡ S.faults reader.old.source }
+    ensures sink { SinkHalts result (K.faults out.old) (K.faults out.new) }
+    ensures origin { S.origin reader.new.source ≡ S.origin reader.old.source }
+    ensures onward { reader.old.progress.at ≤ reader.new.progress.at }
+{
+    while let Some((header, body)) = reader.whole_event() {
+        let added = add_whole_event(page, &header, body);
+        reader.pass_event(&header);
+        added?;
+        flush_full(page, out)?;
+    }
+    Ok(())
+}
+
 /// Prints the begin record and the events, as they are read.
 fn print_events<S: Ahead, K: Sink>(
     reader: &mut MidReader<S>,
@@ -52,7 +78,7 @@ fn print_events<S: Ahead, K: Sink>(
     out: &mut K,
 ) -> Result<(), Halt>
     requires new { reader.old.progress ≡ nothing_read }
-    requires room { 4194304 ≤ event.old.room }
+    requires room { event_limit ≤ event.old.room }
     requires blank { page.old ≡ [] }
     ensures lists { ListsTo (S.left reader.old.source) (S.left reader.new.source)
         reader.new.progress (K.written out.old) (K.written out.new) page.new result }
@@ -62,14 +88,15 @@ fn print_events<S: Ahead, K: Sink>(
 {
     loop {
         let begun = reader.begin().is_some();
-        let given = reader.next_at_hand(event);
+        let given = reader.next(event);
         let Ok(()) = add_begin(page, begun, reader.begin()) else {
             return Err(halt_behind(&given));
         };
         match given {
             Ok(Some(())) => {
-                add_whole_event(page, event)?;
+                add_whole_event(page, &event.header(), event.body())?;
                 flush_full(page, out)?;
+                print_at_hand(reader, page, out)?;
             }
             Ok(None) => return Ok(()),
             Err(fault) => return Err(Halt::Bad { fault }),

@@ -1,5 +1,6 @@
 ghost use Rattle.std.specs.Prelude.{◌≡◌, ◌++◌, OnOk, map};
 ghost use Rattle.bank_format.specs.BankAreas.{bank_value};
+ghost use Rattle.event_header.specs.Headers.{event_of};
 ghost use Rattle.midas_tools.specs.Texts.{area_fault_text, bad_line, bank_line, event_line, fault_text, no_banks_line, number_text, ok_line, record_line, run_line, shown};
 
 use crate::ends::InputFault;
@@ -7,7 +8,7 @@ use crate::line::Line;
 use bank_format::{Bank, BankFault};
 use daq_text::TextBuffer;
 use daq_types::NoMemory;
-use event_header::{EventBuf, Header};
+use event_header::Header;
 use mid_format::MidFault;
 
 /// Adds a name and the number behind it.
@@ -74,13 +75,12 @@ pub fn add_record(page: &mut TextBuffer, word: &[u8], header: &Header) -> Result
     page.end_line()
 }
 
-/// Adds the line of an event.
-pub fn add_event(page: &mut TextBuffer, event: &EventBuf) -> Result<(), NoMemory>
-    ensures { OnOk result (page.new ≡ page.old ++ event_line event.now.event) }
+/// Adds the line of the event with this header and these data.
+pub fn add_event(page: &mut TextBuffer, header: &Header, body: &[u8]) -> Result<(), NoMemory>
+    ensures { OnOk result (page.new ≡ page.old ++ event_line (event_of header.now body.now)) }
 {
-    let header = event.header();
     let mut line = Line::new();
-    line.blank_number(header.data_size as u64);
+    line.blank_number(body.len() as u64);
     line.blank_number(header.time_stamp as u64);
     line.blank_number(header.serial_number as u64);
     line.blank_number(header.trigger_mask as u64);

@@ -1,5 +1,6 @@
 ghost use Rattle.std.specs.Prelude.{◌≡◌, ◌≤◌, [], OnOk, IfErr};
 ghost use Rattle.daq_io.specs.Seen.{Same};
+ghost use Rattle.daq_model.specs.Events.{event_limit};
 ghost use Rattle.mid_format.specs.HasRead.{nothing_read};
 ghost use Rattle.mid_format.specs.Parts.{CountsReads};
 ghost use Rattle.midas_tools.specs.Summaries.{Meets, SumsAll, Tells};
@@ -24,7 +25,7 @@ fn sum_events<S: Ahead, T: Summary>(
     summary: &mut T,
 ) -> Result<(), MidFault>
     requires new { reader.old.progress ≡ nothing_read }
-    requires room { 4194304 ≤ room.old.room }
+    requires room { event_limit ≤ room.old.room }
     requires none { T.has_taken summary.old [] }
     ensures whole { OnOk result (SumsAll (T.has_taken summary.new) (S.left reader.old.source)
         (S.left reader.new.source) reader.new.progress) }

@@ -1,12 +1,13 @@
 -- What was read so far was printed, and the file goes on.
 use Rattle.std.proofs.Common.{◌≡◌, ◌≤◌, ◌-◌, ◌^◌}
+use Rattle.daq_model.specs.Events.{event_limit}
 use Rattle.midas_tools.specs.Dumps.{Printing}
 use Rattle.midas_tools.proofs.dump.print_events.Given as goal
 
 abbrev pub invariant-loop-given : goal.invariant-loop-given
 invariant-loop-given g l = record {
   printing : Printing (g.S.Source.left l.fn.reader.source) (g.S.Source.left l.reader.source) l.reader.progress (g.K.Sink.written l.fn.out) (g.K.Sink.written l.out) l.page;
-  room : 4194304 ≤ l.event.room;
+  room : event_limit ≤ l.event.room;
   origin : g.S.Source.origin l.reader.source ≡ g.S.Source.origin l.fn.reader.source;
   source : g.S.Source.faults l.reader.source ≡ g.S.Source.faults l.fn.reader.source;
   sink : g.K.Sink.faults l.out ≡ g.K.Sink.faults l.fn.out;
