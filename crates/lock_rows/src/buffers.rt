@@ -388,3 +388,54 @@ fn a_port_makes_each_call(rt: HostRuntime) {
     );
     assert!(rt; port.into_pass().number() == 0, "the pass comes back");
 }
+
+/// Tries each call that can be made in one try, on a free buffer in whose run of start number 1 nothing was sent.
+fn try_each(
+    shared: &SharedBuffer<PlainBuffer>,
+    pass: &mut BufferPass<PlainBuffer>,
+    into: &mut EventBuf,
+) -> bool
+    requires own { IsOf (lock_of shared.now) pass.old }
+    requires idle { held_by pass.old ≡ None }
+    ensures own { IsOf (lock_of shared.now) pass.new }
+    ensures idle { held_by pass.new ≡ None }
+{
+    let sent = shared.try_send(pass, &header(1), &DATA);
+    let in_run = shared.try_send_in_run(pass, 1, &header(2), &DATA);
+    let got = shared.try_receive(pass, 0, into);
+    sent == Ok(0) && in_run == Ok(1) && got == Ok(Received::Got { place: 0, start: 0 })
+}
+
+/// The second pass has then seen what the first has.
+fn meet_what_was_seen(
+    shared: &SharedBuffer<PlainBuffer>,
+    first: &mut BufferPass<PlainBuffer>,
+    second: &mut BufferPass<PlainBuffer>,
+)
+    requires first { IsOf (lock_of shared.now) first.old }
+    requires second { IsOf (lock_of shared.now) second.old }
+    requires idle { held_by second.old ≡ None }
+    ensures second { IsOf (lock_of shared.now) second.new }
+    ensures idle { held_by second.new ≡ None }
+{
+    let note = shared.note(first);
+    shared.meet(second, note);
+}
+
+#[test]
+fn calls_in_one_try_on_a_free_buffer(rt: HostRuntime) {
+    let buffer = PlainBuffer::new(rt.alloc(), 256).expect(&rt, "memory");
+    let mut into = EventBuf::new(rt.alloc(), 8).expect(&rt, "memory");
+    let name = Name::new(b"ANA").expect(&rt, "a name");
+    let (shared, mut passes) = SharedBuffer::new(rt.alloc(), buffer, 2).expect(&rt, "memory");
+    let (mut first, mut second) = two_passes(&shared, &mut passes);
+    assert!(rt; shared.attach(&rt, &mut first, name) == Ok(0), "a client");
+    assert!(rt;
+        shared.request(&rt, &mut first, 0, ANY, ANY, Kind::All) == Ok(0),
+        "all events"
+    );
+    assert!(rt; shared.begin(&rt, &mut first, 1) == Ok(0), "a run");
+    assert!(rt; try_each(&shared, &mut first, &mut into), "each is made");
+    meet_what_was_seen(&shared, &mut first, &mut second);
+    assert!(rt; shared.accepted(&rt, &mut second) == 2, "two events");
+}

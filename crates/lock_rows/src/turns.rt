@@ -189,3 +189,24 @@ fn the_turn_is_taken_until_it_is_put_back(rt: HostRuntime) {
     };
     assert!(rt; closed.value.count == 2, "one call of each pass");
 }
+
+/// The second pass has then seen what the first has.
+fn meet_what_was_seen(lock: &Turns<Counter>, first: &mut Pass<Counter>, second: &mut Pass<Counter>)
+    requires first { IsOf lock.now first.old }
+    requires second { IsOf lock.now second.old }
+    requires idle { held_by second.old ≡ None }
+    ensures second { IsOf lock.now second.new }
+    ensures idle { held_by second.new ≡ None }
+{
+    let note = lock.note(first);
+    lock.meet(second, note);
+}
+
+#[test]
+fn a_pass_meets_what_another_has_seen(rt: HostRuntime) {
+    let (lock, mut passes) = Turns::new(rt.alloc(), Counter { count: 0 }, 2).expect(&rt, "memory");
+    let (mut first, mut second) = two_passes(&lock, &mut passes);
+    assert!(rt; increment(&lock, &rt, &mut first) == 0, "the first call");
+    meet_what_was_seen(&lock, &mut first, &mut second);
+    assert!(rt; try_increment(&lock, &mut second) == Ok(1), "the second");
+}
