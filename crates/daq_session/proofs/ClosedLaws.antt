@@ -1,5 +1,5 @@
 -- What is left of a session, closed.
-use Rattle.std.proofs.Common.{◌≡◌, ℕ, List, ◌∙◌, subst, Option, Some, None, ap, refl}
+use Rattle.std.proofs.Common.{◌≡◌, ◌≢◌, ℕ, List, ◌∙◌, subst, Option, Some, None, ap, refl}
 use Rattle.frontend_kit.specs.declared.generator.Generator.{Generator}
 use Rattle.odb_runinfo.specs.RunKeys.{session_rows}
 use Rattle.odb_watch.specs.Steps.{unwatched}
@@ -76,3 +76,8 @@ pub memory_ends : (ending : Ending) (closing : Option Halt) (faulted : Option (L
     → ending ≡ Halted no_memory → end ≡ NoMemory
 memory_ends ending closing faulted refusals end is halted =
     is ∙ ap (λ (e : Ending). script_end (ended_by e closing) faulted refusals) halted ∙ ap (λ (e : Ending). script_end e faulted refusals) (ended_so closing)
+
+-- and one that ended otherwise did not
+pub memory_found : (ending : Ending) (closing : Option Halt) (faulted : Option (List ℕ)) (refusals : Refusals) (end : ScriptEnd) → end ≡ script_end (ended_by ending closing) faulted refusals
+    → end ≢ NoMemory → ended_by ending closing ≢ Halted no_memory
+memory_found ending closing faulted refusals end is other = λ halted. other (is ∙ ap (λ (e : Ending). script_end e faulted refusals) halted)

@@ -2,6 +2,7 @@ pub mod ToldRuns
 pub mod NumberLaws
 pub mod SessionsEnd
 pub mod ClosedLaws
+pub mod EndedLaws
 pub mod AloneLaws
 pub mod ScriptLaws
 pub mod NothingLaws

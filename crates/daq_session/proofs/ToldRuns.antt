@@ -116,13 +116,13 @@ size_there buffers n b at = ap size_in (slice_get-map closed_buffer buffers n �
 
 -- The run number before.
 
-all_first : (one other : List WatchEntry) → AllByRecursion GivesNumber (one ++ other) → AllByRecursion GivesNumber one
-all_first [] other all = tt
-all_first (e ∷ one) other all = (all.0, all_first one other all.1)
+pub all_first : (P : WatchEntry → Type 0) (one other : List WatchEntry) → AllByRecursion P (one ++ other) → AllByRecursion P one
+all_first P [] other all = tt
+all_first P (e ∷ one) other all = (all.0, all_first P one other all.1)
 
-all_behind : (one other : List WatchEntry) → AllByRecursion GivesNumber (one ++ other) → AllByRecursion GivesNumber other
-all_behind [] other all = all
-all_behind (e ∷ one) other all = all_behind one other all.1
+pub all_behind : (P : WatchEntry → Type 0) (one other : List WatchEntry) → AllByRecursion P (one ++ other) → AllByRecursion P other
+all_behind P [] other all = all
+all_behind P (e ∷ one) other all = all_behind P one other all.1
 
 picked : (b : Bool) (n run : ℕ) (why : NoNext) → (if b then Ok (n + 1) else Err why) ≡ Ok run → n + 1 ≡ run
 picked true n run why is = cc is
@@ -323,10 +323,10 @@ module _ (c : ClosedSession) (declared : Declared) (buffers : List BufferRecord)
       let starts = so.fits.start.are in
       let stand = so.fits.start.stand in
       let early : AllByRecursion GivesNumber (so.fits.early.database ++ so.fits.late.database) = subst (λ (o : MainOwn). AllByRecursion GivesNumber o.database) so.fits.calls given in
-      let first : AllByRecursion GivesNumber so.fits.early.database = all_first so.fits.early.database so.fits.late.database early in
+      let first : AllByRecursion GivesNumber so.fits.early.database = all_first GivesNumber so.fits.early.database so.fits.late.database early in
       let here : AllByRecursion GivesNumber (stand.before ++ (call.Call (number_asked starts.got) ∷ starts.rest ++ stand.after)) =
       subst (λ (l : List WatchEntry). AllByRecursion GivesNumber (stand.before ++ (l ++ stand.after))) starts.are (subst (λ (l : List WatchEntry). AllByRecursion GivesNumber l) stand.calls first) in
-      let gives : GivesNumber (call.Call (number_asked starts.got)) = (all_behind stand.before _ here).0 in
+      let gives : GivesNumber (call.Call (number_asked starts.got)) = (all_behind GivesNumber stand.before _ here).0 in
       let held = gives starts.got refl starts.settled in
       let next : next_run held.2.first ≡ Ok run.run =
       subst (λ (items : List Item). next_run (number_in items) ≡ Ok run.run) held.2.items (subst (λ (g : Result HeldValue OdbRefusal). next_run (have_of g) ≡ Ok run.run) held.1 starts.number) in

@@ -1,13 +1,18 @@
 -- A whole script: what it did, why it ended, and what is kept of its session.
-use Rattle.std.specs.Prelude.{◌≡◌, ◌≢◌, ℕ, true, List, [], Option, Some, None}
+use Rattle.std.specs.Prelude.{◌≡◌, ◌≢◌, ℕ, true, List, [], slice_get, Option, Some, None, IsOk, ⊤}
 use Rattle.std.specs.List.{AllByRecursion, list_any}
 use Rattle.daq_types.specs.Callers.{main_caller}
+use Rattle.daq_types.specs.declared.runs.ChannelState.TheVariants.{Ended}
+use Rattle.daq_types.specs.declared.runs.StartOutcome.TheVariants.{Completed}
 use Rattle.daq_io.specs.declared.objects.Outside.{Outside}
 use Rattle.frontend_kit.specs.declared.generator.Generator.{Generator}
 use Rattle.database_files.specs.declared.replies.FileReply.{FileReply}
 use Rattle.odb_port.specs.DatabasePorts.{DatabaseAccess, own_watched}
 use Rattle.odb_runinfo.specs.RunKeys.{session_rows}
 use Rattle.odb_watch.specs.Steps.{unwatched}
+use Rattle.loggers.specs.LeftNames.{NoneRose}
+use Rattle.run_records.specs.declared.records.FileRecord.{FileRecord}
+use Rattle.run_records.specs.declared.records.RunRecord.{RunRecord}
 use Rattle.session_crew.specs.Crews.{CrewTold}
 use Rattle.session_setup.specs.Setup.{AreSound}
 use Rattle.session_objects.specs.declared.record.SessionRecord.{SessionRecord}
@@ -20,6 +25,7 @@ use Rattle.script_desk.specs.declared.endings.Ending.{Ending}
 use Rattle.script_desk.specs.declared.halts.Halt.{Halt}
 use Rattle.script_desk.specs.Closing.{EndCounts, Finished, ended_by}
 use Rattle.session_commands.specs.Endings.{NotesFailed, OneReply, asks_files, is_fault}
+use Rattle.session_commands.specs.Keeping.{StageSaved}
 use Rattle.session_commands.specs.KeptDumps.{KeepsDumps}
 use Rattle.daq_session.specs.declared.ends.ScriptEnd.{ScriptEnd}
 use Rattle.daq_session.specs.declared.ends.ScriptEnd.TheVariants.{NoMemory}
@@ -55,6 +61,23 @@ abbrev pub SessionKept : {D F K : Type 0} {g : _} → CrewTold Generator F K →
 SessionKept told first_files final end run_files None = LacksSession first_files final end run_files
 SessionKept told first_files final end run_files (Some r) = KeepsSession told first_files final run_files r
 
+-- Of the runs of a session that came about, each had its dump saved as it was stopped; and where no fault of the run files was
+-- counted, each file of theirs ended.
+pub record RunsEnded {D F K : Type 0} {g : _} (told : CrewTold Generator F K) (first_files : F) (final : Stage) (run_files : F)
+    (r : SessionRecord D g) (keeps : KeepsSession told first_files final run_files r) : Type 0 where
+  pub saved : (number : ℕ) → (run : RunRecord) → (at : slice_get r.runs number ≡ Some run) → (whole : run.outcome ≡ Completed) →
+      IsOk (keeps.tells.runs number run at whole).so.fits.stop.saved
+  pub ended : NoneRose (told.read first_files) (told.read run_files) → (number : ℕ) → (run : RunRecord) →
+      slice_get r.runs number ≡ Some run → run.outcome ≡ Completed → (place : ℕ) → (file : FileRecord) →
+      slice_get run.files place ≡ Some file → file.state ≡ Ended
+
+-- So it is with the session of which this is kept, if one was opened.
+abbrev pub KeptRunsEnded : {D F K : Type 0} {g : _} → (told : CrewTold Generator F K) → (first_files : F) → (final : Stage) →
+    (end : ScriptEnd) → (run_files : F) → (kept : Option (SessionRecord D g)) →
+    SessionKept told first_files final end run_files kept → Type 0
+KeptRunsEnded told first_files final end run_files None keeps = ⊤
+KeptRunsEnded told first_files final end run_files (Some r) keeps = RunsEnded told first_files final run_files r keeps
+
 -- The lines of a script, from the main thread's first access to the database on, and what is behind them.
 pub record PlaysLines (access : DatabaseAccess) (before after : Environment) (ending : Ending) (closing : Option Halt)
     (refusals : Refusals) (final : Stage) : Type 0 where
@@ -65,10 +88,11 @@ pub record PlaysLines (access : DatabaseAccess) (before after : Environment) (en
   pub odb_files : final.database.files ≡ after.odb_files
   pub clock : final.clock ≡ after.clock
 
--- A whole script. Its session's database has the run's parameters, and no call was made on it before. The files of the database
--- that were there stay as they were, and each new one has the name of a `save` line; and where memory was not wanting and neither
--- source nor sink failed, a line told a fault of these files exactly where their count rose; and, however it ended, each fault and
--- each clash of names that a line told was counted for itself.
+-- A whole script. Its session's database has the run's parameters, and no call was made on it before. Where memory was not wanting,
+-- each call of the main thread that asked for the text of the database got it. The files of the database that were there stay as
+-- they were, and each new one has the name of a `save` line; and where memory was not wanting and neither source nor sink failed, a
+-- line told a fault of these files exactly where their count rose; and, however it ended, each fault and each clash of names that a
+-- line told was counted for itself.
 pub record PlaysScript (before after : Environment) (end : ScriptEnd) (replies : List (ℕ × FileReply)) (final : Stage) : Type 0 where
   pub access : DatabaseAccess
   pub opens : access.database.opened ≡ unwatched session_rows
@@ -84,16 +108,18 @@ pub record PlaysScript (before after : Environment) (end : ScriptEnd) (replies :
       before.odb_files.faults after.odb_files.faults after.odb_files.first faulted
   pub end_is : end ≡ script_end (ended_by ending closing) faulted refusals
   pub replies_are : final.database.replies ≡ replies
+  pub saved : end ≢ NoMemory → StageSaved final
   pub dumps : KeepsDumps lines.finished.lines before.odb_files.seen after.odb_files.seen
   pub fault_replies : asks_files (ended_by ending closing) ≡ true →
       NotesFailed (list_any is_fault replies) before.odb_files.faults after.odb_files.faults
   pub one_reply : OneReply replies before.odb_files after.odb_files
 
 -- A whole call, from the one outside to the other: a script was played, which told of them what their parts tell, and ended so,
--- with these replies of the lines that called the files of the database; and this is what is kept of its session, if it opened
--- one.
+-- with these replies of the lines that called the files of the database; this is what is kept of its session, if it opened one; and
+-- where memory was not wanting, the runs of the session ended.
 pub record RunsScript {D S O F E C K : Type 0} {g : _} (told : OutsideTold S O F E C K) (before after : Outside S O F E C K)
     (end : ScriptEnd) (replies : List (ℕ × FileReply)) (kept : Option (SessionRecord D g)) : Type 0 where
   pub final : Stage
   pub plays : PlaysScript (environment told before) (environment told after) end replies final
   pub keeps : SessionKept told.crew before.run_files final end after.run_files kept
+  pub ended : end ≢ NoMemory → KeptRunsEnded told.crew before.run_files final end after.run_files kept keeps

@@ -1,26 +1,23 @@
 -- The faults of the files of the dumps against what came of the lines that called them.
-use Rattle.std.proofs.Common.{◌≡◌, ℕ, List, [], Option, Some, None, true, false, refl, sym, subst, arith}
+use Rattle.std.proofs.Common.{◌≡◌, ◌≢◌, ℕ, List, [], Option, Some, None, true, false, refl, ap, sym, ◌∙◌, subst, arith}
 use Rattle.std.specs.Prelude.{Bool, ◌||◌}
 use Rattle.std.specs.List.{list_any}
 use Rattle.std.proofs.lemmas.List.Folds.{list_any-append}
-use Rattle.std.proofs.Math.Logic.{⊎_elim}
 use Rattle.daq_io.specs.Counts.{Rose}
 use Rattle.database_files.specs.declared.replies.FileReply.{FileReply}
 use Rattle.database_files.specs.declared.replies.FileReply.TheVariants as file
 use Rattle.watch_commands.specs.WatchCalls.{FaultsIf}
-use Rattle.session_replies.specs.declared.replies.Reply.{Reply}
 use Rattle.session_replies.specs.declared.refusals.Refusals.{Refusals}
 use Rattle.database_desk.specs.DatabaseStages.{DumpFiles}
 use Rattle.database_desk.specs.DatabaseLines.{file_replied}
 use Rattle.session_lines.specs.Stages.{Stage}
 use Rattle.session_lines.specs.ScriptLines.{BreaksScriptLine, ClosesScript, DoesScriptLine, GivesUp}
 use Rattle.script_desk.specs.declared.endings.Ending.{Ending}
-use Rattle.script_desk.specs.declared.endings.Ending.TheVariants.{End, TooLong as too_long, SourceFault as source_fault, Halted}
+use Rattle.script_desk.specs.declared.endings.Ending.TheVariants.{Halted}
 use Rattle.script_desk.specs.declared.halts.Halt.{Halt}
-use Rattle.script_desk.specs.declared.halts.Halt.TheVariants.{NoMemory as no_memory, SinkFault as sink_fault}
-use Rattle.script_desk.specs.Playing.{CutBy}
-use Rattle.script_desk.specs.Closing.{ClosesBy, Finished, GaveUp, IsClosed, ended_by}
-use Rattle.script_desk.proofs.KeepingLaws.{plays_keep}
+use Rattle.script_desk.specs.declared.halts.Halt.TheVariants.{NoMemory as no_memory}
+use Rattle.script_desk.specs.Closing.{Finished, ended_by}
+use Rattle.session_commands.proofs.AnsweredLaws.{answered_keeps}
 use Rattle.session_commands.proofs.FilesWalk.{FilesKept, KeptByLine, closed_kept, line_kept}
 use Rattle.session_commands.specs.Endings.{NotesFailed, asks_files, is_fault}
 
@@ -57,27 +54,9 @@ line_tells first came number replies old new faults clashes told =
     subst (λ (any : Bool). Tells any first new.faults) (sym (list_any-append is_fault replies (file_replied number came)))
     (told_more came number (list_any is_fault replies) first old.faults new.faults faults told)
 
--- where the files are asked memory was not wanting, in the lines and behind them
-not_cut : (ending : Ending) (closing : Option Halt) (source : Option (List ℕ)) (lines : List (List ℕ)) (old new : Stage) → asks_files (ended_by ending closing) ≡ true → CutBy DoesScriptLine BreaksScriptLine ending source lines old new → new ≡ old
-not_cut End closing source lines old new asks cut = cut
-not_cut too_long closing source lines old new asks cut = cut
-not_cut source_fault closing source lines old new asks cut = cut
-not_cut (Halted sink_fault) closing source lines old new asks cut = cut
-not_cut (Halted no_memory) None source lines old new asks cut = absurd (cc asks)
-not_cut (Halted no_memory) (Some halt) source lines old new asks cut = absurd (cc asks)
-
-halts_so : (ending : Ending) → asks_files (ended_by ending (Some no_memory)) ≡ true → ⊥
-halts_so End asks = cc asks
-halts_so too_long asks = cc asks
-halts_so source_fault asks = cc asks
-halts_so (Halted no_memory) asks = cc asks
-halts_so (Halted sink_fault) asks = cc asks
-
-closing_told : (first : ℕ) (ending : Ending) (closing : Option Halt) (behind : List Reply) (old new : Stage) → asks_files (ended_by ending closing) ≡ true → ClosesBy ClosesScript GivesUp closing behind old new → FilesKept (Told first) old → FilesKept (Told first) new
-closing_told first ending closing behind old new asks by told = ⊎_elim
-    (λ (is : IsClosed ClosesScript GivesUp behind old new). closed_kept (Told first) old new is.reply is.closed told)
-    (λ (gives : GaveUp ClosesScript GivesUp closing behind old new). absurd (halts_so ending (subst (λ (c : Option Halt). asks_files (ended_by ending c) ≡ true) gives.closing_is asks)))
-    by
+-- where the files are asked memory was not wanting
+asks_found : (ended : Ending) → asks_files ended ≡ true → ended ≢ Halted no_memory
+asks_found ended asks is = cc (sym asks ∙ ap asks_files is)
 
 notes_told : (any : Bool) (old new : ℕ) → Tells any old new → NotesFailed any old new
 notes_told true old new rose = rose
@@ -91,7 +70,6 @@ pub script_told : (first final : Stage) (ending : Ending) (closing : Option Halt
 script_told first final ending closing source left told_first told refusals finished none asks =
     let start : ℕ = first.database.files.faults in
     let began : FilesKept (Told start) first = subst (λ (came : List (ℕ × FileReply)). Tells (list_any is_fault came) start start) (sym none) refl in
-    let played : FilesKept (Told start) finished.between =
-    plays_keep DoesScriptLine BreaksScriptLine ClosesScript GivesUp (FilesKept (Told start)) (line_kept (Told start) (line_tells start)) 1 finished.lines finished.replies first finished.between finished.plays began in
-    let cut : FilesKept (Told start) finished.cut = subst (FilesKept (Told start)) (sym (not_cut ending closing source finished.lines finished.between finished.cut asks finished.is_cut)) played in
-    notes_told (list_any is_fault final.database.replies) start final.database.files.faults (closing_told start ending closing finished.behind finished.cut final asks finished.closed cut)
+    notes_told (list_any is_fault final.database.replies) start final.database.files.faults
+    (answered_keeps (FilesKept (Told start)) (line_kept (Told start) (line_tells start)) (closed_kept (Told start))
+    first final ending closing source left told_first told refusals finished (asks_found (ended_by ending closing) asks) began)

@@ -1,6 +1,9 @@
 pub mod LineKinds
+pub mod CallsOn
 pub mod SpareLaws
+pub mod SaveLaws
 pub mod SteeringLaws
+pub mod AnsweredLaws
 pub mod SpareLines
 pub mod StageLaws
 pub mod DumpLaws

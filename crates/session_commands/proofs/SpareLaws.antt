@@ -32,10 +32,7 @@ use Rattle.database_desk.specs.DatabaseLines.{BreaksDatabase, CutsDump, CutsRows
 use Rattle.session_lines.specs.declared.passed_over.PassedOver.{PassedOver}
 use Rattle.session_lines.specs.RunLines.{CutsKeys, KeysMade, MakesKeys}
 use Rattle.session_commands.specs.Keeping.{AllSpare}
-
-pub spare_both : (one other : List WatchEntry) → AllSpare one → AllSpare other → AllSpare (one ++ other)
-spare_both [] other first second = second
-spare_both (e ∷ one) other first second = (first.0, spare_both one other first.1 second)
+use Rattle.session_commands.proofs.CallsOn.{CallsOn, all_both, both_on, none_on}
 
 -- What is known of the calls of commands, and of a port's calls.
 pub record SpareLaws : Type 0 where
@@ -91,17 +88,13 @@ broken_spare (c ∷ calls) (e ∷ made) spare short = ⊎_elim
 
 -- The caller's own calls are more, and those spare.
 abbrev pub SparesOn : (a b : DatabaseAccess) → Type 0
-SparesOn a b = (more : List WatchEntry) × (own_watched b ≡ own_watched a ++ more) × AllSpare more
+SparesOn a b = CallsOn SparesWatched a b
 
 pub same_on : (a b : DatabaseAccess) → b ≡ a → SparesOn a b
-same_on a b same = ([], ap own_watched same ∙ sym (append-nil (own_watched a)), tt)
+same_on a b same = none_on SparesWatched a b same
 
 pub later_on : (a b c : DatabaseAccess) → SparesOn a b → SparesOn b c → SparesOn a c
-later_on a b c ab bc = (
-  ab.0 ++ bc.0,
-  bc.1 ∙ (ap (λ (xs : List WatchEntry). xs ++ bc.0) ab.1 ∙ append_assoc (own_watched a) ab.0 bc.0),
-  spare_both ab.0 bc.0 ab.2 bc.2,
-)
+later_on a b c ab bc = both_on SparesWatched a b c ab bc
 
 pub entries_on : SpareLaws → (a b : DatabaseAccess) (entries : List WatchEntry) → AddsEntries a b entries → AllSpare entries → SparesOn a b
 entries_on laws a b entries adds spare = (entries, laws.entries a b entries adds, spare)
@@ -142,16 +135,16 @@ broken_on laws command old new broke = ⊎_elim
 -- The calls of the commands of runs.
 
 saved_behind : SpareLaws → (sets : List Assignment) (calls : List DatabaseEntry) (saved : Result (List ℕ) NoMemory) (entries : List WatchEntry) → AreSets sets calls → entries ≡ row_calls calls ++ call.Save saved ∷ [] → AllSpare entries
-saved_behind laws sets calls saved entries are is = subst AllSpare (sym is) (spare_both (row_calls calls) (call.Save saved ∷ []) (sets_spare laws sets calls are) (tt, tt))
+saved_behind laws sets calls saved entries are is = subst AllSpare (sym is) (all_both SparesWatched (row_calls calls) (call.Save saved ∷ []) (sets_spare laws sets calls are) (tt, tt))
 
 pub begin_spares : SpareLaws → (run time : ℕ) (outcome : StartOutcome) (dump : List ℕ) (entries : List WatchEntry) → BeginCalls run time outcome dump entries → AllSpare entries
 begin_spares laws run time outcome dump entries b = subst AllSpare (sym b.are)
-    (spare_both b.first (row_calls b.sets) (saved_behind laws (start_sets run time) b.announces.sets (Ok dump) b.first b.announces.are_sets b.announces.are)
+    (all_both SparesWatched b.first (row_calls b.sets) (saved_behind laws (start_sets run time) b.announces.sets (Ok dump) b.first b.announces.are_sets b.announces.are)
     (sets_spare laws (outcome_sets run outcome) b.sets b.are_sets))
 
 pub stop_spares : SpareLaws → (state : RunState) (time : ℕ) (saved : Result (List ℕ) NoMemory) (entries : List WatchEntry) → StopCalls state time saved entries → AllSpare entries
 stop_spares laws state time saved entries s = subst AllSpare (sym s.are)
-    (spare_both s.first (row_calls s.sets) (saved_behind laws (stop_sets state time) s.announces.sets saved s.first s.announces.are_sets s.announces.are)
+    (all_both SparesWatched s.first (row_calls s.sets) (saved_behind laws (stop_sets state time) s.announces.sets saved s.first s.announces.are_sets s.announces.are)
     (sets_spare laws (state_set Stopped) s.sets s.are_sets))
 
 begun_on : SpareLaws → (run : ℕ) (before after : ClockTold) (old new : CommandPoint PassedOver) → CutsBegin run before after old new → SparesOn old.database new.database

@@ -1,9 +1,9 @@
--- No line of a script removes anything of `/Runinfo`.
-use Rattle.std.proofs.Common.{◌≡◌, ℕ, List, Option, Some, None, ap, sym, subst}
+-- No line of a script removes anything of `/Runinfo`, and each that is answered gets the text of the database where it asks for it.
+use Rattle.std.proofs.Common.{◌≡◌, ◌≢◌, ℕ, List, Option, Some, None, ap, sym, subst}
 use Rattle.std.proofs.Math.Logic.{⊎_elim}
 use Rattle.odb_script.specs.declared.forms.Command.{Command}
 use Rattle.odb_script.specs.Forms.{Read}
-use Rattle.odb_port.specs.DatabasePorts.{own_watched}
+use Rattle.watch_commands.specs.WatchSpares.{SparesWatched}
 use Rattle.session_replies.specs.declared.replies.Reply.{Reply}
 use Rattle.session_replies.specs.declared.refusals.Refusals.{Refusals}
 use Rattle.session_runs.specs.declared.replies.RunReply.TheVariants as answer
@@ -13,57 +13,68 @@ use Rattle.session_lines.specs.Stages.{Stage}
 use Rattle.session_lines.specs.RunLines.{BreaksStart, BreaksStop, ClosesRun, CutsOpening, CutsRun, DoesPause, DoesResume, DoesStart, DoesStop, OpensSession}
 use Rattle.session_lines.specs.ScriptLines.{BreaksScriptLine, CallsDatabase, ClosesScript, DoesScriptLine, GivesUp}
 use Rattle.script_desk.specs.declared.endings.Ending.{Ending}
+use Rattle.script_desk.specs.declared.endings.Ending.TheVariants.{Halted}
 use Rattle.script_desk.specs.declared.halts.Halt.{Halt}
-use Rattle.script_desk.specs.Closing.{Finished}
+use Rattle.script_desk.specs.declared.halts.Halt.TheVariants.{NoMemory}
+use Rattle.script_desk.specs.Closing.{Finished, ended_by}
 use Rattle.script_desk.proofs.KeepingLaws.{closing_keeps, cut_keeps, plays_keep}
-use Rattle.session_commands.specs.Keeping.{AllSpare, StageSpares}
+use Rattle.session_commands.specs.Keeping.{SavesDump, StageSaved, StageSpares}
+use Rattle.session_commands.proofs.AnsweredLaws.{answered_keeps}
+use Rattle.session_commands.proofs.CallsOn.{all_on}
 use Rattle.session_commands.proofs.LineKinds.{LineCut, CutsCalls, CutsStartLine, CutsStopLine, LineKind, CallsRows, Declares, IsPause, IsResume, IsStart, IsStill, IsStop, SetsQuota, line_cut, line_kind}
-use Rattle.session_commands.proofs.SpareLaws.{SpareLaws, SparesOn, broken_on, cut_keys_on, cut_on, database_on, keys_on, later_on, same_on, spare_both}
-use Rattle.session_commands.proofs.SteeringLaws.{pause_moves, resume_moves, start_moves, stop_moves, unsaved_moves}
+use Rattle.session_commands.proofs.SaveLaws.{database_saved, keys_saved}
+use Rattle.session_commands.proofs.SpareLaws.{SpareLaws, SparesOn, broken_on, cut_keys_on, cut_on, database_on, keys_on, later_on}
+use Rattle.session_commands.proofs.SteeringLaws.{AnsweredOn, later_answered, pause_moves, resume_moves, same_answered, start_moves, stop_moves, unsaved_moves}
 
 -- Stages.
 
 moved : (old new : Stage) → SparesOn old.database.access new.database.access → StageSpares old → StageSpares new
-moved old new on spares = subst AllSpare (sym on.1) (spare_both (own_watched old.database.access) on.0 spares on.2)
+moved old new on spares = all_on SparesWatched old.database.access new.database.access on spares
 
-same_spares : (old new : Stage) → new.database.access ≡ old.database.access → StageSpares old → StageSpares new
-same_spares old new same spares = moved old new (same_on old.database.access new.database.access same) spares
+opens_answered : SpareLaws → (old ready : Stage) → OpensSession old ready → AnsweredOn old.database.access ready.database.access
+opens_answered laws old ready opens = record {
+  spares = keys_on laws _ old.database.access ready.database.access opens.keys;
+  saved = keys_saved laws _ old.database.access ready.database.access opens.keys;
+}
 
-opens_on : SpareLaws → (old ready : Stage) → OpensSession old ready → SparesOn old.database.access ready.database.access
-opens_on laws old ready opens = keys_on laws _ old.database.access ready.database.access opens.keys
+same_stage : (old new : Stage) → new ≡ old → AnsweredOn old.database.access new.database.access
+same_stage old new same = same_answered old.database.access new.database.access (ap (λ (s : Stage). s.database.access) same)
 
-start_line : SpareLaws → (runs : Option RunsSeen) (old : Stage) (reply : Reply) (new : Stage) → DoesStart runs old reply new → SparesOn old.database.access new.database.access
-start_line laws None old reply new does = later_on old.database.access does.0.database.access new.database.access (opens_on laws old does.0 does.3)
-    (start_moves laws NothingSaid does.4.answer does.0.clock new.clock (own_point does.1 does.0.database.access) (own_point does.4.after new.database.access) does.4.does).spares
-start_line laws (Some runs) old reply new does = (start_moves laws NothingSaid does.answer old.clock new.clock (own_point runs old.database.access) (own_point does.after new.database.access) does.does).spares
+start_line : SpareLaws → (runs : Option RunsSeen) (old : Stage) (reply : Reply) (new : Stage) → DoesStart runs old reply new → AnsweredOn old.database.access new.database.access
+start_line laws None old reply new does = later_answered old.database.access does.0.database.access new.database.access (opens_answered laws old does.0 does.3)
+    (start_moves laws NothingSaid does.4.answer does.0.clock new.clock (own_point does.1 does.0.database.access) (own_point does.4.after new.database.access) does.4.does).database
+start_line laws (Some runs) old reply new does = (start_moves laws NothingSaid does.answer old.clock new.clock (own_point runs old.database.access) (own_point does.after new.database.access) does.does).database
 
-stop_line : SpareLaws → (runs : Option RunsSeen) (old : Stage) (reply : Reply) (new : Stage) → DoesStop runs old reply new → SparesOn old.database.access new.database.access
-stop_line laws None old reply new does = same_on old.database.access new.database.access (ap (λ (s : Stage). s.database.access) does.1)
-stop_line laws (Some runs) old reply new does = (stop_moves laws NothingSaid does.answer old.clock new.clock (own_point runs old.database.access) (own_point does.after new.database.access) does.does).spares
+stop_line : SpareLaws → (runs : Option RunsSeen) (old : Stage) (reply : Reply) (new : Stage) → DoesStop runs old reply new → AnsweredOn old.database.access new.database.access
+stop_line laws None old reply new does = same_stage old new does.1
+stop_line laws (Some runs) old reply new does = (stop_moves laws NothingSaid does.answer old.clock new.clock (own_point runs old.database.access) (own_point does.after new.database.access) does.does).database
 
-pause_line : SpareLaws → (runs : Option RunsSeen) (old : Stage) (reply : Reply) (new : Stage) → DoesPause runs old reply new → SparesOn old.database.access new.database.access
-pause_line laws None old reply new does = same_on old.database.access new.database.access (ap (λ (s : Stage). s.database.access) does.1)
-pause_line laws (Some runs) old reply new does = (pause_moves laws NothingSaid does.answer (own_point runs old.database.access) (own_point does.after new.database.access) does.does.0).spares
+pause_line : SpareLaws → (runs : Option RunsSeen) (old : Stage) (reply : Reply) (new : Stage) → DoesPause runs old reply new → AnsweredOn old.database.access new.database.access
+pause_line laws None old reply new does = same_stage old new does.1
+pause_line laws (Some runs) old reply new does = (pause_moves laws NothingSaid does.answer (own_point runs old.database.access) (own_point does.after new.database.access) does.does.0).database
 
-resume_line : SpareLaws → (runs : Option RunsSeen) (old : Stage) (reply : Reply) (new : Stage) → DoesResume runs old reply new → SparesOn old.database.access new.database.access
-resume_line laws None old reply new does = same_on old.database.access new.database.access (ap (λ (s : Stage). s.database.access) does.1)
-resume_line laws (Some runs) old reply new does = (resume_moves laws NothingSaid does.answer (own_point runs old.database.access) (own_point does.after new.database.access) does.does.0).spares
+resume_line : SpareLaws → (runs : Option RunsSeen) (old : Stage) (reply : Reply) (new : Stage) → DoesResume runs old reply new → AnsweredOn old.database.access new.database.access
+resume_line laws None old reply new does = same_stage old new does.1
+resume_line laws (Some runs) old reply new does = (resume_moves laws NothingSaid does.answer (own_point runs old.database.access) (own_point does.after new.database.access) does.does.0).database
 
-calls_line : SpareLaws → (number : ℕ) (command : Command) (old : Stage) (reply : Reply) (new : Stage) → CallsDatabase number command old reply new → StageSpares old → StageSpares new
-calls_line laws number command old reply new does spares = moved old new (database_on laws number command old.database reply new.database does.0) spares
+calls_line : SpareLaws → (number : ℕ) (command : Command) (old : Stage) (reply : Reply) (new : Stage) → CallsDatabase number command old reply new → AnsweredOn old.database.access new.database.access
+calls_line laws number command old reply new does = record {
+  spares = database_on laws number command old.database reply new.database does.0;
+  saved = database_saved laws number command old.database reply new.database does.0;
+}
 
-kind_spares : SpareLaws → (number : ℕ) (line : Read Command) (old : Stage) (reply : Reply) (new : Stage) → LineKind number line old reply new → StageSpares old → StageSpares new
-kind_spares laws number line old reply new (IsStill same) spares = same_spares old new (ap (λ (s : Stage). s.database.access) same) spares
-kind_spares laws number line old reply new (Declares opened same) spares = same_spares old new (ap (λ (s : Stage). s.database.access) same) spares
-kind_spares laws number line old reply new (SetsQuota count same) spares = same_spares old new (ap (λ (s : Stage). s.database.access) same) spares
-kind_spares laws number line old reply new (IsStart does) spares = moved old new (start_line laws old.runs old reply new does) spares
-kind_spares laws number line old reply new (IsStop does) spares = moved old new (stop_line laws old.runs old reply new does) spares
-kind_spares laws number line old reply new (IsPause does) spares = moved old new (pause_line laws old.runs old reply new does) spares
-kind_spares laws number line old reply new (IsResume does) spares = moved old new (resume_line laws old.runs old reply new does) spares
-kind_spares laws number line old reply new (CallsRows command is does) spares = calls_line laws number command old reply new does spares
+kind_answered : SpareLaws → (number : ℕ) (line : Read Command) (old : Stage) (reply : Reply) (new : Stage) → LineKind number line old reply new → AnsweredOn old.database.access new.database.access
+kind_answered laws number line old reply new (IsStill same) = same_answered old.database.access new.database.access (ap (λ (s : Stage). s.database.access) same)
+kind_answered laws number line old reply new (Declares opened same) = same_answered old.database.access new.database.access (ap (λ (s : Stage). s.database.access) same)
+kind_answered laws number line old reply new (SetsQuota count same) = same_answered old.database.access new.database.access (ap (λ (s : Stage). s.database.access) same)
+kind_answered laws number line old reply new (IsStart does) = start_line laws old.runs old reply new does
+kind_answered laws number line old reply new (IsStop does) = stop_line laws old.runs old reply new does
+kind_answered laws number line old reply new (IsPause does) = pause_line laws old.runs old reply new does
+kind_answered laws number line old reply new (IsResume does) = resume_line laws old.runs old reply new does
+kind_answered laws number line old reply new (CallsRows command is does) = calls_line laws number command old reply new does
 
-line_spares : SpareLaws → (number : ℕ) (line : Read Command) (old new : Stage) (reply : Reply) → DoesScriptLine number line old reply new → StageSpares old → StageSpares new
-line_spares laws number line old new reply does spares = kind_spares laws number line old reply new (line_kind number line old reply new does) spares
+line_answered : SpareLaws → (number : ℕ) (line : Read Command) (old new : Stage) (reply : Reply) → DoesScriptLine number line old reply new → AnsweredOn old.database.access new.database.access
+line_answered laws number line old new reply does = kind_answered laws number line old reply new (line_kind number line old reply new does)
 
 -- Where memory ended.
 
@@ -73,14 +84,14 @@ cut_run_on laws before old new cut = cut_on laws old.clock new.clock (own_point 
 start_breaks : SpareLaws → (runs : Option RunsSeen) (old new : Stage) → BreaksStart runs old new → SparesOn old.database.access new.database.access
 start_breaks laws None old new broke = ⊎_elim
     (λ (cut : CutsOpening old new). cut_keys_on laws _ old.database.access new.database.access cut.keys)
-    (λ cut. later_on old.database.access cut.0.database.access new.database.access (opens_on laws old cut.0 cut.3) (cut_run_on laws cut.1 cut.0 new cut.4))
+    (λ cut. later_on old.database.access cut.0.database.access new.database.access (opens_answered laws old cut.0 cut.3).spares (cut_run_on laws cut.1 cut.0 new cut.4))
     broke
 start_breaks laws (Some runs) old new broke = cut_run_on laws runs old new broke
 
 stop_breaks : SpareLaws → (runs : Option RunsSeen) (old new : Stage) → BreaksStop runs old new → SparesOn old.database.access new.database.access
 stop_breaks laws None old new broke = absurd broke
 stop_breaks laws (Some runs) old new broke = ⊎_elim
-    (λ stopped. (stop_moves laws NothingSaid (answer.Stopped stopped.0) old.clock new.clock (own_point runs old.database.access) (own_point broke.0 new.database.access) stopped.1).spares)
+    (λ stopped. (stop_moves laws NothingSaid (answer.Stopped stopped.0) old.clock new.clock (own_point runs old.database.access) (own_point broke.0 new.database.access) stopped.1).database.spares)
     (λ unsaved. (unsaved_moves laws NothingSaid old.clock new.clock (own_point runs old.database.access) (own_point broke.0 new.database.access) unsaved).spares)
     broke.2
 
@@ -94,9 +105,9 @@ line_breaks laws number line old new broke spares = cut_spares laws old new (lin
 
 -- Behind all lines.
 
-run_closes : SpareLaws → (runs : Option RunsSeen) (old : Stage) (reply : Option Reply) (new : Stage) → ClosesRun runs old reply new → SparesOn old.database.access new.database.access
-run_closes laws None old reply new closed = same_on old.database.access new.database.access (ap (λ (s : Stage). s.database.access) closed.1)
-run_closes laws (Some runs) old None new closed = same_on old.database.access new.database.access (ap (λ (s : Stage). s.database.access) closed.1)
+run_closes : SpareLaws → (runs : Option RunsSeen) (old : Stage) (reply : Option Reply) (new : Stage) → ClosesRun runs old reply new → AnsweredOn old.database.access new.database.access
+run_closes laws None old reply new closed = same_stage old new closed.1
+run_closes laws (Some runs) old None new closed = same_stage old new closed.1
 run_closes laws (Some runs) old (Some reply) new closed = stop_line laws (Some runs) old reply new closed.1
 
 -- A whole script.
@@ -104,8 +115,17 @@ pub script_spares : SpareLaws → (first final : Stage) (ending : Ending) (closi
     → Finished DoesScriptLine BreaksScriptLine ClosesScript GivesUp first ending closing source left told_first told final refusals → StageSpares first → StageSpares final
 script_spares laws first final ending closing source left told_first told refusals finished spares =
     closing_keeps DoesScriptLine BreaksScriptLine ClosesScript GivesUp StageSpares
-    (λ old new reply closed kept. moved old new (run_closes laws old.runs old reply new closed) kept)
+    (λ old new reply closed kept. moved old new (run_closes laws old.runs old reply new closed).spares kept)
     (λ old new gave kept. moved old new (stop_breaks laws old.runs old new gave.1) kept)
     closing finished.behind finished.cut final finished.closed
     (cut_keeps DoesScriptLine BreaksScriptLine ClosesScript GivesUp StageSpares (line_breaks laws) ending source finished.lines finished.between finished.cut finished.is_cut
-    (plays_keep DoesScriptLine BreaksScriptLine ClosesScript GivesUp StageSpares (line_spares laws) 1 finished.lines finished.replies first finished.between finished.plays spares))
+    (plays_keep DoesScriptLine BreaksScriptLine ClosesScript GivesUp StageSpares (λ number line old new reply does kept. moved old new (line_answered laws number line old new reply does).spares kept) 1 finished.lines finished.replies first finished.between finished.plays spares))
+
+-- One for which memory was not wanting.
+pub script_saved : SpareLaws → (first final : Stage) (ending : Ending) (closing : Option Halt) (source left told_first told : Option (List ℕ)) (refusals : Refusals)
+    → Finished DoesScriptLine BreaksScriptLine ClosesScript GivesUp first ending closing source left told_first told final refusals
+    → ended_by ending closing ≢ Halted NoMemory → StageSaved first → StageSaved final
+script_saved laws first final ending closing source left told_first told refusals finished found saved = answered_keeps StageSaved
+    (λ number line old new reply does kept. all_on SavesDump old.database.access new.database.access (line_answered laws number line old new reply does).saved kept)
+    (λ old new reply closed kept. all_on SavesDump old.database.access new.database.access (run_closes laws old.runs old reply new closed).saved kept)
+    first final ending closing source left told_first told refusals finished found saved

@@ -11,7 +11,7 @@ use Rattle.daq_types.specs.declared.runs.Transition.TheVariants.{Pause, Resume}
 use Rattle.run_states.specs.States.{run_state_after}
 use Rattle.transitions.specs.declared.answers.ClientTally.{ClientTally}
 use Rattle.transitions.specs.declared.entry.EngineEntry.{EngineEntry}
-use Rattle.odb_port.specs.DatabasePorts.{row_calls}
+use Rattle.odb_port.specs.DatabasePorts.{DatabaseAccess, row_calls}
 use Rattle.odb_runinfo.specs.RunSets.{state_set}
 use Rattle.session_engine.specs.MadeTransitions.{done_check, going_checks}
 use Rattle.session_runs.specs.declared.on.CurrentRun.{CurrentRun}
@@ -20,6 +20,9 @@ use Rattle.session_runs.specs.declared.replies.RunReply.TheVariants as answer
 use Rattle.session_runs.specs.KeptRuns.{RunsSeen, behind_start}
 use Rattle.session_runs.specs.RunAnswers.{AnswersPause, AnswersResume, AnswersStart, AnswersStop, BeginsRun, ClockTold, CommandPoint, MakesChange, MakesStart, MakesStop, StopsUnsaved, known_at_point}
 use Rattle.session_runs.specs.RunsFit.{SteersEngine}
+use Rattle.session_commands.specs.Keeping.{SavesDump}
+use Rattle.session_commands.proofs.CallsOn.{both_on, none_on}
+use Rattle.session_commands.proofs.SaveLaws.{SavedOn, begin_saved, call_saved, entries_saved, sets_saved, stop_saved}
 use Rattle.session_commands.proofs.SpareLaws.{SpareLaws, SparesOn, begin_spares, entries_on, later_on, one_on, same_on, sets_spare, stop_spares}
 
 -- The names and the channels stay, and the new calls of the main thread steer the engine.
@@ -61,8 +64,24 @@ start_analyzers : (s : RunsSeen) (r : CurrentRun) (outcome : StartOutcome) → (
 start_analyzers s r Completed = refl
 start_analyzers s r (Refused client why) = refl
 
--- A command leads from one point to another by such calls, and its calls on the database remove nothing of `/Runinfo`.
+-- What is answered makes calls on the database that remove nothing of `/Runinfo`, and gets the text where it asks for it.
+pub record AnsweredOn (a b : DatabaseAccess) : Type 0 where
+  pub spares : SparesOn a b
+  pub saved : SavedOn a b
+
+pub same_answered : (a b : DatabaseAccess) → b ≡ a → AnsweredOn a b
+same_answered a b same = record { spares = same_on a b same; saved = none_on SavesDump a b same }
+
+pub later_answered : (a b c : DatabaseAccess) → AnsweredOn a b → AnsweredOn b c → AnsweredOn a c
+later_answered a b c ab bc = record { spares = later_on a b c ab.spares bc.spares; saved = both_on SavesDump a b c ab.saved bc.saved }
+
+-- A command leads from one point to another by such calls.
 pub record MovesOn {M : Type 0} (old new : CommandPoint M) : Type 0 where
+  pub steers : SteersOn old.runs new.runs
+  pub database : AnsweredOn old.database new.database
+
+-- So does a stop whose text found no memory, but for that text.
+pub record MovesUnsaved {M : Type 0} (old new : CommandPoint M) : Type 0 where
   pub steers : SteersOn old.runs new.runs
   pub spares : SparesOn old.database new.database
 
@@ -70,7 +89,7 @@ module _ {M : Type 0} (laws : SpareLaws) (round : M → M → Type 0) where
   same_moves : (old new : CommandPoint M) → new ≡ old → MovesOn old new
   same_moves old new same = record {
     steers = same_steers old.runs new.runs (ap (λ (p : CommandPoint M). p.runs) same);
-    spares = same_on old.database new.database (ap (λ (p : CommandPoint M). p.database) same);
+    database = same_answered old.database new.database (ap (λ (p : CommandPoint M). p.database) same);
   }
 
   begins_steers : (run : ℕ) (outcome : StartOutcome) (before after : ClockTold) (old new : CommandPoint M) → BeginsRun round run outcome before after old new → SteersOn old.runs new.runs
@@ -86,9 +105,12 @@ module _ {M : Type 0} (laws : SpareLaws) (round : M → M → Type 0) where
   makes_moves : (run : ℕ) (outcome : StartOutcome) (before after : ClockTold) (old new : CommandPoint M) → MakesStart round run outcome before after old new → MovesOn old new
   makes_moves run outcome before after old new m = record {
     steers = subst (λ (s : RunsSeen). SteersOn s new.runs) m.1.runs (begins_steers run outcome before after m.0 new m.2);
-    spares = later_on old.database m.0.database new.database
-        (one_on laws old.database m.0.database _ m.1.number.called tt)
-        (entries_on laws m.0.database new.database m.2.entries m.2.adds (begin_spares laws run m.2.time outcome m.2.dump m.2.entries m.2.calls));
+    database = later_answered old.database m.0.database new.database
+        (record { spares = one_on laws old.database m.0.database _ m.1.number.called tt; saved = call_saved laws old.database m.0.database _ m.1.number.called })
+        (record {
+          spares = entries_on laws m.0.database new.database m.2.entries m.2.adds (begin_spares laws run m.2.time outcome m.2.dump m.2.entries m.2.calls);
+          saved = entries_saved laws m.0.database new.database m.2.entries m.2.adds (begin_saved run m.2.time outcome m.2.dump m.2.entries m.2.calls);
+        });
   }
 
   pub start_moves : (reply : RunReply) (before after : ClockTold) (old new : CommandPoint M) → AnswersStart round reply before after old new → MovesOn old new
@@ -96,7 +118,7 @@ module _ {M : Type 0} (laws : SpareLaws) (round : M → M → Type 0) where
   start_moves (answer.StartRefused client why) before after old new a = makes_moves a.0 (Refused client why) before after old new a.1
   start_moves (answer.RunNumber have) before after old new a = record {
     steers = same_steers old.runs new.runs a.0.runs;
-    spares = one_on laws old.database new.database _ a.0.number.called tt;
+    database = record { spares = one_on laws old.database new.database _ a.0.number.called tt; saved = call_saved laws old.database new.database _ a.0.number.called };
   }
   start_moves (answer.WrongState state) before after old new a = same_moves old new a.1
   start_moves answer.LastStart before after old new a = same_moves old new a.1
@@ -104,7 +126,7 @@ module _ {M : Type 0} (laws : SpareLaws) (round : M → M → Type 0) where
   start_moves (answer.Resumed run) before after old new a = absurd a.0
   start_moves (answer.Stopped run) before after old new a = absurd a.0
 
-  stopped_moves : (r : CurrentRun) (saved : Result (List ℕ) NoMemory) (before after : ClockTold) (old new : CommandPoint M) → MakesStop round r saved before after old new → MovesOn old new
+  stopped_moves : (r : CurrentRun) (saved : Result (List ℕ) NoMemory) (before after : ClockTold) (old new : CommandPoint M) → MakesStop round r saved before after old new → MovesUnsaved old new
   stopped_moves r saved before after old new m = record {
     steers = record {
       fronts = ap (λ (s : RunsSeen). s.fronts) m.kept;
@@ -117,6 +139,17 @@ module _ {M : Type 0} (laws : SpareLaws) (round : M → M → Type 0) where
     spares = entries_on laws old.database new.database m.entries m.adds (stop_spares laws (known_at_point old).state m.time saved m.entries m.calls);
   }
 
+  saved_moves : (r : CurrentRun) (dump : List ℕ) (before after : ClockTold) (old new : CommandPoint M) → MakesStop round r (Ok dump) before after old new → MovesOn old new
+  saved_moves r dump before after old new m =
+      let moves = stopped_moves r (Ok dump) before after old new m in
+      record {
+        steers = moves.steers;
+        database = record {
+          spares = moves.spares;
+          saved = entries_saved laws old.database new.database m.entries m.adds (stop_saved (known_at_point old).state m.time dump m.entries m.calls);
+        };
+      }
+
   changed_moves : (t : Transition) (r : CurrentRun) (old new : CommandPoint M) → MakesChange round t r old new → MovesOn old new
   changed_moves t r old new m = record {
     steers = record {
@@ -127,11 +160,14 @@ module _ {M : Type 0} (laws : SpareLaws) (round : M → M → Type 0) where
       calls = m.drives.calls;
       steers = (tt, going_steer m.drives.rounds Completed m.tallies);
     };
-    spares = entries_on laws old.database new.database (row_calls m.sets) m.adds (sets_spare laws (state_set (run_state_after (known_at_point old).state t)) m.sets m.are_sets);
+    database = record {
+      spares = entries_on laws old.database new.database (row_calls m.sets) m.adds (sets_spare laws (state_set (run_state_after (known_at_point old).state t)) m.sets m.are_sets);
+      saved = sets_saved laws old.database new.database m.sets m.adds;
+    };
   }
 
   pub stop_moves : (reply : RunReply) (before after : ClockTold) (old new : CommandPoint M) → AnswersStop round reply before after old new → MovesOn old new
-  stop_moves (answer.Stopped run) before after old new a = stopped_moves a.0 (Ok a.2) before after old new a.3
+  stop_moves (answer.Stopped run) before after old new a = saved_moves a.0 a.2 before after old new a.3
   stop_moves (answer.WrongState state) before after old new a = same_moves old new a.1
   stop_moves answer.LastStart before after old new a = same_moves old new a.1
   stop_moves (answer.RunNumber have) before after old new a = absurd a.0
@@ -140,7 +176,7 @@ module _ {M : Type 0} (laws : SpareLaws) (round : M → M → Type 0) where
   stop_moves (answer.Paused run) before after old new a = absurd a.0
   stop_moves (answer.Resumed run) before after old new a = absurd a.0
 
-  pub unsaved_moves : (before after : ClockTold) (old new : CommandPoint M) → StopsUnsaved round before after old new → MovesOn old new
+  pub unsaved_moves : (before after : ClockTold) (old new : CommandPoint M) → StopsUnsaved round before after old new → MovesUnsaved old new
   unsaved_moves before after old new a = stopped_moves a.0 (Err (record {})) before after old new a.1
 
   pub pause_moves : (reply : RunReply) (old new : CommandPoint M) → AnswersPause round reply old new → MovesOn old new

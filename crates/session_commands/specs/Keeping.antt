@@ -1,8 +1,9 @@
 -- What every line of a script keeps of an open session.
-use Rattle.std.specs.Prelude.{◌≡◌, true, List, ◌++◌, Option, Some, None, ⊤}
+use Rattle.std.specs.Prelude.{◌≡◌, true, List, ◌++◌, Option, Some, None, IsOk, ⊤}
 use Rattle.std.specs.List.{AllByRecursion}
 use Rattle.transitions.specs.declared.entry.EngineEntry.{EngineEntry}
 use Rattle.odb_watch.specs.declared.entry.WatchEntry.{WatchEntry}
+use Rattle.odb_watch.specs.declared.entry.WatchEntry.TheVariants.{Save}
 use Rattle.odb_port.specs.DatabasePorts.{own_watched}
 use Rattle.session_engine.specs.MainKnowledge.{known_from}
 use Rattle.session_engine.specs.MainSeats.{StandsFree}
@@ -51,3 +52,16 @@ AllSpare calls = AllByRecursion SparesWatched calls
 -- No call of the main thread on the database does.
 abbrev pub StageSpares : Stage → Type 0
 StageSpares s = AllSpare (own_watched s.database.access)
+
+-- where the call asks for the text of the database, there was memory for it
+abbrev pub SavesDump : WatchEntry → Type 0
+SavesDump (Save saved) = IsOk saved
+SavesDump entry = ⊤
+
+-- each of these calls that asks for the text got it
+abbrev pub AllSaved : List WatchEntry → Type 0
+AllSaved calls = AllByRecursion SavesDump calls
+
+-- So it is with the calls of the main thread on the database.
+abbrev pub StageSaved : Stage → Type 0
+StageSaved s = AllSaved (own_watched s.database.access)

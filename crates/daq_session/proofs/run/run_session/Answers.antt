@@ -1,9 +1,12 @@
 use Rattle.std.proofs.Common.{refl}
-use Rattle.std.specs.Prelude.{[]}
+use Rattle.std.specs.Prelude.{◌≢◌, []}
 use Rattle.daq_types.specs.Callers.{main_caller}
 use Rattle.odb_lock.specs.SharedAccesses.{odb_identity, shared_access}
 use Rattle.session_lines.specs.Stages.{Stage}
-use Rattle.daq_session.proofs.ClosedLaws.{is_back, memory_ends}
+use Rattle.session_commands.specs.Keeping.{StageSaved}
+use Rattle.daq_session.specs.declared.ends.ScriptEnd.TheVariants.{NoMemory}
+use Rattle.daq_session.proofs.ClosedLaws.{is_back, memory_ends, memory_found}
+use Rattle.daq_session.proofs.EndedLaws.{kept_ended}
 use Rattle.daq_session.proofs.run.run_session.Goals as goal
 
 pub close_left-record-requires-clause-back : goal.close_left-record-requires-clause-back
@@ -23,6 +26,11 @@ returns g c =
     let kept = c.scripts_keep.ensures _ final lines.ending lines.closing _ _ _ _ refusals played.finished in
     let end = rw (c.with_closing.ensures, c.as_slice.ensures) at c.end_of-end.ensures (g.F.Files.faults outside.run_files) (g.E.Files.faults outside.odb_files) in
     let faults = end (λ asks. (played.tells.failed, rw (played.tells.replies_are, played.tells.files_are) at kept.faults refl asks)) in
+    let saved : c.end_of-end.result ≢ NoMemory → StageSaved final = λ other. kept.saved (memory_found lines.ending lines.closing faults.0 refusals c.end_of-end.result faults.2 other) tt in
+    let keeps = c.close_left-record.ensures.kept outside.run_files final lines.ending c.end_of-end.result lines.run_files c.requires.rows
+    (kept.kept tt) kept.over (kept.spares tt)
+    (memory_ends lines.ending lines.closing faults.0 refusals c.end_of-end.result faults.2)
+    played.ends in
     record {
       ran = record {
         final = final;
@@ -44,13 +52,12 @@ returns g c =
           fault = faults.1;
           end_is = faults.2;
           replies_are = played.tells.replies_are;
+          saved = saved;
           dumps = rw played.tells.files_are at kept.dumps;
           fault_replies = λ asks. rw (played.tells.replies_are, played.tells.files_are) at kept.faults refl asks;
           one_reply = rw (played.tells.replies_are, played.tells.files_are) at kept.one_reply refl;
         };
-        keeps = c.close_left-record.ensures.kept outside.run_files final lines.ending c.end_of-end.result lines.run_files c.requires.rows
-            (kept.kept tt) kept.over (kept.spares tt)
-            (memory_ends lines.ending lines.closing faults.0 refusals c.end_of-end.result faults.2)
-            played.ends;
+        keeps = keeps;
+        ended = λ other. kept_ended _ outside.run_files final lines.run_files (saved other) c.end_of-end.result c.close_left-record.result keeps;
       };
     }

@@ -6,7 +6,7 @@ use Rattle.session_commands.proofs.DumpLaws.{script_keeps}
 use Rattle.session_commands.proofs.FaultLaws.{script_told}
 use Rattle.session_commands.proofs.OverLaws.{script_over}
 use Rattle.session_commands.proofs.SpareLaws.{SpareLaws}
-use Rattle.session_commands.proofs.SpareLines.{script_spares}
+use Rattle.session_commands.proofs.SpareLines.{script_saved, script_spares}
 use Rattle.session_commands.proofs.StageLaws.{FitLaws, line_breaks, line_keeps, script_closes, script_gives_up}
 use Rattle.session_commands.proofs.laws.scripts_keep.Goals as goal
 
@@ -38,6 +38,7 @@ returns c = λ first final ending closing source left told_first told refusals f
           (plays_keep DoesScriptLine BreaksScriptLine ClosesScript GivesUp StageKept (line_keeps fits) 1 finished.lines finished.replies first finished.between finished.plays kept));
       over = script_over first final ending closing source left told_first told refusals finished;
       spares = script_spares spares first final ending closing source left told_first told refusals finished;
+      saved = script_saved spares first final ending closing source left told_first told refusals finished;
       dumps = script_keeps first final ending closing source left told_first told refusals finished;
       faults = script_told first final ending closing source left told_first told refusals finished;
       one_reply = script_counted first final ending closing source left told_first told refusals finished;
