@@ -82,10 +82,12 @@ nothing_ran told outside replies none =
         end_is = refl;
         replies_are = sym none;
         saved = λ other. absurd (other refl);
+        quotas = refl;
         dumps = record { tells = refl; stay = λ tells name file at. at; added = λ tells name file at. inl at };
         fault_replies = λ asks. absurd (cc asks);
         one_reply = subst (λ (came : List (ℕ × FileReply)). OneReply came before.odb_files before.odb_files) (sym none) (record { faults = omega arith; clashes = omega arith });
       };
       keeps = record { closed = refl; files = refl; alone = λ other. absurd (other refl) };
+      asked = tt;
       ended = λ other. tt;
     }

@@ -29,7 +29,7 @@ use Rattle.caller_laws.specs.CallerLaws.{SendIsAmong}
 use Rattle.composition.specs.SentSets.{AreSetsAlone, AreTurnSets}
 use Rattle.composition.specs.Sessions.{SessionFront}
 use Rattle.session_laws.specs.ClosedSessions.{ClosedSession, session_front}
-use Rattle.session_laws.specs.EndLaws.{MembersListed, SessionHolds}
+use Rattle.session_laws.specs.EndLaws.{MembersListed, SessionHolds, StartsDiffer}
 use Rattle.session_runs.specs.RunsFit.{MainOwn}
 use Rattle.session_commands.specs.Keeping.{AllSpare}
 use Rattle.daq_session.specs.RunNumbers.{GivesNumber}
@@ -105,7 +105,7 @@ turn_sets_spare sets name own (t ∷ turns) (moment ∷ moments) calls are = ⊎
     (λ before. sets_alone sets name _ calls before.1)
     are
 
--- What is known of the run number in legal histories, and of the calls of front-ends.
+-- What is known of the run number in legal histories, of the calls of front-ends, and of start numbers.
 pub record RunLaws : Type 0 where
   pub stays : Stays
   pub given : Given
@@ -113,6 +113,7 @@ pub record RunLaws : Type 0 where
   pub sets : SetsSpare
   pub listed : MembersListed
   pub among : SendIsAmong
+  pub differ : StartsDiffer
 
 less_or_past : (n m : ℕ) → (n < m) ⊎ (m ≤ n)
 less_or_past n m = split (nat_lt n m) (λ b. (n < m) ⊎ (m ≤ n)) (λ less. inl (ltb-true n m less)) (λ more. inr (ltb-false n m more))

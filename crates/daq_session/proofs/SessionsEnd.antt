@@ -4,7 +4,7 @@ use Rattle.std.specs.List.{AllByRecursion}
 use Rattle.std.specs.Option.{option_map, option_to_list}
 use Rattle.std.proofs.Common.{ap, sym, subst, ◌∙◌, append_assoc, arith}
 use Rattle.std.proofs.lemmas.List.{append-nil, length-map}
-use Rattle.std.proofs.lemmas.Option.{slice_get_within}
+use Rattle.std.proofs.lemmas.Option.{slice_get-map, slice_get_within}
 use Rattle.daq_types.specs.Callers.{entries_by, main_caller}
 use Rattle.daq_types.specs.declared.events.Event.{Event}
 use Rattle.daq_types.specs.declared.runs.Order.{Order}
@@ -244,6 +244,15 @@ module _ {D F K : Type 0} {g : _} (told : CrewTold Generator F K) (takes : told.
   records_fit : RecordsFit (clients_declared final.declared.fronts final.declared.channels final.declared.analyzers) own r.runs
   records_fit = subst (λ (d : Declared). RecordsFit (clients_declared d.fronts d.channels d.analyzers) own r.runs) kept.declared lists_fit
 
+  -- no two records of one start
+  differ : RunLaws → MembersAtEnd (session_told told final.declared kept.crew.logger.slots first_files run_files r) → (number other : ℕ) (run second : RunRecord)
+      → slice_get r.runs number ≡ Some run → slice_get r.runs other ≡ Some second → run.start ≡ second.start → number ≡ other
+  differ laws members number other run second at second_at same =
+      let of : (n : ℕ) (x : RunRecord) → slice_get r.runs n ≡ Some x → slice_get (starts_begun own.engine) n ≡ Some x.start =
+      λ n x x_at. subst (λ (l : List ℕ). slice_get l n ≡ Some x.start) records_fit.each_start (slice_get-map start_of r.runs n ∙ ap (option_map start_of) x_at) in
+      laws.differ (session_told told final.declared kept.crew.logger.slots first_files run_files r) members own.engine (Close (Ok tt) ∷ []) main_calls.engine
+      number other run.start (of number run at) (of other second second_at ∙ ap Some (sym same))
+
   -- each answer that the run number got
   numbers : RunLaws → (holds : SessionHolds (session_told told final.declared kept.crew.logger.slots first_files run_files r)) → AllByRecursion GivesNumber own.database
   numbers laws holds =
@@ -269,6 +278,7 @@ module _ {D F K : Type 0} {g : _} (told : CrewTold Generator F K) (takes : told.
           histories = histories;
           main = main_calls;
           fit = records_fit;
+          differ = differ number_laws laws.members;
           numbers = given;
           slots = kept.crew.logger.slots;
           channels = channels;

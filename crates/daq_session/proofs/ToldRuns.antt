@@ -102,7 +102,7 @@ spec_of c = c.spec
 spec_at : (slots : List (Option Channel)) (n : ℕ) (c : Channel) → slot_at slots n ≡ Some c → slot_at (specs_in slots) n ≡ Some c.spec
 spec_at slots n c at = at_map spec_of slots n ∙ ap (option_map spec_of) at
 
-mapped : {X Y : Type 0} (f : X → Y) (xs : List X) (n : ℕ) (y : Y) → slice_get (map f xs) n ≡ Some y → (x : X) × (slice_get xs n ≡ Some x) × (f x ≡ y)
+pub mapped : {X Y : Type 0} (f : X → Y) (xs : List X) (n : ℕ) (y : Y) → slice_get (map f xs) n ≡ Some y → (x : X) × (slice_get xs n ≡ Some x) × (f x ≡ y)
 mapped f [] n y at = absurd (cc at)
 mapped f (x ∷ xs) zero y at = (x, refl, cc at)
 mapped f (x ∷ xs) (suc n) y at = mapped f xs n y at

@@ -3,7 +3,8 @@ use Rattle.std.specs.Prelude.{◌≡◌, ◌≢◌, ℕ, true, List, [], slice_g
 use Rattle.std.specs.List.{AllByRecursion, list_any}
 use Rattle.daq_types.specs.Callers.{main_caller}
 use Rattle.daq_types.specs.declared.runs.ChannelState.TheVariants.{Ended}
-use Rattle.daq_types.specs.declared.runs.StartOutcome.TheVariants.{Completed}
+use Rattle.daq_types.specs.declared.runs.StartOutcome.TheVariants.{Completed, Refused}
+use Rattle.daq_types.specs.declared.runs.Why.{Why}
 use Rattle.daq_io.specs.declared.objects.Outside.{Outside}
 use Rattle.frontend_kit.specs.declared.generator.Generator.{Generator}
 use Rattle.database_files.specs.declared.replies.FileReply.{FileReply}
@@ -27,6 +28,7 @@ use Rattle.script_desk.specs.Closing.{EndCounts, Finished, ended_by}
 use Rattle.session_commands.specs.Endings.{NotesFailed, OneReply, asks_files, is_fault}
 use Rattle.session_commands.specs.Keeping.{StageSaved}
 use Rattle.session_commands.specs.KeptDumps.{KeepsDumps}
+use Rattle.session_commands.specs.Quotas.{quotas_asked, quotas_so_far}
 use Rattle.daq_session.specs.declared.ends.ScriptEnd.{ScriptEnd}
 use Rattle.daq_session.specs.declared.ends.ScriptEnd.TheVariants.{NoMemory}
 use Rattle.daq_session.specs.Endings.{FaultedFile, script_end}
@@ -78,6 +80,22 @@ abbrev pub KeptRunsEnded : {D F K : Type 0} {g : _} → (told : CrewTold Generat
 KeptRunsEnded told first_files final end run_files None keeps = ⊤
 KeptRunsEnded told first_files final end run_files (Some r) keeps = RunsEnded told first_files final run_files r keeps
 
+-- Each record of a session is of a start that was begun with the quota that stands at its place among these.
+pub record RunsAsked {D F K : Type 0} {g : _} (told : CrewTold Generator F K) (first_files : F) (final : Stage) (run_files : F)
+    (asked : List ℕ) (r : SessionRecord D g) (keeps : KeepsSession told first_files final run_files r) : Type 0 where
+  pub completed : (number : ℕ) → (run : RunRecord) → (at : slice_get r.runs number ≡ Some run) → (whole : run.outcome ≡ Completed) →
+      slice_get asked number ≡ Some (keeps.tells.runs number run at whole).so.quota
+  pub refused : (number : ℕ) → (run : RunRecord) → (at : slice_get r.runs number ≡ Some run) → (client : ℕ) → (why : Why) →
+      (is : run.outcome ≡ Refused client why) →
+      slice_get asked number ≡ Some (keeps.tells.refusals number run at client why is).quota
+
+-- So it is with the session of which this is kept, if one was opened.
+abbrev pub KeptRunsAsked : {D F K : Type 0} {g : _} → (told : CrewTold Generator F K) → (first_files : F) → (final : Stage) →
+    (end : ScriptEnd) → (run_files : F) → (asked : List ℕ) → (kept : Option (SessionRecord D g)) →
+    SessionKept told first_files final end run_files kept → Type 0
+KeptRunsAsked told first_files final end run_files asked None keeps = ⊤
+KeptRunsAsked told first_files final end run_files asked (Some r) keeps = RunsAsked told first_files final run_files asked r keeps
+
 -- The lines of a script, from the main thread's first access to the database on, and what is behind them.
 pub record PlaysLines (access : DatabaseAccess) (before after : Environment) (ending : Ending) (closing : Option Halt)
     (refusals : Refusals) (final : Stage) : Type 0 where
@@ -89,7 +107,8 @@ pub record PlaysLines (access : DatabaseAccess) (before after : Environment) (en
   pub clock : final.clock ≡ after.clock
 
 -- A whole script. Its session's database has the run's parameters, and no call was made on it before. Where memory was not wanting,
--- each call of the main thread that asked for the text of the database got it. The files of the database that were there stay as
+-- each call of the main thread that asked for the text of the database got it. The starts were begun with the quotas that the lines
+-- asked for. The files of the database that were there stay as
 -- they were, and each new one has the name of a `save` line; and where memory was not wanting and neither source nor sink failed, a
 -- line told a fault of these files exactly where their count rose; and, however it ended, each fault and each clash of names that a
 -- line told was counted for itself.
@@ -109,17 +128,20 @@ pub record PlaysScript (before after : Environment) (end : ScriptEnd) (replies :
   pub end_is : end ≡ script_end (ended_by ending closing) faulted refusals
   pub replies_are : final.database.replies ≡ replies
   pub saved : end ≢ NoMemory → StageSaved final
+  pub quotas : quotas_so_far final.runs ≡ quotas_asked 0 lines.finished.lines lines.finished.replies
   pub dumps : KeepsDumps lines.finished.lines before.odb_files.seen after.odb_files.seen
   pub fault_replies : asks_files (ended_by ending closing) ≡ true →
       NotesFailed (list_any is_fault replies) before.odb_files.faults after.odb_files.faults
   pub one_reply : OneReply replies before.odb_files after.odb_files
 
 -- A whole call, from the one outside to the other: a script was played, which told of them what their parts tell, and ended so,
--- with these replies of the lines that called the files of the database; this is what is kept of its session, if it opened one; and
--- where memory was not wanting, the runs of the session ended.
+-- with these replies of the lines that called the files of the database; this is what is kept of its session, if it opened one, with
+-- the quotas that the lines asked for; and where memory was not wanting, the runs of the session ended.
 pub record RunsScript {D S O F E C K : Type 0} {g : _} (told : OutsideTold S O F E C K) (before after : Outside S O F E C K)
     (end : ScriptEnd) (replies : List (ℕ × FileReply)) (kept : Option (SessionRecord D g)) : Type 0 where
   pub final : Stage
   pub plays : PlaysScript (environment told before) (environment told after) end replies final
   pub keeps : SessionKept told.crew before.run_files final end after.run_files kept
+  pub asked : KeptRunsAsked told.crew before.run_files final end after.run_files
+      (quotas_asked 0 plays.lines.finished.lines plays.lines.finished.replies) kept keeps
   pub ended : end ≢ NoMemory → KeptRunsEnded told.crew before.run_files final end after.run_files kept keeps

@@ -198,8 +198,8 @@ session_told told declared slots first_files files r =
     closed_session (unwatched session_rows) declared.fronts declared.analyzers slots (told.seen first_files) (told.seen files) r
 
 -- What the record of a session of these declarations tells, in which these are the main thread's calls: the histories of its
--- objects; one record for each start that was begun, in order, each of which fits these calls; each answer that the run number
--- got; the channels of its logger, which are those that were declared; who called, and that each member kept its contract over
+-- objects; one record for each start that was begun, in order, each of which fits these calls, and no two of one start; each answer
+-- that the run number got; the channels of its logger, which are those that were declared; who called, and that each member kept its contract over
 -- its own calls; all that the laws say of the session, of its runs, its files, its front-ends and its callers; that each start is
 -- over; what the counts of its run files tell; that one fault of these gives one answer, and that none is counted without one, or
 -- but where a start was refused; that each run file that is in no record
@@ -210,6 +210,8 @@ pub record RecordTells {D F K : Type 0} {g : _} (told : CrewTold Generator F K) 
   pub histories : AreHistoriesOf declared r
   pub main : AreMainCalls own r
   pub fit : RecordsFit (clients_declared declared.fronts declared.channels declared.analyzers) own r.runs
+  pub differ : (number other : ℕ) → (run second : RunRecord) → slice_get r.runs number ≡ Some run →
+      slice_get r.runs other ≡ Some second → run.start ≡ second.start → number ≡ other
   pub numbers : AllByRecursion GivesNumber own.database
   pub slots : List (Option Channel)
   pub channels : AreDeclared declared.channels slots

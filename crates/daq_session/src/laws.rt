@@ -13,7 +13,7 @@ use session_ends::laws::{
     counts_end, members_end, names_end, one_answer_end, records_end, refusals_end, rises_end,
     session_ended, starts_end,
 };
-use session_laws::laws::members_listed;
+use session_laws::laws::{members_listed, starts_differ};
 use session_objects::SessionRecord;
 use turn_lock::Machine;
 use watch_commands::laws::run_number_stays_watched;
@@ -31,6 +31,7 @@ where
     own_calls_spare();
     sent_by();
     members_listed();
+    starts_differ();
     members_end::<D, F>(kept);
     session_ended::<D, F>(kept);
     starts_end::<D, F>(kept);

@@ -11,6 +11,7 @@ pub mod FilesWalk
 pub mod FaultLaws
 pub mod CountLaws
 pub mod OverLaws
+pub mod QuotaLaws
 pub mod OpeningLaws
 pub mod OpenedLaws
 pub mod DeclaringLaws

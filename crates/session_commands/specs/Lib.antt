@@ -3,6 +3,7 @@ pub mod Endings
 pub mod RunReplies
 pub mod Keeping
 pub mod KeptDumps
+pub mod Quotas
 pub mod Finishing
 pub mod MainEnds
 pub mod KeptByScripts

@@ -50,7 +50,7 @@ pub fn scripts_keep()
         (source left told_first told : Option (List ℕ)) (refusals : Refused)
         → (finished : Finished DoesScriptLine BreaksScriptLine ClosesScript GivesUp first ending
         closing source left told_first told final refusals)
-        → KeptByScript finished.lines ending closing first final }
+        → KeptByScript finished.lines finished.replies ending closing first final }
 {
     commands_fit::<PassedOver>();
     runs_fit();

@@ -6,6 +6,7 @@ use Rattle.std.proofs.Common.{ap, sym, subst, ◌∙◌, arith, inl, inr, append
 use Rattle.std.proofs.lemmas.Bool.Decides.{eqb_tells}
 use Rattle.std.proofs.lemmas.List.Elements.{Contains-append_left}
 use Rattle.std.proofs.lemmas.List.Sums.{sum_by-cons}
+use Rattle.std.proofs.lemmas.Option.{get_or_from_slice_get, slice_get_within}
 use Rattle.daq_types.specs.Callers.{entries_by, main_caller}
 use Rattle.daq_types.specs.declared.runs.ChannelState.{ChannelState}
 use Rattle.daq_types.specs.declared.runs.Order.{Order}
@@ -46,6 +47,7 @@ use Rattle.session_runs.specs.ToldTallies.{file_in, files_told, files_of, states
 use Rattle.composition.proofs.FilesTogether.{yes_channels}
 use Rattle.composition.proofs.SessionTurns.{StartsRise, speaks}
 use Rattle.session_laws.specs.ClosedSessions.{ClosedSession, logger_client, logger_caller, engine_calls}
+use Rattle.session_laws.specs.EndLaws.{StartsDiffer}
 use Rattle.session_laws.specs.MembersAtEnd.{MembersAtEnd}
 use Rattle.session_laws.specs.CountedFaults.{LoggerReasons, LoggerNames, IsRefusedSo}
 use Rattle.session_laws.specs.RecordedRuns.{run_channels, clients_in}
@@ -221,6 +223,21 @@ starts_apart : StartsRise → (c : ClosedSession) → MembersAtEnd c → (own mo
 starts_apart rise c ends own more calls =
     let all : Apart (starts_begun (engine_calls c main_caller)) = apart_behind rise c.engine ends.engine [] (engine_calls c main_caller) refl in
     apart_first (starts_begun own) (starts_begun more) (subst (λ (l : List ℕ). Apart l) (ap starts_begun calls ∙ starts_joined own more) all)
+
+-- a number that stands in a list of differing ones stands at one place
+once : (xs : List ℕ) (first second n : ℕ) → Apart xs → slice_get xs first ≡ Some n → slice_get xs second ≡ Some n → first ≡ second
+once [] first second n apart at other = absurd (cc at)
+once (x ∷ xs) zero zero n apart at other = refl
+once (x ∷ xs) zero (suc second) n apart at other =
+    let same : x ≡ n = cc at in
+    absurd (apart.0 (second, slice_get_within xs second n other, get_or_from_slice_get xs second n x other ∙ sym same))
+once (x ∷ xs) (suc first) zero n apart at other =
+    let same : x ≡ n = cc other in
+    absurd (apart.0 (first, slice_get_within xs first n at, get_or_from_slice_get xs first n x at ∙ sym same))
+once (x ∷ xs) (suc first) (suc second) n apart at other = ap suc (once xs first second n apart.1 at other)
+
+pub starts_differ : StartsRise → StartsDiffer
+starts_differ rise c ends own more calls first second start at other = once (starts_begun own) first second start (starts_apart rise c ends own more calls) at other
 
 -- Files.
 

@@ -1,10 +1,12 @@
 -- What a closed session's histories tell: statements of the laws.
-use Rattle.std.specs.Prelude.{◌≡◌, ◌<◌, ℕ, List, [], length}
+use Rattle.std.specs.Prelude.{◌≡◌, ◌<◌, ℕ, List, [], ◌++◌, length, slice_get, Some}
 use Rattle.daq_types.specs.Callers.{entries_by, main_caller}
+use Rattle.transitions.specs.declared.entry.EngineEntry.{EngineEntry}
 use Rattle.composition.specs.Sessions.{Session, EngineLegal, MembersKeep}
 use Rattle.composition.specs.SessionRuns.{SessionRun, IsStoppedRun}
 use Rattle.composition.specs.CompositionLaws.{IsComposed}
-use Rattle.session_laws.specs.ClosedSessions.{ClosedSession, ListsMembers, calls_on_database, session_of}
+use Rattle.session_runs.specs.RunsFit.{starts_begun}
+use Rattle.session_laws.specs.ClosedSessions.{ClosedSession, ListsMembers, calls_on_database, engine_calls, session_of}
 use Rattle.session_laws.specs.MembersAtEnd.{MembersAtEnd}
 use Rattle.session_laws.specs.MadeRuns.{RunIn, RunHolds}
 use Rattle.session_laws.specs.OtherNames.{IsOtherName}
@@ -32,6 +34,12 @@ MadeAreStopped = (s : Session) → EngineLegal s → (r : SessionRun) → RunIn 
 -- Of such a run each front-end's sends and each channel's file are as the members told.
 abbrev pub StoppedHold : Type 0
 StoppedHold = (s : Session) → IsComposed s → (r : SessionRun) → IsStoppedRun s r → RunHolds s r
+
+-- No start number stands at two places among those of the starts that the main thread began, up to any point.
+abbrev pub StartsDiffer : Type 0
+StartsDiffer = (c : ClosedSession) → MembersAtEnd c → (own more : List EngineEntry) → engine_calls c main_caller ≡ own ++ more →
+    (first second start : ℕ) → slice_get (starts_begun own) first ≡ Some start → slice_get (starts_begun own) second ≡ Some start →
+    first ≡ second
 
 -- Each file whose name no channel gives in a run that the main thread began is as it was at first.
 abbrev pub OtherNamesStay : Type 0

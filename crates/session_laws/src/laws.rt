@@ -4,7 +4,7 @@ ghost use Rattle.session_laws.specs.CountedFaults.{CountsTell};
 ghost use Rattle.session_laws.specs.OneAnswer.{OneAnswerEach, RisesToldEach};
 ghost use Rattle.session_laws.specs.RecordedRuns.{ChannelsAgree, RecordsHold};
 ghost use Rattle.session_laws.specs.RefusedRecords.{RecordsRefused};
-ghost use Rattle.session_laws.specs.EndLaws.{EndsKeep, EndsComposed, MembersListed, MadeAreStopped, StoppedHold, OtherNamesStay, EndsHold};
+ghost use Rattle.session_laws.specs.EndLaws.{EndsKeep, EndsComposed, MembersListed, MadeAreStopped, StoppedHold, StartsDiffer, OtherNamesStay, EndsHold};
 
 use analyzer_seats::laws as seats;
 use blank_laws::laws as blanks;
@@ -155,4 +155,11 @@ pub fn rises_told()
     loggers_laws::names_kept();
     loggers_laws::reasons_given();
     members_keep();
+}
+
+/// No two starts that the main thread begins have one start number.
+pub fn starts_differ()
+    ensures { StartsDiffer }
+{
+    engine::start_numbers_rise();
 }

@@ -5,6 +5,7 @@ use Rattle.odb_lock.specs.SharedAccesses.{odb_identity, shared_access}
 use Rattle.session_lines.specs.Stages.{Stage}
 use Rattle.session_commands.specs.Keeping.{StageSaved}
 use Rattle.daq_session.specs.declared.ends.ScriptEnd.TheVariants.{NoMemory}
+use Rattle.daq_session.proofs.AskedLaws.{kept_asked}
 use Rattle.daq_session.proofs.ClosedLaws.{is_back, memory_ends, memory_found}
 use Rattle.daq_session.proofs.EndedLaws.{kept_ended}
 use Rattle.daq_session.proofs.run.run_session.Goals as goal
@@ -53,11 +54,13 @@ returns g c =
           end_is = faults.2;
           replies_are = played.tells.replies_are;
           saved = saved;
+          quotas = kept.quotas refl;
           dumps = rw played.tells.files_are at kept.dumps;
           fault_replies = λ asks. rw (played.tells.replies_are, played.tells.files_are) at kept.faults refl asks;
           one_reply = rw (played.tells.replies_are, played.tells.files_are) at kept.one_reply refl;
         };
         keeps = keeps;
+        asked = kept_asked _ outside.run_files final lines.run_files _ (kept.quotas refl) c.end_of-end.result c.close_left-record.result keeps;
         ended = λ other. kept_ended _ outside.run_files final lines.run_files (saved other) c.end_of-end.result c.close_left-record.result keeps;
       };
     }

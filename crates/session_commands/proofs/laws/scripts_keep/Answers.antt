@@ -5,6 +5,7 @@ use Rattle.session_commands.proofs.CountLaws.{script_counted}
 use Rattle.session_commands.proofs.DumpLaws.{script_keeps}
 use Rattle.session_commands.proofs.FaultLaws.{script_told}
 use Rattle.session_commands.proofs.OverLaws.{script_over}
+use Rattle.session_commands.proofs.QuotaLaws.{script_asks}
 use Rattle.session_commands.proofs.SpareLaws.{SpareLaws}
 use Rattle.session_commands.proofs.SpareLines.{script_saved, script_spares}
 use Rattle.session_commands.proofs.StageLaws.{FitLaws, line_breaks, line_keeps, script_closes, script_gives_up}
@@ -39,6 +40,7 @@ returns c = λ first final ending closing source left told_first told refusals f
       over = script_over first final ending closing source left told_first told refusals finished;
       spares = script_spares spares first final ending closing source left told_first told refusals finished;
       saved = script_saved spares first final ending closing source left told_first told refusals finished;
+      quotas = script_asks first final ending closing source left told_first told refusals finished;
       dumps = script_keeps first final ending closing source left told_first told refusals finished;
       faults = script_told first final ending closing source left told_first told refusals finished;
       one_reply = script_counted first final ending closing source left told_first told refusals finished;
