@@ -21,7 +21,8 @@ fn two_passes(
     requires fresh { AreFresh passes.old }
     requires numbers { numbers_of passes.old ≡ 0 ∷ 1 ∷ [] }
     ensures left { ArePassesOf (odb_lock_of _shared.now) passes.new × (items_of passes.new ≡ []) }
-    ensures own { IsOf (odb_lock_of _shared.now) result.0 × IsOf (odb_lock_of _shared.now) result.1 }
+    ensures own { IsOf (odb_lock_of _shared.now) result.0
+        × IsOf (odb_lock_of _shared.now) result.1 }
     ensures fresh { IsFresh result.0 × IsFresh result.1 }
     ensures numbers { (number_of result.0 ≡ 0) × (number_of result.1 ≡ 1) }
 {

@@ -17,8 +17,10 @@ fn two_passes(_shared: &SharedEngine, passes: &mut EnginePasses) -> (EnginePass,
     requires own { ArePassesOf (engine_lock_of _shared.now) passes.old }
     requires fresh { AreFresh passes.old }
     requires numbers { numbers_of passes.old ≡ 0 ∷ 1 ∷ [] }
-    ensures left { ArePassesOf (engine_lock_of _shared.now) passes.new × (items_of passes.new ≡ []) }
-    ensures own { IsOf (engine_lock_of _shared.now) result.0 × IsOf (engine_lock_of _shared.now) result.1 }
+    ensures left { ArePassesOf (engine_lock_of _shared.now) passes.new
+        × (items_of passes.new ≡ []) }
+    ensures own { IsOf (engine_lock_of _shared.now) result.0
+        × IsOf (engine_lock_of _shared.now) result.1 }
     ensures fresh { IsFresh result.0 × IsFresh result.1 }
     ensures numbers { (number_of result.0 ≡ 0) × (number_of result.1 ≡ 1) }
 {
