@@ -18,7 +18,13 @@ fn each_call_is_noted(rt: HostRuntime) -> Result<(), Fail> {
     let made = database.create(alloc, Path::read(alloc, b"/A/b")?, kind);
     assert_eq!(rt; made, Ok(2));
     let member = Caller::of_client(0);
-    let set = database.set(alloc, member, Path::read(alloc, b"/A/b")?, 1, Item::UInt8(255));
+    let set = database.set(
+        alloc,
+        member,
+        Path::read(alloc, b"/A/b")?,
+        1,
+        Item::UInt8(255),
+    );
     assert_eq!(rt; set, Ok(2));
     let value = database.get(alloc, Caller::MAIN, Path::read(alloc, b"/A/b")?)?;
     assert_eq!(rt; value.items().len(), 2);
