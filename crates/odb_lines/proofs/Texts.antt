@@ -1,7 +1,7 @@
 -- The lines of a text, one after the other.
-use Rattle.std.proofs.Common.{◌≡◌, ℕ, zero, suc, ◌<◌, ◌==◌, Bool, true, false, cond, List, [], ◌∷◌, ◌++◌, length, refl, sym, ap, ◌∙◌, arith, ne_eqb}
+use Rattle.std.proofs.Common.{◌≡◌, ℕ, ◌<◌, ◌==◌, Bool, true, false, cond, List, [], ◌∷◌, ◌++◌, length, refl, sym, ap, ◌∙◌, arith, ne_eqb}
 use Rattle.std.specs.Prelude.{All}
-use Rattle.std.specs.List.{AllByRecursion, slice_split, onto_first}
+use Rattle.std.specs.List.{slice_split, onto_first}
 use Rattle.std.specs.Str.Lines.{lines, lines_of_parts, strip_carriage_return}
 use Rattle.std.proofs.lemmas.List.Splits.{slice_split_none, slice_split_at}
 use Rattle.std.proofs.lemmas.List.Elements.{All-from_recursion}

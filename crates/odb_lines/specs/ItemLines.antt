@@ -1,11 +1,10 @@
 -- The lines of items of a key. With each item goes the size that is given for it, 0 where the key is no STRING.
-use Rattle.std.specs.Prelude.{◌≡◌, ℕ, ◌+◌, ◌≤◌, Bool, true, false, List, [], ◌∷◌, map, max, Result, Ok}
+use Rattle.std.specs.Prelude.{◌≡◌, ℕ, Bool, true, false, List, Ok}
 use Rattle.std.specs.Fmt.{decimal}
 use Rattle.std.specs.Str.Parse.{digits_value}
 use Rattle.daq_types.specs.declared.types.Tid.{Tid}
 use Rattle.daq_types.specs.declared.types.Tid.TheVariants as tid
 use Rattle.odb_value.specs.declared.items.Item.{Item}
-use Rattle.odb_value.specs.ValueChanges.{size_with_item}
 use Rattle.odb_value.specs.ItemTexts.{item_read}
 use Rattle.odb_lines.specs.LineForms.{behind_blank, IsBracketed}
 

@@ -2,24 +2,19 @@
 use Rattle.std.proofs.Common.{◌≡◌, ℕ, zero, suc, ◌+◌, ◌-◌, ◌^◌, ◌<◌, ◌≤◌, ◌==◌, Bool, true, false, cond, ltb, List, [], ◌∷◌, ◌++◌, length, map, take, slice_set, Option, Some, None, Result, Ok, Err, refl, sym, ap, ◌∙◌, subst, arith, append_assoc, append-nil, length-append}
 use Rattle.std.specs.Option.{option_map}
 use Rattle.std.specs.List.{AllByRecursion}
-use Rattle.std.specs.Str.Lines.{lines}
 use Rattle.std.proofs.lemmas.Bool.Decides.{nat_tests}
 use Rattle.odb_tree.specs.declared.notes.Note.{Note}
 use Rattle.odb_tree.specs.declared.notes.Watch.{Watch as a_watch}
-use Rattle.odb_tree.specs.declared.entry.DatabaseEntry.{DatabaseEntry}
 use Rattle.odb_tree.specs.Rows.{Rows}
 use Rattle.odb_tree.specs.Noting.{Change, Watched, changes_of, with_note, note_of, is_of, with_change, noted_all, all_noted, notes_limit, counted, watched_call}
 use Rattle.odb_tree.proofs.Noted.{noted_append}
-use Rattle.odb_ascii.specs.declared.acts.LoadRefusal.{LoadRefusal}
-use Rattle.odb_ascii.specs.declared.acts.Loaded.{Loaded}
 use Rattle.odb_ascii.specs.TextSteps.{changes_in_steps}
-use Rattle.odb_ascii.specs.Loads.{IsLoaded}
 use Rattle.odb_watch.specs.declared.notes.NoWatch.{NoWatch}
 use Rattle.odb_watch.specs.declared.notes.WatchRefusal.{WatchRefusal}
 use Rattle.odb_watch.specs.declared.entry.WatchEntry.{WatchEntry}
 use Rattle.odb_watch.specs.declared.entry.WatchEntry.TheVariants.{Call, Watch, Notes, Unwatch, Save, Load}
 use Rattle.odb_watch.specs.Slots.{slot, with_slot, free_watch, GivesWatch, after_watch, new_watch, emptied, emptied_slot, after_unwatch}
-use Rattle.odb_watch.specs.Steps.{with_watches, GivesKept, emptied_at, StepsWatched, StepsDatabase, LeadsDatabase, unwatched}
+use Rattle.odb_watch.specs.Steps.{with_watches, GivesKept, emptied_at, StepsWatched, LeadsDatabase, unwatched}
 use Rattle.odb_watch.specs.History.{EntryWrites, EntriesWrite, begins, row_by, watched_row, notes_for, AreDue, calls_made}
 use Rattle.odb_watch.proofs.NotesKept.{note_keeps_row}
 

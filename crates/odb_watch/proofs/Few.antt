@@ -1,6 +1,5 @@
 -- A watched database has few watches, of few notes each.
-use Rattle.std.proofs.Common.{◌≡◌, ℕ, zero, suc, ◌+◌, ◌-◌, ◌<◌, ◌≤◌, Bool, true, false, cond, ltb, List, [], ◌∷◌, ◌++◌, length, map, slice_set, Option, Some, None, Result, Ok, Err, OnOk, refl, sym, ap, ◌∙◌, subst, arith, length-append}
-use Rattle.std.specs.Option.{option_map}
+use Rattle.std.proofs.Common.{◌≡◌, ℕ, zero, suc, ◌+◌, ◌-◌, ◌<◌, ◌≤◌, Bool, true, false, cond, ltb, List, [], ◌∷◌, ◌++◌, length, slice_set, Option, Some, None, Result, Ok, Err, OnOk, refl, sym, ap, subst, arith, length-append}
 use Rattle.std.specs.List.{AllByRecursion}
 use Rattle.std.proofs.lemmas.Bool.Decides.{nat_tests}
 use Rattle.odb_tree.specs.declared.notes.Note.{Note}
@@ -12,7 +11,7 @@ use Rattle.odb_watch.specs.declared.notes.NoWatch.{NoWatch}
 use Rattle.odb_watch.specs.declared.notes.WatchRefusal.{WatchRefusal}
 use Rattle.odb_watch.specs.declared.entry.WatchEntry.{WatchEntry}
 use Rattle.odb_watch.specs.declared.entry.WatchEntry.TheVariants.{Call, Watch, Notes, Unwatch, Save, Load}
-use Rattle.odb_watch.specs.Slots.{slot, with_slot, free_watch, watches_limit, GivesWatch, after_watch, new_watch, emptied_slot, GivesTaken, GivesNotes, after_notes, after_unwatch, HasFewNotes, AreFew}
+use Rattle.odb_watch.specs.Slots.{slot, with_slot, watches_limit, GivesWatch, after_watch, new_watch, emptied_slot, GivesTaken, GivesNotes, after_notes, after_unwatch, HasFewNotes, AreFew}
 use Rattle.odb_watch.specs.Steps.{emptied_at, StepsWatched, LeadsDatabase, unwatched}
 
 note_short : (k : a_watch) (note : Note) → length k.notes ≤ notes_limit → length (with_note k note).notes ≤ notes_limit

@@ -1,13 +1,12 @@
 -- Notes one after the other, and watch after watch.
-use Rattle.std.proofs.Common.{◌≡◌, ℕ, zero, suc, ◌+◌, ◌-◌, ◌<◌, ◌≤◌, Bool, true, false, cond, ltb, List, [], ◌∷◌, ◌++◌, length, map, take, drop, get_or, slice_set, Option, Some, None, Result, Ok, Err, refl, sym, ap, ◌∙◌, subst, arith}
-use Rattle.std.specs.Option.{option_map}
+use Rattle.std.proofs.Common.{◌≡◌, ℕ, zero, suc, ◌+◌, ◌<◌, Bool, true, false, cond, ltb, List, [], ◌∷◌, ◌++◌, length, map, take, drop, get_or, slice_set, Option, Result, Ok, Err, refl, sym, ap, ◌∙◌, arith}
 use Rattle.odb_tree.specs.declared.refusals.OdbRefusal.{OdbRefusal}
 use Rattle.odb_tree.specs.Rows.{Rows}
 use Rattle.odb_tree.proofs.Noted.{none_noted}
 use Rattle.odb_tree.specs.Calls.{is_row_below}
 use Rattle.odb_tree.specs.declared.notes.Note.{Note}
 use Rattle.odb_tree.specs.declared.notes.Watch.{Watch}
-use Rattle.odb_tree.specs.Noting.{Change, changes_from, changes_for, all_noted, with_note, note_of, is_of, with_change, noted_all, notes_limit, counted}
+use Rattle.odb_tree.specs.Noting.{changes_from, changes_for, all_noted, with_note, noted_all, notes_limit, counted}
 use Rattle.odb_watch.specs.Keeping.{with_notes}
 
 pub note_keeps_row : (k : Watch) (note : Note) → (with_note k note).row ≡ k.row

@@ -1,5 +1,5 @@
 -- The watches by their numbers.
-use Rattle.std.proofs.Common.{◌≡◌, ℕ, zero, suc, ◌+◌, ◌-◌, ◌<◌, ◌≤◌, Bool, true, false, cond, List, [], ◌∷◌, ◌++◌, length, map, take, drop, get_or, slice_set, slice_index_or, Option, Some, None, refl, sym, ap, ◌∙◌, subst, arith}
+use Rattle.std.proofs.Common.{◌≡◌, ℕ, zero, suc, ◌+◌, ◌<◌, ◌≤◌, List, [], ◌∷◌, ◌++◌, length, drop, get_or, slice_set, Option, Some, None, refl, ap, ◌∙◌, arith}
 use Rattle.odb_tree.specs.declared.notes.Watch.{Watch}
 use Rattle.odb_watch.specs.Slots.{slot, with_slot, free_watch}
 

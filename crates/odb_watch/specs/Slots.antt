@@ -1,9 +1,8 @@
 -- The watches of a database by their numbers, and the calls on them.
-use Rattle.std.specs.Prelude.{◌≡◌, ℕ, zero, suc, ◌+◌, nat_lt, if◌then◌else◌, Bool, true, false, List, [], ◌∷◌, ◌++◌, ◌≤◌, length, map, slice_set, slice_index_or, Option, Some, None, Result, Ok, Err, IsErr}
+use Rattle.std.specs.Prelude.{◌≡◌, ℕ, zero, suc, ◌+◌, nat_lt, true, false, List, [], ◌∷◌, ◌≤◌, length, slice_set, slice_index_or, Option, Some, None, Result, Ok, Err, IsErr}
 use Rattle.std.specs.Option.{option_map, is_some}
 use Rattle.std.specs.List.{AllByRecursion}
 use Rattle.odb_tree.specs.Noting.{notes_limit}
-use Rattle.odb_tree.specs.Rows.{Rows}
 use Rattle.odb_tree.specs.declared.notes.Note.{Note}
 use Rattle.odb_tree.specs.declared.notes.Watch.{Watch}
 use Rattle.odb_watch.specs.declared.notes.NoWatch.{NoWatch}

@@ -1,6 +1,5 @@
-use Rattle.std.proofs.Common.{◌≡◌, ℕ, ◌≤◌, List, sym, subst}
+use Rattle.std.proofs.Common.{ℕ, ◌≤◌, List, subst}
 use Rattle.std.specs.Str.Parse.{digits_value}
-use Rattle.daq_text.specs.Numbers.{behind, is_blank}
 use Rattle.odb_lines.specs.LineForms.{AreBlanks, IsBracketed, IsSingle}
 use Rattle.odb_lines.proofs.Splitting.{if_none}
 use Rattle.odb_lines.proofs.KeyLines.{no_array, single_once}

@@ -1,4 +1,4 @@
-use Rattle.std.proofs.Common.{◌≡◌, ℕ, take, drop, length, List, sym, ap, ◌∙◌, subst, true, rules}
+use Rattle.std.proofs.Common.{◌≡◌, length, sym, ◌∙◌, subst, true, rules}
 use Rattle.std.specs.List.{AllByRecursion}
 use Rattle.std.proofs.lemmas.List.{take_all, drop_all}
 use Rattle.odb_lines.specs.LineForms.{is_of_word}

@@ -1,4 +1,4 @@
-use Rattle.std.proofs.Common.{◌≡◌, true, false, IsTrue, sym, ◌∙◌, arith}
+use Rattle.std.proofs.Common.{◌≡◌, true, false, IsTrue, sym, ◌∙◌}
 use Rattle.std.specs.Str.Parse.{IsNumeral}
 use Rattle.odb_lines.proofs.Splitting.{digit_at, digits_next, numeral_test}
 use Rattle.odb_lines.proofs.words.is_numeral.Goals as goal

@@ -1,4 +1,4 @@
-use Rattle.std.proofs.Common.{◌≡◌, ℕ, ◌∙◌, ap, Ok, Err, None, Option, Result}
+use Rattle.std.proofs.Common.{◌≡◌, ℕ, ◌∙◌, ap, Ok, Err, Option, Result}
 use Rattle.std.specs.Str.Parse.{digits_value}
 use Rattle.daq_text.specs.Numbers.{mapped, up_to}
 use Rattle.odb_value.proofs.ReadAgain.{digits_form-digits}

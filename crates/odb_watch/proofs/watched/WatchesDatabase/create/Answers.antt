@@ -1,4 +1,4 @@
-use Rattle.std.proofs.Common.{◌≡◌, sym, ap, ◌∙◌}
+use Rattle.std.proofs.Common.{sym, ap, ◌∙◌}
 use Rattle.odb_tree.specs.declared.rows.NewKey.{NewKey}
 use Rattle.odb_tree.specs.declared.entry.DatabaseEntry.TheVariants.{Create}
 use Rattle.odb_tree.specs.Noting.{changes_of, Watched, all_noted}
