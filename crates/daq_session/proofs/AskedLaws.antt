@@ -1,5 +1,5 @@
 -- The quotas of the records of a session are those that the lines of its script asked for.
-use Rattle.std.specs.Prelude.{◌≡◌, ◌⊎◌, ℕ, zero, suc, List, [], ◌∷◌, ◌++◌, map, slice_get, Option, Some, None, Result, Ok, Err, refl}
+use Rattle.std.specs.Prelude.{◌≡◌, ◌⊎◌, ℕ, suc, List, [], ◌∷◌, ◌++◌, slice_get, Option, Some, None, Result, Ok, Err, refl}
 use Rattle.std.proofs.Common.{ap, sym, subst, ◌∙◌, append_assoc, inl, inr}
 use Rattle.std.proofs.lemmas.List.{append-nil}
 use Rattle.std.proofs.Math.Logic.{⊎_elim}
@@ -84,17 +84,17 @@ made_at own first more sheet start outcome tallies is made =
     is ∙ (ap (λ (l : List EngineEntry). l ++ more) made.whole ∙ append_assoc made.before (Begin Start sheet (Ok start) ∷ rest) more) in
     subst (λ (l : List EngineEntry). BegunAt l start sheet.quota) (sym whole) (begun_at made.before (rest ++ more) sheet start)
 
-module _ {D F K : Type 0} {g : _} (told : CrewTold Generator F K) (first_files : F) (final : Stage) (run_files : F) (asked : List ℕ) (so_far : quotas_so_far final.runs ≡ asked) where
-  begun_are : (last : RunsSeen) → final.runs ≡ Some last → quotas_begun last.main.own ≡ asked
-  begun_are last is_open = ap quotas_so_far (sym is_open) ∙ so_far
+begun_are : (final : Stage) (asked : List ℕ) → quotas_so_far final.runs ≡ asked → (last : RunsSeen) → final.runs ≡ Some last → quotas_begun last.main.own ≡ asked
+begun_are final asked so_far last is_open = ap quotas_so_far (sym is_open) ∙ so_far
 
+module _ {D F K : Type 0} {g : _} (told : CrewTold Generator F K) (first_files : F) (final : Stage) (run_files : F) (asked : List ℕ) (so_far : quotas_so_far final.runs ≡ asked) where
   -- the quota of a start is at the place of its record
   at_record : (r : SessionRecord D g) (keeps : KeepsSession told first_files final run_files r) (number : ℕ) (run : RunRecord) (quota : ℕ) → slice_get r.runs number ≡ Some run → BegunAt keeps.last.main.own run.start quota → slice_get asked number ≡ Some quota
   at_record r keeps number run quota at begun =
       let other = mapped start_of r.runs begun.place run.start (subst (λ (l : List ℕ). slice_get l begun.place ≡ Some run.start) (sym keeps.tells.fit.each_start) begun.number) in
       let place : number ≡ begun.place = keeps.tells.differ number begun.place run other.0 at other.1 (sym other.2) in
       subst (λ (n : ℕ). slice_get asked n ≡ Some quota) (sym place)
-      (subst (λ (l : List ℕ). slice_get l begun.place ≡ Some quota) (begun_are keeps.last keeps.is_open) begun.with_quota)
+      (subst (λ (l : List ℕ). slice_get l begun.place ≡ Some quota) (begun_are final asked so_far keeps.last keeps.is_open) begun.with_quota)
 
   runs_asked : (r : SessionRecord D g) (keeps : KeepsSession told first_files final run_files r) → RunsAsked told first_files final run_files asked r keeps
   runs_asked r keeps = record {
