@@ -3,6 +3,7 @@ ghost use Rattle.std.specs.Prelude.{◌≡◌, false};
 ghost use Rattle.session_lines.specs.SetupReplies.{DeclaresAnalyzer, DeclaresBuffer, DeclaresChannel, DeclaresFront, setup_reply};
 
 use daq_types::Kind;
+use odb_script::LineText;
 use session_replies::Reply;
 use session_setup::{Declarations, SetupRefusal};
 
@@ -17,61 +18,61 @@ fn setup_reply(taken: Result<(), SetupRefusal>) -> Reply
 }
 
 /// Answers `buffer NAME SIZE`.
-pub fn declare_buffer(declarations: &mut Declarations, name: &[u8], size: u32) -> Reply
+pub fn declare_buffer(declarations: &mut Declarations, name: LineText<'_>, size: u32) -> Reply
     requires { declarations.old.opened ≡ false }
-    ensures did { DeclaresBuffer name.now size declarations.old result declarations.new }
+    ensures did { DeclaresBuffer name.entry size declarations.old result declarations.new }
     ensures closed { declarations.new.opened ≡ false }
 {
-    setup_reply(declarations.buffer(name, size))
+    setup_reply(declarations.buffer(name.as_slice(), size))
 }
 
 /// Answers `equip NAME ID MASK BUFFER LIMIT`.
 pub fn declare_front(
     declarations: &mut Declarations,
-    name: &[u8],
+    name: LineText<'_>,
     id: u32,
     mask: u16,
-    buffer: &[u8],
+    buffer: LineText<'_>,
     limit: u32,
 ) -> Reply
     requires { declarations.old.opened ≡ false }
-    ensures did { DeclaresFront name.now id mask buffer.now limit declarations.old result
+    ensures did { DeclaresFront name.entry id mask buffer.entry limit declarations.old result
         declarations.new }
     ensures closed { declarations.new.opened ≡ false }
 {
-    setup_reply(declarations.equip(name, id, mask, buffer, limit))
+    setup_reply(declarations.equip(name.as_slice(), id, mask, buffer.as_slice(), limit))
 }
 
 /// Answers `channel N PATTERN BUFFER ID MASK`.
 pub fn declare_channel(
     declarations: &mut Declarations,
     number: u32,
-    pattern: &[u8],
-    buffer: &[u8],
+    pattern: LineText<'_>,
+    buffer: LineText<'_>,
     id: u16,
     mask: u16,
 ) -> Reply
     requires { declarations.old.opened ≡ false }
-    ensures did { DeclaresChannel number pattern.now buffer.now id mask declarations.old result
+    ensures did { DeclaresChannel number pattern.entry buffer.entry id mask declarations.old result
         declarations.new }
     ensures closed { declarations.new.opened ≡ false }
 {
-    setup_reply(declarations.channel(number, pattern, buffer, id, mask))
+    setup_reply(declarations.channel(number, pattern.as_slice(), buffer.as_slice(), id, mask))
 }
 
 /// Answers `analyzer NAME BUFFER ID MASK all` or `some`.
 pub fn declare_analyzer(
     declarations: &mut Declarations,
-    name: &[u8],
-    buffer: &[u8],
+    name: LineText<'_>,
+    buffer: LineText<'_>,
     id: u16,
     mask: u16,
     kind: Kind,
 ) -> Reply
     requires { declarations.old.opened ≡ false }
-    ensures did { DeclaresAnalyzer name.now buffer.now id mask kind declarations.old result
+    ensures did { DeclaresAnalyzer name.entry buffer.entry id mask kind declarations.old result
         declarations.new }
     ensures closed { declarations.new.opened ≡ false }
 {
-    setup_reply(declarations.analyzer(name, buffer, id, mask, kind))
+    setup_reply(declarations.analyzer(name.as_slice(), buffer.as_slice(), id, mask, kind))
 }

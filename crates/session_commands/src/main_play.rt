@@ -78,18 +78,14 @@ impl<'a, S: Source, O: Sink, D: LastingPort, E: Files, C: Clock> Playing
             lists: self.lists,
             begun: false,
         };
-        let Script {
-            mut desk,
-            mut src,
-            mut out,
-        } = self.script;
+        let mut script = self.script;
         let (ending, closing) = play_out(
             rt,
             self.alloc,
-            &mut desk,
+            &mut script.desk,
             &mut opened,
-            &mut src,
-            &mut out,
+            &mut script.src,
+            &mut script.out,
         );
         opened.runs.on();
         let (seat, records) = opened.runs.into_parts();
@@ -105,7 +101,7 @@ impl<'a, S: Source, O: Sink, D: LastingPort, E: Files, C: Clock> Playing
                 replies: opened.database.replies,
                 clock: opened.clock,
             },
-            script: Script { desk, src, out },
+            script,
         };
         (end, opened.crew)
     }

@@ -69,63 +69,31 @@ impl<D: LastingPort, E: Files, C: Clock> Answerer for Unopened<D, E, C> {
             Ok(command) => command,
             Err(LineRefusal::BadCommand { at }) => return Ok(Reply::BadCommand { at }),
         };
+        let declared = &mut self.declarations;
         match command {
             Command::Nothing | Command::Exit => Ok(Reply::Silent),
-            Command::Buffer { name, size } => {
-                let reply = declare_buffer(&mut self.declarations, name.as_slice(), size);
-                Ok(reply)
-            }
+            Command::Buffer { name, size } => Ok(declare_buffer(declared, name, size)),
             Command::Equip {
                 name,
                 id,
                 mask,
                 buffer,
                 limit,
-            } => {
-                let reply = declare_front(
-                    &mut self.declarations,
-                    name.as_slice(),
-                    id,
-                    mask,
-                    buffer.as_slice(),
-                    limit,
-                );
-                Ok(reply)
-            }
+            } => Ok(declare_front(declared, name, id, mask, buffer, limit)),
             Command::Channel {
                 number,
                 pattern,
                 buffer,
                 id,
                 mask,
-            } => {
-                let reply = declare_channel(
-                    &mut self.declarations,
-                    number,
-                    pattern.as_slice(),
-                    buffer.as_slice(),
-                    id,
-                    mask,
-                );
-                Ok(reply)
-            }
+            } => Ok(declare_channel(declared, number, pattern, buffer, id, mask)),
             Command::Analyzer {
                 name,
                 buffer,
                 id,
                 mask,
                 kind,
-            } => {
-                let reply = declare_analyzer(
-                    &mut self.declarations,
-                    name.as_slice(),
-                    buffer.as_slice(),
-                    id,
-                    mask,
-                    kind,
-                );
-                Ok(reply)
-            }
+            } => Ok(declare_analyzer(declared, name, buffer, id, mask, kind)),
             Command::Events { count } => {
                 self.quota = count;
                 Ok(Reply::Silent)
