@@ -14,3 +14,13 @@ pub struct Places<'a, D: Database, G: Gate> {
     /// Whether the main thread gives all members their turns.
     pub cooperative: bool,
 }
+
+/// What the members of a session meet outside, and where they have their turns.
+#[derive(Drop)]
+pub struct MemberSide<'a, F, K, G> {
+    pub run_files: F,
+    pub pick: K,
+    pub gate: &'a G,
+    /// Whether the main thread gives all members their turns.
+    pub cooperative: bool,
+}

@@ -153,15 +153,9 @@ fn play_opened<
         side,
         script,
     } = end;
-    let MainSide {
-        access,
-        files: odb_files,
-        replies,
-        clock,
-    } = side;
     let fronts = lists.fronts.as_slice();
     let analyzers = lists.analyzers.as_slice();
-    let pass = access.into_pass();
+    let pass = side.access.into_pass();
     let Returned {
         passes,
         files: run_files,
@@ -172,9 +166,9 @@ fn play_opened<
             ending,
             closing,
             failed,
-            replies,
-            odb_files,
-            clock,
+            replies: side.replies,
+            odb_files: side.files,
+            clock: side.clock,
             run_files,
             pick,
             script,

@@ -17,7 +17,7 @@ ghost use Rattle.daq_session.specs.Sessions.{RunsScript};
 use crate::ends::{ScriptEnd, end_of};
 use crate::left::{EndedObjects, LeftBehind, close_left, leave_unopened};
 use crate::opening::{OpenDatabase, open_database};
-use crate::places::Places;
+use crate::places::{MemberSide, Places};
 use crate::played::{LinesEnd, NO_MEMORY, OpenedEnd, end_unopened, play_objects};
 use daq_io::{Clock, Files, Gate, Outside, Pick, Sink, Source};
 use database_files::FileReplies;
@@ -54,10 +54,7 @@ fn open_and_play<
     quota: u32,
     mut declarations: Declarations,
     side: MainSide<SharedAccess<'a, D>, E, C>,
-    run_files: F,
-    pick: K,
-    gate: &'a G,
-    cooperative: bool,
+    members: MemberSide<'a, F, K, G>,
     script: Script<S, O>,
 ) -> (LinesEnd<S, O, E, C, F, K>, LeftBehind<D>)
     requires fits { script.desk.number + 1 ≤ script.desk.reader.taken }
@@ -67,11 +64,12 @@ fn open_and_play<
     requires others { KeepsFresh (main_caller ∷ []) (odb_lock_of shared.now) passes }
     ensures played { PlaysSession (outside_told S.left S.faults O.written O.faults F.seen F.faults
         F.clashes F.first E.seen E.faults E.clashes E.first C.tells C.ahead K.tells K.ahead)
-        shared.now run_files quota declarations side.entry script result.0 result.1 }
+        shared.now members.entry.run_files quota declarations side.entry script result.0 result.1 }
 {
     first_start_opens::<D, E, C>(shared);
     declarations.open();
     let lists = declarations.into_lists();
+    let (run_files, pick) = (members.run_files, members.pick);
     let Ok(opened) = SessionObjects::open(alloc, &lists, passes) else {
         return (
             end_unopened(NO_MEMORY, side, run_files, pick, script),
@@ -88,8 +86,8 @@ fn open_and_play<
         shared,
         objects: &objects,
         lists: &lists,
-        gate,
-        cooperative,
+        gate: members.gate,
+        cooperative: members.cooperative,
     };
     let OpenedEnd { lines, session } = play_objects(
         rt, alloc, &places, main, passes, quota, side, run_files, pick, script,
@@ -128,11 +126,8 @@ fn play_all<
     declarations: Declarations,
     odb_files: E,
     clock: C,
-    run_files: F,
-    pick: K,
-    gate: &'a G,
-    cooperative: bool,
-    script: Script<S, O>,
+    members: MemberSide<'a, F, K, G>,
+    mut script: Script<S, O>,
 ) -> (LinesEnd<S, O, E, C, F, K>, LeftBehind<D>)
     requires callers { passes_of (odb_lock_of shared.now) ≡ 33 }
     requires others { KeepsFresh (main_caller ∷ []) (odb_lock_of shared.now) passes }
@@ -145,14 +140,9 @@ fn play_all<
     requires zero { script.desk.number ≡ 0 }
     ensures played { PlaysAll (outside_told S.left S.faults O.written O.faults F.seen F.faults
         F.clashes F.first E.seen E.faults E.clashes E.first C.tells C.ahead K.tells K.ahead)
-        shared.now odb_files clock run_files script result.0 result.1 }
+        shared.now odb_files clock members.entry.run_files script result.0 result.1 }
 {
     first_start_opens::<D, E, C>(shared);
-    let Script {
-        mut desk,
-        mut src,
-        mut out,
-    } = script;
     let FirstEnd {
         end,
         quota,
@@ -166,13 +156,13 @@ fn play_all<
         declarations,
         odb_files,
         clock,
-        &mut desk,
-        &mut src,
-        &mut out,
+        &mut script.desk,
+        &mut script.src,
+        &mut script.out,
     );
-    let script = Script { desk, src, out };
     match end {
         PlayEnd::Ended { ending } => {
+            let (run_files, pick) = (members.run_files, members.pick);
             leave_unopened(shared, side, passes, ending, run_files, pick, script)
         }
         PlayEnd::Opens => open_and_play(
@@ -183,10 +173,7 @@ fn play_all<
             quota,
             declarations,
             side,
-            run_files,
-            pick,
-            gate,
-            cooperative,
+            members,
             script,
         ),
     }
@@ -246,6 +233,12 @@ fn run_session<
         clock,
         pick,
     } = outside;
+    let members = MemberSide {
+        run_files,
+        pick,
+        gate,
+        cooperative,
+    };
     let script = Script { desk, src, out };
     let (lines, left) = play_all(
         rt,
@@ -256,10 +249,7 @@ fn run_session<
         declarations,
         odb_files,
         clock,
-        run_files,
-        pick,
-        gate,
-        cooperative,
+        members,
         script,
     );
     let LinesEnd {

@@ -34,7 +34,7 @@ returns-in_default g c =
     record {
       played = rw c.end_unopened.ensures (record {
         final = unopened_stage c.args.quota c.args.declarations database clock;
-        tells = cut_tells _ c.args.script c.args.run_files c.args.pick c.args.quota c.args.declarations side;
+        tells = cut_tells _ c.args.script c.args.members.run_files c.args.members.pick c.args.quota c.args.declarations side;
         ends = (refl, refl, refl);
         finishes = c.first_start_opens.ensures.cut _ _ _ (nothing_opened c.args.quota c.args.declarations database clock);
       });
@@ -49,7 +49,7 @@ returns-in-None g c =
       played = record {
         final = played.final;
         tells = played.tells;
-        ends = none_ended _ c.into_lists-lists.result _ c.args.shared.now c.args.run_files played.final _ _ _ c.in-None.is played.ends;
+        ends = none_ended _ c.into_lists-lists.result _ c.args.shared.now c.args.members.run_files played.final _ _ _ c.in-None.is played.ends;
         finishes = played.finishes;
       };
     }
@@ -64,7 +64,7 @@ returns g c =
       played = record {
         final = played.final;
         tells = played.tells;
-        ends = some_ended _ c.into_lists-lists.result _ c.args.shared.now c.args.run_files played.final _ _ _ _ _ c.in-Some.is sound c.in-Ok.ensures.objects c.members_suit.ensures.callers played.ends;
+        ends = some_ended _ c.into_lists-lists.result _ c.args.shared.now c.args.members.run_files played.final _ _ _ _ _ c.in-Some.is sound c.in-Ok.ensures.objects c.members_suit.ensures.callers played.ends;
         finishes = played.finishes;
       };
     }

@@ -29,7 +29,7 @@ returns-in-Ended g c =
           replies_are = refl;
           clock_is = refl;
         };
-        ends = unopened_ends _ c.args.shared.now c.args.run_files _ _ _ _ refl refl left.left;
+        ends = unopened_ends _ c.args.shared.now c.args.members.run_files _ _ _ _ refl refl left.left;
         finished = c.first_start_opens.ensures.unopened _ _ _ _ _ _ _ _ (rw (c.requires.fresh.seen, c.in-Ended.is) at c.play_first-end.ensures.played) refl;
       });
     }
