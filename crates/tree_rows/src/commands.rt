@@ -10,6 +10,7 @@ use odb_port::LocalAccess;
 use odb_script::Command;
 use odb_tree::PlainTree;
 use std::alloc::Global;
+use std::process::Abort;
 use std::sync::Wait;
 use std::test::Fail;
 
@@ -27,13 +28,12 @@ fn answer<R: Wait>(
     run_command(rt, alloc, port, command)
 }
 
-#[test]
-fn commands_in_a_row(rt: HostRuntime) -> Result<(), Fail> {
-    let alloc = rt.alloc();
-    let database = LocalDatabase::new(alloc, PlainTree::new(alloc));
-    let mut port = LocalAccess::new(database, Caller::MAIN);
-    let mut text = TextBuffer::new(alloc);
-    for (number, (line, shown)) in [
+/// A line with its number, and what it prints.
+type Row = (u64, (&'static str, &'static str));
+
+/// Lines on keys, their items and the parameters of the run.
+fn lines_on_items() -> [Row; 13] {
+    [
         (1, ("create UINT8 /A/b 2", "")),
         (2, ("set /A/b 1 0xff", "")),
         (3, ("get /A/b", "b = UINT8[2] :\n[0] 0\n[1] 255\n")),
@@ -56,6 +56,12 @@ fn commands_in_a_row(rt: HostRuntime) -> Result<(), Fail> {
             ("set \"/Runinfo/Run number\" x", "refused 12: BadText 0\n"),
         ),
         (13, ("get /Runinfo", "refused 13: NotValue\n")),
+    ]
+}
+
+/// Lines that are refused, and lines on a key of texts and on directories.
+fn lines_on_directories() -> [Row; 16] {
+    [
         (14, ("get /A//B", "refused 14: EmptyName\n")),
         (15, ("ls /A/[x]", "refused 15: BadByte 3\n")),
         (16, ("create FLOAT /f", "refused 16: NotKept FLOAT\n")),
@@ -72,15 +78,39 @@ fn commands_in_a_row(rt: HostRuntime) -> Result<(), Fail> {
         (27, ("get /s", "s = STRING : [32] \n")),
         (28, ("rm /", "refused 28: Protected\n")),
         (29, ("start", "")),
-    ] {
+    ]
+}
+
+/// Gives these lines to the main thread, one behind the other, and looks at what each prints.
+fn play_lines<R: Wait + Abort>(
+    rt: &R,
+    alloc: Global,
+    port: &mut LocalAccess<PlainTree>,
+    rows: &[Row],
+) -> Result<(), Fail>
+    requires { port.old.caller ≡ main_caller }
+    ensures { port.new.caller ≡ main_caller }
+{
+    let mut text = TextBuffer::new(alloc);
+    for (number, (line, shown)) in rows {
         text.clear();
         if let Ok(command) = Command::read(line.as_bytes()) {
-            if let Some(reply) = answer(&rt, alloc, &mut port, &command)? {
-                reply.print(number, &mut text)?;
+            if let Some(reply) = answer(rt, alloc, port, &command)? {
+                reply.print(*number, &mut text)?;
             }
         }
         assert_eq!(rt; text.as_slice(), shown.as_bytes(), "{line}");
     }
+    Ok(())
+}
+
+#[test]
+fn commands_in_a_row(rt: HostRuntime) -> Result<(), Fail> {
+    let alloc = rt.alloc();
+    let database = LocalDatabase::new(alloc, PlainTree::new(alloc));
+    let mut port = LocalAccess::new(database, Caller::MAIN);
+    play_lines(&rt, alloc, &mut port, &lines_on_items())?;
+    play_lines(&rt, alloc, &mut port, &lines_on_directories())?;
     let (_, journal) = port.into_database().into_parts();
     assert_eq!(rt; journal.len(), 35);
     Ok(())

@@ -27,7 +27,8 @@ fn numbers_in_brackets(rt: HostRuntime) {
             if digits == b"32".as_slice() && rest == b" ADC left".as_slice())
     );
     assert!(rt;
-        matches!(bracketed(b"[007]"), Some((digits, rest)) if digits == b"007".as_slice() && rest.is_empty())
+        matches!(bracketed(b"[007]"), Some((digits, rest))
+            if digits == b"007".as_slice() && rest.is_empty())
     );
     for line in ["[]", "[x] 1", "[0x1] 1", " [1] 1", "[1", "1] 1", ""] {
         assert!(rt; bracketed(line.as_bytes()).is_none(), "{line}");
