@@ -136,6 +136,16 @@ fn other_replies(rt: HostRuntime) -> Result<(), Fail> {
             },
             "refused 1: NoWatch\n",
         ),
+    ] {
+        assert!(rt; prints(alloc, 1, &reply, wanted)?, "{wanted}");
+    }
+    Ok(())
+}
+
+#[test]
+fn starts_that_were_refused(rt: HostRuntime) -> Result<(), Fail> {
+    let alloc = rt.alloc();
+    for (reply, wanted) in [
         (Reply::RunNumber { have: -1 }, "refused 1: RunNumber -1\n"),
         (
             Reply::WrongState {
