@@ -19,7 +19,7 @@ use Rattle.analyzers.specs.declared.analyzer_run.AnalyzerStage.{AnalyzerStage}
 use Rattle.analyzers.specs.declared.analyzer_run.AnalyzerStage.TheVariants.{Counting, Draining, Drained}
 use Rattle.analyzers.specs.declared.analyzer_run.EventRequest.{EventRequest}
 use Rattle.analyzers.specs.Analyzers.{AnalyzerState, AnalyzerAt, IsWithinGot}
-use Rattle.analyzers.specs.AnalyzerTurns.{CancelsIn, DropsRun, GetsClient, RequestsRun, StartsBy, StopsRun, StopsOwn, AnswersStop, TurnsBy, run_reported}
+use Rattle.analyzers.specs.AnalyzerTurns.{CancelsIn, DropsRun, GetsClient, RequestsRun, StartsAnalyzer, StopsRun, StopsOwn, StopsAnalyzer, TurnsBy, run_reported}
 use Rattle.analyzers.specs.AnalyzerPulls.{EndsReading, CountsOnce, CountsIn, PullsBy, drains_by}
 use Rattle.analyzers.specs.AnalyzerKept.{AnalyzerStands, AnalyzerTells, KeepsAnalyzer}
 use Rattle.loggers.specs.Moments.{IsSameAccess}
@@ -56,7 +56,7 @@ requests_same : (wanted : EventRequest) (start : ℕ) (blank : Totals) (client :
 requests_same wanted start blank None run answer a b none = stays_same a b none.2
 requests_same wanted start blank (Some client) run answer a b requests = called_same a b _ _ requests.1
 
-starts_same : (blank : Option Totals) (wanted : EventRequest) (start : ℕ) (a b : AnalyzerAt) (answer : Answer) → StartsBy blank wanted start a b answer → IsSameAccess a.port b.port
+starts_same : (blank : Option Totals) (wanted : EventRequest) (start : ℕ) (a b : AnalyzerAt) (answer : Answer) → StartsAnalyzer blank wanted start a b answer → IsSameAccess a.port b.port
 starts_same None wanted start a b answer refused = stays_same a.port b.port refused.1.2
 starts_same (Some blank) wanted start a b answer starts =
     same_then a.port starts.dropped b.port (drops_same a.run a.port starts.dropped starts.drops)
@@ -72,7 +72,7 @@ own_stop_same : (own : Bool) (r : AnalyzerRun) (a b : AnalyzerAt) (answer : Opti
 own_stop_same true r a b answer stops = stops_same r.stage r stops.later a.port b.port stops.stops
 own_stop_same false r a b answer plain = stays_same a.port b.port plain.1.2
 
-answered_stop_same : (run : Option AnalyzerRun) (start : ℕ) (a b : AnalyzerAt) (answer : Option Answer) → AnswersStop run start a b answer → IsSameAccess a.port b.port
+answered_stop_same : (run : Option AnalyzerRun) (start : ℕ) (a b : AnalyzerAt) (answer : Option Answer) → StopsAnalyzer run start a b answer → IsSameAccess a.port b.port
 answered_stop_same None start a b answer plain = stays_same a.port b.port plain.1.2
 answered_stop_same (Some r) start a b answer stops = own_stop_same (r.start == start) r a b answer stops
 

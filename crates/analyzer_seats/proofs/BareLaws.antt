@@ -24,7 +24,7 @@ use Rattle.analyzers.specs.declared.analyzer_run.AnalyzerRun.{AnalyzerRun}
 use Rattle.analyzers.specs.declared.analyzer_run.AnalyzerStage.{AnalyzerStage}
 use Rattle.analyzers.specs.declared.analyzer_run.AnalyzerStage.TheVariants.{Counting, Draining, Drained}
 use Rattle.analyzers.specs.Analyzers.{AnalyzerAt}
-use Rattle.analyzers.specs.AnalyzerTurns.{BeginsBy, RequestsRun, StartsBy, StopsOwn, AnswersStop, TurnsBy, report_in, report_answer}
+use Rattle.analyzers.specs.AnalyzerTurns.{BeginsBy, RequestsRun, StartsAnalyzer, StopsOwn, StopsAnalyzer, TurnsBy, report_in, report_answer}
 use Rattle.daq_members.specs.OwnTurns.{start_owed, GivesAnswer}
 use Rattle.daq_members.proofs.OwnTurnLaws.{taken_turn}
 use Rattle.analyzer_seats.specs.BareTurns.{IsBareTurn, AreBare}
@@ -66,7 +66,7 @@ requests_ready : (wanted : EventRequest) (start : ℕ) (blank : Totals) (client 
 requests_ready wanted start blank None run answer a b requests refused = not_for_buffer answer requests.1 refused
 requests_ready wanted start blank (Some client) run answer a b requests refused = begins_ready requests.0 start client blank run answer requests.2 refused
 
-start_bare : (blank : Option Totals) (wanted : EventRequest) (start : ℕ) (a b : AnalyzerAt) (answer : Answer) → StartsBy blank wanted start a b answer → answer ≡ No NotReady → blank ≡ None
+start_bare : (blank : Option Totals) (wanted : EventRequest) (start : ℕ) (a b : AnalyzerAt) (answer : Answer) → StartsAnalyzer blank wanted start a b answer → answer ≡ No NotReady → blank ≡ None
 start_bare None wanted start a b answer starts refused = refl
 start_bare (Some blank) wanted start a b answer starts refused = absurd (requests_ready wanted start blank b.client b.run answer starts.attached b.port starts.request refused)
 
@@ -74,7 +74,7 @@ stops_ready : (is_own : Bool) (r : AnalyzerRun) (a b : AnalyzerAt) (answer : Opt
 stops_ready true r a b answer stops refused = let never : None ≡ Some (No NotReady) = sym stops.answer_is ∙ refused in cc (never)
 stops_ready false r a b answer stops refused = no_yes answer Plain stops.0 refused
 
-stop_ready : (run : Option AnalyzerRun) (start : ℕ) (a b : AnalyzerAt) (answer : Option Answer) → AnswersStop run start a b answer → answer ≡ Some (No NotReady) → ⊥
+stop_ready : (run : Option AnalyzerRun) (start : ℕ) (a b : AnalyzerAt) (answer : Option Answer) → StopsAnalyzer run start a b answer → answer ≡ Some (No NotReady) → ⊥
 stop_ready None start a b answer stops refused = no_yes answer Plain stops.0 refused
 stop_ready (Some r) start a b answer stops refused = stops_ready (r.start == start) r a b answer stops refused
 

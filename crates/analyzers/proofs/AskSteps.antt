@@ -26,28 +26,28 @@ use Rattle.analyzers.specs.declared.analyzer_run.AnalyzerRun.{AnalyzerRun}
 use Rattle.analyzers.specs.declared.analyzer_run.AnalyzerStage.{AnalyzerStage}
 use Rattle.analyzers.specs.declared.analyzer_run.AnalyzerStage.TheVariants.{Counting, Draining, Drained}
 use Rattle.analyzers.specs.Analyzers.{AnalyzerAt}
-use Rattle.analyzers.specs.AnalyzerTurns.{analyzer_turn, StaysAt, CancelsIn, DropsRun, GetsClient, BeginsBy, RequestsRun, StartsBy, StopsRun, StopsOwn, AnswersStop, TurnsBy, report_in, report_answer, run_reported}
+use Rattle.analyzers.specs.AnalyzerTurns.{analyzer_turn, StaysAt, CancelsIn, DropsRun, GetsClient, BeginsBy, RequestsRun, StartsAnalyzer, StopsRun, StopsOwn, StopsAnalyzer, TurnsBy, report_in, report_answer, run_reported}
 use Rattle.analyzers.specs.AnalyzerPulls.{EndsReading, CountsOnce, CountsIn, PullsBy, drains_by}
-use Rattle.analyzers.specs.AnalyzerKept.{AsksForNone, CountsSoFar, one_reader, HasRefusedCall, IsReaderReason, AnalyzerAsks, AnalyzerStands}
+use Rattle.analyzers.specs.AnalyzerKept.{AsksForNone, CountsSoFar, one_attached, HasRefusedCall, IsAnalyzerReason, AnalyzerAsks, AnalyzerStands}
 use Rattle.analyzers.proofs.TurnSteps.{drop_kept, client_kept, turn_kept}
 use Rattle.analyzers.proofs.PullSteps.{pull_kept, finish_kept}
 
 -- One call more.
 
-reason_still : (own more : List BufferEntry) (why : Why) → IsReaderReason own why → IsReaderReason (own ++ more) why
+reason_still : (own more : List BufferEntry) (why : Why) → IsAnalyzerReason own why → IsAnalyzerReason (own ++ more) why
 reason_still own more NotReady reason = tt
 reason_still own more BufferRefused reason = record { entry = reason.entry; among = Contains-append_left own more reason.entry reason.among; refused = reason.refused }
 reason_still own more (Exists channel) reason = absurd reason
 reason_still own more (Fault channel) reason = absurd reason
 
-asks_push : (client later : Option ℕ) (own : List BufferEntry) (e : BufferEntry) (turns : List MemberTurn) → attaches_by e + one_reader client ≤ one_reader later → IsLoneRequest e (calls_after [] own) → AnalyzerAsks client own turns → AnalyzerAsks later (own ++ e ∷ []) turns
+asks_push : (client later : Option ℕ) (own : List BufferEntry) (e : BufferEntry) (turns : List MemberTurn) → attaches_by e + one_attached client ≤ one_attached later → IsLoneRequest e (calls_after [] own) → AnalyzerAsks client own turns → AnalyzerAsks later (own ++ e ∷ []) turns
 asks_push client later own e turns few alone asks = record {
   attaches = omega (arith, attaches-append own (e ∷ []), few, asks.attaches);
   alone = lone-push own e alone asks.alone;
   refusals = λ t why has is. reason_still own (e ∷ []) why (asks.refusals t why has is);
 }
 
-call_asks : (client later : Option ℕ) (a b : Access) (e : BufferEntry) (got : List GotEvent) (turns : List MemberTurn) → Called a b e got → attaches_by e + one_reader client ≤ one_reader later → IsLoneRequest e (calls_after [] a.own) → AnalyzerAsks client a.own turns
+call_asks : (client later : Option ℕ) (a b : Access) (e : BufferEntry) (got : List GotEvent) (turns : List MemberTurn) → Called a b e got → attaches_by e + one_attached client ≤ one_attached later → IsLoneRequest e (calls_after [] a.own) → AnalyzerAsks client a.own turns
     → AnalyzerAsks later b.own turns
 call_asks client later a b e got turns called few alone asks = subst (λ (l : List BufferEntry). AnalyzerAsks later l turns) (sym called.own) (asks_push client later a.own e turns few alone asks)
 
@@ -63,11 +63,11 @@ refused_call a b e got called refused = record {
 }
 
 -- one turn more, which is refused for a reason, if it is
-asks_more : (client : Option ℕ) (own : List BufferEntry) (t : MemberTurn) (turns : List MemberTurn) → ((why : Why) → t.answer ≡ Some (No why) → IsReaderReason own why) → AnalyzerAsks client own turns → AnalyzerAsks client own (t ∷ turns)
+asks_more : (client : Option ℕ) (own : List BufferEntry) (t : MemberTurn) (turns : List MemberTurn) → ((why : Why) → t.answer ≡ Some (No why) → IsAnalyzerReason own why) → AnalyzerAsks client own turns → AnalyzerAsks client own (t ∷ turns)
 asks_more client own t turns reason asks = record {
   attaches = asks.attaches;
   alone = asks.alone;
-  refusals = λ u why has is. elim has as (λ w. IsReaderReason own why) [
+  refusals = λ u why has is. elim has as (λ w. IsAnalyzerReason own why) [
     | inl same ↦ reason why (ap (λ (x : MemberTurn). x.answer) same ∙ is)
     | inr earlier ↦ asks.refusals u why earlier is
   ];
@@ -98,11 +98,11 @@ missing_client None None a b gets none = refused_call a b _ _ gets.1 tt
 no_refusal : (answer : Option Answer) (tally : Tally) (why : Why) → answer ≡ Some (Yes tally) → answer ≡ Some (No why) → ⊥
 no_refusal answer tally why told refused = let both : Some (Yes tally) ≡ Some (No why) = sym told ∙ refused in cc (both)
 
-reason_is : (own : List BufferEntry) (answer : Option Answer) (reason why : Why) → answer ≡ Some (No reason) → answer ≡ Some (No why) → IsReaderReason own reason → IsReaderReason own why
+reason_is : (own : List BufferEntry) (answer : Option Answer) (reason why : Why) → answer ≡ Some (No reason) → answer ≡ Some (No why) → IsAnalyzerReason own reason → IsAnalyzerReason own why
 reason_is own answer reason why first second so =
     let both : Some (No reason) ≡ Some (No why) = sym first ∙ second in
     let same : reason ≡ why = cc (both) in
-    subst (IsReaderReason own) same so
+    subst (IsAnalyzerReason own) same so
 
 request_asks : (dump : Option (List ℕ)) (wanted : EventRequest) (order : Order) (blank : Totals) (client : Option ℕ) (run : Option AnalyzerRun) (answer : Answer) (a b : Access) (turns : List MemberTurn) → (client ≡ None → HasRefusedCall a.own) → AsksForNone client a.own
     → RequestsRun wanted order.start blank client run answer a b → AnalyzerAsks client a.own turns → AnalyzerAsks client b.own (analyzer_turn dump Start order (Some answer) ∷ turns)
@@ -122,12 +122,12 @@ request_asks dump wanted order blank (Some n) run answer a b turns missing none 
         (call_asks (Some n) (Some n) a b (Request n wanted.id wanted.mask wanted.kind (Err refusal)) a.got turns called (omega arith) none asks)
 
 -- a turn that changes nothing
-stays_asks : (a b : AnalyzerAt) (t : MemberTurn) (turns : List MemberTurn) → StaysAt a b → ((why : Why) → t.answer ≡ Some (No why) → IsReaderReason a.port.own why) → AnalyzerAsks a.client a.port.own turns → AnalyzerAsks b.client b.port.own (t ∷ turns)
+stays_asks : (a b : AnalyzerAt) (t : MemberTurn) (turns : List MemberTurn) → StaysAt a b → ((why : Why) → t.answer ≡ Some (No why) → IsAnalyzerReason a.port.own why) → AnalyzerAsks a.client a.port.own turns → AnalyzerAsks b.client b.port.own (t ∷ turns)
 stays_asks a b t turns stays reason asks =
     let now : AnalyzerAsks a.client a.port.own (t ∷ turns) = asks_more a.client a.port.own t turns reason asks in
     subst (λ (c : Option ℕ). AnalyzerAsks c b.port.own (t ∷ turns)) (sym stays.0) (same_asks a.client a.port b.port (t ∷ turns) stays.2 now)
 
-start_asks : (dump : Option (List ℕ)) (wanted : EventRequest) (order : Order) (blank : Option Totals) (a b : AnalyzerAt) (answer : Answer) (turns : List MemberTurn) → NoneOpen turns → StartsBy blank wanted order.start a b answer
+start_asks : (dump : Option (List ℕ)) (wanted : EventRequest) (order : Order) (blank : Option Totals) (a b : AnalyzerAt) (answer : Answer) (turns : List MemberTurn) → NoneOpen turns → StartsAnalyzer blank wanted order.start a b answer
     → CountsSoFar wanted a.client a.run a.port.own a.port.got turns → AnalyzerAsks a.client a.port.own turns → AnalyzerAsks b.client b.port.own (analyzer_turn dump Start order (Some answer) ∷ turns)
 start_asks dump wanted order None a b answer turns none starts holds asks =
     stays_asks a b (analyzer_turn dump Start order (Some answer)) turns starts.1 (λ why is. reason_is a.port.own (Some answer) NotReady why (ap (λ (x : Answer). Some x) starts.0) is tt) asks
@@ -150,7 +150,7 @@ own_stop_asks dump true client r order port b answer turns stops asks =
 own_stop_asks dump false client r order port b answer turns stops asks =
     stays_asks (record { client = client; run = Some r; port = port }) b (analyzer_turn dump Stop order answer) turns stops.1 (λ why is. absurd (no_refusal answer Plain why stops.0 is)) asks
 
-stop_asks : (dump : Option (List ℕ)) (client : Option ℕ) (run : Option AnalyzerRun) (order : Order) (port : Access) (b : AnalyzerAt) (answer : Option Answer) (turns : List MemberTurn) → AnswersStop run order.start (record { client = client; run = run; port = port }) b answer
+stop_asks : (dump : Option (List ℕ)) (client : Option ℕ) (run : Option AnalyzerRun) (order : Order) (port : Access) (b : AnalyzerAt) (answer : Option Answer) (turns : List MemberTurn) → StopsAnalyzer run order.start (record { client = client; run = run; port = port }) b answer
     → AnalyzerAsks client port.own turns → AnalyzerAsks b.client b.port.own (analyzer_turn dump Stop order answer ∷ turns)
 stop_asks dump client None order port b answer turns stops asks =
     stays_asks (record { client = client; run = None; port = port }) b (analyzer_turn dump Stop order answer) turns stops.1 (λ why is. absurd (no_refusal answer Plain why stops.0 is)) asks

@@ -20,7 +20,7 @@ use Rattle.analyzers.specs.declared.analyzer_run.AnalyzerRun.{AnalyzerRun}
 use Rattle.analyzers.specs.declared.analyzer_run.AnalyzerStage.{AnalyzerStage}
 use Rattle.analyzers.specs.declared.analyzer_run.AnalyzerStage.TheVariants.{Counting, Draining, Drained}
 use Rattle.analyzers.specs.Analyzers.{AnalyzerAt, IsWithinGot}
-use Rattle.analyzers.specs.AnalyzerTurns.{StaysAt, BeginsBy, RequestsRun, StartsBy, StopsRun, StopsOwn, AnswersStop, TurnsBy}
+use Rattle.analyzers.specs.AnalyzerTurns.{StaysAt, BeginsBy, RequestsRun, StartsAnalyzer, StopsRun, StopsOwn, StopsAnalyzer, TurnsBy}
 use Rattle.analyzers.specs.AnalyzerPulls.{got_bytes}
 
 slot_room : (e : Event) → 16 + length e.body ≤ slot_size e
@@ -86,11 +86,11 @@ own_stop_within : (is_own : Bool) (client : Option ℕ) (r : AnalyzerRun) (port 
 own_stop_within true client r port b answer stops within = rw stops.run (stop_within r.stage r stops.later port b.port stops.stops within)
 own_stop_within false client r port b answer stops within = stays_within (record { client = client; run = Some r; port = port }) b stops.1 within
 
-stops_within : (client : Option ℕ) (run : Option AnalyzerRun) (start : ℕ) (port : Access) (b : AnalyzerAt) (answer : Option Answer) → AnswersStop run start (record { client = client; run = run; port = port }) b answer → IsWithinGot run port.got → IsWithinGot b.run b.port.got
+stops_within : (client : Option ℕ) (run : Option AnalyzerRun) (start : ℕ) (port : Access) (b : AnalyzerAt) (answer : Option Answer) → StopsAnalyzer run start (record { client = client; run = run; port = port }) b answer → IsWithinGot run port.got → IsWithinGot b.run b.port.got
 stops_within client None start port b answer stops within = stays_within (record { client = client; run = None; port = port }) b stops.1 within
 stops_within client (Some r) start port b answer stops within = own_stop_within (r.start == start) client r port b answer stops within
 
-starts_within : (blank : Option Totals) (wanted : EventRequest) (start : ℕ) (a b : AnalyzerAt) (answer : Answer) → IfSome blank (λ (report : Totals). report ≡ report_of []) → StartsBy blank wanted start a b answer → IsWithinGot a.run a.port.got → IsWithinGot b.run b.port.got
+starts_within : (blank : Option Totals) (wanted : EventRequest) (start : ℕ) (a b : AnalyzerAt) (answer : Answer) → IfSome blank (λ (report : Totals). report ≡ report_of []) → StartsAnalyzer blank wanted start a b answer → IsWithinGot a.run a.port.got → IsWithinGot b.run b.port.got
 starts_within None wanted start a b answer is_blank starts within = stays_within a b starts.1 within
 starts_within (Some blank) wanted start a b answer is_blank starts within = request_within wanted start blank b.client b.run answer starts.attached b.port b.port.got is_blank starts.request
 

@@ -15,11 +15,11 @@ use Rattle.member_model.proofs.SentLaws.{EachCall-push}
 use Rattle.member_model.specs.OwnCalls.{calls_after, gave_number, IsOwnCall, AreOwnCalls, asks, LeavesAsking, KeepsAsking}
 use Rattle.member_model.proofs.ReadLaws.{calls_after-push}
 use Rattle.analyzers.specs.CountedRuns.{requests_by, requests_made}
-use Rattle.analyzers.specs.AnalyzerKept.{IsReaderCall, KeepsReaderCalls}
+use Rattle.analyzers.specs.AnalyzerKept.{IsAnalyzerCall, KeepsAnalyzerCalls}
 
-pub reader_push : (own : List BufferEntry) (e : BufferEntry) → KeepsReaderCalls own → IsReaderCall e → IsOwnCall e (calls_after [] own) → KeepsReaderCalls (own ++ e ∷ [])
-reader_push own e keeps reads is_own = record {
-  only_reads = EachCall-push IsReaderCall own e keeps.only_reads reads;
+pub analyzer_push : (own : List BufferEntry) (e : BufferEntry) → KeepsAnalyzerCalls own → IsAnalyzerCall e → IsOwnCall e (calls_after [] own) → KeepsAnalyzerCalls (own ++ e ∷ [])
+analyzer_push own e keeps reads is_own = record {
+  only_reads = EachCall-push IsAnalyzerCall own e keeps.only_reads reads;
   own_calls = subst (λ (es : List BufferEntry). AreOwnCalls es) (sym (calls_after-push [] own e)) (is_own, keeps.own_calls);
 }
 
@@ -107,7 +107,7 @@ unasked (e ∷ es) c n own none =
     let before : gave_number es c ≡ false = not_before e es c none in
     asks_same e es c n own.0 before ∙ unasked es c n own.1 before
 
-pub new_asks_none : (own : List BufferEntry) (name : List ℕ) (client n : ℕ) → KeepsReaderCalls own → gave_number (calls_after [] own) client ≡ false → asks (calls_after [] (own ++ Attach name (Ok client) ∷ [])) client n ≡ false
+pub new_asks_none : (own : List BufferEntry) (name : List ℕ) (client n : ℕ) → KeepsAnalyzerCalls own → gave_number (calls_after [] own) client ≡ false → asks (calls_after [] (own ++ Attach name (Ok client) ∷ [])) client n ≡ false
 new_asks_none own name client n keeps none =
     subst (λ (es : List BufferEntry). asks es client n ≡ false) (sym (calls_after-push [] own (Attach name (Ok client)))) (unasked (calls_after [] own) client n keeps.own_calls none)
 

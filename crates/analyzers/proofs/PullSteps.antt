@@ -26,8 +26,8 @@ use Rattle.analyzers.specs.AnalyzerTurns.{analyzer_turn, report_in, report_answe
 use Rattle.analyzers.specs.AnalyzerPulls.{ReceivesFor, EndsReading, CountsOnce, CountsIn, PullsBy, drains_by, ends_by}
 use Rattle.member_model.specs.GotRuns.{events_of_start}
 use Rattle.analyzers.specs.CountedRuns.{CountRequest, IsCounted, IsWhollyCounted, requests_made}
-use Rattle.analyzers.specs.AnalyzerKept.{KeepsReaderCalls, HasOwnClient, AsksForNone, starts_accepted, HasTurnBehind, IsReportOfRun, ReportsHold, IsStopOpen, StageCounts, CountsRun, CountsSoFar, count_request}
-use Rattle.analyzers.proofs.OwnCallSteps.{reader_push, requests_stay, client_stays, given_by_reply, got_after_is, given_named}
+use Rattle.analyzers.specs.AnalyzerKept.{KeepsAnalyzerCalls, HasOwnClient, AsksForNone, starts_accepted, HasTurnBehind, IsReportOfRun, ReportsHold, IsStopOpen, StageCounts, CountsRun, CountsSoFar, count_request}
+use Rattle.analyzers.proofs.OwnCallSteps.{analyzer_push, requests_stay, client_stays, given_by_reply, got_after_is, given_named}
 use Rattle.analyzers.proofs.CountSteps.{CountsGiven, given_counted, count_push, cancelled_asks_none, wholly_counted}
 use Rattle.analyzers.proofs.ReportSteps.{reports_calls, report_turns}
 use Rattle.analyzers.proofs.TurnSteps.{StandsBy, run_client, reports_quiet}
@@ -41,7 +41,7 @@ leaves_receive client room (SmallBuf need) = tt
 -- what stands behind a receive for a run, whatever becomes of it
 record ReceivedFor (wanted : EventRequest) (client : Option ℕ) (r counted : AnalyzerRun) (own : List BufferEntry) (got : List GotEvent) (turns : List MemberTurn) (calls : List BufferEntry) : Type 0 where
   pub events : List Event
-  pub own_calls : KeepsReaderCalls own
+  pub own_calls : KeepsAnalyzerCalls own
   pub gave : HasOwnClient (Some r.client) own
   pub once : requests_made own ≡ starts_accepted turns
   pub reports : ReportsHold wanted own got turns
@@ -65,7 +65,7 @@ receive_lists wanted client r counted room a b turns reply calls stands on count
     let got_is : b.got ≡ a.got ++ given = receives.received.got_is ∙ got_after_is a.got r.client reply receives.event in
     let now : ReceivedFor wanted client r counted (a.own ++ call ∷ []) (a.got ++ given) turns (calls ++ call ∷ []) = record {
       events = on.events ++ events_of_start r.client r.start given;
-      own_calls = reader_push a.own call stands.calls tt gave;
+      own_calls = analyzer_push a.own call stands.calls tt gave;
       gave = client_stays a.own call r.client gave;
       once = requests_stay a.own call (starts_accepted turns) refl stands.once;
       reports = reports_calls wanted a.own a.got turns (call ∷ []) given stands.reports;
@@ -114,7 +114,7 @@ reads_no_more wanted client r counted a b turns room accepted reply reading drai
     let none : AsksForNone (Some r.client) (a.own ++ cancel ∷ []) =
     cancelled_asks_none a.own a.got q (reading ++ Accepted accepted ∷ (draining ++ Receive r.client room reply ∷ [])) at.events cancels.0 at.counts in
     let now : CountsSoFar wanted client (Some (run_at Drained counted)) (a.own ++ cancel ∷ []) a.got turns = record {
-      calls = reader_push a.own cancel at.own_calls tt at.gave;
+      calls = analyzer_push a.own cancel at.own_calls tt at.gave;
       own_client = subst (λ (c : Option ℕ). HasOwnClient c (a.own ++ cancel ∷ [])) (sym at.client_is) (client_stays a.own cancel r.client at.gave);
       once = requests_stay a.own cancel (starts_accepted turns) refl at.once;
       reports = reports_quiet wanted a.own a.got turns cancel at.reports;

@@ -26,7 +26,7 @@ use Rattle.analyzers.specs.declared.analyzer_run.AnalyzerRun.{AnalyzerRun}
 use Rattle.analyzers.specs.declared.analyzer_run.AnalyzerStage.{AnalyzerStage}
 use Rattle.analyzers.specs.declared.analyzer_run.AnalyzerStage.TheVariants.{Counting, Draining, Drained}
 use Rattle.analyzers.specs.Analyzers.{AnalyzerAt, run_at}
-use Rattle.analyzers.specs.AnalyzerTurns.{analyzer_turn, BeginsBy, RequestsRun, StartsBy, StopsOwn, AnswersStop, TurnsBy, begun_count, report_in, report_answer, run_reported}
+use Rattle.analyzers.specs.AnalyzerTurns.{analyzer_turn, BeginsBy, RequestsRun, StartsAnalyzer, StopsOwn, StopsAnalyzer, TurnsBy, begun_count, report_in, report_answer, run_reported}
 use Rattle.analyzers.specs.AnalyzerPulls.{CountsOwn, CountsReply, EndsReading, CountsOnce, CountsIn, PullsBy, drains_by}
 use Rattle.analyzers.specs.CountedRuns.{CountRequest}
 use Rattle.analyzers.specs.AnalyzerKept.{IsStopOpen, StageCounts, CountsRun, CountsSoFar, count_request, StopsReported, CountsStart, CountsCurrent, AnalyzerTells}
@@ -122,7 +122,7 @@ request_tells : (dump : Option (List ℕ)) (wanted : EventRequest) (client : Opt
 request_tells dump wanted None run later blank order answer a b turns requests tells = rw (requests.0, requests.1) (refused_start dump run None order BufferRefused turns tells)
 request_tells dump wanted (Some client) run later blank order answer a b turns requests tells = begin_tells dump requests.0 run later client blank order answer turns requests.2 tells
 
-start_tells : (dump : Option (List ℕ)) (blank : Option Totals) (wanted : EventRequest) (order : Order) (a b : AnalyzerAt) (answer : Answer) (turns : List MemberTurn) → StartsBy blank wanted order.start a b answer → AnalyzerTells a.run turns
+start_tells : (dump : Option (List ℕ)) (blank : Option Totals) (wanted : EventRequest) (order : Order) (a b : AnalyzerAt) (answer : Answer) (turns : List MemberTurn) → StartsAnalyzer blank wanted order.start a b answer → AnalyzerTells a.run turns
     → AnalyzerTells b.run (analyzer_turn dump Start order (Some answer) ∷ turns)
 start_tells dump None wanted order a b answer turns starts tells = rw starts.0 (refused_start dump a.run b.run order NotReady turns tells)
 start_tells dump (Some blank) wanted order a b answer turns starts tells = request_tells dump wanted b.client a.run b.run blank order answer starts.attached b.port turns starts.request tells
@@ -151,7 +151,7 @@ own_stop : (dump : Option (List ℕ)) (is_own : Bool) (r : AnalyzerRun) (order :
 own_stop dump true r order a b answer turns other is stops tells = rw stops.answer_is (open_stop dump (Some r) b.run order turns tells)
 own_stop dump false r order a b answer turns other is stops tells = rw (stops.0, stops.1.1, is) (plain_stop dump (Some r) order turns (other refl) tells)
 
-stop_tells : (dump : Option (List ℕ)) (client : Option ℕ) (run : Option AnalyzerRun) (order : Order) (port : Access) (b : AnalyzerAt) (answer : Option Answer) (turns : List MemberTurn) → AnswersStop run order.start (record { client = client; run = run; port = port }) b answer → AnalyzerTells run turns
+stop_tells : (dump : Option (List ℕ)) (client : Option ℕ) (run : Option AnalyzerRun) (order : Order) (port : Access) (b : AnalyzerAt) (answer : Option Answer) (turns : List MemberTurn) → StopsAnalyzer run order.start (record { client = client; run = run; port = port }) b answer → AnalyzerTells run turns
     → AnalyzerTells b.run (analyzer_turn dump Stop order answer ∷ turns)
 stop_tells dump client None order port b answer turns stops tells = rw (stops.0, stops.1.1) (plain_stop dump None order turns (λ never. never) tells)
 stop_tells dump client (Some r) order port b answer turns stops tells =

@@ -25,10 +25,10 @@ use Rattle.analyzers.specs.declared.analyzer_run.AnalyzerRun.{AnalyzerRun}
 use Rattle.analyzers.specs.declared.analyzer_run.AnalyzerStage.{AnalyzerStage}
 use Rattle.analyzers.specs.declared.analyzer_run.AnalyzerStage.TheVariants.{Counting, Draining, Drained}
 use Rattle.analyzers.specs.Analyzers.{AnalyzerAt, run_at}
-use Rattle.analyzers.specs.AnalyzerTurns.{analyzer_turn, analyzer_name, StaysAt, CancelsIn, DropsRun, GetsClient, BeginsBy, RequestsRun, StartsBy, StopsRun, StopsOwn, AnswersStop, TurnsBy, begun_count}
+use Rattle.analyzers.specs.AnalyzerTurns.{analyzer_turn, analyzer_name, StaysAt, CancelsIn, DropsRun, GetsClient, BeginsBy, RequestsRun, StartsAnalyzer, StopsRun, StopsOwn, StopsAnalyzer, TurnsBy, begun_count}
 use Rattle.analyzers.specs.CountedRuns.{CountRequest, IsCounted, requests_made}
 use Rattle.analyzers.specs.AnalyzerKept.{HasOwnClient, AsksForNone, accepted_by, starts_accepted, ReportsHold, StageCounts, CountsRun, CountsSoFar, count_request}
-use Rattle.analyzers.proofs.OwnCallSteps.{reader_push, requests-push, requests_stay, client_stays, none_stays, client_given, new_asks_none}
+use Rattle.analyzers.proofs.OwnCallSteps.{analyzer_push, requests-push, requests_stay, client_stays, none_stays, client_given, new_asks_none}
 use Rattle.analyzers.proofs.CountSteps.{count_made, count_push, cancelled_asks_none}
 use Rattle.analyzers.proofs.ReportSteps.{reports_calls, reports_more, none_stops, plain_more}
 
@@ -63,7 +63,7 @@ drop_counting wanted client r own got turns reply earlier calls events none coun
     let on : CountsRun wanted client r own got turns = stands.counts in
     let gave : HasOwnClient (Some r.client) own = run_client wanted client r own got turns stands in
     record {
-      calls = reader_push own cancel stands.calls tt gave;
+      calls = analyzer_push own cancel stands.calls tt gave;
       own_client = subst (λ (c : Option ℕ). HasOwnClient c (own ++ cancel ∷ [])) (sym on.client_is) (client_stays own cancel r.client gave);
       once = requests_stay own cancel (starts_accepted turns) refl stands.once;
       reports = reports_quiet wanted own got turns cancel stands.reports;
@@ -90,7 +90,7 @@ client_kept wanted (Some c) later a b turns gets stands = rw (gets.0, gets.1) st
 client_kept wanted None (Some n) a b turns gets stands =
     let attach : BufferEntry = Attach analyzer_name (Ok n) in
     let now : CountsSoFar wanted (Some n) None (a.own ++ attach ∷ []) a.got turns = record {
-      calls = reader_push a.own attach stands.calls tt tt;
+      calls = analyzer_push a.own attach stands.calls tt tt;
       own_client = client_given a.own analyzer_name n;
       once = requests_stay a.own attach (starts_accepted turns) refl stands.once;
       reports = reports_quiet wanted a.own a.got turns attach stands.reports;
@@ -100,7 +100,7 @@ client_kept wanted None (Some n) a b turns gets stands =
 client_kept wanted None None a b turns gets stands =
     let attach : BufferEntry = Attach analyzer_name (Err gets.0) in
     let now : CountsSoFar wanted None None (a.own ++ attach ∷ []) a.got turns = record {
-      calls = reader_push a.own attach stands.calls tt tt;
+      calls = analyzer_push a.own attach stands.calls tt tt;
       own_client = none_stays a.own attach (λ past n. refl) stands.own_client;
       once = requests_stay a.own attach (starts_accepted turns) refl stands.once;
       reports = reports_quiet wanted a.own a.got turns attach stands.reports;
@@ -117,7 +117,7 @@ request_kept dump (Ok number) wanted order blank client run answer own got turns
     let request : BufferEntry = Request client wanted.id wanted.mask wanted.kind (Ok number) in
     let t : MemberTurn = analyzer_turn dump Start order (Some (Yes Plain)) in
     let now : CountsSoFar wanted (Some client) (Some (begun_count order.start client number blank)) (own ++ request ∷ []) got (t ∷ turns) = record {
-      calls = reader_push own request stands.calls tt stands.own_client;
+      calls = analyzer_push own request stands.calls tt stands.own_client;
       own_client = client_stays own request client stands.own_client;
       once = omega (arith, requests-push own request, stands.once);
       reports = reports_more wanted (own ++ request ∷ []) got turns t (λ report tells. cc (tells)) (reports_quiet wanted own got turns request stands.reports);
@@ -138,7 +138,7 @@ request_kept dump (Err why) wanted order blank client run answer own got turns n
     let request : BufferEntry = Request client wanted.id wanted.mask wanted.kind (Err why) in
     let t : MemberTurn = analyzer_turn dump Start order (Some (No BufferRefused)) in
     let now : CountsSoFar wanted (Some client) None (own ++ request ∷ []) got (t ∷ turns) = record {
-      calls = reader_push own request stands.calls tt stands.own_client;
+      calls = analyzer_push own request stands.calls tt stands.own_client;
       own_client = client_stays own request client stands.own_client;
       once = omega (arith, requests-push own request, stands.once);
       reports = reports_more wanted (own ++ request ∷ []) got turns t (λ report tells. cc (tells)) (reports_quiet wanted own got turns request stands.reports);
@@ -166,7 +166,7 @@ stays_kept wanted a b turns t stays none begins other given is stands =
     answers (Some x) e = tt
     answers None e = absurd (cc (e))
 
-start_kept : (dump : Option (List ℕ)) (wanted : EventRequest) (order : Order) (blank : Option Totals) (a b : AnalyzerAt) (answer : Answer) (turns : List MemberTurn) → IfSome blank (λ (report : Totals). report ≡ report_of []) → NoneOpen turns → StartsBy blank wanted order.start a b answer
+start_kept : (dump : Option (List ℕ)) (wanted : EventRequest) (order : Order) (blank : Option Totals) (a b : AnalyzerAt) (answer : Answer) (turns : List MemberTurn) → IfSome blank (λ (report : Totals). report ≡ report_of []) → NoneOpen turns → StartsAnalyzer blank wanted order.start a b answer
     → StandsBy wanted a.client a.run a.port turns → StandsBy wanted b.client b.run b.port (analyzer_turn dump Start order (Some answer) ∷ turns)
 start_kept dump wanted order None a b answer turns is_blank none starts stands =
     rw starts.0 (stays_kept wanted a b turns (analyzer_turn dump Start order (Some (No NotReady))) starts.1 none refl (λ report tells. cc (tells)) (No NotReady) refl stands)
@@ -185,7 +185,7 @@ stop_stage dump Counting wanted client r later order a b turns on same none coun
     let q : CountRequest = count_request wanted r.client r.request r.start on.earlier in
     let gave : HasOwnClient (Some r.client) a.own = run_client wanted client r a.own a.got turns stands in
     let now : CountsSoFar wanted client (Some (run_at (Draining stops.0) r)) (a.own ++ call ∷ []) a.got (t ∷ turns) = record {
-      calls = reader_push a.own call stands.calls tt tt;
+      calls = analyzer_push a.own call stands.calls tt tt;
       own_client = subst (λ (c : Option ℕ). HasOwnClient c (a.own ++ call ∷ [])) (sym on.client_is) (client_stays a.own call r.client gave);
       once = omega (arith, requests_stay a.own call (starts_accepted turns) refl stands.once);
       reports = reports_more wanted (a.own ++ call ∷ []) a.got turns t (λ report tells. cc (tells)) (reports_quiet wanted a.own a.got turns call stands.reports);
@@ -216,7 +216,7 @@ stop_own dump false wanted client r order port b answer turns same none stops st
     (stays_kept wanted (record { client = client; run = Some r; port = port }) b turns (analyzer_turn dump Stop order (Some (Yes Plain))) stops.1 none refl (λ report tells. cc (tells)) (Yes Plain) refl stands)
 
 stop_kept : (dump : Option (List ℕ)) (wanted : EventRequest) (client : Option ℕ) (run : Option AnalyzerRun) (order : Order) (port : Access) (b : AnalyzerAt) (answer : Option Answer) (turns : List MemberTurn) → NoneOpen turns
-    → AnswersStop run order.start (record { client = client; run = run; port = port }) b answer → StandsBy wanted client run port turns → StandsBy wanted b.client b.run b.port (analyzer_turn dump Stop order answer ∷ turns)
+    → StopsAnalyzer run order.start (record { client = client; run = run; port = port }) b answer → StandsBy wanted client run port turns → StandsBy wanted b.client b.run b.port (analyzer_turn dump Stop order answer ∷ turns)
 stop_kept dump wanted client None order port b answer turns none stops stands =
     rw stops.0
     (stays_kept wanted (record { client = client; run = None; port = port }) b turns (analyzer_turn dump Stop order (Some (Yes Plain))) stops.1 none refl (λ report tells. cc (tells)) (Yes Plain) refl stands)

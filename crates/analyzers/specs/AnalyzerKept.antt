@@ -26,17 +26,17 @@ use Rattle.analyzers.specs.AnalyzerTurns.{analyzer_turn}
 use Rattle.analyzers.specs.CountedRuns.{CountRequest, IsCounted, IsWhollyCounted, requests_made}
 
 -- a call that sends nothing, makes no mark and detaches no client
-abbrev pub IsReaderCall : BufferEntry → Type 0
-IsReaderCall (Attach name reply) = ⊤
-IsReaderCall (Request client id mask kind reply) = ⊤
-IsReaderCall (Cancel client number reply) = ⊤
-IsReaderCall (Receive client room reply) = ⊤
-IsReaderCall (Accepted reply) = ⊤
-IsReaderCall entry = ⊥
+abbrev pub IsAnalyzerCall : BufferEntry → Type 0
+IsAnalyzerCall (Attach name reply) = ⊤
+IsAnalyzerCall (Request client id mask kind reply) = ⊤
+IsAnalyzerCall (Cancel client number reply) = ⊤
+IsAnalyzerCall (Receive client room reply) = ⊤
+IsAnalyzerCall (Accepted reply) = ⊤
+IsAnalyzerCall entry = ⊥
 
 -- the calls are such, and name only clients that an attach of the caller's own gave
-pub record KeepsReaderCalls (own : List BufferEntry) : Type 0 where
-  pub only_reads : EachCall IsReaderCall own
+pub record KeepsAnalyzerCalls (own : List BufferEntry) : Type 0 where
+  pub only_reads : EachCall IsAnalyzerCall own
   pub own_calls : AreOwnCalls (calls_after [] own)
 
 -- the client is one that an attach gave; where there is none, no attach gave one
@@ -123,7 +123,7 @@ RunCounts wanted client (Some r) own got turns = CountsRun wanted client r own g
 -- An analyzer that wants these events, with its client, in this run or in none, with its own calls, what it got, and its turns: it
 -- has made one request for each start that it accepted, and no others.
 pub record CountsSoFar (wanted : EventRequest) (client : Option ℕ) (run : Option AnalyzerRun) (own : List BufferEntry) (got : List GotEvent) (turns : List MemberTurn) : Type 0 where
-  pub calls : KeepsReaderCalls own
+  pub calls : KeepsAnalyzerCalls own
   pub own_client : HasOwnClient client own
   pub once : requests_made own ≡ starts_accepted turns
   pub reports : ReportsHold wanted own got turns
@@ -132,9 +132,9 @@ pub record CountsSoFar (wanted : EventRequest) (client : Option ℕ) (run : Opti
 -- Refusals.
 
 -- one, where there is a client
-abbrev pub one_reader : Option ℕ → ℕ
-one_reader None = 0
-one_reader (Some client) = 1
+abbrev pub one_attached : Option ℕ → ℕ
+one_attached None = 0
+one_attached (Some client) = 1
 
 -- one of these calls, to attach a client or to make a request, was refused
 pub record HasRefusedCall (own : List BufferEntry) : Type 0 where
@@ -143,20 +143,20 @@ pub record HasRefusedCall (own : List BufferEntry) : Type 0 where
   pub refused : IsRefusedAsk entry
 
 -- Why a start may be refused: as not ready; or for the buffer, where that refused a call.
-abbrev pub IsReaderReason : List BufferEntry → Why → Type 0
-IsReaderReason own NotReady = ⊤
-IsReaderReason own BufferRefused = HasRefusedCall own
-IsReaderReason own (Exists channel) = ⊥
-IsReaderReason own (Fault channel) = ⊥
+abbrev pub IsAnalyzerReason : List BufferEntry → Why → Type 0
+IsAnalyzerReason own NotReady = ⊤
+IsAnalyzerReason own BufferRefused = HasRefusedCall own
+IsAnalyzerReason own (Exists channel) = ⊥
+IsAnalyzerReason own (Fault channel) = ⊥
 
 -- each turn that was refused was refused for such a reason
 abbrev pub RefusalsHold : List BufferEntry → List MemberTurn → Type 0
-RefusalsHold own turns = (t : MemberTurn) → (why : Why) → HasTurn turns t → t.answer ≡ Some (No why) → IsReaderReason own why
+RefusalsHold own turns = (t : MemberTurn) → (why : Why) → HasTurn turns t → t.answer ≡ Some (No why) → IsAnalyzerReason own why
 
 -- What an analyzer with this client, or with none, keeps to that gives its buffer no cause to refuse a call: it attached no client
 -- but that, and made each request while the client had none. Its refusals of turns are as above.
 pub record AnalyzerAsks (client : Option ℕ) (own : List BufferEntry) (turns : List MemberTurn) : Type 0 where
-  pub attaches : attaches_made own ≤ one_reader client
+  pub attaches : attaches_made own ≤ one_attached client
   pub alone : AreLoneRequests (calls_after [] own)
   pub refusals : RefusalsHold own turns
 
@@ -196,7 +196,7 @@ pub record AnalyzerTells (run : Option AnalyzerRun) (turns : List MemberTurn) : 
 -- its own gave; it has made one request for each start that it accepted, and no others; each report that it told is that of a run
 -- whose start it accepted, from the request of that start on; and it told one at each stop of such a run.
 pub record KeepsAnalyzer (wanted : EventRequest) (own : List BufferEntry) (got : List GotEvent) (turns : List MemberTurn) : Type 0 where
-  pub calls : KeepsReaderCalls own
+  pub calls : KeepsAnalyzerCalls own
   pub once : requests_made own ≡ starts_accepted turns
   pub reports : ReportsHold wanted own got turns
   pub starts : StartsPlain turns

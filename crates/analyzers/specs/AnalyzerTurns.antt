@@ -74,9 +74,9 @@ pub record StartsCount (wanted : EventRequest) (start : ℕ) (blank : Totals) (a
   pub request : RequestsRun wanted start blank b.client b.run answer attached b.port
 
 -- a start without a blank report is refused
-abbrev pub StartsBy : Option Totals → EventRequest → (start : ℕ) → (a b : AnalyzerAt) → Answer → Type 0
-StartsBy None wanted start a b answer = (answer ≡ No NotReady) × StaysAt a b
-StartsBy (Some blank) wanted start a b answer = StartsCount wanted start blank a b answer
+abbrev pub StartsAnalyzer : Option Totals → EventRequest → (start : ℕ) → (a b : AnalyzerAt) → Answer → Type 0
+StartsAnalyzer None wanted start a b answer = (answer ≡ No NotReady) × StaysAt a b
+StartsAnalyzer (Some blank) wanted start a b answer = StartsCount wanted start blank a b answer
 
 -- Stops.
 
@@ -99,14 +99,14 @@ StopsOwn true r a b answer = StopsCount r a b answer
 StopsOwn false r a b answer = (answer ≡ Some (Yes Plain)) × StaysAt a b
 
 -- A stop of the run that is counted waits for its answer; any other is answered at once.
-abbrev pub AnswersStop : Option AnalyzerRun → (start : ℕ) → (a b : AnalyzerAt) → Option Answer → Type 0
-AnswersStop None start a b answer = (answer ≡ Some (Yes Plain)) × StaysAt a b
-AnswersStop (Some r) start a b answer = StopsOwn (r.start == start) r a b answer
+abbrev pub StopsAnalyzer : Option AnalyzerRun → (start : ℕ) → (a b : AnalyzerAt) → Option Answer → Type 0
+StopsAnalyzer None start a b answer = (answer ≡ Some (Yes Plain)) × StaysAt a b
+StopsAnalyzer (Some r) start a b answer = StopsOwn (r.start == start) r a b answer
 
 -- What a turn does. A start-abort drops the run, and a pause or resume does nothing.
 abbrev pub TurnsBy : Transition → EventRequest → Order → (blank : Option Totals) → (a b : AnalyzerAt) → Option Answer → Type 0
-TurnsBy Start wanted order blank a b answer = (given : Answer) × (answer ≡ Some given) × StartsBy blank wanted order.start a b given
-TurnsBy Stop wanted order blank a b answer = AnswersStop a.run order.start a b answer
+TurnsBy Start wanted order blank a b answer = (given : Answer) × (answer ≡ Some given) × StartsAnalyzer blank wanted order.start a b given
+TurnsBy Stop wanted order blank a b answer = StopsAnalyzer a.run order.start a b answer
 TurnsBy Pause wanted order blank a b answer = (answer ≡ Some (Yes Plain)) × StaysAt a b
 TurnsBy Resume wanted order blank a b answer = (answer ≡ Some (Yes Plain)) × StaysAt a b
 TurnsBy StartAbort wanted order blank a b answer =

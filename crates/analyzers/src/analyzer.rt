@@ -8,7 +8,7 @@ ghost use Rattle.transitions.specs.declared.answers.Tally.TheVariants.{Plain};
 ghost use Rattle.member_model.specs.Turns.{MemberTurn, NoneOpen, latest_answered};
 ghost use Rattle.analyzers.specs.declared.analyzer_run.AnalyzerStage.TheVariants.{Drained};
 ghost use Rattle.analyzers.specs.Analyzers.{AnalyzerState, CancelsRun, IsWithinGot, run_at};
-ghost use Rattle.analyzers.specs.AnalyzerTurns.{CancelsIn, DropsRun, GetsClient, StartsBy, AnswersStop, StopsRun, TurnsBy, RequestsRun, analyzer_turn, report_answer, run_reported};
+ghost use Rattle.analyzers.specs.AnalyzerTurns.{CancelsIn, DropsRun, GetsClient, StartsAnalyzer, StopsAnalyzer, StopsRun, TurnsBy, RequestsRun, analyzer_turn, report_answer, run_reported};
 ghost use Rattle.analyzers.specs.AnalyzerPulls.{CountsOwn, CountsReply, EndsReading, PullsBy, ReceivesFor, drains_by, got_bytes, pull_answer, was_drained};
 ghost use Rattle.analyzers.specs.AnalyzerKept.{AnalyzerStands, AnalyzerTells};
 
@@ -280,7 +280,7 @@ impl Analyzer {
         requires entries { 3 ≤ (P.access port.old).entries }
         ensures wanted { self.new.wanted ≡ self.old.wanted }
         ensures room { self.new.room ≡ self.old.room }
-        ensures starts { StartsBy blank self.old.wanted order.now.start (record {
+        ensures starts { StartsAnalyzer blank self.old.wanted order.now.start (record {
           client = self.old.client;
           run = self.old.run;
           port = P.access port.old;
@@ -309,7 +309,7 @@ impl Analyzer {
         requires entries { 1 ≤ (P.access port.old).entries }
         ensures wanted { self.new.wanted ≡ self.old.wanted }
         ensures room { self.new.room ≡ self.old.room }
-        ensures stops { AnswersStop self.old.run order.now.start (record {
+        ensures stops { StopsAnalyzer self.old.run order.now.start (record {
           client = self.old.client;
           run = self.old.run;
           port = P.access port.old;

@@ -37,7 +37,7 @@ use Rattle.member_model.specs.SentCalls.{EachCall}
 use Rattle.member_model.specs.CutRuns.{MarksEnd, HasCutRun}
 use Rattle.member_model.specs.EndedRuns.{EndsBegun, MakesNoMark}
 use Rattle.member_model.specs.LoggerKept.{LoggerChannel, HasWritten, HasWrittenPart, TellsState, IsStartAnswer, IsStateSo}
-use Rattle.analyzers.specs.AnalyzerKept.{IsReaderCall}
+use Rattle.analyzers.specs.AnalyzerKept.{IsAnalyzerCall}
 use Rattle.caller_laws.specs.OneCaller.{IsCallersPart, HaveOwnClients, MarksAlone}
 use Rattle.caller_laws.specs.CallerLaws.{ReadPlaces, ReadEvents, CutEvents, CutFile, RunFileFits, MembersFit, BegunIsEnded, SenderMakesNoMark}
 use Rattle.engine_laws.specs.BegunTurns.{HasTransition, HasTally}
@@ -247,16 +247,16 @@ states_so laws s keep r run index channel at state told = state_so laws s keep r
 
 -- The logger alone makes marks.
 
-reader_no_mark : (e : BufferEntry) → IsReaderCall e → MakesNoMark e
-reader_no_mark (BufferBegin start reply) reads = reads
-reader_no_mark (Pause start reply) reads = reads
-reader_no_mark (Resume start reply) reads = reads
-reader_no_mark (End start reply) reads = reads
-reader_no_mark e reads = tt
+analyzer_no_mark : (e : BufferEntry) → IsAnalyzerCall e → MakesNoMark e
+analyzer_no_mark (BufferBegin start reply) reads = reads
+analyzer_no_mark (Pause start reply) reads = reads
+analyzer_no_mark (Resume start reply) reads = reads
+analyzer_no_mark (End start reply) reads = reads
+analyzer_no_mark e reads = tt
 
-reader_makes_no_mark : (own : List BufferEntry) → EachCall IsReaderCall own → EachCall MakesNoMark own
-reader_makes_no_mark [] each = tt
-reader_makes_no_mark (e ∷ own) each = (reader_no_mark e each.0, reader_makes_no_mark own each.1)
+analyzer_makes_no_mark : (own : List BufferEntry) → EachCall IsAnalyzerCall own → EachCall MakesNoMark own
+analyzer_makes_no_mark [] each = tt
+analyzer_makes_no_mark (e ∷ own) each = (analyzer_no_mark e each.0, analyzer_makes_no_mark own each.1)
 
 abbrev NoneMade : Session → (buffer by : ℕ) → Type 0
 NoneMade s buffer by = EachCall MakesNoMark (entries_by by (s.history buffer))
@@ -275,7 +275,7 @@ logger_marks_alone senders s keep buffer other differs =
           | inr analyzer ↦
               subst (λ (by : ℕ). NoneMade s buffer by) analyzer.caller_is
               (subst (λ (b : ℕ). NoneMade s b (caller_of_client analyzer.analyzer.client)) analyzer.buffer_is
-              (reader_makes_no_mark (buffer_calls s analyzer.analyzer.buffer analyzer.analyzer.client) (keep.analyzers_keep analyzer.analyzer analyzer.stands).calls.only_reads))
+              (analyzer_makes_no_mark (buffer_calls s analyzer.analyzer.buffer analyzer.analyzer.client) (keep.analyzers_keep analyzer.analyzer analyzer.stands).calls.only_reads))
         ]
       ]
     ]

@@ -23,7 +23,7 @@ use Rattle.member_model.specs.Turns.{MemberTurn, IsAcceptedStart, HasTurnOf, Are
 use Rattle.member_model.specs.SentCalls.{own_sent, EachCall, WasSpent}
 use Rattle.member_model.specs.OwnCalls.{SendsNone}
 use Rattle.front_ends.specs.FrontKept.{made_events, EndedSo, IsFrontTally, KeepsFront}
-use Rattle.analyzers.specs.AnalyzerKept.{IsReaderCall}
+use Rattle.analyzers.specs.AnalyzerKept.{IsAnalyzerCall}
 use Rattle.caller_laws.specs.OneCaller.{HaveRunSends}
 use Rattle.caller_laws.specs.CallerLaws.{IsSendOf, SendsStandInOrder, SentByCaller, SendIsAmong, SendsOrReads, MembersFit}
 use Rattle.engine_laws.specs.BegunTurns.{HasTally}
@@ -125,14 +125,14 @@ each_at : (P : BufferEntry → Type 0) (before after : List BufferEntry) (e : Bu
 each_at P [] after e each = each.0
 each_at P (b ∷ before) after e each = each_at P before after e each.1
 
-reader_silent : (e : BufferEntry) → IsReaderCall e → SendsNone e
-reader_silent (Send stated event reply) reads = absurd reads
-reader_silent (SendInRun start stated event reply) reads = absurd reads
-reader_silent e reads = tt
+analyzer_silent : (e : BufferEntry) → IsAnalyzerCall e → SendsNone e
+analyzer_silent (Send stated event reply) reads = absurd reads
+analyzer_silent (SendInRun start stated event reply) reads = absurd reads
+analyzer_silent e reads = tt
 
-readers_silent : (own : List BufferEntry) → EachCall IsReaderCall own → EachCall SendsNone own
-readers_silent [] each = tt
-readers_silent (e ∷ own) each = (reader_silent e each.0, readers_silent own each.1)
+analyzers_silent : (own : List BufferEntry) → EachCall IsAnalyzerCall own → EachCall SendsNone own
+analyzers_silent [] each = tt
+analyzers_silent (e ∷ own) each = (analyzer_silent e each.0, analyzers_silent own each.1)
 
 pub each_reads_or_sends : (s : Session) → MembersKeep s → (buffer caller : ℕ) → SendsOrReads (entries_by caller (s.history buffer))
 each_reads_or_sends s keep buffer caller = elim (keep.callers buffer caller) as (λ w. SendsOrReads (entries_by caller (s.history buffer))) [
@@ -149,7 +149,7 @@ each_reads_or_sends s keep buffer caller = elim (keep.callers buffer caller) as 
           let keeps = keep.analyzers_keep analyzer.analyzer analyzer.stands in
           subst (λ (by : ℕ). SendsOrReads (entries_by by (s.history buffer))) analyzer.caller_is
           (subst (λ (b : ℕ). SendsOrReads (entries_by (caller_of_client analyzer.analyzer.client) (s.history b))) analyzer.buffer_is
-          (inr (readers_silent (buffer_calls s analyzer.analyzer.buffer analyzer.analyzer.client) keeps.calls.only_reads, keeps.calls.own_calls)))
+          (inr (analyzers_silent (buffer_calls s analyzer.analyzer.buffer analyzer.analyzer.client) keeps.calls.only_reads, keeps.calls.own_calls)))
     ]
   ]
 ]
@@ -174,10 +174,10 @@ only_fronts_sent sent fit s keep buffer start index place x at =
           }
           | inr analyzer ↦
               let own : ℕ → ℕ → List BufferEntry = λ b by. entries_by by (s.history b) in
-              let reads : EachCall IsReaderCall (own buffer it.0) =
-              subst (λ (by : ℕ). EachCall IsReaderCall (own buffer by)) analyzer.caller_is
-              (subst (λ (b : ℕ). EachCall IsReaderCall (own b (caller_of_client analyzer.analyzer.client))) analyzer.buffer_is (keep.analyzers_keep analyzer.analyzer analyzer.stands).calls.only_reads) in
-              absurd (each_at IsReaderCall it.1.before it.1.after (SendInRun start it.1.stated x.event (Ok place)) (subst (EachCall IsReaderCall) it.1.stands reads))
+              let reads : EachCall IsAnalyzerCall (own buffer it.0) =
+              subst (λ (by : ℕ). EachCall IsAnalyzerCall (own buffer by)) analyzer.caller_is
+              (subst (λ (b : ℕ). EachCall IsAnalyzerCall (own b (caller_of_client analyzer.analyzer.client))) analyzer.buffer_is (keep.analyzers_keep analyzer.analyzer analyzer.stands).calls.only_reads) in
+              absurd (each_at IsAnalyzerCall it.1.before it.1.after (SendInRun start it.1.stated x.event (Ok place)) (subst (EachCall IsAnalyzerCall) it.1.stands reads))
         ]
       ]
     ]

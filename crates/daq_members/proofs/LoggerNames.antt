@@ -8,7 +8,7 @@ use Rattle.member_model.specs.TurnCalls.{member_turns}
 use Rattle.mid_logger.specs.declared.channel.Channel.{Channel}
 use Rattle.mid_logger.specs.declared.stage.ChannelStage.{ChannelStage}
 use Rattle.mid_logger.specs.Channels.{channel_run}
-use Rattle.loggers.specs.Moments.{RunFiles, LoggerMoment, IsLoggerReady, AreIdle}
+use Rattle.loggers.specs.Moments.{RunFiles, LoggerMoment, IsLoggerReady, AreIdleChannels}
 use Rattle.loggers.specs.Turning.{IsIdleOutside}
 use Rattle.loggers.specs.LoggerStands.{LoggerStands}
 use Rattle.loggers.specs.OtherFiles.{specs_in, HaveRunsAmong, PullsLeaveFiles}
@@ -30,7 +30,7 @@ pub record NameLaws : Type 0 where
   pub leave : PullsLeaveFiles
 
 -- a logger without a run, which had no turn, keeps the names that are there
-pub idle_names : (slots : List (Option Channel)) (told : RunFiles) (turns : List MemberTurn) → AreIdle slots → turns ≡ [] → KeepsNames slots told told turns
+pub idle_names : (slots : List (Option Channel)) (told : RunFiles) (turns : List MemberTurn) → AreIdleChannels slots → turns ≡ [] → KeepsNames slots told told turns
 idle_names slots told turns idle no_turns = record {
   tells = refl;
   names = λ tells none. record {

@@ -6,7 +6,7 @@ ghost use Rattle.buffer_core.specs.Slots.{some_slot};
 ghost use Rattle.turn_lock.specs.Passes.{number_of, held_by, own_entries, IsOf};
 ghost use Rattle.transition_lock.specs.SharedEngines.{engine_lock_of};
 ghost use Rattle.member_model.specs.TurnCalls.{member_turns};
-ghost use Rattle.loggers.specs.Moments.{RunFiles, IsLoggerReady, AreIdle};
+ghost use Rattle.loggers.specs.Moments.{RunFiles, IsLoggerReady, AreIdleChannels};
 ghost use Rattle.loggers.specs.NewLoggers.{NoneTakenBack};
 ghost use Rattle.loggers.specs.SlotPulls.{HasEventRoom};
 ghost use Rattle.loggers.specs.Turning.{buffers_begun};
@@ -89,7 +89,7 @@ impl<'a, P: EndlessPort, F: Files> LoggerSeat<'a, P, F> {
         requires room { (number : ℕ) → HasEventRoom number member.logger.channels
             (map P.access ports) }
         requires fresh { own_entries member.seat.pass ≡ [] }
-        requires idle { AreIdle member.logger.channels }
+        requires idle { AreIdleChannels member.logger.channels }
         requires begun { buffers_begun member.logger.run ≤ length ports }
         requires small { IfSome member.logger.stop_dump (λ bytes. length bytes ≤ record_limit) }
         requires reasons { (told : RunFiles) → GivesReasons member.logger.channels

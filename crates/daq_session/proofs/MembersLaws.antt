@@ -24,17 +24,17 @@ use Rattle.session_lines.specs.Stages.{members_declared, opened_runs}
 abbrev pub names_of : List FrontDeclared → List (List ℕ)
 names_of fronts = map (λ front. front.name) fronts
 
-abbrev pub reader_names : List AnalyzerDeclared → List (List ℕ)
-reader_names analyzers = map (λ analyzer. analyzer.name) analyzers
+abbrev pub names_of_analyzers : List AnalyzerDeclared → List (List ℕ)
+names_of_analyzers analyzers = map (λ analyzer. analyzer.name) analyzers
 
 -- how many members these are
 many_members : (fronts : List FrontDeclared) (analyzers : List AnalyzerDeclared) → length (member_names fronts analyzers) ≡ length fronts + suc (length analyzers)
 many_members fronts analyzers =
-    let first : length (member_names fronts analyzers) ≡ length (map (member_in FrontEnd) (names_of fronts)) + suc (length (map (member_in Analyzer) (reader_names analyzers))) =
-    length-append (map (member_in FrontEnd) (names_of fronts)) (member_in Logger logger_name ∷ map (member_in Analyzer) (reader_names analyzers)) in
+    let first : length (member_names fronts analyzers) ≡ length (map (member_in FrontEnd) (names_of fronts)) + suc (length (map (member_in Analyzer) (names_of_analyzers analyzers))) =
+    length-append (map (member_in FrontEnd) (names_of fronts)) (member_in Logger logger_name ∷ map (member_in Analyzer) (names_of_analyzers analyzers)) in
     let fs : length (map (member_in FrontEnd) (names_of fronts)) ≡ length fronts = length-map (names_of fronts) (member_in FrontEnd) ∙ length-map fronts (λ front. front.name) in
-    let readers : length (map (member_in Analyzer) (reader_names analyzers)) ≡ length analyzers = length-map (reader_names analyzers) (member_in Analyzer) ∙ length-map analyzers (λ analyzer. analyzer.name) in
-    omega (arith, first, fs, readers)
+    let named_analyzers : length (map (member_in Analyzer) (names_of_analyzers analyzers)) ≡ length analyzers = length-map (names_of_analyzers analyzers) (member_in Analyzer) ∙ length-map analyzers (λ analyzer. analyzer.name) in
+    omega (arith, first, fs, named_analyzers)
 
 -- They are not more than an engine has clients.
 pub members_few : (fronts : List FrontDeclared) (analyzers : List AnalyzerDeclared) → length fronts ≤ 32 → length analyzers ≤ 8 → (members : List MemberName) → members ≡ member_names fronts analyzers → length members ≤ most_clients
@@ -61,18 +61,18 @@ main_seen engine own = record { engine = engine; own = own }
 abbrev registered_behind : List EngineEntry → List MemberName → List EngineEntry
 registered_behind own members = own ++ registrations (length (known_from own).clients) members
 
-pub opened_so : (quota : ℕ) (lists : DeclaredLists) (engine : SharedEngine) (names readers : List (List ℕ)) (members : List MemberName) (channels : List ChannelSpec) (old new : MainSeen) (runs : RunsSeen)
-    → names ≡ names_of lists.fronts → readers ≡ reader_names lists.analyzers → members ≡ member_names lists.fronts lists.analyzers → channels ≡ lists.channels
+pub opened_so : (quota : ℕ) (lists : DeclaredLists) (engine : SharedEngine) (names named_analyzers : List (List ℕ)) (members : List MemberName) (channels : List ChannelSpec) (old new : MainSeen) (runs : RunsSeen)
+    → names ≡ names_of lists.fronts → named_analyzers ≡ names_of_analyzers lists.analyzers → members ≡ member_names lists.fronts lists.analyzers → channels ≡ lists.channels
     → old.engine ≡ engine → old.own ≡ [] → new.own ≡ registered_behind old.own members → new.engine ≡ old.engine
-    → runs ≡ no_runs quota names channels readers new → runs ≡ opened_runs quota (declared_by lists) engine
-opened_so quota lists engine names readers members channels old new runs named read are specs at_engine unseen registered same is =
+    → runs ≡ no_runs quota names channels named_analyzers new → runs ≡ opened_runs quota (declared_by lists) engine
+opened_so quota lists engine names named_analyzers members channels old new runs named read are specs at_engine unseen registered same is =
     let own : new.own ≡ registrations 0 (members_declared (declared_by lists)) =
     registered
     ∙ ap (λ (calls : List EngineEntry). registered_behind calls members) unseen
     ∙ ap (λ (ms : List MemberName). registrations 0 ms) are in
     is
-    ∙ ap (λ (fs : List (List ℕ)). no_runs quota fs channels readers new) named
-    ∙ ap (λ (cs : List ChannelSpec). no_runs quota (names_of lists.fronts) cs readers new) specs
+    ∙ ap (λ (fs : List (List ℕ)). no_runs quota fs channels named_analyzers new) named
+    ∙ ap (λ (cs : List ChannelSpec). no_runs quota (names_of lists.fronts) cs named_analyzers new) specs
     ∙ ap (λ (rs : List (List ℕ)). no_runs quota (names_of lists.fronts) lists.channels rs new) read
-    ∙ ap (λ (e : SharedEngine). no_runs quota (names_of lists.fronts) lists.channels (reader_names lists.analyzers) (main_seen e new.own)) (same ∙ at_engine)
-    ∙ ap (λ (calls : List EngineEntry). no_runs quota (names_of lists.fronts) lists.channels (reader_names lists.analyzers) (main_seen engine calls)) own
+    ∙ ap (λ (e : SharedEngine). no_runs quota (names_of lists.fronts) lists.channels (names_of_analyzers lists.analyzers) (main_seen e new.own)) (same ∙ at_engine)
+    ∙ ap (λ (calls : List EngineEntry). no_runs quota (names_of lists.fronts) lists.channels (names_of_analyzers lists.analyzers) (main_seen engine calls)) own

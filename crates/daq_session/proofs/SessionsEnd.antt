@@ -102,7 +102,7 @@ module _ {D F K : Type 0} {g : _} (told : CrewTold Generator F K) (takes : told.
     own = closing_calls kept.last.main.own;
     database = final.database.access.seen;
     seats = kept.crew.fronts;
-    readers = kept.crew.analyzers;
+    seated_analyzers = kept.crew.analyzers;
     callers = kept.callers;
     opening = kept.are.engine;
     members = kept.members;
@@ -111,7 +111,7 @@ module _ {D F K : Type 0} {g : _} (told : CrewTold Generator F K) (takes : told.
         (subst (λ (m : Generator → Order → ℕ → Event). (client : ℕ) → (front : FrontSeen Generator) → slice_get kept.crew.fronts client ≡ Some front → IsSeated told.takes m front) makes
         kept.keep.fronts);
     logger_seated = kept.keep.logger;
-    readers_seated = kept.keep.analyzers;
+    analyzers_seated = kept.keep.analyzers;
     histories = kept.histories;
     calls = kept.calls;
     few_analyzers = few_analyzers;

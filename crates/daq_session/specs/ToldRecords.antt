@@ -50,7 +50,7 @@ use Rattle.session_setup.specs.declared.declared.FrontDeclared.{FrontDeclared}
 use Rattle.session_objects.specs.declared.record.BufferRecord.{BufferRecord}
 use Rattle.session_objects.specs.declared.record.SessionRecord.{SessionRecord}
 use Rattle.session_objects.specs.Members.{generator_makes, generator_of, request_of}
-use Rattle.session_objects.specs.Records.{TellsNotes}
+use Rattle.session_objects.specs.Records.{TellsDueNotes}
 use Rattle.session_laws.specs.ClosedSessions.{ClosedSession, engine_calls}
 use Rattle.session_laws.specs.CountedFaults.{CountsHold, state_by_dump}
 use Rattle.session_laws.specs.EndLaws.{SessionHolds}
@@ -83,7 +83,7 @@ pub record AreHistoriesOf {D : Type 0} {g : _} (declared : Declared) (r : Sessio
   pub engine : IsLegalEngine engine_opening (history_of r.engine)
   pub follows : TurnsInOrder (history_of r.engine)
   pub database : LeadsDatabase (unwatched session_rows) (history_of r.database) r.database.value.database
-  pub notes : TellsNotes session_rows (history_of r.database)
+  pub notes : TellsDueNotes session_rows (history_of r.database)
 
 -- These are the main thread's calls in the histories, but for the last, which closes the engine.
 pub record AreMainCalls {D : Type 0} {g : _} (own : MainOwn) (r : SessionRecord D g) : Type 0 where

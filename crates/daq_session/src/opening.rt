@@ -217,11 +217,11 @@ fn open_runs<'a, R: Wait>(
     let analyzers = lists.analyzers.as_slice();
     let channels = lists.channels.as_slice();
     let names = front_names(alloc, fronts)?;
-    let readers = analyzer_names(alloc, analyzers)?;
+    let named_analyzers = analyzer_names(alloc, analyzers)?;
     let members = member_names(alloc, fronts, analyzers)?;
     let mut seat = MainSeat::new(&objects.engine, main);
     seat.register_all(rt, &members);
-    Runs::new(alloc, seat, quota, names, channels, readers)
+    Runs::new(alloc, seat, quota, names, channels, named_analyzers)
 }
 
 /// The members of a session that opens, and what the main thread keeps of its runs; or the run files and the pick where there is

@@ -56,5 +56,5 @@ numeral most base digits =
     else None
 
 -- The number that a whole text is: decimal digits, or `0x` and hexadecimal digits of either case, of at most this.
-unfoldable pub number_of : (most : ℕ) → List ℕ → Option ℕ
-number_of most text = if starts_with nat_eq text (codes "0x") then numeral most 16 (drop 2 text) else numeral most 10 text
+unfoldable pub whole_number : (most : ℕ) → List ℕ → Option ℕ
+whole_number most text = if starts_with nat_eq text (codes "0x") then numeral most 16 (drop 2 text) else numeral most 10 text

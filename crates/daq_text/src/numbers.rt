@@ -2,7 +2,7 @@ ghost use Rattle.std.specs.Prelude.{◌≡◌, ◌≤◌, length, IfSome, IfOk};
 ghost use Rattle.std.specs.Char.{digit_value};
 ghost use Rattle.std.specs.List.{list_all};
 ghost use Rattle.std.specs.Str.Parse.{digits_value};
-ghost use Rattle.daq_text.specs.Numbers.{behind, digits_form, ended, is_blank, is_digit_in, mapped, number_of, numeral, unsigned_form, up_to};
+ghost use Rattle.daq_text.specs.Numbers.{behind, digits_form, ended, is_blank, is_digit_in, mapped, whole_number, numeral, unsigned_form, up_to};
 
 /// Whether the byte is a blank, a space or a tab.
 pub fn is_blank(byte: u8) -> bool
@@ -123,9 +123,9 @@ fn whole_digits(text: &[u8], base: u8, most: u64) -> Option<u64>
 }
 
 /// The number that the whole text is: decimal digits, or `0x` and hexadecimal digits, of at most `most`.
-#[tactic(auto, unfolding(crate::specs::Numbers::number_of))]
+#[tactic(auto, unfolding(crate::specs::Numbers::whole_number))]
 pub fn number(text: &[u8], most: u64) -> Option<u64>
-    ensures value { result ≡ number_of most text.now }
+    ensures value { result ≡ whole_number most text.now }
     ensures bound { IfSome result (λ n. n ≤ most) }
 {
     if text.starts_with(b"0x".as_slice()) {

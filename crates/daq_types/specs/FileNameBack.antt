@@ -8,8 +8,8 @@ pub record IsStoredFileName (n : Inside) : Type 0 where
   pub padded : IsPadded 255 n.bytes n.len
   pub name : IsFileName (take n.len n.bytes)
 
-abbrev pub stored : List ℕ → Inside
-stored text = record { bytes = text ++ replicate (255 - length text) 0; len = length text }
+abbrev pub stored_file_name : List ℕ → Inside
+stored_file_name text = record { bytes = text ++ replicate (255 - length text) 0; len = length text }
 
-pub stored_back : (n : Inside) → IsStoredFileName n → stored (take n.len n.bytes) ≡ n
-stored_back n h = rw (padded_back 255 n.bytes n.len h.padded, length-take-padded 255 n.bytes n.len h.padded) refl
+pub stored_file_name_back : (n : Inside) → IsStoredFileName n → stored_file_name (take n.len n.bytes) ≡ n
+stored_file_name_back n h = rw (padded_back 255 n.bytes n.len h.padded, length-take-padded 255 n.bytes n.len h.padded) refl

@@ -23,15 +23,15 @@ impl Model for FileName {
 
     ghost Value = { List ℕ };
 
-    ghost use Rattle.daq_types.specs.FileNameBack.{IsStoredFileName, stored, stored_back};
+    ghost use Rattle.daq_types.specs.FileNameBack.{IsStoredFileName, stored_file_name, stored_file_name_back};
 
     ghost view = { λ n. take n.len n.bytes };
 
     ghost invariant = { IsStoredFileName };
 
-    ghost inverse = { stored };
+    ghost inverse = { stored_file_name };
 
-    ghost inverse_ok = { stored_back };
+    ghost inverse_ok = { stored_file_name_back };
 }
 
 impl FileName {

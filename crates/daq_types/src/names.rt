@@ -32,15 +32,15 @@ impl Model for Name {
 
     ghost Value = { List ℕ };
 
-    ghost use Rattle.daq_types.specs.NameBack.{IsStoredName, stored, stored_back};
+    ghost use Rattle.daq_types.specs.NameBack.{IsStoredName, stored_name, stored_name_back};
 
     ghost view = { λ n. take n.len n.bytes };
 
     ghost invariant = { IsStoredName };
 
-    ghost inverse = { stored };
+    ghost inverse = { stored_name };
 
-    ghost inverse_ok = { stored_back };
+    ghost inverse_ok = { stored_name_back };
 }
 
 /// Whether this byte, at this place of a name of this many bytes, breaks the rule.

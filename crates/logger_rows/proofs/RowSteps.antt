@@ -14,7 +14,7 @@ use Rattle.local_port.specs.Ported.{Ported, KeepsPort, access_of}
 use Rattle.mid_logger.specs.declared.channel.Channel.{Channel}
 use Rattle.mid_logger.specs.declared.channel_spec.ChannelSpec.{ChannelSpec}
 use Rattle.loggers.specs.declared.logger.Logger.{Logger}
-use Rattle.loggers.specs.Moments.{IsLoggerReady, HaveEntries, AreIdle, AreSamePorts}
+use Rattle.loggers.specs.Moments.{IsLoggerReady, HaveEntries, AreIdleChannels, AreSamePorts}
 use Rattle.loggers.specs.SlotPulls.{HasEventRoom}
 use Rattle.loggers.specs.Turning.{is_run_on, IsIdleOutside, buffers_begun}
 use Rattle.loggers.specs.declared.logged_run.LoggedRun.{LoggedRun}
@@ -199,7 +199,7 @@ row_numbers count buffers specs few are = record {
   differ = λ i j s t first second other same. other (omega (arith, (are.each i s first).0, (are.each j t second).0, same));
 }
 
-pub new_row : (logger : Logger) (specs : List ChannelSpec) (rooms : List ℕ) (count buffers : ℕ) (ports : List Ported) (seen : Seen) → 0 < buffers → AreRowSpecs count buffers specs → AreRowRooms count buffers rooms → AreRowPorts buffers ports → HasNewChannels specs rooms logger.channels → logger.run ≡ None → logger.stop_dump ≡ None → AreIdle logger.channels
+pub new_row : (logger : Logger) (specs : List ChannelSpec) (rooms : List ℕ) (count buffers : ℕ) (ports : List Ported) (seen : Seen) → 0 < buffers → AreRowSpecs count buffers specs → AreRowRooms count buffers rooms → AreRowPorts buffers ports → HasNewChannels specs rooms logger.channels → logger.run ≡ None → logger.stop_dump ≡ None → AreIdleChannels logger.channels
     → ((ps : List Access) (files : Seen) → HavePorts specs ps → IsLoggerReady logger.channels ps files) → IsRowReady logger (map access_of ports) seen
 new_row logger specs rooms count buffers ports seen some spec room are new run stop idle ready = record {
   ready = ready (map access_of ports) seen (λ i s at.

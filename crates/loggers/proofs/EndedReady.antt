@@ -10,7 +10,7 @@ use Rattle.buffer_core.specs.SlotLaws.{slot_within}
 use Rattle.mid_logger.specs.declared.channel.Channel.{Channel}
 use Rattle.mid_logger.specs.declared.channel_spec.ChannelSpec.{ChannelSpec}
 use Rattle.mid_logger.specs.declared.stage.ChannelStage.TheVariants.{Idle}
-use Rattle.loggers.specs.Moments.{InTurn, HaveFilesOpen, IsLoggerReady, AreIdle}
+use Rattle.loggers.specs.Moments.{InTurn, HaveFilesOpen, IsLoggerReady, AreIdleChannels}
 use Rattle.loggers.specs.SlotPulls.{HasEventRoom}
 use Rattle.loggers.specs.Finishing.{is_settled_stage, is_settled_slot, waiting_stop, EndingMoment, EndsSlot, EndsSlotAt, LoggerFinish, FinishesBy, FinishesLogger}
 use Rattle.loggers.proofs.SlotLists.{one_changed}
@@ -72,7 +72,7 @@ all_ended time dump a b settled steps = settled_below a.slots time dump (length 
 })
 
 -- every channel is idle behind the endings
-pub ended_idle : (time : ℕ) (dump : Option (List ℕ)) (a b : EndingMoment) → list_all is_settled_slot a.slots ≡ true → InTurn (λ number. EndsSlotAt time dump number) (length a.slots) a b → AreIdle b.slots
+pub ended_idle : (time : ℕ) (dump : Option (List ℕ)) (a b : EndingMoment) → list_all is_settled_slot a.slots ≡ true → InTurn (λ number. EndsSlotAt time dump number) (length a.slots) a b → AreIdleChannels b.slots
 ended_idle time dump a b settled steps n c stood =
     let to : SettledTo a.slots (length a.slots) b = all_ended time dump a b settled steps in
     to.idle n c stood (omega (arith, slot_within b.slots n c stood, to.keeps.many))

@@ -22,7 +22,7 @@ use Rattle.mid_logger.specs.declared.channel.Channel.{Channel}
 use Rattle.mid_logger.specs.declared.channel_spec.ChannelSpec.{ChannelSpec}
 use Rattle.mid_logger.specs.declared.stage.ChannelStage.{ChannelStage}
 use Rattle.loggers.specs.Moments.{LoggerMoment, ChannelStep, StepsChannel, CallsBuffer, MarksBuffer, noted_channel}
-use Rattle.loggers.specs.FairAsks.{one_client, clients_of, AttachesFew, HasRefusedBegin, StartsBehind, IsFairCall, AreFairBegins, BeginsFairly}
+use Rattle.loggers.specs.FairAsks.{one_client, channel_clients, AttachesFew, HasRefusedBegin, StartsBehind, IsFairCall, AreFairBegins, BeginsFairly}
 use Rattle.loggers.proofs.SlotLists.{same_or_other, got_there, kept_there}
 use Rattle.loggers.proofs.PortSteps.{which_port}
 
@@ -211,41 +211,41 @@ fair_turns B L turns others slots ports stay f = record {
 }
 
 -- channels that have the same clients
-pub fair_slots : (B L : (buffer start : ℕ) → Type 0) (turns : List MemberTurn) (slots later : List (Option Channel)) (ports : List Access) → ((buffer : ℕ) → sum_by (clients_of buffer) later ≡ sum_by (clients_of buffer) slots) → Fair B L turns slots ports → Fair B L turns later ports
+pub fair_slots : (B L : (buffer start : ℕ) → Type 0) (turns : List MemberTurn) (slots later : List (Option Channel)) (ports : List Access) → ((buffer : ℕ) → sum_by (channel_clients buffer) later ≡ sum_by (channel_clients buffer) slots) → Fair B L turns slots ports → Fair B L turns later ports
 fair_slots B L turns slots later ports same f = record { few = λ buffer a at. omega (arith, f.few buffer a at, same buffer); fair = f.fair }
 
-here_clients : (buffer : ℕ) (c : Channel) → c.spec.buffer ≡ buffer → clients_of buffer (Some c) ≡ one_client c.client
+here_clients : (buffer : ℕ) (c : Channel) → c.spec.buffer ≡ buffer → channel_clients buffer (Some c) ≡ one_client c.client
 here_clients buffer c is = rw (eq-eqb c.spec.buffer buffer is) refl
 
-else_clients : (buffer : ℕ) (c : Channel) → c.spec.buffer ≢ buffer → clients_of buffer (Some c) ≡ 0
+else_clients : (buffer : ℕ) (c : Channel) → c.spec.buffer ≢ buffer → channel_clients buffer (Some c) ≡ 0
 else_clients buffer c other = rw (ne_eqb c.spec.buffer buffer other) refl
 
 -- one channel is put in the place of another
 pub clients_put : (buffer : ℕ) (slots : List (Option Channel)) (n : ℕ) (before after : Channel) → slot_at slots n ≡ Some before
-    → sum_by (clients_of buffer) (slice_set slots n (Some after)) + clients_of buffer (Some before) ≡ sum_by (clients_of buffer) slots + clients_of buffer (Some after)
+    → sum_by (channel_clients buffer) (slice_set slots n (Some after)) + channel_clients buffer (Some before) ≡ sum_by (channel_clients buffer) slots + channel_clients buffer (Some after)
 clients_put buffer slots n before after there =
-    let sum : sum_by (clients_of buffer) (slice_set slots n (Some after)) + clients_of buffer (slot_at slots n) ≡ sum_by (clients_of buffer) slots + clients_of buffer (Some after) =
-    sum_by-set (clients_of buffer) slots n (Some after) None (slot_within slots n before there) in
-    subst (λ (o : Option Channel). sum_by (clients_of buffer) (slice_set slots n (Some after)) + clients_of buffer o ≡ sum_by (clients_of buffer) slots + clients_of buffer (Some after)) there sum
+    let sum : sum_by (channel_clients buffer) (slice_set slots n (Some after)) + channel_clients buffer (slot_at slots n) ≡ sum_by (channel_clients buffer) slots + channel_clients buffer (Some after) =
+    sum_by-set (channel_clients buffer) slots n (Some after) None (slot_within slots n before there) in
+    subst (λ (o : Option Channel). sum_by (channel_clients buffer) (slice_set slots n (Some after)) + channel_clients buffer o ≡ sum_by (channel_clients buffer) slots + channel_clients buffer (Some after)) there sum
 
-pub same_client_put : (buffer : ℕ) (slots : List (Option Channel)) (n : ℕ) (before after : Channel) → slot_at slots n ≡ Some before → clients_of buffer (Some after) ≡ clients_of buffer (Some before)
-    → sum_by (clients_of buffer) (slice_set slots n (Some after)) ≡ sum_by (clients_of buffer) slots
+pub same_client_put : (buffer : ℕ) (slots : List (Option Channel)) (n : ℕ) (before after : Channel) → slot_at slots n ≡ Some before → channel_clients buffer (Some after) ≡ channel_clients buffer (Some before)
+    → sum_by (channel_clients buffer) (slice_set slots n (Some after)) ≡ sum_by (channel_clients buffer) slots
 same_client_put buffer slots n before after there same = omega (arith, clients_put buffer slots n before after there, same)
 
-noted_one : (note : ChannelStage → ChannelStage) (marked buffer : ℕ) (o : Option Channel) → clients_of buffer (option_map (noted_channel note marked) o) ≡ clients_of buffer o
+noted_one : (note : ChannelStage → ChannelStage) (marked buffer : ℕ) (o : Option Channel) → channel_clients buffer (option_map (noted_channel note marked) o) ≡ channel_clients buffer o
 noted_one note marked buffer None = refl
 noted_one note marked buffer (Some c) =
-    split (c.spec.buffer == marked) (λ b. clients_of buffer (Some (if b then record c { stage = note c.stage } else c)) ≡ clients_of buffer (Some c)) (λ h. refl) (λ h. refl)
+    split (c.spec.buffer == marked) (λ b. channel_clients buffer (Some (if b then record c { stage = note c.stage } else c)) ≡ channel_clients buffer (Some c)) (λ h. refl) (λ h. refl)
 
-noted_clients : (note : ChannelStage → ChannelStage) (marked buffer : ℕ) (slots : List (Option Channel)) → sum_by (clients_of buffer) (map (option_map (noted_channel note marked)) slots) ≡ sum_by (clients_of buffer) slots
+noted_clients : (note : ChannelStage → ChannelStage) (marked buffer : ℕ) (slots : List (Option Channel)) → sum_by (channel_clients buffer) (map (option_map (noted_channel note marked)) slots) ≡ sum_by (channel_clients buffer) slots
 noted_clients note marked buffer [] = refl
 noted_clients note marked buffer (o ∷ os) =
     omega (
       arith,
       noted_one note marked buffer o,
       noted_clients note marked buffer os,
-      sum_by-cons (clients_of buffer) (option_map (noted_channel note marked) o) (map (option_map (noted_channel note marked)) os),
-      sum_by-cons (clients_of buffer) o os,
+      sum_by-cons (channel_clients buffer) (option_map (noted_channel note marked) o) (map (option_map (noted_channel note marked)) os),
+      sum_by-cons (channel_clients buffer) o os,
     )
 
 -- Steps of one channel.
@@ -287,18 +287,18 @@ channel_step Step B L turns n before a b s there spec calls f =
     let same_buffer : s.after.spec.buffer ≡ buffer = ap (λ (x : ChannelSpec). x.buffer) spec in
     let few : AttachesFew (slice_set a.slots n (Some s.after)) (slice_set a.ports buffer s.later_port) =
     λ k x at.
-    let put : sum_by (clients_of k) (slice_set a.slots n (Some s.after)) + clients_of k (Some before) ≡ sum_by (clients_of k) a.slots + clients_of k (Some s.after) = clients_put k a.slots n before s.after there in
-    elim (which_port a.ports buffer s.port s.later_port k x s.at_port at) as (λ w. attaches_made x.own ≤ sum_by (clients_of k) (slice_set a.slots n (Some s.after))) [
+    let put : sum_by (channel_clients k) (slice_set a.slots n (Some s.after)) + channel_clients k (Some before) ≡ sum_by (channel_clients k) a.slots + channel_clients k (Some s.after) = clients_put k a.slots n before s.after there in
+    elim (which_port a.ports buffer s.port s.later_port k x s.at_port at) as (λ w. attaches_made x.own ≤ sum_by (channel_clients k) (slice_set a.slots n (Some s.after))) [
       | inl hit ↦
           let made : attaches_made x.own ≡ attaches_made s.later_port.own = ap (λ (z : Access). attaches_made z.own) (sym hit.1) in
-          let were : attaches_made s.port.own ≤ sum_by (clients_of k) a.slots = f.few k s.port (subst (λ (j : ℕ). slice_get a.ports j ≡ Some s.port) (sym hit.0) s.at_port) in
-          let first : clients_of k (Some before) ≡ one_client before.client = here_clients k before (sym hit.0) in
-          let second : clients_of k (Some s.after) ≡ one_client s.after.client = here_clients k s.after (same_buffer ∙ sym hit.0) in
+          let were : attaches_made s.port.own ≤ sum_by (channel_clients k) a.slots = f.few k s.port (subst (λ (j : ℕ). slice_get a.ports j ≡ Some s.port) (sym hit.0) s.at_port) in
+          let first : channel_clients k (Some before) ≡ one_client before.client = here_clients k before (sym hit.0) in
+          let second : channel_clients k (Some s.after) ≡ one_client s.after.client = here_clients k s.after (same_buffer ∙ sym hit.0) in
           omega (arith, made, were, first, second, put, calls.attached)
       | inr miss ↦
-          let were : attaches_made x.own ≤ sum_by (clients_of k) a.slots = f.few k x miss.1 in
-          let first : clients_of k (Some before) ≡ 0 = else_clients k before (λ e. miss.0 (sym e)) in
-          let second : clients_of k (Some s.after) ≡ 0 = else_clients k s.after (λ e. miss.0 (sym (sym same_buffer ∙ e))) in
+          let were : attaches_made x.own ≤ sum_by (channel_clients k) a.slots = f.few k x miss.1 in
+          let first : channel_clients k (Some before) ≡ 0 = else_clients k before (λ e. miss.0 (sym e)) in
+          let second : channel_clients k (Some s.after) ≡ 0 = else_clients k s.after (λ e. miss.0 (sym (sym same_buffer ∙ e))) in
           omega (arith, were, first, second, put)
     ] in
     let now : Fair B L turns (slice_set a.slots n (Some s.after)) (slice_set a.ports buffer s.later_port) = record {
@@ -316,10 +316,10 @@ pub call_step : (B C L M : (buffer start : ℕ) → Type 0) (turns : List Member
 call_step B C L M turns e buffer a b c none fair_here starts_here left_here starts_else left_else f =
     let sum : attaches_made c.later_port.own ≡ attaches_made c.port.own + attaches_made (e ∷ []) = ap attaches_made c.called.own ∙ attaches-append c.port.own (e ∷ []) in
     let now : Fair C M turns a.slots (slice_set a.ports buffer c.later_port) = record {
-      few = λ k x at. elim (which_port a.ports buffer c.port c.later_port k x c.at_port at) as (λ w. attaches_made x.own ≤ sum_by (clients_of k) a.slots) [
+      few = λ k x at. elim (which_port a.ports buffer c.port c.later_port k x c.at_port at) as (λ w. attaches_made x.own ≤ sum_by (channel_clients k) a.slots) [
         | inl hit ↦
             let made : attaches_made x.own ≡ attaches_made c.later_port.own = ap (λ (z : Access). attaches_made z.own) (sym hit.1) in
-            let were : attaches_made c.port.own ≤ sum_by (clients_of k) a.slots = f.few k c.port (subst (λ (j : ℕ). slice_get a.ports j ≡ Some c.port) (sym hit.0) c.at_port) in
+            let were : attaches_made c.port.own ≤ sum_by (channel_clients k) a.slots = f.few k c.port (subst (λ (j : ℕ). slice_get a.ports j ≡ Some c.port) (sym hit.0) c.at_port) in
             omega (arith, made, were, sum, none)
         | inr miss ↦ f.few k x miss.1
       ];

@@ -42,7 +42,7 @@ use Rattle.loggers.specs.NewLoggers.{AreUnused}
 use Rattle.loggers.specs.Finishing.{EndingMoment, EndsSlot, EndsSlotAt, LoggerFinish, FinishesBy, FinishesLogger, is_settled_slot, waiting_stop}
 use Rattle.loggers.specs.Turning.{BeginsBuffer, EndsBuffer, PausesBuffer, ResumesBuffer, LoggerTurn, OpensBelow, BeginsBelow, AbortsAll, StartsSo, TakesStart, TakesStop, TakesMark, TakesAbort, TakesTurnBy, TakesTurn, is_run_on, is_started, is_of_start, buffers_begun, start_part}
 use Rattle.loggers.specs.LoggerStands.{logger_turn}
-use Rattle.loggers.specs.FairAsks.{clients_of, HasStart, HasRefusedBegin, StartsBehind, IsFairBegin, GoesOnIn, AsksFairly}
+use Rattle.loggers.specs.FairAsks.{channel_clients, HasStart, HasRefusedBegin, StartsBehind, IsFairBegin, GoesOnIn, AsksFairly}
 use Rattle.loggers.proofs.InTurns.{turns_keep}
 use Rattle.loggers.proofs.SlotLists.{many_set}
 use Rattle.loggers.proofs.SameShape.{turn_ports}
@@ -458,14 +458,14 @@ pull_fair run n answer a b turns pulls asks =
 
 -- A call to finish.
 
-ended_same : (buffer : ℕ) (time : ℕ) (dump : Option (List ℕ)) (n : ℕ) (slot : Option Channel) (a b : EndingMoment) → slot_at a.slots n ≡ slot → EndsSlot time dump n slot a b → sum_by (clients_of buffer) b.slots ≡ sum_by (clients_of buffer) a.slots
-ended_same buffer time dump n None a b there same = ap (λ (m : EndingMoment). sum_by (clients_of buffer) m.slots) same
+ended_same : (buffer : ℕ) (time : ℕ) (dump : Option (List ℕ)) (n : ℕ) (slot : Option Channel) (a b : EndingMoment) → slot_at a.slots n ≡ slot → EndsSlot time dump n slot a b → sum_by (channel_clients buffer) b.slots ≡ sum_by (channel_clients buffer) a.slots
+ended_same buffer time dump n None a b there same = ap (λ (m : EndingMoment). sum_by (channel_clients buffer) m.slots) same
 ended_same buffer time dump n (Some before) a b there s =
-    let same : clients_of buffer (Some s.after) ≡ clients_of buffer (Some before) = ap (λ (c : Channel). clients_of buffer (Some c)) s.ends.channel in
-    ap (λ (l : List (Option Channel)). sum_by (clients_of buffer) l) s.slots ∙ same_client_put buffer a.slots n before s.after there same
+    let same : channel_clients buffer (Some s.after) ≡ channel_clients buffer (Some before) = ap (λ (c : Channel). channel_clients buffer (Some c)) s.ends.channel in
+    ap (λ (l : List (Option Channel)). sum_by (channel_clients buffer) l) s.slots ∙ same_client_put buffer a.slots n before s.after there same
 
-ended_all_same : (buffer : ℕ) (time : ℕ) (dump : Option (List ℕ)) (count : ℕ) (a b : EndingMoment) → InTurn (λ number. EndsSlotAt time dump number) count a b → sum_by (clients_of buffer) b.slots ≡ sum_by (clients_of buffer) a.slots
-ended_all_same buffer time dump zero a b steps = ap (λ (m : EndingMoment). sum_by (clients_of buffer) m.slots) steps
+ended_all_same : (buffer : ℕ) (time : ℕ) (dump : Option (List ℕ)) (count : ℕ) (a b : EndingMoment) → InTurn (λ number. EndsSlotAt time dump number) count a b → sum_by (channel_clients buffer) b.slots ≡ sum_by (channel_clients buffer) a.slots
+ended_all_same buffer time dump zero a b steps = ap (λ (m : EndingMoment). sum_by (channel_clients buffer) m.slots) steps
 ended_all_same buffer time dump (suc n) a b steps = ended_same buffer time dump n (slot_at steps.0.slots n) steps.0 b refl steps.2 ∙ ended_all_same buffer time dump n a steps.0 steps.1
 
 -- the turns once the latest was answered have the same starts

@@ -18,7 +18,7 @@ use Rattle.mid_logger.specs.declared.stage.ChannelRun.{ChannelRun}
 use Rattle.mid_logger.specs.ChannelTurns.{ChannelAt, RefusesRun}
 use Rattle.mid_logger.specs.Channels.{channel_run}
 use Rattle.mid_logger.specs.Patterns.{file_name_by}
-use Rattle.loggers.specs.Moments.{LoggerMoment, StepsSlot, AreIdle}
+use Rattle.loggers.specs.Moments.{LoggerMoment, StepsSlot, AreIdleChannels}
 use Rattle.loggers.specs.ChannelSteps.{OpensChannel}
 use Rattle.loggers.specs.Turning.{LoggerTurn, OpensBelow, UndoesOpens, StartsSo, PausesBuffer, ResumesBuffer, TakesStart, TakesStop, TakesMark, TakesAbort, TakesTurnBy, TakesTurn, IsIdleOutside, is_run_on, is_started, is_of_start, start_answer}
 use Rattle.loggers.specs.OtherFiles.{specs_in}
@@ -53,7 +53,7 @@ opens_all : (specs : List (Option ChannelSpec)) (order : Order) (dump : List ℕ
 opens_all specs order dump zero a b same o = subst (λ (m : LoggerMoment). Opens specs order.run m) (sym same) o
 opens_all specs order dump (suc n) a b opens o = opens_slot specs order dump n (slot_at opens.0.slots n) opens.0 b refl opens.2 (opens_all specs order dump n a opens.0 opens.1 o)
 
-opens_first : (order : Order) (a : LoggerMoment) → AreIdle a.slots → Opens (specs_in a.slots) order.run a
+opens_first : (order : Order) (a : LoggerMoment) → AreIdleChannels a.slots → Opens (specs_in a.slots) order.run a
 opens_first order a idle = record { specs_are = refl; runs = λ n c opened at is. absurd (no_run c.stage opened (idle n c at) is) }
 
 below_or_not : (n m : ℕ) → (n < m) ⊎ (m ≤ n)
@@ -72,7 +72,7 @@ exists_number (Exists channel) number spec name a b is refuses = (let same : cha
 exists_number (Fault channel) number spec name a b is refuses = absurd (cc (is))
 exists_number BufferRefused number spec name a b is refuses = absurd (cc (is))
 
-module _ (turns : List MemberTurn) (first : Seen) (order : Order) (dump : List ℕ) (why : Why) (begun : ℕ) (a b : LoggerMoment) (undoes : UndoesOpens order dump why begun a b) (idle : AreIdle a.slots) (tells : IsTrue a.files.seen.tells)
+module _ (turns : List MemberTurn) (first : Seen) (order : Order) (dump : List ℕ) (why : Why) (begun : ℕ) (a b : LoggerMoment) (undoes : UndoesOpens order dump why begun a b) (idle : AreIdleChannels a.slots) (tells : IsTrue a.files.seen.tells)
     (left : NamesLeft (IsNameLeft (specs_in a.slots) turns first) a.slots a.files.seen) (number : ℕ) (is : why ≡ Exists number) where
   abbrev specs : List (Option ChannelSpec)
   specs = specs_in a.slots
@@ -143,7 +143,7 @@ module _ (turns : List MemberTurn) (first : Seen) (t : LoggerTurn) (idle : IsIdl
   otherwise : (known : Option Answer) → t.answer ≡ known → ((number : ℕ) → known ≡ Some (No (Exists number)) → ⊥) → Taken
   otherwise known is never number answered = absurd (never number (sym is ∙ answered))
 
-  starts_taken : (result : Result ⊤ Why) (dump : List ℕ) (begun : ℕ) → StartsSo result t.order dump begun t.before t.after → AreIdle t.before.slots → t.answer ≡ Some (start_answer result) → Taken
+  starts_taken : (result : Result ⊤ Why) (dump : List ℕ) (begun : ℕ) → StartsSo result t.order dump begun t.before t.after → AreIdleChannels t.before.slots → t.answer ≡ Some (start_answer result) → Taken
   starts_taken (Ok done) dump begun starts idle_now is number answered = otherwise (Some (Yes Plain)) is (λ n e. cc (e)) number answered
   starts_taken (Err why) dump begun starts idle_now is number answered =
       let both : Some (No why) ≡ Some (No (Exists number)) = sym is ∙ answered in

@@ -24,7 +24,7 @@ use Rattle.mid_logger.specs.Keeping.{ChangesFile, PullsChange, ClosesChange}
 use Rattle.mid_logger.specs.ChannelTurns.{ChannelAt, OpenFaults, RefusesRun, broken_run}
 use Rattle.mid_logger.specs.Patterns.{file_name_by}
 use Rattle.mid_logger.specs.RecordFiles.{IsGone, UndoesFile}
-use Rattle.loggers.specs.Moments.{RunFiles, LoggerMoment, StepsChannel, StepsSlot, StepsAt, CallsBuffer, MarksBuffer, InTurn, noted_channel, AreIdle, HaveFilesOpen}
+use Rattle.loggers.specs.Moments.{RunFiles, LoggerMoment, StepsChannel, StepsSlot, StepsAt, CallsBuffer, MarksBuffer, InTurn, noted_channel, AreIdleChannels, HaveFilesOpen}
 use Rattle.loggers.specs.ChannelSteps.{OpensChannel, AbortsChannel, PullsChannel}
 use Rattle.loggers.specs.SlotPulls.{PullsSlot, PullsNumbered}
 use Rattle.loggers.specs.Finishing.{EndingMoment, EndsSlot, EndsSlotAt, EndsFiles, LoggerFinish, states_idle}
@@ -174,7 +174,7 @@ pub opening_all : (Good : List ℕ → Option Stored → Type 0) (order : Order)
 opening_all Good order dump zero a b same g = subst (λ (m : LoggerMoment). Opening Good 0 m) (sym same) g
 opening_all Good order dump (suc n) a b opens g = opening_slot Good order dump n (slot_at opens.0.slots n) opens.0 b refl opens.2 (opening_all Good order dump n a opens.0 opens.1 g)
 
-pub opening_first : (Good : List ℕ → Option Stored → Type 0) (a : LoggerMoment) → AreIdle a.slots → IsTrue a.files.seen.tells → NamesLeft Good a.slots a.files.seen → Opening Good 0 a
+pub opening_first : (Good : List ℕ → Option Stored → Type 0) (a : LoggerMoment) → AreIdleChannels a.slots → IsTrue a.files.seen.tells → NamesLeft Good a.slots a.files.seen → Opening Good 0 a
 opening_first Good a idle tells left = record {
   tells = tells;
   each = λ name. elim (left.each name) as (λ w. Good name (a.files.seen.at name) ⊎ OpenFrom 0 a.slots name) [
@@ -451,7 +451,7 @@ same_many Good many m g = record { tells = g.tells; many_is = refl; each = g.eac
 
 -- The turns.
 
-opens_undone : (Good : List ℕ → Option Stored → Type 0) (order : Order) (dump : List ℕ) (why : Why) (begun : ℕ) (a b : LoggerMoment) → UndoesOpens order dump why begun a b → AreIdle a.slots → IsTrue a.files.seen.tells → NoneRose a.files b.files → NamesLeft Good a.slots a.files.seen
+opens_undone : (Good : List ℕ → Option Stored → Type 0) (order : Order) (dump : List ℕ) (why : Why) (begun : ℕ) (a b : LoggerMoment) → UndoesOpens order dump why begun a b → AreIdleChannels a.slots → IsTrue a.files.seen.tells → NoneRose a.files b.files → NamesLeft Good a.slots a.files.seen
     → NamesLeft Good b.slots b.files.seen
 opens_undone Good order dump why begun a b undoes idle tells none left =
     let r = undoes.opens in
@@ -465,7 +465,7 @@ opens_undone Good order dump why begun a b undoes idle tells none left =
     (undo_refused Good order dump why r.number r.channel r.opened m r.there r.refuses (none_last a.files.faults r.opened.files.faults m.files.faults none_until early)
     (opening_all Good order dump r.number a r.opened r.opens (opening_first Good a idle tells left)))
 
-begins_undone : (Good : List ℕ → Option Stored → Type 0) (order : Order) (dump : List ℕ) (why : Why) (begun : ℕ) (a b : LoggerMoment) → UndoesBegins order dump why begun a b → AreIdle a.slots → IsTrue a.files.seen.tells → NoneRose a.files b.files → NamesLeft Good a.slots a.files.seen
+begins_undone : (Good : List ℕ → Option Stored → Type 0) (order : Order) (dump : List ℕ) (why : Why) (begun : ℕ) (a b : LoggerMoment) → UndoesBegins order dump why begun a b → AreIdleChannels a.slots → IsTrue a.files.seen.tells → NoneRose a.files b.files → NamesLeft Good a.slots a.files.seen
     → NamesLeft Good b.slots b.files.seen
 begins_undone Good order dump why begun a b undoes idle tells none left =
     let m : LoggerMoment = undoes.refused in
@@ -478,7 +478,7 @@ begins_undone Good order dump why begun a b undoes idle tells none left =
     (counts_then opened.files.faults c.begun.files.faults m.files.faults (step_stays opened c.begun (begins_kept order.start begun opened c.begun c.begins)) (step_stays c.begun m (call_kept _ begun c.begun m c.refuses.1))) in
     undone Good m b undoes.aborts (none_last a.files.faults m.files.faults b.files.faults none until) (same_many Good (length opened.slots) m refused)
 
-starts_left : (Good : List ℕ → Option Stored → Type 0) (result : Result ⊤ Why) (order : Order) (dump : List ℕ) (begun : ℕ) (a b : LoggerMoment) → StartsSo result order dump begun a b → AreIdle a.slots → IsTrue a.files.seen.tells → NoneRose a.files b.files → NamesLeft Good a.slots a.files.seen
+starts_left : (Good : List ℕ → Option Stored → Type 0) (result : Result ⊤ Why) (order : Order) (dump : List ℕ) (begun : ℕ) (a b : LoggerMoment) → StartsSo result order dump begun a b → AreIdleChannels a.slots → IsTrue a.files.seen.tells → NoneRose a.files b.files → NamesLeft Good a.slots a.files.seen
     → NamesLeft Good b.slots b.files.seen
 starts_left Good (Ok done) order dump begun a b starts idle tells none left =
     let opened : LoggerMoment = starts.opened in
@@ -492,7 +492,7 @@ starts_left Good (Err why) order dump begun a b starts idle tells none left = el
 same_left : (Good : List ℕ → Option Stored → Type 0) (a b : LoggerMoment) → b ≡ a → NamesLeft Good a.slots a.files.seen → NamesLeft Good b.slots b.files.seen
 same_left Good a b same left = subst (λ (m : LoggerMoment). NamesLeft Good m.slots m.files.seen) (sym same) left
 
-start_left : (Good : List ℕ → Option Stored → Type 0) (on : Bool) (t : LoggerTurn) → (on ≡ false → AreIdle t.before.slots) → TakesStart on t → IsTrue t.before.files.seen.tells → NoneRose t.before.files t.after.files → NamesLeft Good t.before.slots t.before.files.seen
+start_left : (Good : List ℕ → Option Stored → Type 0) (on : Bool) (t : LoggerTurn) → (on ≡ false → AreIdleChannels t.before.slots) → TakesStart on t → IsTrue t.before.files.seen.tells → NoneRose t.before.files t.after.files → NamesLeft Good t.before.slots t.before.files.seen
     → NamesLeft Good t.after.slots t.after.files.seen
 start_left Good true t idle takes tells none left = same_left Good t.before t.after takes.moment left
 start_left Good false t idle takes tells none left = starts_left Good takes.result t.order _ takes.begun t.before t.after takes.starts (idle refl) tells none left

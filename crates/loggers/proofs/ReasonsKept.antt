@@ -36,7 +36,7 @@ use Rattle.mid_logger.specs.Channels.{stage_begun, stage_ended, place_marked, re
 use Rattle.mid_logger.specs.ChannelEnds.{ClosesRead, ClosesFile, stage_settled, state_otherwise}
 use Rattle.mid_logger.specs.ChannelTurns.{NotesFault, OpenFaults, OpenClashes, broken_run, drained_run}
 use Rattle.mid_logger.specs.Pulls.{PullOf, PullsIn, TakesReply, TakesBy, FindsNone, PullFaults, drains_at_none}
-use Rattle.loggers.specs.Moments.{RunFiles, LoggerMoment, ChannelStep, StepsChannel, StepsSlot, StepsAt, CallsBuffer, MarksBuffer, InTurn, noted_channel, AreIdle, channel_limit}
+use Rattle.loggers.specs.Moments.{RunFiles, LoggerMoment, ChannelStep, StepsChannel, StepsSlot, StepsAt, CallsBuffer, MarksBuffer, InTurn, noted_channel, AreIdleChannels, channel_limit}
 use Rattle.loggers.specs.ChannelSteps.{OpensChannel, AbortsChannel, PullsChannel}
 use Rattle.loggers.specs.SlotPulls.{PullsSlot, PullsNumbered}
 use Rattle.loggers.specs.Finishing.{EndingMoment, EndsSlot, EndsSlotAt, EndsFiles, LoggerFinish, FinishesBy, FinishesLogger, is_settled_slot, waiting_stop, states_idle}
@@ -636,7 +636,7 @@ clashes_are_told slots ports first now turns gives none = clashes_by turns first
         last.since.clashes ∙ (last.clashes (omega (arith, all, untold)) ∙ clashes_by ts f so.0 so.1.1.0 (omega (arith, all, untold)))
 
 -- A logger whose channels are all idle, and that gave no answer.
-pub idle_reasons : (slots : List (Option Channel)) (ports : List Access) → AreIdle slots → length slots ≤ channel_limit → (files : RunFiles) → GivesReasons slots ports files files []
+pub idle_reasons : (slots : List (Option Channel)) (ports : List Access) → AreIdleChannels slots → length slots ≤ channel_limit → (files : RunFiles) → GivesReasons slots ports files files []
 idle_reasons slots ports idle few files = record {
   faults = subst (λ (off : ℕ). RoseBy (0 + off) files.faults files.faults) (sym (idle_off slots idle)) (by_same files.faults files.faults refl);
   clashes = by_same files.clashes files.clashes refl;
@@ -647,5 +647,5 @@ idle_reasons slots ports idle few files = record {
   buffers = λ t stands is. absurd stands;
 }
 
-pub new_idle : (specs : List ChannelSpec) (rooms : List ℕ) (slots : List (Option Channel)) → HasNewChannels specs rooms slots → AreIdle slots
+pub new_idle : (specs : List ChannelSpec) (rooms : List ℕ) (slots : List (Option Channel)) → HasNewChannels specs rooms slots → AreIdleChannels slots
 new_idle specs rooms slots new n c stood = ap (λ (x : Channel). x.stage) (new.only n c stood).1.1.is

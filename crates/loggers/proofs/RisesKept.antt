@@ -30,7 +30,7 @@ use Rattle.mid_logger.specs.Channels.{stage_begun, stage_ended, place_marked, re
 use Rattle.mid_logger.specs.ChannelEnds.{ClosesRead, ClosesFile, stage_settled}
 use Rattle.mid_logger.specs.ChannelTurns.{OpenClashes, broken_run, drained_run}
 use Rattle.mid_logger.specs.Pulls.{PullOf, PullsIn, TakesReply, TakesBy, FindsNone, PullFaults, drains_at_none}
-use Rattle.loggers.specs.Moments.{RunFiles, LoggerMoment, ChannelStep, StepsChannel, StepsSlot, StepsAt, CallsBuffer, MarksBuffer, InTurn, noted_channel, AreIdle, channel_limit}
+use Rattle.loggers.specs.Moments.{RunFiles, LoggerMoment, ChannelStep, StepsChannel, StepsSlot, StepsAt, CallsBuffer, MarksBuffer, InTurn, noted_channel, AreIdleChannels, channel_limit}
 use Rattle.loggers.specs.ChannelSteps.{OpensChannel, AbortsChannel, PullsChannel}
 use Rattle.loggers.specs.SlotPulls.{PullsSlot}
 use Rattle.loggers.specs.Finishing.{EndingMoment, EndsSlot, EndsSlotAt, EndsFiles, LoggerFinish, states_idle}
@@ -72,7 +72,7 @@ abbrev pub slot_off : Option Channel → ℕ
 slot_off slot = cond (passes (λ (x : Channel). is_some (broken_run x.stage)) slot) 1 0
 
 -- none of the channels broke off, where all are idle
-pub idle_off : (slots : List (Option Channel)) → AreIdle slots → broken_off slots ≡ 0
+pub idle_off : (slots : List (Option Channel)) → AreIdleChannels slots → broken_off slots ≡ 0
 idle_off [] idle = refl
 idle_off (None ∷ os) idle = idle_off os (λ n c there. idle (suc n) c there)
 idle_off (Some c ∷ os) idle =
@@ -260,7 +260,7 @@ refused_start (Exists channel) order dump begun a b starts = undone_rise 1 (omeg
 refused_start (Fault channel) order dump begun a b starts = undone_rise 2 (omega arith) order dump (Fault channel) begun a b starts
 refused_start BufferRefused order dump begun a b starts = undone_rise 1 (omega arith) order dump BufferRefused begun a b starts
 
-starts_rise : (result : Result ⊤ Why) (order : Order) (dump : List ℕ) (begun : ℕ) (a b : LoggerMoment) → AreIdle a.slots → StartsSo result order dump begun a b → RisesAnswered Start (Some (start_answer result)) a b
+starts_rise : (result : Result ⊤ Why) (order : Order) (dump : List ℕ) (begun : ℕ) (a b : LoggerMoment) → AreIdleChannels a.slots → StartsSo result order dump begun a b → RisesAnswered Start (Some (start_answer result)) a b
 starts_rise (Ok done) order dump begun a b idle starts =
     let same = all_same order dump begun a b starts in
     let shape : RisesSo 1 0 a b = moment_then 1 0 0 0 a starts.opened b (λ none. refl) (opens_rise 1 (omega arith) order dump (length a.slots) a starts.opened starts.opens) (begins_rise 1 order.start (length a.ports) starts.opened b starts.begins) in
@@ -271,7 +271,7 @@ starts_rise (Err why) order dump begun a b idle starts = refused_start why order
 answered_rise : (transition : Transition) (t : LoggerTurn) (known : Option Answer) → t.answer ≡ known → RisesAnswered transition known t.before t.after → RisesAnswered transition t.answer t.before t.after
 answered_rise transition t known is kept = subst (λ (answer : Option Answer). RisesAnswered transition answer t.before t.after) (sym is) kept
 
-start_rises : (on : Bool) (t : LoggerTurn) → (on ≡ false → AreIdle t.before.slots) → TakesStart on t → RisesAnswered Start t.answer t.before t.after
+start_rises : (on : Bool) (t : LoggerTurn) → (on ≡ false → AreIdleChannels t.before.slots) → TakesStart on t → RisesAnswered Start t.answer t.before t.after
 start_rises true t idle takes = answered_rise Start t (Some (No NotReady)) takes.answer_is (rises_moment 0 0 t.before t.after takes.moment)
 start_rises false t idle takes = answered_rise Start t (Some (start_answer takes.result)) takes.answer_is (starts_rise takes.result t.order _ takes.begun t.before t.after (idle refl) takes.starts)
 

@@ -28,7 +28,7 @@ use Rattle.mid_logger.specs.Pulls.{PullOf, LeavesAll, TakesBy, FindsNone, TakesR
 use Rattle.mid_logger.specs.ChannelTurns.{ChannelAt, HasClient, MakesRequest, AsksEvents, RefusesRun, OpensBy, asking_run}
 use Rattle.mid_logger.specs.ChannelEnds.{CancelsStanding}
 use Rattle.loggers.specs.declared.logged_run.LoggedRun.{LoggedRun}
-use Rattle.loggers.specs.Moments.{LoggerMoment, ChannelStep, StepsChannel, StepsSlot, StepsAt, CallsBuffer, MarksBuffer, InTurn, noted_channel, AreIdle, IsSameAccess, AreSamePorts}
+use Rattle.loggers.specs.Moments.{LoggerMoment, ChannelStep, StepsChannel, StepsSlot, StepsAt, CallsBuffer, MarksBuffer, InTurn, noted_channel, AreIdleChannels, IsSameAccess, AreSamePorts}
 use Rattle.loggers.specs.ChannelSteps.{OpensChannel, AbortsChannel, PullsChannel}
 use Rattle.loggers.specs.SlotPulls.{HasEventRoom, PullsSlot, PullsNumbered}
 use Rattle.loggers.specs.Turning.{IsIdleOutside, BeginsBuffer, EndsBuffer, PausesBuffer, ResumesBuffer, LoggerTurn, OpensBelow, BeginsBelow, AbortsAll, UndoesOpens, UndoesBegins, StartsSo, TakesStart, TakesStop, TakesMark, TakesAbort, TakesTurnBy, TakesTurn, is_run_on, is_started, is_of_start, buffers_begun}
@@ -332,8 +332,8 @@ idle_pull p room idle pulls =
     let at : LeavesAll p Nothing = subst (λ (stage : ChannelStage). PullsIn (reading_run stage) p room) idle pulls in
     at.stage ∙ idle
 
-pulled_idle : (n : ℕ) (answer : Pulled) (slot : Option Channel) (a b : LoggerMoment) → slot_at a.slots n ≡ slot → PullsSlot slot n answer a b → AreIdle a.slots → AreIdle b.slots
-pulled_idle n answer None a b there pulls idle = subst (λ (m : LoggerMoment). AreIdle m.slots) (sym pulls.1) idle
+pulled_idle : (n : ℕ) (answer : Pulled) (slot : Option Channel) (a b : LoggerMoment) → slot_at a.slots n ≡ slot → PullsSlot slot n answer a b → AreIdleChannels a.slots → AreIdleChannels b.slots
+pulled_idle n answer None a b there pulls idle = subst (λ (m : LoggerMoment). AreIdleChannels m.slots) (sym pulls.1) idle
 pulled_idle n answer (Some before) a b there s idle = λ m c at.
     one_changed (λ k x. x.stage ≡ Idle) a.slots n s.after (λ x stood. idle_pull _ before.event.room (idle n before there) s.step.pulls) (λ k x other stood. idle k x stood) before there m c
     (subst (λ (l : List (Option Channel)). slot_at l m ≡ Some c) s.slots at)

@@ -15,7 +15,7 @@ use Rattle.mid_logger.specs.declared.channel.Channel.{Channel}
 use Rattle.mid_logger.specs.declared.stage.ChannelRun.{ChannelRun}
 use Rattle.mid_logger.specs.declared.stage.ChannelStage.{ChannelStage}
 use Rattle.mid_logger.specs.Channels.{FileHead, channel_run}
-use Rattle.loggers.specs.Moments.{AreIdle}
+use Rattle.loggers.specs.Moments.{AreIdleChannels}
 use Rattle.loggers.specs.LoggerStands.{HasHead, IsEndTold, IsHeadTold, ChannelKept, PortKept, LeftRun, ToldSo, SlotsStand}
 use Rattle.loggers.proofs.TurnsKnown.{accepted_more}
 
@@ -80,7 +80,7 @@ heads_as H J turns slots ports seen as_those stands = record {
 }
 
 -- where every channel is idle, no head is asked for
-pub heads_idle : (H J : ChannelRun → FileHead → Type 0) (turns : List MemberTurn) (slots : List (Option Channel)) (ports : List Access) (seen : Seen) → AreIdle slots → SlotsStand H turns slots ports seen → SlotsStand J turns slots ports seen
+pub heads_idle : (H J : ChannelRun → FileHead → Type 0) (turns : List MemberTurn) (slots : List (Option Channel)) (ports : List Access) (seen : Seen) → AreIdleChannels slots → SlotsStand H turns slots ports seen → SlotsStand J turns slots ports seen
 heads_idle H J turns slots ports seen idle stands =
     heads_as H J turns slots ports seen
     (λ n c stood opened head is has. absurd (let never : None ≡ Some opened = sym (ap (λ (s : ChannelStage). channel_run s) (idle n c stood)) ∙ is in cc (never))) stands

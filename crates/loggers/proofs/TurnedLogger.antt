@@ -32,7 +32,7 @@ use Rattle.mid_logger.specs.Keeping.{OpensKeep, OpensAlone, OpensChange, FilesTh
 use Rattle.loggers.specs.declared.logged_run.LoggedRun.{LoggedRun}
 use Rattle.loggers.specs.declared.logged_run.RunPart.{RunPart}
 use Rattle.loggers.specs.declared.logged_run.RunPart.TheVariants.{Refused, Started, Stopping}
-use Rattle.loggers.specs.Moments.{LoggerMoment, InTurn, StepsAt, IsLoggerReady, AreIdle}
+use Rattle.loggers.specs.Moments.{LoggerMoment, InTurn, StepsAt, IsLoggerReady, AreIdleChannels}
 use Rattle.loggers.specs.ChannelSteps.{AbortsChannel}
 use Rattle.loggers.specs.Turning.{LoggerTurn, LeavesLogger, BeginsBuffer, PausesBuffer, ResumesBuffer, AbortsAll, StartsAll, UndoesOpens, UndoesBegins, StartsSo, TakesStart, TakesStop, TakesMark, TakesAbort, TakesTurnBy, TakesTurn, is_run_on, IsIdleOutside, is_started, is_of_start, buffers_begun, start_answer, start_part}
 use Rattle.loggers.specs.NewLoggers.{NoneTakenBack}
@@ -132,7 +132,7 @@ none_aborts a b aborts none = none_turns (λ number. StepsAt AbortsChannel numbe
 
 -- A start.
 
-opening : (t : MemberTurn) (order : Order) (dump : List ℕ) (turns : List MemberTurn) (a : LoggerMoment) → TellsNone t → AreIdle a.slots → IsLoggerReady a.slots a.ports a.files.seen → SlotsStand (IsHeadTold turns) turns a.slots a.ports a.files.seen
+opening : (t : MemberTurn) (order : Order) (dump : List ℕ) (turns : List MemberTurn) (a : LoggerMoment) → TellsNone t → AreIdleChannels a.slots → IsLoggerReady a.slots a.ports a.files.seen → SlotsStand (IsHeadTold turns) turns a.slots a.ports a.files.seen
     → OpenedTo order dump (t ∷ turns) (length a.slots) (length a.ports) 0 a
 opening t order dump turns a quiet idle ready standing = record {
   standing = heads_idle (IsHeadTold (t ∷ turns)) (IsOrderHead order dump) (t ∷ turns) a.slots a.ports a.files.seen idle (told_more t turns a.slots a.ports a.files.seen quiet standing);
@@ -216,7 +216,7 @@ not_unready (Exists channel) spec name a b refuses is = cc (is)
 not_unready (Fault channel) spec name a b refuses is = cc (is)
 not_unready BufferRefused spec name a b refuses is = cc (is)
 
-start_result : ChannelLaws → (t : LoggerTurn) (turns : List MemberTurn) (r : Result ⊤ Why) (begun : ℕ) → length (unwrap_or t.dump []) ≤ record_limit → TurnGiven t turns → AreIdle t.before.slots → StartsSo r t.order (unwrap_or t.dump []) begun t.before t.after
+start_result : ChannelLaws → (t : LoggerTurn) (turns : List MemberTurn) (r : Result ⊤ Why) (begun : ℕ) → length (unwrap_or t.dump []) ≤ record_limit → TurnGiven t turns → AreIdleChannels t.before.slots → StartsSo r t.order (unwrap_or t.dump []) begun t.before t.after
     → t.later_run ≡ Some (record { start = t.order.start; begun = begun; part = start_part r })
     → LoggerHolds (Some (record { start = t.order.start; begun = begun; part = start_part r })) None t.after.slots t.after.ports (logger_turn Start t.order t.dump (Some (start_answer r)) ∷ turns) t.after.files.seen
 start_result laws t turns (Ok done) begun small given idle starts run =
@@ -231,7 +231,7 @@ start_result laws t turns (Err why) begun small given idle starts run =
     let turn : MemberTurn = logger_turn Start t.order t.dump (Some (No why)) in
     let dump : List ℕ = unwrap_or t.dump [] in
     let first : OpenedTo t.order dump (turn ∷ turns) (length t.before.slots) (length t.before.ports) 0 t.before = opening turn t.order dump turns t.before (λ states told. absurd (cc (told))) idle given.ready given.stands.standing in
-    let idle_now : AreIdle t.after.slots = given.later_idle (ap (λ (r : Option LoggedRun). is_run_on r) run) in
+    let idle_now : AreIdleChannels t.after.slots = given.later_idle (ap (λ (r : Option LoggedRun). is_run_on r) run) in
     let ready : why ≢ NotReady = elim starts as (λ w. why ≢ NotReady) [
       | inl opens ↦ not_unready why _ _ _ _ opens.opens.refuses.step.opens.1
       | inr begins ↦ λ is. (let never : BufferRefused ≡ NotReady = sym begins.why_is ∙ is in cc (never))
@@ -396,7 +396,7 @@ abort_turn laws t turns true is of given takes =
     let end : EndedTo ⊤ (IsHeadTold (turn ∷ turns)) (turn ∷ turns) start (length t.before.ports) (buffers_begun t.run) takes.ended =
     ended_below laws.left laws.calls laws.ended ⊤ (IsHeadTold (turn ∷ turns)) (turn ∷ turns) start (length t.before.ports) (buffers_begun t.run) t.before takes.ended turn_now (none_told turn turns start quiet of_run may.begin) takes.ends
     (ending ⊤ turn turns start t.before quiet of_run may.begin given.stands.standing may.stages) in
-    let idle : AreIdle t.after.slots = given.later_idle (ap (λ (r : Option LoggedRun). is_run_on r) takes.run) in
+    let idle : AreIdleChannels t.after.slots = given.later_idle (ap (λ (r : Option LoggedRun). is_run_on r) takes.run) in
     rw (is, takes.answer_is, takes.run, takes.stop_dump)
     (all_of None None t.after (turn ∷ turns) (off_known t.run t.stop_dump turns t.order t.dump (known_of t.run t.stop_dump t.before turns given.stands)) given.later_ready
     (aborted_all laws (IsHeadTold (turn ∷ turns)) (turn ∷ turns) (length takes.ended.slots) takes.ended t.after takes.aborts end.standing) (λ n c a stood at. idle n c stood))

@@ -22,14 +22,14 @@ one_client None = 0
 one_client (Some client) = 1
 
 -- how many clients the channel of a slot, if there is one, has in the buffer of this number
-abbrev pub clients_of : (buffer : ℕ) → Option Channel → ℕ
-clients_of buffer None = 0
-clients_of buffer (Some c) = if c.spec.buffer == buffer then one_client c.client else 0
+abbrev pub channel_clients : (buffer : ℕ) → Option Channel → ℕ
+channel_clients buffer None = 0
+channel_clients buffer (Some c) = if c.spec.buffer == buffer then one_client c.client else 0
 
 -- in each buffer the logger attached no more clients than its channels have there
 abbrev pub AttachesFew : List (Option Channel) → (ports : List Access) → Type 0
 AttachesFew slots ports = (buffer : ℕ) → (a : Access) → slice_get ports buffer ≡ Some a →
-    attaches_made a.own ≤ sum_by (clients_of buffer) slots
+    attaches_made a.own ≤ sum_by (channel_clients buffer) slots
 
 -- Runs.
 

@@ -107,8 +107,8 @@ abbrev pub channel_limit : ℕ
 channel_limit = 16
 
 -- every channel is idle
-abbrev pub AreIdle : List (Option Channel) → Type 0
-AreIdle slots = (n : ℕ) → (c : Channel) → slot_at slots n ≡ Some c → c.stage ≡ Idle
+abbrev pub AreIdleChannels : List (Option Channel) → Type 0
+AreIdleChannels slots = (n : ℕ) → (c : Channel) → slot_at slots n ≡ Some c → c.stage ≡ Idle
 
 -- two channels that write files write them under two numbers
 abbrev pub HaveNumbersApart : (written other : Option ChannelRun) → Type 0

@@ -16,7 +16,7 @@ use Rattle.mid_logger.specs.Channels.{stage_begun, stage_ended, place_marked}
 use Rattle.loggers.specs.declared.logged_run.LoggedRun.{LoggedRun}
 use Rattle.loggers.specs.declared.logged_run.RunPart.{RunPart}
 use Rattle.loggers.specs.declared.logged_run.RunPart.TheVariants.{Refused, Started, Stopping}
-use Rattle.loggers.specs.Moments.{LoggerMoment, InTurn, StepsChannel, StepsAt, CallsBuffer, MarksBuffer, AreIdle}
+use Rattle.loggers.specs.Moments.{LoggerMoment, InTurn, StepsChannel, StepsAt, CallsBuffer, MarksBuffer, AreIdleChannels}
 use Rattle.loggers.specs.ChannelSteps.{OpensChannel, AbortsChannel}
 
 -- Marks.
@@ -79,7 +79,7 @@ is_run_on (Some r) = was_accepted r.part
 
 -- while no run is on, every channel is idle
 abbrev pub IsIdleOutside : Option LoggedRun → List (Option Channel) → Type 0
-IsIdleOutside run slots = is_run_on run ≡ false → AreIdle slots
+IsIdleOutside run slots = is_run_on run ≡ false → AreIdleChannels slots
 
 -- the start with this number was accepted, and no stop of it has come
 abbrev pub is_started : Option LoggedRun → (start : ℕ) → Bool

@@ -7,7 +7,7 @@ ghost use Rattle.member_model.specs.Turns.{MemberTurn, NoneOpen, latest_answered
 ghost use Rattle.daq_types.specs.declared.runs.Transition.TheVariants.{Start, Stop, Pause, Resume, StartAbort};
 ghost use Rattle.transitions.specs.declared.answers.Answer.TheVariants.{Yes};
 ghost use Rattle.transitions.specs.declared.answers.Tally.TheVariants.{Plain};
-ghost use Rattle.loggers.specs.Moments.{RunFiles, moment_of, IsLoggerReady, HaveFilesOpen, HaveEntries, UseEntries, AreIdle, AreSamePorts};
+ghost use Rattle.loggers.specs.Moments.{RunFiles, moment_of, IsLoggerReady, HaveFilesOpen, HaveEntries, UseEntries, AreIdleChannels, AreSamePorts};
 ghost use Rattle.loggers.specs.Turning.{TakesTurn, TakesStart, TakesStop, TakesMark, TakesAbort, StartsLogger, PausesBuffer, ResumesBuffer, is_run_on, is_started, is_of_start, buffers_begun, IsIdleOutside, start_answer, start_part};
 ghost use Rattle.loggers.specs.Finishing.{FinishesLogger};
 ghost use Rattle.loggers.specs.SlotPulls.{HasEventRoom, PullsNumbered};
@@ -120,7 +120,7 @@ impl Logger {
         ensures made { IfOk result (λ logger. HasNewChannels specs rooms.now logger.channels) }
         ensures run { IfOk result (λ logger. logger.run ≡ None) }
         ensures stop_dump { IfOk result (λ logger. logger.stop_dump ≡ None) }
-        ensures idle { IfOk result (λ logger. AreIdle logger.channels) }
+        ensures idle { IfOk result (λ logger. AreIdleChannels logger.channels) }
         ensures ready { IfOk result (λ logger. (ports : List Access) → (seen : Seen) →
             HavePorts specs ports → IsLoggerReady logger.channels ports seen) }
         ensures stands { IfOk result (λ logger. (ports : List Access) → (seen : Seen) →
@@ -307,7 +307,7 @@ impl Logger {
         requires ready { IsLoggerReady self.old.channels (map P.access ports.old)
             (F.seen files.old) }
         requires entries { HaveEntries 49 (map P.access ports.old) }
-        requires idle { AreIdle self.old.channels }
+        requires idle { AreIdleChannels self.old.channels }
         requires small { IfSome dump.now (λ bytes. length bytes ≤ record_limit) }
         ensures starts { StartsLogger (record {
           transition = Start;

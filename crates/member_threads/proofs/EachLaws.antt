@@ -5,11 +5,11 @@ use Rattle.std.proofs.lemmas.List.Elements.{length_all_zip}
 use Rattle.daq_members.specs.declared.turned.Turned.{Turned}
 use Rattle.session_engine.specs.MadeTransitions.{HadRounds}
 use Rattle.member_threads.specs.Turns.{HadTurns}
-use Rattle.member_threads.specs.Scattered.{MembersSeen, AreFew, HadEach, CameBack, members_seen}
+use Rattle.member_threads.specs.Scattered.{MembersSeen, AreFewMembers, HadEach, CameBack, members_seen}
 use Rattle.member_threads.proofs.TurnLaws.{stays, turns_follow, zip_stays, zip_follows}
 
 -- a session's members are few enough
-pub seen_few : {A B C : Type 0} (fronts : List A) (logger : B) (analyzers : List C) → length fronts + 1 + length analyzers ≤ 64 → AreFew (members_seen fronts logger analyzers)
+pub seen_few : {A B C : Type 0} (fronts : List A) (logger : B) (analyzers : List C) → length fronts + 1 + length analyzers ≤ 64 → AreFewMembers (members_seen fronts logger analyzers)
 seen_few fronts logger analyzers few = record { fronts = omega (arith, few); loggers = omega arith; analyzers = omega (arith, few) }
 
 module _ {A B C : Type 0} (ta : A → A → Turned → Type 0) (tb : B → B → Turned → Type 0) (tc : C → C → Turned → Type 0) where
@@ -37,7 +37,7 @@ module _ {A B C : Type 0} (ta : A → A → Turned → Type 0) (tb : B → B →
       → HadRounds (λ (b a : P). HadEach ta tb tc (away b) (away a)) count before after → HadEach ta tb tc first (away after)
   each_behind away count first before after had rounds = each_follows first (away before) (away after) had (rounds_each away count before after rounds)
 
-  pub each_few : (before after : MembersSeen A B C) → HadEach ta tb tc before after → AreFew before → AreFew after
+  pub each_few : (before after : MembersSeen A B C) → HadEach ta tb tc before after → AreFewMembers before → AreFewMembers after
   each_few before after had few =
       let fronts = length_all_zip (HadTurns ta) before.fronts after.fronts had.fronts in
       let loggers = length_all_zip (HadTurns tb) before.loggers after.loggers had.loggers in

@@ -14,11 +14,11 @@ pub record MembersSeen (A B C : Type 0) : Type 0 where
 abbrev pub members_seen : {A B C : Type 0} → List A → B → List C → MembersSeen A B C
 members_seen fronts logger analyzers = record { fronts = fronts; loggers = logger ∷ []; analyzers = analyzers }
 
-abbrev pub nobody : {A B C : Type 0} → MembersSeen A B C
-nobody = record { fronts = []; loggers = []; analyzers = [] }
+abbrev pub no_members : {A B C : Type 0} → MembersSeen A B C
+no_members = record { fronts = []; loggers = []; analyzers = [] }
 
 -- there are at most 64 of each kind
-pub record AreFew {A B C : Type 0} (members : MembersSeen A B C) : Type 0 where
+pub record AreFewMembers {A B C : Type 0} (members : MembersSeen A B C) : Type 0 where
   pub fronts : length members.fronts ≤ 64
   pub loggers : length members.loggers ≤ 64
   pub analyzers : length members.analyzers ≤ 64

@@ -1,6 +1,6 @@
 // The members of a session while they are away, and as they come back.
 ghost use Rattle.std.specs.Prelude.{◌≡◌, ◌+◌, ◌≤◌, [], length, vec_capacity, IfOk};
-ghost use Rattle.member_threads.specs.Scattered.{members_seen, nobody, HadEach, CameBack, AreFew};
+ghost use Rattle.member_threads.specs.Scattered.{members_seen, no_members, HadEach, CameBack, AreFewMembers};
 
 use crate::member::Member;
 use crate::post::send;
@@ -54,7 +54,7 @@ impl<A: Member, B: Member, C: Member> Model for Away<A, B, C> {
 impl<A: Member + Drop, B: Member + Drop, C: Member + Drop> Away<A, B, C> {
     /// Nobody is away. There is room for as many of each kind as an engine has clients.
     pub(crate) fn new(alloc: Global) -> Result<Away<A, B, C>, NoMemory>
-        ensures { IfOk result (λ away. away ≡ nobody) }
+        ensures { IfOk result (λ away. away ≡ no_members) }
     {
         let fronts = BoundedList::new(alloc)?;
         let loggers = BoundedList::new(alloc)?;
@@ -84,7 +84,7 @@ impl<A: Member + Drop, B: Member + Drop, C: Member + Drop> Away<A, B, C> {
         gate: &G,
         back: &mut Back<A, B, C>,
     )
-        requires few { AreFew self.old }
+        requires few { AreFewMembers self.old }
         requires nobody { (back.old.fronts.items ≡ []) × (back.old.loggers.items ≡ [])
             × (back.old.analyzers.items ≡ []) }
         requires room { (64 ≤ vec_capacity back.old.fronts) × (64 ≤ vec_capacity back.old.loggers)
@@ -121,7 +121,7 @@ impl<A: Member + Drop + Send, B: Member + Drop + Send, C: Member + Drop + Send> 
         C: 's,
         G: 's,
         requires few { length members.fronts.items + 1 + length members.analyzers.items ≤ 64 }
-        requires nobody { self.old ≡ nobody }
+        requires nobody { self.old ≡ no_members }
         ensures { HadEach A.turns B.turns C.turns (members_seen members.fronts.items members.logger
             members.analyzers.items) self.new }
     {

@@ -1,6 +1,6 @@
 // A session whose members have threads of their own.
 ghost use Rattle.std.specs.Prelude.{◌≡◌, ◌+◌, ◌≤◌, [], length, vec_capacity};
-ghost use Rattle.member_threads.specs.Scattered.{members_seen, nobody, CameBack};
+ghost use Rattle.member_threads.specs.Scattered.{members_seen, no_members, CameBack};
 
 use crate::away::{Away, Back, Members, Posts};
 use crate::member::Member;
@@ -19,7 +19,7 @@ use std::thread::{Scope, Threads};
 pub struct Room<A: Member, B: Member, C: Member> {
     away: Away<A, B, C>,
     back: Back<A, B, C>,
-    ghost nobody_away: { away ≡ nobody },
+    ghost nobody_away: { away ≡ no_members },
     ghost no_fronts: { back.fronts.items ≡ [] },
     ghost no_loggers: { back.loggers.items ≡ [] },
     ghost no_analyzers: { back.analyzers.items ≡ [] },

@@ -11,7 +11,7 @@ use Rattle.event_header.specs.Headers.{header_encoding}
 use Rattle.event_header.specs.declared.head.Header.{Header}
 use Rattle.mid_format.specs.Parts.{ReadsHead, ReadsBody}
 use Rattle.mid_format.specs.HasRead.{HasRead}
-use Rattle.mid_format.specs.AtHand.{StandsWhole, event_in}
+use Rattle.mid_format.specs.AtHand.{StandsWhole, event_at_front}
 use Rattle.mid_format.specs.declared.progress.Progress.{Progress}
 use Rattle.mid_format.proofs.Allowed.{IsEventHeader, event_allowed}
 use Rattle.mid_format.proofs.Going.{one_more}
@@ -61,16 +61,16 @@ module _ (old : Progress) (bytes : List ℕ) (h : Header) (w : StandsWhole old b
 
   -- one event more, of bytes that lie at hand
   pub one_whole : (first before after : Option (List ℕ)) (new : Progress) (events : List Event) → HasRead first before old events → Consumes before after (take (16 + h.data_size) bytes)
-      → new ≡ record old { at = old.at + 16 + h.data_size } → HasRead first after new (events ++ event_in h bytes ∷ [])
+      → new ≡ record old { at = old.at + 16 + h.data_size } → HasRead first after new (events ++ event_at_front h bytes ∷ [])
   one_whole first before after new events r taken is_new =
       let consumed : Consumes before after (header_encoding h ++ body) = subst (Consumes before after) parts taken in
       let head : ReadsHead before (prepend_known body after) (Some w.begin.serial_number) old.at h =
       record { consumed = middle_of before after (header_encoding h) body consumed; fine = w.fine; in_range = w.in_range } in
-      let held : HeldEvent = record { event = event_in h bytes; room = 0 } in
+      let held : HeldEvent = record { event = event_at_front h bytes; room = 0 } in
       let read : ReadsBody (prepend_known body after) after h held = record { body = body; length = length_body; consumed = behind_middle after body; event = refl } in
-      subst (λ (p : Progress). HasRead first after p (events ++ event_in h bytes ∷ [])) (sym is_new)
+      subst (λ (p : Progress). HasRead first after p (events ++ event_at_front h bytes ∷ [])) (sym is_new)
       (one_more first before old events r w.going w.begin w.begun (prepend_known body after) h head after held w.no_end read)
 
   -- those that were read, with this one, are as few as a taker may have
-  pub may_take : (first before : Option (List ℕ)) (events : List Event) → HasRead first before old events → length (all_encoded (events ++ event_in h bytes ∷ [])) ≤ 2 ^ 62
-  may_take first before events r = omega (arith, encoded_more events (event_in h bytes), length_body, events_before first before old events r, within_whole)
+  pub may_take : (first before : Option (List ℕ)) (events : List Event) → HasRead first before old events → length (all_encoded (events ++ event_at_front h bytes ∷ [])) ≤ 2 ^ 62
+  may_take first before events r = omega (arith, encoded_more events (event_at_front h bytes), length_body, events_before first before old events r, within_whole)

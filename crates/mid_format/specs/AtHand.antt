@@ -29,8 +29,8 @@ pub record StandsWhole (progress : Progress) (bytes : List ℕ) (h : Header) : T
   pub whole : 16 + h.data_size ≤ length bytes
 
 -- the event with this header at the front of some bytes
-abbrev pub event_in : Header → List ℕ → Event
-event_in h bytes = event_of h (take h.data_size (drop 16 bytes))
+abbrev pub event_at_front : Header → List ℕ → Event
+event_at_front h bytes = event_of h (take h.data_size (drop 16 bytes))
 
 -- A taker may take an event: those that it has and this one have at most 2^62 bytes together.
 pub record MayTake (HasTaken : List Event → Type 0) (event : Event) : Type 0 where

@@ -32,6 +32,6 @@ CountsNext None old new result = CountsReads old new result
 CountsNext (Some fault) old new result = new ≡ old
 
 -- the run number of a begin record
-abbrev pub run_of : Option Header → Option ℕ
-run_of None = None
-run_of (Some begin) = Some begin.serial_number
+abbrev pub run_number_of : Option Header → Option ℕ
+run_number_of None = None
+run_number_of (Some begin) = Some begin.serial_number

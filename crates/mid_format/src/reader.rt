@@ -1,9 +1,9 @@
 ghost use Rattle.std.specs.Prelude.{◌≡◌, ◌≤◌, ◌<◌, ◌^◌, ◌↔◌, ℕ, List, Option, Some, None, Ok, Err, IfSome, IfOk, IsSome, IsNone, take, drop};
 ghost use Rattle.daq_model.specs.Events.{event_limit};
 ghost use Rattle.daq_types.specs.declared.events.Event.{Event};
-ghost use Rattle.mid_format.specs.AtHand.{StandsWhole, TakesNext, TakesSoFar, event_in};
+ghost use Rattle.mid_format.specs.AtHand.{StandsWhole, TakesNext, TakesSoFar, event_at_front};
 ghost use Rattle.mid_format.specs.HasRead.{HasRead, nothing_read};
-ghost use Rattle.mid_format.specs.Opened.{ReadsOn, CountsNext, fault_of, run_of};
+ghost use Rattle.mid_format.specs.Opened.{ReadsOn, CountsNext, fault_of, run_number_of};
 
 use crate::blocks::Ahead;
 use crate::faults::MidFault;
@@ -63,7 +63,7 @@ impl<S> MidReader<S> {
 
     /// The number of the run, once the begin record was read.
     pub fn run(&self) -> Option<u32>
-        ensures { result ≡ run_of self.now.progress.begin }
+        ensures { result ≡ run_number_of self.now.progress.begin }
     {
         match self.progress.begin {
             None => None,
@@ -162,7 +162,7 @@ impl<S: Ahead> MidReader<S> {
         requires { StandsWhole self.old.progress (S.at_hand self.old.source) header.now }
         ensures reads { ReadsOn (S.left self.old.source) (S.left self.new.source)
             self.old.progress self.new.progress (Ok (Some tt))
-            (event_in header.now (S.at_hand self.old.source)) }
+            (event_at_front header.now (S.at_hand self.old.source)) }
         ensures fault { self.new.progress.fault ≡ None }
         ensures end { self.new.progress.last ≡ None }
         ensures begun { self.new.progress.begin ≡ self.old.progress.begin }

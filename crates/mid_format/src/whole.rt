@@ -2,7 +2,7 @@
 
 ghost use Rattle.std.specs.Prelude.{◌≡◌, ◌≤◌, ◌<◌, ◌^◌, ℕ, List, Option, Some, None, Ok, IfSome};
 ghost use Rattle.daq_types.specs.declared.events.Event.{Event};
-ghost use Rattle.mid_format.specs.AtHand.{StandsWhole, TakesNext, TakesSoFar, event_in};
+ghost use Rattle.mid_format.specs.AtHand.{StandsWhole, TakesNext, TakesSoFar, event_at_front};
 ghost use Rattle.mid_format.specs.HasRead.{HasRead};
 ghost use Rattle.mid_format.specs.Steps.{StepReads};
 
@@ -38,7 +38,7 @@ pub fn find_whole(progress: &Progress, bytes: &[u8]) -> Option<Header>
 pub fn pass_whole<S: Ahead>(source: &mut S, progress: &mut Progress, header: &Header)
     requires { StandsWhole progress.old (S.at_hand source.old) header.now }
     ensures reads { StepReads (S.left source.old) (S.left source.new) progress.old progress.new
-        (Some tt) (event_in header.now (S.at_hand source.old)) }
+        (Some tt) (event_at_front header.now (S.at_hand source.old)) }
     ensures place { progress.new.at ≤ 2 ^ 62 }
     ensures onward { progress.old.at < progress.new.at }
     ensures begun { progress.new.begin ≡ progress.old.begin }

@@ -12,7 +12,7 @@ use Rattle.daq_io.proofs.StreamsLaws.{Appends-nil}
 use Rattle.daq_io.specs.declared.faults.Failed.{Failed}
 use Rattle.event_header.specs.Headers.{event_of, fields_of}
 use Rattle.event_header.specs.declared.head.Header.{Header}
-use Rattle.mid_format.specs.AtHand.{StandsWhole, event_in}
+use Rattle.mid_format.specs.AtHand.{StandsWhole, event_at_front}
 use Rattle.mid_format.specs.Faults.{OfBytes}
 use Rattle.mid_format.specs.HasRead.{IsReadSoFar, StandsBehind, HasRead, nothing_read}
 use Rattle.mid_format.specs.Parts.{CountedBy}
@@ -588,10 +588,10 @@ dumps_source source now p told_old told_new end d = record { now = now; progress
 
 -- an event that stood whole at hand was read
 pub stepped_on : (first before after : Option (List ℕ)) (old new : Progress) (told_first told_now : Option (List ℕ)) (page at_hand : List ℕ) (header : Header)
-    → Printing first before old told_first told_now page → StandsWhole old at_hand header → ReadsOn before after old new (Ok (Some tt)) (event_in header at_hand) → new.begin ≡ old.begin
-    → Stepped first after new told_first told_now page (Ok (Some tt)) (event_in header at_hand)
+    → Printing first before old told_first told_now page → StandsWhole old at_hand header → ReadsOn before after old new (Ok (Some tt)) (event_at_front header at_hand) → new.begin ≡ old.begin
+    → Stepped first after new told_first told_now page (Ok (Some tt)) (event_at_front header at_hand)
 stepped_on first before after old new told_first told_now page at_hand header p whole reads begun =
-    stepped first before after old new told_first told_now page page true (Ok (Some tt)) (event_in header at_hand) p reads (sym (ap (is_some {T = Header}) whole.begun)) (λ h. begun) (sym (append-nil page))
+    stepped first before after old new told_first told_now page page true (Ok (Some tt)) (event_at_front header at_hand) p reads (sym (ap (is_some {T = Header}) whole.begun)) (λ h. begun) (sym (append-nil page))
 
 -- What stopped the printing of what lay at hand stops all of it.
 pub stops_at_hand : (first now : Option (List ℕ)) (progress : Progress) (told_first told_now : Option (List ℕ)) (page : List ℕ) (halt : Halt) → PrintsOn first now progress told_first told_now page (Err halt) → ListsTo first now progress told_first told_now page (Err halt)

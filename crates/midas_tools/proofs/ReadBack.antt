@@ -10,7 +10,7 @@ use Rattle.event_report.specs.Reports.{Totals, report_of}
 use Rattle.event_report.specs.Texts.{report_text}
 use Rattle.mid_format.specs.ReadLaws.{AreSameRun, IsWholeFile}
 use Rattle.midas_tools.specs.Analyses.{Analyzes, analysis_text}
-use Rattle.midas_tools.specs.Texts.{run_line}
+use Rattle.midas_tools.specs.Texts.{run_number_line}
 use Rattle.midas_tools.proofs.Written.{in_four, as_written, all_same, written_whole}
 
 many_same : (es : List Event) → length (map as_written es) ≡ length es
@@ -62,5 +62,5 @@ printed_is reads bytes run time0 dump0 events time1 dump1 text file small short 
     let whole = written_whole bytes run time0 dump0 events time1 dump1 file small short in
     let same : AreSameRun run good.run (map as_written events) good.events =
     reads bytes run (in_four time0) dump0 (map as_written events) (in_four time1) dump1 good.run good.time0 good.dump0 good.events good.time1 good.dump1 whole good.whole in
-    good.text_is ∙ ap (λ (r : ℕ). run_line r ++ report_text [] (report_of good.events)) (sym same.run_is)
-    ∙ ap (λ (t : Totals). run_line run ++ report_text [] t) (ap report_of (sym same.events_are) ∙ report_same events)
+    good.text_is ∙ ap (λ (r : ℕ). run_number_line r ++ report_text [] (report_of good.events)) (sym same.run_is)
+    ∙ ap (λ (t : Totals). run_number_line run ++ report_text [] t) (ap report_of (sym same.events_are) ∙ report_same events)

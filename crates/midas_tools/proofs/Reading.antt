@@ -8,7 +8,7 @@ use Rattle.daq_model.specs.Events.{encoding, all_encoded}
 use Rattle.daq_model.proofs.Events.{length-encoding}
 use Rattle.event_header.specs.declared.head.Header.{Header}
 use Rattle.mid_format.specs.HasRead.{HasRead, nothing_read}
-use Rattle.mid_format.specs.Opened.{run_of}
+use Rattle.mid_format.specs.Opened.{run_number_of}
 use Rattle.mid_format.specs.AtHand.{TakesNext, TakesSoFar}
 use Rattle.mid_format.proofs.ReadLaws.{has_read_none, read_whole, read_fault}
 use Rattle.mid_format.specs.ReadLaws.{ReadsWhole}
@@ -76,10 +76,10 @@ module _ (Text : ℕ → List Event → ℕ → List ℕ) (Sums : List Event →
   abbrev pub Shows : (run size : ℕ) (page : List ℕ) → Type 0
   Shows run size page = (events : List Event) → Sums events → page ≡ Text run events size
 
-  good_of : (text : List ℕ) (now : Option (List ℕ)) (p : Progress) (run : ℕ) (page : List ℕ) → SumsAll Sums (Some text) now p → run ≡ unwrap_or (run_of p.begin) 0 → Shows run p.at page → IsGood Text text page
+  good_of : (text : List ℕ) (now : Option (List ℕ)) (p : Progress) (run : ℕ) (page : List ℕ) → SumsAll Sums (Some text) now p → run ≡ unwrap_or (run_number_of p.begin) 0 → Shows run p.at page → IsGood Text text page
   good_of text now p run page a run_is shows =
       let w : ReadsWhole text p a.end a.some.events = read_whole text now p a.end a.some.events a.some.read a.some.sound a.last in
-      let same_run : run ≡ w.begin.serial_number = run_is ∙ ap (λ (o : Option Header). unwrap_or (run_of o) 0) w.begin_is in
+      let same_run : run ≡ w.begin.serial_number = run_is ∙ ap (λ (o : Option Header). unwrap_or (run_number_of o) 0) w.begin_is in
       let size : p.at ≡ length text = a.some.read.place ∙ sym (place_whole text a.some.read.done now (a.some.read.consumed a.some.sound) (a.some.read.at_end a.some.sound a.end a.last)) in
       record {
         run = w.begin.serial_number;
@@ -92,7 +92,7 @@ module _ (Text : ℕ → List Event → ℕ → List ℕ) (Sums : List Event →
         text_is = shows a.some.events a.some.sums ∙ ap (λ (n : ℕ). Text n a.some.events p.at) same_run ∙ ap (λ (n : ℕ). Text w.begin.serial_number a.some.events n) size;
       }
 
-  pub tells_good : (first now : Option (List ℕ)) (p : Progress) (run : ℕ) (page : List ℕ) → SumsAll Sums first now p → run ≡ unwrap_or (run_of p.begin) 0 → Shows run p.at page → IfSome first (λ bytes. Tells Text bytes None page)
+  pub tells_good : (first now : Option (List ℕ)) (p : Progress) (run : ℕ) (page : List ℕ) → SumsAll Sums first now p → run ≡ unwrap_or (run_number_of p.begin) 0 → Shows run p.at page → IfSome first (λ bytes. Tells Text bytes None page)
   tells_good None now p run page a run_is shows = tt
   tells_good (Some text) now p run page a run_is shows = good_of text now p run page a run_is shows
 

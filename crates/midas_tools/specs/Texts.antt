@@ -46,8 +46,8 @@ abbrev pub ok_line : (run events bytes : ℕ) → List ℕ
 ok_line run events bytes = codes "ok run" ++ (number_text run ++ (codes " events" ++ (number_text events ++ (codes " bytes" ++ (number_text bytes ++ 10 ∷ [])))))
 
 -- the number of the run that a file is of
-abbrev pub run_line : (run : ℕ) → List ℕ
-run_line run = codes "run" ++ (number_text run ++ 10 ∷ [])
+abbrev pub run_number_line : (run : ℕ) → List ℕ
+run_number_line run = codes "run" ++ (number_text run ++ 10 ∷ [])
 
 -- a record of a run file: the number of the run, the time, and the bytes of the dump
 abbrev pub record_line : List ℕ → Header → List ℕ

@@ -1,7 +1,7 @@
 ghost use Rattle.std.specs.Prelude.{◌≡◌, ◌++◌, OnOk, map};
 ghost use Rattle.bank_format.specs.BankAreas.{bank_value};
 ghost use Rattle.event_header.specs.Headers.{event_of};
-ghost use Rattle.midas_tools.specs.Texts.{area_fault_text, bad_line, bank_line, event_line, fault_text, no_banks_line, number_text, ok_line, record_line, run_line, shown};
+ghost use Rattle.midas_tools.specs.Texts.{area_fault_text, bad_line, bank_line, event_line, fault_text, no_banks_line, number_text, ok_line, record_line, run_number_line, shown};
 
 use crate::ends::InputFault;
 use crate::line::Line;
@@ -59,7 +59,7 @@ pub fn add_ok(page: &mut TextBuffer, run: u32, events: u64, bytes: u64) -> Resul
 
 /// Adds the line that tells which run a file is of.
 pub fn add_run(page: &mut TextBuffer, run: u32) -> Result<(), NoMemory>
-    ensures { OnOk result (page.new ≡ page.old ++ run_line run) }
+    ensures { OnOk result (page.new ≡ page.old ++ run_number_line run) }
 {
     add_named(page, b"run", run as u64)?;
     page.end_line()

@@ -10,7 +10,7 @@ use Rattle.daq_types.specs.Names.{IsName, is_outside, breaks_name}
 use Rattle.odb_path.specs.declared.refusals.PathRefusal.{PathRefusal}
 use Rattle.odb_path.specs.declared.refusals.PathRefusal.TheVariants.{EmptyName, LongName, TooDeep}
 use Rattle.odb_path.specs.Paths.{depth_limit, IsPath}
-use Rattle.odb_path.specs.PathText.{names_of, first_break, byte_fault, name_fault, depth_fault, first_fault, names_or, start_of, path_reply}
+use Rattle.odb_path.specs.PathText.{names_of, first_break, byte_fault, name_fault, depth_fault, first_fault, names_or, names_start, path_reply}
 use Rattle.odb_lines.specs.LineForms.{HasNo, IsDirLine}
 use Rattle.odb_ascii.specs.Dumps.{path_text}
 use Rattle.odb_ascii.proofs.DumpLines.{bare_dir_line, IsPlainLine}
@@ -130,8 +130,8 @@ path_read [] h k = refl
 path_read (n ∷ ns) h k =
     let slashes : AllByRecursion (HasNo 47) ns = map_all IsName (HasNo 47) ns name_no_slash h.1 in
     let names : names_of (path_text (n ∷ ns)) ≡ n ∷ ns = names_are n ns h.0.some (name_no_slash n h.0) slashes in
-    ap (λ (l : List (List ℕ)). names_or l (first_fault (start_of (path_text (n ∷ ns))) 0 l)) names
-    ∙ ap (λ (o : Option PathRefusal). names_or (n ∷ ns) o) (names_fine (start_of (path_text (n ∷ ns))) 0 (n ∷ ns) h (omega (arith, k)))
+    ap (λ (l : List (List ℕ)). names_or l (first_fault (names_start (path_text (n ∷ ns))) 0 l)) names
+    ∙ ap (λ (o : Option PathRefusal). names_or (n ∷ ns) o) (names_fine (names_start (path_text (n ∷ ns))) 0 (n ∷ ns) h (omega (arith, k)))
 
 pub dir_line_reads : (p : List (List ℕ)) → IsPath p → IsDirLine (bare_dir_line p) p
 dir_line_reads p h =

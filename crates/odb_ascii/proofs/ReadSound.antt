@@ -13,7 +13,7 @@ use Rattle.daq_text.specs.Numbers.{behind, is_blank, mapped, unsigned_form}
 use Rattle.odb_path.specs.declared.refusals.PathRefusal.{PathRefusal}
 use Rattle.odb_path.specs.declared.refusals.PathRefusal.TheVariants.{EmptyName, LongName, TooDeep}
 use Rattle.odb_path.specs.Paths.{depth_limit, IsPath}
-use Rattle.odb_path.specs.PathText.{names_of, first_break, byte_fault, name_fault, depth_fault, first_fault, names_or, start_of, path_reply}
+use Rattle.odb_path.specs.PathText.{names_of, first_break, byte_fault, name_fault, depth_fault, first_fault, names_or, names_start, path_reply}
 use Rattle.odb_value.specs.declared.items.Item.{Item}
 use Rattle.odb_value.specs.declared.items.Item.TheVariants.{UInt8, Int8, Char, UInt16, Int16, UInt32, Int32, Bool as Truth, Text, Int64, UInt64}
 use Rattle.odb_value.specs.declared.refusals.ItemRefusal.{ItemRefusal}
@@ -89,12 +89,12 @@ names_sound place depth (n ∷ ns) deep h =
     record { each = (name_sound place n (none_left (name_fault place n) (depth_fault depth) own), rest.each); short = omega (arith, rest.short) }
 
 pub path_sound : (text : List ℕ) (p : List (List ℕ)) → path_reply text ≡ Ok p → IsPath p
-path_sound text p h = cases (first_fault (start_of text) 0 (names_of text)) refl h
+path_sound text p h = cases (first_fault (names_start text) 0 (names_of text)) refl h
   where
-    cases : (o : Option PathRefusal) → first_fault (start_of text) 0 (names_of text) ≡ o → names_or (names_of text) o ≡ Ok p → IsPath p
+    cases : (o : Option PathRefusal) → first_fault (names_start text) 0 (names_of text) ≡ o → names_or (names_of text) o ≡ Ok p → IsPath p
     cases None e k =
         let same : names_of text ≡ p = cc in
-        let good = names_sound (start_of text) 0 (names_of text) (omega arith) e in
+        let good = names_sound (names_start text) 0 (names_of text) (omega arith) e in
         subst IsPath same (record { short = omega (arith, good.short); names = All-from_recursion IsName (names_of text) good.each })
     cases (Some x) e k = absurd (cc)
 

@@ -10,7 +10,7 @@ use Rattle.std.proofs.lemmas.Option.{cond_some}
 use Rattle.std.proofs.lemmas.Bool.Decides.{nat_tests}
 use Rattle.odb_path.specs.declared.refusals.PathRefusal.{PathRefusal}
 use Rattle.odb_path.specs.Paths.{depth_limit}
-use Rattle.odb_path.specs.PathText.{behind_slash, pieces, names_behind, start_of, add_fault, first_fault, names_or, path_reply}
+use Rattle.odb_path.specs.PathText.{behind_slash, pieces, names_behind, names_start, add_fault, first_fault, names_or, path_reply}
 
 -- these names have been read off the text, without a fault, and the rest begins at this place
 pub record IsRead (body : List ℕ) (start : ℕ) (names : List (List ℕ)) (rest : List ℕ) (place : ℕ) : Type 0 where
@@ -93,26 +93,26 @@ names_of_body (b ∷ bs) h = refl
 
 -- where the text is not the root's, its pieces decide
 reply_of_body : (text : List ℕ) → eqb (length (behind_slash text)) 0 ≡ false
-    → path_reply text ≡ names_or (pieces (behind_slash text)) (first_fault (start_of text) 0 (pieces (behind_slash text)))
-reply_of_body text h = ap (λ (names : List (List ℕ)). names_or names (first_fault (start_of text) 0 names)) (names_of_body (behind_slash text) h)
+    → path_reply text ≡ names_or (pieces (behind_slash text)) (first_fault (names_start text) 0 (pieces (behind_slash text)))
+reply_of_body text h = ap (λ (names : List (List ℕ)). names_or names (first_fault (names_start text) 0 names)) (names_of_body (behind_slash text) h)
 
 pub replies_path : (text : List ℕ) (names : List (List ℕ)) (rest : List ℕ) (place : ℕ) → eqb (length (behind_slash text)) 0 ≡ false
-    → IsRead (behind_slash text) (start_of text) names rest place
+    → IsRead (behind_slash text) (names_start text) names rest place
     → position (λ b. eqb b 47) rest ≡ None → add_fault place (length names) rest ≡ None → path_reply text ≡ Ok (names ++ rest ∷ [])
-replies_path text names rest place some h p good = reply_of_body text some ∙ read_all (behind_slash text) (start_of text) names rest place h p good
+replies_path text names rest place some h p good = reply_of_body text some ∙ read_all (behind_slash text) (names_start text) names rest place h p good
 
 pub replies_fault : (text : List ℕ) (names : List (List ℕ)) (rest name : List ℕ) (place at : ℕ) (refusal : PathRefusal) → eqb (length (behind_slash text)) 0 ≡ false
-    → IsRead (behind_slash text) (start_of text) names rest place
+    → IsRead (behind_slash text) (names_start text) names rest place
     → position (λ b. eqb b 47) rest ≡ Some at → name ≡ take at rest → add_fault place (length names) name ≡ Some refusal → path_reply text ≡ Err refusal
 replies_fault text names rest name place at refusal some h p is bad =
     reply_of_body text some ∙ ap (names_or (pieces (behind_slash text)))
-    (read_fault (behind_slash text) (start_of text) names rest place at refusal h p (subst (λ (n : List ℕ). add_fault place (length names) n ≡ Some refusal) is bad))
+    (read_fault (behind_slash text) (names_start text) names rest place at refusal h p (subst (λ (n : List ℕ). add_fault place (length names) n ≡ Some refusal) is bad))
 
 pub replies_last_fault : (text : List ℕ) (names : List (List ℕ)) (rest : List ℕ) (place : ℕ) (refusal : PathRefusal) → eqb (length (behind_slash text)) 0 ≡ false
-    → IsRead (behind_slash text) (start_of text) names rest place
+    → IsRead (behind_slash text) (names_start text) names rest place
     → position (λ b. eqb b 47) rest ≡ None → add_fault place (length names) rest ≡ Some refusal → path_reply text ≡ Err refusal
 replies_last_fault text names rest place refusal some h p bad =
-    reply_of_body text some ∙ ap (names_or (pieces (behind_slash text))) (read_last_fault (behind_slash text) (start_of text) names rest place refusal h p bad)
+    reply_of_body text some ∙ ap (names_or (pieces (behind_slash text))) (read_last_fault (behind_slash text) (names_start text) names rest place refusal h p bad)
 
 -- one name more, as the parts of the text are lent
 pub read_next : (body : List ℕ) (start : ℕ) (names more : List (List ℕ)) (rest name behind : List ℕ) (place at : ℕ) → IsRead body start names rest place

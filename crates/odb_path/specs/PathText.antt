@@ -60,12 +60,12 @@ names_or names None = Ok names
 names_or names (Some refusal) = Err refusal
 
 -- where the names begin
-abbrev pub start_of : List ℕ → ℕ
-start_of text = length text - length (behind_slash text)
+abbrev pub names_start : List ℕ → ℕ
+names_start text = length text - length (behind_slash text)
 
 -- the path of a text, or the first fault
 abbrev pub path_reply : List ℕ → Result (List (List ℕ)) PathRefusal
-path_reply text = names_or (names_of text) (first_fault (start_of text) 0 (names_of text))
+path_reply text = names_or (names_of text) (first_fault (names_start text) 0 (names_of text))
 
 -- a reply is this one, where memory was not wanting
 abbrev pub GivesNames : Result (List (List ℕ)) PathRefusal → Result (List (List ℕ)) PathRefusal → Type 0

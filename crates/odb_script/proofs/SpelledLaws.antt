@@ -6,7 +6,7 @@ use Rattle.std.proofs.lemmas.List.{append-nil}
 use Rattle.daq_types.specs.declared.runs.Kind.{Kind}
 use Rattle.daq_types.specs.declared.types.Tid.{Tid}
 use Rattle.odb_script.specs.LineWords.{Words, word, ended, faulty, line_words}
-use Rattle.daq_text.specs.Numbers.{number_of}
+use Rattle.daq_text.specs.Numbers.{whole_number}
 use Rattle.odb_script.specs.Numbers.{most_number, most_small}
 use Rattle.odb_script.specs.TypeNames.{is_text, type_named, kind_named}
 use Rattle.odb_script.specs.declared.forms.Command.{Command}
@@ -40,7 +40,7 @@ text_ends front make h (word at text (faulty next)) = tt
 text_ends front make h (ended at) = tt
 text_ends front make h (faulty at) = tt
 
-number_ends : (front : List (List ℕ)) (make : ℕ → Command) → ((text : List ℕ) (n : ℕ) → number_of most_number text ≡ Some n → Spells (front ++ text ∷ []) (make n))
+number_ends : (front : List (List ℕ)) (make : ℕ → Command) → ((text : List ℕ) (n : ℕ) → whole_number most_number text ≡ Some n → Spells (front ++ text ∷ []) (make n))
     → (ws : Words) → Reads front ws (with_number make ws)
 number_ends front make h (word at text (word next other ws)) = number_cases most_number text (λ e. rw e tt) (λ n e. rw e tt)
 number_ends front make h (word at text (ended next)) = number_cases most_number text (λ e. rw e tt) (λ n e. rw e (text ∷ [], refl, h text n e))
@@ -55,7 +55,7 @@ text_goes_on front go_on h (ended at) = tt
 text_goes_on front go_on h (faulty at) = tt
 
 number_goes_on : (front : List (List ℕ)) (most : ℕ) (go_on : ℕ → Words → Read Command)
-    → ((text : List ℕ) (n : ℕ) → number_of most text ≡ Some n → (ws : Words) → Reads (front ++ text ∷ []) ws (go_on n ws))
+    → ((text : List ℕ) (n : ℕ) → whole_number most text ≡ Some n → (ws : Words) → Reads (front ++ text ∷ []) ws (go_on n ws))
     → (ws : Words) → Reads front ws (next_number most ws >>= (λ n. go_on n (words_behind ws)))
 number_goes_on front most go_on h (word at text ws) = number_cases most text (λ e. rw e tt) (λ n e. rw e (step front at text ws (go_on n ws) (h text n e ws)))
 number_goes_on front most go_on h (ended at) = tt
@@ -69,7 +69,7 @@ given front make n (ended at) h = ([], refl, subst (λ texts. Spells texts (make
 given front make n (faulty at) h = tt
 
 maybe_number_ends : (front : List (List ℕ)) (make : Option ℕ → Command) → Spells front (make None)
-    → ((text : List ℕ) (n : ℕ) → number_of most_number text ≡ Some n → Spells (front ++ text ∷ []) (make (Some n)))
+    → ((text : List ℕ) (n : ℕ) → whole_number most_number text ≡ Some n → Spells (front ++ text ∷ []) (make (Some n)))
     → (ws : Words) → Reads front ws (last_number ws >>= (λ n. Ok (make n)))
 maybe_number_ends front make none some (word at text ws) = number_cases most_number text
     (λ e. rw e tt)
@@ -78,7 +78,7 @@ maybe_number_ends front make none some (ended at) = ([], refl, subst (λ texts. 
 maybe_number_ends front make none some (faulty at) = tt
 
 text_number_ends : (front : List (List ℕ)) (make : List ℕ → Option ℕ → Command) → ((text : List ℕ) → Spells (front ++ text ∷ []) (make text None))
-    → ((text number : List ℕ) (n : ℕ) → number_of most_number number ≡ Some n → Spells ((front ++ text ∷ []) ++ number ∷ []) (make text (Some n)))
+    → ((text number : List ℕ) (n : ℕ) → whole_number most_number number ≡ Some n → Spells ((front ++ text ∷ []) ++ number ∷ []) (make text (Some n)))
     → (ws : Words) → Reads front ws (next_text ws >>= (λ text. last_number (words_behind ws) >>= (λ n. Ok (make text n))))
 text_number_ends front make none some ws =
     text_goes_on front (λ text behind. last_number behind >>= (λ n. Ok (make text n))) (λ text. maybe_number_ends (front ++ text ∷ []) (make text) (none text) (some text)) ws
@@ -155,20 +155,20 @@ set_without_index path first (word at value ws) = tt
 set_without_index path first (ended at) = ([], refl, inl (refl, refl))
 set_without_index path first (faulty at) = tt
 
-set_with_index : (path first : List ℕ) (n : ℕ) → number_of most_number first ≡ Some n → (ws : Words) → Reads (codes "set" ∷ path ∷ first ∷ []) ws (set_end path first (Some n) ws)
+set_with_index : (path first : List ℕ) (n : ℕ) → whole_number most_number first ≡ Some n → (ws : Words) → Reads (codes "set" ∷ path ∷ first ∷ []) ws (set_end path first (Some n) ws)
 set_with_index path first n number (word at value ws) =
     step (codes "set" ∷ path ∷ first ∷ []) at value ws (only (Set path n value) ws)
     (ends (codes "set" ∷ path ∷ first ∷ value ∷ []) (Set path n value) ws (inr (first, refl, number)))
 set_with_index path first n number (ended at) = ([], refl, inl (refl, refl))
 set_with_index path first n number (faulty at) = tt
 
-set_value : (path first : List ℕ) (ws : Words) → Reads (codes "set" ∷ path ∷ first ∷ []) ws (set_end path first (number_of most_number first) ws)
+set_value : (path first : List ℕ) (ws : Words) → Reads (codes "set" ∷ path ∷ first ∷ []) ws (set_end path first (whole_number most_number first) ws)
 set_value path first ws = number_cases most_number first (λ e. rw e (set_without_index path first ws)) (λ n e. rw e (set_with_index path first n e ws))
 
 set : (ws : Words) → Reads (codes "set" ∷ []) ws (set_form ws)
 set (word at path (word next first ws)) =
-    step (codes "set" ∷ []) at path (word next first ws) (set_end path first (number_of most_number first) ws)
-    (step (codes "set" ∷ path ∷ []) next first ws (set_end path first (number_of most_number first) ws) (set_value path first ws))
+    step (codes "set" ∷ []) at path (word next first ws) (set_end path first (whole_number most_number first) ws)
+    (step (codes "set" ∷ path ∷ []) next first ws (set_end path first (whole_number most_number first) ws) (set_value path first ws))
 set (word at path (ended next)) = tt
 set (word at path (faulty next)) = tt
 set (ended at) = tt

@@ -8,7 +8,7 @@ use Rattle.daq_types.specs.declared.runs.Kind.{Kind}
 use Rattle.daq_types.specs.declared.runs.Kind.TheVariants.{All as GetAll, NonBlocking}
 use Rattle.daq_types.specs.declared.types.Tid.{Tid}
 use Rattle.odb_script.specs.LineWords.{Words, word, ended, faulty, line_words}
-use Rattle.daq_text.specs.Numbers.{number_of}
+use Rattle.daq_text.specs.Numbers.{whole_number}
 use Rattle.odb_script.specs.Numbers.{most_number, most_small}
 use Rattle.odb_script.specs.TypeNames.{is_text, type_named, kind_named}
 use Rattle.odb_script.specs.declared.forms.Command.{Command}
@@ -19,9 +19,9 @@ use Rattle.odb_script.specs.FormTable.{Piece, exactly, any_text, number_to, a_nu
 
 -- What is known of a text: whether it is a number, the name of a type, or one text alone.
 
-pub number_cases : {A : Type 0} (most : ℕ) (text : List ℕ) → (number_of most text ≡ None → A) → ((n : ℕ) → number_of most text ≡ Some n → A) → A
+pub number_cases : {A : Type 0} (most : ℕ) (text : List ℕ) → (whole_number most text ≡ None → A) → ((n : ℕ) → whole_number most text ≡ Some n → A) → A
 number_cases {A} most text none some =
-    elim (number_of most text) as (λ found. number_of most text ≡ found → A) [ None ↦ none | Some n ↦ some n ] refl
+    elim (whole_number most text) as (λ found. whole_number most text ≡ found → A) [ None ↦ none | Some n ↦ some n ] refl
 
 pub type_cases : {A : Type 0} (text : List ℕ) → (type_named text ≡ None → A) → ((t : Tid) → type_named text ≡ Some t → A) → A
 type_cases {A} text none some =

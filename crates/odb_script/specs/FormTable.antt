@@ -1,7 +1,7 @@
 -- The forms of a script's commands as a table. A line is refused at the first word with which none of them goes on.
 use Rattle.std.specs.Prelude.{ℕ, Bool, true, false, if◌then◌else◌, List, [], ◌∷◌, Option, Some, None, is_some, Ok, Err, codes}
 use Rattle.odb_script.specs.LineWords.{Words, word, ended, faulty}
-use Rattle.daq_text.specs.Numbers.{number_of}
+use Rattle.daq_text.specs.Numbers.{whole_number}
 use Rattle.odb_script.specs.Numbers.{most_number, most_small}
 use Rattle.odb_script.specs.TypeNames.{is_text, type_named}
 use Rattle.odb_script.specs.Forms.{Read}
@@ -24,7 +24,7 @@ a_small_number = number_to most_small
 abbrev pub fits : Piece → List ℕ → Bool
 fits (exactly name) text = is_text text name
 fits any_text text = true
-fits (number_to most) text = is_some (number_of most text)
+fits (number_to most) text = is_some (whole_number most text)
 fits a_type text = is_some (type_named text)
 
 -- a form, word by word

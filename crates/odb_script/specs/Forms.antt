@@ -4,7 +4,7 @@ use Rattle.std.specs.List.{starts_with}
 use Rattle.daq_types.specs.declared.runs.Kind.{Kind}
 use Rattle.daq_types.specs.declared.types.Tid.{Tid}
 use Rattle.odb_script.specs.LineWords.{Words, word, ended, faulty, line_words}
-use Rattle.daq_text.specs.Numbers.{number_of}
+use Rattle.daq_text.specs.Numbers.{whole_number}
 use Rattle.odb_script.specs.Numbers.{most_number, most_small}
 use Rattle.odb_script.specs.TypeNames.{is_text, type_named, kind_named}
 use Rattle.odb_script.specs.declared.forms.Command.{Command}
@@ -46,7 +46,7 @@ read_number_at at (Some n) = Ok n
 
 -- the next word, which has to be a number of at most this
 abbrev pub next_number : (most : ℕ) → Words → Read ℕ
-next_number most (word at text ws) = read_number_at at (number_of most text)
+next_number most (word at text ws) = read_number_at at (whole_number most text)
 next_number most (ended at) = Err (BadCommand at)
 next_number most (faulty at) = Err (BadCommand at)
 
@@ -64,7 +64,7 @@ next_kind (faulty at) = Err (BadCommand at)
 -- a number at the line's end, which may be left out
 abbrev pub last_number : Words → Read (Option ℕ)
 last_number (word at text ws) = do
-  n ← read_number_at at (number_of most_number text)
+  n ← read_number_at at (whole_number most_number text)
   _ ← line_end ws
   Ok (Some n)
 last_number (ended at) = Ok None
@@ -183,7 +183,7 @@ abbrev pub set_form : Words → Read Command
 set_form ws = do
   path ← next_text ws
   first ← next_text (words_behind ws)
-  set_end path first (number_of most_number first) (words_behind (words_behind ws))
+  set_end path first (whole_number most_number first) (words_behind (words_behind ws))
 
 -- `get PATH` and maybe INDEX
 abbrev pub get_form : Words → Read Command

@@ -1,6 +1,6 @@
 //! The words of a line, each as the piece that a form has there.
 ghost use Rattle.std.specs.Prelude.{◌≡◌, ◌≤◌, IfOk, IfSome, OnOk};
-ghost use Rattle.daq_text.specs.Numbers.{number_of};
+ghost use Rattle.daq_text.specs.Numbers.{whole_number};
 ghost use Rattle.odb_script.specs.Numbers.{most_small};
 ghost use Rattle.odb_script.specs.TypeNames.{type_named, kind_named};
 ghost use Rattle.odb_script.specs.Forms.{next_text, words_behind, line_end, read_number_at, next_number as number_next, read_kind_at, next_kind as kind_next, last_number as number_last, only_text as text_alone, only_number as number_alone};
@@ -44,7 +44,7 @@ pub(crate) fn kind_there(at: u32, kind: Option<Kind>) -> Result<Kind, LineRefusa
 
 /// The number of at most `most` that a word is.
 pub(crate) fn word_number(text: &LineText<'_>, most: u32) -> Option<u32>
-    ensures value { result ≡ number_of most text.now }
+    ensures value { result ≡ whole_number most text.now }
     ensures bound { IfSome result (λ n. n ≤ most) }
 {
     match number(text.as_slice(), most as u64) {
@@ -55,7 +55,7 @@ pub(crate) fn word_number(text: &LineText<'_>, most: u32) -> Option<u32>
 
 /// The number of at most `most` that a word at this place is.
 pub(crate) fn number_there(at: u32, text: &LineText<'_>, most: u32) -> Result<u32, LineRefusal>
-    ensures value { result ≡ read_number_at at (number_of most text.now) }
+    ensures value { result ≡ read_number_at at (whole_number most text.now) }
     ensures bound { IfOk result (λ n. n ≤ most) }
 {
     match word_number(text, most) {

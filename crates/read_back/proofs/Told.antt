@@ -35,7 +35,7 @@ use Rattle.session_laws.specs.ClosedSessions.{ClosedSession}
 use Rattle.daq_session.specs.ToldRecords.{IsFileOfRun, IsFrontEvent, RunTells, events_of_run}
 use Rattle.midas_tools.specs.Analyses.{Analyzes, analysis_text}
 use Rattle.midas_tools.specs.Findings.{IsThere, Writes}
-use Rattle.midas_tools.specs.Texts.{run_line}
+use Rattle.midas_tools.specs.Texts.{run_number_line}
 use Rattle.midas_tools.specs.declared.ends.ToolEnd.{ToolEnd}
 use Rattle.midas_tools.specs.declared.ends.ToolEnd.TheVariants.{Done}
 use Rattle.read_back.specs.ReportsBack.{HasFileAndReport, PrintsReport, ReportsReadBack, SessionReadsBack}
@@ -104,15 +104,15 @@ module _ (c : ClosedSession) (moments : (client : ℕ) → List ℕ) (own : Main
     same_report : report_of (events_of_run its_file.of.channel its_file.of.buffer run.start) ≡ report
     same_report = ap report_of (sym same_events) ∙ sym has.counted.counts.told.report_is ∙ has.report_is
 
-    text_is : (bytes text : List ℕ) → bytes ≡ its_file.bytes → Analyzes bytes None text → text ≡ run_line run.run ++ report_text [] report
+    text_is : (bytes text : List ℕ) → bytes ≡ its_file.bytes → Analyzes bytes None text → text ≡ run_number_line run.run ++ report_text [] report
     text_is bytes text same says =
         let printed : text ≡ analysis_text run.run (events_of_run its_file.of.channel its_file.of.buffer run.start) (length its_file.bytes) =
         prints its_file.bytes run.run run.time0 tells.so.fits.start.dump (events_of_run its_file.of.channel its_file.of.buffer run.start) run.time1 last.0 text its_file.are
         (run_small (have_of tells.so.fits.start.are.got) run.run tells.so.fits.start.are.number) (all_small its_file.of.channel its_file.of.buffer its_file.of.there) (subst (λ (b : List ℕ). Analyzes b None text) same says) in
-        printed ∙ ap (λ (t : Totals). run_line run.run ++ report_text [] t) same_report
+        printed ∙ ap (λ (t : Totals). run_number_line run.run ++ report_text [] t) same_report
 
     written : (seen : Seen) (told_old told_new : Option (List ℕ)) → IsTrue c.files.tells → IsTrue seen.tells → seen.at file.name ≡ c.files.at file.name
-        → Writes Analyzes seen file.name told_old told_new Done → Appends told_old told_new (run_line run.run ++ report_text [] report)
+        → Writes Analyzes seen file.name told_old told_new Done → Appends told_old told_new (run_number_line run.run ++ report_text [] report)
     written seen told_old told_new files_tell tell at wrote =
         let there : IsThere seen file.name (λ bytes. Analyzes bytes None wrote.text) = wrote.finds.1 tell in
         let same : there.file.bytes ≡ its_file.bytes = same_bytes there.file its_file.bytes (sym there.at_is ∙ at ∙ its_file.stored.holds files_tell) in

@@ -28,7 +28,7 @@ use Rattle.daq_session.specs.Sessions.{KeepsSession}
 use Rattle.daq_session.specs.ToldRecords.{IsCountedInRun, RunTells}
 use Rattle.midas_tools.specs.Analyses.{Analyzes}
 use Rattle.midas_tools.specs.Findings.{Writes}
-use Rattle.midas_tools.specs.Texts.{run_line}
+use Rattle.midas_tools.specs.Texts.{run_number_line}
 use Rattle.midas_tools.specs.declared.ends.ToolEnd.{ToolEnd}
 use Rattle.midas_tools.specs.declared.ends.ToolEnd.TheVariants.{Done}
 
@@ -68,7 +68,7 @@ abbrev pub PrintsReport : (files : Seen) (name : List ℕ) (run : ℕ) (report :
 PrintsReport files name run report = (seen : Seen) → (told_old told_new : Option (List ℕ)) → (end : ToolEnd) →
     IsTrue files.tells → IsTrue seen.tells → seen.at name ≡ files.at name →
     Writes Analyzes seen name told_old told_new end → end ≡ Done →
-    Appends told_old told_new (run_line run ++ report_text [] report)
+    Appends told_old told_new (run_number_line run ++ report_text [] report)
 
 -- Where the declarations are sound and all is so that is told of a run: the file and the report of one request agree.
 abbrev pub ReportsReadBack : Type 0

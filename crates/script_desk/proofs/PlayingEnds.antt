@@ -23,7 +23,7 @@ use Rattle.session_replies.specs.declared.replies.Reply.{Reply}
 use Rattle.session_replies.specs.declared.refusals.Refusals.{Refusals}
 use Rattle.session_replies.specs.Console.{text_of, console_text}
 use Rattle.session_replies.proofs.Refused.{counts_noted}
-use Rattle.script_desk.specs.Reading.{ReadsNext, ReadsOn}
+use Rattle.script_desk.specs.Reading.{ReadsNext, ReadsLineOrEnd}
 use Rattle.script_desk.specs.Playing.{AreFirst, AreLines, CutBy, DoesLine, HasLine, IsBetween, OpensAt, Played, PlaysFrom, Replied, Unanswered, Wrote}
 use Rattle.script_desk.proofs.PlayingLaws.{answered_more, between_more, keeps_same, wrote_more}
 
@@ -73,7 +73,7 @@ module _ {St : Type 0} (does : ℕ → Read Command → St → Reply → St → 
 
   -- no line was read, and the lines ended so
   pub ended_played : (ending : Ending) (last : Bool) (first : St) (source_first source_old source_new told_first told_now : Option (List ℕ)) (old new : Reading) (now : St) (refusals : Refusals) (number : ℕ)
-      → IsBetween does first source_first source_old told_first told_now old now refusals number → ReadsOn (Some ending) last old new source_old source_new → Played does breaks first ending source_first source_new told_first told_now now refusals
+      → IsBetween does first source_first source_old told_first told_now old now refusals number → ReadsLineOrEnd (Some ending) last old new source_old source_new → Played does breaks first ending source_first source_new told_first told_now now refusals
   ended_played End last first source_first source_old source_new told_first told_now old new now refusals number between reads =
       between_played End first source_first source_old source_new told_first told_now old now refusals number between
       (λ text told. let read = told_read source_first source_old old between.lines text told between.read in
@@ -257,7 +257,7 @@ module _ {St : Type 0} (does : ℕ → Read Command → St → Reply → St → 
 
   -- the next line was read behind those that were answered
   pub line_behind : (last : Bool) (first : St) (source_first source_old source_new told_first told_now : Option (List ℕ)) (old new : Reading) (now : St) (refusals : Refusals) (number : ℕ)
-      → IsBetween does first source_first source_old told_first told_now old now refusals number → ReadsOn None last old new source_old source_new → HasLine does breaks first source_first source_new told_first told_now new last now refusals number
+      → IsBetween does first source_first source_old told_first told_now old now refusals number → ReadsLineOrEnd None last old new source_old source_new → HasLine does breaks first source_first source_new told_first told_now new last now refusals number
   line_behind last first source_first source_old source_new told_first told_now old new now refusals number between reads =
       record {
         source_old = source_old;
@@ -275,7 +275,7 @@ module _ {St : Type 0} (does : ℕ → Read Command → St → Reply → St → 
   pub goes_next : (leaves : Read Command → Bool) (last last_new : Bool) (first : St) (source_first source_old source_new told_first told_old told_new : Option (List ℕ)) (reading_old reading_mid reading_new : Reading) (old new : St) (was mid now : Refusals) (number_old number_mid number_new : ℕ)
       → HasLine does breaks first source_first source_old told_first told_old reading_old last old was number_old
       → DoesLine does breaks leaves reading_old.line (number_old + 1) last old new told_old told_new was mid (Ok going.On) → reading_mid ≡ reading_old → number_mid ≡ number_old + 1
-      → ReadsOn None last_new reading_mid reading_new source_old source_new → number_new ≡ number_mid → now ≡ mid
+      → ReadsLineOrEnd None last_new reading_mid reading_new source_old source_new → number_new ≡ number_mid → now ≡ mid
       → HasLine does breaks first source_first source_new told_first told_new reading_new last_new new now number_new
   goes_next leaves last last_new first source_first source_old source_new told_first told_old told_new reading_old reading_mid reading_new old new was mid now number_old number_mid number_new has line_does same_reading is_mid reads is_number is_refusals =
       let between : IsBetween does first source_first source_old told_first told_new reading_old new mid (number_old + 1) =
@@ -286,7 +286,7 @@ module _ {St : Type 0} (does : ℕ → Read Command → St → Reply → St → 
   pub ends_next : (leaves : Read Command → Bool) (ending : Ending) (last last_new : Bool) (first : St) (source_first source_old source_new told_first told_old told_new : Option (List ℕ)) (reading_old reading_mid reading_new : Reading) (old new : St) (was mid now : Refusals) (number_old : ℕ)
       → HasLine does breaks first source_first source_old told_first told_old reading_old last old was number_old
       → DoesLine does breaks leaves reading_old.line (number_old + 1) last old new told_old told_new was mid (Ok going.On) → reading_mid ≡ reading_old
-      → ReadsOn (Some ending) last_new reading_mid reading_new source_old source_new → now ≡ mid
+      → ReadsLineOrEnd (Some ending) last_new reading_mid reading_new source_old source_new → now ≡ mid
       → Played does breaks first ending source_first source_new told_first told_new new now
   ends_next leaves ending last last_new first source_first source_old source_new told_first told_old told_new reading_old reading_mid reading_new old new was mid now number_old has line_does same_reading reads is_refusals =
       let between : IsBetween does first source_first source_old told_first told_new reading_old new mid (number_old + 1) =

@@ -20,7 +20,7 @@ use Rattle.script_desk.specs.Reading.{ReadsNext}
 use Rattle.session_replies.specs.declared.replies.Reply.{Reply}
 use Rattle.session_replies.specs.declared.refusals.Refusals.{Refusals}
 use Rattle.session_replies.specs.Console.{text_of, console_text, refuses_line, refused_lines}
-use Rattle.session_replies.specs.Refused.{noted, Counts}
+use Rattle.session_replies.specs.Refused.{refusals_after, Counts}
 
 -- One line.
 
@@ -53,7 +53,7 @@ module _ {St : Type 0} (does : (number : ℕ) → Read Command → St → Reply 
   -- The line of this number was answered, and noted where it was refused.
   pub record Replied (line : List ℕ) (number : ℕ) (reply : Reply) (old new : St) (was now : Refusals) : Type 0 where
     pub answers : does number (command_of line) old reply new
-    pub is_noted : now ≡ noted was number (refuses_line reply)
+    pub is_noted : now ≡ refusals_after was number (refuses_line reply)
 
   -- What lines do, one after the other, of which the first has this number, with their replies.
   abbrev pub PlaysFrom : (number : ℕ) → List (List ℕ) → List Reply → (old new : St) → Type 0

@@ -11,12 +11,12 @@ ReadsNext true old new before after line = ReadsLast old new before after line
 ReadsNext false old new before after line = ReadsLine old new before after line
 
 -- a line was read, or the lines ended so
-abbrev pub ReadsOn : Option Ending → (last : Bool) → (old new : Reading) → (before after : Option (List ℕ)) → Type 0
-ReadsOn None last old new before after = (line : List ℕ) × ReadsNext last old new before after line
-ReadsOn (Some End) last old new before after = ReadsNone old new before after
-ReadsOn (Some TooLong) last old new before after = ReadsTooMuch old new before after
-ReadsOn (Some SourceFault) last old new before after = ReadsPart old new before after
-ReadsOn (Some (Halted halt)) last old new before after = ⊥
+abbrev pub ReadsLineOrEnd : Option Ending → (last : Bool) → (old new : Reading) → (before after : Option (List ℕ)) → Type 0
+ReadsLineOrEnd None last old new before after = (line : List ℕ) × ReadsNext last old new before after line
+ReadsLineOrEnd (Some End) last old new before after = ReadsNone old new before after
+ReadsLineOrEnd (Some TooLong) last old new before after = ReadsTooMuch old new before after
+ReadsLineOrEnd (Some SourceFault) last old new before after = ReadsPart old new before after
+ReadsLineOrEnd (Some (Halted halt)) last old new before after = ⊥
 
 -- the source's count of faults with that
 abbrev pub SourceBy : Option Ending → (old new : ℕ) → Type 0

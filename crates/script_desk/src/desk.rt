@@ -46,7 +46,7 @@ fn going_behind(command: &Result<Command<'_>, LineRefusal>, last: bool) -> Going
 
 impl Desk {
     ghost use Rattle.script_desk.specs.Halts.{CountsSink};
-    ghost use Rattle.script_desk.specs.Reading.{ReadsOn, SourceBy};
+    ghost use Rattle.script_desk.specs.Reading.{ReadsLineOrEnd, SourceBy};
     ghost use Rattle.script_desk.specs.Playing.{DoesLine, number_behind};
 
     /// A desk before the first line.
@@ -67,7 +67,7 @@ impl Desk {
 
     /// Reads the next line. None where there is one; else how the lines ended.
     pub fn next_line<S: Source>(&mut self, source: &mut S) -> Option<Ending>
-        ensures read { ReadsOn result self.new.last self.old.reader self.new.reader
+        ensures read { ReadsLineOrEnd result self.new.last self.old.reader self.new.reader
             (S.left source.old) (S.left source.new) }
         ensures number { self.new.number ≡ self.old.number }
         ensures refusals { self.new.refusals ≡ self.old.refusals }

@@ -21,7 +21,7 @@ use Rattle.odb_commands.specs.declared.replies.CommandReply.{CommandReply}
 use Rattle.odb_commands.specs.CommandCalls.{Performs}
 use Rattle.odb_commands.specs.CommandCallLaws.{Spares}
 use Rattle.watch_commands.specs.declared.replies.WatchAnswer.{WatchAnswer}
-use Rattle.watch_commands.specs.WatchCalls.{BreaksOff, without_memory}
+use Rattle.watch_commands.specs.WatchCalls.{BreaksOffCalls, without_memory}
 use Rattle.watch_commands.specs.WatchPerforms.{PerformsWatch}
 use Rattle.watch_commands.specs.WatchSpares.{SparesWatched}
 use Rattle.session_replies.specs.declared.replies.Reply.{Reply}
@@ -78,7 +78,7 @@ without_spares (call.Unwatch w reply) spare = tt
 without_spares (call.Save reply) spare = tt
 without_spares (call.Load text reply) spare = tt
 
-broken_spare : (calls made : List WatchEntry) → AllSpare calls → BreaksOff calls made → AllSpare made
+broken_spare : (calls made : List WatchEntry) → AllSpare calls → BreaksOffCalls calls made → AllSpare made
 broken_spare calls [] spare short = tt
 broken_spare [] (e ∷ made) spare short = absurd short
 broken_spare (c ∷ calls) (e ∷ made) spare short = ⊎_elim

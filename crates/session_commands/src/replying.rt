@@ -2,7 +2,7 @@
 ghost use Rattle.std.specs.Prelude.{◌≡◌, ◌≢◌, ◌++◌, ◌∷◌, [], ℕ, map, slice_get, IfOk, OnErr};
 ghost use Rattle.std.specs.Option.{unwrap_or};
 ghost use Rattle.mid_logger.specs.ChannelTurns.{logger_name};
-ghost use Rattle.session_lines.specs.RunLines.{fronts_in, files_in, reports_in, last_record, member_name, reply_for, report_line, sent_line};
+ghost use Rattle.session_lines.specs.RunLines.{fronts_in, files_in, reports_in, last_record, member_name, reply_for, report_line, tally_line};
 
 use daq_types::{BoundedList, Bytes, Name, NoMemory};
 use run_records::{
@@ -54,7 +54,7 @@ fn sent_lines(
     analyzers: &[Name],
     tallies: &[FrontTally],
 ) -> Result<SentLines, NoMemory>
-    ensures { IfOk result (λ lines. lines ≡ map (sent_line fronts.now analyzers.now) tallies.now) }
+    ensures { IfOk result (λ lines. lines ≡ map (tally_line fronts.now analyzers.now) tallies.now) }
 {
     let mut lines = BoundedList::new(alloc)?;
     for tally in tallies {
@@ -129,7 +129,7 @@ fn stop_reply(
     run: u32,
 ) -> Result<Reply, NoMemory>
     ensures { IfOk result (λ reply. reply ≡ Reply.Stopped run
-        (map (sent_line fronts.now analyzers.now) (fronts_in (last_record records.now)))
+        (map (tally_line fronts.now analyzers.now) (fronts_in (last_record records.now)))
         (files_in (last_record records.now))
         (map (report_line fronts.now analyzers.now) (reports_in (last_record records.now)))) }
 {

@@ -40,7 +40,7 @@ use Rattle.analyzer_seats.specs.SeatedAnalyzers.{AnalyzerSeen, IsAnalyzerSeated}
 use Rattle.session_objects.specs.declared.objects.SessionBuffer.{SessionBuffer}
 use Rattle.session_objects.specs.declared.record.BufferRecord.{BufferRecord}
 use Rattle.session_objects.specs.declared.record.SessionRecord.{SessionRecord}
-use Rattle.session_objects.specs.Calls.{AnalyzerCalls, FrontCalls, SessionCalls, told_of_engine, told_of_buffer, told_of_database, told_through, client_port, port_behind, reader_port, port_of_caller, front_port, analyzer_port, analyzer_engine, engine_calls_behind, engine_calls_by, database_seen_by, HoldsParts}
+use Rattle.session_objects.specs.Calls.{AnalyzerCalls, FrontCalls, SessionCalls, told_of_engine, told_of_buffer, told_of_database, told_through, client_port, port_behind, analyzer_port_in, port_of_caller, front_port, analyzer_port, analyzer_engine, engine_calls_behind, engine_calls_by, database_seen_by, HoldsParts}
 use Rattle.session_objects.specs.Objects.{first_analyzer}
 use Rattle.session_objects.specs.Members.{generator_of, generator_takes, generator_makes, IsAnalyzerOf, IsFrontOf, analyzer_calls, front_calls, session_calls}
 use Rattle.session_objects.specs.Names.{member_names}
@@ -91,7 +91,7 @@ below client n callers less is = omega arith
 
 module _ {D F : Type 0} {g : _} (seen : F → Seen) (fronts : List FrontDeclared) (analyzers : List AnalyzerDeclared) (logger : LoggerSeen F) (r : SessionRecord D g) (ended : SessionEnded seen fronts analyzers logger r) where
   abbrev calls : SessionCalls
-  calls = session_calls ended.own ended.database ended.seats logger ended.readers
+  calls = session_calls ended.own ended.database ended.seats logger ended.seated_analyzers
 
   abbrev closed : ClosedSession
   closed = closed_session (first_database ended.shared) fronts analyzers logger.slots (seen logger.first) (seen logger.files) r
@@ -99,8 +99,8 @@ module _ {D F : Type 0} {g : _} (seen : F → Seen) (fronts : List FrontDeclared
   pub number : logger_client closed ≡ length fronts
   number = many closed_front fronts
 
-  pub many_readers : length closed.analyzers ≡ length analyzers
-  many_readers = many closed_analyzer analyzers
+  pub many_analyzers : length closed.analyzers ≡ length analyzers
+  many_analyzers = many closed_analyzer analyzers
 
   -- The engine.
 
@@ -324,23 +324,23 @@ module _ {D F : Type 0} {g : _} (seen : F → Seen) (fronts : List FrontDeclared
   abbrev IsAt : (place client : ℕ) → Type 0
   IsAt place client = client ≡ first_analyzer fronts + place
 
-  reader_ports : (buffer place client : ℕ) (d : AnalyzerDeclared) (reader : AnalyzerSeen) → IsAt place client → slice_get analyzers place ≡ Some d → slice_get ended.readers place ≡ Some reader
-      → port_of_caller fronts analyzers calls buffer (suc client) ≡ (if d.buffer == buffer then Some reader.port else None)
-  reader_ports buffer place client d reader is at seat =
+  analyzer_ports : (buffer place client : ℕ) (d : AnalyzerDeclared) (seated_analyzer : AnalyzerSeen) → IsAt place client → slice_get analyzers place ≡ Some d → slice_get ended.seated_analyzers place ≡ Some seated_analyzer
+      → port_of_caller fronts analyzers calls buffer (suc client) ≡ (if d.buffer == buffer then Some seated_analyzer.port else None)
+  analyzer_ports buffer place client d seated_analyzer is at seat =
       let past : client - length fronts ≡ suc place = omega (arith, is) in
       ap (λ (o : Option FrontDeclared). client_port buffer o (slice_get (map front_calls ended.seats) client) (port_behind analyzers calls buffer (client - length fronts))) (slice_get_past fronts client (omega (arith, is)))
       ∙ (ap (port_behind analyzers calls buffer) past
-      ∙ (ap (λ (o : Option AnalyzerDeclared). reader_port buffer o (slice_get (map analyzer_calls ended.readers) place)) at
-      ∙ ap (λ (o : Option AnalyzerCalls). if d.buffer == buffer then analyzer_port o else None) (map_at analyzer_calls ended.readers place reader seat)))
+      ∙ (ap (λ (o : Option AnalyzerDeclared). analyzer_port_in buffer o (slice_get (map analyzer_calls ended.seated_analyzers) place)) at
+      ∙ ap (λ (o : Option AnalyzerCalls). if d.buffer == buffer then analyzer_port o else None) (map_at analyzer_calls ended.seated_analyzers place seated_analyzer seat)))
 
-  reader_engine : (place client : ℕ) (reader : AnalyzerSeen) → IsAt place client → place < length analyzers → slice_get ended.readers place ≡ Some reader → reader.calls ≡ engine_calls closed (caller_of_client client)
-  reader_engine place client reader is less seat =
+  analyzer_at_engine : (place client : ℕ) (seated_analyzer : AnalyzerSeen) → IsAt place client → place < length analyzers → slice_get ended.seated_analyzers place ≡ Some seated_analyzer → seated_analyzer.calls ≡ engine_calls closed (caller_of_client client)
+  analyzer_at_engine place client seated_analyzer is less seat =
       let none : slice_get (map front_calls ended.seats) client ≡ None = slice_get_past (map front_calls ended.seats) client (omega (arith, many front_calls ended.seats, ended.members.many, is)) in
       let past : client - length (map front_calls ended.seats) ≡ suc place = omega (arith, many front_calls ended.seats, ended.members.many, is) in
       sym (engine_by client (omega (arith, is, less))
       ∙ (ap (engine_calls_by (behind client)) none
       ∙ (ap (engine_calls_behind calls) past
-      ∙ ap analyzer_engine (map_at analyzer_calls ended.readers place reader seat))))
+      ∙ ap analyzer_engine (map_at analyzer_calls ended.seated_analyzers place seated_analyzer seat))))
 
   read_there : (place : ℕ) (d : AnalyzerDeclared) → slice_get analyzers place ≡ Some d → (b : BufferRecord) × AtBuffer d.buffer b
   read_there place d at =
@@ -348,42 +348,42 @@ module _ {D F : Type 0} {g : _} (seen : F → Seen) (fronts : List FrontDeclared
       let b = there r.buffers d.buffer within in
       (b.0, at_buffer d.buffer b.0 b.1)
 
-  reader_access : (place client : ℕ) (d : AnalyzerDeclared) (reader : AnalyzerSeen) → IsAt place client → slice_get analyzers place ≡ Some d → slice_get ended.readers place ≡ Some reader → (b : BufferRecord) → AtBuffer d.buffer b
-      → IsAccessTo (caller_of_client client) (closed_buffer b) reader.port
-  reader_access place client d reader is at seat b here =
+  analyzer_access : (place client : ℕ) (d : AnalyzerDeclared) (seated_analyzer : AnalyzerSeen) → IsAt place client → slice_get analyzers place ≡ Some d → slice_get ended.seated_analyzers place ≡ Some seated_analyzer → (b : BufferRecord) → AtBuffer d.buffer b
+      → IsAccessTo (caller_of_client client) (closed_buffer b) seated_analyzer.port
+  analyzer_access place client d seated_analyzer is at seat b here =
       let same : (d.buffer == d.buffer) ≡ true = elim (eqb_tells d.buffer d.buffer) as (λ w. (d.buffer == d.buffer) ≡ true) [ inl hit ↦ hit.0 | inr never ↦ absurd (never.1 refl) ] in
-      let port : port_of_caller fronts analyzers calls d.buffer (suc client) ≡ Some reader.port =
-      reader_ports d.buffer place client d reader is at seat ∙ ap (λ (y : Bool). if y then Some reader.port else None) same in
-      access_at d.buffer client b here reader.port (omega (arith, is, slice_get_within analyzers place d at)) port
+      let port : port_of_caller fronts analyzers calls d.buffer (suc client) ≡ Some seated_analyzer.port =
+      analyzer_ports d.buffer place client d seated_analyzer is at seat ∙ ap (λ (y : Bool). if y then Some seated_analyzer.port else None) same in
+      access_at d.buffer client b here seated_analyzer.port (omega (arith, is, slice_get_within analyzers place d at)) port
 
-  reader_ends : GotAll → (place client : ℕ) (d : AnalyzerDeclared) → IsAt place client → slice_get analyzers place ≡ Some d → AnalyzerAtEnd closed client (closed_analyzer d)
-  reader_ends all place client d is at =
+  analyzer_ends : GotAll → (place client : ℕ) (d : AnalyzerDeclared) → IsAt place client → slice_get analyzers place ≡ Some d → AnalyzerAtEnd closed client (closed_analyzer d)
+  analyzer_ends all place client d is at =
       let less : place < length analyzers = slice_get_within analyzers place d at in
-      let seat = there ended.readers place (omega (arith, ended.members.analyzers_are.many, less)) in
-      let reader : AnalyzerSeen = seat.0 in
-      let of : IsAnalyzerOf ended.objects (first_analyzer fronts + place) d reader = ended.members.analyzers_are.each place d reader at seat.1 in
-      let seated : IsAnalyzerSeated reader = ended.readers_seated place reader seat.1 in
-      let its : reader.client ≡ client = of.is ∙ sym is in
+      let seat = there ended.seated_analyzers place (omega (arith, ended.members.analyzers_are.many, less)) in
+      let seated_analyzer : AnalyzerSeen = seat.0 in
+      let of : IsAnalyzerOf ended.objects (first_analyzer fronts + place) d seated_analyzer = ended.members.analyzers_are.each place d seated_analyzer at seat.1 in
+      let seated : IsAnalyzerSeated seated_analyzer = ended.analyzers_seated place seated_analyzer seat.1 in
+      let its : seated_analyzer.client ≡ client = of.is ∙ sym is in
       let by : ℕ = caller_of_client client in
-      let engine : reader.calls ≡ engine_calls closed by = reader_engine place client reader is less seat.1 in
+      let engine : seated_analyzer.calls ≡ engine_calls closed by = analyzer_at_engine place client seated_analyzer is less seat.1 in
       let read = read_there place d at in
-      let access : IsAccessTo by (closed_buffer read.0) reader.port = reader_access place client d reader is at seat.1 read.0 read.1 in
-      let own : reader.port.own ≡ calls_on_buffer closed by d.buffer = access.own ∙ (sym access.part.own ∙ sym (ap (entries_by by) (history_at d.buffer read.0 read.1))) in
-      let got : reader.port.got ≡ got_from_buffer closed by d.buffer =
+      let access : IsAccessTo by (closed_buffer read.0) seated_analyzer.port = analyzer_access place client d seated_analyzer is at seat.1 read.0 read.1 in
+      let own : seated_analyzer.port.own ≡ calls_on_buffer closed by d.buffer = access.own ∙ (sym access.part.own ∙ sym (ap (entries_by by) (history_at d.buffer read.0 read.1))) in
+      let got : seated_analyzer.port.got ≡ got_from_buffer closed by d.buffer =
       access.got
       ∙ (sym (all (history_of read.0.closed) access.seen by (opening read.0.size) access.part)
       ∙ sym (ap (λ (o : Option ClosedBuffer). given_in by (opening (size_in o)) (history_in o)) read.1.closed_at)) in
       record {
-        speaks = subst (λ (l : List EngineEntry). are_calls_for client l ≡ true) engine (subst (λ (n : ℕ). are_calls_for n reader.calls ≡ true) its seated.speaks);
-        analyzer = reader.analyzer;
+        speaks = subst (λ (l : List EngineEntry). are_calls_for client l ≡ true) engine (subst (λ (n : ℕ). are_calls_for n seated_analyzer.calls ≡ true) its seated.speaks);
+        analyzer = seated_analyzer.analyzer;
         wanted = of.wanted;
-        stands = subst (λ (l : List GotEvent). AnalyzerMemberStands client reader.analyzer (engine_calls closed by) (calls_on_buffer closed by d.buffer) l) got
-            (subst (λ (o : List BufferEntry). AnalyzerMemberStands client reader.analyzer (engine_calls closed by) o reader.port.got) own
-            (subst (λ (l : List EngineEntry). AnalyzerMemberStands client reader.analyzer l reader.port.own reader.port.got) engine
-            (subst (λ (n : ℕ). AnalyzerMemberStands n reader.analyzer reader.calls reader.port.own reader.port.got) its seated.stands)));
+        stands = subst (λ (l : List GotEvent). AnalyzerMemberStands client seated_analyzer.analyzer (engine_calls closed by) (calls_on_buffer closed by d.buffer) l) got
+            (subst (λ (o : List BufferEntry). AnalyzerMemberStands client seated_analyzer.analyzer (engine_calls closed by) o seated_analyzer.port.got) own
+            (subst (λ (l : List EngineEntry). AnalyzerMemberStands client seated_analyzer.analyzer l seated_analyzer.port.own seated_analyzer.port.got) engine
+            (subst (λ (n : ℕ). AnalyzerMemberStands n seated_analyzer.analyzer seated_analyzer.calls seated_analyzer.port.own seated_analyzer.port.got) its seated.stands)));
         elsewhere = λ buffer other.
             let differs : (d.buffer == buffer) ≡ false = elim (eqb_tells d.buffer buffer) as (λ w. (d.buffer == buffer) ≡ false) [ inl hit ↦ absurd (other (sym hit.1)) | inr never ↦ never.0 ] in
-            let none : port_of_caller fronts analyzers calls buffer (suc client) ≡ None = reader_ports buffer place client d reader is at seat.1 ∙ ap (λ (y : Bool). if y then Some reader.port else None) differs in
+            let none : port_of_caller fronts analyzers calls buffer (suc client) ≡ None = analyzer_ports buffer place client d seated_analyzer is at seat.1 ∙ ap (λ (y : Bool). if y then Some seated_analyzer.port else None) differs in
             subst (λ (n : ℕ). calls_on_buffer closed n buffer ≡ []) (sym (add-one client)) (none_by buffer (suc client) (omega (arith, is, less)) none);
       }
 
@@ -391,13 +391,13 @@ module _ {D F : Type 0} {g : _} (seen : F → Seen) (fronts : List FrontDeclared
   analyzers_end all place a at =
       let d = mapped closed_analyzer analyzers place a at in
       let is : IsAt place (analyzer_client closed place) = omega (arith, number) in
-      subst (λ (x : ClosedAnalyzer). AnalyzerAtEnd closed (analyzer_client closed place) x) d.2 (reader_ends all place (analyzer_client closed place) d.0 is d.1)
+      subst (λ (x : ClosedAnalyzer). AnalyzerAtEnd closed (analyzer_client closed place) x) d.2 (analyzer_ends all place (analyzer_client closed place) d.0 is d.1)
 
   -- The main thread.
 
-  reader_names : (readers : List AnalyzerDeclared) → map (λ (a : ClosedAnalyzer). a.name) (map closed_analyzer readers) ≡ map (λ (d : AnalyzerDeclared). d.name) readers
-  reader_names [] = refl
-  reader_names (d ∷ readers) = ap (λ (l : List (List ℕ)). d.name ∷ l) (reader_names readers)
+  names_of_analyzers : (seated_analyzers : List AnalyzerDeclared) → map (λ (a : ClosedAnalyzer). a.name) (map closed_analyzer seated_analyzers) ≡ map (λ (d : AnalyzerDeclared). d.name) seated_analyzers
+  names_of_analyzers [] = refl
+  names_of_analyzers (d ∷ seated_analyzers) = ap (λ (l : List (List ℕ)). d.name ∷ l) (names_of_analyzers seated_analyzers)
 
   front_names : (ds : List FrontDeclared) → map (λ (f : ClosedFront). f.name) (map closed_front ds) ≡ map (λ (d : FrontDeclared). d.name) ds
   front_names [] = refl
@@ -406,7 +406,7 @@ module _ {D F : Type 0} {g : _} (seen : F → Seen) (fronts : List FrontDeclared
   names_of : members_of (map closed_front fronts) (map closed_analyzer analyzers) ≡ member_names fronts analyzers
   names_of =
       ap (λ (names : List (List ℕ)). members_named names logger_name (map (λ (a : ClosedAnalyzer). a.name) (map closed_analyzer analyzers))) (front_names fronts)
-      ∙ ap (λ (names : List (List ℕ)). members_named (map (λ (d : FrontDeclared). d.name) fronts) logger_name names) (reader_names analyzers)
+      ∙ ap (λ (names : List (List ℕ)). members_named (map (λ (d : FrontDeclared). d.name) fronts) logger_name names) (names_of_analyzers analyzers)
 
   main_ends : MainAtEnd closed
   main_ends = record {
@@ -418,8 +418,8 @@ module _ {D F : Type 0} {g : _} (seen : F → Seen) (fronts : List FrontDeclared
 
   others : NoOthers closed
   others = record {
-    engine = λ by past. no_engine by (omega (arith, number, many_readers, past));
-    buffers = λ by past buffer. others_none buffer by (omega (arith, number, many_readers, past));
+    engine = λ by past. no_engine by (omega (arith, number, many_analyzers, past));
+    buffers = λ by past buffer. others_none buffer by (omega (arith, number, many_analyzers, past));
     database = λ by past. no_database by (omega (arith, number, past));
   }
 
@@ -436,7 +436,7 @@ module _ {D F : Type 0} {g : _} (seen : F → Seen) (fronts : List FrontDeclared
     fronts = front_ends;
     logger = logger_ends;
     analyzers = analyzers_end all;
-    few_analyzers = omega (arith, ended.few_analyzers, many_readers);
+    few_analyzers = omega (arith, ended.few_analyzers, many_analyzers);
     main = main_ends;
     others = others;
   }

@@ -48,7 +48,7 @@ use Rattle.session_laws.proofs.OneEach.{starts_joined}
 use Rattle.session_laws.proofs.RecordsMade.{made_then}
 use Rattle.session_ends.specs.EndedSessions.{closed_session, SessionEnded}
 use Rattle.session_ends.specs.EndedRecords.{clients_declared, RecordSo, RefusalSo, IsInNoRecord}
-use Rattle.session_ends.proofs.EndsMet.{number, many_readers, logger_engine, engine_by_main, ends_met, ends_ports}
+use Rattle.session_ends.proofs.EndsMet.{number, many_analyzers, logger_engine, engine_by_main, ends_met, ends_ports}
 
 all_at : {X : Type 0} (P : X → Type 0) (xs : List X) → AllByRecursion P xs → (n : ℕ) (x : X) → slice_get xs n ≡ Some x → P x
 all_at P [] all n x at = absurd (cc (at))
@@ -114,8 +114,8 @@ module _ {D F : Type 0} {g : _} (seen : F → Seen) (fronts : List FrontDeclared
   counts_met all tell read reasons names =
       tell closed (ends_met seen fronts analyzers logger r ended all) (read logger.first) (read logger.files) (reasons_met all read reasons) (kept_met all read names)
 
-  clients_with : (count : ℕ) → List RunChannel → (readers : ℕ) → RunClients
-  clients_with count channels readers = record { fronts = count; channels = channels; analyzers = readers }
+  clients_with : (count : ℕ) → List RunChannel → (seated_analyzers : ℕ) → RunClients
+  clients_with count channels seated_analyzers = record { fronts = count; channels = channels; analyzers = seated_analyzers }
 
   -- those who are told of in the records are those that were declared
   same_clients : ChannelsAgree → (channels : List ChannelSpec) → AreDeclared channels logger.slots → clients_declared fronts channels analyzers ≡ clients_in closed
@@ -123,7 +123,7 @@ module _ {D F : Type 0} {g : _} (seen : F → Seen) (fronts : List FrontDeclared
   same_clients agree channels declared =
       ap (λ (n : ℕ). clients_with n (channels_of channels) (length analyzers)) (sym its_number)
       ∙ (ap (λ (cs : List RunChannel). clients_with (logger_client closed) cs (length analyzers)) (sym (agree channels logger.slots declared))
-      ∙ ap (clients_with (logger_client closed) (run_channels logger.slots)) (sym (many_readers seen fronts analyzers logger r ended)))
+      ∙ ap (clients_with (logger_client closed) (run_channels logger.slots)) (sym (many_analyzers seen fronts analyzers logger r ended)))
 
   pub record_met : RecordsHold → ChannelsAgree → (channels : List ChannelSpec) → AreDeclared channels logger.slots → (holds : SessionHolds closed) → (own : MainOwn) → (more : List EngineEntry) → ended.own ≡ own.engine ++ more
       → AllByRecursion (FitsRun (clients_declared fronts channels analyzers) own) r.runs → (place : ℕ) → (kept : RunRecord) → slice_get r.runs place ≡ Some kept → kept.outcome ≡ Completed → RecordSo closed holds.moments own kept

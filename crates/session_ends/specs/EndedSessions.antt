@@ -72,17 +72,17 @@ pub record SessionEnded {D F : Type 0} {g : _} (seen : F → Seen) (fronts : Lis
   pub own : List EngineEntry
   pub database : List (ℕ × WatchEntry)
   pub seats : List (FrontSeen Generator)
-  pub readers : List AnalyzerSeen
+  pub seated_analyzers : List AnalyzerSeen
   pub callers : HaveCallers fronts analyzers objects shared
   pub opening : first_engine objects.engine ≡ engine_opening
-  pub members : AreMembersOf fronts analyzers objects shared seats logger readers
+  pub members : AreMembersOf fronts analyzers objects shared seats logger seated_analyzers
   pub seated : (client : ℕ) → (front : FrontSeen Generator) → slice_get seats client ≡ Some front →
       IsSeated generator_takes generator_makes front
   pub logger_seated : IsLoggerSeated seen logger
-  pub readers_seated : (place : ℕ) → (analyzer : AnalyzerSeen) → slice_get readers place ≡ Some analyzer →
+  pub analyzers_seated : (place : ℕ) → (analyzer : AnalyzerSeen) → slice_get seated_analyzers place ≡ Some analyzer →
       IsAnalyzerSeated analyzer
   pub histories : HoldsHistories objects shared r
-  pub calls : HoldsCalls fronts analyzers (session_calls own database seats logger readers) objects shared r
+  pub calls : HoldsCalls fronts analyzers (session_calls own database seats logger seated_analyzers) objects shared r
   pub few_analyzers : length analyzers ≤ 8
   pub later : List EngineEntry
   pub begins : own ≡ registrations 0 (member_names fronts analyzers) ++ later

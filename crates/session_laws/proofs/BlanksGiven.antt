@@ -25,13 +25,13 @@ use Rattle.session_laws.proofs.Registrations.{analyzer_members}
 
 -- How many clients ask for reports.
 
-readers_count : (first : ℕ) (readers : List ClosedAnalyzer) (later : List EngineEntry) → reports_asked (registrations first (analyzer_members readers) ++ later) ≡ length readers + reports_asked later
-readers_count first [] later = omega arith
-readers_count first (a ∷ readers) later = omega (arith, readers_count (suc first) readers later)
+analyzers_count : (first : ℕ) (closed_analyzers : List ClosedAnalyzer) (later : List EngineEntry) → reports_asked (registrations first (analyzer_members closed_analyzers) ++ later) ≡ length closed_analyzers + reports_asked later
+analyzers_count first [] later = omega arith
+analyzers_count first (a ∷ closed_analyzers) later = omega (arith, analyzers_count (suc first) closed_analyzers later)
 
-members_count : (first : ℕ) (fs : List ClosedFront) (readers : List ClosedAnalyzer) (later : List EngineEntry) → reports_asked (registrations first (members_of fs readers) ++ later) ≡ length readers + reports_asked later
-members_count first [] readers later = omega (arith, readers_count (suc first) readers later)
-members_count first (f ∷ fs) readers later = omega (arith, members_count (suc first) fs readers later)
+members_count : (first : ℕ) (fs : List ClosedFront) (closed_analyzers : List ClosedAnalyzer) (later : List EngineEntry) → reports_asked (registrations first (members_of fs closed_analyzers) ++ later) ≡ length closed_analyzers + reports_asked later
+members_count first [] closed_analyzers later = omega (arith, analyzers_count (suc first) closed_analyzers later)
+members_count first (f ∷ fs) closed_analyzers later = omega (arith, members_count (suc first) fs closed_analyzers later)
 
 steered_none : (e : EngineEntry) (es : List EngineEntry) → SteersEngine e → reports_asked (e ∷ es) ≡ reports_asked es
 steered_none (Register name sequences dump report reply) es is = absurd is
@@ -55,13 +55,13 @@ asked_so c ends =
 
 -- Each analyzer does.
 
-readers_ask : (first n : ℕ) (readers : List ClosedAnalyzer) → AllByRecursion (λ e. AsksReports n (main_caller, e)) (registrations first (analyzer_members readers))
-readers_ask first n [] = tt
-readers_ask first n (a ∷ readers) = ((λ is. refl), readers_ask (suc first) n readers)
+analyzers_ask : (first n : ℕ) (closed_analyzers : List ClosedAnalyzer) → AllByRecursion (λ e. AsksReports n (main_caller, e)) (registrations first (analyzer_members closed_analyzers))
+analyzers_ask first n [] = tt
+analyzers_ask first n (a ∷ closed_analyzers) = ((λ is. refl), analyzers_ask (suc first) n closed_analyzers)
 
-members_ask : (first n : ℕ) (fs : List ClosedFront) (readers : List ClosedAnalyzer) → first + length fs < n → AllByRecursion (λ e. AsksReports n (main_caller, e)) (registrations first (members_of fs readers))
-members_ask first n [] readers past = ((λ is. absurd (omega arith)), readers_ask (suc first) n readers)
-members_ask first n (f ∷ fs) readers past = ((λ is. absurd (omega arith)), members_ask (suc first) n fs readers (omega arith))
+members_ask : (first n : ℕ) (fs : List ClosedFront) (closed_analyzers : List ClosedAnalyzer) → first + length fs < n → AllByRecursion (λ e. AsksReports n (main_caller, e)) (registrations first (members_of fs closed_analyzers))
+members_ask first n [] closed_analyzers past = ((λ is. absurd (omega arith)), analyzers_ask (suc first) n closed_analyzers)
+members_ask first n (f ∷ fs) closed_analyzers past = ((λ is. absurd (omega arith)), members_ask (suc first) n fs closed_analyzers (omega arith))
 
 asks_call : (n by client : ℕ) (e : EngineEntry) → is_call_for client e ≡ true → AsksReports n (by, e)
 asks_call n by client (Register name sequences dump report reply) is = absurd (cc (is))

@@ -27,7 +27,7 @@ use Rattle.loggers.specs.LoggerStands.{logger_channels}
 use Rattle.loggers.specs.OtherFiles.{specs_in}
 use Rattle.loggers.specs.Reasons.{AreStatesSo, AreAnswersSo, NamesRefuser, AnswerFits, ReasonsTell}
 use Rattle.loggers.specs.LeftNames.{NoneRose}
-use Rattle.analyzers.specs.AnalyzerKept.{IsReaderReason}
+use Rattle.analyzers.specs.AnalyzerKept.{IsAnalyzerReason}
 use Rattle.blank_laws.specs.BlankLaws.{BlanksSuffice}
 use Rattle.engine_laws.specs.BegunTurns.{HasTransition, IsRefusedTurn, IsTallyOfTurn}
 use Rattle.engine_laws.specs.EngineLaws.{MainHasTransition, RefusalsAreAnswers, TalliesAreAnswers, RunsAreOver}
@@ -41,12 +41,12 @@ use Rattle.session_laws.specs.MembersAtEnd.{MembersAtEnd}
 use Rattle.session_engine.specs.MadeTransitions.{TransitionIn}
 use Rattle.session_laws.specs.MadeRuns.{RunIn}
 use Rattle.session_laws.specs.EndLaws.{EndsComposed, MadeAreStopped}
-use Rattle.session_laws.specs.CountedFaults.{LoggerReasons, LoggerNames, IsLoggerReason, IsReaderRefusal, IsRefusedSo, state_by_dump, CountsTell}
+use Rattle.session_laws.specs.CountedFaults.{LoggerReasons, LoggerNames, IsLoggerReason, IsAnalyzerRefusal, IsRefusedSo, state_by_dump, CountsTell}
 use Rattle.session_laws.proofs.EachCaller.{by_caller}
 use Rattle.session_laws.proofs.FrontsEnd.{front_listed}
 use Rattle.session_laws.proofs.KeptTogether.{names_own}
 use Rattle.session_laws.proofs.LoggerRefusals.{never_unready}
-use Rattle.session_laws.proofs.NoneRefused.{AskLaws, logger_granted, reader_granted}
+use Rattle.session_laws.proofs.NoneRefused.{AskLaws, logger_granted, analyzer_granted}
 use Rattle.session_laws.proofs.BlanksGiven.{few_blanks}
 use Rattle.session_laws.proofs.RunsMade.{has_made}
 use Rattle.session_laws.specs.OtherNames.{AreStartsOver, IsTakenName}
@@ -116,21 +116,21 @@ logger_refuses laws c ends first now reasons sheet start why tallies client is t
     inr (inl (same, logger_reason laws c ends first now reasons why turn mine starts answered))
 
 -- why an analyzer did
-reader_reason : CountLaws → (c : ClosedSession) (ends : MembersAtEnd c) (place : ℕ) (a : ClosedAnalyzer) → slice_get c.analyzers place ≡ Some a → (sheet : Sheet) (start : ℕ) (tallies : List ClientTally) (why : Why)
-    → HasTransition c.engine Start sheet start (Refused (analyzer_client c place) why) tallies → IsReaderReason (calls_on_buffer c (caller_of_client (analyzer_client c place)) a.buffer) why → IsReaderRefusal c sheet (analyzer_client c place) why
-reader_reason laws c ends place a at sheet start tallies NotReady has so =
+analyzer_reason : CountLaws → (c : ClosedSession) (ends : MembersAtEnd c) (place : ℕ) (a : ClosedAnalyzer) → slice_get c.analyzers place ≡ Some a → (sheet : Sheet) (start : ℕ) (tallies : List ClientTally) (why : Why)
+    → HasTransition c.engine Start sheet start (Refused (analyzer_client c place) why) tallies → IsAnalyzerReason (calls_on_buffer c (caller_of_client (analyzer_client c place)) a.buffer) why → IsAnalyzerRefusal c sheet (analyzer_client c place) why
+analyzer_reason laws c ends place a at sheet start tallies NotReady has so =
     record { place = place; analyzer = a; stands = at; is = refl; why_is = refl; few_blanks = few_blanks laws.blanks c ends place a at sheet start tallies has }
-reader_reason laws c ends place a at sheet start tallies (Exists channel) has so = absurd so
-reader_reason laws c ends place a at sheet start tallies (Fault channel) has so = absurd so
-reader_reason laws c ends place a at sheet start tallies BufferRefused has so = absurd (reader_granted laws.undone laws.asking c ends place a at so)
+analyzer_reason laws c ends place a at sheet start tallies (Exists channel) has so = absurd so
+analyzer_reason laws c ends place a at sheet start tallies (Fault channel) has so = absurd so
+analyzer_reason laws c ends place a at sheet start tallies BufferRefused has so = absurd (analyzer_granted laws.undone laws.asking c ends place a at so)
 
-reader_refuses : CountLaws → (c : ClosedSession) → MembersAtEnd c → (first now : RunFiles) (sheet : Sheet) (start : ℕ) (why : Why) (tallies : List ClientTally) (place : ℕ) (a : ClosedAnalyzer) → slice_get c.analyzers place ≡ Some a → RefusesBy c first now sheet start why tallies (caller_of_client (analyzer_client c place))
-reader_refuses laws c ends first now sheet start why tallies place a at client is turn stands starts answered has =
+analyzer_refuses : CountLaws → (c : ClosedSession) → MembersAtEnd c → (first now : RunFiles) (sheet : Sheet) (start : ℕ) (why : Why) (tallies : List ClientTally) (place : ℕ) (a : ClosedAnalyzer) → slice_get c.analyzers place ≡ Some a → RefusesBy c first now sheet start why tallies (caller_of_client (analyzer_client c place))
+analyzer_refuses laws c ends first now sheet start why tallies place a at client is turn stands starts answered has =
     let n : ℕ = analyzer_client c place in
     let same : client ≡ n = omega (arith, is) in
     let mine : HasTurn (member_turns n (engine_calls c (caller_of_client n))) turn = subst (λ (k : ℕ). HasTurn (member_turns k (engine_calls c (caller_of_client n))) turn) same stands in
     let of : HasTransition c.engine Start sheet start (Refused n why) tallies = subst (λ (k : ℕ). HasTransition c.engine Start sheet start (Refused k why) tallies) same has in
-    inr (inr (subst (λ (k : ℕ). IsReaderRefusal c sheet k why) (sym same) (reader_reason laws c ends place a at sheet start tallies why of ((ends.analyzers place a at).stands.stands.asks.refusals turn why mine answered))))
+    inr (inr (subst (λ (k : ℕ). IsAnalyzerRefusal c sheet k why) (sym same) (analyzer_reason laws c ends place a at sheet start tallies why of ((ends.analyzers place a at).stands.stands.asks.refusals turn why mine answered))))
 
 other_refuses : (c : ClosedSession) (first now : RunFiles) (sheet : Sheet) (start : ℕ) (why : Why) (tallies : List ClientTally) (by : ℕ) → engine_calls c by ≡ [] → RefusesBy c first now sheet start why tallies by
 other_refuses c first now sheet start why tallies by none client is turn stands starts answered has =
@@ -145,7 +145,7 @@ refused_so laws c ends first now reasons sheet start client why tallies made =
     (main_refuses c first now sheet start why tallies)
     (λ n f at. front_refuses laws c ends first now sheet start why tallies n f at)
     (logger_refuses laws c ends first now reasons sheet start why tallies)
-    (λ place a at. reader_refuses laws c ends first now sheet start why tallies place a at)
+    (λ place a at. analyzer_refuses laws c ends first now sheet start why tallies place a at)
     (λ by past. other_refuses c first now sheet start why tallies by (ends.others.engine by past))
     (caller_of_client client) client refl r.turn r.stands r.starts r.answered has
 

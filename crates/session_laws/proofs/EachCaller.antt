@@ -51,47 +51,47 @@ none_all P xs none = subst (AllByRecursion P) (sym none) tt
 pub data IsClient (fronts : List ClosedFront) (analyzers : List ClosedAnalyzer) (client : ℕ) : Type 0 where
   IsFront : (f : ClosedFront) → slice_get fronts client ≡ Some f → IsClient fronts analyzers client
   IsLogger : client ≡ length fronts → IsClient fronts analyzers client
-  IsReader : (place : ℕ) (a : ClosedAnalyzer) → slice_get analyzers place ≡ Some a → client ≡ suc (length fronts) + place → IsClient fronts analyzers client
+  IsAnalyzer : (place : ℕ) (a : ClosedAnalyzer) → slice_get analyzers place ≡ Some a → client ≡ suc (length fronts) + place → IsClient fronts analyzers client
   IsNone : length fronts + length analyzers < client → IsClient fronts analyzers client
 
 next_client : (f : ClosedFront) (fs : List ClosedFront) (analyzers : List ClosedAnalyzer) (n : ℕ) → IsClient fs analyzers n → IsClient (f ∷ fs) analyzers (suc n)
 next_client f fs analyzers n (IsFront g at) = IsFront g at
 next_client f fs analyzers n (IsLogger is) = IsLogger (omega arith)
-next_client f fs analyzers n (IsReader place a at is) = IsReader place a at (omega arith)
+next_client f fs analyzers n (IsAnalyzer place a at is) = IsAnalyzer place a at (omega arith)
 next_client f fs analyzers n (IsNone past) = IsNone (omega arith)
 
-next_reader : (x : ClosedAnalyzer) (analyzers : List ClosedAnalyzer) (n : ℕ) → IsClient [] analyzers (suc n) → IsClient [] (x ∷ analyzers) (suc (suc n))
-next_reader x analyzers n (IsFront g at) = absurd (cc at)
-next_reader x analyzers n (IsLogger is) = absurd (omega arith)
-next_reader x analyzers n (IsReader place a at is) = IsReader (suc place) a at (omega arith)
-next_reader x analyzers n (IsNone past) = IsNone (omega arith)
+next_analyzer : (x : ClosedAnalyzer) (analyzers : List ClosedAnalyzer) (n : ℕ) → IsClient [] analyzers (suc n) → IsClient [] (x ∷ analyzers) (suc (suc n))
+next_analyzer x analyzers n (IsFront g at) = absurd (cc at)
+next_analyzer x analyzers n (IsLogger is) = absurd (omega arith)
+next_analyzer x analyzers n (IsAnalyzer place a at is) = IsAnalyzer (suc place) a at (omega arith)
+next_analyzer x analyzers n (IsNone past) = IsNone (omega arith)
 
-reader_of : (analyzers : List ClosedAnalyzer) (n : ℕ) → IsClient [] analyzers (suc n)
-reader_of [] n = IsNone (omega arith)
-reader_of (x ∷ analyzers) zero = IsReader 0 x refl (omega arith)
-reader_of (x ∷ analyzers) (suc n) = next_reader x analyzers n (reader_of analyzers n)
+analyzer_of : (analyzers : List ClosedAnalyzer) (n : ℕ) → IsClient [] analyzers (suc n)
+analyzer_of [] n = IsNone (omega arith)
+analyzer_of (x ∷ analyzers) zero = IsAnalyzer 0 x refl (omega arith)
+analyzer_of (x ∷ analyzers) (suc n) = next_analyzer x analyzers n (analyzer_of analyzers n)
 
 client_of : (fronts : List ClosedFront) (analyzers : List ClosedAnalyzer) (client : ℕ) → IsClient fronts analyzers client
 client_of [] analyzers zero = IsLogger refl
-client_of [] analyzers (suc n) = reader_of analyzers n
+client_of [] analyzers (suc n) = analyzer_of analyzers n
 client_of (f ∷ fs) analyzers zero = IsFront f refl
 client_of (f ∷ fs) analyzers (suc n) = next_client f fs analyzers n (client_of fs analyzers n)
 
 by_client : (P : ℕ → Type 0) (fronts : List ClosedFront) (analyzers : List ClosedAnalyzer) (n : ℕ) → ((f : ClosedFront) → slice_get fronts n ≡ Some f → P (caller_of_client n)) → P (caller_of_client (length fronts))
     → ((place : ℕ) (a : ClosedAnalyzer) → slice_get analyzers place ≡ Some a → P (caller_of_client (suc (length fronts) + place)))
     → (caller_of_client (length fronts + length analyzers) < caller_of_client n → P (caller_of_client n)) → IsClient fronts analyzers n → P (caller_of_client n)
-by_client P fronts analyzers n front logger reader other (IsFront f at) = front f at
-by_client P fronts analyzers n front logger reader other (IsLogger is) = subst (λ (k : ℕ). P (caller_of_client k)) (sym is) logger
-by_client P fronts analyzers n front logger reader other (IsReader place a at is) = subst (λ (k : ℕ). P (caller_of_client k)) (sym is) (reader place a at)
-by_client P fronts analyzers n front logger reader other (IsNone past) = other (omega arith)
+by_client P fronts analyzers n front logger of_analyzer other (IsFront f at) = front f at
+by_client P fronts analyzers n front logger of_analyzer other (IsLogger is) = subst (λ (k : ℕ). P (caller_of_client k)) (sym is) logger
+by_client P fronts analyzers n front logger of_analyzer other (IsAnalyzer place a at is) = subst (λ (k : ℕ). P (caller_of_client k)) (sym is) (of_analyzer place a at)
+by_client P fronts analyzers n front logger of_analyzer other (IsNone past) = other (omega arith)
 
 -- what holds of the main thread, of each front-end, of the logger, of each analyzer, and of all others, holds of each caller
 pub by_caller : (P : ℕ → Type 0) (c : ClosedSession) → P main_caller → ((client : ℕ) (f : ClosedFront) → slice_get c.fronts client ≡ Some f → P (caller_of_client client)) → P (logger_caller c)
     → ((place : ℕ) (a : ClosedAnalyzer) → slice_get c.analyzers place ≡ Some a → P (caller_of_client (analyzer_client c place)))
     → ((by : ℕ) → last_caller c < by → P by) → (by : ℕ) → P by
-by_caller P c main fronts logger readers others zero = main
-by_caller P c main fronts logger readers others (suc n) =
-    subst P (add-one n) (by_client P c.fronts c.analyzers n (fronts n) logger readers (others (caller_of_client n)) (client_of c.fronts c.analyzers n))
+by_caller P c main fronts logger closed_analyzers others zero = main
+by_caller P c main fronts logger closed_analyzers others (suc n) =
+    subst P (add-one n) (by_client P c.fronts c.analyzers n (fronts n) logger closed_analyzers (others (caller_of_client n)) (client_of c.fronts c.analyzers n))
 
 -- Calls for one client.
 

@@ -28,11 +28,11 @@ use Rattle.session_runs.specs.RunsFit.{SteersEngine}
 use Rattle.session_laws.specs.ClosedSessions.{ClosedAnalyzer, ClosedFront, ClosedSession, analyzer_client, logger_client, logger_caller, members_of, size_of_buffer, history_of_buffer, engine_calls, calls_on_buffer, got_from_buffer, session_analyzer, session_front, session_of}
 use Rattle.session_laws.specs.MembersAtEnd.{AnalyzerAtEnd, FrontAtEnd, MembersAtEnd}
 use Rattle.session_laws.proofs.EachCaller.{each_by, all_both, all_each, none_all, by_caller, each_for}
-use Rattle.session_laws.proofs.Registrations.{AtReader, analyzer_at, front_at, logger_at, wants_dump}
+use Rattle.session_laws.proofs.Registrations.{AtAnalyzer, analyzer_at, front_at, logger_at, wants_dump}
 use Rattle.session_laws.proofs.MainFirst.{registered}
 use Rattle.session_laws.proofs.GotSent.{got_sent, legal_buffer}
 use Rattle.session_laws.proofs.LoggerEnd.{GotAll, logger_keeps}
-use Rattle.session_laws.proofs.ReadersEnd.{IsReaderOf, analyzer_listed, reader_of}
+use Rattle.session_laws.proofs.AnalyzersEnd.{IsSessionAnalyzer, analyzer_listed, analyzer_of}
 use Rattle.session_laws.proofs.FrontsEnd.{FrontKept, front_kept, choose, IsFrontOf, front_of, front_listed}
 
 -- On the engine each names its own client.
@@ -116,8 +116,8 @@ front_calls c moments client f at ends buffer = elim (eqb_tells f.buffer buffer)
   | inr differs ↦ inl (ends.elsewhere buffer (λ is. differs.1 (sym is)))
 ]
 
-reader_calls : (c : ClosedSession) (moments : ℕ → List ℕ) (place : ℕ) (a : ClosedAnalyzer) → slice_get c.analyzers place ≡ Some a → AnalyzerAtEnd c (analyzer_client c place) a → (buffer : ℕ) → MayCall c moments buffer (caller_of_client (analyzer_client c place))
-reader_calls c moments place a at ends buffer = elim (eqb_tells a.buffer buffer) as (λ w. MayCall c moments buffer (caller_of_client (analyzer_client c place))) [
+analyzer_calls : (c : ClosedSession) (moments : ℕ → List ℕ) (place : ℕ) (a : ClosedAnalyzer) → slice_get c.analyzers place ≡ Some a → AnalyzerAtEnd c (analyzer_client c place) a → (buffer : ℕ) → MayCall c moments buffer (caller_of_client (analyzer_client c place))
+analyzer_calls c moments place a at ends buffer = elim (eqb_tells a.buffer buffer) as (λ w. MayCall c moments buffer (caller_of_client (analyzer_client c place))) [
   | inl same ↦
       inr (inr (inr (record { analyzer = session_analyzer c (analyzer_client c place) a; stands = (place, analyzer_listed c place a at); buffer_is = same.1; caller_is = refl })))
   | inr differs ↦ inl (ends.elsewhere buffer (λ is. differs.1 (sym is)))
@@ -129,7 +129,7 @@ member_callers c ends moments buffer =
     (inl (ends.main.buffers buffer))
     (λ client f at. front_calls c moments client f at (ends.fronts client f at) buffer)
     (inr (inl refl))
-    (λ place a at. reader_calls c moments place a at (ends.analyzers place a at) buffer)
+    (λ place a at. analyzer_calls c moments place a at (ends.analyzers place a at) buffer)
     (λ by past. inl (ends.others.buffers by past buffer))
 
 -- The members are registered.
@@ -148,11 +148,11 @@ logger_registered c ends moments =
       registered c ends (logger_client c) m.0 m.1 Stop 800 (ap (λ (r : Role). sequence_for (sequences_of r) Stop) m.2) moments,
     )
 
-reader_registered : (c : ClosedSession) → MembersAtEnd c → (moments : ℕ → List ℕ) (place : ℕ) (a : ClosedAnalyzer) → slice_get c.analyzers place ≡ Some a
+analyzer_registered : (c : ClosedSession) → MembersAtEnd c → (moments : ℕ → List ℕ) (place : ℕ) (a : ClosedAnalyzer) → slice_get c.analyzers place ≡ Some a
     → IsRegistered (session_of c moments) (analyzer_client c place) Start × IsRegistered (session_of c moments) (analyzer_client c place) Stop
-reader_registered c ends moments place a at =
+analyzer_registered c ends moments place a at =
     let client : ℕ = analyzer_client c place in
-    let m : AtReader c.fronts c.analyzers client = analyzer_at c.fronts c.analyzers place client a at refl in (
+    let m : AtAnalyzer c.fronts c.analyzers client = analyzer_at c.fronts c.analyzers place client a at refl in (
       registered c ends client m.member m.at Start 300 (ap (λ (r : Role). sequence_for (sequences_of r) Start) m.role) moments,
       registered c ends client m.member m.at Stop 900 (ap (λ (r : Role). sequence_for (sequences_of r) Stop) m.role) moments,
     )
@@ -170,7 +170,7 @@ each_front c moments P each f has =
 each_analyzer : (c : ClosedSession) (moments : ℕ → List ℕ) (P : SessionAnalyzer → Type 0) → ((place : ℕ) (a : ClosedAnalyzer) → slice_get c.analyzers place ≡ Some a → P (session_analyzer c (analyzer_client c place) a))
     → (a : SessionAnalyzer) → HasAnalyzer (session_of c moments) a → P a
 each_analyzer c moments P each a has =
-    let of : IsReaderOf c a = reader_of c a has in
+    let of : IsSessionAnalyzer c a = analyzer_of c a has in
     subst P (sym of.is) (each of.place of.analyzer of.at)
 
 analyzer_keeps : MemberAnalyzersKeep → (c : ClosedSession) (client : ℕ) (a : ClosedAnalyzer) → AnalyzerAtEnd c client a
@@ -201,7 +201,7 @@ members_keep tells all stands keeps reads c ends =
           record { named_so = sym (named_in (caller_of_client (analyzer_client c place)) (opening (size_of_buffer c a.buffer)) (history_of_buffer c a.buffer)) },
         ));
         fronts_registered = each_front c moments (λ f. _) (front_registered c ends moments);
-        analyzers_registered = each_analyzer c moments (λ a. _) (reader_registered c ends moments);
+        analyzers_registered = each_analyzer c moments (λ a. _) (analyzer_registered c ends moments);
         logger_registered = logger_registered c ends moments;
         one_dump = one_dump c ends;
       },

@@ -4,7 +4,7 @@ pub mod MainFirst
 pub mod NoneTaken
 pub mod GotSent
 pub mod LoggerEnd
-pub mod ReadersEnd
+pub mod AnalyzersEnd
 pub mod FrontsEnd
 pub mod KeptTogether
 pub mod RunsMade

@@ -16,7 +16,7 @@ use Rattle.member_model.specs.TurnCalls.{member_turns}
 use Rattle.member_model.specs.LoggerKept.{LoggerChannel, LoggerPort, KeepsLogger}
 use Rattle.loggers.specs.NewLoggers.{NoneTakenBack}
 use Rattle.loggers.specs.LoggerStands.{logger_channels, logger_port, logger_ports, StandingLoggerKeeps}
-use Rattle.analyzers.specs.AnalyzerKept.{IsReaderCall}
+use Rattle.analyzers.specs.AnalyzerKept.{IsAnalyzerCall}
 use Rattle.session_laws.specs.ClosedSessions.{ClosedAnalyzer, ClosedBuffer, ClosedFront, ClosedSession, analyzer_client, logger_client, logger_caller, size_in, history_in, history_of_buffer, engine_calls, calls_on_buffer, got_from_buffer}
 use Rattle.session_laws.specs.MembersAtEnd.{AnalyzerAtEnd, FrontAtEnd, IsAccessTo, MembersAtEnd}
 use Rattle.session_laws.proofs.EachCaller.{each_by, none_all, by_caller}
@@ -62,7 +62,7 @@ front_keeps c client f ends buffer = elim (eqb_tells f.buffer buffer) as (λ w. 
   | inr differs ↦ none_all (DetachesNone (logger_caller c) (caller_of_client client)) (calls_on_buffer c (caller_of_client client) buffer) (ends.elsewhere buffer (λ is. differs.1 (sym is)))
 ]
 
-read_keeps : (e : BufferEntry) → IsReaderCall e → (client : ℕ) → detaches e client ≡ false
+read_keeps : (e : BufferEntry) → IsAnalyzerCall e → (client : ℕ) → detaches e client ≡ false
 read_keeps (Attach name reply) is client = refl
 read_keeps (Request n id mask kind reply) is client = refl
 read_keeps (Cancel n number reply) is client = refl
@@ -77,12 +77,12 @@ read_keeps (Resume start reply) is client = absurd is
 read_keeps (End start reply) is client = absurd is
 read_keeps (Level reply) is client = absurd is
 
-reads_keep : (by other : ℕ) (es : List BufferEntry) → EachCall IsReaderCall es → AllByRecursion (DetachesNone by other) es
+reads_keep : (by other : ℕ) (es : List BufferEntry) → EachCall IsAnalyzerCall es → AllByRecursion (DetachesNone by other) es
 reads_keep by other [] all = tt
 reads_keep by other (e ∷ es) all = ((λ differs client. read_keeps e all.0 client), reads_keep by other es all.1)
 
-reader_keeps : (c : ClosedSession) (client : ℕ) (a : ClosedAnalyzer) → AnalyzerAtEnd c client a → (buffer : ℕ) → AllByRecursion (DetachesNone (logger_caller c) (caller_of_client client)) (calls_on_buffer c (caller_of_client client) buffer)
-reader_keeps c client a ends buffer = elim (eqb_tells a.buffer buffer) as (λ w. AllByRecursion (DetachesNone (logger_caller c) (caller_of_client client)) (calls_on_buffer c (caller_of_client client) buffer)) [
+analyzer_keeps_calls : (c : ClosedSession) (client : ℕ) (a : ClosedAnalyzer) → AnalyzerAtEnd c client a → (buffer : ℕ) → AllByRecursion (DetachesNone (logger_caller c) (caller_of_client client)) (calls_on_buffer c (caller_of_client client) buffer)
+analyzer_keeps_calls c client a ends buffer = elim (eqb_tells a.buffer buffer) as (λ w. AllByRecursion (DetachesNone (logger_caller c) (caller_of_client client)) (calls_on_buffer c (caller_of_client client) buffer)) [
   | inl same ↦
       subst (λ (n : ℕ). AllByRecursion (DetachesNone (logger_caller c) (caller_of_client client)) (calls_on_buffer c (caller_of_client client) n)) same.1
       (reads_keep (logger_caller c) (caller_of_client client) (calls_on_buffer c (caller_of_client client) a.buffer) ends.stands.stands.holds.calls.only_reads)
@@ -96,7 +96,7 @@ others_keep c ends buffer =
     (none_all (DetachesNone (logger_caller c) main_caller) (calls_on_buffer c main_caller buffer) (ends.main.buffers buffer))
     (λ client f at. front_keeps c client f (ends.fronts client f at) buffer)
     (own_keep (logger_caller c) (calls_on_buffer c (logger_caller c) buffer))
-    (λ place a at. reader_keeps c (analyzer_client c place) a (ends.analyzers place a at) buffer)
+    (λ place a at. analyzer_keeps_calls c (analyzer_client c place) a (ends.analyzers place a at) buffer)
     (λ by past. none_all (DetachesNone (logger_caller c) by) (calls_on_buffer c by buffer) (ends.others.buffers by past buffer)))
 
 -- The ports and the buffers, number by number.

@@ -19,10 +19,10 @@ use Rattle.member_model.specs.OwnCalls.{calls_after, asks}
 use Rattle.member_model.specs.FairCalls.{IsRefusedAsk, attaches_by, attaches_made, IsLoneRequest, AreLoneRequests}
 use Rattle.member_model.proofs.FairLaws.{open_begun}
 use Rattle.mid_logger.specs.declared.channel.Channel.{Channel}
-use Rattle.loggers.specs.FairAsks.{one_client, clients_of, StartsBehind, HasStart, HasRefusedBegin, IsFairBegin, IsFairCall, AreFairBegins}
+use Rattle.loggers.specs.FairAsks.{one_client, channel_clients, StartsBehind, HasStart, HasRefusedBegin, IsFairBegin, IsFairCall, AreFairBegins}
 use Rattle.loggers.specs.LoggerStands.{LoggerStands}
 use Rattle.loggers.specs.Reasons.{HasRefusedAsk}
-use Rattle.analyzers.specs.AnalyzerKept.{IsReaderCall, HasRefusedCall, one_reader}
+use Rattle.analyzers.specs.AnalyzerKept.{IsAnalyzerCall, HasRefusedCall, one_attached}
 use Rattle.caller_laws.specs.OneCaller.{HaveOwnClients}
 use Rattle.caller_laws.specs.CallerLaws.{MembersFit, SenderMakesNoMark}
 use Rattle.caller_laws.specs.RefusedCalls.{AttachesRefused, AttachesAdd, RequestsRefused, BeginsRefused}
@@ -93,48 +93,48 @@ fair_at ports turns own e a fair =
 -- Clients.
 
 -- who attaches clients: the logger and the analyzers
-abbrev readers_from : (client : ℕ) → List ClosedAnalyzer → List ℕ
-readers_from client [] = []
-readers_from client (a ∷ analyzers) = caller_of_client client ∷ readers_from (suc client) analyzers
+abbrev analyzers_from : (client : ℕ) → List ClosedAnalyzer → List ℕ
+analyzers_from client [] = []
+analyzers_from client (a ∷ analyzers) = caller_of_client client ∷ analyzers_from (suc client) analyzers
 
 abbrev askers : ClosedSession → List ℕ
-askers c = logger_caller c ∷ readers_from (suc (length c.fronts)) c.analyzers
+askers c = logger_caller c ∷ analyzers_from (suc (length c.fronts)) c.analyzers
 
-reader_at : (client n place : ℕ) (analyzers : List ClosedAnalyzer) (a : ClosedAnalyzer) → n ≡ client + place → slice_get analyzers place ≡ Some a → slice_get (readers_from client analyzers) place ≡ Some (caller_of_client n)
-reader_at client n place [] a number at = absurd (cc at)
-reader_at client n zero (x ∷ analyzers) a number at =
+analyzer_member_at : (client n place : ℕ) (analyzers : List ClosedAnalyzer) (a : ClosedAnalyzer) → n ≡ client + place → slice_get analyzers place ≡ Some a → slice_get (analyzers_from client analyzers) place ≡ Some (caller_of_client n)
+analyzer_member_at client n place [] a number at = absurd (cc at)
+analyzer_member_at client n zero (x ∷ analyzers) a number at =
     let here : client ≡ n = omega arith in
     ap (λ (m : ℕ). Some (caller_of_client m)) here
-reader_at client n (suc place) (x ∷ analyzers) a number at = reader_at (suc client) n place analyzers a (omega arith) at
+analyzer_member_at client n (suc place) (x ∷ analyzers) a number at = analyzer_member_at (suc client) n place analyzers a (omega arith) at
 
 -- where each of them counts at most one, they count no more than they are
-readers_few : (count : ℕ → ℕ) (client : ℕ) (analyzers : List ClosedAnalyzer) → ((place n : ℕ) (a : ClosedAnalyzer) → n ≡ client + place → slice_get analyzers place ≡ Some a → count (caller_of_client n) ≤ 1)
-    → sum_by count (readers_from client analyzers) ≤ length analyzers
-readers_few count client [] each = omega arith
-readers_few count client (a ∷ analyzers) each =
+analyzers_few : (count : ℕ → ℕ) (client : ℕ) (analyzers : List ClosedAnalyzer) → ((place n : ℕ) (a : ClosedAnalyzer) → n ≡ client + place → slice_get analyzers place ≡ Some a → count (caller_of_client n) ≤ 1)
+    → sum_by count (analyzers_from client analyzers) ≤ length analyzers
+analyzers_few count client [] each = omega arith
+analyzers_few count client (a ∷ analyzers) each =
     let first : count (caller_of_client client) ≤ 1 = each 0 client a (omega arith) refl in
-    let rest : sum_by count (readers_from (suc client) analyzers) ≤ length analyzers = readers_few count (suc client) analyzers (λ place n b number at. each (suc place) n b (omega arith) at) in
-    omega (arith, sum_by-cons count (caller_of_client client) (readers_from (suc client) analyzers))
+    let rest : sum_by count (analyzers_from (suc client) analyzers) ≤ length analyzers = analyzers_few count (suc client) analyzers (λ place n b number at. each (suc place) n b (omega arith) at) in
+    omega (arith, sum_by-cons count (caller_of_client client) (analyzers_from (suc client) analyzers))
 
 one_few : (client : Option ℕ) → one_client client ≤ 1
 one_few None = omega arith
 one_few (Some n) = omega arith
 
-reader_few : (client : Option ℕ) → one_reader client ≤ 1
-reader_few None = omega arith
-reader_few (Some n) = omega arith
+analyzer_few : (client : Option ℕ) → one_attached client ≤ 1
+analyzer_few None = omega arith
+analyzer_few (Some n) = omega arith
 
 chosen_few : (here : Bool) (n : ℕ) → n ≤ 1 → (if here then n else 0) ≤ 1
 chosen_few true n few = few
 chosen_few false n few = omega arith
 
-slot_few : (buffer : ℕ) (slot : Option Channel) → clients_of buffer slot ≤ 1
+slot_few : (buffer : ℕ) (slot : Option Channel) → channel_clients buffer slot ≤ 1
 slot_few buffer None = omega arith
 slot_few buffer (Some c) = chosen_few (c.spec.buffer == buffer) (one_client c.client) (one_few c.client)
 
-slots_few : (buffer : ℕ) (slots : List (Option Channel)) → sum_by (clients_of buffer) slots ≤ length slots
+slots_few : (buffer : ℕ) (slots : List (Option Channel)) → sum_by (channel_clients buffer) slots ≤ length slots
 slots_few buffer [] = omega arith
-slots_few buffer (s ∷ slots) = omega (arith, sum_by-cons (clients_of buffer) s slots, slot_few buffer s, slots_few buffer slots)
+slots_few buffer (s ∷ slots) = omega (arith, sum_by-cons (channel_clients buffer) s slots, slot_few buffer s, slots_few buffer slots)
 
 send_none : (e : BufferEntry) → IsSendInRun e → attaches_by e ≡ 0
 send_none (SendInRun start stated event reply) sends = refl
@@ -188,18 +188,18 @@ module _ (laws : UndoneLaws) (asking : AskLaws) (c : ClosedSession) (ends : Memb
       (inr (none_attached (calls_on_buffer c main_caller buffer) (ends.main.buffers buffer)))
       (front_counted buffer)
       (inl (0, refl))
-      (λ place a at. inl (suc place, reader_at (suc (length c.fronts)) (analyzer_client c place) place c.analyzers a refl at))
+      (λ place a at. inl (suc place, analyzer_member_at (suc (length c.fronts)) (analyzer_client c place) place c.analyzers a refl at))
       (λ by past. inr (none_attached (calls_on_buffer c by buffer) (ends.others.buffers by past buffer)))
 
-  reader_attached : (buffer place : ℕ) (a : ClosedAnalyzer) → slice_get c.analyzers place ≡ Some a → attached buffer (caller_of_client (analyzer_client c place)) ≤ 1
-  reader_attached buffer place a at =
+  analyzer_attached : (buffer place : ℕ) (a : ClosedAnalyzer) → slice_get c.analyzers place ≡ Some a → attached buffer (caller_of_client (analyzer_client c place)) ≤ 1
+  analyzer_attached buffer place a at =
       let by : ℕ = caller_of_client (analyzer_client c place) in
       let end = ends.analyzers place a at in
       elim (eqb_tells buffer a.buffer) as (λ w. attached buffer by ≤ 1) [
         | inl same ↦
             let few = end.stands.stands.asks.attaches in
             let here : attached buffer by ≡ attached a.buffer by = ap (λ (b : ℕ). attached b by) same.1 in
-            omega (arith, reader_few end.analyzer.client)
+            omega (arith, analyzer_few end.analyzer.client)
         | inr differs ↦ omega (arith, none_attached (calls_on_buffer c by buffer) (end.elsewhere buffer differs.1))
       ]
 
@@ -219,12 +219,12 @@ module _ (laws : UndoneLaws) (asking : AskLaws) (c : ClosedSession) (ends : Memb
   few_attached buffer =
       let first : ℕ = suc (length c.fronts) in
       let logger : attached buffer (logger_caller c) ≤ 16 = logger_attached_at buffer (both_at ends.logger.ports c.buffers buffer ends.logger.many) in
-      let readers : sum_by (attached buffer) (readers_from first c.analyzers) ≤ length c.analyzers =
-      readers_few (attached buffer) first c.analyzers
-      (λ place n a number at. subst (λ (k : ℕ). attached buffer (caller_of_client k) ≤ 1) (sym number) (reader_attached buffer place a at)) in
+      let closed_analyzers : sum_by (attached buffer) (analyzers_from first c.analyzers) ≤ length c.analyzers =
+      analyzers_few (attached buffer) first c.analyzers
+      (λ place n a number at. subst (λ (k : ℕ). attached buffer (caller_of_client k) ≤ 1) (sym number) (analyzer_attached buffer place a at)) in
       let few = ends.few_analyzers in
       let all = asking.sum (history_of_buffer c buffer) (askers c) (counted buffer) in
-      omega (arith, sum_by-cons (attached buffer) (logger_caller c) (readers_from first c.analyzers))
+      omega (arith, sum_by-cons (attached buffer) (logger_caller c) (analyzers_from first c.analyzers))
 
   clients : (buffer : ℕ) → HaveOwnClients (history_of_buffer c buffer)
   clients buffer =
@@ -319,11 +319,11 @@ module _ (laws : UndoneLaws) (asking : AskLaws) (c : ClosedSession) (ends : Memb
       }))
       had.entry (among (calls_on_buffer c by had.buffer) had.entry (subst (λ (l : List BufferEntry). Contains l had.entry) (sym own) had.among)) had.refused
 
-  pub reader_granted : (place : ℕ) (a : ClosedAnalyzer) → slice_get c.analyzers place ≡ Some a → HasRefusedCall (calls_on_buffer c (caller_of_client (analyzer_client c place)) a.buffer) → ⊥
-  reader_granted place a at had =
+  pub analyzer_granted : (place : ℕ) (a : ClosedAnalyzer) → slice_get c.analyzers place ≡ Some a → HasRefusedCall (calls_on_buffer c (caller_of_client (analyzer_client c place)) a.buffer) → ⊥
+  analyzer_granted place a at had =
       let by : ℕ = caller_of_client (analyzer_client c place) in
       let end = ends.analyzers place a at in
-      let reads : EachCall IsReaderCall (calls_on_buffer c by a.buffer) = end.stands.stands.holds.calls.only_reads in
+      let reads : EachCall IsAnalyzerCall (calls_on_buffer c by a.buffer) = end.stands.stands.holds.calls.only_reads in
       granted a.buffer by end.stands.stands.asks.alone
-      (λ start why m. each_at IsReaderCall m.before m.after (Begin start (Err why)) (subst (EachCall IsReaderCall) m.is reads))
+      (λ start why m. each_at IsAnalyzerCall m.before m.after (Begin start (Err why)) (subst (EachCall IsAnalyzerCall) m.is reads))
       had.entry (among (calls_on_buffer c by a.buffer) had.entry had.among) had.refused

@@ -43,7 +43,7 @@ use Rattle.session_runs.specs.declared.channels.RunChannel.{RunChannel}
 use Rattle.session_runs.specs.KeptRuns.{run_channel}
 use Rattle.session_runs.specs.RunEntries.{start_sheet, later_sheet, dump_saved}
 use Rattle.session_runs.specs.RunsFit.{MainOwn, FitsRun, FitsOutcome, FitsRefused, FitsWhole, run_of, start_begun, start_of, starts_begun}
-use Rattle.session_runs.specs.ToldTallies.{file_in, files_told, files_of, states_told}
+use Rattle.session_runs.specs.ToldTallies.{ended_file, files_told, files_of, states_told}
 use Rattle.composition.proofs.FilesTogether.{yes_channels}
 use Rattle.composition.proofs.SessionTurns.{StartsRise, speaks}
 use Rattle.session_laws.specs.ClosedSessions.{ClosedSession, logger_client, logger_caller, engine_calls}
@@ -257,9 +257,9 @@ abbrev counts_from : List ChannelState → (place : ℕ) → List (Option Channe
 counts_from states place [] = 0
 counts_from states place (o ∷ os) = state_counts (slice_get states place) + counts_from states (suc place) os
 
-pub file_first : (run : ℕ) (ch : RunChannel) (rest : List FileRecord) (o : Option ChannelState) → sum_by faults_of_file (option_to_list (option_map (file_in run ch) o) ++ rest) ≡ state_counts o + sum_by faults_of_file rest
+pub file_first : (run : ℕ) (ch : RunChannel) (rest : List FileRecord) (o : Option ChannelState) → sum_by faults_of_file (option_to_list (option_map (ended_file run ch) o) ++ rest) ≡ state_counts o + sum_by faults_of_file rest
 file_first run ch rest None = omega arith
-file_first run ch rest (Some state) = sum_by-cons faults_of_file (file_in run ch state) rest
+file_first run ch rest (Some state) = sum_by-cons faults_of_file (ended_file run ch state) rest
 
 numbered_later : (place : ℕ) (o : Option Channel) (os : List (Option Channel)) → AreNumberedFrom place (o ∷ os) → AreNumberedFrom (suc place) os
 numbered_later place o os numbered n c there = numbered (suc n) c there ∙ omega arith
@@ -329,7 +329,7 @@ refused_alone c first now sheet start client why other so = elim so as (λ w. cl
   | inl front ↦ absurd (other front.why_is)
   | inr later ↦ elim later as (λ w. client ≡ logger_client c) [
     | inl mine ↦ mine.0
-    | inr reader ↦ absurd (other reader.why_is)
+    | inr of_analyzer ↦ absurd (other of_analyzer.why_is)
   ]
 ]
 

@@ -28,7 +28,7 @@ use Rattle.run_records.specs.declared.records.RunRecord.{RunRecord}
 use Rattle.session_runs.specs.declared.channels.RunChannel.{RunChannel}
 use Rattle.session_runs.specs.declared.on.CurrentRun.{CurrentRun}
 use Rattle.session_runs.specs.KeptRuns.{run_channel}
-use Rattle.session_runs.specs.ToldTallies.{front_in, front_by, front_told, fronts_told, states_in, states_by, states_told, file_in, files_told, files_of}
+use Rattle.session_runs.specs.ToldTallies.{front_in, front_by, front_told, fronts_told, states_in, states_by, states_told, ended_file, files_told, files_of}
 use Rattle.session_runs.specs.RunEntries.{start_sheet, later_sheet, dump_saved}
 use Rattle.session_runs.specs.RunsFit.{MainOwn, run_of}
 use Rattle.composition.specs.Sessions.{Session, SessionFront}
@@ -188,15 +188,15 @@ pub record FileTold (states : List ChannelState) (run : ℕ) (channels : List Ru
   pub channel : RunChannel
   pub at : slice_get channels place ≡ Some channel
   pub state : slice_get states channel.number ≡ Some file.state
-  pub is : file ≡ file_in run channel file.state
+  pub is : file ≡ ended_file run channel file.state
 
-file_here : (states : List ChannelState) (run : ℕ) (ch : RunChannel) (chs : List RunChannel) (o : Option ChannelState) (place : ℕ) (file : FileRecord) → slice_get states ch.number ≡ o → slice_get (option_to_list (option_map (file_in run ch) o) ++ files_told states run chs) place ≡ Some file
+file_here : (states : List ChannelState) (run : ℕ) (ch : RunChannel) (chs : List RunChannel) (o : Option ChannelState) (place : ℕ) (file : FileRecord) → slice_get states ch.number ≡ o → slice_get (option_to_list (option_map (ended_file run ch) o) ++ files_told states run chs) place ≡ Some file
     → ((k : ℕ) → slice_get (files_told states run chs) k ≡ Some file → FileTold states run chs file) → FileTold states run (ch ∷ chs) file
 file_here states run ch chs None place file told at later = (let found : FileTold states run chs file = later place at in record { place = suc found.place; channel = found.channel; at = found.at; state = found.state; is = found.is })
 file_here states run ch chs (Some s) zero file told at later =
-    let same : file_in run ch s ≡ file = cc (at) in
+    let same : ended_file run ch s ≡ file = cc (at) in
     let state : s ≡ file.state = ap (λ (f : FileRecord). f.state) same in
-    record { place = 0; channel = ch; at = refl; state = told ∙ ap Some state; is = sym same ∙ ap (file_in run ch) state }
+    record { place = 0; channel = ch; at = refl; state = told ∙ ap Some state; is = sym same ∙ ap (ended_file run ch) state }
 file_here states run ch chs (Some s) (suc place) file told at later = (let found : FileTold states run chs file = later place at in record { place = suc found.place; channel = found.channel; at = found.at; state = found.state; is = found.is })
 
 file_so_told : (states : List ChannelState) (run : ℕ) (channels : List RunChannel) (place : ℕ) (file : FileRecord) → slice_get (files_told states run channels) place ≡ Some file → FileTold states run channels file
@@ -323,7 +323,7 @@ as_many (None ∷ slots) states run all = as_many slots states run all
 as_many (Some c ∷ slots) states run all =
     let here = all 0 _ refl in
     let rest : length (files_told states run (run_channels slots)) ≡ length (logger_channels (λ n. 0) slots) = as_many slots states run (λ index channel at. all (suc index) channel at) in
-    ap (λ (o : Option ChannelState). length (option_to_list (option_map (file_in run (run_channel c.spec)) o) ++ files_told states run (run_channels slots))) here.1 ∙ ap suc rest
+    ap (λ (o : Option ChannelState). length (option_to_list (option_map (ended_file run (run_channel c.spec)) o) ++ files_told states run (run_channels slots))) here.1 ∙ ap suc rest
 
 -- among the files there is one of each channel
 record HasFile (files : List FileRecord) (name : List ℕ) : Type 0 where
@@ -335,13 +335,13 @@ record HasFile (files : List FileRecord) (name : List ℕ) : Type 0 where
 listed_here : (c : Channel) (slots : List (Option Channel)) (states : List ChannelState) (run : ℕ) (state : ChannelState) → slice_get states c.spec.number ≡ Some state → (index : ℕ) (channel : LoggerChannel) → slice_get (logger_channels (λ n. 0) (Some c ∷ slots)) index ≡ Some channel
     → ((k : ℕ) → slice_get (logger_channels (λ n. 0) slots) k ≡ Some channel → HasFile (files_told states run (run_channels slots)) (channel.name run)) → HasFile (files_told states run (run_channels (Some c ∷ slots))) (channel.name run)
 listed_here c slots states run state told zero channel at later =
-    let file : FileRecord = file_in run (run_channel c.spec) state in
+    let file : FileRecord = ended_file run (run_channel c.spec) state in
     let rest : List FileRecord = files_told states run (run_channels slots) in
     let same : logger_channel 0 c ≡ channel = cc (at) in
     record {
       place = 0;
       file = file;
-      at = ap (λ (o : Option ChannelState). slice_get (option_to_list (option_map (file_in run (run_channel c.spec)) o) ++ rest) 0) told;
+      at = ap (λ (o : Option ChannelState). slice_get (option_to_list (option_map (ended_file run (run_channel c.spec)) o) ++ rest) 0) told;
       is = ap (λ (x : LoggerChannel). x.name run) same;
     }
 listed_here c slots states run state told (suc k) channel at later =
@@ -350,7 +350,7 @@ listed_here c slots states run state told (suc k) channel at later =
     record {
       place = suc found.place;
       file = found.file;
-      at = ap (λ (o : Option ChannelState). slice_get (option_to_list (option_map (file_in run (run_channel c.spec)) o) ++ rest) (suc found.place)) told ∙ found.at;
+      at = ap (λ (o : Option ChannelState). slice_get (option_to_list (option_map (ended_file run (run_channel c.spec)) o) ++ rest) (suc found.place)) told ∙ found.at;
       is = found.is;
     }
 

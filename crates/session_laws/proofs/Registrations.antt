@@ -14,37 +14,37 @@ use Rattle.session_laws.specs.ClosedSessions.{ClosedAnalyzer, ClosedFront, membe
 -- The members in their order.
 
 abbrev pub analyzer_members : List ClosedAnalyzer → List MemberName
-analyzer_members readers = map (member_in Analyzer) (map (λ (a : ClosedAnalyzer). a.name) readers)
+analyzer_members closed_analyzers = map (member_in Analyzer) (map (λ (a : ClosedAnalyzer). a.name) closed_analyzers)
 
-pub front_at : (fs : List ClosedFront) (readers : List ClosedAnalyzer) (k : ℕ) (f : ClosedFront) → slice_get fs k ≡ Some f → (m : MemberName) × (slice_get (members_of fs readers) k ≡ Some m) × (m.role ≡ FrontEnd)
-front_at [] readers k f at = absurd (cc (at))
-front_at (g ∷ fs) readers zero f at = (record { name = g.name; role = FrontEnd }, refl, refl)
-front_at (g ∷ fs) readers (suc k) f at = front_at fs readers k f at
+pub front_at : (fs : List ClosedFront) (closed_analyzers : List ClosedAnalyzer) (k : ℕ) (f : ClosedFront) → slice_get fs k ≡ Some f → (m : MemberName) × (slice_get (members_of fs closed_analyzers) k ≡ Some m) × (m.role ≡ FrontEnd)
+front_at [] closed_analyzers k f at = absurd (cc (at))
+front_at (g ∷ fs) closed_analyzers zero f at = (record { name = g.name; role = FrontEnd }, refl, refl)
+front_at (g ∷ fs) closed_analyzers (suc k) f at = front_at fs closed_analyzers k f at
 
-pub logger_at : (fs : List ClosedFront) (readers : List ClosedAnalyzer) → (m : MemberName) × (slice_get (members_of fs readers) (length fs) ≡ Some m) × (m.role ≡ Logger)
-logger_at [] readers = (record { name = logger_name; role = Logger }, refl, refl)
-logger_at (f ∷ fs) readers = logger_at fs readers
+pub logger_at : (fs : List ClosedFront) (closed_analyzers : List ClosedAnalyzer) → (m : MemberName) × (slice_get (members_of fs closed_analyzers) (length fs) ≡ Some m) × (m.role ≡ Logger)
+logger_at [] closed_analyzers = (record { name = logger_name; role = Logger }, refl, refl)
+logger_at (f ∷ fs) closed_analyzers = logger_at fs closed_analyzers
 
-reader_at : (readers : List ClosedAnalyzer) (k : ℕ) (a : ClosedAnalyzer) → slice_get readers k ≡ Some a → (m : MemberName) × (slice_get (analyzer_members readers) k ≡ Some m) × (m.role ≡ Analyzer)
-reader_at [] k a at = absurd (cc (at))
-reader_at (x ∷ readers) zero a at = (record { name = x.name; role = Analyzer }, refl, refl)
-reader_at (x ∷ readers) (suc k) a at = reader_at readers k a at
+analyzer_member_at : (closed_analyzers : List ClosedAnalyzer) (k : ℕ) (a : ClosedAnalyzer) → slice_get closed_analyzers k ≡ Some a → (m : MemberName) × (slice_get (analyzer_members closed_analyzers) k ≡ Some m) × (m.role ≡ Analyzer)
+analyzer_member_at [] k a at = absurd (cc (at))
+analyzer_member_at (x ∷ closed_analyzers) zero a at = (record { name = x.name; role = Analyzer }, refl, refl)
+analyzer_member_at (x ∷ closed_analyzers) (suc k) a at = analyzer_member_at closed_analyzers k a at
 
 -- the member of this client number is that of an analyzer
-pub record AtReader (fs : List ClosedFront) (readers : List ClosedAnalyzer) (client : ℕ) : Type 0 where
+pub record AtAnalyzer (fs : List ClosedFront) (closed_analyzers : List ClosedAnalyzer) (client : ℕ) : Type 0 where
   pub member : MemberName
-  pub at : slice_get (members_of fs readers) client ≡ Some member
+  pub at : slice_get (members_of fs closed_analyzers) client ≡ Some member
   pub role : member.role ≡ Analyzer
 
-pub analyzer_at : (fs : List ClosedFront) (readers : List ClosedAnalyzer) (k client : ℕ) (a : ClosedAnalyzer) → slice_get readers k ≡ Some a → client ≡ suc (length fs) + k → AtReader fs readers client
-analyzer_at [] readers k zero a at is = absurd (omega arith)
-analyzer_at [] readers k (suc n) a at is =
+pub analyzer_at : (fs : List ClosedFront) (closed_analyzers : List ClosedAnalyzer) (k client : ℕ) (a : ClosedAnalyzer) → slice_get closed_analyzers k ≡ Some a → client ≡ suc (length fs) + k → AtAnalyzer fs closed_analyzers client
+analyzer_at [] closed_analyzers k zero a at is = absurd (omega arith)
+analyzer_at [] closed_analyzers k (suc n) a at is =
     let same : k ≡ n = omega arith in
-    let found = reader_at readers n a (subst (λ (i : ℕ). slice_get readers i ≡ Some a) same at) in
+    let found = analyzer_member_at closed_analyzers n a (subst (λ (i : ℕ). slice_get closed_analyzers i ≡ Some a) same at) in
     record { member = found.0; at = found.1; role = found.2 }
-analyzer_at (f ∷ fs) readers k zero a at is = absurd (omega arith)
-analyzer_at (f ∷ fs) readers k (suc n) a at is =
-    let found = analyzer_at fs readers k n a at (omega arith) in
+analyzer_at (f ∷ fs) closed_analyzers k zero a at is = absurd (omega arith)
+analyzer_at (f ∷ fs) closed_analyzers k (suc n) a at is =
+    let found = analyzer_at fs closed_analyzers k n a at (omega arith) in
     record { member = found.member; at = found.at; role = found.role }
 
 -- One registration among them.
@@ -81,10 +81,10 @@ behind_all first (m ∷ ms) (x ∷ xs) b ys zs none is =
 
 -- The dump.
 
-readers_want : (first n : ℕ) (readers : List ClosedAnalyzer) → n < first → AllByRecursion (λ e. WantsAlone n (main_caller, e)) (registrations first (analyzer_members readers))
-readers_want first n [] past = tt
-readers_want first n (a ∷ readers) past = (((λ is. absurd (cc (is))), (λ is. absurd (omega arith))), readers_want (suc first) n readers (omega arith))
+analyzers_want : (first n : ℕ) (closed_analyzers : List ClosedAnalyzer) → n < first → AllByRecursion (λ e. WantsAlone n (main_caller, e)) (registrations first (analyzer_members closed_analyzers))
+analyzers_want first n [] past = tt
+analyzers_want first n (a ∷ closed_analyzers) past = (((λ is. absurd (cc (is))), (λ is. absurd (omega arith))), analyzers_want (suc first) n closed_analyzers (omega arith))
 
-pub wants_dump : (first n : ℕ) (fs : List ClosedFront) (readers : List ClosedAnalyzer) → first + length fs ≡ n → AllByRecursion (λ e. WantsAlone n (main_caller, e)) (registrations first (members_of fs readers))
-wants_dump first n [] readers number = (((λ is. omega arith), (λ is. refl)), readers_want (suc first) n readers (omega arith))
-wants_dump first n (f ∷ fs) readers number = (((λ is. absurd (cc (is))), (λ is. absurd (omega arith))), wants_dump (suc first) n fs readers (omega arith))
+pub wants_dump : (first n : ℕ) (fs : List ClosedFront) (closed_analyzers : List ClosedAnalyzer) → first + length fs ≡ n → AllByRecursion (λ e. WantsAlone n (main_caller, e)) (registrations first (members_of fs closed_analyzers))
+wants_dump first n [] closed_analyzers number = (((λ is. omega arith), (λ is. refl)), analyzers_want (suc first) n closed_analyzers (omega arith))
+wants_dump first n (f ∷ fs) closed_analyzers number = (((λ is. absurd (cc (is))), (λ is. absurd (omega arith))), wants_dump (suc first) n fs closed_analyzers (omega arith))

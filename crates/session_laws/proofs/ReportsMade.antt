@@ -105,22 +105,22 @@ listed_at first (suc n) tallies all k less t is =
 
 -- The analyzers of a closed session.
 
-pub many_analyzers : (c : ClosedSession) (first : ℕ) (readers : List ClosedAnalyzer) → length (session_analyzers c first readers) ≡ length readers
+pub many_analyzers : (c : ClosedSession) (first : ℕ) (closed_analyzers : List ClosedAnalyzer) → length (session_analyzers c first closed_analyzers) ≡ length closed_analyzers
 many_analyzers c first [] = refl
-many_analyzers c first (a ∷ readers) = ap suc (many_analyzers c (suc first) readers)
+many_analyzers c first (a ∷ closed_analyzers) = ap suc (many_analyzers c (suc first) closed_analyzers)
 
-analyzer_there : (c : ClosedSession) (first : ℕ) (readers : List ClosedAnalyzer) (k : ℕ) → k < length readers → (a : SessionAnalyzer) × (slice_get (session_analyzers c first readers) k ≡ Some a) × (a.client ≡ first + k)
+analyzer_there : (c : ClosedSession) (first : ℕ) (closed_analyzers : List ClosedAnalyzer) (k : ℕ) → k < length closed_analyzers → (a : SessionAnalyzer) × (slice_get (session_analyzers c first closed_analyzers) k ≡ Some a) × (a.client ≡ first + k)
 analyzer_there c first [] k less = absurd (omega arith)
-analyzer_there c first (a ∷ readers) zero less = (_, refl, omega arith)
-analyzer_there c first (a ∷ readers) (suc k) less =
-    let rest = analyzer_there c (suc first) readers k (omega arith) in
+analyzer_there c first (a ∷ closed_analyzers) zero less = (_, refl, omega arith)
+analyzer_there c first (a ∷ closed_analyzers) (suc k) less =
+    let rest = analyzer_there c (suc first) closed_analyzers k (omega arith) in
     (rest.0, rest.1, rest.2 ∙ omega arith)
 
-number_at : (c : ClosedSession) (first k : ℕ) (readers : List ClosedAnalyzer) (a : SessionAnalyzer) → slice_get (session_analyzers c first readers) k ≡ Some a → (k < length readers) × (a.client ≡ first + k)
+number_at : (c : ClosedSession) (first k : ℕ) (closed_analyzers : List ClosedAnalyzer) (a : SessionAnalyzer) → slice_get (session_analyzers c first closed_analyzers) k ≡ Some a → (k < length closed_analyzers) × (a.client ≡ first + k)
 number_at c first k [] a at = absurd (cc (at))
-number_at c first zero (x ∷ readers) a at = (let same : session_analyzer c first x ≡ a = cc (at) in (omega arith, sym (ap (λ (y : SessionAnalyzer). y.client) same) ∙ omega arith))
-number_at c first (suc k) (x ∷ readers) a at =
-    let rest = number_at c (suc first) k readers a at in
+number_at c first zero (x ∷ closed_analyzers) a at = (let same : session_analyzer c first x ≡ a = cc (at) in (omega arith, sym (ap (λ (y : SessionAnalyzer). y.client) same) ∙ omega arith))
+number_at c first (suc k) (x ∷ closed_analyzers) a at =
+    let rest = number_at c (suc first) k closed_analyzers a at in
     (omega (arith, rest.0), rest.1 ∙ omega arith)
 
 all_reported : (c : ClosedSession) (holds : SessionHolds c) (run : SessionRun) → IsStoppedRun (session_of c holds.moments) run → AllReported (logger_client c + 1) (length c.analyzers) run.last_tallies

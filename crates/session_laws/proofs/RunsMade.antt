@@ -19,7 +19,7 @@ use Rattle.composition.specs.Sessions.{Session, SessionAnalyzer, SessionFront, H
 use Rattle.composition.specs.SessionRuns.{SessionRun, IsStoppedRun, TellsTotals, ToldState}
 use Rattle.composition.specs.CompositionLaws.{IsComposed}
 use Rattle.session_engine.specs.MadeTransitions.{TransitionIn}
-use Rattle.session_laws.specs.MadeRuns.{FrontHolds, IsFileSo, ChannelHolds, ReportIsSo, ReaderHolds}
+use Rattle.session_laws.specs.MadeRuns.{FrontHolds, IsFileSo, ChannelHolds, ReportIsSo, AnalyzerHolds}
 use Rattle.session_laws.specs.EndLaws.{MadeAreStopped, StoppedHold}
 
 pub has_made : MainHasTransition → (history : EngineHistory) (t : Transition) (sheet : Sheet) (start : ℕ) (outcome : StartOutcome) (tallies : List ClientTally) → IsLegalEngine engine_opening history
@@ -62,8 +62,8 @@ report_so s composed r run a has report tells = record {
   whole = composed.reports_whole r a has report (composed.reports_so r run a has report tells);
 }
 
-reader_holds : (s : Session) → IsComposed s → (r : SessionRun) → IsStoppedRun s r → (a : SessionAnalyzer) → HasAnalyzer s a → ReaderHolds s r a
-reader_holds s composed r run a has =
+analyzer_holds : (s : Session) → IsComposed s → (r : SessionRun) → IsStoppedRun s r → (a : SessionAnalyzer) → HasAnalyzer s a → AnalyzerHolds s r a
+analyzer_holds s composed r run a has =
     let told = composed.reports_told r run a has in
     record { report = told.0; tells = told.1; so = report_so s composed r run a has told.0 told.1 }
 
@@ -72,5 +72,5 @@ stopped_hold s composed r run = record {
   stopped = run;
   fronts = front_holds s composed r run;
   channels = channel_holds s composed r run;
-  analyzers = reader_holds s composed r run;
+  analyzers = analyzer_holds s composed r run;
 }

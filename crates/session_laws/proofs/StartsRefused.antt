@@ -11,7 +11,7 @@ use Rattle.transitions.specs.declared.entry.EngineEntry.{EngineEntry}
 use Rattle.session_engine.specs.MadeTransitions.{TransitionIn}
 use Rattle.session_runs.specs.RunEntries.{blank_reports, start_sheet}
 use Rattle.session_laws.specs.ClosedSessions.{ClosedSession, engine_calls}
-use Rattle.session_laws.specs.CountedFaults.{IsReaderRefusal}
+use Rattle.session_laws.specs.CountedFaults.{IsAnalyzerRefusal}
 use Rattle.session_laws.specs.RefusedRecords.{IsRefusedRecord, RecordsRefused}
 use Rattle.session_laws.proofs.RecordsMade.{made_then}
 
@@ -19,9 +19,9 @@ many_blanks : (n : ℕ) → length (blank_reports n) ≡ n
 many_blanks zero = refl
 many_blanks (suc n) = omega (arith, many_blanks n)
 
-no_reader : (c : ClosedSession) (run time quota client : ℕ) (dump : List ℕ) (why : Why) → IsReaderRefusal c (start_sheet (length c.analyzers) run time quota dump) client why → ⊥
-no_reader c run time quota client dump why reader =
-    let few : length (blank_reports (length c.analyzers)) < length c.analyzers = reader.few_blanks in
+no_analyzer : (c : ClosedSession) (run time quota client : ℕ) (dump : List ℕ) (why : Why) → IsAnalyzerRefusal c (start_sheet (length c.analyzers) run time quota dump) client why → ⊥
+no_analyzer c run time quota client dump why of_analyzer =
+    let few : length (blank_reports (length c.analyzers)) < length c.analyzers = of_analyzer.few_blanks in
     omega (arith, many_blanks (length c.analyzers))
 
 pub records_refused : RecordsRefused
@@ -35,6 +35,6 @@ records_refused c first now counts own more calls r quota client why is fits =
       | inl front ↦ inl front
       | inr other ↦ elim other as (λ w. IsRefusedRecord c first now r quota client why) [
         | inl logger ↦ inr logger
-        | inr reader ↦ absurd (no_reader c r.run r.time0 quota client start.dump why reader)
+        | inr of_analyzer ↦ absurd (no_analyzer c r.run r.time0 quota client start.dump why of_analyzer)
       ]
     ]

@@ -58,7 +58,7 @@ IsLoggerReason c BufferRefused first now = ⊥
 
 -- The client is an analyzer that refused a start with this sheet as NotReady: the sheet has fewer blank reports than there are
 -- analyzers.
-pub record IsReaderRefusal (c : ClosedSession) (sheet : Sheet) (client : ℕ) (why : Why) : Type 0 where
+pub record IsAnalyzerRefusal (c : ClosedSession) (sheet : Sheet) (client : ℕ) (why : Why) : Type 0 where
   pub place : ℕ
   pub analyzer : ClosedAnalyzer
   pub stands : slice_get c.analyzers place ≡ Some analyzer
@@ -71,7 +71,7 @@ pub record IsReaderRefusal (c : ClosedSession) (sheet : Sheet) (client : ℕ) (w
 abbrev pub IsRefusedSo : ClosedSession → (first now : RunFiles) → Sheet → (start client : ℕ) → Why → Type 0
 IsRefusedSo c first now sheet start client why =
     IsFrontRefusal c (order_for sheet start Stopped) client why
-    ⊎ (((client ≡ logger_client c) × IsLoggerReason c why first now) ⊎ IsReaderRefusal c sheet client why)
+    ⊎ (((client ≡ logger_client c) × IsLoggerReason c why first now) ⊎ IsAnalyzerRefusal c sheet client why)
 
 -- how the file of a channel ends that did not break off, where the stop's sheet has this dump
 abbrev pub state_by_dump : (dump : Option (List ℕ)) → ChannelState

@@ -62,7 +62,7 @@ ReportIsSo s r a report =
     ReportHolds (s.history a.buffer) (caller_of_client a.client) a.wanted a.got (turns_of s a.client) r.start report
 
 -- An analyzer in the run: it told a report at the stop, and that is so.
-pub record ReaderHolds (s : Session) (r : SessionRun) (a : SessionAnalyzer) : Type 0 where
+pub record AnalyzerHolds (s : Session) (r : SessionRun) (a : SessionAnalyzer) : Type 0 where
   pub report : Totals
   pub tells : TellsTotals r a.client report
   pub so : ReportIsSo s r a report
@@ -72,4 +72,4 @@ pub record RunHolds (s : Session) (r : SessionRun) : Type 0 where
   pub stopped : IsStoppedRun s r
   pub fronts : (f : SessionFront) → HasFront s f → FrontHolds s r f
   pub channels : (index : ℕ) → (channel : LoggerChannel) → slice_get s.channels index ≡ Some channel → ChannelHolds s r channel
-  pub analyzers : (a : SessionAnalyzer) → HasAnalyzer s a → ReaderHolds s r a
+  pub analyzers : (a : SessionAnalyzer) → HasAnalyzer s a → AnalyzerHolds s r a

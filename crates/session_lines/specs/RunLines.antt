@@ -35,8 +35,8 @@ abbrev pub member_name : (fronts analyzers : List (List ℕ)) → (client : ℕ)
 member_name fronts analyzers client = unwrap_or (slice_get (fronts ++ logger_name ∷ analyzers) client) logger_name
 
 -- what the console tells of a front-end
-abbrev pub sent_line : (fronts analyzers : List (List ℕ)) → FrontTally → SentLine
-sent_line fronts analyzers tally = record { name = member_name fronts analyzers tally.client; sent = tally.sent }
+abbrev pub tally_line : (fronts analyzers : List (List ℕ)) → FrontTally → SentLine
+tally_line fronts analyzers tally = record { name = member_name fronts analyzers tally.client; sent = tally.sent }
 
 -- what it tells of an analyzer: its report, with its name and a blank before each line
 abbrev pub report_line : (fronts analyzers : List (List ℕ)) → ReportTally → ReportLine
@@ -69,7 +69,7 @@ reply_for runs (answer.Started run) = run_started run
 reply_for runs (answer.Paused run) = run_paused run
 reply_for runs (answer.Resumed run) = run_resumed run
 reply_for runs (answer.Stopped run) =
-    run_stopped run (map (sent_line runs.fronts runs.analyzers) (fronts_in (last_record runs.runs)))
+    run_stopped run (map (tally_line runs.fronts runs.analyzers) (fronts_in (last_record runs.runs)))
     (files_in (last_record runs.runs)) (map (report_line runs.fronts runs.analyzers) (reports_in (last_record runs.runs)))
 
 -- Commands of an open session, by the main thread's own calls. What its members did meanwhile is not said here.

@@ -35,8 +35,8 @@ use Rattle.session_objects.proofs.BareLaws.{new_port_callers}
 use Rattle.session_objects.proofs.ChangeLaws.{there_below}
 
 module _ {D : Type 0} (fronts : List FrontDeclared) (analyzers : List AnalyzerDeclared) (channels : List ChannelSpec) (objects : SessionObjects) (shared : SharedOdb D)
-    (seats : List (FrontSeen Generator)) (member : LoggerMember) (accesses : List Access) (readers : List AnalyzerSeen)
-    (bare : AreBareMembers fronts analyzers channels objects shared seats member accesses readers) where
+    (seats : List (FrontSeen Generator)) (member : LoggerMember) (accesses : List Access) (seated_analyzers : List AnalyzerSeen)
+    (bare : AreBareMembers fronts analyzers channels objects shared seats member accesses seated_analyzers) where
   -- it made no call, so it had no turn
   no_turns : member_turns member.seat.client (own_entries member.seat.pass) ≡ []
   no_turns = ap (λ (es : List EngineEntry). member_turns member.seat.client es) bare.calls
@@ -76,19 +76,19 @@ module _ {D : Type 0} (fronts : List FrontDeclared) (analyzers : List AnalyzerDe
       let many : length seats ≡ length fronts = bare.many in
       let d = there_below fronts number (omega arith) in (d.0, bare.each number d.0 front d.1 at)
 
-  analyzer_at : (place : ℕ) (analyzer : AnalyzerSeen) → slice_get readers place ≡ Some analyzer →
+  analyzer_at : (place : ℕ) (analyzer : AnalyzerSeen) → slice_get seated_analyzers place ≡ Some analyzer →
       (d : AnalyzerDeclared) × IsNewAnalyzer objects (length fronts + 1 + place) d analyzer
   analyzer_at place analyzer at =
-      let l : place < length readers = slice_get_within readers place analyzer at in
-      let many : length readers ≡ length analyzers = bare.analyzers_are.many in
+      let l : place < length seated_analyzers = slice_get_within seated_analyzers place analyzer at in
+      let many : length seated_analyzers ≡ length analyzers = bare.analyzers_are.many in
       let d = there_below analyzers place (omega arith) in (d.0, bare.analyzers_are.each place d.0 analyzer d.1 at)
 
   -- And with it the members are a crew.
   pub members_bare : {F : Type 0} (logger : LoggerSeen F) → length fronts ≤ 32 → length analyzers ≤ 8 → logger.engine ≡ member.seat.engine.now →
-      logger.client ≡ member.seat.client → AreMembers seats logger readers
+      logger.client ≡ member.seat.client → AreMembers seats logger seated_analyzers
   members_bare logger few few_analyzers engine client =
       let many : length seats ≡ length fronts = bare.many in
-      let many_readers : length readers ≡ length analyzers = bare.analyzers_are.many in record {
+      let many_analyzers : length seated_analyzers ≡ length analyzers = bare.analyzers_are.many in record {
         few = omega arith;
         numbers = λ number front at. (let f = front_at number front at in ap (λ (z : FrontSeen Generator). z.client) f.1.is);
         logger_number = client ∙ bare.is ∙ sym many;
@@ -119,7 +119,7 @@ module _ {D : Type 0} (fronts : List FrontDeclared) (analyzers : List AnalyzerDe
       }
 
   -- So are the members of the crew that is made of them.
-  pub crewed : {F K : Type 0} (files : F) (pick : K) (logger : LoggerSeen F) (crew : CrewSeen Generator F K) → crew ≡ crew_seen seats logger readers pick →
+  pub crewed : {F K : Type 0} (files : F) (pick : K) (logger : LoggerSeen F) (crew : CrewSeen Generator F K) → crew ≡ crew_seen seats logger seated_analyzers pick →
       IsNewLogger objects (length fronts) channels files logger → AreNewMembers fronts analyzers channels objects shared files pick crew
   crewed files pick logger crew is new =
       let P : CrewSeen Generator _ _ → Type 0 = λ c. AreNewMembers fronts analyzers channels objects shared files pick c in

@@ -6,7 +6,7 @@ use mathlib.Core.Logic.{dite}
 use native.Mathlib.Decide.{ℕ_discrete, dec_le}
 use Rattle.session_setup.specs.declared.declared.AnalyzerDeclared.{AnalyzerDeclared}
 use Rattle.session_setup.specs.declared.declared.FrontDeclared.{FrontDeclared}
-use Rattle.session_objects.specs.Kept.{callers_down, senders_down, sends_into, callers_with_logger, readers_down, reads_from}
+use Rattle.session_objects.specs.Kept.{callers_down, senders_down, sends_into, callers_with_logger, analyzers_down, reads_from}
 use Rattle.session_objects.proofs.RosterLaws.{at_first, in_rest, in_list, none_in}
 
 -- the main thread and the first so many clients are out
@@ -89,54 +89,54 @@ module _ (fronts : List FrontDeclared) (buffer : ℕ) where
   logger_still m other = let P : ℕ → Type 0 = λ k. callers_with_logger fronts k buffer ≡ callers_with_logger fronts m buffer in subst P (sym (add-one m)) (logger_beside m other)
 
 module _ (analyzers : List AnalyzerDeclared) (first buffer : ℕ) where
-  -- behind another reader they are the same still
+  -- behind another analyzer they are the same still
   behind_one : (s : Bool) (x : ℕ) (xs : List ℕ) (k : ℕ) → Contains xs k → Contains (if s then x ∷ xs else xs) k
   behind_one true x xs k has = in_rest x xs k has
   behind_one false x xs k has = has
 
   -- each of the first so many analyzers that reads the buffer has its pass of it
-  pub readers_all : (n place : ℕ) → place < n → reads_from buffer (slice_get analyzers place) ≡ true →
-      Contains (readers_down analyzers first n buffer) (suc (first + place))
-  readers_all zero place l r = absurd (omega arith)
-  readers_all (suc n) place l r = dite (ℕ_discrete place n) (λ e. here e)
-      (λ other. behind_one (reads_from buffer (slice_get analyzers n)) (suc (first + n)) (readers_down analyzers first n buffer) (suc (first + place)) (readers_all n place (omega arith) r))
+  pub analyzers_all : (n place : ℕ) → place < n → reads_from buffer (slice_get analyzers place) ≡ true →
+      Contains (analyzers_down analyzers first n buffer) (suc (first + place))
+  analyzers_all zero place l r = absurd (omega arith)
+  analyzers_all (suc n) place l r = dite (ℕ_discrete place n) (λ e. here e)
+      (λ other. behind_one (reads_from buffer (slice_get analyzers n)) (suc (first + n)) (analyzers_down analyzers first n buffer) (suc (first + place)) (analyzers_all n place (omega arith) r))
     where
-      last : (b : Bool) → b ≡ true → Contains (if b then suc (first + n) ∷ readers_down analyzers first n buffer else readers_down analyzers first n buffer) (suc (first + n))
-      last true e = at_first (suc (first + n)) (readers_down analyzers first n buffer) (suc (first + n)) refl
+      last : (b : Bool) → b ≡ true → Contains (if b then suc (first + n) ∷ analyzers_down analyzers first n buffer else analyzers_down analyzers first n buffer) (suc (first + n))
+      last true e = at_first (suc (first + n)) (analyzers_down analyzers first n buffer) (suc (first + n)) refl
       last false e = absurd (cc)
 
-      here : place ≡ n → Contains (readers_down analyzers first (suc n) buffer) (suc (first + place))
-      here e = let P : ℕ → Type 0 = λ m. Contains (readers_down analyzers first (suc n) buffer) (suc (first + m)) in
+      here : place ≡ n → Contains (analyzers_down analyzers first (suc n) buffer) (suc (first + place))
+      here e = let P : ℕ → Type 0 = λ m. Contains (analyzers_down analyzers first (suc n) buffer) (suc (first + m)) in
           let Q : ℕ → Type 0 = λ m. reads_from buffer (slice_get analyzers m) ≡ true in
           subst P (sym e) (last (reads_from buffer (slice_get analyzers n)) (subst Q e r))
 
-  beyond : (n k : ℕ) (s : Bool) → (Contains (readers_down analyzers first n buffer) k → k < suc (first + n)) →
-      Contains (if s then suc (first + n) ∷ readers_down analyzers first n buffer else readers_down analyzers first n buffer) k → k < suc (first + suc n)
+  beyond : (n k : ℕ) (s : Bool) → (Contains (analyzers_down analyzers first n buffer) k → k < suc (first + n)) →
+      Contains (if s then suc (first + n) ∷ analyzers_down analyzers first n buffer else analyzers_down analyzers first n buffer) k → k < suc (first + suc n)
   beyond n k true below has = ⊎_elim (λ e. omega arith) (λ h. let l : k < suc (first + n) = below h in omega arith)
-      (in_list (suc (first + n)) (readers_down analyzers first n buffer) k has)
+      (in_list (suc (first + n)) (analyzers_down analyzers first n buffer) k has)
   beyond n k false below has = let l : k < suc (first + n) = below has in omega arith
 
   -- and they alone
-  pub readers_only : (n k : ℕ) → Contains (readers_down analyzers first n buffer) k → k < suc (first + n)
-  readers_only zero k has = absurd (none_in k has)
-  readers_only (suc n) k has = beyond n k (reads_from buffer (slice_get analyzers n)) (readers_only n k) has
+  pub analyzers_only : (n k : ℕ) → Contains (analyzers_down analyzers first n buffer) k → k < suc (first + n)
+  analyzers_only zero k has = absurd (none_in k has)
+  analyzers_only (suc n) k has = beyond n k (reads_from buffer (slice_get analyzers n)) (analyzers_only n k) has
 
   -- one analyzer more
-  readers_with : (n : ℕ) → reads_from buffer (slice_get analyzers n) ≡ true →
-      readers_down analyzers first (suc n) buffer ≡ suc (first + n) ∷ readers_down analyzers first n buffer
-  readers_with n e = rw e refl
+  analyzers_with : (n : ℕ) → reads_from buffer (slice_get analyzers n) ≡ true →
+      analyzers_down analyzers first (suc n) buffer ≡ suc (first + n) ∷ analyzers_down analyzers first n buffer
+  analyzers_with n e = rw e refl
 
-  readers_without : (n : ℕ) → reads_from buffer (slice_get analyzers n) ≡ false →
-      readers_down analyzers first (suc n) buffer ≡ readers_down analyzers first n buffer
-  readers_without n e = rw e refl
+  analyzers_without : (n : ℕ) → reads_from buffer (slice_get analyzers n) ≡ false →
+      analyzers_down analyzers first (suc n) buffer ≡ analyzers_down analyzers first n buffer
+  analyzers_without n e = rw e refl
 
-  pub readers_next : (n : ℕ) → reads_from buffer (slice_get analyzers n) ≡ true →
-      readers_down analyzers first (n + 1) buffer ≡ suc (first + n) ∷ readers_down analyzers first n buffer
-  readers_next n e = ap (λ (m : ℕ). readers_down analyzers first m buffer) (add-one n) ∙ readers_with n e
+  pub analyzers_next : (n : ℕ) → reads_from buffer (slice_get analyzers n) ≡ true →
+      analyzers_down analyzers first (n + 1) buffer ≡ suc (first + n) ∷ analyzers_down analyzers first n buffer
+  analyzers_next n e = ap (λ (m : ℕ). analyzers_down analyzers first m buffer) (add-one n) ∙ analyzers_with n e
 
-  pub readers_still : (n : ℕ) → reads_from buffer (slice_get analyzers n) ≡ false →
-      readers_down analyzers first (n + 1) buffer ≡ readers_down analyzers first n buffer
-  readers_still n e = ap (λ (m : ℕ). readers_down analyzers first m buffer) (add-one n) ∙ readers_without n e
+  pub analyzers_still : (n : ℕ) → reads_from buffer (slice_get analyzers n) ≡ false →
+      analyzers_down analyzers first (n + 1) buffer ≡ analyzers_down analyzers first n buffer
+  analyzers_still n e = ap (λ (m : ℕ). analyzers_down analyzers first m buffer) (add-one n) ∙ analyzers_without n e
 
 pub down_next : (n : ℕ) → callers_down (n + 1) ≡ (n + 1) ∷ callers_down n
 down_next n = let P : ℕ → Type 0 = λ m. callers_down m ≡ m ∷ callers_down n in subst P (sym (add-one n)) refl

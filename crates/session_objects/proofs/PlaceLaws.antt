@@ -15,10 +15,10 @@ use Rattle.session_objects.specs.declared.objects.SessionBuffer.{SessionBuffer}
 use Rattle.session_objects.specs.declared.objects.SessionObjects.{SessionObjects}
 use Rattle.session_objects.specs.declared.passes.SessionPasses.{SessionPasses}
 use Rattle.session_objects.specs.Rosters.{KeepsFresh, TakesFresh, ChangesAt, nothing_seen}
-use Rattle.session_objects.specs.Kept.{OutNumbers, callers_down, senders_down, sends_into, callers_with_logger, out_to_fronts, readers_down, reads_from, out_to_ports, out_to_logger, out_to_analyzers, HasFreshBut}
+use Rattle.session_objects.specs.Kept.{OutNumbers, callers_down, senders_down, sends_into, callers_with_logger, out_to_fronts, analyzers_down, reads_from, out_to_ports, out_to_logger, out_to_analyzers, HasFreshBut}
 use Rattle.session_objects.proofs.RosterLaws.{is_kept}
 use Rattle.session_objects.proofs.ChangeLaws.{changed_keep}
-use Rattle.session_objects.proofs.OutLaws.{down_only, down_next, senders_only, senders_next, senders_still, logger_lacks, logger_next, logger_still, logger_only, readers_only, readers_next, readers_still}
+use Rattle.session_objects.proofs.OutLaws.{down_only, down_next, senders_only, senders_next, senders_still, logger_lacks, logger_next, logger_still, logger_only, analyzers_only, analyzers_next, analyzers_still}
 
 module _ {D : Type 0} {gd : _} (objects : SessionObjects) (database : SharedOdb D) where
   -- which numbers are out may be said in another way
@@ -144,9 +144,9 @@ module _ {D : Type 0} {gd : _} (objects : SessionObjects) (database : SharedOdb 
         (engine_out (out_to_ports fronts place) (length fronts + 1) passes after pe k takes b d)
 
   -- All front-ends and the logger have their passes, and the analyzers have none.
-  pub readers_begin : (fronts : List FrontDeclared) (analyzers : List AnalyzerDeclared) (buffers : ℕ) (passes : SessionPasses D gd) →
+  pub analyzers_begin : (fronts : List FrontDeclared) (analyzers : List AnalyzerDeclared) (buffers : ℕ) (passes : SessionPasses D gd) →
       HasFreshBut (out_to_logger fronts buffers) objects database passes → HasFreshBut (out_to_analyzers fronts analyzers buffers 0) objects database passes
-  readers_begin fronts analyzers buffers passes k = fresh_said (out_to_logger fronts buffers) (out_to_analyzers fronts analyzers buffers 0) passes
+  analyzers_begin fronts analyzers buffers passes k = fresh_said (out_to_logger fronts buffers) (out_to_analyzers fronts analyzers buffers 0) passes
       (let e : suc (length fronts) ≡ length fronts + 1 + 0 = omega arith in ap callers_down e) (λ n l. refl) refl k
 
   module _ (fronts : List FrontDeclared) (analyzers : List AnalyzerDeclared) (buffers place : ℕ) (passes : SessionPasses D gd)
@@ -155,36 +155,36 @@ module _ {D : Type 0} {gd : _} (objects : SessionObjects) (database : SharedOdb 
     client = length fronts + 1 + place
 
     -- the passes of the next analyzer are there
-    pub reader_has : (number : ℕ) (buffer : SessionBuffer) (roster : _) → slice_get objects.buffers.items number ≡ Some buffer →
+    pub analyzer_has : (number : ℕ) (buffer : SessionBuffer) (roster : _) → slice_get objects.buffers.items number ≡ Some buffer →
         slice_get passes.buffers.items number ≡ Some roster → client + 1 < passes_of (lock_of buffer.shared) → Contains (numbers_of roster) (client + 1)
-    reader_has number buffer roster at there below =
-        let readers : List ℕ = readers_down analyzers (length fronts + 1) place number in
+    analyzer_has number buffer roster at there below =
+        let seated_analyzers : List ℕ = analyzers_down analyzers (length fronts + 1) place number in
         let others : List ℕ = callers_with_logger fronts buffers number in
-        is_kept nothing_seen (readers ++ others) (lock_of buffer.shared) roster (client + 1) (k.buffers number buffer roster at there).keeps below
+        is_kept nothing_seen (seated_analyzers ++ others) (lock_of buffer.shared) roster (client + 1) (k.buffers number buffer roster at there).keeps below
         (λ has. ⊎_elim
-        (λ h. let l : length fronts + 1 + place + 1 < suc (length fronts + 1 + place) = readers_only analyzers (length fronts + 1) number place (client + 1) h in omega arith)
+        (λ h. let l : length fronts + 1 + place + 1 < suc (length fronts + 1 + place) = analyzers_only analyzers (length fronts + 1) number place (client + 1) h in omega arith)
         (λ h. let l : length fronts + 1 + place + 1 < suc (suc (length fronts)) = logger_only fronts number buffers (client + 1) h in omega arith)
-        (Contains-append_cases readers others (client + 1) has))
+        (Contains-append_cases seated_analyzers others (client + 1) has))
 
-    pub reader_has_engine : client + 1 < passes_of (engine_lock_of objects.engine) → Contains (numbers_of passes.engine) (client + 1)
-    reader_has_engine below = is_kept nothing_seen (callers_down client) (engine_lock_of objects.engine) passes.engine (client + 1) k.engine.keeps below
+    pub analyzer_has_engine : client + 1 < passes_of (engine_lock_of objects.engine) → Contains (numbers_of passes.engine) (client + 1)
+    analyzer_has_engine below = is_kept nothing_seen (callers_down client) (engine_lock_of objects.engine) passes.engine (client + 1) k.engine.keeps below
         (λ has. let l : length fronts + 1 + place + 1 < suc (length fronts + 1 + place) = down_only client (client + 1) has in omega arith)
 
     -- and where they are taken out, those of one analyzer more are out
-    pub reader_out : (declared : AnalyzerDeclared) (s1 s2 : SessionPasses D gd) (pb pe : _) → slice_get analyzers place ≡ Some declared →
+    pub analyzer_out : (declared : AnalyzerDeclared) (s1 s2 : SessionPasses D gd) (pb pe : _) → slice_get analyzers place ≡ Some declared →
         ChangesAt (λ b a. TakesFresh (client + 1) b pb a) declared.buffer passes.buffers.items s1.buffers.items → s1.engine ≡ passes.engine → s1.database ≡ passes.database →
         TakesFresh (client + 1) s1.engine pe s2.engine → s2.buffers ≡ s1.buffers → s2.database ≡ s1.database →
         HasFreshBut (out_to_analyzers fronts analyzers buffers (place + 1)) objects database s2
-    reader_out declared s1 s2 pb pe d takes_b eb db takes_e be de =
+    analyzer_out declared s1 s2 pb pe d takes_b eb db takes_e be de =
         let out : OutNumbers = out_to_analyzers fronts analyzers buffers place in
-        let readers : ℕ → ℕ → List ℕ = readers_down analyzers (length fronts + 1) in
-        let later : ℕ → List ℕ = λ n. readers (place + 1) n ++ callers_with_logger fronts buffers n in
+        let seated_analyzers : ℕ → ℕ → List ℕ = analyzers_down analyzers (length fronts + 1) in
+        let later : ℕ → List ℕ = λ n. seated_analyzers (place + 1) n ++ callers_with_logger fronts buffers n in
         let reads : reads_from declared.buffer (slice_get analyzers place) ≡ true = ap (reads_from declared.buffer) d ∙ eq-eqb declared.buffer declared.buffer refl in
         let k1 = buffer_out out later declared.buffer (client + 1) passes s1 pb
-        (ap (λ (ns : List ℕ). ns ++ callers_with_logger fronts buffers declared.buffer) (readers_next analyzers (length fronts + 1) declared.buffer place reads)
-        ∙ ap (λ (n : ℕ). n ∷ (readers place declared.buffer ++ callers_with_logger fronts buffers declared.buffer)) (sym (add-one client)))
+        (ap (λ (ns : List ℕ). ns ++ callers_with_logger fronts buffers declared.buffer) (analyzers_next analyzers (length fronts + 1) declared.buffer place reads)
+        ∙ ap (λ (n : ℕ). n ∷ (seated_analyzers place declared.buffer ++ callers_with_logger fronts buffers declared.buffer)) (sym (add-one client)))
         (λ other apart. ap (λ (ns : List ℕ). ns ++ callers_with_logger fronts buffers other)
-        (readers_still analyzers (length fronts + 1) other place (ap (reads_from other) d ∙ ne_eqb declared.buffer other (λ e. apart (sym e))))) k takes_b eb db in
+        (analyzers_still analyzers (length fronts + 1) other place (ap (reads_from other) d ∙ ne_eqb declared.buffer other (λ e. apart (sym e))))) k takes_b eb db in
         let out1 : OutNumbers = record out { buffers = later } in
         let k2 = engine_out out1 (client + 1) s1 s2 pe k1 takes_e be de in
         let e : length fronts + 1 + place + 1 ≡ length fronts + 1 + (place + 1) = omega arith in

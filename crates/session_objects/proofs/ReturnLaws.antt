@@ -23,11 +23,11 @@ use Rattle.session_objects.specs.Calls.{FrontCalls, SessionCalls, told_of_engine
 use Rattle.session_objects.specs.Records.{HasCallsBut}
 use Rattle.session_objects.proofs.RosterLaws.{puts_keep, room_for}
 use Rattle.session_objects.specs.Rosters.{ChangesAt}
-use Rattle.session_objects.specs.Kept.{callers_down, senders_down, sends_into, callers_with_logger, readers_down, reads_from, out_to_fronts, out_to_ports, out_to_logger, out_to_analyzers}
+use Rattle.session_objects.specs.Kept.{callers_down, senders_down, sends_into, callers_with_logger, analyzers_down, reads_from, out_to_fronts, out_to_ports, out_to_logger, out_to_analyzers}
 use Rattle.session_objects.specs.Records.{none_out, HasCalls}
-use Rattle.session_objects.proofs.ToldLaws.{front_tells, logger_tells, reader_tells, logger_engine_calls, analyzer_engine_calls}
+use Rattle.session_objects.proofs.ToldLaws.{front_tells, logger_tells, analyzer_tells, logger_engine_calls, analyzer_engine_calls}
 use Rattle.session_objects.proofs.ChangeLaws.{changed_keep, some_same}
-use Rattle.session_objects.proofs.OutLaws.{senders_with, senders_without, logger_has, logger_lacks, logger_beside, readers_next, readers_still}
+use Rattle.session_objects.proofs.OutLaws.{senders_with, senders_without, logger_has, logger_lacks, logger_beside, analyzers_next, analyzers_still}
 
 module _ {M D : Type 0} {g : _} (calls : SessionCalls) where
   -- what a pass of the engine tells of its client
@@ -190,7 +190,7 @@ module _ {D : Type 0} {gd : _} (fronts : List FrontDeclared) (analyzers : List A
       calls_said (record out1 { database = [] }) none_out s2 refl (λ n l. refl) refl k2
 
   -- The passes of an analyzer come back.
-  pub reader_back : (buffers client place : ℕ) (declared : AnalyzerDeclared) (buffer : SessionBuffer) (analyzer : AnalyzerCalls) (s0 s1 s2 : SessionPasses D gd) (pe pb : _) →
+  pub analyzer_back : (buffers client place : ℕ) (declared : AnalyzerDeclared) (buffer : SessionBuffer) (analyzer : AnalyzerCalls) (s0 s1 s2 : SessionPasses D gd) (pe pb : _) →
       client ≡ length fronts + 1 + place → length calls.fronts ≡ length fronts → slice_get analyzers place ≡ Some declared →
       slice_get objects.buffers.items declared.buffer ≡ Some buffer → slice_get calls.analyzers place ≡ Some analyzer →
       HasCallsBut (out_to_analyzers fronts analyzers buffers (place + 1)) fronts analyzers calls objects database s0 →
@@ -199,49 +199,49 @@ module _ {D : Type 0} {gd : _} (fronts : List FrontDeclared) (analyzers : List A
       ChangesAt (λ b a. PutsBack b pb a) declared.buffer s1.buffers.items s2.buffers.items → s2.engine ≡ s1.engine → s2.database ≡ s1.database →
       number_of pb ≡ client + 1 → IsOf (lock_of buffer.shared) pb → held_by pb ≡ nothing → told_through buffer.size (suc client) (Some analyzer.port) (seen_by pb) →
       HasCallsBut (out_to_analyzers fronts analyzers buffers place) fronts analyzers calls objects database s2
-  reader_back buffers client place declared buffer analyzer s0 s1 s2 pe pb is many d b a k put_e be de ne oe he me put_b eb db nb ob hb tb =
+  analyzer_back buffers client place declared buffer analyzer s0 s1 s2 pe pb is many d b a k put_e be de ne oe he me put_b eb db nb ob hb tb =
       let out : OutNumbers = out_to_analyzers fronts analyzers buffers (place + 1) in
-      let readers : ℕ → ℕ → List ℕ = readers_down analyzers (length fronts + 1) in
+      let seated_analyzers : ℕ → ℕ → List ℕ = analyzers_down analyzers (length fronts + 1) in
       let count : length fronts + 1 + (place + 1) ≡ suc client = omega arith in
       let calling : client ≡ length calls.fronts + 1 + place = omega arith in
       let k1 = engine_back out (suc client) (callers_down client) s0 s1 pe (ap callers_down count) k put_e be de (ne ∙ add-one client) oe he
       (engine_told calls client analyzer.engine pe ne me (analyzer_engine_calls calls client place analyzer calling a)) in
       let out1 : OutNumbers = record out { engine = callers_down client } in
       let reads : reads_from declared.buffer (slice_get analyzers place) ≡ true = ap (reads_from declared.buffer) d ∙ eq-eqb declared.buffer declared.buffer refl in
-      let later : ℕ → List ℕ = λ n. readers place n ++ callers_with_logger fronts buffers n in
+      let later : ℕ → List ℕ = λ n. seated_analyzers place n ++ callers_with_logger fronts buffers n in
       let k2 = buffer_back out1 later declared.buffer (suc client) buffer s1 s2 pb b
-      (ap (λ (ns : List ℕ). ns ++ callers_with_logger fronts buffers declared.buffer) (readers_next analyzers (length fronts + 1) declared.buffer place reads)
+      (ap (λ (ns : List ℕ). ns ++ callers_with_logger fronts buffers declared.buffer) (analyzers_next analyzers (length fronts + 1) declared.buffer place reads)
       ∙ ap (λ (n : ℕ). suc n ∷ later declared.buffer) (sym is))
       (λ other apart. sym (ap (λ (ns : List ℕ). ns ++ callers_with_logger fronts buffers other)
-      (readers_still analyzers (length fronts + 1) other place (ap (reads_from other) d ∙ ne_eqb declared.buffer other (λ e. apart (sym e))))))
+      (analyzers_still analyzers (length fronts + 1) other place (ap (reads_from other) d ∙ ne_eqb declared.buffer other (λ e. apart (sym e))))))
       k1 put_b eb db (nb ∙ add-one client) ob hb
-      (reader_tells fronts analyzers calls client place declared analyzer buffer.size (seen_by pb) is d a tb) in
+      (analyzer_tells fronts analyzers calls client place declared analyzer buffer.size (seen_by pb) is d a tb) in
       calls_said (record out1 { buffers = later }) (out_to_analyzers fronts analyzers buffers place) s2 (ap callers_down is) (λ n l. refl) refl k2
 
   -- there is room for them
-  pub reader_room : (buffers place : ℕ) (declared : AnalyzerDeclared) (buffer : SessionBuffer) (passes : SessionPasses D gd) (roster : _) →
+  pub analyzer_room : (buffers place : ℕ) (declared : AnalyzerDeclared) (buffer : SessionBuffer) (passes : SessionPasses D gd) (roster : _) →
       slice_get analyzers place ≡ Some declared → slice_get objects.buffers.items declared.buffer ≡ Some buffer →
       HasCallsBut (out_to_analyzers fronts analyzers buffers (place + 1)) fronts analyzers calls objects database passes →
       slice_get passes.buffers.items declared.buffer ≡ Some roster → length (items_of roster) < room_of roster
-  reader_room buffers place declared buffer passes roster d b k at =
+  analyzer_room buffers place declared buffer passes roster d b k at =
       let reads : reads_from declared.buffer (slice_get analyzers place) ≡ true = ap (reads_from declared.buffer) d ∙ eq-eqb declared.buffer declared.buffer refl in
       let others : List ℕ = callers_with_logger fronts buffers declared.buffer in
       let P : List ℕ → Type 0 = λ ns. KeepsPasses (told_of_buffer fronts analyzers calls declared.buffer buffer.size) ns (lock_of buffer.shared) roster in
       room_for (told_of_buffer fronts analyzers calls declared.buffer buffer.size) (lock_of buffer.shared) roster (suc (length fronts + 1 + place))
-      (readers_down analyzers (length fronts + 1) place declared.buffer ++ others)
-      (subst P (ap (λ (ns : List ℕ). ns ++ others) (readers_next analyzers (length fronts + 1) declared.buffer place reads)) (k.buffers declared.buffer buffer roster b at))
+      (analyzers_down analyzers (length fronts + 1) place declared.buffer ++ others)
+      (subst P (ap (λ (ns : List ℕ). ns ++ others) (analyzers_next analyzers (length fronts + 1) declared.buffer place reads)) (k.buffers declared.buffer buffer roster b at))
 
-  pub reader_engine_room : (buffers place : ℕ) (passes : SessionPasses D gd) →
+  pub analyzer_engine_room : (buffers place : ℕ) (passes : SessionPasses D gd) →
       HasCallsBut (out_to_analyzers fronts analyzers buffers (place + 1)) fronts analyzers calls objects database passes →
       length (items_of passes.engine) < room_of passes.engine
-  reader_engine_room buffers place passes k =
+  analyzer_engine_room buffers place passes k =
       let count : length fronts + 1 + (place + 1) ≡ suc (length fronts + 1 + place) = omega arith in
       let P : List ℕ → Type 0 = λ ns. KeepsPasses (told_of_engine calls) ns (engine_lock_of objects.engine) passes.engine in
       room_for (told_of_engine calls) (engine_lock_of objects.engine) passes.engine (suc (length fronts + 1 + place)) (callers_down (length fronts + 1 + place))
       (subst P (ap callers_down count) k.engine)
 
   -- All analyzers are back.
-  pub readers_back : (buffers : ℕ) (passes : SessionPasses D gd) → HasCallsBut (out_to_analyzers fronts analyzers buffers 0) fronts analyzers calls objects database passes →
+  pub analyzers_back : (buffers : ℕ) (passes : SessionPasses D gd) → HasCallsBut (out_to_analyzers fronts analyzers buffers 0) fronts analyzers calls objects database passes →
       HasCallsBut (out_to_logger fronts buffers) fronts analyzers calls objects database passes
-  readers_back buffers passes k = calls_said (out_to_analyzers fronts analyzers buffers 0) (out_to_logger fronts buffers) passes
+  analyzers_back buffers passes k = calls_said (out_to_analyzers fronts analyzers buffers 0) (out_to_logger fronts buffers) passes
       (let e : length fronts + 1 + 0 ≡ suc (length fronts) = omega arith in ap callers_down e) (λ n l. refl) refl k

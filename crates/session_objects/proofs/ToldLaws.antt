@@ -13,7 +13,7 @@ use Rattle.buffer_lock.specs.SharedBuffers.{first_buffer}
 use Rattle.buffer_lock.specs.SharedPorts.{access_by, access_to, ported_by, pass_of, buffer_of}
 use Rattle.session_setup.specs.declared.declared.AnalyzerDeclared.{AnalyzerDeclared}
 use Rattle.session_setup.specs.declared.declared.FrontDeclared.{FrontDeclared}
-use Rattle.session_objects.specs.Calls.{FrontCalls, AnalyzerCalls, SessionCalls, told_through, told_of_buffer, client_port, port_behind, reader_port, engine_calls_by, engine_calls_behind, analyzer_engine}
+use Rattle.session_objects.specs.Calls.{FrontCalls, AnalyzerCalls, SessionCalls, told_through, told_of_buffer, client_port, port_behind, analyzer_port_in, engine_calls_by, engine_calls_behind, analyzer_engine}
 use Rattle.session_objects.specs.Members.{ring_window, ring_identity, new_port}
 
 -- what the access of a port tells of the pass by which it called, for a client
@@ -72,17 +72,17 @@ module _ (fronts : List FrontDeclared) (analyzers : List AnalyzerDeclared) (call
       subst P (sym none) (subst Q (sym (ap (port_behind analyzers calls buffer) behind ∙ at)) told)
 
   -- and an analyzer sees its buffer through its port
-  pub reader_tells : (client place : ℕ) (declared : AnalyzerDeclared) (analyzer : AnalyzerCalls) (size : ℕ) (seen : List (ℕ × BufferEntry)) →
+  pub analyzer_tells : (client place : ℕ) (declared : AnalyzerDeclared) (analyzer : AnalyzerCalls) (size : ℕ) (seen : List (ℕ × BufferEntry)) →
       client ≡ length fronts + 1 + place → slice_get analyzers place ≡ Some declared → slice_get calls.analyzers place ≡ Some analyzer →
       told_through size (suc client) (Some analyzer.port) seen → told_of_buffer fronts analyzers calls declared.buffer size (suc client) seen
-  reader_tells client place declared analyzer size seen is d a told =
+  analyzer_tells client place declared analyzer size seen is d a told =
       let none : slice_get fronts client ≡ None = slice_get_past fronts client (omega arith) in
       let behind : client - length fronts ≡ suc place = omega arith in
       let P : Option FrontDeclared → Type 0 = λ o. told_through size (suc client)
       (client_port declared.buffer o (slice_get calls.fronts client) (port_behind analyzers calls declared.buffer (client - length fronts))) seen in
       let Q : ℕ → Type 0 = λ n. told_through size (suc client) (port_behind analyzers calls declared.buffer n) seen in
-      let R : Option AnalyzerDeclared → Type 0 = λ o. told_through size (suc client) (reader_port declared.buffer o (slice_get calls.analyzers place)) seen in
-      let S : Option AnalyzerCalls → Type 0 = λ o. told_through size (suc client) (reader_port declared.buffer (Some declared) o) seen in
+      let R : Option AnalyzerDeclared → Type 0 = λ o. told_through size (suc client) (analyzer_port_in declared.buffer o (slice_get calls.analyzers place)) seen in
+      let S : Option AnalyzerCalls → Type 0 = λ o. told_through size (suc client) (analyzer_port_in declared.buffer (Some declared) o) seen in
       subst P (sym none) (subst Q (sym behind) (subst R (sym d) (subst S (sym a) (rw (eq-eqb declared.buffer declared.buffer refl) told))))
 
 -- what a port tells by whose pass no call was made

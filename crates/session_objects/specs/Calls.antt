@@ -79,16 +79,16 @@ analyzer_port None = None
 analyzer_port (Some analyzer) = Some analyzer.port
 
 -- the port of an analyzer to the buffer of this number: it has one to the buffer that it reads alone
-abbrev pub reader_port : (buffer : ℕ) → Option AnalyzerDeclared → Option AnalyzerCalls → Option Access
-reader_port buffer (Some declared) analyzer = if declared.buffer == buffer then analyzer_port analyzer else None
-reader_port buffer None analyzer = None
+abbrev pub analyzer_port_in : (buffer : ℕ) → Option AnalyzerDeclared → Option AnalyzerCalls → Option Access
+analyzer_port_in buffer (Some declared) analyzer = if declared.buffer == buffer then analyzer_port analyzer else None
+analyzer_port_in buffer None analyzer = None
 
 -- the port to the buffer of this number of a client behind the front-ends: the first one is the logger, which has one to
 -- each, and the others are the analyzers
 abbrev pub port_behind : List AnalyzerDeclared → SessionCalls → (buffer : ℕ) → (behind : ℕ) → Option Access
 port_behind analyzers calls buffer zero = slice_get calls.logger_ports buffer
 port_behind analyzers calls buffer (suc place) =
-    reader_port buffer (slice_get analyzers place) (slice_get calls.analyzers place)
+    analyzer_port_in buffer (slice_get analyzers place) (slice_get calls.analyzers place)
 
 -- the port of a client to the buffer of this number, if it has one: a front-end to the one that it sends into; else that of
 -- the one behind the front-ends

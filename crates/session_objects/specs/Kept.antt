@@ -73,18 +73,18 @@ reads_from buffer None = false
 reads_from buffer (Some analyzer) = analyzer.buffer == buffer
 
 -- the callers of a buffer among so many analyzers, the last one first, where the first analyzer has this client number
-abbrev pub readers_down : List AnalyzerDeclared → (first analyzers : ℕ) → (buffer : ℕ) → List ℕ
-readers_down analyzers first zero buffer = []
-readers_down analyzers first (suc n) buffer =
-    if reads_from buffer (slice_get analyzers n) then suc (first + n) ∷ readers_down analyzers first n buffer
-    else readers_down analyzers first n buffer
+abbrev pub analyzers_down : List AnalyzerDeclared → (first analyzers : ℕ) → (buffer : ℕ) → List ℕ
+analyzers_down analyzers first zero buffer = []
+analyzers_down analyzers first (suc n) buffer =
+    if reads_from buffer (slice_get analyzers n) then suc (first + n) ∷ analyzers_down analyzers first n buffer
+    else analyzers_down analyzers first n buffer
 
 -- All front-ends and the logger have their passes, and the first so many analyzers have theirs of the engine and of their
 -- buffers.
 abbrev pub out_to_analyzers : List FrontDeclared → List AnalyzerDeclared → (buffers : ℕ) → (count : ℕ) → OutNumbers
 out_to_analyzers fronts analyzers buffers count = record {
   engine = callers_down (first_analyzer fronts + count);
-  buffers = λ number. readers_down analyzers (first_analyzer fronts) count number ++ callers_with_logger fronts buffers number;
+  buffers = λ number. analyzers_down analyzers (first_analyzer fronts) count number ++ callers_with_logger fronts buffers number;
   database = callers_down (length fronts);
 }
 

@@ -7,7 +7,7 @@ use Rattle.daq_model.specs.Events.{event_limit}
 use Rattle.daq_model.specs.Generator.{generated_event}
 use Rattle.mid_logger.specs.declared.channel_spec.ChannelSpec.{ChannelSpec}
 use Rattle.loggers.specs.NewLoggers.{HasNewChannels}
-use Rattle.loggers.specs.Moments.{RunFiles, AreIdle, IsLoggerReady}
+use Rattle.loggers.specs.Moments.{RunFiles, AreIdleChannels, IsLoggerReady}
 use Rattle.loggers.specs.LoggerFaults.{HasFailed}
 use Rattle.loggers.specs.Reasons.{GivesReasons}
 use Rattle.loggers.specs.declared.logger.Logger.{Logger}
@@ -111,13 +111,13 @@ pub record AreAnalyzersOf (objects : SessionObjects) (first : ℕ) (declared : L
 -- The members are those of a session of these declarations: the front-ends, in their order, behind them the logger, and
 -- behind that the analyzers.
 pub record AreMembersOf {D F : Type 0} (fronts : List FrontDeclared) (analyzers : List AnalyzerDeclared) (objects : SessionObjects)
-    (shared : SharedOdb D) (seats : List (FrontSeen Generator)) (last : LoggerSeen F) (readers : List AnalyzerSeen) : Type 0 where
+    (shared : SharedOdb D) (seats : List (FrontSeen Generator)) (last : LoggerSeen F) (seated_analyzers : List AnalyzerSeen) : Type 0 where
   pub many : length seats ≡ length fronts
   pub each : (client : ℕ) → (declared : FrontDeclared) → (front : FrontSeen Generator) →
       slice_get fronts client ≡ Some declared → slice_get seats client ≡ Some front →
       IsFrontOf objects shared client declared front
   pub logger : IsLoggerOf objects (length fronts) last
-  pub analyzers_are : AreAnalyzersOf objects (first_analyzer fronts) analyzers readers
+  pub analyzers_are : AreAnalyzersOf objects (first_analyzer fronts) analyzers seated_analyzers
 
 -- what the seat of a front-end shows of its calls
 abbrev pub front_calls : FrontSeen Generator → FrontCalls
@@ -130,13 +130,13 @@ analyzer_calls analyzer = record { engine = analyzer.calls; port = analyzer.port
 -- all calls of a session, by what the main thread and the members know
 abbrev pub session_calls : {F : Type 0} → (engine : List EngineEntry) → (database : List (ℕ × WatchEntry)) →
     List (FrontSeen Generator) → LoggerSeen F → List AnalyzerSeen → SessionCalls
-session_calls engine database seats logger readers = record {
+session_calls engine database seats logger seated_analyzers = record {
   main_engine = engine;
   main_database = database;
   fronts = map front_calls seats;
   logger_engine = logger.calls;
   logger_ports = logger.ports;
-  analyzers = map analyzer_calls readers;
+  analyzers = map analyzer_calls seated_analyzers;
 }
 
 -- As they are at first.
@@ -228,7 +228,7 @@ pub record IsMadeLogger (buffers : List SessionBuffer) (declared : List ChannelS
   pub run : logger.run ≡ None
   pub stop_dump : logger.stop_dump ≡ None
   pub slots : HasNewChannels declared (event_rooms buffers declared) logger.channels
-  pub idle : AreIdle logger.channels
+  pub idle : AreIdleChannels logger.channels
   pub failed : HasFailed logger.channels → ⊥
   pub reasons : (ports : List Access) → (files : RunFiles) → GivesReasons logger.channels ports files files []
   pub ready : (caller : ℕ) → (seen : Seen) → IsLoggerReady logger.channels (new_ports buffers caller) seen
@@ -251,7 +251,7 @@ pub record AreNewMembers {D F K : Type 0} (fronts : List FrontDeclared) (analyze
 -- ports tell; and the analyzers.
 pub record AreBareMembers {D : Type 0} (fronts : List FrontDeclared) (analyzers : List AnalyzerDeclared) (channels : List ChannelSpec)
     (objects : SessionObjects) (shared : SharedOdb D) (seats : List (FrontSeen Generator)) (logger : LoggerMember)
-    (accesses : List Access) (readers : List AnalyzerSeen) : Type 0 where
+    (accesses : List Access) (seated_analyzers : List AnalyzerSeen) : Type 0 where
   pub many : length seats ≡ length fronts
   pub each : (client : ℕ) → (declared : FrontDeclared) → (front : FrontSeen Generator) →
       slice_get fronts client ≡ Some declared → slice_get seats client ≡ Some front →
@@ -261,4 +261,4 @@ pub record AreBareMembers {D : Type 0} (fronts : List FrontDeclared) (analyzers 
   pub is : logger.seat.client ≡ length fronts
   pub calls : own_entries logger.seat.pass ≡ []
   pub ports : accesses ≡ new_ports objects.buffers.items (caller_of_client (length fronts))
-  pub analyzers_are : AreNewAnalyzers objects (first_analyzer fronts) analyzers readers
+  pub analyzers_are : AreNewAnalyzers objects (first_analyzer fronts) analyzers seated_analyzers

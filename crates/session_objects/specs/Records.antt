@@ -79,8 +79,8 @@ pub record IsRecordOf (buffer : SessionBuffer) (r : BufferRecord) : Type 0 where
 
 -- each answer of a call for a watch's notes tells the changes that are due, where the database had these rows and no watch
 -- at first
-abbrev pub TellsNotes : Rows → List (ℕ × WatchEntry) → Type 0
-TellsNotes rows history = (before more : List (ℕ × WatchEntry)) → (caller watch lost : ℕ) → (notes : List Note) →
+abbrev pub TellsDueNotes : Rows → List (ℕ × WatchEntry) → Type 0
+TellsDueNotes rows history = (before more : List (ℕ × WatchEntry)) → (caller watch lost : ℕ) → (notes : List Note) →
     history ≡ before ++ (caller, Notes watch (Ok (notes, lost))) ∷ more → AreDue rows (calls_made before) watch notes lost
 
 -- The record of a session: the histories of its buffers, of its engine and of its database, each legal from the object as
@@ -95,7 +95,7 @@ pub record HoldsHistories {D : Type 0} {g : _} (objects : SessionObjects) (share
   pub engine_left : r.engine.value.engine ≡ engine_replay (first_engine objects.engine) (history_of r.engine)
   pub follows : first_engine objects.engine ≡ engine_opening → TurnsInOrder (history_of r.engine)
   pub database : LeadsDatabase (first_database shared) (history_of r.database) r.database.value.database
-  pub notes : (rows : Rows) → first_database shared ≡ unwatched rows → TellsNotes rows (history_of r.database)
+  pub notes : (rows : Rows) → first_database shared ≡ unwatched rows → TellsDueNotes rows (history_of r.database)
 
 -- Each history of the record holds the calls of its callers, and no others.
 pub record HoldsCalls {D : Type 0} {g : _} (fronts : List FrontDeclared) (analyzers : List AnalyzerDeclared) (calls : SessionCalls)

@@ -4,9 +4,9 @@ use Rattle.session_replies.specs.declared.refusals.Refusals.{Refusals}
 use Rattle.session_replies.specs.Console.{first_line}
 
 -- the count and the first with one line more, if that was refused
-abbrev pub noted : Refusals → (line : ℕ) → Bool → Refusals
-noted old line true = record { count = old.count + 1; first = if old.count == 0 then line else old.first }
-noted old line false = old
+abbrev pub refusals_after : Refusals → (line : ℕ) → Bool → Refusals
+refusals_after old line true = record { count = old.count + 1; first = if old.count == 0 then line else old.first }
+refusals_after old line false = old
 
 -- these lines are counted, and this is the first of them
 pub record Counts (lines : List ℕ) (refusals : Refusals) : Type 0 where

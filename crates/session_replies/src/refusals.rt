@@ -1,6 +1,6 @@
 ghost use Rattle.std.specs.Prelude.{◌≡◌, ◌<◌, ◌+◌, ◌^◌};
 ghost use Rattle.session_replies.specs.Console.{refuses_line};
-ghost use Rattle.session_replies.specs.Refused.{noted};
+ghost use Rattle.session_replies.specs.Refused.{refusals_after};
 
 use crate::replies::Reply;
 
@@ -43,7 +43,7 @@ impl Refusals {
     /// Notes the reply to the line of this number.
     pub fn note(&mut self, line: u64, reply: &Reply)
         requires { self.old.count + 1 < 2 ^ 64 }
-        ensures { self.new ≡ noted self.old line (refuses_line reply.now) }
+        ensures { self.new ≡ refusals_after self.old line (refuses_line reply.now) }
     {
         if reply.is_refusal() {
             if self.count == 0 {

@@ -27,7 +27,7 @@ use Rattle.session_runs.specs.declared.on.CurrentRun.{CurrentRun}
 use Rattle.session_runs.specs.declared.replies.RunReply.{RunReply}
 use Rattle.session_runs.specs.declared.replies.RunReply.TheVariants.{WrongState, LastStart, RunNumber, StartRefused, Started as run_started, Paused as run_paused, Resumed as run_resumed, Stopped as run_stopped}
 use Rattle.session_runs.specs.KeptRuns.{RunsSeen, record_of, refused_start, behind_start, with_calls}
-use Rattle.session_runs.specs.RunAnswers.{ClockTold, CommandPoint, GotNumber, LacksNumber, BeginsRun, MakesStop, MakesChange, AnswersStart, AnswersStop, AnswersPause, AnswersResume, run_begun}
+use Rattle.session_runs.specs.RunAnswers.{ClockTold, CommandPoint, GotNumber, LacksNumber, BeginsRun, MakesStop, MakesChange, AnswersStart, AnswersStop, AnswersPause, AnswersResume, run_by_start}
 use Rattle.session_runs.specs.RunEntries.{StartCalls, StopCalls, start_sheet, later_sheet, dump_saved}
 use Rattle.session_runs.specs.RunsFit.{RunClients, run_clients, MainOwn, RecordsFit, calls_joined, StandCalls, FitsStart, FitsStop, FitsWhole, FitsOutcome, FitsRun, FitsCurrent, RunsFit, run_of, start_begun, start_of, start_on, starts_begun}
 
@@ -254,7 +254,7 @@ module _ {M : Type 0} (round : M → M → Type 0) where
       → RunsFit old.runs (own_watched old.database) → RunsFit new.runs (own_watched new.database)
   begun_fits grows run outcome before after old ready new got begins fits =
       let s : RunsSeen = ready.runs in
-      let r : CurrentRun = run_begun s run begins.start begins.time in
+      let r : CurrentRun = run_by_start s run begins.start begins.time in
       let own : List WatchEntry = own_watched old.database in
       let asked : WatchEntry = Call (number_asked got.number.got) in
       let entries : List WatchEntry = asked ∷ begins.entries in

@@ -26,7 +26,7 @@ use Rattle.session_runs.specs.declared.replies.RunReply.{RunReply}
 use Rattle.session_runs.specs.declared.replies.RunReply.TheVariants.{WrongState, LastStart, RunNumber, StartRefused, Started as run_started, Paused as run_paused, Resumed as run_resumed, Stopped as run_stopped}
 use Rattle.session_runs.specs.KeptRuns.{RunsSeen, IsInStep, behind_start, behind_stop, record_of, refused_start, with_calls}
 use Rattle.session_runs.specs.RunEntries.{AnnounceCalls, AnnouncesStop, BeginCalls, StopCalls, blank_reports, dump_saved, later_sheet, outcome_sets, start_sheet}
-use Rattle.session_runs.specs.RunAnswers.{ClockTold, CommandPoint, ReadsClock, AnswersBegin, AnswersStart, AnswersStop, BeginsRun, CutsBegin, CutsStart, GotNumber, MakesStart, MakesStop, StopsUnsaved, point_of, run_begun}
+use Rattle.session_runs.specs.RunAnswers.{ClockTold, CommandPoint, ReadsClock, AnswersBegin, AnswersStart, AnswersStop, BeginsRun, CutsBegin, CutsStart, GotNumber, MakesStart, MakesStop, StopsUnsaved, point_of, run_by_start}
 use Rattle.session_runs.proofs.Calls.{CallsAreEntries, begin_calls, stop_calls}
 use Rattle.session_runs.proofs.Steps.{stop_begins}
 
@@ -119,7 +119,7 @@ module _ {M : Type 0} (round : M → M → Type 0) where
       → ((entries : List WatchEntry) × AnnounceCalls run time saved entries × AddsEntries a b entries) → saved ≡ Ok dump → SetsNumbers b c (outcome_sets run ended) → ended ≡ outcome
       → sheet ≡ start_sheet (length s.analyzers) run time s.quota dump
       → ((told : List ClientTally) × DrivesTransition round Start sheet start ended told s.main.own later.main.own members turned)
-      → later ≡ with_calls (behind_start s (run_begun s run start time) outcome) later.main.own
+      → later ≡ with_calls (behind_start s (run_by_start s run start time) outcome) later.main.own
       → BeginsRun round run outcome before after (point_of s a members) (point_of later c turned)
   begins_run are run start time outcome ended dump saved sheet before after s later a b c members turned idle begins reading announced is sets done sheet_is made kept =
       let first : AnnounceCalls run time (Ok dump) announced.0 = subst (λ (r : Result (List ℕ) NoMemory). AnnounceCalls run time r announced.0) is announced.1 in

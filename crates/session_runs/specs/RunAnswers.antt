@@ -57,8 +57,8 @@ RefusesKnown LastStart k t = begin_known k t ≡ Err number_refused
 RefusesKnown reply k t = ⊥
 
 -- the run that a start of this number at this time begins
-abbrev pub run_begun : RunsSeen → (run start time : ℕ) → CurrentRun
-run_begun s run start time = record { run = run; start = start; time = time; quota = s.quota }
+abbrev pub run_by_start : RunsSeen → (run start time : ℕ) → CurrentRun
+run_by_start s run start time = record { run = run; start = start; time = time; quota = s.quota }
 
 -- A start is refused, since the database's run number has no next one. It was got, and nothing else happened.
 pub record LacksNumber {M : Type 0} (have : ℤ) (old new : CommandPoint M) : Type 0 where
@@ -111,7 +111,7 @@ module _ {M : Type 0} (round : M → M → Type 0) where
     pub tallies : List ClientTally
     pub drives : DrivesTransition round Start (start_sheet (length old.runs.analyzers) run time old.runs.quota dump) start outcome tallies
         old.runs.main.own new.runs.main.own old.members new.members
-    pub kept : new.runs ≡ with_calls (behind_start old.runs (run_begun old.runs run start time) outcome) new.runs.main.own
+    pub kept : new.runs ≡ with_calls (behind_start old.runs (run_by_start old.runs run start time) outcome) new.runs.main.own
 
   -- a whole start: the run number is got, and then the run of the next is begun
   abbrev pub MakesStart : (run : ℕ) → StartOutcome → (before after : ClockTold) → (old new : CommandPoint M) → Type 0

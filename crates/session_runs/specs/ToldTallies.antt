@@ -63,12 +63,12 @@ states_told logger [] = None
 states_told logger (told ∷ tallies) = option_or (states_by logger told) (states_told logger tallies)
 
 -- a channel's file in the run of this number, which ended in this state
-abbrev pub file_in : (run : ℕ) → RunChannel → ChannelState → FileRecord
-file_in run channel state = record { channel = channel.number; name = file_name_by channel.pattern run; state = state }
+abbrev pub ended_file : (run : ℕ) → RunChannel → ChannelState → FileRecord
+ended_file run channel state = record { channel = channel.number; name = file_name_by channel.pattern run; state = state }
 
 -- the channel's file, where the logger told of it
 abbrev pub file_told : List ChannelState → (run : ℕ) → RunChannel → Option FileRecord
-file_told states run channel = option_map (file_in run channel) (slice_get states channel.number)
+file_told states run channel = option_map (ended_file run channel) (slice_get states channel.number)
 
 -- the files of these channels
 abbrev pub files_told : List ChannelState → (run : ℕ) → List RunChannel → List FileRecord

@@ -20,7 +20,7 @@ use Rattle.watch_commands.specs.declared.replies.WatchCommandRefusal.TheVariants
 use Rattle.watch_commands.specs.declared.replies.WatchReply.TheVariants.{Told}
 use Rattle.watch_commands.specs.declared.replies.WatchAnswer.{WatchAnswer}
 use Rattle.watch_commands.specs.WatchAnswers.{said, refused_for, watching_or, ended_or, note_told, path_asked}
-use Rattle.watch_commands.specs.WatchCalls.{OnPath, IsWatchSettled, WatchesRow, WatchesFound, WatchesPath, TellsNotes, TellsTaken, TakesNotes, EndsWatch, AnswersWatch, BreaksOff, CutsWatch}
+use Rattle.watch_commands.specs.WatchCalls.{OnPath, IsWatchSettled, WatchesRow, WatchesFound, WatchesPath, TellsNotes, TellsTaken, TakesNotes, EndsWatch, AnswersWatch, BreaksOffCalls, CutsWatch}
 
 -- there is something that the command can do
 abbrev pub Some_does : (List WatchEntry → WatchAnswer → Type 0) → Type 0
@@ -38,7 +38,7 @@ pub not_begun : {T E : Type 0} (result : Result T E) (a : DatabaseAccess) (D : L
 not_begun result a D some = on_err (CutsWatch a a D) result (not_begun_at a D some)
 
 -- it ended at the first call
-pub cut_at_first : {T E : Type 0} (result : Result T E) (a b : DatabaseAccess) (D : List WatchEntry → WatchAnswer → Type 0) (entry wanted : WatchEntry) (answer : WatchAnswer) → D (wanted ∷ []) answer → BreaksOff (wanted ∷ []) (entry ∷ []) → AddsEntry a b entry
+pub cut_at_first : {T E : Type 0} (result : Result T E) (a b : DatabaseAccess) (D : List WatchEntry → WatchAnswer → Type 0) (entry wanted : WatchEntry) (answer : WatchAnswer) → D (wanted ∷ []) answer → BreaksOffCalls (wanted ∷ []) (entry ∷ []) → AddsEntry a b entry
     → OnErr result (CutsWatch a b D)
 cut_at_first result a b D entry wanted answer does short called =
     on_err (CutsWatch a b D) result (record { calls = wanted ∷ []; answer = answer; does = does; made = entry ∷ []; short = short; adds = (b, called, refl) })
@@ -195,7 +195,7 @@ telling_more a b c notes told after i d path got before within called is more =
 untold : Note → ToldNote
 untold note = record { note = note; path = None }
 
-breaks_behind : (front calls made : List WatchEntry) → BreaksOff calls made → BreaksOff (front ++ calls) (front ++ made)
+breaks_behind : (front calls made : List WatchEntry) → BreaksOffCalls calls made → BreaksOffCalls (front ++ calls) (front ++ made)
 breaks_behind [] calls made short = short
 breaks_behind (e ∷ front) calls made short = inl (refl, breaks_behind front calls made short)
 
@@ -224,13 +224,13 @@ telling_cut_at a b c notes lost told i d got memory now within called wanting =
     map_both note_told told rest
     ∙ (ap (λ (l : List Note). l ++ note ∷ map note_told (map untold (drop (suc i) notes))) now.are
     ∙ (ap (λ (l : List Note). take i notes ++ note ∷ l) (notes_untold (drop (suc i) notes)) ∙ take_and_rest notes i d within)) in
-    let first : BreaksOff (map path_asked rest) (failed ∷ []) = inr (ap (λ (r : Result (Option (List (List ℕ))) NoMemory). call.Call (PathOf note.row r)) wanting, refl) in
+    let first : BreaksOffCalls (map path_asked rest) (failed ∷ []) = inr (ap (λ (r : Result (Option (List (List ℕ))) NoMemory). call.Call (PathOf note.row r)) wanting, refl) in
     record {
       calls = map path_asked (told ++ rest);
       answer = said (Told (told ++ rest) lost);
       does = (told ++ rest, (whole, refl), refl);
       made = map path_asked told ++ failed ∷ [];
-      short = subst (λ (l : List WatchEntry). BreaksOff l (map path_asked told ++ failed ∷ [])) (sym (map_both path_asked told rest)) (breaks_behind (map path_asked told) (map path_asked rest) (failed ∷ []) first);
+      short = subst (λ (l : List WatchEntry). BreaksOffCalls l (map path_asked told ++ failed ∷ [])) (sym (map_both path_asked told rest)) (breaks_behind (map path_asked told) (map path_asked rest) (failed ∷ []) first);
       adds = adds_more a b c (map path_asked told) failed now.adds called;
     }
 

@@ -120,10 +120,10 @@ without_memory (call.Save reply) = call.Save (Err (record {}))
 without_memory (call.Load text reply) = call.Load text (Err load.NoMemory)
 
 -- Of these calls the first were made, and the last of them may be the one for which memory was wanting.
-abbrev pub BreaksOff : (calls made : List WatchEntry) → Type 0
-BreaksOff calls [] = Unit {0}
-BreaksOff [] (e ∷ made) = ⊥
-BreaksOff (c ∷ calls) (e ∷ made) = ((e ≡ c) × BreaksOff calls made) ⊎ ((e ≡ without_memory c) × (made ≡ []))
+abbrev pub BreaksOffCalls : (calls made : List WatchEntry) → Type 0
+BreaksOffCalls calls [] = Unit {0}
+BreaksOffCalls [] (e ∷ made) = ⊥
+BreaksOffCalls (c ∷ calls) (e ∷ made) = ((e ≡ c) × BreaksOffCalls calls made) ⊎ ((e ≡ without_memory c) × (made ≡ []))
 
 -- Memory ended before the answer: the first calls were made of some that do so.
 pub record CutsWatch (a b : DatabaseAccess) (Does : List WatchEntry → WatchAnswer → Type 0) : Type 0 where
@@ -131,7 +131,7 @@ pub record CutsWatch (a b : DatabaseAccess) (Does : List WatchEntry → WatchAns
   pub answer : WatchAnswer
   pub does : Does calls answer
   pub made : List WatchEntry
-  pub short : BreaksOff calls made
+  pub short : BreaksOffCalls calls made
   pub adds : AddsEntries a b made
 
 -- What the files of the database count of a command, by what its calls on them came to. One that makes none leaves the

@@ -7,7 +7,7 @@ use Rattle.session_engine.specs.MainKnowledge.{known_from}
 use Rattle.session_setup.specs.declared.declared.AnalyzerDeclared.{AnalyzerDeclared}
 use Rattle.session_setup.specs.declared.declared.FrontDeclared.{FrontDeclared}
 use Rattle.session_objects.specs.Names.{member_names}
-use Rattle.daq_session.proofs.MembersLaws.{members_few, names_of, opened_so, reader_names}
+use Rattle.daq_session.proofs.MembersLaws.{members_few, names_of, opened_so, names_of_analyzers}
 use Rattle.daq_session.proofs.opening.open_runs.Goals as goal
 
 pub new-seat-requires-clause-idle : goal.new-seat-requires-clause-idle
@@ -41,17 +41,17 @@ new-requires-clause-few g c =
 pub new-requires-clause-few_analyzers : goal.new-requires-clause-few_analyzers
 new-requires-clause-few_analyzers g c =
     let analyzers = c.args.lists.now.analyzers in
-    let names : c.in_ok-readers.readers ≡ reader_names analyzers = c.in_ok-readers.ensures ∙ ap reader_names c.as_slice-analyzers.ensures in
-    let few : length (reader_names analyzers) ≡ length analyzers = length-map analyzers (λ analyzer. analyzer.name) in
+    let names : c.in_ok-named_analyzers.named_analyzers ≡ names_of_analyzers analyzers = c.in_ok-named_analyzers.ensures ∙ ap names_of_analyzers c.as_slice-analyzers.ensures in
+    let few : length (names_of_analyzers analyzers) ≡ length analyzers = length-map analyzers (λ analyzer. analyzer.name) in
     omega (arith, c.requires.few_analyzers, few, ap length names)
 
 pub returns : goal.returns
 returns g c =
     let lists = c.args.lists.now in
     IfOk-weaker c.new.result _ _ (λ runs is.
-    opened_so c.args.quota lists c.args.objects.now.engine c.in_ok-names.names c.in_ok-readers.readers c.deref.result.now c.as_slice-channels.result.now c.new-seat.result c.register_all.new.self runs
+    opened_so c.args.quota lists c.args.objects.now.engine c.in_ok-names.names c.in_ok-named_analyzers.named_analyzers c.deref.result.now c.as_slice-channels.result.now c.new-seat.result c.register_all.new.self runs
     (c.in_ok-names.ensures ∙ ap names_of c.as_slice-fronts.ensures)
-    (c.in_ok-readers.ensures ∙ ap reader_names c.as_slice-analyzers.ensures)
+    (c.in_ok-named_analyzers.ensures ∙ ap names_of_analyzers c.as_slice-analyzers.ensures)
     (c.deref.ensures.value ∙ c.in_ok-members.ensures
     ∙ ap (λ (fronts : List FrontDeclared). member_names fronts c.as_slice-analyzers.result.now) c.as_slice-fronts.ensures
     ∙ ap (λ (analyzers : List AnalyzerDeclared). member_names lists.fronts analyzers) c.as_slice-analyzers.ensures)

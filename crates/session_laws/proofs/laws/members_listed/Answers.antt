@@ -1,5 +1,5 @@
 use Rattle.session_laws.proofs.FrontsEnd.{front_listed, front_of}
-use Rattle.session_laws.proofs.ReadersEnd.{analyzer_listed}
+use Rattle.session_laws.proofs.AnalyzersEnd.{analyzer_listed}
 use Rattle.session_laws.proofs.laws.members_listed.Goals as goal
 
 pub returns : goal.returns

@@ -10,7 +10,7 @@ use Rattle.session_setup.specs.declared.declared.AnalyzerDeclared.{AnalyzerDecla
 use Rattle.session_objects.specs.declared.objects.SessionBuffer.{SessionBuffer}
 use Rattle.session_objects.specs.declared.passes.SessionPasses.{SessionPasses}
 use Rattle.session_objects.proofs.ChangeLaws.{there_below, some_same}
-use Rattle.session_objects.proofs.PlaceLaws.{reader_has, reader_has_engine, reader_out}
+use Rattle.session_objects.proofs.PlaceLaws.{analyzer_has, analyzer_has_engine, analyzer_out}
 use Rattle.session_objects.proofs.ToldLaws.{new_port_is}
 use Rattle.session_objects.proofs.objects.SessionObjects.place_analyzer.Goals as goal
 
@@ -21,7 +21,7 @@ take_of_buffer-pass-requires-clause-there g c =
     let b = there_below c.args.self.now.buffers.items d.buffer (c.requires.callers.read_from c.args.place d at_d) in
     let count : passes_of (lock_of b.0.shared) ≡ length c.args.declared.now + 2 + length c.args.analyzers.now = c.requires.callers.buffers d.buffer b.0 b.1 in
     let within : c.args.place < length c.args.analyzers.now = c.requires.place in
-    λ roster at. reader_has c.args.self.now c.args.database.now c.args.declared.now c.args.analyzers.now (length c.args.self.now.buffers.items) c.args.place c.args.passes.now
+    λ roster at. analyzer_has c.args.self.now c.args.database.now c.args.declared.now c.args.analyzers.now (length c.args.self.now.buffers.items) c.args.place c.args.passes.now
     c.requires.out d.buffer b.0 roster b.1 at (omega arith)
 
 pub index-requires : goal.index-requires
@@ -58,7 +58,7 @@ take_fresh-pass-requires g c =
     let count : passes_of (engine_lock_of c.args.self.now.engine) ≡ length c.args.declared.now + 2 + length c.args.analyzers.now = c.requires.callers.engine in
     let P : Passes _ _ _ _ → Type 0 = λ en. Contains (numbers_of en) (length c.args.declared.now + 1 + c.args.place + 1) in
     subst P (sym c.take_of_buffer-pass.ensures.engine)
-    (reader_has_engine c.args.self.now c.args.database.now c.args.declared.now c.args.analyzers.now (length c.args.self.now.buffers.items) c.args.place c.args.passes.now
+    (analyzer_has_engine c.args.self.now c.args.database.now c.args.declared.now c.args.analyzers.now (length c.args.self.now.buffers.items) c.args.place c.args.passes.now
     c.requires.out (omega arith))
 
 pub new-seat-requires-clause-own : goal.new-seat-requires-clause-own
@@ -72,7 +72,7 @@ returns-clause-out g c =
     let at_d : slice_get c.args.analyzers.now c.args.place ≡ Some d = slice_get-get_or c.args.analyzers.now c.args.place c.index-analyzers-place.result c.requires.place in
     let s1 = c.take_of_buffer-pass.new.self in
     let s2 : SessionPasses _ _ = record s1 { engine = c.take_fresh-pass.new.passes } in
-    reader_out c.args.self.now c.args.database.now c.args.declared.now c.args.analyzers.now (length c.args.self.now.buffers.items) c.args.place c.args.passes.now c.requires.out
+    analyzer_out c.args.self.now c.args.database.now c.args.declared.now c.args.analyzers.now (length c.args.self.now.buffers.items) c.args.place c.args.passes.now c.requires.out
     d s1 s2 c.take_of_buffer-pass.result c.take_fresh-pass.result at_d
     c.take_of_buffer-pass.ensures.taken c.take_of_buffer-pass.ensures.engine c.take_of_buffer-pass.ensures.database
     c.take_fresh-pass.ensures refl refl

@@ -8,13 +8,13 @@ use Rattle.transition_lock.specs.SharedEngines.{engine_lock_of}
 use Rattle.session_setup.specs.declared.declared.AnalyzerDeclared.{AnalyzerDeclared}
 use Rattle.session_objects.specs.Members.{IsAnalyzerOf, analyzer_calls}
 use Rattle.session_objects.proofs.ChangeLaws.{some_same}
-use Rattle.session_objects.proofs.ReturnLaws.{reader_back, reader_room, reader_engine_room}
+use Rattle.session_objects.proofs.ReturnLaws.{analyzer_back, analyzer_room, analyzer_engine_room}
 use Rattle.session_objects.proofs.ToldLaws.{port_tells}
 use Rattle.session_objects.proofs.objects.SessionObjects.take_back_analyzer.Goals as goal
 
 pub put_to_engine-requires : goal.put_to_engine-requires
 put_to_engine-requires g c =
-    reader_engine_room c.args.declared.now c.args.analyzers.now g.calls c.args.self.now c.args.database.now (length c.args.self.now.buffers.items) c.args.place c.args.passes.now c.requires.1.1.1.1
+    analyzer_engine_room c.args.declared.now c.args.analyzers.now g.calls c.args.self.now c.args.database.now (length c.args.self.now.buffers.items) c.args.place c.args.passes.now c.requires.1.1.1.1
 
 pub put_to_buffer-requires-clause-room : goal.put_to_buffer-requires-clause-room
 put_to_buffer-requires-clause-room g c =
@@ -24,7 +24,7 @@ put_to_buffer-requires-clause-room g c =
     let d0 : AnalyzerDeclared = get_or c.args.analyzers.now c.args.place c.index-analyzers-place.result in
     let at0 : slice_get c.args.analyzers.now c.args.place ≡ Some d0 = slice_get-get_or c.args.analyzers.now c.args.place c.index-analyzers-place.result (slice_get_within c.args.analyzers.now c.args.place d at) in
     let same : d ≡ d0 = some_same d d0 (sym at ∙ at0) in
-    λ roster there. reader_room c.args.declared.now c.args.analyzers.now g.calls c.args.self.now c.args.database.now (length c.args.self.now.buffers.items) c.args.place d is.buffer
+    λ roster there. analyzer_room c.args.declared.now c.args.analyzers.now g.calls c.args.self.now c.args.database.now (length c.args.self.now.buffers.items) c.args.place d is.buffer
     c.args.passes.now roster at is.has_buffer c.requires.1.1.1.1
     (ap (λ bs. slice_get bs.items d.buffer) (sym c.put_to_engine.ensures.buffers)
     ∙ ap (λ (z : AnalyzerDeclared). slice_get c.put_to_engine.new.self.buffers.items z.buffer) same ∙ there)
@@ -41,7 +41,7 @@ returns g c =
     let port = c.into_parts-pass.result.port in
     let told : Access = c.args.analyzer.port in
     let client : ℕ = length c.args.declared.now + 1 + c.args.place in
-    reader_back c.args.declared.now c.args.analyzers.now g.calls c.args.self.now c.args.database.now (length c.args.self.now.buffers.items) client c.args.place d0 is.buffer
+    analyzer_back c.args.declared.now c.args.analyzers.now g.calls c.args.self.now c.args.database.now (length c.args.self.now.buffers.items) client c.args.place d0 is.buffer
     (analyzer_calls c.args.analyzer) c.args.passes.now c.put_to_engine.new.self c.put_to_buffer.new.self
     c.into_parts-pass.result.pass c.into_pass.result refl c.requires.1.1.1.0
     at0 (ap (λ (z : AnalyzerDeclared). slice_get c.args.self.now.buffers.items z.buffer) same ∙ is.has_buffer) c.requires.1.1.0 c.requires.1.1.1.1

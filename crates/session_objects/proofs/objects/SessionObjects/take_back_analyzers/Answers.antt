@@ -7,7 +7,7 @@ use Rattle.session_objects.specs.Kept.{out_to_analyzers}
 use Rattle.session_objects.specs.Records.{HasCallsBut}
 use Rattle.session_objects.specs.Members.{analyzer_calls}
 use Rattle.session_objects.proofs.ChangeLaws.{get_seam, there_below}
-use Rattle.session_objects.proofs.ReturnLaws.{readers_back}
+use Rattle.session_objects.proofs.ReturnLaws.{analyzers_back}
 use Rattle.session_objects.proofs.objects.SessionObjects.take_back_analyzers.Goals as goal
 
 pub loop-analyzer-init : goal.loop-analyzer-init
@@ -57,5 +57,5 @@ pub returns : goal.returns
 returns g c =
     let none : c.loop-analyzer.seats ≡ [] = search rules in
     let P : ℕ → Type 0 = λ m. HasCallsBut (out_to_analyzers c.args.declared.now c.args.analyzers.now (length c.args.self.now.buffers.items) m) c.args.declared.now c.args.analyzers.now g.calls c.args.self.now c.args.database.now c.loop-analyzer.passes in
-    readers_back c.args.declared.now c.args.analyzers.now g.calls c.args.self.now c.args.database.now (length c.args.self.now.buffers.items) c.loop-analyzer.passes
+    analyzers_back c.args.declared.now c.args.analyzers.now g.calls c.args.self.now c.args.database.now (length c.args.self.now.buffers.items) c.loop-analyzer.passes
     (subst P (ap length none) c.loop-analyzer.invariant.1)
