@@ -108,10 +108,9 @@ pub record PlaysLines (access : DatabaseAccess) (before after : Environment) (en
 
 -- A whole script. Its session's database has the run's parameters, and no call was made on it before. Where memory was not wanting,
 -- each call of the main thread that asked for the text of the database got it. The starts were begun with the quotas that the lines
--- asked for. The files of the database that were there stay as
--- they were, and each new one has the name of a `save` line; and where memory was not wanting and neither source nor sink failed, a
--- line told a fault of these files exactly where their count rose; and, however it ended, each fault and each clash of names that a
--- line told was counted for itself.
+-- asked for. The files of the database that were there stay as they were, and each new one has the name of a `save` line; and where
+-- memory was not wanting and neither source nor sink failed, a line told a fault of these files exactly where their count rose; and,
+-- however it ended, each fault and each clash of names that a line told was counted for itself.
 pub record PlaysScript (before after : Environment) (end : ScriptEnd) (replies : List (ℕ × FileReply)) (final : Stage) : Type 0 where
   pub access : DatabaseAccess
   pub opens : access.database.opened ≡ unwatched session_rows

@@ -14,10 +14,10 @@ const LOOKS: usize = 64;
 /// How often a member looks whether it may have the floor while nobody works.
 const PATIENCE: usize = 4096;
 
-/// How many turns of others' work a member waits at most until it has the floor.
+/// How often a member sees others at work at most until it goes on without the floor.
 const TURNS: usize = 512;
 
-/// How often a member that gave the floor away looks whether another took it.
+/// How often a member that gave the floor away looks whether another works.
 const PAUSE: usize = 256;
 
 /// What a member saw that looked for the floor.

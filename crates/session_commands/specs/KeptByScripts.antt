@@ -13,13 +13,13 @@ use Rattle.session_commands.specs.Keeping.{EndsOver, StageKept, StageSaved, Stag
 use Rattle.session_commands.specs.KeptDumps.{KeepsDumps}
 use Rattle.session_commands.specs.Quotas.{quotas_asked, quotas_so_far}
 
--- A script of these lines, with these replies, that ended so. The records of an open session's runs fit the main thread's calls, where they did; no run
--- is on; no call on the database removed anything of `/Runinfo`, where none did before; where memory was not wanting each call that
--- asked for the text of the database got it, where each did before; the quotas of the starts that were begun are those that the
--- lines asked for, where the session was opened by one of them; the files of the dumps stay, and each new one has the name of a
--- `save` among the lines; and where the files are asked for a fault, one of the replies of the lines that called them is a fault
--- exactly where their count rose; and however it ended, each of these replies that is a fault, or a clash of names, was counted for
--- itself.
+-- A script of these lines, with these replies, that ended so. The records of an open session's runs fit the main thread's calls,
+-- where they did; no run is on; no call on the database removed anything of `/Runinfo`, where none did before; where memory was not
+-- wanting each call that asked for the text of the database got it, where each did before; the quotas of the starts that were begun
+-- are those that the lines asked for, where the session was opened by one of them; the files of the dumps stay, and each new one has
+-- the name of a `save` among the lines; and where the files are asked for a fault, one of the replies of the lines that called them
+-- is a fault exactly where their count rose; and however it ended, each of these replies that is a fault, or a clash of names, was
+-- counted for itself.
 pub record KeptByScript (lines : List (List ℕ)) (replies : List Reply) (ending : Ending) (closing : Option Halt)
     (first final : Stage) : Type 0 where
   pub kept : StageKept first → StageKept final
