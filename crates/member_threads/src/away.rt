@@ -6,7 +6,7 @@ use crate::member::Member;
 use crate::post::send;
 use crate::posts::{PostList, call_all_back, send_all, turn_all};
 use crate::recall::Recall;
-use crate::stir::{MANY, Stir};
+use crate::stir::Stir;
 use daq_io::Gate;
 use daq_types::{BoundedList, NoMemory};
 use session_engine::Rounds;
@@ -184,6 +184,8 @@ pub(crate) struct Posts<'a, A: Member, B: Member, C: Member, G: Gate> {
     pub(crate) away: Away<A, B, C>,
     pub(crate) stir: &'a Stir,
     pub(crate) gate: &'a G,
+    /// How many rounds in a row saw nobody at work.
+    pub(crate) still: u32,
 }
 
 impl<'a, A: Member + Drop, B: Member + Drop, C: Member + Drop, G: Gate> Rounds
@@ -192,12 +194,12 @@ impl<'a, A: Member + Drop, B: Member + Drop, C: Member + Drop, G: Gate> Rounds
 
     ghost round = { λ before after. HadEach A.turns B.turns C.turns before.away after.away };
 
-    /// One turn of each member that is here. Where none of them worked, the others are called to look what the main thread did,
-    /// and it waits for them.
+    /// One turn of each member that is here. Where none of them worked, the main thread waits for the others.
     fn round<R: Wait>(&mut self, rt: &R) {
-        if !self.away.turn(rt, self.stir, self.gate) {
-            self.stir.call();
-            self.stir.wait(MANY);
+        if self.away.turn(rt, self.stir, self.gate) {
+            self.still = 0;
+        } else {
+            self.still = self.stir.wait_on(self.still);
         }
     }
 }

@@ -81,7 +81,15 @@ where
 {
     let Room { mut away, mut back } = room;
     away.send(scope, rt, recall, stir, gate, members);
-    let (played, posts) = main.play(rt, Posts { away, stir, gate });
+    let (played, posts) = main.play(
+        rt,
+        Posts {
+            away,
+            stir,
+            gate,
+            still: 0,
+        },
+    );
     let Posts { mut away, .. } = posts;
     away.call_back(rt, stir, gate, &mut back);
     (played, back.into_members())

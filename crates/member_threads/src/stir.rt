@@ -20,6 +20,12 @@ const TURNS: usize = 512;
 /// How often a member that gave the floor away looks whether another works.
 const PAUSE: usize = 256;
 
+/// How often the main thread looks whether a member works, between two rounds that see nobody at work.
+const WATCH: usize = 512;
+
+/// How many such rounds it has in a row before it gives its processor up.
+const STILL: u32 = 8;
+
 /// What a member saw that looked for the floor.
 enum Seen {
     /// It has the floor.
@@ -83,6 +89,27 @@ impl Stir {
         if !self.sees(from, turns, LOOKS * turns) {
             thread::yield_now();
         }
+    }
+
+    /// Waits between two rounds of the main thread, of which so many in a row have seen nobody at work, and says of how many that
+    /// is so then. Where members worked it calls those that wait, and waits for many turns. Where they did not it looks for a while
+    /// alone, and calls them and gives the processor up now and then, so that what it does besides goes on.
+    pub(crate) fn wait_on(&self, still: u32) -> u32 {
+        if still == 0 {
+            self.call();
+            let from = self.count();
+            self.wait(MANY);
+            return if self.count() == from { 1 } else { 0 };
+        }
+        if self.sees(self.count(), 1, WATCH) {
+            return 0;
+        }
+        if still < STILL {
+            return still + 1;
+        }
+        self.call();
+        thread::yield_now();
+        1
     }
 
     /// Takes the floor, if nobody has it, and says whether it did.
