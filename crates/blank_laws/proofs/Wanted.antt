@@ -6,7 +6,7 @@ use Rattle.std.proofs.lemmas.Bool.{eqb-true}
 use Rattle.daq_types.specs.declared.runs.Transition.{Transition}
 use Rattle.run_states.specs.Sequences.{sequence_for}
 use Rattle.event_report.specs.Listing.{placed}
-use Rattle.buffer_core.specs.SlotLaws.{split}
+use Rattle.buffer_core.proofs.SlotLaws.{split}
 use Rattle.transitions.specs.declared.client.Registered.{Registered}
 use Rattle.transitions.specs.declared.called.Called.{Called}
 use Rattle.transitions.specs.Called.{sequence_of, candidate_with, candidates, called_list}

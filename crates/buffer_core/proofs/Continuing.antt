@@ -17,7 +17,7 @@ use Rattle.buffer_core.specs.Slots.{slot_at, free_slot}
 use Rattle.buffer_core.specs.Window.{Sent, Window, opening, accepted_of}
 use Rattle.buffer_core.specs.Calls.{IsReply, cancel_reply_of, cancel_reply_to, no_slot, found_in, receive_reply_to, is_running, is_paused, is_open}
 use Rattle.buffer_core.specs.Histories.{replay, IsLegal}
-use Rattle.buffer_core.specs.SlotLaws.{split}
+use Rattle.buffer_core.proofs.SlotLaws.{split}
 use Rattle.buffer_core.proofs.WindowLaws.{event_got}
 use Rattle.buffer_core.specs.Points.{News, Taken, news_of, Life, life_at, request_at, sent, sent_after, count_at, past_after, past_of}
 use Rattle.buffer_core.specs.Runs.{Mark, NoMark, Begun, Paused, Resumed, Ended, mark_of, begun_after, ended_after, begun_at, ended_at, is_paused_at, segment, segment_at, events_between, OnBegun}

@@ -6,7 +6,7 @@ use Rattle.buffer_core.specs.declared.client.Client.{Client}
 use Rattle.buffer_core.specs.Slots.{first_slot}
 use Rattle.buffer_core.specs.Window.{Sent, wants, owes}
 use Rattle.buffer_core.specs.Calls.{found_in, owed_in, or_later}
-use Rattle.buffer_core.specs.SlotLaws.{split}
+use Rattle.buffer_core.proofs.SlotLaws.{split}
 
 -- an option is none or some
 pub split_option : {A : Type 0} (o : Option A) (P : Option A → Type 0) → (o ≡ None → P None) → ((x : A) → o ≡ Some x → P (Some x)) → P o

@@ -13,7 +13,7 @@ use Rattle.buffer_core.specs.Slots.{slot_at}
 use Rattle.buffer_core.specs.Window.{Window, Sent, opening, slot_of_sent, IsWindow, StandsAt}
 use Rattle.buffer_core.specs.Calls.{IsReply, window_after, found_in, found_reply, receive_reply_to}
 use Rattle.buffer_core.specs.Histories.{replay, IsLegal}
-use Rattle.buffer_core.specs.SlotLaws.{split}
+use Rattle.buffer_core.proofs.SlotLaws.{split}
 use Rattle.buffer_core.proofs.WindowLaws.{slot_cover, found_stands}
 use Rattle.buffer_core.proofs.WindowKept.{window_opens, window_stays}
 

@@ -1,3 +1,4 @@
+pub mod SlotLaws
 pub mod Places
 pub mod Numbered
 pub mod Found
@@ -20,3 +21,7 @@ pub mod HistoryLaws
 pub mod ReadingLaws
 pub mod WindowLaws
 pub mod WindowKept
+pub mod GotLaws
+pub mod GotNames
+pub mod TakenBack
+pub mod PortCalls

@@ -19,7 +19,7 @@ use Rattle.buffer_core.specs.Slots.{slot_at, free_slot, change_slot}
 use Rattle.buffer_core.specs.Window.{Sent, Window, opening, slot_of_sent, accepted_of, wants, owes, IsWindow}
 use Rattle.buffer_core.specs.Calls.{IsReply, window_after, joined, with_request, going_on, pushed, found_in, receive_reply_to, gone_of, after_send, with_clients, with_gate, no_slot}
 use Rattle.buffer_core.specs.Histories.{replay, IsLegal}
-use Rattle.buffer_core.specs.SlotLaws.{split, slot_change_all}
+use Rattle.buffer_core.proofs.SlotLaws.{split, slot_change_all}
 use Rattle.buffer_core.proofs.WindowLaws.{to_drop_within}
 use Rattle.buffer_core.proofs.WindowKept.{window_opens, window_stays}
 use Rattle.buffer_core.proofs.ReadingLaws.{no_client_at}

@@ -6,7 +6,7 @@ use Rattle.std.proofs.Common.{ap, sym, ◌∙◌, subst, arith}
 use Rattle.std.proofs.lemmas.Bool.{eqb-true, eqb-false, ltb-false}
 use Rattle.std.proofs.lemmas.List.Quantifiers.{position-Some}
 use Rattle.buffer_core.specs.Slots.{slot_at, free_slot, passes, some_slot, first_slot, change_slot}
-use Rattle.buffer_core.specs.SlotLaws.{split, slot_set_same, slot_set_other, slot_within}
+use Rattle.buffer_core.proofs.SlotLaws.{split, slot_set_same, slot_set_other, slot_within}
 
 module _ {X : Type 0} where
   split_number : (xs : List (Option X)) (n m : ℕ) (o p : Option X) → slot_at (slice_set xs n o) n ≡ p → slot_at (slice_set xs n o) m ≡ (if n == m then p else slot_at xs m)

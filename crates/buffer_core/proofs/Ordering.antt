@@ -12,7 +12,7 @@ use Rattle.buffer_core.specs.declared.entry.BufferEntry.TheVariants.{Attach, Det
 use Rattle.buffer_core.specs.Window.{Sent, Window, opening, accepted_of}
 use Rattle.buffer_core.specs.Calls.{IsReply, window_after, is_running, is_paused, is_open}
 use Rattle.buffer_core.specs.Histories.{IsLegal}
-use Rattle.buffer_core.specs.SlotLaws.{split}
+use Rattle.buffer_core.proofs.SlotLaws.{split}
 use Rattle.buffer_core.specs.Points.{news_of, sent, sent_after, life_at, request_at, past_of}
 use Rattle.buffer_core.specs.Runs.{Mark, Ended, mark_of, begun_after, ended_after, paused_after, begun_at, ended_at, is_paused_at, OnTaken, OnBegun, NeverInPause, BeginsOnce, AreRunsKept, KeepsRuns}
 use Rattle.buffer_core.proofs.Places.{get_pushed, get_within}

@@ -17,7 +17,7 @@ use Rattle.buffer_core.specs.Slots.{slot_at}
 use Rattle.buffer_core.specs.Window.{Sent, Window, opening}
 use Rattle.buffer_core.specs.Calls.{IsReply, receive_reply_to}
 use Rattle.buffer_core.specs.Histories.{IsLegal}
-use Rattle.buffer_core.specs.SlotLaws.{split}
+use Rattle.buffer_core.proofs.SlotLaws.{split}
 use Rattle.buffer_core.specs.Points.{News, Nothing, Attached, Detached, Requested, Cancelled, Taken, Gave, Drained, Life, news_of, reached, life_got, life_drained, life_after, life_at, request_after, request_at, sent, sent_after, count_at, IsWanted, past_after, past_of}
 use Rattle.buffer_core.specs.Delivered.{IsIn, IsRightGot}
 use Rattle.buffer_core.specs.Runs.{begun_at, ended_at, segment, events_between}

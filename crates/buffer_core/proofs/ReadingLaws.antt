@@ -21,7 +21,7 @@ use Rattle.buffer_core.specs.declared.entry.BufferEntry.TheVariants.{Attach, Req
 use Rattle.buffer_core.specs.Slots.{slot_at, some_slot}
 use Rattle.buffer_core.specs.Window.{Sent, Window, opening, no_clients, no_requests, slot_of_sent, accepted_of, covers, wants, holds_back, owes, any}
 use Rattle.buffer_core.specs.Calls.{IsReply, window_after, begin_reply_at, mark_reply, is_open, attach_reply, request_reply_to, joined, with_request, going_on, pushed, owed_in, or_later, full_reply, room_reply, send_reply, send_in_run_reply, is_running, gone_of, after_send, found_in, found_reply, receive_reply_to, event_after, with_gate}
-use Rattle.buffer_core.specs.SlotLaws.{split, slot_set_same, slot_set_other, slot_change_same, slot_change_other, slot_change_all, slot_free, first_slot_none, some_slot_true}
+use Rattle.buffer_core.proofs.SlotLaws.{split, slot_set_same, slot_set_other, slot_change_same, slot_change_other, slot_change_all, slot_free, first_slot_none, some_slot_true}
 use Rattle.buffer_core.proofs.WindowLaws.{IsSendable, spent_reply_is, to_drop_within, event_got}
 use Rattle.buffer_core.specs.ReadingLaws.{AsksAll, IsReader, IsDrained}
 

@@ -15,7 +15,7 @@ use Rattle.buffer_core.specs.declared.replies.Received.TheVariants.{Got, Empty, 
 use Rattle.buffer_core.specs.Slots.{free_slot}
 use Rattle.buffer_core.specs.Window.{Sent, Window, accepted_of}
 use Rattle.buffer_core.specs.Calls.{request_reply_to, found_reply, send_reply, id_reply, size_reply, spent_reply, room_reply, full_reply, owed_in, gone_of, is_running, mark_reply, begin_reply_at, send_in_run_reply}
-use Rattle.buffer_core.specs.SlotLaws.{split}
+use Rattle.buffer_core.proofs.SlotLaws.{split}
 use Rattle.buffer_core.proofs.WindowLaws.{room_reply_is}
 use Rattle.buffer_core.proofs.WindowKept.{IsTaken, sent_taken}
 

@@ -8,7 +8,7 @@ use Rattle.std.proofs.lemmas.List.{reverse-append}
 use Rattle.buffer_core.specs.Window.{Sent}
 use Rattle.buffer_core.specs.Delivered.{IsIn}
 use Rattle.buffer_core.specs.Readers.{places_of}
-use Rattle.buffer_core.specs.SlotLaws.{split}
+use Rattle.buffer_core.proofs.SlotLaws.{split}
 use Rattle.buffer_core.proofs.Following.{Falls}
 
 -- each place is below all that are behind it

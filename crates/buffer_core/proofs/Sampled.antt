@@ -10,7 +10,7 @@ use Rattle.buffer_core.specs.declared.entry.BufferEntry.{BufferEntry}
 use Rattle.buffer_core.specs.declared.entry.BufferEntry.TheVariants.{Attach, Request}
 use Rattle.buffer_core.specs.Window.{Sent, slot_of_sent, opening, no_clients, no_requests, any}
 use Rattle.buffer_core.specs.Histories.{IsLegal}
-use Rattle.buffer_core.specs.SlotLaws.{split}
+use Rattle.buffer_core.proofs.SlotLaws.{split}
 use Rattle.buffer_core.specs.Points.{Life, life_got, sent}
 use Rattle.buffer_core.specs.Delivered.{IsIn, HasWay, slots_of_places, DeliveryPart, InOrder, Complete, HeldBack, Bounded, MeetsPart, FailsAlone}
 use Rattle.buffer_core.specs.Runs.{KeepsRuns}

@@ -9,7 +9,7 @@ use Rattle.buffer_core.specs.declared.client.Request.{Request as EventRequest}
 use Rattle.buffer_core.specs.declared.replies.Received.TheVariants.{Got}
 use Rattle.buffer_core.specs.declared.entry.BufferEntry.TheVariants.{Send, Receive}
 use Rattle.buffer_core.specs.Window.{Sent, any}
-use Rattle.buffer_core.specs.SlotLaws.{split}
+use Rattle.buffer_core.proofs.SlotLaws.{split}
 use Rattle.buffer_core.specs.Points.{Life, life_drained, reached, IsDue}
 use Rattle.buffer_core.specs.Delivered.{IsIn, slots_of_places, DeliveryPart, InOrder, Complete, HeldBack, Bounded, MeetsPart, FailsAlone}
 use Rattle.buffer_core.specs.Samples.{sample_event, reached_back, got_with_other_start, got_of_cancelled, missed, got_too_much_together}

@@ -5,7 +5,7 @@ use Rattle.daq_types.specs.declared.runs.Kind.TheVariants.{NonBlocking}
 use Rattle.daq_model.specs.Events.{slot_of_length}
 use Rattle.buffer_core.specs.declared.client.Request.{Request as EventRequest}
 use Rattle.buffer_core.specs.Window.{Sent, any, is_all}
-use Rattle.buffer_core.specs.SlotLaws.{split}
+use Rattle.buffer_core.proofs.SlotLaws.{split}
 use Rattle.buffer_core.specs.Points.{Life}
 use Rattle.buffer_core.specs.Delivered.{slots_of_places, DeliveryPart, InOrder, Complete, HeldBack, Bounded, MeetsPart, FailsAlone}
 use Rattle.buffer_core.specs.Samples.{refused_for_optional, refused_at_second, refused_for_second, dropped}

@@ -7,7 +7,7 @@ use Rattle.daq_model.specs.Events.{slot_size, slot_of_length, is_reserved, event
 use Rattle.buffer_core.specs.declared.replies.SendRefusal.TheVariants.{BadSize, ReservedId, TooLarge, Spent}
 use Rattle.buffer_core.specs.declared.client.Client.{Client}
 use Rattle.buffer_core.specs.declared.replies.Received.TheVariants.{Got}
-use Rattle.buffer_core.specs.SlotLaws.{split}
+use Rattle.buffer_core.proofs.SlotLaws.{split}
 use Rattle.buffer_core.specs.Window.{Window, Sent, StandsAt, wants, kept_at}
 use Rattle.buffer_core.specs.Calls.{found_in, event_after, to_drop, send_reply, id_reply, size_reply, spent_reply, room_reply}
 

@@ -2,7 +2,6 @@ pub mod Slots
 pub mod Window
 pub mod Calls
 pub mod Histories
-pub mod SlotLaws
 pub mod ReadingLaws
 pub mod Points
 pub mod Delivered
@@ -11,4 +10,5 @@ pub mod Continued
 pub mod Readers
 pub mod Searches
 pub mod Ports
+pub mod CallersView
 pub mod Samples

@@ -7,14 +7,14 @@ use Rattle.std.proofs.lemmas.List.Elements.{Contains-append_left, Contains-appen
 use Rattle.daq_types.specs.Callers.{entries_by}
 use Rattle.buffer_core.specs.declared.entry.BufferEntry.{BufferEntry}
 use Rattle.buffer_core.specs.declared.entry.BufferEntry.TheVariants.{Attach, Detach}
-use Rattle.buffer_core.specs.SlotLaws.{split}
+use Rattle.buffer_core.proofs.SlotLaws.{split}
 use Rattle.buffer_core.specs.Window.{Window}
 use Rattle.buffer_core.specs.Calls.{window_after}
 use Rattle.buffer_core.specs.Histories.{replay}
 use Rattle.buffer_core.specs.Ports.{GotEvent, IsGivenAt}
 use Rattle.turn_lock.specs.History.{IsPartOf}
 use Rattle.turn_lock.proofs.LockLaws.{rest_none}
-use Rattle.local_port.specs.Ported.{given_by, given_in, detaches, is_taken_back, taken_back_of, taken_back_in}
+use Rattle.buffer_core.specs.CallersView.{given_by, given_in, detaches, is_taken_back, taken_back_of, taken_back_in}
 
 -- What the caller got.
 

@@ -6,7 +6,7 @@ use Rattle.daq_types.specs.declared.events.Event.{Event}
 use Rattle.daq_model.specs.Events.{slot_size, is_reserved, event_limit}
 use Rattle.buffer_core.specs.declared.replies.SendRefusal.{SendRefusal}
 use Rattle.buffer_core.specs.declared.replies.SendRefusal.TheVariants.{NotRunning, BadSize, ReservedId, TooLarge, Spent, Full}
-use Rattle.buffer_core.specs.SlotLaws.{split}
+use Rattle.buffer_core.proofs.SlotLaws.{split}
 use Rattle.buffer_core.specs.Window.{Window}
 use Rattle.buffer_core.specs.Calls.{full_reply, room_reply, spent_reply, size_reply, id_reply, send_reply, is_running, send_in_run_reply}
 use Rattle.buffer_core.specs.Ports.{IsSendFault, IsRunSendFault}

@@ -1,5 +1,5 @@
 -- Each call by a port to a shared buffer is one of the port's caller.
-use Rattle.std.specs.Prelude.{◌≡◌, ℕ, ◌-◌, ◌^◌, ◌≤◌, List, [], ◌∷◌, ◌++◌, min, Result, Ok, Err, IfOk, IfErr, refl}
+use Rattle.std.specs.Prelude.{◌≡◌, ℕ, ◌-◌, ◌^◌, ◌≤◌, List, [], ◌∷◌, ◌++◌, Contains, min, Result, Ok, Err, IfOk, IfErr, refl}
 use Rattle.std.proofs.Common.{ap, sym, subst, ◌∙◌, arith, ⊎_elim, inr, append-nil}
 use Rattle.daq_types.specs.declared.events.Event.{Event}
 use Rattle.daq_model.specs.Events.{event_limit}
@@ -15,11 +15,11 @@ use Rattle.buffer_core.specs.Calls.{IsReply, window_after, event_after}
 use Rattle.buffer_core.specs.Histories.{IsLegal, replay}
 use Rattle.buffer_core.proofs.HistoryLaws.{replay-push}
 use Rattle.buffer_core.specs.Ports.{Access, BufferIdentity, GotEvent, Called, Calls, Receives, IsNewNumber, knowing, IsGivenAt, got_after, slots_got, GivesSound, IsSmallBuf, IsSendFault, IsRunSendFault}
-use Rattle.local_port.specs.Ported.{AppendsCall, access_of, given_by, given_in}
-use Rattle.local_port.proofs.NumberLaws.{new_number}
-use Rattle.local_port.proofs.PortLaws.{calls, receives, gives_sound, gives_whole, gets_few, size_stays}
+use Rattle.buffer_core.specs.CallersView.{given_by, given_in, taken_back_in}
+use Rattle.buffer_core.proofs.TakenBack.{CallsNext, new_number}
+use Rattle.buffer_core.proofs.PortCalls.{calls, receives, gives, gives_whole, gets_few, size_stays}
 use Rattle.turn_lock.specs.History.{Appends}
-use Rattle.buffer_lock.specs.SharedPorts.{ported_by, access_to}
+use Rattle.buffer_lock.specs.SharedPorts.{endless, ported_by, access_to}
 use Rattle.buffer_lock.proofs.ForeignLaws.{given_stays, taken_back_stays, newly_taken}
 use Rattle.buffer_lock.proofs.SharedLaws.{event_still}
 use Rattle.buffer_lock.proofs.SendFaults.{send_fault, run_send_fault}
@@ -33,27 +33,21 @@ size_replay : (w : Window) (h : List (ℕ × BufferEntry)) → (replay w h).size
 size_replay w [] = refl
 size_replay w (x ∷ xs) = size_replay (window_after w x.1) xs ∙ size_stays w x.1
 
--- the port at the step itself, once its caller has seen all that came before
+-- the step itself, once its caller has seen all that came before
 at_step : (n : ℕ) (first : Window) (seen after : List (ℕ × BufferEntry)) (e : BufferEntry) → IsWindow first → (a : Appends n e seen after) → IsLegal first after
-    → AppendsCall (ported_by n first (seen ++ a.others)) (ported_by n first after) e
+    → CallsNext first n (seen ++ a.others) after e
 at_step n first seen after e opens a legal =
     let earlier : List (ℕ × BufferEntry) = seen ++ a.others in
     let parts : IsLegal first earlier × IsReply (replay first earlier) e = legal_parts first earlier n e (subst (IsLegal first) a.list legal) in
-    record {
-      from = record { opens = opens; legal = parts.0; replayed = refl };
-      reply = parts.1;
-      window = ap (replay first) a.list ∙ replay-push first earlier n e;
-      history = a.list;
-      start = refl;
-      caller = refl;
-      entries = omega arith;
-      bytes = omega arith;
-    }
+    record { opens = opens; legal = parts.0; reply = parts.1; history = a.list }
+
+abbrev alone : Window → BufferIdentity
+alone w = record { opened = w; ports = 1; numbers = [] }
 
 -- what came in between changes nothing for the caller, but that it may be known of more of its clients that they were
 -- taken back
 called_since : (n : ℕ) (first : Window) (seen others : List (ℕ × BufferEntry)) (b : Access) (e : BufferEntry) (got : List GotEvent) → entries_by n others ≡ []
-    → Called (access_of (ported_by n first (seen ++ others))) b e got → Called (access_of (ported_by n first seen)) b e got
+    → Called (ported_by n first (seen ++ others)) b e got → Called (ported_by n first seen) b e got
 called_since n first seen others b e got foreign call =
     let own : entries_by n (seen ++ others) ≡ entries_by n seen =
     entries_by-append n seen others ∙ (ap (λ (l : List BufferEntry). entries_by n seen ++ l) foreign ∙ append-nil (entries_by n seen)) in
@@ -88,7 +82,7 @@ told_of buffer a b e got call = record {
 module _ (n : ℕ) (first : Window) (seen after : List (ℕ × BufferEntry)) where
   -- the refusals of a send, and of one in a run
   pub shared_refused : (stated : ℕ) (e : Event) (reply : Result ℕ SendRefusal) → IsWindow first → Appends n (Send stated e reply) seen after → IsLegal first after
-      → IfErr reply (IsSendFault (access_of (ported_by n first seen)).size stated e)
+      → IfErr reply (IsSendFault (ported_by n first seen).size stated e)
   shared_refused stated e reply opens a legal =
       let step = at_step n first seen after (Send stated e reply) opens a legal in
       let earlier : List (ℕ × BufferEntry) = seen ++ a.others in
@@ -96,7 +90,7 @@ module _ (n : ℕ) (first : Window) (seen after : List (ℕ × BufferEntry)) whe
       subst (λ (s : ℕ). IfErr reply (IsSendFault s stated e)) size (send_fault (replay first earlier) stated e reply step.reply)
 
   pub shared_refused_in_run : (start stated : ℕ) (e : Event) (reply : Result ℕ SendRefusal) → IsWindow first → Appends n (SendInRun start stated e reply) seen after → IsLegal first after
-      → IfErr reply (IsRunSendFault (access_of (ported_by n first seen)).size stated e)
+      → IfErr reply (IsRunSendFault (ported_by n first seen).size stated e)
   shared_refused_in_run start stated e reply opens a legal =
       let step = at_step n first seen after (SendInRun start stated e reply) opens a legal in
       let earlier : List (ℕ × BufferEntry) = seen ++ a.others in
@@ -110,35 +104,35 @@ module _ (n n' : ℕ) (first : Window) (seen after : List (ℕ × BufferEntry)) 
   shared_calls buffer e none opens same a legal =
       let step = at_step n first seen after e opens a legal in
       let earlier : List (ℕ × BufferEntry) = seen ++ a.others in
-      let call = called_since n first seen a.others (access_of (ported_by n first after)) e (given_in n first earlier) a.foreign
-      (calls (ported_by n first earlier) (ported_by n first after) e (none (replay first earlier)) step) in
+      let call = called_since n first seen a.others (ported_by n first after) e (given_in n first earlier) a.foreign
+      (calls (alone first) n earlier after endless endless endless endless e step (omega arith) (omega arith) (none (replay first earlier))) in
       subst (λ (m : ℕ). Called (access_to buffer (ported_by n first seen)) (access_to buffer (ported_by m first after)) e (given_in n first seen)) (sym same)
-      (told_of buffer (access_of (ported_by n first seen)) (access_of (ported_by n first after)) e (given_in n first seen)
-      (subst (λ (gs : List GotEvent). Called (access_of (ported_by n first seen)) (access_of (ported_by n first after)) e gs) (given_stays n first seen a.others a.foreign) call))
+      (told_of buffer (ported_by n first seen) (ported_by n first after) e (given_in n first seen)
+      (subst (λ (gs : List GotEvent). Called (ported_by n first seen) (ported_by n first after) e gs) (given_stays n first seen a.others a.foreign) call))
 
   number_since : (name : List ℕ) (reply : Result ℕ NoSlot) (earlier : List (ℕ × BufferEntry)) → entries_by n earlier ≡ entries_by n seen
-      → IfOk reply (IsNewNumber (knowing (access_of (ported_by n first earlier)) (access_of (ported_by n first after))))
-      → IfOk reply (IsNewNumber (knowing (access_of (ported_by n first seen)) (access_of (ported_by n first after))))
+      → IfOk reply (λ client. (call : ℕ) → IsGivenAt (entries_by n earlier) call client → Contains (taken_back_in n 0 after) call)
+      → IfOk reply (IsNewNumber (knowing (ported_by n first seen) (ported_by n first after)))
   number_since name (Err r) earlier own is = tt
   number_since name (Ok client) earlier own is = λ call given. is call (subst (λ (l : List BufferEntry). IsGivenAt l call client) (sym own) given)
 
   -- an attach
   pub shared_number : (name : List ℕ) (reply : Result ℕ NoSlot) → IsWindow first → n' ≡ n → Appends n (Attach name reply) seen after → IsLegal first after
-      → IfOk reply (IsNewNumber (knowing (access_of (ported_by n first seen)) (access_of (ported_by n' first after))))
+      → IfOk reply (IsNewNumber (knowing (ported_by n first seen) (ported_by n' first after)))
   shared_number name reply opens same a legal =
       let step = at_step n first seen after (Attach name reply) opens a legal in
       let earlier : List (ℕ × BufferEntry) = seen ++ a.others in
       let own : entries_by n earlier ≡ entries_by n seen =
       entries_by-append n seen a.others ∙ (ap (λ (l : List BufferEntry). entries_by n seen ++ l) a.foreign ∙ append-nil (entries_by n seen)) in
-      subst (λ (m : ℕ). IfOk reply (IsNewNumber (knowing (access_of (ported_by n first seen)) (access_of (ported_by m first after))))) (sym same)
-      (number_since name reply earlier own (new_number (ported_by n first earlier) (ported_by n first after) name reply step))
+      subst (λ (m : ℕ). IfOk reply (IsNewNumber (knowing (ported_by n first seen) (ported_by m first after)))) (sym same)
+      (number_since name reply earlier own (new_number first n earlier after name reply step))
 
   -- a receive, after which the receiver holds the event that was kept at the place
   module _ (client room : ℕ) (reply : Received) (held held' : Event) (opens : IsWindow first) (same : n' ≡ n) (a : Appends n (Receive client room reply) seen after) (legal : IsLegal first after) (event : held' ≡ event_after held (replay first after) reply) where
     earlier : List (ℕ × BufferEntry)
     earlier = seen ++ a.others
 
-    step : AppendsCall (ported_by n first (seen ++ a.others)) (ported_by n first after) (Receive client room reply)
+    step : CallsNext first n (seen ++ a.others) after (Receive client room reply)
     step = at_step n first seen after (Receive client room reply) opens a legal
 
     event_then : held' ≡ event_after held (replay first (seen ++ a.others)) reply
@@ -147,20 +141,20 @@ module _ (n n' : ℕ) (first : Window) (seen after : List (ℕ × BufferEntry)) 
 
     pub shared_receives : (buffer : BufferIdentity) → Receives (access_to buffer (ported_by n first seen)) (access_to buffer (ported_by n' first after)) client room reply held'
     shared_receives buffer =
-        let call = called_since n first seen a.others (access_of (ported_by n first after)) (Receive client room reply) (got_after (given_in n first (seen ++ a.others)) client reply held') a.foreign
-        (receives (ported_by n first (seen ++ a.others)) (ported_by n first after) client room reply held held' step event_then) in
+        let call = called_since n first seen a.others (ported_by n first after) (Receive client room reply) (got_after (given_in n first (seen ++ a.others)) client reply held') a.foreign
+        (receives (alone first) n (seen ++ a.others) after endless endless endless endless client room reply step (omega arith) (omega arith) held held' event_then) in
         subst (λ (m : ℕ). Called (access_to buffer (ported_by n first seen)) (access_to buffer (ported_by m first after)) (Receive client room reply) (got_after (given_in n first seen) client reply held')) (sym same)
-        (told_of buffer (access_of (ported_by n first seen)) (access_of (ported_by n first after)) (Receive client room reply) (got_after (given_in n first seen) client reply held')
-        (subst (λ (gs : List GotEvent). Called (access_of (ported_by n first seen)) (access_of (ported_by n first after)) (Receive client room reply) (got_after gs client reply held')) (given_stays n first seen a.others a.foreign) call))
+        (told_of buffer (ported_by n first seen) (ported_by n first after) (Receive client room reply) (got_after (given_in n first seen) client reply held')
+        (subst (λ (gs : List GotEvent). Called (ported_by n first seen) (ported_by n first after) (Receive client room reply) (got_after gs client reply held')) (given_stays n first seen a.others a.foreign) call))
 
     pub shared_sound : GivesSound reply held'
-    shared_sound = gives_sound (ported_by n first (seen ++ a.others)) (ported_by n first after) client room reply held held' step event_then
+    shared_sound = (gives first n (seen ++ a.others) after client room reply step held held' event_then).sound
 
     pub shared_whole : min event_limit ((replay first seen).size - 24) ≤ room → ¬ (IsSmallBuf reply)
-    shared_whole enough = gives_whole (ported_by n first (seen ++ a.others)) (ported_by n first after) client room reply step
+    shared_whole enough = gives_whole first n (seen ++ a.others) after client room reply step
         (let size : (replay first (seen ++ a.others)).size ≡ (replay first seen).size = size_replay first (seen ++ a.others) ∙ sym (size_replay first seen) in
         subst (λ (s : ℕ). min event_limit (s - 24) ≤ room) (sym size) enough)
 
-    pub shared_few : (number : ℕ) → slots_got number (access_of (ported_by n' first after)).got ≤ 2 ^ 62
-    shared_few number = subst (λ (m : ℕ). slots_got number (access_of (ported_by m first after)).got ≤ 2 ^ 62) (sym same)
-        (gets_few (ported_by n first (seen ++ a.others)) (ported_by n first after) (Receive client room reply) step number)
+    pub shared_few : (number : ℕ) → slots_got number (ported_by n' first after).got ≤ 2 ^ 62
+    shared_few number = subst (λ (m : ℕ). slots_got number (ported_by m first after).got ≤ 2 ^ 62) (sym same)
+        (gets_few first n (seen ++ a.others) after (Receive client room reply) step number)

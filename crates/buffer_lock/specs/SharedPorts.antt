@@ -1,10 +1,9 @@
 -- What a port to a shared buffer tells its caller.
-use Rattle.std.specs.Prelude.{ℕ, ◌^◌, List}
+use Rattle.std.specs.Prelude.{ℕ, ◌^◌, List, []}
 use Rattle.buffer_core.specs.declared.entry.BufferEntry.{BufferEntry}
 use Rattle.buffer_core.specs.Window.{Window}
-use Rattle.buffer_core.specs.Histories.{replay}
 use Rattle.buffer_core.specs.Ports.{Access, BufferIdentity}
-use Rattle.local_port.specs.Ported.{Ported, access_of}
+use Rattle.buffer_core.specs.CallersView.{access_in}
 use Rattle.turn_lock.specs.declared.lock.Pass.{Pass}
 use Rattle.turn_lock.specs.Passes.{number_of, seen_by, passes_of, lock_numbers}
 use Rattle.buffer_lock.specs.declared.locked.Locked.{Locked}
@@ -16,13 +15,14 @@ use Rattle.buffer_lock.specs.SharedBuffers.{lock_of, first_buffer}
 abbrev pub endless : ℕ
 endless = 2 ^ 64
 
--- a port of this caller to a buffer whose window was that one at first, where the caller has seen this history
-abbrev pub ported_by : (caller : ℕ) → Window → List (ℕ × BufferEntry) → Ported
-ported_by caller first seen = record { start = first; window = replay first seen; history = seen; caller = caller; entries = endless; bytes = endless }
+-- what a port of this caller tells, whose buffer had that window at first, where the caller has seen this history: as if it
+-- were the buffer's one port
+abbrev pub ported_by : (caller : ℕ) → Window → List (ℕ × BufferEntry) → Access
+ported_by caller first seen = access_in (record { opened = first; ports = 1; numbers = [] }) caller seen endless endless
 
 -- what such a port tells, where it leads to this buffer
-abbrev pub access_to : BufferIdentity → Ported → Access
-access_to buffer p = record (access_of p) { buffer = buffer }
+abbrev pub access_to : BufferIdentity → Access → Access
+access_to buffer told = record told { buffer = buffer }
 
 -- which buffer a shared one is: the window that it had as it came to be shared, its passes, and the numbers of its lock
 abbrev pub identity_by : {B : Type 0} → (B → Window) → SharedBuffer B → BufferIdentity
@@ -47,5 +47,5 @@ module _ {B : Type 0} {g : _} where
   -- The caller is the pass's number, its own calls are the pass's own entries, and the events got are those that these
   -- gave, in the history that the pass has seen.
   abbrev pub access_by : (B → Window) → SharedPort B g → Access
-  access_by window port = access_to (identity_by window (buffer_of port))
-      (ported_by (caller_of port) (window (first_buffer (buffer_of port))) (history_by port))
+  access_by window port =
+      access_in (identity_by window (buffer_of port)) (caller_of port) (history_by port) endless endless

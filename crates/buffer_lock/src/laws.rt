@@ -3,7 +3,7 @@
 ghost use Rattle.std.specs.Prelude.{◌≡◌, ℕ};
 ghost use Rattle.buffer_core.specs.Window.{Window};
 ghost use Rattle.buffer_core.specs.Histories.{History};
-ghost use Rattle.local_port.specs.Ported.{given_in};
+ghost use Rattle.buffer_core.specs.CallersView.{given_in};
 ghost use Rattle.turn_lock.specs.History.{IsPartOf};
 
 /// The events that a caller got by its calls, as far as its pass has seen the history, are those that its calls gave in

@@ -64,7 +64,7 @@ impl<'a, B: EventBuffer> BufferPort for SharedPort<'a, B> {
     ghost access = { access_by B.window };
 
     ghost use Rattle.buffer_lock.specs.SharedPorts.{caller_of, buffer_of, history_by};
-    ghost use Rattle.local_port.specs.GotNames.{named_in};
+    ghost use Rattle.buffer_core.proofs.GotNames.{named_in};
 
     ghost named = { λ port. named_in (caller_of port)
         (B.window (first_buffer (buffer_of port))) (history_by port) };

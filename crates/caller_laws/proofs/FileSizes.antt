@@ -10,7 +10,7 @@ use Rattle.daq_types.specs.declared.events.Event.{Event}
 use Rattle.daq_model.specs.Events.{encoding, all_encoded, slot_size, slot_of_length, matches}
 use Rattle.daq_model.specs.RunFile.{begin_record, end_record, begun_file, run_file, IsFileEvent}
 use Rattle.daq_model.proofs.Events.{length-encoding}
-use Rattle.buffer_core.specs.SlotLaws.{split}
+use Rattle.buffer_core.proofs.SlotLaws.{split}
 use Rattle.buffer_core.specs.declared.entry.BufferEntry.{BufferEntry}
 use Rattle.buffer_core.specs.Window.{Sent}
 use Rattle.buffer_core.specs.Points.{Life, sent, life_at, past_of}

@@ -9,7 +9,7 @@ use Rattle.daq_types.specs.Callers.{entries_by}
 use Rattle.buffer_core.specs.declared.replies.Received.TheVariants.{Got, Empty, NoClient as NoReader, SmallBuf}
 use Rattle.buffer_core.specs.declared.entry.BufferEntry.{BufferEntry}
 use Rattle.buffer_core.specs.declared.entry.BufferEntry.TheVariants.{Attach, Detach, Request, Cancel, Send, SendInRun, Receive, Begin, Pause, Resume, End, Level, Accepted}
-use Rattle.buffer_core.specs.SlotLaws.{split}
+use Rattle.buffer_core.proofs.SlotLaws.{split}
 use Rattle.buffer_core.specs.Window.{Sent}
 use Rattle.buffer_core.specs.Points.{News, Nothing, Attached, Detached, Requested, Cancelled, Taken, Gave, Drained, news_of, Life, got_end, life_got, life_drained, life_after, life_at, sent, sent_after, count_at, past_after, past_of}
 use Rattle.buffer_core.specs.Delivered.{IsIn, IsInOrder, Throughout}

@@ -10,7 +10,7 @@ use Rattle.buffer_core.specs.declared.entry.BufferEntry.TheVariants.{Attach, Can
 use Rattle.buffer_core.specs.Window.{Window, opening}
 use Rattle.buffer_core.specs.Calls.{window_after}
 use Rattle.buffer_core.specs.Histories.{IsLegal}
-use Rattle.buffer_core.specs.SlotLaws.{split}
+use Rattle.buffer_core.proofs.SlotLaws.{split}
 use Rattle.buffer_core.specs.Points.{Life, life_at, request_at, past_after, past_of}
 use Rattle.buffer_core.specs.Delivered.{Throughout}
 use Rattle.member_model.specs.OwnCalls.{calls_after, AreOwnCalls, IsOwnCall}

@@ -6,14 +6,14 @@ use Rattle.daq_types.specs.declared.events.Event.{Event}
 use Rattle.buffer_core.specs.declared.replies.Received.TheVariants.{Got, Empty, NoClient as NoReader, SmallBuf}
 use Rattle.buffer_core.specs.declared.entry.BufferEntry.{BufferEntry}
 use Rattle.buffer_core.specs.declared.entry.BufferEntry.TheVariants.{Attach, Detach, Request, Cancel, Send, SendInRun, Receive, Begin, Pause, Resume, End, Level, Accepted}
-use Rattle.buffer_core.specs.SlotLaws.{split}
+use Rattle.buffer_core.proofs.SlotLaws.{split}
 use Rattle.buffer_core.specs.Window.{Window, Sent, opening}
 use Rattle.buffer_core.specs.Calls.{window_after}
 use Rattle.buffer_core.specs.Histories.{IsLegal, replay}
 use Rattle.buffer_core.proofs.HistoryLaws.{replay-push}
 use Rattle.buffer_core.specs.Points.{sent, past_of}
 use Rattle.buffer_core.specs.Continued.{sent_in, GivesSent}
-use Rattle.local_port.specs.Ported.{given_by, given_in, no_event}
+use Rattle.buffer_core.specs.CallersView.{given_by, given_in, no_event}
 use Rattle.caller_laws.specs.BufferLaws.{BufferLaws}
 use Rattle.caller_laws.specs.OneCaller.{WasSentAt}
 use Rattle.caller_laws.specs.CallerLaws.{PortTells}
@@ -66,9 +66,7 @@ given_from laws size by before (x ∷ xs) legal =
     later
 
 pub port_tells : BufferLaws → PortTells
-port_tells laws size port is opened =
-    let legal : IsLegal (opening size) port.history = subst (λ (w : Window). IsLegal w port.history) opened is.legal in
-    record {
-      own_is = refl;
-      sent_so = subst (λ (w : Window). AllByRecursion (WasSentAt port.history) (given_in port.caller w port.history)) (sym opened) (given_from laws size port.caller [] port.history legal);
-    }
+port_tells laws size buffer opens history legal caller entries bytes = record {
+  own_is = refl;
+  sent_so = subst (λ (w : Window). AllByRecursion (WasSentAt history) (given_in caller w history)) (sym opens) (given_from laws size caller [] history legal);
+}

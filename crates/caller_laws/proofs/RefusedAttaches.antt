@@ -13,7 +13,7 @@ use Rattle.buffer_core.specs.declared.replies.Received.TheVariants.{Got, Empty, 
 use Rattle.buffer_core.specs.declared.entry.BufferEntry.{BufferEntry}
 use Rattle.buffer_core.specs.declared.entry.BufferEntry.TheVariants.{Attach, Detach, Request, Cancel, Send, SendInRun, Receive, Begin, Pause, Resume, End, Level, Accepted}
 use Rattle.buffer_core.specs.Slots.{slot_at, free_slot, change_slot, change_all}
-use Rattle.buffer_core.specs.SlotLaws.{split}
+use Rattle.buffer_core.proofs.SlotLaws.{split}
 use Rattle.buffer_core.specs.Window.{Window, no_clients, opening}
 use Rattle.buffer_core.specs.Calls.{no_slot, attach_reply, window_after}
 use Rattle.buffer_core.specs.Histories.{IsLegal, replay}

@@ -15,7 +15,7 @@ use Rattle.buffer_core.specs.declared.replies.Received.TheVariants.{Got, Empty, 
 use Rattle.buffer_core.specs.declared.entry.BufferEntry.{BufferEntry}
 use Rattle.buffer_core.specs.declared.entry.BufferEntry.TheVariants.{Attach, Detach, Request, Cancel, Send, SendInRun, Receive, Begin, Pause, Resume, End, Level, Accepted}
 use Rattle.buffer_core.specs.Slots.{slot_at, free_slot, change_slot, change_all}
-use Rattle.buffer_core.specs.SlotLaws.{slot_set_same, slot_set_other, slot_change_same, slot_change_other, slot_change_all, slot_free}
+use Rattle.buffer_core.proofs.SlotLaws.{slot_set_same, slot_set_other, slot_change_same, slot_change_other, slot_change_all, slot_free}
 use Rattle.buffer_core.specs.Window.{Window, no_requests, opening, accepted_of}
 use Rattle.buffer_core.specs.Calls.{no_slot, joined, with_request, going_on, pushed, gone_of, request_reply_to, cancel_reply_to, cancel_reply_of, IsReply, window_after}
 use Rattle.buffer_core.specs.Histories.{IsLegal, replay}

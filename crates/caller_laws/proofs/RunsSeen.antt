@@ -1,6 +1,7 @@
 -- The events of a run that a client saw by their start number.
 use Rattle.std.specs.Prelude.{◌≡◌, ◌≢◌, ℕ, zero, suc, ◌<◌, ◌≤◌, ◌==◌, ◌&&◌, ◌||◌, nat_lt, Bool, true, false, if◌then◌else◌, List, [], ◌∷◌, ◌++◌, length, map, take, drop, slice_get, Option, Some, None, Ok, refl}
 use Rattle.std.specs.List.{AllByRecursion, filter, enumerate_from, list_any}
+use Rattle.std.proofs.Math.Bool.{or-true}
 use Rattle.std.proofs.Common.{ap, sym, ◌∙◌, subst, arith, inl, inr, append_assoc, eq-eqb, le-leb}
 use Rattle.std.proofs.lemmas.Bool.{eqb-true, eqb-false, lt-ltb, ltb-true, ltb-false}
 use Rattle.std.proofs.lemmas.List.{length-take}
@@ -13,7 +14,7 @@ use Rattle.daq_model.specs.Events.{matches}
 use Rattle.buffer_core.specs.declared.replies.Received.TheVariants.{Empty}
 use Rattle.buffer_core.specs.declared.entry.BufferEntry.{BufferEntry}
 use Rattle.buffer_core.specs.declared.entry.BufferEntry.TheVariants.{Request, Receive, End}
-use Rattle.buffer_core.specs.SlotLaws.{split, or_true}
+use Rattle.buffer_core.proofs.SlotLaws.{split}
 use Rattle.buffer_core.specs.Window.{Sent, opening}
 use Rattle.buffer_core.specs.Histories.{IsLegal}
 use Rattle.buffer_core.specs.Points.{sent, count_at, past_of}
@@ -74,7 +75,7 @@ any_at [] i p x is = absurd (cc (is))
 any_at (e ∷ es) zero p x is =
     let same : e ≡ (p, x) = cc (is) in
     ap (λ (b : Bool). b || list_any (λ (f : ℕ × Sent). f.0 == p) es) (eq-eqb e.0 p (ap (λ (f : ℕ × Sent). f.0) same))
-any_at (e ∷ es) (suc i) p x is = ap (λ (b : Bool). (e.0 == p) || b) (any_at es i p x is) ∙ or_true (e.0 == p)
+any_at (e ∷ es) (suc i) p x is = ap (λ (b : Bool). (e.0 == p) || b) (any_at es i p x is) ∙ or-true (e.0 == p)
 
 any_found : (es : List (ℕ × Sent)) (p : ℕ) → list_any (λ (e : ℕ × Sent). e.0 == p) es ≡ true → (i : ℕ) × (x : Sent) × (slice_get es i ≡ Some (p, x))
 any_found [] p is = absurd (cc (is))

@@ -9,7 +9,7 @@ use Rattle.daq_types.specs.declared.events.Event.{Event}
 use Rattle.daq_types.specs.declared.runs.Kind.TheVariants.{All}
 use Rattle.buffer_core.specs.declared.entry.BufferEntry.{BufferEntry}
 use Rattle.buffer_core.specs.declared.entry.BufferEntry.TheVariants.{Request}
-use Rattle.buffer_core.specs.SlotLaws.{split}
+use Rattle.buffer_core.proofs.SlotLaws.{split}
 use Rattle.buffer_core.specs.Window.{Sent, opening}
 use Rattle.buffer_core.specs.Histories.{IsLegal}
 use Rattle.buffer_core.specs.Points.{sent, count_at, past_of}

@@ -13,8 +13,8 @@ use Rattle.buffer_core.specs.Window.{Sent, opening}
 use Rattle.buffer_core.specs.Histories.{History, IsLegal}
 use Rattle.buffer_core.specs.Runs.{segment}
 use Rattle.buffer_core.specs.Readers.{among, places_got, places_of, wanted}
-use Rattle.buffer_core.specs.Ports.{GotEvent}
-use Rattle.local_port.specs.Ported.{Ported, IsPorted, access_of}
+use Rattle.buffer_core.specs.Ports.{Access, BufferIdentity, GotEvent}
+use Rattle.buffer_core.specs.CallersView.{access_in}
 use Rattle.member_model.specs.SentCalls.{own_sent, IsSendInRun, EachCall}
 use Rattle.member_model.specs.OwnCalls.{calls_after, IsOwnCall, AreOwnCalls, SendsNone, AreGivenBy}
 use Rattle.member_model.specs.ReadRuns.{HasReadRun}
@@ -144,10 +144,12 @@ OwnGoOn = (own : List BufferEntry) → (entry : BufferEntry) →
     AreOwnCalls (calls_after [] own) → IsOwnCall entry (calls_after [] own) →
     AreOwnCalls (calls_after [] (own ++ entry ∷ []))
 
--- What a port that had the buffer from its opening tells its caller is the caller's part of the buffer's history.
+-- What a port tells its caller of the calls since the buffer's opening is the caller's part of them.
 abbrev pub PortTells : Type 0
-PortTells = (size : ℕ) → (port : Ported) → IsPorted port → port.start ≡ opening size →
-    IsCallersPart port.history port.caller (access_of port).own (access_of port).got
+PortTells = (size : ℕ) → (buffer : BufferIdentity) → buffer.opened ≡ opening size →
+    (history : History) → IsLegal (opening size) history → (caller entries bytes : ℕ) →
+    (let told : Access = access_in buffer caller history entries bytes in
+    IsCallersPart history caller told.own told.got)
 
 -- Who only sends in runs names no client of another, and sends no event but in runs.
 abbrev pub SenderHasOwn : Type 0

@@ -5,7 +5,7 @@ use Rattle.std.specs.List.{position_from}
 use Rattle.std.proofs.Common.{ap, sym, ◌∙◌, arith}
 use Rattle.std.proofs.lemmas.Iterator.Adapters.{position_from-zero}
 use Rattle.buffer_core.specs.Slots.{slot_at, first_slot, passes, change_all}
-use Rattle.buffer_core.specs.SlotLaws.{slot_free, slot_change_all}
+use Rattle.buffer_core.proofs.SlotLaws.{slot_free, slot_change_all}
 use Rattle.client_pointers.specs.declared.pointer.Pointer.{Pointer}
 use Rattle.client_pointers.specs.Pointers.{AreFreeFrom}
 

@@ -7,7 +7,7 @@ use Rattle.daq_types.specs.Callers.{entries_by}
 use Rattle.daq_types.specs.declared.runs.Kind.TheVariants.{All}
 use Rattle.daq_types.specs.declared.runs.Transition.TheVariants.{Start, Stop}
 use Rattle.daq_model.specs.Events.{matches, slot_of_length}
-use Rattle.buffer_core.specs.SlotLaws.{split}
+use Rattle.buffer_core.proofs.SlotLaws.{split}
 use Rattle.buffer_core.specs.declared.gate.RunGate.TheVariants.{Shut}
 use Rattle.buffer_core.specs.declared.replies.Received.TheVariants.{Got, Empty}
 use Rattle.buffer_core.specs.declared.entry.BufferEntry.{BufferEntry}

@@ -17,7 +17,7 @@ use Rattle.buffer_core.specs.declared.entry.BufferEntry.TheVariants.{Begin as Bu
 use Rattle.daq_model.specs.Events.{header_bytes, matches}
 use Rattle.daq_model.specs.RunFile.{run_file, IsFileEvent}
 use Rattle.daq_io.specs.Seen.{Stored, stored_closed}
-use Rattle.buffer_core.specs.SlotLaws.{split}
+use Rattle.buffer_core.proofs.SlotLaws.{split}
 use Rattle.buffer_core.specs.Window.{opening}
 use Rattle.buffer_core.specs.Histories.{IsLegal}
 use Rattle.buffer_core.specs.Samples.{sample_event, longer_event}

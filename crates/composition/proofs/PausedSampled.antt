@@ -18,7 +18,7 @@ use Rattle.daq_types.specs.declared.runs.Transition.TheVariants.{Start, Stop, Pa
 use Rattle.daq_types.specs.declared.runs.Why.TheVariants.{NotReady}
 use Rattle.daq_model.specs.Events.{matches, slot_of_length, record_limit}
 use Rattle.daq_model.specs.RunFile.{IsFileEvent}
-use Rattle.buffer_core.specs.SlotLaws.{split}
+use Rattle.buffer_core.proofs.SlotLaws.{split}
 use Rattle.buffer_core.specs.declared.gate.RunGate.TheVariants.{Shut}
 use Rattle.buffer_core.specs.declared.replies.Received.TheVariants.{Got, Empty}
 use Rattle.buffer_core.specs.declared.entry.BufferEntry.{BufferEntry}

@@ -5,7 +5,7 @@ use Rattle.std.proofs.Common.{ap, sym, ◌∙◌, subst, append_assoc, eq-eqb}
 use Rattle.daq_types.specs.Callers.{caller_of_client, entries_by}
 use Rattle.daq_types.proofs.CallersLaws.{entries_by-append, entries_by-own}
 use Rattle.daq_types.specs.declared.runs.Kind.TheVariants.{All}
-use Rattle.buffer_core.specs.SlotLaws.{split}
+use Rattle.buffer_core.proofs.SlotLaws.{split}
 use Rattle.buffer_core.specs.declared.replies.Received.{Received}
 use Rattle.buffer_core.specs.declared.replies.Received.TheVariants.{Empty}
 use Rattle.buffer_core.specs.declared.replies.RequestRefusal.{RequestRefusal}

@@ -5,7 +5,7 @@ use Rattle.std.specs.List.{AllByRecursion, filter}
 use Rattle.std.proofs.lemmas.Bool.{ltb-true, ltb-false}
 use Rattle.std.proofs.lemmas.Bool.Decides.{eqb_tells}
 use Rattle.std.proofs.Math.Logic.{⊎_elim}
-use Rattle.buffer_core.specs.SlotLaws.{split}
+use Rattle.buffer_core.proofs.SlotLaws.{split}
 use Rattle.daq_types.specs.Callers.{entries_by, main_caller}
 use Rattle.frontend_kit.specs.declared.generator.Generator.{Generator}
 use Rattle.odb_watch.specs.declared.entry.WatchEntry.{WatchEntry}

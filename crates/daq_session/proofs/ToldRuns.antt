@@ -21,7 +21,7 @@ use Rattle.buffer_core.specs.Histories.{History}
 use Rattle.buffer_core.specs.Readers.{wanted}
 use Rattle.buffer_core.specs.Runs.{segment}
 use Rattle.buffer_core.specs.Slots.{slot_at}
-use Rattle.local_port.specs.Ported.{given_in}
+use Rattle.buffer_core.specs.CallersView.{given_in}
 use Rattle.caller_laws.specs.CallerLaws.{IsSendOf, SendIsAmong}
 use Rattle.caller_laws.specs.OneCaller.{events_in}
 use Rattle.caller_laws.specs.SentRuns.{events_at_places, places_sent}

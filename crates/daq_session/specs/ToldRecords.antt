@@ -16,7 +16,7 @@ use Rattle.buffer_core.specs.Histories.{IsLegal}
 use Rattle.buffer_core.specs.Delivered.{Delivers}
 use Rattle.buffer_core.specs.Readers.{wanted}
 use Rattle.buffer_core.specs.Runs.{KeepsRuns, segment}
-use Rattle.local_port.specs.Ported.{given_in}
+use Rattle.buffer_core.specs.CallersView.{given_in}
 use Rattle.caller_laws.specs.OneCaller.{events_in}
 use Rattle.caller_laws.specs.SentRuns.{events_at_places, places_sent}
 use Rattle.transitions.specs.declared.entry.EngineEntry.TheVariants.{Close}

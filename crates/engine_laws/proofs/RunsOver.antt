@@ -12,7 +12,7 @@ use Rattle.daq_types.specs.declared.runs.Transition.TheVariants.{Start, Stop, Pa
 use Rattle.daq_types.specs.declared.runs.Why.{Why}
 use Rattle.run_states.specs.Sequences.{sequence_for}
 use Rattle.run_states.specs.States.{is_allowed}
-use Rattle.buffer_core.specs.SlotLaws.{split}
+use Rattle.buffer_core.proofs.SlotLaws.{split}
 use Rattle.transitions.specs.declared.client.Registered.{Registered}
 use Rattle.transitions.specs.declared.called.Called.{Called}
 use Rattle.transitions.specs.declared.answers.Answer.{Answer as ClientAnswer}

@@ -1,4 +1,2 @@
 pub mod JournalLaws
-pub mod GotLaws
-pub mod NumberLaws
 pub mod PortLaws

@@ -1,4 +1,3 @@
 pub mod Journals
 pub mod JournalViews
 pub mod Ported
-pub mod GotNames

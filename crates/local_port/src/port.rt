@@ -11,7 +11,7 @@ impl<B: EventBuffer> BufferPort for LocalPort<B> {
 
     ghost access = { access_of };
 
-    ghost use Rattle.local_port.specs.GotNames.{named_in};
+    ghost use Rattle.buffer_core.proofs.GotNames.{named_in};
 
     ghost named = { λ port. named_in port.caller port.start port.history };
 

@@ -10,7 +10,7 @@ use Rattle.buffer_core.specs.declared.entry.BufferEntry.TheVariants.{Begin, End}
 use Rattle.buffer_core.specs.declared.replies.MarkRefusal.{MarkRefusal}
 use Rattle.buffer_core.specs.Ports.{Access, GotEvent, Called}
 use Rattle.buffer_core.specs.Slots.{slot_at}
-use Rattle.buffer_core.specs.SlotLaws.{split, slot_within}
+use Rattle.buffer_core.proofs.SlotLaws.{split, slot_within}
 use Rattle.member_model.specs.Turns.{MemberTurn}
 use Rattle.member_model.specs.SentCalls.{EachCall}
 use Rattle.member_model.specs.EndedRuns.{MakesNoMark}

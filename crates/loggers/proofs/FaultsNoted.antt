@@ -10,7 +10,7 @@ use Rattle.daq_types.specs.declared.runs.Why.{Why}
 use Rattle.daq_io.specs.Counts.{Rose}
 use Rattle.buffer_core.specs.declared.entry.BufferEntry.{BufferEntry}
 use Rattle.buffer_core.specs.Slots.{slot_at, passes, some_slot}
-use Rattle.buffer_core.specs.SlotLaws.{some_slot_true}
+use Rattle.buffer_core.proofs.SlotLaws.{some_slot_true}
 use Rattle.mid_logger.specs.declared.channel.Channel.{Channel}
 use Rattle.mid_logger.specs.declared.pulled.Pulled.{Pulled}
 use Rattle.mid_logger.specs.declared.pulled.Pulled.TheVariants.{NoChannel, Nothing, Dropped, Wrote, Broke}

@@ -11,7 +11,7 @@ use Rattle.daq_types.specs.declared.runs.Why.TheVariants.{NotReady, Exists, Faul
 use Rattle.daq_io.specs.Counts.{Rose}
 use Rattle.daq_io.specs.Seen.{Seen, Stored, Touches}
 use Rattle.buffer_core.specs.Slots.{slot_at}
-use Rattle.buffer_core.specs.SlotLaws.{slot_set_other}
+use Rattle.buffer_core.proofs.SlotLaws.{slot_set_other}
 use Rattle.mid_logger.specs.declared.channel.Channel.{Channel}
 use Rattle.mid_logger.specs.declared.channel_spec.ChannelSpec.{ChannelSpec}
 use Rattle.mid_logger.specs.declared.pulled.Pulled.{Pulled}

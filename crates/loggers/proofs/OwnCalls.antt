@@ -13,7 +13,7 @@ use Rattle.buffer_core.specs.declared.replies.Received.{Received}
 use Rattle.buffer_core.specs.declared.replies.Received.TheVariants.{Got, Empty, NoClient, SmallBuf}
 use Rattle.buffer_core.specs.Points.{News, Nothing as NoNews, Attached, Detached, Requested, Cancelled, Taken, Gave, Drained as FoundNone, news_of}
 use Rattle.buffer_core.specs.Ports.{Access, GotEvent, Called, Calls}
-use Rattle.buffer_core.specs.SlotLaws.{split}
+use Rattle.buffer_core.proofs.SlotLaws.{split}
 use Rattle.member_model.specs.SentCalls.{EachCall}
 use Rattle.member_model.specs.OwnCalls.{calls_after, gives_after, gave_number, IsOwnCall, AreOwnCalls, SendsNone}
 use Rattle.mid_logger.specs.declared.channel_spec.ChannelSpec.{ChannelSpec}

@@ -7,7 +7,7 @@ use Rattle.std.proofs.lemmas.List.{length-set}
 use Rattle.std.proofs.lemmas.List.Edits.{map_over_more}
 use Rattle.std.proofs.lemmas.Option.{slice_get_within, slice_get-get_or, get_or_from_slice_get}
 use Rattle.buffer_core.specs.Slots.{slot_at, change_slot}
-use Rattle.buffer_core.specs.SlotLaws.{split, slot_set_same, slot_set_other, slot_within}
+use Rattle.buffer_core.proofs.SlotLaws.{split, slot_set_same, slot_set_other, slot_within}
 
 -- a number is this one or another
 pub same_or_other : (m n : ℕ) → (m ≡ n) ⊎ (m ≢ n)

@@ -14,7 +14,7 @@ use Rattle.buffer_core.specs.declared.replies.Received.{Received}
 use Rattle.buffer_core.specs.declared.replies.Received.TheVariants.{Got, Empty, NoClient, SmallBuf}
 use Rattle.buffer_core.specs.Ports.{Access, Calls}
 use Rattle.buffer_core.specs.Slots.{slot_at}
-use Rattle.buffer_core.specs.SlotLaws.{split, slot_set_other}
+use Rattle.buffer_core.proofs.SlotLaws.{split, slot_set_other}
 use Rattle.mid_logger.specs.declared.channel.Channel.{Channel}
 use Rattle.mid_logger.specs.declared.channel_spec.ChannelSpec.{ChannelSpec}
 use Rattle.mid_logger.specs.declared.pulled.Pulled.{Pulled}

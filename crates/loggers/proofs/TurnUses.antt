@@ -11,7 +11,7 @@ use Rattle.daq_types.specs.declared.runs.Why.{Why}
 use Rattle.buffer_core.specs.declared.entry.BufferEntry.{BufferEntry}
 use Rattle.buffer_core.specs.Ports.{Access}
 use Rattle.buffer_core.specs.Slots.{slot_at}
-use Rattle.buffer_core.specs.SlotLaws.{split, slot_within}
+use Rattle.buffer_core.proofs.SlotLaws.{split, slot_within}
 use Rattle.mid_logger.specs.declared.channel.Channel.{Channel}
 use Rattle.mid_logger.specs.declared.stage.ChannelStage.{ChannelStage}
 use Rattle.mid_logger.specs.Channels.{stage_begun, stage_ended, place_marked}

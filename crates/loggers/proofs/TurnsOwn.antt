@@ -10,7 +10,7 @@ use Rattle.daq_types.specs.declared.runs.Why.{Why}
 use Rattle.buffer_core.specs.declared.entry.BufferEntry.{BufferEntry}
 use Rattle.buffer_core.specs.Ports.{Access}
 use Rattle.buffer_core.specs.Slots.{slot_at}
-use Rattle.buffer_core.specs.SlotLaws.{slot_change_all}
+use Rattle.buffer_core.proofs.SlotLaws.{slot_change_all}
 use Rattle.member_model.specs.OwnCalls.{IsOwnCall, SendsNone}
 use Rattle.mid_logger.specs.declared.channel.Channel.{Channel}
 use Rattle.mid_logger.specs.declared.channel_spec.ChannelSpec.{ChannelSpec}

@@ -13,7 +13,7 @@ use Rattle.buffer_core.specs.declared.client.Client.{Client}
 use Rattle.buffer_core.specs.declared.replies.NoClient.{NoClient}
 use Rattle.buffer_core.specs.declared.replies.Received.TheVariants.{Got, Empty, SmallBuf}
 use Rattle.buffer_core.specs.Slots.{slot_at, some_slot, change_slot}
-use Rattle.buffer_core.specs.SlotLaws.{split, slot_set_same, slot_set_other, slot_within}
+use Rattle.buffer_core.proofs.SlotLaws.{split, slot_set_same, slot_set_other, slot_within}
 use Rattle.buffer_core.specs.Window.{Sent, Window, slot_of_sent, level_of, covers, IsWindow}
 use Rattle.buffer_core.specs.Calls.{detach_reply_to, found_in, found_reply, receive_reply_to, going_on, with_clients}
 use Rattle.client_pointers.specs.declared.pointer.Pointer.{Pointer}

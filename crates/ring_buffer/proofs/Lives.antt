@@ -15,7 +15,7 @@ use Rattle.buffer_core.specs.declared.replies.Received.TheVariants.{Got, Empty, 
 use Rattle.buffer_core.specs.declared.entry.BufferEntry.{BufferEntry}
 use Rattle.buffer_core.specs.declared.entry.BufferEntry.TheVariants.{Attach, Detach, Request, Cancel, Send, SendInRun, Receive, Begin, Pause, Resume, End, Level, Accepted}
 use Rattle.buffer_core.specs.Slots.{slot_at, free_slot, some_slot, change_slot}
-use Rattle.buffer_core.specs.SlotLaws.{split, slot_set_same, slot_set_other, slot_change_same, slot_change_other, slot_change_all}
+use Rattle.buffer_core.proofs.SlotLaws.{split, slot_set_same, slot_set_other, slot_change_same, slot_change_other, slot_change_all}
 use Rattle.buffer_core.specs.Window.{Sent, Window, opening, slot_of_sent, accepted_of, covers, wants, IsWindow}
 use Rattle.buffer_core.specs.Calls.{IsReply, window_after, no_slot, joined, with_request, going_on, pushed, gone_of, after_send, found_in, found_reply, receive_reply_to}
 use Rattle.buffer_core.proofs.WindowLaws.{to_drop_within}

@@ -3,7 +3,7 @@ use Rattle.std.specs.Prelude.{◌≡◌, ℕ, ◌≤◌, List, length, Option, S
 use Rattle.std.proofs.Common.{sym, subst, arith}
 use Rattle.buffer_core.specs.declared.gate.RunGate.TheVariants.{Shut}
 use Rattle.buffer_core.specs.Slots.{slot_at}
-use Rattle.buffer_core.specs.SlotLaws.{slot_free}
+use Rattle.buffer_core.proofs.SlotLaws.{slot_free}
 use Rattle.buffer_core.specs.Window.{opening, no_clients, IsWindow}
 use Rattle.buffer_core.proofs.WindowKept.{window_opens}
 use Rattle.client_pointers.specs.declared.pointer.Pointer.{Pointer}

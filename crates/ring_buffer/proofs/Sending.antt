@@ -14,7 +14,7 @@ use Rattle.ring_bytes.specs.Rings.{bytes_at, KeepsOtherOffsets}
 use Rattle.ring_bytes.proofs.RingLaws.{bytes_at-turn}
 use Rattle.buffer_core.specs.declared.client.Client.{Client}
 use Rattle.buffer_core.specs.Slots.{slot_at, change_all}
-use Rattle.buffer_core.specs.SlotLaws.{split, slot_change_all}
+use Rattle.buffer_core.proofs.SlotLaws.{split, slot_change_all}
 use Rattle.buffer_core.specs.Window.{Sent, Window, slot_of_sent, level_of, accepted_of, IsWindow}
 use Rattle.buffer_core.proofs.WindowLaws.{slot_cover, to_drop_within, to_drop_fits}
 use Rattle.buffer_core.specs.Calls.{pushed, going_on, gone_of, after_send}

@@ -6,7 +6,7 @@ use Rattle.std.proofs.lemmas.Bool.{ltb-true, ltb-false}
 use Rattle.std.proofs.lemmas.Bool.Decides.{eqb_tells}
 use Rattle.std.proofs.lemmas.List.{length-map}
 use Rattle.std.proofs.lemmas.Option.{slice_get-map, slice_get_within, slice_get_past}
-use Rattle.buffer_core.specs.SlotLaws.{split}
+use Rattle.buffer_core.proofs.SlotLaws.{split}
 use Rattle.odb_lock.specs.SharedOdbs.{odb_lock_of, first_database}
 use Rattle.daq_types.specs.Callers.{entries_by, main_caller, caller_of_client}
 use Rattle.daq_io.specs.Seen.{Seen}
@@ -14,7 +14,7 @@ use Rattle.buffer_core.specs.declared.entry.BufferEntry.{BufferEntry}
 use Rattle.buffer_core.specs.Window.{opening}
 use Rattle.buffer_core.specs.Histories.{History, IsLegal}
 use Rattle.buffer_core.specs.Ports.{Access, GotEvent}
-use Rattle.local_port.specs.Ported.{given_in}
+use Rattle.buffer_core.specs.CallersView.{given_in}
 use Rattle.buffer_lock.specs.SharedPorts.{ported_by, access_to}
 use Rattle.turn_lock.specs.Passes.{passes_of}
 use Rattle.turn_lock.specs.Closing.{history_of}

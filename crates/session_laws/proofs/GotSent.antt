@@ -1,22 +1,16 @@
 -- What a caller's calls on a buffer gave are events that were sent there.
-use Rattle.std.specs.Prelude.{◌≡◌, ℕ, Option, Some, None, slice_get, refl}
+use Rattle.std.specs.Prelude.{◌≡◌, ℕ, [], Option, Some, None, slice_get, refl}
 use Rattle.std.specs.List.{AllByRecursion}
 use Rattle.buffer_core.specs.Window.{opening}
-use Rattle.buffer_core.specs.Histories.{History, IsLegal, replay}
-use Rattle.buffer_core.proofs.WindowKept.{window_opens}
-use Rattle.local_port.specs.Ported.{Ported, given_in}
+use Rattle.buffer_core.specs.Histories.{History, IsLegal}
+use Rattle.buffer_core.specs.CallersView.{given_in}
 use Rattle.caller_laws.specs.OneCaller.{WasSentAt}
 use Rattle.caller_laws.specs.CallerLaws.{PortTells}
 use Rattle.session_laws.specs.ClosedSessions.{ClosedBuffer, ClosedSession, size_in, history_in, size_of_buffer, history_of_buffer}
 use Rattle.session_laws.specs.MembersAtEnd.{MembersAtEnd}
 
--- a port that this caller had from the opening on
-port_of : (size by : ℕ) → History → Ported
-port_of size by h = record { start = opening size; window = replay (opening size) h; history = h; caller = by; entries = 0; bytes = 0 }
-
 pub got_sent : PortTells → (size by : ℕ) (h : History) → IsLegal (opening size) h → AllByRecursion (WasSentAt h) (given_in by (opening size) h)
-unfolding port_of
-got_sent tells size by h legal = (tells size (port_of size by h) (record { opens = window_opens size; legal = legal; replayed = refl }) refl).sent_so
+got_sent tells size by h legal = (tells size (record { opened = opening size; ports = 1; numbers = [] }) refl h legal by 0 0).sent_so
 
 legal_in : (o : Option ClosedBuffer) → ((b : ClosedBuffer) → o ≡ Some b → IsLegal (opening b.size) b.history) → IsLegal (opening (size_in o)) (history_in o)
 legal_in None legal = tt

@@ -14,7 +14,7 @@ use Rattle.session_engine.specs.declared.opening.MemberName.{MemberName}
 use Rattle.session_engine.specs.Members.{registrations}
 use Rattle.loggers.specs.LoggerStands.{StandingLoggerKeeps}
 use Rattle.buffer_core.specs.Window.{opening}
-use Rattle.local_port.specs.GotNames.{named_in}
+use Rattle.buffer_core.proofs.GotNames.{named_in}
 use Rattle.member_model.specs.TurnCalls.{member_turns}
 use Rattle.analyzers.specs.declared.analyzer_run.EventRequest.{EventRequest}
 use Rattle.analyzers.specs.AnalyzerKept.{KeepsAnalyzer}

@@ -9,7 +9,7 @@ use Rattle.buffer_core.specs.declared.entry.BufferEntry.TheVariants.{Attach, Det
 use Rattle.buffer_core.specs.Window.{Window, opening}
 use Rattle.buffer_core.specs.Histories.{History}
 use Rattle.buffer_core.specs.Ports.{Access, GotEvent}
-use Rattle.local_port.specs.Ported.{detaches, given_in}
+use Rattle.buffer_core.specs.CallersView.{detaches, given_in}
 use Rattle.turn_lock.specs.History.{IsPartOf}
 use Rattle.member_model.specs.SentCalls.{IsSendInRun, EachCall}
 use Rattle.member_model.specs.TurnCalls.{member_turns}

@@ -7,8 +7,8 @@ use Rattle.std.proofs.lemmas.Bool.Decides.{eqb_tells}
 use Rattle.buffer_core.specs.declared.entry.BufferEntry.{BufferEntry}
 use Rattle.buffer_core.specs.declared.entry.BufferEntry.TheVariants.{Attach, Detach, Request, Cancel, Send, SendInRun, Receive, Begin, Pause, Resume, End, Level, Accepted}
 use Rattle.buffer_core.specs.Histories.{History}
-use Rattle.buffer_core.specs.SlotLaws.{split}
-use Rattle.local_port.specs.Ported.{detaches, is_taken_back, taken_back_of, taken_back_in}
+use Rattle.buffer_core.proofs.SlotLaws.{split}
+use Rattle.buffer_core.specs.CallersView.{detaches, is_taken_back, taken_back_of, taken_back_in}
 
 -- each call of another caller than this one detaches no client
 abbrev pub OthersKeep : (by : ℕ) → History → Type 0

@@ -8,7 +8,7 @@ use Rattle.buffer_core.specs.declared.entry.BufferEntry.{BufferEntry}
 use Rattle.buffer_core.specs.Window.{opening}
 use Rattle.buffer_core.specs.Histories.{History}
 use Rattle.buffer_core.specs.Ports.{GotEvent}
-use Rattle.local_port.specs.Ported.{given_in}
+use Rattle.buffer_core.specs.CallersView.{given_in}
 use Rattle.transitions.specs.declared.entry.EngineEntry.{EngineEntry}
 use Rattle.transitions.specs.EngineHistories.{EngineHistory}
 use Rattle.odb_tree.specs.Noting.{Watched}

@@ -6,7 +6,7 @@ use Rattle.daq_types.specs.Callers.{caller_of_client, main_caller}
 use Rattle.buffer_core.specs.Window.{opening}
 use Rattle.buffer_core.specs.Histories.{History, IsLegal}
 use Rattle.buffer_core.specs.Ports.{Access}
-use Rattle.local_port.specs.Ported.{given_in, taken_back_in}
+use Rattle.buffer_core.specs.CallersView.{given_in, taken_back_in}
 use Rattle.transitions.specs.declared.entry.EngineEntry.{EngineEntry}
 use Rattle.transitions.specs.Engines.{engine_opening}
 use Rattle.transitions.specs.EngineHistories.{IsLegalEngine}

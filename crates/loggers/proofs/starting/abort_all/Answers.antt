@@ -1,6 +1,6 @@
 use Rattle.std.proofs.Common.{◌+◌, ◌*◌, ◌≡◌, ℕ, length, map, refl, sym, subst, ◌∙◌, arith, inl, inr}
 use Rattle.std.proofs.lemmas.List.{length-map}
-use Rattle.buffer_core.specs.SlotLaws.{slot_within}
+use Rattle.buffer_core.proofs.SlotLaws.{slot_within}
 use Rattle.buffer_core.specs.Slots.{slot_at}
 use Rattle.std.specs.Prelude.{Some}
 use Rattle.mid_logger.specs.declared.stage.ChannelStage.TheVariants.{Idle}

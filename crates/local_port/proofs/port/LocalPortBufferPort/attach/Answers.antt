@@ -1,6 +1,5 @@
 use Rattle.std.proofs.Common.{refl}
-use Rattle.local_port.proofs.NumberLaws.{new_number}
-use Rattle.local_port.proofs.PortLaws.{calls}
+use Rattle.local_port.proofs.PortLaws.{calls, new_number}
 use Rattle.local_port.proofs.port.LocalPortBufferPort.attach.Goals as goal
 
 pub returns-clause-called : goal.returns-clause-called

@@ -13,13 +13,13 @@ use Rattle.buffer_core.specs.declared.replies.Received.TheVariants.{Got, Empty, 
 use Rattle.buffer_core.specs.declared.entry.BufferEntry.{BufferEntry}
 use Rattle.buffer_core.specs.declared.entry.BufferEntry.TheVariants.{Attach, Detach, Request, Cancel, Send, SendInRun, Receive, Begin, Pause, Resume, End, Level, Accepted}
 use Rattle.buffer_core.specs.Slots.{slot_at, free_slot, change_slot, change_all}
-use Rattle.buffer_core.specs.SlotLaws.{split, slot_set_same, slot_change_all}
-use Rattle.buffer_core.specs.Window.{Window, accepted_of}
+use Rattle.buffer_core.proofs.SlotLaws.{split, slot_set_same, slot_change_all}
+use Rattle.buffer_core.specs.Window.{Window, IsWindow, accepted_of}
 use Rattle.buffer_core.specs.Calls.{IsReply, window_after, no_slot, joined, with_request, going_on, pushed, gone_of}
 use Rattle.buffer_core.specs.Histories.{IsLegal, replay}
-use Rattle.buffer_core.specs.Ports.{IsGivenAt, IsNewNumber, knowing}
-use Rattle.local_port.specs.Ported.{Ported, AppendsCall, access_of, detaches, is_taken_back, taken_back_of, taken_back_in}
-use Rattle.local_port.proofs.GotLaws.{set_either}
+use Rattle.buffer_core.specs.Ports.{IsGivenAt}
+use Rattle.buffer_core.specs.CallersView.{detaches, is_taken_back, taken_back_of, taken_back_in}
+use Rattle.buffer_core.proofs.GotLaws.{set_either}
 
 -- the client of this number lives
 abbrev pub LivesIn : List (Option Client) → ℕ → Type 0
@@ -177,15 +177,22 @@ taken_back_in-push by call (x ∷ xs) e =
     ∙ (ap (λ (ns : List ℕ). if x.0 == by then taken_back_of by call x.1 xs ++ ns else taken_back_in by call (xs ++ (by, e) ∷ [])) (taken_back_in-push by (suc call) xs e)
     ∙ ap (λ (ns : List ℕ). if x.0 == by then taken_back_of by call x.1 xs ++ taken_back_in by (suc call) xs else ns) (taken_back_in-push by call xs e))
 
-pub taken_back_same : (p q : Ported) (e : BufferEntry) → AppendsCall p q e → taken_back_in q.caller 0 q.history ≡ taken_back_in p.caller 0 p.history
-taken_back_same p q e does =
-    ap (λ (n : ℕ). taken_back_in n 0 q.history) does.caller ∙ (ap (taken_back_in p.caller 0) does.history ∙ taken_back_in-push p.caller 0 p.history e)
+-- a call more by this caller, in the history of a buffer whose window was this one at first
+pub record CallsNext (first : Window) (by : ℕ) (h h' : List (ℕ × BufferEntry)) (e : BufferEntry) : Type 0 where
+  pub opens : IsWindow first
+  pub legal : IsLegal first h
+  pub reply : IsReply (replay first h) e
+  pub history : h' ≡ h ++ (by, e) ∷ []
+
+pub taken_back_next : (first : Window) (by : ℕ) (h h' : List (ℕ × BufferEntry)) (e : BufferEntry) → CallsNext first by h h' e → taken_back_in by 0 h' ≡ taken_back_in by 0 h
+taken_back_next first by h h' e next = ap (taken_back_in by 0) next.history ∙ taken_back_in-push by 0 h e
 
 -- the number that an attach gives is none of a client that the caller has
-pub new_number : (p q : Ported) (name : List ℕ) (reply : Result ℕ NoSlot) → AppendsCall p q (Attach name reply) → IfOk reply (IsNewNumber (knowing (access_of p) (access_of q)))
-new_number p q name (Err r) does = tt
-new_number p q name (Ok n) does = λ call given.
-    let gone : LivesIn (replay p.start p.history).clients n → ⊥ =
-    λ lives. dead (slot_at p.window.clients n) (free_place p.window.clients n does.reply).1 (subst (λ (w : Window). LivesIn w.clients n) (sym does.from.replayed) lives) in
-    subst (λ (ns : List ℕ). Contains ns call) (sym (taken_back_same p q (Attach name (Ok n)) does))
-    (subst (λ (k : ℕ). Contains (taken_back_in p.caller 0 p.history) k) (zero-add call) (all_taken_back p.caller n 0 p.start p.history does.from.legal gone call given))
+pub new_number : (first : Window) (by : ℕ) (h h' : List (ℕ × BufferEntry)) (name : List ℕ) (reply : Result ℕ NoSlot) → CallsNext first by h h' (Attach name reply)
+    → IfOk reply (λ n. (call : ℕ) → IsGivenAt (entries_by by h) call n → Contains (taken_back_in by 0 h') call)
+new_number first by h h' name (Err r) next = tt
+new_number first by h h' name (Ok n) next = λ call given.
+    let w : Window = replay first h in
+    let gone : LivesIn w.clients n → ⊥ = λ lives. dead (slot_at w.clients n) (free_place w.clients n next.reply).1 lives in
+    subst (λ (ns : List ℕ). Contains ns call) (sym (taken_back_next first by h h' (Attach name (Ok n)) next))
+    (subst (λ (k : ℕ). Contains (taken_back_in by 0 h) k) (zero-add call) (all_taken_back by n 0 first h next.legal gone call given))

@@ -7,11 +7,11 @@ use Rattle.daq_types.specs.Callers.{entries_by}
 use Rattle.buffer_core.specs.declared.replies.Received.TheVariants.{Got}
 use Rattle.buffer_core.specs.declared.entry.BufferEntry.{BufferEntry}
 use Rattle.buffer_core.specs.declared.entry.BufferEntry.TheVariants.{Receive}
-use Rattle.buffer_core.specs.SlotLaws.{split}
+use Rattle.buffer_core.proofs.SlotLaws.{split}
 use Rattle.buffer_core.specs.Window.{Window}
 use Rattle.buffer_core.specs.Calls.{window_after}
 use Rattle.buffer_core.specs.Ports.{name_of, name_given, names_given}
-use Rattle.local_port.specs.Ported.{given_by, given_in}
+use Rattle.buffer_core.specs.CallersView.{given_by, given_in}
 
 name_by : (w : Window) (e : BufferEntry) → map name_of (given_by w e) ≡ name_given e
 name_by w (Receive client room (Got place start)) = refl

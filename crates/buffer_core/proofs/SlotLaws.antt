@@ -2,6 +2,7 @@
 use Rattle.std.specs.Prelude.{◌≡◌, ◌≢◌, ℕ, zero, suc, ◌<◌, Bool, true, false, ◌||◌, List, [], ◌∷◌, length, replicate, Option, Some, None, slice_set, refl}
 use Rattle.std.specs.Option.{option_map}
 use Rattle.std.proofs.Common.{ap, ◌∙◌, arith, get_or-set_same, get_or-set_other}
+use Rattle.std.proofs.Math.Bool.{or-true}
 use Rattle.std.proofs.Math.ListN.{get_or-map}
 use Rattle.std.proofs.lemmas.List.Quantifiers.{position-Some}
 use Rattle.buffer_core.specs.Slots.{slot_at, passes, some_slot, first_slot, change_slot, change_all}
@@ -10,10 +11,6 @@ use Rattle.buffer_core.specs.Slots.{slot_at, passes, some_slot, first_slot, chan
 pub split : (b : Bool) (P : Bool → Type 0) → (b ≡ true → P true) → (b ≡ false → P false) → P b
 split true P hit miss = hit refl
 split false P hit miss = miss refl
-
-pub or_true : (b : Bool) → b || true ≡ true
-or_true true = refl
-or_true false = refl
 
 none_from : (o : Option ℕ) → ((i : ℕ) → o ≡ Some i → ⊥) → o ≡ None
 none_from None never = refl
@@ -66,4 +63,4 @@ module _ {X : Type 0} where
   pub some_slot_true : (test : X → Bool) (xs : List (Option X)) (n : ℕ) (x : X) → slot_at xs n ≡ Some x → test x ≡ true → some_slot test xs ≡ true
   some_slot_true test [] n x e hit = absurd (cc)
   some_slot_true test (o ∷ os) zero x e hit = ap (λ (b : Bool). b || some_slot test os) (ap (passes test) e ∙ hit)
-  some_slot_true test (o ∷ os) (suc n) x e hit = ap (λ (b : Bool). passes test o || b) (some_slot_true test os n x e hit) ∙ or_true (passes test o)
+  some_slot_true test (o ∷ os) (suc n) x e hit = ap (λ (b : Bool). passes test o || b) (some_slot_true test os n x e hit) ∙ or-true (passes test o)

@@ -13,14 +13,14 @@ use Rattle.buffer_core.specs.declared.replies.Received.TheVariants.{Got, Empty, 
 use Rattle.buffer_core.specs.declared.entry.BufferEntry.{BufferEntry}
 use Rattle.buffer_core.specs.declared.entry.BufferEntry.TheVariants.{Attach, Detach, Request, Cancel, Send, SendInRun, Receive, Begin, Pause, Resume, End, Level, Accepted}
 use Rattle.buffer_core.specs.Slots.{slot_at, change_slot, change_all, some_slot}
-use Rattle.buffer_core.specs.SlotLaws.{split, slot_change_all, slot_change_same, slot_change_other}
+use Rattle.buffer_core.proofs.SlotLaws.{split, slot_change_all, slot_change_same, slot_change_other}
 use Rattle.buffer_core.specs.Window.{Sent, Window, slot_of_sent, accepted_of, kept_at, wants, covers, level_of, IsWindow, StandsAt}
 use Rattle.buffer_core.specs.Calls.{IsReply, window_after, with_request, going_on, pushed, joined, after_send, gone_of, found_in, receive_reply_to}
 use Rattle.buffer_core.specs.Histories.{IsLegal, replay}
 use Rattle.buffer_core.proofs.WindowLaws.{found_stands, found_kept}
 use Rattle.buffer_core.proofs.WindowKept.{found_got}
 use Rattle.buffer_core.specs.Ports.{GotEvent, slots_got}
-use Rattle.local_port.specs.Ported.{no_event, given_by, given_in}
+use Rattle.buffer_core.specs.CallersView.{no_event, given_by, given_in}
 
 -- Sums of the rest of a list.
 
