@@ -7,7 +7,8 @@ impl Equipment for Generator {
     ghost use Rattle.std.specs.Prelude.{nat_le};
     ghost use Rattle.daq_model.specs.Generator.{generated_event};
     ghost use Rattle.daq_model.proofs.GeneratorLaws.{generated_body_is_small};
-    ghost use Rattle.front_ends.specs.FrontIds.{IsFrontId, front_id_is_free};
+    ghost use Rattle.frontend_kit.proofs.FrontIds.{front_id_is_free};
+    ghost use Rattle.front_ends.specs.FrontIds.{IsFrontId};
 
     // Its id is one that a front-end may have.
     ghost fit = { λ g. IsFrontId g.id };
@@ -26,5 +27,5 @@ impl Equipment for Generator {
 
     ghost small = { λ g fit order k. generated_body_is_small g.id order.start k };
 
-    ghost free = { λ g fit order k. front_id_is_free g.id fit };
+    ghost free = { λ g fit order k. front_id_is_free g.id fit.most };
 }

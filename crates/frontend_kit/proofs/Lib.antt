@@ -1,2 +1,3 @@
 mod Words
 pub mod BankHeads
+pub mod FrontIds

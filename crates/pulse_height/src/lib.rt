@@ -25,7 +25,8 @@ pub struct PulseHeight {
 impl Equipment for PulseHeight {
     ghost use Rattle.std.specs.Prelude.{true, refl};
     ghost use Rattle.std.proofs.Common.{arith};
-    ghost use Rattle.front_ends.specs.FrontIds.{IsFrontId, front_id_is_free};
+    ghost use Rattle.frontend_kit.proofs.FrontIds.{front_id_is_free};
+    ghost use Rattle.front_ends.specs.FrontIds.{IsFrontId};
     ghost use Rattle.pulse_height.specs.Pulses.{pulse_event};
 
     // Its id is one that a front-end may have.
@@ -54,7 +55,7 @@ impl Equipment for PulseHeight {
 
     ghost small = { λ p fit order k. Prim.omega arith };
 
-    ghost free = { λ p fit order k. front_id_is_free p.id fit };
+    ghost free = { λ p fit order k. front_id_is_free p.id fit.most };
 }
 
 #[cfg(test)]
