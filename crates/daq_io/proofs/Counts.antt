@@ -1,7 +1,7 @@
 -- Counts of faults and of clashes, by the answer of a call.
-use Rattle.std.specs.Prelude.{ℕ, ◌+◌, ◌-◌, ◌≤◌}
-use Rattle.std.proofs.Common.{arith}
-use Rattle.daq_io.specs.Counts.{Rose, RoseBy}
+use Rattle.std.specs.Prelude.{◌≡◌, ℕ, ◌+◌, ◌-◌, ◌≤◌}
+use Rattle.std.proofs.Common.{◌∙◌, sym, arith, add-zero, inl, inr}
+use Rattle.daq_io.specs.Counts.{Rose, RoseBy, RoseJustBy}
 
 -- a rise behind a count that did not fall is one from before it
 pub Rose-after : (a b c : ℕ) → a ≤ b → Rose b c → Rose a c
@@ -18,3 +18,11 @@ RoseBy-fewer fewer many a b h r = omega arith
 -- What rises behind a rise is added to it.
 pub RoseBy-then : (many more a b c : ℕ) → RoseBy many a b → RoseBy more b c → RoseBy (many + more) a c
 RoseBy-then many more a b c r s = omega arith
+
+pub RoseJustBy-none : (a b : ℕ) → b ≡ a → RoseJustBy 0 a b
+RoseJustBy-none a b e = inl (e ∙ sym (add-zero a))
+
+pub RoseJustBy-then : (many more a b c : ℕ) → RoseJustBy many a b → RoseJustBy more b c → RoseJustBy (many + more) a c
+RoseJustBy-then many more a b c p (inr end) = inr end
+RoseJustBy-then many more a b c (inl p) (inl q) = inl (omega (arith, p, q))
+RoseJustBy-then many more a b c (inr end) (inl q) = inr (omega (arith, end, q))

@@ -1,3 +1,4 @@
+mod OneFile
 mod Results
 mod UseLemmas
 mod Writing

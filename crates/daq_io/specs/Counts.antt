@@ -1,5 +1,5 @@
 -- Counts of faults and of clashes, by the answer of a call.
-use Rattle.std.specs.Prelude.{◌≡◌, ℕ, ◌+◌, ◌-◌, ◌^◌, ◌≤◌, min, List, Option, Some, None, Result, OnOk, OnErr, IfErr}
+use Rattle.std.specs.Prelude.{◌≡◌, ◌⊎◌, ℕ, ◌+◌, ◌-◌, ◌^◌, ◌≤◌, min, List, Option, Some, None, Result, OnOk, OnErr, IfErr}
 use Rattle.daq_io.specs.declared.folder.NameRefused.{NameRefused}
 use Rattle.daq_io.specs.declared.folder.NameRefused.TheVariants.{Exists, Missing, Failed}
 
@@ -11,6 +11,10 @@ Rose old new = min (old + 1) (2 ^ 64 - 1) ≤ new
 -- any number.
 abbrev pub RoseBy : (many old new : ℕ) → Type 0
 RoseBy many old new = min (old + many) (2 ^ 64 - 1) ≤ new
+
+-- The count rose by just so many, or it stands at its type's end.
+abbrev pub RoseJustBy : (many old new : ℕ) → Type 0
+RoseJustBy many old new = (new ≡ old + many) ⊎ (2 ^ 64 - 1 ≤ new)
 
 -- What a call whose only error is a fault does to the count of faults: it rose exactly where the call failed.
 pub record CountsFault {T E : Type 0} (old new : ℕ) (result : Result T E) : Type 0 where

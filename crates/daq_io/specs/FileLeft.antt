@@ -1,5 +1,6 @@
 -- What a source over one of several files tells.
-use Rattle.std.specs.Prelude.{ℕ, List, Option, Some, None, IsTrue, if◌then◌else◌}
+use Rattle.std.specs.Prelude.{◌≡◌, ℕ, List, ◌++◌, length, Option, Some, None, IsTrue, if◌then◌else◌}
+use Rattle.daq_io.specs.Counts.{RoseJustBy}
 use Rattle.daq_io.specs.Seen.{Seen, KeepsFiles, KeepsOthers}
 
 -- the bytes left of the file of a number, where they are told
@@ -12,8 +13,15 @@ pub record OneFile (F : Type 0) : Type 0 where
   pub number : ℕ
   pub first : F
 
+-- The first of the bytes left under a number were read, and counted.
+pub record ReadsFirst (first now : Seen) (number : ℕ) (bytes_first bytes_now : ℕ) : Type 0 where
+  pub bytes : List ℕ
+  pub were_left : first.left number ≡ bytes ++ now.left number
+  pub counted : RoseJustBy (length bytes) bytes_first bytes_now
+
 -- since then nothing was done but to read under this number
-pub record IsOneRead (first now : Seen) (number : ℕ) : Type 0 where
+pub record IsOneRead (first now : Seen) (number : ℕ) (bytes_first bytes_now : ℕ) : Type 0 where
   pub reads : IsTrue (now.reads number)
   pub files : KeepsFiles first now
   pub others : KeepsOthers first now number
+  pub front : IsTrue first.tells → ReadsFirst first now number bytes_first bytes_now

@@ -1,6 +1,6 @@
 ghost use Rattle.std.specs.Prelude.{◌≡◌, Some, IsTrue};
 ghost use Rattle.daq_io.specs.Seen.{KeepsFiles, KeepsOthers};
-ghost use Rattle.daq_io.specs.FileLeft.{told_left};
+ghost use Rattle.daq_io.specs.FileLeft.{ReadsFirst, told_left};
 
 use crate::faults::Failed;
 use crate::folder::Files;
@@ -24,7 +24,8 @@ impl<F: Files> Model for FileSource<F> {
     ghost view = { λ s. record { files = s.files; number = s.number; first = s.first.value } };
 
     // What else the files tell is as it was when the source was made.
-    ghost invariant = { λ s. IsOneRead (F.seen s.first.value) (F.seen s.files) s.number };
+    ghost invariant = { λ s. IsOneRead (F.seen s.first.value) (F.seen s.files) s.number
+        (F.bytes_read s.first.value) (F.bytes_read s.files) };
 }
 
 impl<F: Files> FileSource<F> {
@@ -35,7 +36,8 @@ impl<F: Files> FileSource<F> {
         ensures left { ⟦<FileSource<F> as Source>⟧.left result ≡ told_left (F.seen files) file }
         ensures faults { ⟦<FileSource<F> as Source>⟧.faults result ≡ F.faults files }
         ensures origin { ⟦<FileSource<F> as Source>⟧.origin result
-            ≡ Some (record { files = F.seen files; number = file }) }
+            ≡ Some (record
+            { files = F.seen files; bytes_read = F.bytes_read files; number = file }) }
     {
         let first = Snapshot::of(&files);
         FileSource {
@@ -58,6 +60,8 @@ impl<F: Files> FileSource<F> {
         ensures reading { IsTrue ((F.seen result).reads self.number) }
         ensures kept { KeepsFiles (F.seen self.first) (F.seen result) }
         ensures others { KeepsOthers (F.seen self.first) (F.seen result) self.number }
+        ensures front { IsTrue (F.seen self.first).tells → ReadsFirst (F.seen self.first)
+            (F.seen result) self.number (F.bytes_read self.first) (F.bytes_read result) }
     {
         let FileSource {
             files,
@@ -73,7 +77,11 @@ impl<F: Files> Source for FileSource<F> {
 
     ghost faults = { λ s. F.faults s.files };
 
-    ghost origin = { λ s. Some (record { files = F.seen s.first; number = s.number }) };
+    ghost origin = { λ s. Some (record {
+      files = F.seen s.first;
+      bytes_read = F.bytes_read s.first;
+      number = s.number;
+    }) };
 
     fn read(&mut self, into: &mut [u8]) -> Result<usize, Failed> {
         self.files.read(self.number, into)

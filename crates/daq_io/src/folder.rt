@@ -1,6 +1,6 @@
 ghost use Rattle.std.specs.Prelude.{◌≡◌, ◌<◌, ◌↔◌, ℕ, List, [], Option, Result, IsTrue, IsSome, IsNone, IfOk, IfErr, OnOk, OnErr, IsOk, IsErrOf, length, take};
 ghost use Rattle.std.specs.Io.{ReadsAtMost};
-ghost use Rattle.daq_io.specs.Counts.{CountsFault, CountsNamed, CountsClash, NamesFirst, NamesFirstOf};
+ghost use Rattle.daq_io.specs.Counts.{CountsFault, CountsNamed, CountsClash, NamesFirst, NamesFirstOf, RoseJustBy};
 ghost use Rattle.daq_io.specs.Seen.{Seen, Same, Creates, Extends, ExtendsPart, Closes, Removes, Opens, Reads, Ends, InUse};
 
 use crate::faults::Failed;
@@ -28,6 +28,9 @@ pub trait Files {
     /// How many names were taken or missing. The count stands still at 2^64 - 1.
     ghost clashes: { Self → ℕ };
 
+    /// How many bytes the calls of `read` have given, where the bytes are told. The count stands still at 2^64 - 1.
+    ghost bytes_read: { Self → ℕ };
+
     /// The name of the file of the first fault.
     ghost first: { Self → Option (List ℕ) };
 
@@ -41,6 +44,7 @@ pub trait Files {
         ensures not_missing { ¬ IsErrOf result NameRefused.Missing }
         ensures faults { CountsNamed (faults self.old) (faults self.new) result }
         ensures clashes { CountsClash (clashes self.old) (clashes self.new) result }
+        ensures bytes_read { bytes_read self.new ≡ bytes_read self.old }
         ensures first { NamesFirstOf name.now (first self.old) (first self.new) result };
 
     /// Appends the bytes to the file of this number. A failed call may have appended the front of them.
@@ -50,6 +54,7 @@ pub trait Files {
         ensures part { OnErr result (ExtendsPart (seen self.old) (seen self.new) file bytes.now) }
         ensures faults { CountsFault (faults self.old) (faults self.new) result }
         ensures clashes { clashes self.new ≡ clashes self.old }
+        ensures bytes_read { bytes_read self.new ≡ bytes_read self.old }
         ensures first { NamesFirst ((seen self.old).name_of file) (first self.old)
             (first self.new) result };
 
@@ -62,6 +67,7 @@ pub trait Files {
             → Ends (seen self.old) (seen self.new) file }
         ensures faults { CountsFault (faults self.old) (faults self.new) result }
         ensures clashes { clashes self.new ≡ clashes self.old }
+        ensures bytes_read { bytes_read self.new ≡ bytes_read self.old }
         ensures first { NamesFirst ((seen self.old).name_of file) (first self.old)
             (first self.new) result };
 
@@ -73,6 +79,7 @@ pub trait Files {
             → IsOk result }
         ensures faults { CountsFault (faults self.old) (faults self.new) result }
         ensures clashes { clashes self.new ≡ clashes self.old }
+        ensures bytes_read { bytes_read self.new ≡ bytes_read self.old }
         ensures first { NamesFirst name.now (first self.old) (first self.new) result };
 
     /// Opens a file and answers the number under which it is read, from its first byte on. The bytes are those that
@@ -86,6 +93,7 @@ pub trait Files {
         ensures not_exists { ¬ IsErrOf result NameRefused.Exists }
         ensures faults { CountsNamed (faults self.old) (faults self.new) result }
         ensures clashes { CountsClash (clashes self.old) (clashes self.new) result }
+        ensures bytes_read { bytes_read self.new ≡ bytes_read self.old }
         ensures first { NamesFirstOf name.now (first self.old) (first self.new) result };
 
     /// Reads into the front of `into` and answers how many bytes. No byte, where `into` has room, is the end of the
@@ -100,6 +108,9 @@ pub trait Files {
         ensures kept { OnErr result (Same (seen self.old) (seen self.new)) }
         ensures faults { CountsFault (faults self.old) (faults self.new) result }
         ensures clashes { clashes self.new ≡ clashes self.old }
+        ensures bytes_read { IfOk result (λ count. IsTrue (seen self.old).tells → RoseJustBy count
+            (bytes_read self.old) (bytes_read self.new)) }
+        ensures none_read { OnErr result (bytes_read self.new ≡ bytes_read self.old) }
         ensures first { NamesFirst ((seen self.old).name_of file) (first self.old)
             (first self.new) result };
 

@@ -1,4 +1,4 @@
-ghost use Rattle.std.specs.Prelude.{◌≡◌, ◌<◌, ℕ, List, Option, IfOk, OnOk, OnErr, length, min, take};
+ghost use Rattle.std.specs.Prelude.{◌≡◌, ◌<◌, ℕ, List, [], Option, IfOk, OnOk, OnErr, length, min, take};
 ghost use Rattle.std.specs.Io.{ReadsAtMost, WritesAtMost};
 ghost use Rattle.std.specs.Io.KnownBytes.{Appends, ReadConsumes, WriteAppends};
 ghost use Rattle.daq_io.specs.Counts.{CountsFault};
@@ -15,6 +15,9 @@ pub trait Source {
     /// How many calls have failed. The count stands still at 2^64 - 1.
     ghost faults: { Self → ℕ };
 
+    /// The bytes at hand, the first of those left, which were read ahead.
+    ghost at_hand: { Self → List ℕ } = { λ _. [] };
+
     /// Where the bytes come from, for a source that reads one of several files. No read changes it.
     ghost origin: { Self → Option Origin };
 
@@ -25,6 +28,8 @@ pub trait Source {
         // The bytes read are the first of those left. None at all means the end, and a failure reads nothing.
         ensures bytes { ReadConsumes (left self.old) (left self.new) result into.new }
         ensures faults { CountsFault (faults self.old) (faults self.new) result }
+        // Where bytes lie at hand, none have to be read to give them.
+        ensures at_hand { OnErr result (at_hand self.new ≡ []) }
         ensures origin { origin self.new ≡ origin self.old };
 }
 

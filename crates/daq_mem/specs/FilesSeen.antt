@@ -3,13 +3,14 @@ use Rattle.std.specs.Prelude.{◌≡◌, ℕ, ◌+◌, ◌≤◌, ◌<◌, ◌==
 use Rattle.daq_io.specs.Seen.{Seen, Stored}
 use Rattle.daq_mem.specs.Plans.{FilePlan}
 
--- All that a caller sees: what any files tell, the counts and the first fault, the calls that fail, room for how many bytes
--- a file has, how many files more there is room for, and how many numbers are free.
+-- All that a caller sees: what any files tell, the counts and the first fault, how many bytes were read, the calls that
+-- fail, room for how many bytes a file has, how many files more there is room for, and how many numbers are free.
 pub record FilesSeen : Type 0 where
   pub seen : Seen
   pub faults : ℕ
   pub clashes : ℕ
   pub first : Option (List ℕ)
+  pub bytes_read : ℕ
   pub plan : FilePlan
   pub room : ℕ
   pub free_files : ℕ
@@ -20,6 +21,7 @@ pub record SameCounts (old new : FilesSeen) : Type 0 where
   pub faults : new.faults ≡ old.faults
   pub clashes : new.clashes ≡ old.clashes
   pub first : new.first ≡ old.first
+  pub bytes_read : new.bytes_read ≡ old.bytes_read
 
 -- Room for so many files, and so many numbers, were taken.
 pub record TakesRoom (old new : FilesSeen) (files numbers : ℕ) : Type 0 where

@@ -11,6 +11,7 @@ seen_files files = record {
   faults = files.tally.faults;
   clashes = files.tally.clashes;
   first = files.tally.first;
+  bytes_read = files.bytes_read;
   plan = files.planned;
   room = files.slots.room;
   free_files = free_slots files.slots.slots.items;

@@ -1,6 +1,6 @@
 ghost use Rattle.std.specs.Prelude.{◌≡◌, ◌<◌, ◌==◌, ◌↔◌, ◌||◌, ◌&&◌, Some, None, IfOk, IsTrue, IsSome, IsNone, IsErr, IsErrOf, IsOk, OnOk, OnErr, MatchOption, option_map, is_some, if◌then◌else◌, ℕ, List, [], length, take, min, replicate};
 ghost use Rattle.std.specs.Io.{ReadsAtMost};
-ghost use Rattle.daq_io.specs.Counts.{CountsClash, CountsFault, CountsNamed, NamesFirst, NamesFirstOf};
+ghost use Rattle.daq_io.specs.Counts.{CountsClash, CountsFault, CountsNamed, NamesFirst, NamesFirstOf, RoseJustBy};
 ghost use Rattle.daq_io.specs.Seen.{Closes, Creates, Ends, Extends, ExtendsPart, InUse, IsFree, Opens, Reads, Removes, Same, Stores, is_closed};
 ghost use Rattle.daq_mem.specs.FilesSeen.{FitsIn, GivesRoom, SameCounts, TakesRoom, is_full, is_too_long};
 ghost use Rattle.daq_mem.specs.Plans.{is_op_planned, after_op_call};
@@ -21,6 +21,7 @@ pub struct MemFiles {
     readers: Readers,
     planned: PlannedFails,
     tally: Tally,
+    bytes_read: u64,
     // Each number has a reader, with the room of a file.
     ghost read_by_number: { length readers.readers.items ≡ length numbers.uses.items },
     ghost room_to_read: { readers.room ≡ slots.room },
@@ -43,6 +44,7 @@ impl MemFiles {
         ensures unused { IfOk result (λ made. (number : ℕ) → IsFree (seen_files made).seen number) }
         ensures faults { IfOk result (λ made. (seen_files made).faults ≡ 0) }
         ensures clashes { IfOk result (λ made. (seen_files made).clashes ≡ 0) }
+        ensures bytes_read { IfOk result (λ made. (seen_files made).bytes_read ≡ 0) }
         ensures plan { IfOk result (λ made. (seen_files made).plan
             ≡ record { fails = fails.items; calls = replicate 6 0 }) }
         ensures room { IfOk result (λ made. (seen_files made).room ≡ room) }
@@ -58,6 +60,7 @@ impl MemFiles {
             readers,
             planned: PlannedFails::new(fails),
             tally: Tally::new(),
+            bytes_read: 0,
         })
     }
 
@@ -119,6 +122,8 @@ impl Files for MemFiles {
 
     ghost clashes = { λ m. (seen_files m).clashes };
 
+    ghost bytes_read = { λ m. (seen_files m).bytes_read };
+
     ghost first = { λ m. (seen_files m).first };
 
     /// Fails exactly where the name is free and the call is listed, or there is no room for a file or no number.
@@ -133,6 +138,7 @@ impl Files for MemFiles {
             result }
         ensures clashes { CountsClash (seen_files self.old).clashes (seen_files self.new).clashes
             result }
+        ensures bytes_read { (seen_files self.new).bytes_read ≡ (seen_files self.old).bytes_read }
         ensures first { NamesFirstOf name.now (seen_files self.old).first
             (seen_files self.new).first result }
         ensures called { (seen_files self.new).plan ≡ after_op_call (seen_files self.old).plan
@@ -177,6 +183,7 @@ impl Files for MemFiles {
         ensures faults { CountsFault (seen_files self.old).faults (seen_files self.new).faults
             result }
         ensures clashes { (seen_files self.new).clashes ≡ (seen_files self.old).clashes }
+        ensures bytes_read { (seen_files self.new).bytes_read ≡ (seen_files self.old).bytes_read }
         ensures first { NamesFirst ((seen_files self.old).seen.name_of file)
             (seen_files self.old).first (seen_files self.new).first result }
         ensures called { (seen_files self.new).plan ≡ after_op_call (seen_files self.old).plan
@@ -211,6 +218,7 @@ impl Files for MemFiles {
         ensures faults { CountsFault (seen_files self.old).faults (seen_files self.new).faults
             result }
         ensures clashes { (seen_files self.new).clashes ≡ (seen_files self.old).clashes }
+        ensures bytes_read { (seen_files self.new).bytes_read ≡ (seen_files self.old).bytes_read }
         ensures first { NamesFirst ((seen_files self.old).seen.name_of file)
             (seen_files self.old).first (seen_files self.new).first result }
         ensures called { (seen_files self.new).plan ≡ after_op_call (seen_files self.old).plan
@@ -251,6 +259,7 @@ impl Files for MemFiles {
         ensures faults { CountsFault (seen_files self.old).faults (seen_files self.new).faults
             result }
         ensures clashes { (seen_files self.new).clashes ≡ (seen_files self.old).clashes }
+        ensures bytes_read { (seen_files self.new).bytes_read ≡ (seen_files self.old).bytes_read }
         ensures first { NamesFirst name.now (seen_files self.old).first
             (seen_files self.new).first result }
         ensures called { (seen_files self.new).plan ≡ after_op_call (seen_files self.old).plan
@@ -283,6 +292,7 @@ impl Files for MemFiles {
             result }
         ensures clashes { CountsClash (seen_files self.old).clashes (seen_files self.new).clashes
             result }
+        ensures bytes_read { (seen_files self.new).bytes_read ≡ (seen_files self.old).bytes_read }
         ensures first { NamesFirstOf name.now (seen_files self.old).first
             (seen_files self.new).first result }
         ensures called { (seen_files self.new).plan ≡ after_op_call (seen_files self.old).plan
@@ -334,6 +344,10 @@ impl Files for MemFiles {
         ensures faults { CountsFault (seen_files self.old).faults (seen_files self.new).faults
             result }
         ensures clashes { (seen_files self.new).clashes ≡ (seen_files self.old).clashes }
+        ensures bytes_read { IfOk result (λ count. RoseJustBy count (seen_files self.old).bytes_read
+            (seen_files self.new).bytes_read) }
+        ensures none_read { OnErr result ((seen_files self.new).bytes_read
+            ≡ (seen_files self.old).bytes_read) }
         ensures first { NamesFirst ((seen_files self.old).seen.name_of file)
             (seen_files self.old).first (seen_files self.new).first result }
         ensures called { (seen_files self.new).plan ≡ after_op_call (seen_files self.old).plan
@@ -348,7 +362,9 @@ impl Files for MemFiles {
                     self.tally.fault(&name);
                     return Err(Failed);
                 }
-                Ok(self.readers.read(file, into))
+                let count = self.readers.read(file, into);
+                self.bytes_read = self.bytes_read.saturating_add(count as u64);
+                Ok(count)
             }
             _ => unreachable!(),
         }

@@ -1,4 +1,4 @@
-ghost use Rattle.std.specs.Prelude.{◌≡◌, ◌+◌, ◌<◌, ◌↔◌, ◌||◌, [], Some, None, IsTrue, IfOk, IsErr, length, min, nat_lt};
+ghost use Rattle.std.specs.Prelude.{◌≡◌, ◌+◌, ◌<◌, ◌↔◌, ◌||◌, [], Some, None, IsTrue, IfOk, IsErr, OnErr, length, min, nat_lt};
 ghost use Rattle.std.specs.Io.{ReadsAtMost, WritesAtMost};
 ghost use Rattle.std.specs.Io.KnownBytes.{ReadConsumes, WriteAppends};
 ghost use Rattle.daq_io.specs.Counts.{CountsFault};
@@ -69,6 +69,7 @@ impl Source for MemSource {
         ensures faults { CountsFault self.old.faults self.new.faults result }
         ensures origin { ⟦<MemSource as Source>⟧.origin self.new
             ≡ ⟦<MemSource as Source>⟧.origin self.old }
+        ensures at_hand { OnErr result (⟦<MemSource as Source>⟧.at_hand self.new ≡ []) }
         // The listed calls fail and no others. Each other one gives as many bytes as there are and fit.
         ensures listed { IsErr result ↔ IsTrue (is_planned self.old.plan) }
         ensures count { IfOk result (λ count. count ≡ min (length self.old.left)

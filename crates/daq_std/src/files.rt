@@ -68,6 +68,9 @@ impl<R: rt::Files + Drop> Files for StdFiles<R> {
 
     ghost clashes = { λ s. s.tallied.clashes };
 
+    // None is counted, since no bytes are told.
+    ghost bytes_read = { λ _. 0 };
+
     ghost first = { λ s. s.tallied.first };
 
     fn create(&mut self, name: &FileName) -> Result<u32, NameRefused> {
@@ -93,6 +96,8 @@ impl<R: rt::Files + Drop> Files for StdFiles<R> {
             (ExtendsPart (told_by self.old) (told_by self.new) file bytes.now) }
         ensures faults { CountsOne self.old self.new result }
         ensures clashes { self.new.tallied.clashes ≡ self.old.tallied.clashes }
+        ensures bytes_read { ⟦<StdFiles<R> as Files>⟧.bytes_read self.new
+            ≡ ⟦<StdFiles<R> as Files>⟧.bytes_read self.old }
         ensures first { NamesFirstAt file self.old self.new result }
         ensures given { OnOk result (GivesBytes R.File.contents self.old self.new file bytes.now) }
         ensures never_again { IsBroken self.old file → IsErr result }
@@ -116,6 +121,8 @@ impl<R: rt::Files + Drop> Files for StdFiles<R> {
             → Ends (told_by self.old) (told_by self.new) file }
         ensures faults { CountsOne self.old self.new result }
         ensures clashes { self.new.tallied.clashes ≡ self.old.tallied.clashes }
+        ensures bytes_read { ⟦<StdFiles<R> as Files>⟧.bytes_read self.new
+            ≡ ⟦<StdFiles<R> as Files>⟧.bytes_read self.old }
         ensures first { NamesFirstAt file self.old self.new result }
         ensures all { IsTrue ((told_by self.old).writes file)
             → OnOk result (HasAll R.File.contents self.old file) }

@@ -1,5 +1,5 @@
 -- Bytes that come from a source in any pieces.
-use Rattle.std.specs.Prelude.{◌≡◌, ℕ, ◌≤◌, ◌<◌, List, length, take, Option}
+use Rattle.std.specs.Prelude.{◌≡◌, ℕ, ◌≤◌, ◌<◌, List, [], length, take, Option}
 use Rattle.std.specs.Io.KnownBytes.{Consumes, IsAtEnd}
 use Rattle.event_header.specs.Headers.{event_of}
 use Rattle.event_header.specs.Held.{HeldEvent}
@@ -17,3 +17,10 @@ pub record GathersBody (before after : Option (List ℕ)) (header : Header) (hel
   pub event : held.event ≡ event_of header body
   pub stated : length body ≡ header.data_size
   pub gathers : Gathers before after body count
+
+-- The source failed behind these bytes, which are fewer than were sought, and none lie at hand.
+pub record FailsBehind (before after : Option (List ℕ)) (at_hand : List ℕ) (sought : ℕ) : Type 0 where
+  pub bytes : List ℕ
+  pub fewer : length bytes < sought
+  pub consumed : Consumes before after bytes
+  pub none_at_hand : at_hand ≡ []

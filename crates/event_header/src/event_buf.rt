@@ -3,7 +3,7 @@ ghost use Rattle.daq_model.specs.Events.{encoding};
 ghost use Rattle.daq_io.specs.Counts.{CountsFault};
 ghost use Rattle.event_header.specs.Headers.{event_of, fields_of};
 ghost use Rattle.event_header.specs.Held.{empty_buf};
-ghost use Rattle.event_header.specs.Pieces.{GathersBody};
+ghost use Rattle.event_header.specs.Pieces.{FailsBehind, GathersBody};
 
 use crate::head::{HEADER_BYTES, Header, write_header};
 use crate::pieces::read_full;
@@ -107,6 +107,8 @@ impl EventBuf {
         requires { header.now.data_size ≤ self.old.room }
         ensures gathers { IfOk result (GathersBody (S.left source.old) (S.left source.new)
             header.now self.new) }
+        ensures fails { OnErr result (FailsBehind (S.left source.old) (S.left source.new)
+            (S.at_hand source.new) header.now.data_size) }
         ensures room { self.new.room ≡ self.old.room }
         ensures faults { CountsFault (S.faults source.old) (S.faults source.new) result }
         ensures origin { S.origin source.new ≡ S.origin source.old }

@@ -1,6 +1,6 @@
-ghost use Rattle.std.specs.Prelude.{◌≡◌, IfOk, length};
+ghost use Rattle.std.specs.Prelude.{◌≡◌, IfOk, OnErr, length};
 ghost use Rattle.daq_io.specs.Counts.{CountsFault};
-ghost use Rattle.event_header.specs.Pieces.{Gathers};
+ghost use Rattle.event_header.specs.Pieces.{FailsBehind, Gathers};
 
 use daq_io::{Failed, Source};
 
@@ -9,6 +9,8 @@ use daq_io::{Failed, Source};
 pub fn read_full<S: Source>(source: &mut S, into: &mut [u8]) -> Result<usize, Failed>
     ensures gathers { IfOk result (λ count. Gathers (S.left source.old) (S.left source.new)
         into.new count) }
+    ensures fails { OnErr result (FailsBehind (S.left source.old) (S.left source.new)
+        (S.at_hand source.new) (length into.old)) }
     ensures length { length into.new ≡ length into.old }
     ensures faults { CountsFault (S.faults source.old) (S.faults source.new) result }
     ensures origin { S.origin source.new ≡ S.origin source.old }
