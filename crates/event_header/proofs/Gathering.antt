@@ -1,9 +1,8 @@
 -- Bytes that were gathered in pieces.
-use Rattle.std.proofs.Common.{◌≡◌, ◌∙◌, ℕ, ◌+◌, ◌<◌, List, [], ◌++◌, length, take, Option, ap, sym, subst, arith, length-take}
+use Rattle.std.proofs.Common.{◌≡◌, ◌∙◌, ℕ, ◌+◌, List, ◌++◌, length, take, Option, ap, sym, subst}
 use Rattle.std.proofs.Math.Seq.{take-append-add}
-use Rattle.std.proofs.KnownBytes.{Consumes-trans, Consumes-kept}
-use Rattle.std.specs.Io.KnownBytes.{Consumes, Keeps}
-use Rattle.event_header.specs.Pieces.{FailsBehind}
+use Rattle.std.proofs.KnownBytes.{Consumes-trans}
+use Rattle.std.specs.Io.KnownBytes.{Consumes}
 
 pub more_gathered : (a b c : Option (List ℕ)) (into front rest : List ℕ) (done count : ℕ) → front ≡ take done into → length front ≡ done
     → Consumes a b (take done into) → Consumes b c (take count rest) → Consumes a c (take (done + count) (front ++ rest))
@@ -11,12 +10,3 @@ more_gathered a b c into front rest done count is_front len p q =
     let joined : take (done + count) (front ++ rest) ≡ take done into ++ take count rest =
     ap (λ n. take (n + count) (front ++ rest)) (sym len) ∙ take-append-add front rest count ∙ ap (λ xs. xs ++ take count rest) is_front in
     subst (Consumes a c) (sym joined) (Consumes-trans a b c (take done into) (take count rest) p q)
-
--- where the source fails, fewer bytes were gathered than fit
-pub fails_gathered : (a b c : Option (List ℕ)) (into at_hand : List ℕ) (done size : ℕ) → Consumes a b (take done into) → Keeps b c → done < length into → length into ≡ size → at_hand ≡ [] → FailsBehind a c at_hand size
-fails_gathered a b c into at_hand done size p kept less sized none = record {
-  bytes = take done into;
-  fewer = omega (arith, length-take done into, less, sized);
-  consumed = Consumes-kept a b c (take done into) p kept;
-  none_at_hand = none;
-}

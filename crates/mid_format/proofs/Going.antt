@@ -11,18 +11,20 @@ use Rattle.daq_model.specs.Events.{encoding, all_encoded, begin_id, end_id}
 use Rattle.daq_model.proofs.Events.{all_encoded-append}
 use Rattle.daq_model.specs.RunFile.{begin_record, end_record, record_mask, IsFileEvent}
 use Rattle.event_header.specs.Held.{HeldEvent}
+use Rattle.event_header.specs.Pieces.{FailsBehind}
 use Rattle.event_header.specs.Headers.{header_encoding, event_of, fields_of}
 use Rattle.event_header.proofs.Headers.{length-header_encoding, header_back}
 use Rattle.event_header.specs.declared.head.Header.{Header}
-use Rattle.mid_format.specs.Faults.{fault_at, OfBytes}
-use Rattle.mid_format.specs.Parts.{IsInRange, ReadsHead, ReadsBody, IsCut, IsBehindEnd}
-use Rattle.mid_format.specs.HasRead.{IsStorable, IsBegunFile, IsEndedFile, IsMidFault, BeginsWith, IsReadSoFar, IsFaultAt, StandsBehind, HasRead}
+use Rattle.mid_format.specs.Faults.{fault_at, OfBytes, OfSource}
+use Rattle.mid_format.specs.Parts.{IsInRange, ReadsHead, ReadsBody, FailsInside, IsCut, IsBehindEnd}
+use Rattle.mid_format.specs.HasRead.{IsStorable, IsBegunFile, IsEndedFile, IsMidFault, BeginsWith, IsReadSoFar, IsFaultAt, StandsBehind, FailsAfter, HasRead}
 use Rattle.mid_format.specs.Steps.{IsGoing, BeginsNow, BeginsReading, BeginStops, FinishesReading, FinishStops}
 use Rattle.mid_format.specs.declared.faults.MidFault.{MidFault}
-use Rattle.mid_format.specs.declared.faults.MidFault.TheVariants.{AfterEnd}
+use Rattle.mid_format.specs.declared.faults.MidFault.TheVariants.{AfterEnd, ReadFault}
 use Rattle.mid_format.specs.declared.progress.Progress.{Progress}
 use Rattle.mid_format.proofs.Allowed.{IsBeginHeader, IsEventHeader, IsEndHeader, begin_allowed, event_allowed, end_allowed}
 use Rattle.mid_format.proofs.Beginnings.{map_fault, told_behind, cut_behind}
+use Rattle.mid_format.proofs.Failing.{map_source, of_source, inside_data, after_inside, after_end}
 
 none_some : {A B : Type 0} (o : Option A) (x : A) → o ≡ None → o ≡ Some x → B
 none_some o x n s = let e : false ≡ true = ap is_some (sym n ∙ s) in absurd cc
@@ -103,10 +105,12 @@ module _ (first before : Option (List ℕ)) (old : Progress) (events : List Even
         at_end = λ n end is_last. none_some old.last end going.no_end is_last;
         fault_is = λ fault is_fault. none_some old.fault fault going.no_fault is_fault;
         here = λ fault is_fault. none_some old.fault fault going.no_fault is_fault;
+        unread = λ is_fault. none_some old.fault ReadFault going.no_fault is_fault;
       })
 
-  pub begin_stopped : (after : Option (List ℕ)) (new : Progress) (f : MidFault) → BeginStops before old new f → HasRead first after (record new { fault = Some f }) events
-  begin_stopped after new f s =
+  pub begin_stopped : (after : Option (List ℕ)) (at_hand : List ℕ) (new : Progress) (f : MidFault) → BeginStops before old new f → OfSource f (FailsInside before after at_hand)
+      → HasRead first after (record new { fault = Some f }) events
+  begin_stopped after at_hand new f s fails =
       let stays : OfBytes f (IfSome first (λ text. IsMidFault text f)) =
       map_fault f (IfSome before (λ rest. fault_at None old.at rest ≡ Some f)) (IfSome first (λ text. IsMidFault text f))
       (told_behind first before r.done (λ rest. fault_at None old.at rest ≡ Some f) (λ text. IsMidFault text f) (r.consumed going.no_fault)
@@ -125,6 +129,7 @@ module _ (first before : Option (List ℕ)) (old : Progress) (events : List Even
         at_end = λ n end is_last. none_some (Some f) f n refl;
         fault_is = of_fault f (λ fault. OfBytes fault (IfSome first (λ text. IsMidFault text fault))) stays;
         here = of_fault f (λ fault. OfBytes fault (IfSome first (λ text. StandsBehind text r.done old.last old.begin fault))) stands;
+        unread = λ is_read. after_inside first before after at_hand r.done old.last going.no_end (r.consumed going.no_fault) (of_source f (FailsInside before after at_hand) fails is_read);
       })
 
 -- The begin record was read, now or before.
@@ -158,9 +163,9 @@ module _ (first before : Option (List ℕ)) (old : Progress) (events : List Even
   so_far : BeginsWith r.done b events
   so_far = done_of r.done old (Some b) events r.is_done has_begun going.no_end
 
-  pub stopped : (after : Option (List ℕ)) (f : MidFault) → OfBytes f (IfSome before (λ rest. fault_at (Some b.serial_number) old.at rest ≡ Some f))
+  pub stopped : (after : Option (List ℕ)) (at_hand : List ℕ) (f : MidFault) → OfBytes f (IfSome before (λ rest. fault_at (Some b.serial_number) old.at rest ≡ Some f)) → OfSource f (FailsInside before after at_hand)
       → HasRead first after (record old { fault = Some f }) events
-  stopped after f wrong =
+  stopped after at_hand f wrong fails =
       let stays : OfBytes f (IfSome first (λ text. IsMidFault text f)) =
       map_fault f (IfSome before (λ rest. fault_at (Some b.serial_number) old.at rest ≡ Some f)) (IfSome first (λ text. IsMidFault text f))
       (told_behind first before r.done (λ rest. fault_at (Some b.serial_number) old.at rest ≡ Some f) (λ text. IsMidFault text f) (r.consumed going.no_fault)
@@ -190,11 +195,14 @@ module _ (first before : Option (List ℕ)) (old : Progress) (events : List Even
         at_end = λ n end is_last. none_some (Some f) f n refl;
         fault_is = of_fault f (λ fault. OfBytes fault (IfSome first (λ text. IsMidFault text fault))) stays;
         here = of_fault f (λ fault. OfBytes fault (IfSome first (λ text. StandsBehind text r.done old.last old.begin fault))) stands;
+        unread = λ is_read. after_inside first before after at_hand r.done old.last going.no_end (r.consumed going.no_fault) (of_source f (FailsInside before after at_hand) fails is_read);
       }
 
   module _ (middle : Option (List ℕ)) (h : Header) (head : ReadsHead before middle (Some b.serial_number) old.at h) where
-    pub data_stopped : (after : Option (List ℕ)) (f : MidFault) → IsCut middle (old.at + 16) h.data_size f → HasRead first after (record old { fault = Some f }) events
-    data_stopped after f cut = stopped after f (cut_behind before middle (Some b.serial_number) old.at h f head.consumed head.fine head.in_range cut)
+    pub data_stopped : (after : Option (List ℕ)) (at_hand : List ℕ) (f : MidFault) → IsCut middle (old.at + 16) h.data_size f → OfSource f (FailsBehind middle after at_hand h.data_size)
+        → HasRead first after (record old { fault = Some f }) events
+    data_stopped after at_hand f cut fails = stopped after at_hand f (cut_behind before middle (Some b.serial_number) old.at h f head.consumed head.fine head.in_range cut)
+        (map_source f (FailsBehind middle after at_hand h.data_size) (FailsInside before after at_hand) (inside_data before middle after at_hand (Some b.serial_number) old.at h head) fails)
 
     pub one_more : (after : Option (List ℕ)) (held : HeldEvent) → h.event_id ≢ end_id → ReadsBody middle after h held
         → HasRead first after (record old { at = old.at + 16 + h.data_size }) (events ++ held.event ∷ [])
@@ -229,6 +237,7 @@ module _ (first before : Option (List ℕ)) (old : Progress) (events : List Even
           at_end = λ n end is_last. none_some old.last end going.no_end is_last;
           fault_is = λ fault is_fault. none_some old.fault fault going.no_fault is_fault;
           here = λ fault is_fault. none_some old.fault fault going.no_fault is_fault;
+          unread = λ is_fault. none_some old.fault ReadFault going.no_fault is_fault;
         })
 
     module _ (is_end : h.event_id ≡ end_id) (dump : List ℕ) (sized : length dump ≡ h.data_size) where
@@ -269,11 +278,12 @@ module _ (first before : Option (List ℕ)) (old : Progress) (events : List Even
         at_end = λ n end is_last. at_end;
         fault_is = λ fault is_fault. none_some old.fault fault going.no_fault is_fault;
         here = λ fault is_fault. none_some old.fault fault going.no_fault is_fault;
+        unread = λ is_fault. none_some old.fault ReadFault going.no_fault is_fault;
       }
 
-      pub finish_stopped : (left after : Option (List ℕ)) (f : MidFault) → Consumes middle left dump → IsBehindEnd left (old.at + 16 + h.data_size) f
+      pub finish_stopped : (left after : Option (List ℕ)) (at_hand : List ℕ) (f : MidFault) → Consumes middle left dump → IsBehindEnd left (old.at + 16 + h.data_size) f → OfSource f (FailsBehind left after at_hand 1)
           → HasRead first after (record old { last = Some h; at = old.at + 16 + h.data_size; fault = Some f }) events
-      finish_stopped left after f c more =
+      finish_stopped left after at_hand f c more fails =
           let stays : OfBytes f (IfSome first (λ text. IsMidFault text f)) =
           map_fault f (IfSome left (λ rest. (0 < length rest) × (f ≡ AfterEnd (old.at + 16 + h.data_size)))) (IfSome first (λ text. IsMidFault text f))
           (told_behind first left (r.done ++ encoding (end_record b.serial_number h.time_stamp dump)) (λ rest. (0 < length rest) × (f ≡ AfterEnd (old.at + 16 + h.data_size))) (λ text. IsMidFault text f)
@@ -308,6 +318,7 @@ module _ (first before : Option (List ℕ)) (old : Progress) (events : List Even
             at_end = λ n end is_last. none_some (Some f) f n refl;
             fault_is = of_fault f (λ fault. OfBytes fault (IfSome first (λ text. IsMidFault text fault))) stays;
             here = of_fault f (λ fault. OfBytes fault (IfSome first (λ text. StandsBehind text (r.done ++ encoding (end_record b.serial_number h.time_stamp dump)) (Some h) old.begin fault))) stands;
+            unread = λ is_read. after_end first left after at_hand (r.done ++ encoding (end_record b.serial_number h.time_stamp dump)) h (taken_to left c) (of_source f (FailsBehind left after at_hand 1) fails is_read);
           }
 
 -- The end record, by what its step did.
@@ -316,10 +327,10 @@ pub last_read : (first before middle after : Option (List ℕ)) (old new : Progr
 last_read first before middle after old new events b h a head is_end f =
     subst (λ p. HasRead first after p events) (sym f.progress) (finished first before old events a.read a.going b a.begin middle h head is_end f.dump f.length after f.consumed f.ended)
 
-pub last_stopped : (first before middle after : Option (List ℕ)) (old new : Progress) (events : List Event) (b h : Header) (f : MidFault) → AfterBegin first before old events b → ReadsHead before middle (Some b.serial_number) old.at h
-    → h.event_id ≡ end_id → FinishStops middle old new h f → HasRead first after (record new { fault = Some f }) events
-last_stopped first before middle after old new events b h f a head is_end (inl cut) =
-    subst (λ (p : Progress). HasRead first after (record p { fault = Some f }) events) (sym cut.progress) (data_stopped first before old events a.read a.going b a.begin middle h head after f cut.fault_is)
-last_stopped first before middle after old new events b h f a head is_end (inr more) =
+pub last_stopped : (first before middle after : Option (List ℕ)) (at_hand : List ℕ) (old new : Progress) (events : List Event) (b h : Header) (f : MidFault) → AfterBegin first before old events b → ReadsHead before middle (Some b.serial_number) old.at h
+    → h.event_id ≡ end_id → FinishStops middle after at_hand old new h f → HasRead first after (record new { fault = Some f }) events
+last_stopped first before middle after at_hand old new events b h f a head is_end (inl cut) =
+    subst (λ (p : Progress). HasRead first after (record p { fault = Some f }) events) (sym cut.progress) (data_stopped first before old events a.read a.going b a.begin middle h head after at_hand f cut.fault_is cut.fails)
+last_stopped first before middle after at_hand old new events b h f a head is_end (inr more) =
     subst (λ (p : Progress). HasRead first after (record p { fault = Some f }) events) (sym more.progress)
-    (finish_stopped first before old events a.read a.going b a.begin middle h head is_end more.dump more.length more.middle after f more.consumed more.fault_is)
+    (finish_stopped first before old events a.read a.going b a.begin middle h head is_end more.dump more.length more.middle after at_hand f more.consumed more.fault_is more.fails)

@@ -1,6 +1,7 @@
 mod PartsRead
 mod Allowed
 mod Beginnings
+mod Failing
 mod Going
 pub mod AtHand
 pub mod HeadersBack

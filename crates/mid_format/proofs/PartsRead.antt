@@ -4,7 +4,7 @@ use Rattle.std.proofs.lemmas.List.{append-nil, take_all}
 use Rattle.std.proofs.lemmas.Bool.{lt-ltb}
 use Rattle.std.specs.Io.KnownBytes.{Consumes, IsAtEnd}
 use Rattle.std.proofs.KnownBytes.{Consumes-nil, Consumes-trans}
-use Rattle.event_header.specs.Pieces.{Gathers}
+use Rattle.event_header.specs.Pieces.{Gathers, FailsBehind}
 use Rattle.event_header.specs.Headers.{header_encoding}
 use Rattle.event_header.specs.declared.head.Header.{Header}
 use Rattle.mid_format.specs.Faults.{header_fault, nothing_left, or_else, fault_at, OfBytes}
@@ -92,4 +92,12 @@ passed_end a b c size rest part block count p g len small short = record {
   within = omega (arith, p.length, small, short);
   consumed = Consumes-trans a b c p.bytes (take count block) p.consumed g.consumed;
   ended = λ less. g.ended (omega (arith, len, short));
+}
+
+pub passed_fails : (a b c : Option (List ℕ)) (at_hand : List ℕ) (size rest part : ℕ) → Passed a b size rest → FailsBehind b c at_hand part → part ≤ rest → FailsBehind a c at_hand size
+passed_fails a b c at_hand size rest part p f small = record {
+  bytes = p.bytes ++ f.bytes;
+  fewer = omega (arith, p.length, length-append p.bytes f.bytes, f.fewer, small);
+  consumed = Consumes-trans a b c p.bytes f.bytes p.consumed f.consumed;
+  none_at_hand = f.none_at_hand;
 }

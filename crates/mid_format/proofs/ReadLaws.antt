@@ -17,7 +17,7 @@ use Rattle.mid_format.specs.ReadLaws.{IsWholeFile, ReadsWhole, AreSameRun}
 
 -- Nothing was read yet.
 pub has_read_none : (first : Option (List ℕ)) → HasRead first first nothing_read []
-has_read_none None = record { done = []; begins = tt; consumed = λ n. tt; place = refl; within = omega arith; is_done = (refl, refl); at_end = λ n end e. some_none end e; fault_is = λ fault e. some_none fault e; here = λ fault e. some_none fault e }
+has_read_none None = record { done = []; begins = tt; consumed = λ n. tt; place = refl; within = omega arith; is_done = (refl, refl); at_end = λ n end e. some_none end e; fault_is = λ fault e. some_none fault e; here = λ fault e. some_none fault e; unread = λ e. some_none ReadFault e }
 has_read_none (Some text) = record {
   done = [];
   begins = (text, refl);
@@ -28,6 +28,7 @@ has_read_none (Some text) = record {
   at_end = λ n end e. some_none end e;
   fault_is = λ fault e. some_none fault e;
   here = λ fault e. some_none fault e;
+  unread = λ e. some_none ReadFault e;
 }
 
 all_of_it : (text done : List ℕ) (now : Option (List ℕ)) → Consumes (Some text) now done → IsAtEnd now → text ≡ done

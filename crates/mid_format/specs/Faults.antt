@@ -51,6 +51,17 @@ fault_at run at rest =
     else or_else (header_fault run at (header_at rest))
     (if nat_lt (length rest) (16 + (header_at rest).data_size) then Some (Truncated (at + length rest)) else None))
 
+-- A fact of the source, at its fault.
+abbrev pub OfSource : MidFault → Type 0 → Type 0
+OfSource (Truncated at) fact = ⊤
+OfSource (NoBegin at) fact = ⊤
+OfSource (NoEnd at) fact = ⊤
+OfSource (AfterEnd at) fact = ⊤
+OfSource (TooBig at size) fact = ⊤
+OfSource ReadFault fact = fact
+OfSource (BadRecord at) fact = ⊤
+OfSource (TooLong at) fact = ⊤
+
 -- A fact of the bytes, at each fault but that of the source.
 abbrev pub OfBytes : MidFault → Type 0 → Type 0
 OfBytes (Truncated at) fact = fact

@@ -7,9 +7,9 @@ use Rattle.daq_model.specs.RunFile.{begin_record, end_record, begun_file, IsFile
 use Rattle.event_header.specs.Headers.{fields_of}
 use Rattle.event_header.specs.declared.head.Header.{Header}
 use Rattle.mid_format.specs.Faults.{fault_at, OfBytes}
-use Rattle.mid_format.specs.Parts.{IsInRange}
+use Rattle.mid_format.specs.Parts.{IsInRange, LacksRecord}
 use Rattle.mid_format.specs.declared.faults.MidFault.{MidFault}
-use Rattle.mid_format.specs.declared.faults.MidFault.TheVariants.{AfterEnd}
+use Rattle.mid_format.specs.declared.faults.MidFault.TheVariants.{AfterEnd, ReadFault}
 use Rattle.mid_format.specs.declared.progress.Progress.{Progress}
 
 -- Each field of an event's header fits in its bytes.
@@ -100,6 +100,17 @@ pub record StandsBehind (text done : List ℕ) (last begin : Option Header) (fau
   pub text_is : text ≡ done ++ rest
   pub stands : IsFaultAt last begin (length done) rest fault
 
+-- No record lies whole behind what was read, and behind the end record no byte.
+abbrev pub LacksNext : (last : Option Header) → List ℕ → Type 0
+LacksNext None rest = LacksRecord rest
+LacksNext (Some end) rest = rest ≡ []
+
+-- The source failed behind what was read, and behind bytes in which no record lies whole.
+pub record FailsAfter (first now : Option (List ℕ)) (done : List ℕ) (last : Option Header) : Type 0 where
+  pub part : List ℕ
+  pub lacks : LacksNext last part
+  pub consumed : Consumes first now (done ++ part)
+
 -- Where the source first told its bytes: these events were read of it, and it has `now` left.
 pub record HasRead (first now : Option (List ℕ)) (progress : Progress) (events : List Event) : Type 0 where
   pub done : List ℕ
@@ -117,6 +128,8 @@ pub record HasRead (first now : Option (List ℕ)) (progress : Progress) (events
   pub fault_is : (fault : MidFault) → progress.fault ≡ Some fault → OfBytes fault (IfSome first (λ text. IsMidFault text fault))
   -- and stands right behind what was read
   pub here : (fault : MidFault) → progress.fault ≡ Some fault → OfBytes fault (IfSome first (λ text. StandsBehind text done progress.last progress.begin fault))
+  -- where the source failed, all that it gave was read, but for a part of a record
+  pub unread : progress.fault ≡ Some ReadFault → FailsAfter first now done progress.last
 
 -- nothing was read
 abbrev pub nothing_read : Progress

@@ -5,7 +5,7 @@ use Rattle.daq_io.specs.Counts.{Rose}
 use Rattle.event_header.specs.Headers.{header_encoding, event_of}
 use Rattle.event_header.specs.Held.{HeldEvent}
 use Rattle.event_header.specs.declared.head.Header.{Header}
-use Rattle.mid_format.specs.Faults.{header_fault, OfBytes}
+use Rattle.mid_format.specs.Faults.{header_at, header_fault, OfBytes}
 use Rattle.mid_format.specs.declared.faults.MidFault.{MidFault}
 use Rattle.mid_format.specs.declared.faults.MidFault.TheVariants.{Truncated, NoBegin, NoEnd, AfterEnd, TooBig, ReadFault, BadRecord, TooLong}
 
@@ -43,6 +43,17 @@ pub record ReadsBody (before after : Option (List ℕ)) (h : Header) (held : Hel
   pub length : length body ≡ h.data_size
   pub consumed : Consumes before after body
   pub event : held.event ≡ event_of h body
+
+-- No record lies whole at the front of these bytes: they end in its header, or in its data.
+abbrev pub LacksRecord : List ℕ → Type 0
+LacksRecord bytes = 16 ≤ length bytes → length bytes < 16 + (header_at bytes).data_size
+
+-- The source failed inside a record, of which it gave these bytes, and none lie at hand.
+pub record FailsInside (before after : Option (List ℕ)) (at_hand : List ℕ) : Type 0 where
+  pub part : List ℕ
+  pub lacks : LacksRecord part
+  pub consumed : Consumes before after part
+  pub none_at_hand : at_hand ≡ []
 
 -- Of so much data at this place, where these bytes are left, some are missing.
 abbrev pub IsCut : Option (List ℕ) → (place size : ℕ) → MidFault → Type 0

@@ -3,8 +3,9 @@ use Rattle.std.specs.Prelude.{◌≡◌, ℕ, ◌+◌, ◌⊎◌, List, ◌++◌
 use Rattle.std.specs.Io.KnownBytes.{Consumes, IsAtEnd}
 use Rattle.daq_types.specs.declared.events.Event.{Event}
 use Rattle.event_header.specs.Headers.{header_encoding}
+use Rattle.event_header.specs.Pieces.{FailsBehind}
 use Rattle.event_header.specs.declared.head.Header.{Header}
-use Rattle.mid_format.specs.Faults.{header_fault, fault_at, OfBytes}
+use Rattle.mid_format.specs.Faults.{header_fault, fault_at, OfBytes, OfSource}
 use Rattle.mid_format.specs.Parts.{IsInRange, IsCut, IsBehindEnd}
 use Rattle.mid_format.specs.HasRead.{HasRead, and_given}
 use Rattle.mid_format.specs.declared.faults.MidFault.{MidFault}
@@ -49,21 +50,23 @@ pub record FinishesReading (before after : Option (List ℕ)) (old new : Progres
   pub progress : new ≡ record old { last = Some h; at = old.at + 16 + h.data_size }
 
 -- The data of the end record were not passed.
-pub record FinishCut (before : Option (List ℕ)) (old new : Progress) (h : Header) (fault : MidFault) : Type 0 where
+pub record FinishCut (before after : Option (List ℕ)) (at_hand : List ℕ) (old new : Progress) (h : Header) (fault : MidFault) : Type 0 where
   pub progress : new ≡ old
   pub fault_is : IsCut before (old.at + 16) h.data_size fault
+  pub fails : OfSource fault (FailsBehind before after at_hand h.data_size)
 
 -- They were passed, and more is left.
-pub record FinishMore (before : Option (List ℕ)) (old new : Progress) (h : Header) (fault : MidFault) : Type 0 where
+pub record FinishMore (before after : Option (List ℕ)) (at_hand : List ℕ) (old new : Progress) (h : Header) (fault : MidFault) : Type 0 where
   pub dump : List ℕ
   pub length : length dump ≡ h.data_size
   pub middle : Option (List ℕ)
   pub consumed : Consumes before middle dump
   pub progress : new ≡ record old { last = Some h; at = old.at + 16 + h.data_size }
   pub fault_is : IsBehindEnd middle (old.at + 16 + h.data_size) fault
+  pub fails : OfSource fault (FailsBehind middle after at_hand 1)
 
-abbrev pub FinishStops : Option (List ℕ) → Progress → Progress → Header → MidFault → Type 0
-FinishStops before old new h fault = FinishCut before old new h fault ⊎ FinishMore before old new h fault
+abbrev pub FinishStops : (before after : Option (List ℕ)) (at_hand : List ℕ) → Progress → Progress → Header → MidFault → Type 0
+FinishStops before after at_hand old new h fault = FinishCut before after at_hand old new h fault ⊎ FinishMore before after at_hand old new h fault
 
 -- An answer, and what was read: whatever was read before, one event more or, at the end, no more.
 abbrev pub StepReads : Option (List ℕ) → Option (List ℕ) → Progress → Progress → Option (Unit {0}) → Event → Type 0

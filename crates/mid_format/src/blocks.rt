@@ -7,21 +7,16 @@ use std::marker::Model;
 
 /// A source of which some bytes lie at hand: they can be looked at before they are taken.
 pub trait Ahead: Source {
-    ghost use Rattle.std.specs.Prelude.{ℕ, List};
-
-    /// The bytes at hand.
-    ghost at_hand: { Self → List ℕ };
-
     /// The bytes at hand, the first of those left. There may be none while more are left: a `read` brings them.
     fn peek(&self) -> &[u8]
-        ensures { result.now ≡ at_hand self.now };
+        ensures { result.now ≡ Self.at_hand self.now };
 
     /// Takes so many of the bytes at hand.
     fn pass(&mut self, count: usize)
-        requires { count ≤ length (at_hand self.old) }
+        requires { count ≤ length (Self.at_hand self.old) }
         ensures taken { Consumes (Self.left self.old) (Self.left self.new)
-            (take count (at_hand self.old)) }
-        ensures behind { at_hand self.new ≡ drop count (at_hand self.old) }
+            (take count (Self.at_hand self.old)) }
+        ensures behind { Self.at_hand self.new ≡ drop count (Self.at_hand self.old) }
         ensures faults { Self.faults self.new ≡ Self.faults self.old }
         ensures origin { Self.origin self.new ≡ Self.origin self.old };
 }
@@ -120,6 +115,8 @@ impl<S: Source> Source for BlockSource<S> {
 
     ghost faults = { λ b. S.faults b.source };
 
+    ghost at_hand = { λ b. b.at_hand };
+
     ghost origin = { λ b. S.origin b.source };
 
     fn read(&mut self, into: &mut [u8]) -> Result<usize, Failed> {
@@ -131,8 +128,6 @@ impl<S: Source> Source for BlockSource<S> {
 }
 
 impl<S: Source> Ahead for BlockSource<S> {
-    ghost at_hand = { λ b. b.at_hand };
-
     fn peek(&self) -> &[u8] {
         let (filled, _) = self.block.as_slice().split_at(self.end);
         let (_, at_hand) = filled.split_at(self.start);

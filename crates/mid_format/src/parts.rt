@@ -1,6 +1,7 @@
-ghost use Rattle.std.specs.Prelude.{◌≡◌, ◌≤◌, ◌+◌, ◌^◌, Some, IfSome, IfOk, IfErr, OnOk};
+ghost use Rattle.std.specs.Prelude.{◌≡◌, ◌≤◌, ◌+◌, ◌^◌, Some, IfSome, IfOk, IfErr, OnOk, OnErr};
 ghost use Rattle.daq_io.specs.Counts.{CountsFault};
-ghost use Rattle.mid_format.specs.Faults.{fault_at, OfBytes};
+ghost use Rattle.event_header.specs.Pieces.{FailsBehind};
+ghost use Rattle.mid_format.specs.Faults.{fault_at, OfBytes, OfSource};
 ghost use Rattle.mid_format.specs.Parts.{ReadsHead, PassesOver, PassesAll, ReadsBody, IsCut, IsEnd, IsBehindEnd, CountsReads};
 
 use crate::faults::{MidFault, header_fault, nothing_left};
@@ -16,6 +17,8 @@ pub fn read_head<S: Source>(source: &mut S, run: Option<u32>, at: u64) -> Result
     ensures head { IfOk result (ReadsHead (S.left source.old) (S.left source.new) run at) }
     ensures fault { IfErr result (λ fault. OfBytes fault
         (IfSome (S.left source.old) (λ rest. fault_at run at rest ≡ Some fault))) }
+    ensures fails { IfErr result (λ fault. OfSource fault (FailsBehind (S.left source.old)
+        (S.left source.new) (S.at_hand source.new) 16)) }
     ensures counted { CountsReads (S.faults source.old) (S.faults source.new) result }
     ensures origin { S.origin source.new ≡ S.origin source.old }
 {
@@ -41,6 +44,8 @@ pub fn read_head<S: Source>(source: &mut S, run: Option<u32>, at: u64) -> Result
 /// Passes over so many bytes, or as many as the source has, and answers how many.
 fn pass<S: Source>(source: &mut S, size: u32) -> Result<u32, Failed>
     ensures passes { IfOk result (PassesOver (S.left source.old) (S.left source.new) size) }
+    ensures fails { OnErr result (FailsBehind (S.left source.old) (S.left source.new)
+        (S.at_hand source.new) size) }
     ensures faults { CountsFault (S.faults source.old) (S.faults source.new) result }
     ensures origin { S.origin source.new ≡ S.origin source.old }
 {
@@ -63,6 +68,8 @@ pub fn pass_data<S: Source>(source: &mut S, place: u64, size: u32) -> Result<(),
     requires { place + size ≤ 2 ^ 62 }
     ensures passed { OnOk result (PassesAll (S.left source.old) (S.left source.new) size) }
     ensures cut { IfErr result (IsCut (S.left source.old) place size) }
+    ensures fails { IfErr result (λ fault. OfSource fault (FailsBehind (S.left source.old)
+        (S.left source.new) (S.at_hand source.new) size)) }
     ensures counted { CountsReads (S.faults source.old) (S.faults source.new) result }
     ensures origin { S.origin source.new ≡ S.origin source.old }
 {
@@ -89,6 +96,8 @@ pub fn read_data<S: Source>(
     ensures read { OnOk result (ReadsBody (S.left source.old) (S.left source.new) header.now
         into.new) }
     ensures cut { IfErr result (IsCut (S.left source.old) place header.now.data_size) }
+    ensures fails { IfErr result (λ fault. OfSource fault (FailsBehind (S.left source.old)
+        (S.left source.new) (S.at_hand source.new) header.now.data_size)) }
     ensures room { into.new.room ≡ into.old.room }
     ensures counted { CountsReads (S.faults source.old) (S.faults source.new) result }
     ensures origin { S.origin source.new ≡ S.origin source.old }
@@ -108,6 +117,8 @@ pub fn read_data<S: Source>(
 pub fn read_end<S: Source>(source: &mut S, at: u64) -> Result<(), MidFault>
     ensures end { OnOk result (IsEnd (S.left source.old) (S.left source.new)) }
     ensures more { IfErr result (IsBehindEnd (S.left source.old) at) }
+    ensures fails { IfErr result (λ fault. OfSource fault (FailsBehind (S.left source.old)
+        (S.left source.new) (S.at_hand source.new) 1)) }
     ensures counted { CountsReads (S.faults source.old) (S.faults source.new) result }
     ensures origin { S.origin source.new ≡ S.origin source.old }
 {

@@ -1,7 +1,8 @@
-ghost use Rattle.std.specs.Prelude.{◌≡◌, ◌≤◌, ◌<◌, ◌^◌, ◌↔◌, ℕ, List, Option, Some, None, Ok, Err, IfSome, IfOk, IsSome, IsNone, take, drop};
+ghost use Rattle.std.specs.Prelude.{◌≡◌, ◌≤◌, ◌<◌, ◌^◌, ◌↔◌, ℕ, List, [], Option, Some, None, Ok, Err, IfSome, IfOk, IfErr, IsSome, IsNone, take, drop};
 ghost use Rattle.daq_model.specs.Events.{event_limit};
 ghost use Rattle.daq_types.specs.declared.events.Event.{Event};
 ghost use Rattle.mid_format.specs.AtHand.{StandsWhole, TakesNext, TakesSoFar, event_at_front};
+ghost use Rattle.mid_format.specs.Faults.{OfSource};
 ghost use Rattle.mid_format.specs.HasRead.{HasRead, nothing_read};
 ghost use Rattle.mid_format.specs.Opened.{ReadsOn, CountsNext, fault_of, run_number_of};
 
@@ -119,6 +120,9 @@ impl<S: Source> MidReader<S> {
         ensures limit { self.new.progress.at ≤ 2 ^ 62 }
         ensures counted { CountsNext self.old.progress.fault (S.faults self.old.source)
             (S.faults self.new.source) result }
+        // Where the source fails, nothing lies at hand any more.
+        ensures at_hand { self.old.progress.fault ≡ None → IfErr result (λ fault. OfSource fault
+            (S.at_hand self.new.source ≡ [])) }
         // `into` stays at the end, and where a fault is answered again.
         ensures into_at_end { IfOk result (λ given. IsNone given → into.new ≡ into.old) }
         ensures into_again { IsSome self.old.progress.fault → into.new ≡ into.old }

@@ -1,7 +1,8 @@
-ghost use Rattle.std.specs.Prelude.{◌≡◌, ◌≤◌, ◌<◌, ◌^◌, ◌+◌, ◌↔◌, ℕ, List, Some, None, IfOk, IfErr, OnOk, OnErr, IsSome, IsNone};
+ghost use Rattle.std.specs.Prelude.{◌≡◌, ◌≤◌, ◌<◌, ◌^◌, ◌+◌, ◌↔◌, ℕ, List, [], Some, None, IfOk, IfErr, OnOk, OnErr, IsSome, IsNone};
 ghost use Rattle.daq_model.specs.Events.{event_limit};
 ghost use Rattle.daq_types.specs.declared.events.Event.{Event};
-ghost use Rattle.mid_format.specs.Parts.{CountsReads};
+ghost use Rattle.mid_format.specs.Faults.{OfSource};
+ghost use Rattle.mid_format.specs.Parts.{CountsReads, FailsInside};
 ghost use Rattle.mid_format.specs.Steps.{BeginsReading, BeginStops, FinishesReading, FinishStops, IsGoing, StepReads, Stops};
 
 use crate::faults::MidFault;
@@ -17,6 +18,8 @@ fn begin<S: Source>(source: &mut S, progress: &mut Progress) -> Result<Header, M
     ensures begins { IfOk result (BeginsReading (S.left source.old) (S.left source.new)
         progress.old progress.new) }
     ensures stops { IfErr result (BeginStops (S.left source.old) progress.old progress.new) }
+    ensures fails { IfErr result (λ fault. OfSource fault (FailsInside (S.left source.old)
+        (S.left source.new) (S.at_hand source.new))) }
     ensures counted { CountsReads (S.faults source.old) (S.faults source.new) result }
     ensures origin { S.origin source.new ≡ S.origin source.old }
 {
@@ -40,8 +43,8 @@ fn finish<S: Source>(
     requires { progress.old.at + 16 + header.data_size ≤ 2 ^ 62 }
     ensures finishes { OnOk result (FinishesReading (S.left source.old) (S.left source.new)
         progress.old progress.new header) }
-    ensures stops { IfErr result (FinishStops (S.left source.old) progress.old progress.new
-        header) }
+    ensures stops { IfErr result (FinishStops (S.left source.old) (S.left source.new)
+        (S.at_hand source.new) progress.old progress.new header) }
     ensures counted { CountsReads (S.faults source.old) (S.faults source.new) result }
     ensures origin { S.origin source.new ≡ S.origin source.old }
 {
@@ -65,6 +68,7 @@ pub fn step<S: Source>(
         progress.old progress.new given into.new.event) }
     ensures stops { IfErr result (Stops (S.left source.old) (S.left source.new) progress.old
         progress.new) }
+    ensures at_hand { IfErr result (λ fault. OfSource fault (S.at_hand source.new ≡ [])) }
     ensures place { progress.new.at ≤ 2 ^ 62 }
     ensures onward { IfOk result (λ given. IsSome given → progress.old.at < progress.new.at) }
     ensures begun { IsSome progress.old.begin → progress.new.begin ≡ progress.old.begin }
