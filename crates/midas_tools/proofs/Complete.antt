@@ -58,10 +58,10 @@ stands_fault bytes front rest (Some end) (Some b) events f is d counted s =
 dump_faults : (bytes : List ℕ) (f : MidFault) (text : List ℕ) → IsDump bytes (Some f) text → IsMidFault bytes f
 dump_faults bytes f text d = stands_fault bytes d.lists.front d.rest d.last d.begin d.lists.events f d.lists.bytes_are d.lists.is_done d.counted d.ends
 
-pub dump_completes : (seen : Seen) (name : List ℕ) (told_old told_new : Option (List ℕ)) (sink_old sink_new files_old files_new : ℕ) (end : ToolEnd) → WritesOn seen name told_old told_new end
+pub dump_completes : (seen : Seen) (name : List ℕ) (read_old read_new : ℕ) (told_old told_new : Option (List ℕ)) (sink_old sink_new files_old files_new : ℕ) (end : ToolEnd) → WritesOn seen name read_old read_new told_old told_new end
     → SinkByEnd end sink_old sink_new → FilesByEnd end files_old files_new → Completes seen name sink_old sink_new files_old files_new end
-dump_completes seen name told_old told_new sink_old sink_new files_old files_new Done w s f = λ h calm_sink calm_files. inl refl
-dump_completes seen name told_old told_new sink_old sink_new files_old files_new (Input fault) w s f = λ h calm_sink calm_files. absurd (no_input IsDump dump_faults seen name w.text fault h w.finds)
-dump_completes seen name told_old told_new sink_old sink_new files_old files_new FileFault w s f = λ h calm_sink calm_files. absurd (calm_files f)
-dump_completes seen name told_old told_new sink_old sink_new files_old files_new SinkFault w s f = λ h calm_sink calm_files. absurd (calm_sink s)
-dump_completes seen name told_old told_new sink_old sink_new files_old files_new NoMemory w s f = λ h calm_sink calm_files. inr refl
+dump_completes seen name read_old read_new told_old told_new sink_old sink_new files_old files_new Done w s f = λ h calm_sink calm_files. inl refl
+dump_completes seen name read_old read_new told_old told_new sink_old sink_new files_old files_new (Input fault) w s f = λ h calm_sink calm_files. absurd (no_input IsDump dump_faults seen name w.text fault h w.finds)
+dump_completes seen name read_old read_new told_old told_new sink_old sink_new files_old files_new FileFault w s f = λ h calm_sink calm_files. absurd (calm_files f)
+dump_completes seen name read_old read_new told_old told_new sink_old sink_new files_old files_new SinkFault w s f = λ h calm_sink calm_files. absurd (calm_sink s)
+dump_completes seen name read_old read_new told_old told_new sink_old sink_new files_old files_new NoMemory w s f = λ h calm_sink calm_files. inr refl

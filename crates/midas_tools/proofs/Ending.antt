@@ -11,7 +11,7 @@ use Rattle.midas_tools.specs.declared.ends.InputFault.TheVariants.{Mid, Compress
 use Rattle.midas_tools.specs.declared.ends.ToolEnd.{ToolEnd}
 use Rattle.midas_tools.specs.declared.ends.ToolEnd.TheVariants.{Done, Input, FileFault, SinkFault, NoMemory}
 
-file_at : (o : Option Stored) → IsSome o → (file : Stored) × (o ≡ Some file)
+pub file_at : (o : Option Stored) → IsSome o → (file : Stored) × (o ≡ Some file)
 file_at None h = let e : false ≡ true = h in absurd cc
 file_at (Some file) h = (file, refl)
 

@@ -1,7 +1,6 @@
 mod Types
 mod Reading
 mod Ending
-mod Paging
 mod Dumping
 mod Dumped
 mod Complete

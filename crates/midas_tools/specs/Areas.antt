@@ -1,9 +1,11 @@
 -- The lines of events with their banks.
-use Rattle.std.specs.Prelude.{◌≡◌, ℕ, ◌⊎◌, List, [], ◌∷◌, ◌++◌}
+use Rattle.std.specs.Prelude.{◌≡◌, ℕ, ◌⊎◌, List, [], ◌∷◌, ◌++◌, Option, Result}
 use Rattle.daq_types.specs.declared.events.Event.{Event}
+use Rattle.daq_io.specs.declared.faults.Failed.{Failed}
 use Rattle.bank_format.specs.BankAreas.{BankValue}
 use Rattle.bank_format.specs.Faults.{HoldsBanks, IsFirstFault}
 use Rattle.bank_format.specs.declared.faults.BankFault.{BankFault}
+use Rattle.midas_tools.specs.Printing.{PassesText}
 use Rattle.midas_tools.specs.Texts.{event_line, bank_line, no_banks_line}
 
 -- banks, a line each
@@ -33,11 +35,11 @@ pub record AreEventLines (e : Event) (text : List ℕ) : Type 0 where
   pub banks : AreBankLines e.body below
   pub text_is : text ≡ event_line e ++ below
 
--- Such lines were added to a page.
-pub record Adds (Are : List ℕ → Type 0) (page_old page_new : List ℕ) : Type 0 where
+-- Such lines went to the page and to the sink.
+pub record PassesLines (Are : List ℕ → Type 0) (now new : Option (List ℕ)) (page_old page_new : List ℕ) (result : Result (Unit {0}) Failed) : Type 0 where
   pub lines : List ℕ
   pub are : Are lines
-  pub page_is : page_new ≡ page_old ++ lines
+  pub passes : PassesText now new page_old page_new lines result
 
 -- the lines of events, one behind the other
 abbrev pub AreLinesOf : List Event → List ℕ → Type 0

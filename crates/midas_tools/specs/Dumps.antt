@@ -1,14 +1,16 @@
 -- What `dump` prints of a file.
-use Rattle.std.specs.Prelude.{◌≡◌, ◌≢◌, ◌≤◌, ◌^◌, ℕ, false, Bool, ◌⊎◌, List, [], ◌++◌, length, Option, Some, None, Result, Ok, Err, codes, IsTrue, IfSome, if◌then◌else◌, ⊤}
-use Rattle.std.specs.Io.KnownBytes.{Appends}
+use Rattle.std.specs.Prelude.{◌≡◌, ◌≢◌, ◌≤◌, ◌^◌, ℕ, false, Bool, ◌⊎◌, List, [], ◌++◌, length, take, Option, Some, None, Result, Ok, Err, codes, IsTrue, IfSome, if◌then◌else◌, ⊤}
+use Rattle.std.specs.Io.KnownBytes.{Appends, Keeps}
 use Rattle.daq_types.specs.Names.{is_compressed}
 use Rattle.daq_types.specs.declared.events.Event.{Event}
-use Rattle.daq_io.specs.Counts.{Rose}
+use Rattle.daq_io.specs.Counts.{Rose, RoseJustBy}
 use Rattle.daq_io.specs.Seen.{Seen}
 use Rattle.daq_io.specs.Streams.{AppendsPart}
+use Rattle.daq_io.specs.declared.faults.Failed.{Failed}
 use Rattle.event_header.specs.declared.head.Header.{Header}
 use Rattle.mid_format.specs.Parts.{CountedBy}
-use Rattle.mid_format.specs.HasRead.{IsReadSoFar, IsFaultAt, HasRead}
+use Rattle.mid_format.specs.Faults.{OfSource}
+use Rattle.mid_format.specs.HasRead.{IsReadSoFar, IsFaultAt, LacksNext, HasRead}
 use Rattle.mid_format.specs.declared.faults.MidFault.{MidFault}
 use Rattle.mid_format.specs.declared.faults.MidFault.TheVariants.{Truncated, NoBegin, NoEnd, AfterEnd, TooBig, ReadFault, BadRecord, TooLong}
 use Rattle.mid_format.specs.declared.progress.Progress.{Progress}
@@ -17,7 +19,7 @@ use Rattle.midas_tools.specs.Areas.{AreLinesOf}
 use Rattle.midas_tools.specs.Printing.{PrintsSoFar}
 use Rattle.midas_tools.specs.Findings.{IsThere, WritesAll, WritesPart}
 use Rattle.midas_tools.specs.declared.halts.Halt.{Halt}
-use Rattle.midas_tools.specs.declared.halts.Halt.TheVariants.{Bad, SinkFailed, Short, Unread}
+use Rattle.midas_tools.specs.declared.halts.Halt.TheVariants.{Bad, SinkFailed}
 use Rattle.midas_tools.specs.declared.ends.InputFault.TheVariants.{Mid, Compressed, Missing, ScriptTooLong}
 use Rattle.midas_tools.specs.declared.ends.ToolEnd.{ToolEnd}
 use Rattle.midas_tools.specs.declared.ends.ToolEnd.TheVariants.{Done, Input, FileFault, SinkFault, NoMemory}
@@ -79,32 +81,47 @@ pub record IsDump (bytes : List ℕ) (fault : Option MidFault) (text : List ℕ)
   pub ends : EndsAt fault last begin (length lists.front) rest
   pub text_is : text ≡ shown ++ fault_lines fault
 
--- The lines of some records and events of the file were written, or a part of them; nothing, where there is no file.
+-- The text is the lines of all the records and events that lie whole in these bytes.
+pub record ListsWhole (bytes text : List ℕ) : Type 0 where
+  pub begin : Option Header
+  pub last : Option Header
+  pub rest : List ℕ
+  pub lists : ListsFront bytes begin last rest text
+  pub lacks : LacksNext last rest
+
+-- The text is the lines of all that lies whole in the bytes of the file that were read: so many, from its front, by the
+-- count of what the files gave.
+pub record ListsRead (seen : Seen) (name : List ℕ) (read_old read_new : ℕ) (text : List ℕ) : Type 0 where
+  pub count : ℕ
+  pub counted : RoseJustBy count read_old read_new
+  pub there : IsThere seen name (λ bytes. ListsWhole (take count bytes) text)
+
+-- The lines of some records and events of the file were written, or a part of them.
 pub record WritesSome (seen : Seen) (name : List ℕ) (told_old told_new : Option (List ℕ)) : Type 0 where
   pub text : List ℕ
-  pub lists : (text ≡ []) ⊎ (IsTrue seen.tells → IsThere seen name (λ bytes. IsPart bytes text))
+  pub lists : IsTrue seen.tells → IsThere seen name (λ bytes. IsPart bytes text)
   pub written : AppendsPart told_old told_new text
 
--- The lines of some records and events of the file were written, and none of them was cut off; nothing, where there is no
--- file.
-pub record WritesLines (seen : Seen) (name : List ℕ) (told_old told_new : Option (List ℕ)) : Type 0 where
+-- The lines of all that was read of the file were written.
+pub record WritesRead (seen : Seen) (name : List ℕ) (read_old read_new : ℕ) (told_old told_new : Option (List ℕ)) : Type 0 where
   pub text : List ℕ
-  pub lists : (text ≡ []) ⊎ (IsTrue seen.tells → IsThere seen name (λ bytes. IsPart bytes text))
+  pub lists : IsTrue seen.tells → ListsRead seen name read_old read_new text
   pub written : Appends told_old told_new text
 
 -- All of the text of what was found was written.
 abbrev pub WritesFound : (seen : Seen) (name : List ℕ) (told_old told_new : Option (List ℕ)) → Type 0
 WritesFound seen name told_old told_new = (found : ToolEnd) × WritesAll IsDump seen name told_old told_new found
 
--- What `dump` writes, which prints as it reads: its text. Where a call on the files fails, that too, or whole lines of
--- what was read in front of it; where the sink fails a part of the text, or of the lines of what was read; where memory
--- is wanting whole lines of what was read.
-abbrev pub WritesOn : (seen : Seen) (name : List ℕ) (told_old told_new : Option (List ℕ)) → ToolEnd → Type 0
-WritesOn seen name told_old told_new Done = WritesAll IsDump seen name told_old told_new Done
-WritesOn seen name told_old told_new (Input fault) = WritesAll IsDump seen name told_old told_new (Input fault)
-WritesOn seen name told_old told_new FileFault = (is_compressed name ≡ false) × (WritesFound seen name told_old told_new ⊎ WritesLines seen name told_old told_new)
-WritesOn seen name told_old told_new SinkFault = WritesPart IsDump seen name told_old told_new ⊎ ((is_compressed name ≡ false) × WritesSome seen name told_old told_new)
-WritesOn seen name told_old told_new NoMemory = (is_compressed name ≡ false) × WritesLines seen name told_old told_new
+-- What `dump` writes, which prints as it reads: its text. Where a call on the files fails, the lines of all that was read
+-- of the file before it, or all of its text, where only the close failed; where the sink fails a part of the text, or of
+-- the lines of what was read; where memory is wanting nothing.
+abbrev pub WritesOn : (seen : Seen) (name : List ℕ) (read_old read_new : ℕ) (told_old told_new : Option (List ℕ)) → ToolEnd → Type 0
+WritesOn seen name read_old read_new told_old told_new Done = WritesAll IsDump seen name told_old told_new Done
+WritesOn seen name read_old read_new told_old told_new (Input fault) = WritesAll IsDump seen name told_old told_new (Input fault)
+WritesOn seen name read_old read_new told_old told_new FileFault =
+    (is_compressed name ≡ false) × (WritesRead seen name read_old read_new told_old told_new ⊎ WritesFound seen name told_old told_new)
+WritesOn seen name read_old read_new told_old told_new SinkFault = WritesPart IsDump seen name told_old told_new ⊎ ((is_compressed name ≡ false) × WritesSome seen name told_old told_new)
+WritesOn seen name read_old read_new told_old told_new NoMemory = (is_compressed name ≡ false) × Keeps told_old told_new
 
 -- The text so far: the lines of the begin record and of the events that were read.
 pub record Listing (first now : Option (List ℕ)) (progress : Progress) (text : List ℕ) : Type 0 where
@@ -118,29 +135,11 @@ pub record Listing (first now : Option (List ℕ)) (progress : Progress) (text :
 abbrev pub new_begin : (begun : Bool) → Option Header → List ℕ
 new_begin begun begin = if begun then [] else begin_lines begin
 
--- Some of the lines were printed whole.
-pub record PrintsLines (first told_first told_now : Option (List ℕ)) : Type 0 where
-  pub text : List ℕ
-  pub part : IfSome first (λ bytes. IsPart bytes text)
-  pub written : Appends told_first told_now text
-
--- The source failed behind these records and events, of which `text` is the lines without the end record's. The lines of
--- all of them were printed, up to the record whose line found no memory: the end record's, or that of the begin record
--- where no event was read.
-pub record PrintsRead (first now : Option (List ℕ)) (progress : Progress) (told_first told_now : Option (List ℕ)) : Type 0 where
-  pub text : List ℕ
-  pub listing : Listing first now progress text
-  pub shown : List ℕ
-  pub shows : (shown ≡ text ++ end_lines progress.last)
-      ⊎ ((shown ≡ text) ⊎ ((shown ≡ []) × (text ≡ begin_lines progress.begin)))
-  pub written : Appends told_first told_now shown
-
--- The text so far was printed, and the file goes on. What went to the sink is whole lines.
+-- The text so far was printed, and the file goes on.
 pub record Printing (first now : Option (List ℕ)) (progress : Progress) (told_first told_now : Option (List ℕ)) (page : List ℕ) : Type 0 where
   pub text : List ℕ
   pub listing : Listing first now progress text
   pub prints : PrintsSoFar told_first told_now page text
-  pub whole : PrintsLines first told_first told_now
   pub sound : progress.fault ≡ None
   pub going : progress.last ≡ None
 
@@ -149,8 +148,15 @@ pub record PrintsUpTo (first now : Option (List ℕ)) (progress : Progress) (tol
   pub text : List ℕ
   pub listing : Listing first now progress text
   pub prints : PrintsSoFar told_first told_now page text
-  pub whole : PrintsLines first told_first told_now
   pub fault_is : progress.fault ≡ fault
+
+-- The source failed behind these records and events, whose lines were all printed.
+pub record PrintsRead (first now told_first told_now : Option (List ℕ)) : Type 0 where
+  pub progress : Progress
+  pub text : List ℕ
+  pub listing : Listing first now progress text
+  pub failed : progress.fault ≡ Some ReadFault
+  pub written : Appends told_first told_now (text ++ end_lines progress.last)
 
 -- Some of the lines were printed.
 pub record PrintsSome (first told_first told_now : Option (List ℕ)) : Type 0 where
@@ -171,81 +177,71 @@ abbrev pub ListsTo : (first now : Option (List ℕ)) (progress : Progress) (told
 ListsTo first now progress told_first told_now page (Ok done) = PrintsUpTo first now progress told_first told_now page None × ((end : Header) × (progress.last ≡ Some end))
 ListsTo first now progress told_first told_now page (Err (Bad fault)) = PrintsUpTo first now progress told_first told_now page (Some fault)
 ListsTo first now progress told_first told_now page (Err SinkFailed) = PrintsSome first told_first told_now
-ListsTo first now progress told_first told_now page (Err Short) = PrintsLines first told_first told_now
-ListsTo first now progress told_first told_now page (Err Unread) = PrintsRead first now progress told_first told_now
 
 -- What was printed where more of the events were, by whether they all were.
-abbrev pub PrintsOn : (first now : Option (List ℕ)) (progress : Progress) (told_first told_now : Option (List ℕ)) (page : List ℕ) → Result (Unit {0}) Halt → Type 0
+abbrev pub PrintsOn : (first now : Option (List ℕ)) (progress : Progress) (told_first told_now : Option (List ℕ)) (page : List ℕ) → Result (Unit {0}) Failed → Type 0
 PrintsOn first now progress told_first told_now page (Ok done) = Printing first now progress told_first told_now page
-PrintsOn first now progress told_first told_now page (Err (Bad fault)) = ⊥
-PrintsOn first now progress told_first told_now page (Err SinkFailed) = PrintsSome first told_first told_now
-PrintsOn first now progress told_first told_now page (Err Short) = PrintsLines first told_first told_now
-PrintsOn first now progress told_first told_now page (Err Unread) = ⊥
+PrintsOn first now progress told_first told_now page (Err failed) = PrintsSome first told_first told_now
 
--- A line found no memory behind this answer of the reader: a fault of the source was met before.
-abbrev pub HaltsBehind : Result (Option (Unit {0})) MidFault → Halt → Type 0
-HaltsBehind given halt = ((given ≡ Err ReadFault) × (halt ≡ Unread)) ⊎ ((given ≢ Err ReadFault) × (halt ≡ Short))
-
--- the source's count of faults by that, and the sink's
+-- the source's count of faults by that, what lies at hand of it, and the sink's count
 abbrev pub SourceHalts : Result (Unit {0}) Halt → (old new : ℕ) → Type 0
 SourceHalts (Ok done) old new = new ≡ old
 SourceHalts (Err (Bad fault)) old new = CountedBy fault old new
 SourceHalts (Err SinkFailed) old new = ⊤
-SourceHalts (Err Short) old new = new ≡ old
-SourceHalts (Err Unread) old new = Rose old new
+
+abbrev pub HandHalts : Result (Unit {0}) Halt → (at_hand : List ℕ) → Type 0
+HandHalts (Ok done) at_hand = ⊤
+HandHalts (Err (Bad fault)) at_hand = OfSource fault (at_hand ≡ [])
+HandHalts (Err SinkFailed) at_hand = ⊤
 
 abbrev pub SinkHalts : Result (Unit {0}) Halt → (old new : ℕ) → Type 0
 SinkHalts (Ok done) old new = new ≡ old
 SinkHalts (Err (Bad fault)) old new = new ≡ old
 SinkHalts (Err SinkFailed) old new = Rose old new
-SinkHalts (Err Short) old new = new ≡ old
-SinkHalts (Err Unread) old new = new ≡ old
 
--- the source's count of faults by the end: a fault of the source comes before want of memory behind it
+-- the source's count of faults by the end
 abbrev pub ReadCounts : ToolEnd → (old new : ℕ) → Type 0
 ReadCounts Done old new = new ≡ old
 ReadCounts (Input fault) old new = new ≡ old
 ReadCounts FileFault old new = Rose old new
 ReadCounts SinkFault old new = ⊤
-ReadCounts NoMemory old new = new ≡ old
+ReadCounts NoMemory old new = ⊥
 
 -- the text with the lines of the end record and of the fault
 abbrev pub ended_text : List ℕ → Option Header → Option MidFault → List ℕ
 ended_text text last fault = (text ++ end_lines last) ++ fault_lines fault
 
--- What the last lines make of a text: all of it was written, or a part of it; without memory nothing more than before.
-abbrev pub EndsText : (last : Option Header) (fault : Option MidFault) (before first now : Option (List ℕ)) (text : List ℕ) → ToolEnd → Type 0
-EndsText last fault before first now text Done = (fault ≡ None) × Appends first now (ended_text text last fault)
-EndsText last fault before first now text (Input (Mid found)) = (fault ≡ Some found) × (found ≢ ReadFault) × Appends first now (ended_text text last fault)
-EndsText last fault before first now text (Input Compressed) = ⊥
-EndsText last fault before first now text (Input Missing) = ⊥
-EndsText last fault before first now text (Input ScriptTooLong) = ⊥
-EndsText last fault before first now text FileFault = (fault ≡ Some ReadFault) × Appends first now (ended_text text last fault)
-EndsText last fault before first now text SinkFault = AppendsPart first now (ended_text text last fault)
-EndsText last fault before first now text NoMemory = now ≡ before
+-- the end of a call that read a file to its end, or to a fault
+abbrev pub end_of : Option MidFault → ToolEnd
+end_of None = Done
+end_of (Some (Truncated at)) = Input (Mid (Truncated at))
+end_of (Some (NoBegin at)) = Input (Mid (NoBegin at))
+end_of (Some (NoEnd at)) = Input (Mid (NoEnd at))
+end_of (Some (AfterEnd at)) = Input (Mid (AfterEnd at))
+end_of (Some (TooBig at size)) = Input (Mid (TooBig at size))
+end_of (Some ReadFault) = FileFault
+end_of (Some (BadRecord at)) = Input (Mid (BadRecord at))
+end_of (Some (TooLong at)) = Input (Mid (TooLong at))
 
--- What the last lines make of a text where the source failed: all of it was written, but for the line of the end record
--- where there was no memory for that.
-abbrev pub EndsUnread : (last : Option Header) (first now : Option (List ℕ)) (text : List ℕ) → ToolEnd → Type 0
-EndsUnread last first now text Done = ⊥
-EndsUnread last first now text (Input fault) = ⊥
-EndsUnread last first now text FileFault = Appends first now (text ++ end_lines last) ⊎ Appends first now text
-EndsUnread last first now text SinkFault = AppendsPart first now (text ++ end_lines last) ⊎ AppendsPart first now text
-EndsUnread last first now text NoMemory = ⊥
+-- All of this text was written, and this is the end; or the sink failed at a part of it.
+abbrev pub EndsText : (fault : Option MidFault) (now new : Option (List ℕ)) (text : List ℕ) → ToolEnd → Type 0
+EndsText fault now new text end = ((end ≡ end_of fault) × Appends now new text) ⊎ ((end ≡ SinkFault) × AppendsPart now new text)
 
 -- What was printed of a source, by the end that it leads to: where the source failed, all that was read in front of it.
-abbrev pub DumpsTo : (source now : Option (List ℕ)) (progress : Progress) (told_old told_new : Option (List ℕ)) → ToolEnd → Type 0
-DumpsTo source now progress told_old told_new Done = (text : List ℕ) × IfSome source (λ bytes. IsDump bytes None text) × Appends told_old told_new text
-DumpsTo source now progress told_old told_new (Input (Mid fault)) = (text : List ℕ) × (fault ≢ ReadFault) × IfSome source (λ bytes. IsDump bytes (Some fault) text) × Appends told_old told_new text
-DumpsTo source now progress told_old told_new (Input Compressed) = ⊥
-DumpsTo source now progress told_old told_new (Input Missing) = ⊥
-DumpsTo source now progress told_old told_new (Input ScriptTooLong) = ⊥
-DumpsTo source now progress told_old told_new FileFault = PrintsRead source now progress told_old told_new
-DumpsTo source now progress told_old told_new SinkFault = PrintsSome source told_old told_new ⊎ PrintsDump source told_old told_new
-DumpsTo source now progress told_old told_new NoMemory = PrintsLines source told_old told_new
+abbrev pub DumpsTo : (source now : Option (List ℕ)) (told_old told_new : Option (List ℕ)) → ToolEnd → Type 0
+DumpsTo source now told_old told_new Done = (text : List ℕ) × IfSome source (λ bytes. IsDump bytes None text) × Appends told_old told_new text
+DumpsTo source now told_old told_new (Input (Mid fault)) = (text : List ℕ) × (fault ≢ ReadFault) × IfSome source (λ bytes. IsDump bytes (Some fault) text) × Appends told_old told_new text
+DumpsTo source now told_old told_new (Input Compressed) = ⊥
+DumpsTo source now told_old told_new (Input Missing) = ⊥
+DumpsTo source now told_old told_new (Input ScriptTooLong) = ⊥
+DumpsTo source now told_old told_new FileFault = PrintsRead source now told_old told_new
+DumpsTo source now told_old told_new SinkFault = PrintsSome source told_old told_new ⊎ PrintsDump source told_old told_new
+DumpsTo source now told_old told_new NoMemory = ⊥
 
--- The same, of a source that was read to some place.
-pub record DumpsSource (source told_old told_new : Option (List ℕ)) (end : ToolEnd) : Type 0 where
-  pub now : Option (List ℕ)
-  pub progress : Progress
-  pub dumps : DumpsTo source now progress told_old told_new end
+-- nothing lies at hand where the source failed
+abbrev pub HandEnds : ToolEnd → (at_hand : List ℕ) → Type 0
+HandEnds Done at_hand = ⊤
+HandEnds (Input fault) at_hand = ⊤
+HandEnds FileFault at_hand = at_hand ≡ []
+HandEnds SinkFault at_hand = ⊤
+HandEnds NoMemory at_hand = ⊤

@@ -1,5 +1,5 @@
 -- What a tool finds under a name, what it prints of it, and how it ends.
-use Rattle.std.specs.Prelude.{◌≡◌, ◌≢◌, ◌≤◌, ℕ, false, List, [], ◌++◌, Option, Some, None, IsTrue, IsNone, IfSome, ◌⊎◌, ⊤}
+use Rattle.std.specs.Prelude.{◌≡◌, ◌≢◌, ◌≤◌, ℕ, false, List, [], ◌++◌, Option, Some, None, IsTrue, IsSome, IsNone, IfSome, ◌⊎◌, ⊤}
 use Rattle.std.specs.Io.KnownBytes.{Appends, Keeps}
 use Rattle.daq_types.specs.Names.{is_compressed}
 use Rattle.daq_io.specs.Counts.{Rose}
@@ -134,7 +134,7 @@ abbrev pub RefusesFile : Seen → (name : List ℕ) (faults_old faults_new clash
 RefusesFile seen name faults_old faults_new clashes_old clashes_new NameCompressed = IsTrue (is_compressed name) × (faults_new ≡ faults_old)
 RefusesFile seen name faults_old faults_new clashes_old clashes_new NameMissing =
     (is_compressed name ≡ false) × (IsTrue seen.tells → IsNone (seen.at name)) × (faults_new ≡ faults_old) × Rose clashes_old clashes_new
-RefusesFile seen name faults_old faults_new clashes_old clashes_new OpenFailed = (is_compressed name ≡ false) × Rose faults_old faults_new
+RefusesFile seen name faults_old faults_new clashes_old clashes_new OpenFailed = (is_compressed name ≡ false) × Rose faults_old faults_new × (IsTrue seen.tells → IsSome (seen.at name))
 
 -- A text was printed whole, and this is the end; or the sink failed at a part of it.
 abbrev pub Printed : (text : List ℕ) (told_old told_new : Option (List ℕ)) (sink_old sink_new : ℕ) (end result : ToolEnd) → Type 0

@@ -1,5 +1,5 @@
 -- Text that goes to a sink by way of a page, which is written when it is full.
-use Rattle.std.specs.Prelude.{◌≡◌, ◌⊎◌, ℕ, List, [], ◌++◌, Option, Result, Ok, Err}
+use Rattle.std.specs.Prelude.{◌≡◌, ℕ, List, ◌++◌, Option, Result, Ok, Err}
 use Rattle.std.specs.Io.KnownBytes.{Appends}
 use Rattle.daq_io.specs.declared.faults.Failed.{Failed}
 use Rattle.daq_io.specs.Streams.{AppendsPart}
@@ -10,9 +10,8 @@ pub record PrintsSoFar (first now : Option (List ℕ)) (page text : List ℕ) : 
   pub written : Appends first now done
   pub text_is : text ≡ done ++ page
 
--- A page goes to the sink, if it is full: it stays, and nothing is written; or all of it was written, and it is empty.
--- Where the sink fails, a part of it was written.
-abbrev pub PassesPage : (now new : Option (List ℕ)) (page_old page_new : List ℕ) → Result (Unit {0}) Failed → Type 0
-PassesPage now new page_old page_new (Ok done) =
-    ((page_new ≡ page_old) × (new ≡ now)) ⊎ ((page_new ≡ []) × Appends now new page_old)
-PassesPage now new page_old page_new (Err failed) = AppendsPart now new page_old
+-- These bytes went to the page, and from there to the sink what does not stand on the page. Where the sink fails, a part of
+-- what stood on the page and of them was written.
+abbrev pub PassesText : (now new : Option (List ℕ)) (page_old page_new more : List ℕ) → Result (Unit {0}) Failed → Type 0
+PassesText now new page_old page_new more (Ok done) = PrintsSoFar now new page_new (page_old ++ more)
+PassesText now new page_old page_new more (Err failed) = AppendsPart now new (page_old ++ more)

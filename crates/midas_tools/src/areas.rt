@@ -1,37 +1,42 @@
-ghost use Rattle.std.specs.Prelude.{◌≡◌, ◌++◌, OnOk};
+ghost use Rattle.std.specs.Prelude.{◌≡◌};
+ghost use Rattle.daq_io.specs.Counts.{CountsFault};
 ghost use Rattle.event_header.specs.Headers.{event_of};
-ghost use Rattle.midas_tools.specs.Areas.{AreBankLines, AreEventLines, Adds, bank_lines};
+ghost use Rattle.midas_tools.specs.Areas.{AreEventLines, PassesLines, bank_lines};
+ghost use Rattle.midas_tools.specs.Printing.{PassesText};
 
-use crate::lines::{add_bank, add_event, add_no_banks};
+use crate::lines::{bank_line, event_line, no_banks_line};
+use crate::page::Page;
 use bank_format::Banks;
-use daq_text::TextBuffer;
-use daq_types::NoMemory;
+use daq_io::{Failed, Sink};
 use event_header::Header;
 
-/// Adds a line for each bank that was not given yet.
-fn add_banks(page: &mut TextBuffer, banks: &mut Banks) -> Result<(), NoMemory>
-    ensures { OnOk result (page.new ≡ page.old ++ bank_lines banks.old.left) }
+/// Prints a line for each bank that was not given yet.
+fn print_banks<K: Sink>(page: &mut Page, banks: &mut Banks, out: &mut K) -> Result<(), Failed>
+    ensures passes { PassesText (K.written out.old) (K.written out.new) page.old page.new
+        (bank_lines banks.old.left) result }
+    ensures faults { CountsFault (K.faults out.old) (K.faults out.new) result }
 {
     while let Some(bank) = banks.next() {
-        add_bank(page, &bank)?;
+        page.print(&bank_line(&bank), out)?;
     }
     Ok(())
 }
 
-/// Adds the lines of the banks of these data, or why they are no bank area.
-fn add_area(page: &mut TextBuffer, body: &[u8]) -> Result<(), NoMemory>
-    ensures { OnOk result (Adds (AreBankLines body.now) page.old page.new) }
+/// Prints the lines of an event and of its banks, or why its data are no bank area.
+pub fn print_event<K: Sink>(
+    page: &mut Page,
+    header: &Header,
+    body: &[u8],
+    out: &mut K,
+) -> Result<(), Failed>
+    ensures passes { PassesLines (AreEventLines (event_of header.now body.now)) (K.written out.old)
+        (K.written out.new) page.old page.new result }
+    ensures faults { CountsFault (K.faults out.old) (K.faults out.new) result }
 {
-    match Banks::read(body) {
-        Ok(mut banks) => add_banks(page, &mut banks),
-        Err(fault) => add_no_banks(page, fault),
+    let area = Banks::read(body);
+    page.print(&event_line(header, body), out)?;
+    match area {
+        Ok(mut banks) => print_banks(page, &mut banks, out),
+        Err(fault) => page.print(&no_banks_line(fault), out),
     }
-}
-
-/// Adds the lines of an event and of its banks.
-pub fn add_whole_event(page: &mut TextBuffer, header: &Header, body: &[u8]) -> Result<(), NoMemory>
-    ensures { OnOk result (Adds (AreEventLines (event_of header.now body.now)) page.old page.new) }
-{
-    add_event(page, header, body)?;
-    add_area(page, body)
 }

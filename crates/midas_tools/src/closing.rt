@@ -1,8 +1,10 @@
+ghost use Rattle.std.specs.Prelude.{IsTrue};
+ghost use Rattle.daq_io.specs.FileLeft.{ReadsFirst};
 ghost use Rattle.daq_io.specs.Seen.{Ends};
 ghost use Rattle.midas_tools.specs.Findings.{Closed, FaultEnds, FinishesFile, Printed, SaysWhy};
 
 use crate::ends::{InputFault, ToolEnd};
-use crate::lines::add_bad;
+use crate::lines::bad_line;
 use crate::opening::{Refused, close};
 use daq_io::{FileSource, Files, Sink, write_all};
 use daq_text::TextBuffer;
@@ -44,7 +46,7 @@ pub fn stop_at(fault: MidFault, page: &mut TextBuffer) -> ToolEnd
     match fault {
         MidFault::ReadFault => ToolEnd::FileFault,
         fault => {
-            if add_bad(page, fault).is_err() {
+            if page.text(bad_line(fault).as_slice()).is_err() {
                 return ToolEnd::NoMemory;
             }
             ToolEnd::Input(InputFault::Mid(fault))
@@ -77,6 +79,8 @@ pub fn finish<F: Files, K: Sink>(
 /// Closes the file, of which all was printed that there was to print.
 pub fn close_dump<F: Files>(end: ToolEnd, source: FileSource<F>) -> (ToolEnd, F)
     ensures closed { Closed end (F.faults source.files) (F.faults result.1) result.0 }
+    ensures front { IsTrue (F.seen source.first).tells → ReadsFirst (F.seen source.first)
+        (F.seen source.files) source.number (F.bytes_read source.first) (F.bytes_read result.1) }
     ensures ended { Ends (F.seen source.first) (F.seen result.1) source.number }
 {
     let (closed, files) = close(source);

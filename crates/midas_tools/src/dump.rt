@@ -1,71 +1,118 @@
-ghost use Rattle.std.specs.Prelude.{◌≡◌, ◌≤◌, ◌++◌, ℕ, List, [], Option, OnOk, IsOk, IsTrue};
+ghost use Rattle.std.specs.Prelude.{◌≡◌, ◌≤◌, ◌<◌, ◌++◌, ℕ, List, [], Option, IfOk, OnOk, OnErr, vec_len};
+ghost use Rattle.std.specs.Io.KnownBytes.{Appends};
+ghost use Rattle.daq_io.specs.Counts.{CountsFault};
 ghost use Rattle.daq_io.specs.Seen.{Same};
+ghost use Rattle.daq_io.specs.Streams.{AppendsPart};
 ghost use Rattle.daq_model.specs.Events.{event_limit};
 ghost use Rattle.mid_format.specs.HasRead.{nothing_read};
-ghost use Rattle.midas_tools.specs.Dumps.{DumpsSource, DumpsTo, EndsText, EndsUnread, ListsTo, Printing, PrintsOn, ReadCounts, SinkHalts, SourceHalts, WritesOn, end_lines, new_begin};
+ghost use Rattle.midas_tools.specs.Dumps.{DumpsTo, EndsText, HandEnds, HandHalts, ListsTo, Printing, PrintsOn, ReadCounts, SinkHalts, SourceHalts, WritesOn, end_lines, end_of, ended_text, fault_lines, new_begin};
 ghost use Rattle.midas_tools.specs.Findings.{ClashCounts, Completes, FilesByEnd, SinkByEnd};
-ghost use Rattle.midas_tools.specs.Printing.{PrintsSoFar};
+ghost use Rattle.midas_tools.specs.Printing.{PassesText, PrintsSoFar};
 
-use crate::areas::add_whole_event;
+use crate::areas::print_event;
 use crate::blocks::new_block;
-use crate::closing::{close_dump, print, refuse, stop_at};
-use crate::ends::ToolEnd;
-use crate::halts::{Halt, halt_behind};
-use crate::lines::add_record;
-use crate::opening::open;
-use crate::page::{flush, flush_full};
-use daq_io::{Files, Sink, Source};
-use daq_text::TextBuffer;
+use crate::closing::{close_dump, refuse};
+use crate::ends::{InputFault, ToolEnd};
+use crate::halts::Halt;
+use crate::lines::{bad_line, record_line};
+use crate::opening::{Refused, open};
+use crate::page::Page;
+use daq_io::{Failed, Files, Sink, Source};
 use daq_types::{FileName, NoMemory};
 use event_header::{EventBuf, Header, MAX_DATA};
 use mid_format::{Ahead, BlockSource, MidFault, MidReader};
 use std::alloc::Global;
 
-/// Adds the line of the begin record, where it was read just now.
-fn add_begin(page: &mut TextBuffer, begun: bool, begin: Option<Header>) -> Result<(), NoMemory>
-    ensures added { OnOk result (page.new ≡ page.old ++ new_begin begun begin) }
-    ensures none { IsTrue begun → IsOk result }
+/// The memory of a call, which is taken before the file is opened.
+#[derive(Drop)]
+struct DumpRoom {
+    block: Vec<u8>,
+    event: EventBuf,
+    page: Page,
+}
+
+impl DumpRoom {
+    /// Room with nothing in it.
+    fn new(alloc: Global) -> Result<DumpRoom, NoMemory>
+        ensures block { IfOk result (λ room. 0 < vec_len room.block) }
+        ensures event { IfOk result (λ room. event_limit ≤ room.event.room) }
+        ensures page { IfOk result (λ room. room.page ≡ []) }
+    {
+        Ok(DumpRoom {
+            block: new_block(alloc)?,
+            event: EventBuf::new(alloc, MAX_DATA)?,
+            page: Page::new(alloc)?,
+        })
+    }
+}
+
+/// Prints the line of the begin record, where it was read just now.
+fn print_begin<K: Sink>(
+    page: &mut Page,
+    begun: bool,
+    begin: Option<Header>,
+    out: &mut K,
+) -> Result<(), Failed>
+    ensures passes { PassesText (K.written out.old) (K.written out.new) page.old page.new
+        (new_begin begun begin) result }
+    ensures faults { CountsFault (K.faults out.old) (K.faults out.new) result }
 {
     if begun {
         return Ok(());
     }
     match begin {
-        Some(begin) => add_record(page, b"begin", &begin),
+        Some(begin) => page.print(&record_line(b"begin", &begin), out),
         None => Ok(()),
     }
 }
 
-/// Adds the line of the end record, where it was read.
-fn add_end(page: &mut TextBuffer, last: Option<Header>) -> Result<(), NoMemory>
-    ensures { OnOk result (page.new ≡ page.old ++ end_lines last) }
+/// Prints the line of the end record, where it was read.
+fn print_end<K: Sink>(page: &mut Page, last: Option<Header>, out: &mut K) -> Result<(), Failed>
+    ensures passes { PassesText (K.written out.old) (K.written out.new) page.old page.new
+        (end_lines last) result }
+    ensures faults { CountsFault (K.faults out.old) (K.faults out.new) result }
 {
     match last {
-        Some(last) => add_record(page, b"end", &last),
+        Some(last) => page.print(&record_line(b"end", &last), out),
         None => Ok(()),
+    }
+}
+
+/// Prints the line of a fault, unless it is the source's.
+fn print_fault<K: Sink>(page: &mut Page, fault: Option<MidFault>, out: &mut K) -> Result<(), Failed>
+    ensures passes { PassesText (K.written out.old) (K.written out.new) page.old page.new
+        (fault_lines fault) result }
+    ensures faults { CountsFault (K.faults out.old) (K.faults out.new) result }
+{
+    match fault {
+        None => Ok(()),
+        Some(fault) => match fault {
+            MidFault::ReadFault => Ok(()),
+            fault => page.print(&bad_line(fault), out),
+        },
     }
 }
 
 /// Prints the events that lie whole at hand, from where they lie.
 fn print_at_hand<S: Ahead, K: Sink>(
     reader: &mut MidReader<S>,
-    page: &mut TextBuffer,
+    page: &mut Page,
     out: &mut K,
-) -> Result<(), Halt>
+) -> Result<(), Failed>
     ensures prints { (first told_first : Option (List ℕ))
         → Printing first (S.left reader.old.source) reader.old.progress told_first
         (K.written out.old) page.old
         → PrintsOn first (S.left reader.new.source) reader.new.progress told_first
         (K.written out.new) page.new result }
     ensures source { S.faults reader.new.source ≡ S.faults reader.old.source }
-    ensures sink { SinkHalts result (K.faults out.old) (K.faults out.new) }
+    ensures sink { CountsFault (K.faults out.old) (K.faults out.new) result }
     ensures origin { S.origin reader.new.source ≡ S.origin reader.old.source }
     ensures onward { reader.old.progress.at ≤ reader.new.progress.at }
 {
     while let Some((header, body)) = reader.whole_event() {
-        let added = add_whole_event(page, &header, body);
+        let printed = print_event(page, &header, body, out);
         reader.pass_event(&header);
-        added?;
-        flush_full(page, out)?;
+        printed?;
     }
     Ok(())
 }
@@ -74,7 +121,7 @@ fn print_at_hand<S: Ahead, K: Sink>(
 fn print_events<S: Ahead, K: Sink>(
     reader: &mut MidReader<S>,
     event: &mut EventBuf,
-    page: &mut TextBuffer,
+    page: &mut Page,
     out: &mut K,
 ) -> Result<(), Halt>
     requires new { reader.old.progress ≡ nothing_read }
@@ -83,19 +130,17 @@ fn print_events<S: Ahead, K: Sink>(
     ensures lists { ListsTo (S.left reader.old.source) (S.left reader.new.source)
         reader.new.progress (K.written out.old) (K.written out.new) page.new result }
     ensures source { SourceHalts result (S.faults reader.old.source) (S.faults reader.new.source) }
+    ensures at_hand { HandHalts result (S.at_hand reader.new.source) }
     ensures sink { SinkHalts result (K.faults out.old) (K.faults out.new) }
     ensures origin { S.origin reader.new.source ≡ S.origin reader.old.source }
 {
-    loop {
+    'events: loop {
         let begun = reader.begin().is_some();
         let given = reader.next(event);
-        let Ok(()) = add_begin(page, begun, reader.begin()) else {
-            return Err(halt_behind(&given));
-        };
+        print_begin(page, begun, reader.begin(), out)?;
         match given {
             Ok(Some(())) => {
-                add_whole_event(page, &event.header(), event.body())?;
-                flush_full(page, out)?;
+                print_event(page, &event.header(), event.body(), out)?;
                 print_at_hand(reader, page, out)?;
             }
             Ok(None) => return Ok(()),
@@ -104,89 +149,95 @@ fn print_events<S: Ahead, K: Sink>(
     }
 }
 
-/// Prints what is on the page, and the lines of the end record and of the fault where there are such.
-fn end_dump<K: Sink>(
+/// Writes what is on the page, and the lines of the end record and of the fault where there are such.
+fn print_last<K: Sink>(
     last: Option<Header>,
     fault: Option<MidFault>,
-    page: &mut TextBuffer,
+    page: &mut Page,
     out: &mut K,
-) -> ToolEnd
-    ensures text { (first : Option (List ℕ)) → (text : List ℕ)
-        → PrintsSoFar first (K.written out.old) page.old text
-        → EndsText last fault (K.written out.old) first (K.written out.new) text result }
-    ensures sink { SinkByEnd result (K.faults out.old) (K.faults out.new) }
+) -> Result<(), Failed>
+    ensures all { OnOk result (Appends (K.written out.old) (K.written out.new)
+        (ended_text page.old last fault)) }
+    ensures part { OnErr result (AppendsPart (K.written out.old) (K.written out.new)
+        (ended_text page.old last fault)) }
+    ensures faults { CountsFault (K.faults out.old) (K.faults out.new) result }
 {
-    let Ok(()) = add_end(page, last) else {
-        return ToolEnd::NoMemory;
-    };
+    print_end(page, last, out)?;
+    print_fault(page, fault, out)?;
+    page.flush(out)
+}
+
+/// The end of a call that read a file to its end, or to this fault.
+fn end_of(fault: Option<MidFault>) -> ToolEnd
+    ensures { result ≡ end_of fault }
+{
     match fault {
-        None => print(ToolEnd::Done, page.as_slice(), out),
-        Some(fault) => match stop_at(fault, page) {
-            ToolEnd::NoMemory => ToolEnd::NoMemory,
-            end => print(end, page.as_slice(), out),
-        },
+        None => ToolEnd::Done,
+        Some(MidFault::ReadFault) => ToolEnd::FileFault,
+        Some(fault) => ToolEnd::Input(InputFault::Mid(fault)),
     }
 }
 
-/// Prints what is on the page, and then the line of the end record, where it was read and there is memory for it. The
-/// source failed behind that.
-fn end_unread<K: Sink>(last: Option<Header>, page: &mut TextBuffer, out: &mut K) -> ToolEnd
-    ensures text { (first : Option (List ℕ)) → (text : List ℕ)
-        → PrintsSoFar first (K.written out.old) page.old text
-        → EndsUnread last first (K.written out.new) text result }
+/// Writes the last lines, and answers the end.
+fn end_dump<K: Sink>(
+    last: Option<Header>,
+    fault: Option<MidFault>,
+    page: &mut Page,
+    out: &mut K,
+) -> ToolEnd
+    ensures text { EndsText fault (K.written out.old) (K.written out.new)
+        (ended_text page.old last fault) result }
     ensures sink { SinkByEnd result (K.faults out.old) (K.faults out.new) }
 {
-    let Ok(()) = flush(page, out) else {
-        return ToolEnd::SinkFault;
-    };
-    let Ok(()) = add_end(page, last) else {
-        return ToolEnd::FileFault;
-    };
-    print(ToolEnd::FileFault, page.as_slice(), out)
+    match print_last(last, fault, page, out) {
+        Ok(()) => end_of(fault),
+        Err(_) => ToolEnd::SinkFault,
+    }
 }
 
 /// Reads a file and prints what `dump` prints of it.
 fn read_and_dump<S: Ahead, K: Sink>(
-    alloc: Global,
     reader: &mut MidReader<S>,
+    event: &mut EventBuf,
+    page: &mut Page,
     out: &mut K,
 ) -> ToolEnd
-    requires { reader.old.progress ≡ nothing_read }
+    requires new { reader.old.progress ≡ nothing_read }
+    requires room { event_limit ≤ event.old.room }
+    requires blank { page.old ≡ [] }
     ensures dumps { DumpsTo (S.left reader.old.source) (S.left reader.new.source)
-        reader.new.progress (K.written out.old) (K.written out.new) result }
+        (K.written out.old) (K.written out.new) result }
     ensures source { ReadCounts result (S.faults reader.old.source) (S.faults reader.new.source) }
+    ensures at_hand { HandEnds result (S.at_hand reader.new.source) }
     ensures sink { SinkByEnd result (K.faults out.old) (K.faults out.new) }
     ensures origin { S.origin reader.new.source ≡ S.origin reader.old.source }
 {
-    let Ok(mut event) = EventBuf::new(alloc, MAX_DATA) else {
-        return ToolEnd::NoMemory;
-    };
-    let mut page = TextBuffer::new(alloc);
-    match print_events(reader, &mut event, &mut page, out) {
-        Ok(()) => end_dump(reader.last(), None, &mut page, out),
-        Err(Halt::Bad { fault }) => match fault {
-            MidFault::ReadFault => end_unread(reader.last(), &mut page, out),
-            fault => end_dump(reader.last(), Some(fault), &mut page, out),
-        },
+    match print_events(reader, event, page, out) {
+        Ok(()) => end_dump(reader.last(), None, page, out),
+        Err(Halt::Bad { fault }) => end_dump(reader.last(), Some(fault), page, out),
         Err(Halt::SinkFailed) => ToolEnd::SinkFault,
-        Err(Halt::Short) => ToolEnd::NoMemory,
-        Err(Halt::Unread) => ToolEnd::FileFault,
     }
 }
 
 /// Reads a source in blocks, as `read_and_dump`, and gives it back.
-fn dump_source<S: Source, K: Sink>(alloc: Global, source: S, out: &mut K) -> (ToolEnd, S)
-    ensures dumps { DumpsSource (S.left source) (K.written out.old) (K.written out.new) result.0 }
+fn dump_source<S: Source, K: Sink>(source: S, room: DumpRoom, out: &mut K) -> (ToolEnd, S)
+    requires block { 0 < vec_len room.block }
+    requires event { event_limit ≤ room.event.room }
+    requires page { room.page ≡ [] }
+    ensures dumps { DumpsTo (S.left source) (S.left result.1) (K.written out.old)
+        (K.written out.new) result.0 }
     ensures source { ReadCounts result.0 (S.faults source) (S.faults result.1) }
     ensures sink { SinkByEnd result.0 (K.faults out.old) (K.faults out.new) }
     ensures origin { S.origin result.1 ≡ S.origin source }
 {
-    let Ok(block) = new_block(alloc) else {
-        return (ToolEnd::NoMemory, source);
-    };
+    let DumpRoom {
+        block,
+        mut event,
+        mut page,
+    } = room;
     let blocks = BlockSource::new(source, block);
     let mut reader = MidReader::new(blocks);
-    let end = read_and_dump(alloc, &mut reader, out);
+    let end = read_and_dump(&mut reader, &mut event, &mut page, out);
     let blocks = reader.into_source();
     (end, blocks.into_source())
 }
@@ -200,8 +251,8 @@ pub fn dump_file<F: Files, K: Sink>(
     out: &mut K,
 ) -> (ToolEnd, F)
     // What was found, and what was written of it.
-    ensures writes { WritesOn (F.seen files) name.now (K.written out.old) (K.written out.new)
-        result.0 }
+    ensures writes { WritesOn (F.seen files) name.now (F.bytes_read files)
+        (F.bytes_read result.1) (K.written out.old) (K.written out.new) result.0 }
     // A fault is the end exactly where its count rose and no earlier cause holds.
     ensures sink { SinkByEnd result.0 (K.faults out.old) (K.faults out.new) }
     ensures faults { FilesByEnd result.0 (F.faults files) (F.faults result.1) }
@@ -211,9 +262,15 @@ pub fn dump_file<F: Files, K: Sink>(
     ensures clashes { ClashCounts result.0 (F.clashes files) (F.clashes result.1) }
     ensures same { Same (F.seen files) (F.seen result.1) }
 {
+    if name.compressed() {
+        return (refuse(Refused::NameCompressed, out), files);
+    }
+    let Ok(room) = DumpRoom::new(alloc) else {
+        return (ToolEnd::NoMemory, files);
+    };
     match open(files, name) {
         Ok(source) => {
-            let (end, source) = dump_source(alloc, source, out);
+            let (end, source) = dump_source(source, room, out);
             close_dump(end, source)
         }
         Err((refused, files)) => (refuse(refused, out), files),

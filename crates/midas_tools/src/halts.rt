@@ -1,9 +1,7 @@
 ghost use Rattle.std.specs.Prelude.{◌≡◌};
-ghost use Rattle.midas_tools.specs.Dumps.{HaltsBehind};
-ghost use Rattle.midas_tools.specs.declared.halts.Halt.TheVariants.{Short as no_memory, SinkFailed as sink_failed};
+ghost use Rattle.midas_tools.specs.declared.halts.Halt.TheVariants.{SinkFailed as sink_failed};
 
 use daq_io::Failed;
-use daq_types::NoMemory;
 use mid_format::MidFault;
 
 /// Why the events of a file were not all printed.
@@ -13,18 +11,6 @@ pub enum Halt {
     Bad { fault: MidFault },
     /// The sink failed.
     SinkFailed,
-    /// There was no memory.
-    Short,
-    /// The source failed, and there was no memory for the line of what it had given in the same call.
-    Unread,
-}
-
-impl From<NoMemory> for Halt {
-    ghost from_gives = { λ _ h. h ≡ no_memory };
-
-    fn from(_e: NoMemory) -> Halt {
-        Halt::Short
-    }
 }
 
 impl From<Failed> for Halt {
@@ -32,15 +18,5 @@ impl From<Failed> for Halt {
 
     fn from(_e: Failed) -> Halt {
         Halt::SinkFailed
-    }
-}
-
-/// Why the events were not all printed where a line found no memory behind this answer of the reader.
-pub fn halt_behind(given: &Result<Option<()>, MidFault>) -> Halt
-    ensures { HaltsBehind given.now result }
-{
-    match given {
-        Err(MidFault::ReadFault) => Halt::Unread,
-        _ => Halt::Short,
     }
 }

@@ -5,7 +5,7 @@ use daq_types::Tid;
 use itoa::write_digits;
 use std::marker::Model;
 
-/// The most bytes that a line has.
+/// The most bytes that a line has: that of an event, with five numbers of at most 20 digits, has 111.
 pub const LINE_BYTES: usize = 128;
 
 /// A line, which is made from its end to its front: its end stands first, and each part is put in front of what stands.
@@ -63,7 +63,8 @@ impl Line {
 
     /// The line as far as it is made.
     pub fn as_slice(&self) -> &[u8]
-        ensures { result.now ≡ self.now }
+        ensures made { result.now ≡ self.now }
+        ensures short { length result.now ≤ 128 }
     {
         let (_, made) = self.bytes.split_at(self.start);
         made
@@ -86,6 +87,16 @@ impl Line {
         ensures short { length self.new ≤ length self.old + 21 }
     {
         self.start = write_number(&mut self.bytes, self.start, number);
+    }
+
+    /// Puts a name, a blank and a number in front.
+    pub fn named(&mut self, name: &[u8], number: u64)
+        requires { length name.now + length self.old + 21 ≤ 128 }
+        ensures added { self.new ≡ (name.now ++ number_text number) ++ self.old }
+        ensures short { length self.new ≤ length name.now + length self.old + 21 }
+    {
+        self.blank_number(number);
+        self.put(name);
     }
 
     /// Puts a blank and a type's name in front, or a blank and its number where it has no name.

@@ -1,4 +1,4 @@
-ghost use Rattle.std.specs.Prelude.{◌≡◌, ◌++◌, OnOk, map};
+ghost use Rattle.std.specs.Prelude.{◌≡◌, ◌≤◌, ◌+◌, ◌++◌, length, OnOk, map};
 ghost use Rattle.bank_format.specs.BankAreas.{bank_value};
 ghost use Rattle.event_header.specs.Headers.{event_of};
 ghost use Rattle.midas_tools.specs.Texts.{area_fault_text, bad_line, bank_line, event_line, fault_text, no_banks_line, number_text, ok_line, record_line, run_number_line, shown};
@@ -19,34 +19,6 @@ fn add_named(page: &mut TextBuffer, name: &[u8], value: u64) -> Result<(), NoMem
     page.blank_number(value)
 }
 
-/// Adds the name of a fault of a run file, and its numbers.
-fn add_fault(page: &mut TextBuffer, fault: MidFault) -> Result<(), NoMemory>
-    ensures { OnOk result (page.new ≡ page.old ++ fault_text fault) }
-{
-    match fault {
-        MidFault::Truncated { at } => add_named(page, b"Truncated", at),
-        MidFault::NoBegin { at } => add_named(page, b"NoBegin", at),
-        MidFault::NoEnd { at } => add_named(page, b"NoEnd", at),
-        MidFault::AfterEnd { at } => add_named(page, b"AfterEnd", at),
-        MidFault::TooBig { at, size } => {
-            add_named(page, b"TooBig", at)?;
-            page.blank_number(size as u64)
-        }
-        MidFault::ReadFault => page.text(b"ReadFault"),
-        MidFault::BadRecord { at } => add_named(page, b"BadRecord", at),
-        MidFault::TooLong { at } => add_named(page, b"TooLong", at),
-    }
-}
-
-/// Adds the line that says what is wrong with a run file.
-pub fn add_bad(page: &mut TextBuffer, fault: MidFault) -> Result<(), NoMemory>
-    ensures { OnOk result (page.new ≡ page.old ++ bad_line (InputFault.Mid fault)) }
-{
-    page.text(b"bad ")?;
-    add_fault(page, fault)?;
-    page.end_line()
-}
-
 /// Adds the line of a run file that is good.
 pub fn add_ok(page: &mut TextBuffer, run: u32, events: u64, bytes: u64) -> Result<(), NoMemory>
     ensures { OnOk result (page.new ≡ page.old ++ ok_line run events bytes) }
@@ -65,19 +37,53 @@ pub fn add_run(page: &mut TextBuffer, run: u32) -> Result<(), NoMemory>
     page.end_line()
 }
 
-/// Adds the line of the begin record or the end record.
-pub fn add_record(page: &mut TextBuffer, word: &[u8], header: &Header) -> Result<(), NoMemory>
-    ensures { OnOk result (page.new ≡ page.old ++ record_line word.now header.now) }
+/// Puts the name of a fault of a run file, and its numbers, in front.
+fn put_fault(line: &mut Line, fault: MidFault)
+    requires { length line.old ≤ 8 }
+    ensures added { line.new ≡ fault_text fault ++ line.old }
+    ensures short { length line.new ≤ length line.old + 51 }
 {
-    add_named(page, word, header.serial_number as u64)?;
-    page.blank_number(header.time_stamp as u64)?;
-    page.blank_number(header.data_size as u64)?;
-    page.end_line()
+    match fault {
+        MidFault::Truncated { at } => line.named(b"Truncated", at),
+        MidFault::NoBegin { at } => line.named(b"NoBegin", at),
+        MidFault::NoEnd { at } => line.named(b"NoEnd", at),
+        MidFault::AfterEnd { at } => line.named(b"AfterEnd", at),
+        MidFault::TooBig { at, size } => {
+            line.blank_number(size as u64);
+            line.named(b"TooBig", at);
+        }
+        MidFault::ReadFault => line.put(b"ReadFault"),
+        MidFault::BadRecord { at } => line.named(b"BadRecord", at),
+        MidFault::TooLong { at } => line.named(b"TooLong", at),
+    }
 }
 
-/// Adds the line of the event with this header and these data.
-pub fn add_event(page: &mut TextBuffer, header: &Header, body: &[u8]) -> Result<(), NoMemory>
-    ensures { OnOk result (page.new ≡ page.old ++ event_line (event_of header.now body.now)) }
+/// The line that says what is wrong with a run file.
+pub fn bad_line(fault: MidFault) -> Line
+    ensures { result ≡ bad_line (InputFault.Mid fault) }
+{
+    let mut line = Line::new();
+    put_fault(&mut line, fault);
+    line.put(b"bad ");
+    line
+}
+
+/// The line of the begin record or the end record.
+pub fn record_line(word: &[u8], header: &Header) -> Line
+    requires { length word.now ≤ 8 }
+    ensures { result ≡ record_line word.now header.now }
+{
+    let mut line = Line::new();
+    line.blank_number(header.data_size as u64);
+    line.blank_number(header.time_stamp as u64);
+    line.blank_number(header.serial_number as u64);
+    line.put(word);
+    line
+}
+
+/// The line of the event with this header and these data.
+pub fn event_line(header: &Header, body: &[u8]) -> Line
+    ensures { result ≡ event_line (event_of header.now body.now) }
 {
     let mut line = Line::new();
     line.blank_number(body.len() as u64);
@@ -86,7 +92,7 @@ pub fn add_event(page: &mut TextBuffer, header: &Header, body: &[u8]) -> Result<
     line.blank_number(header.trigger_mask as u64);
     line.blank_number(header.event_id as u64);
     line.put(b"event");
-    page.text(line.as_slice())
+    line
 }
 
 /// A byte of a bank's name as it is printed.
@@ -109,35 +115,37 @@ fn shown_name(name: [u8; 4]) -> [u8; 4]
     [shown(a), shown(b), shown(c), shown(d)]
 }
 
-/// Adds the line of a bank.
-pub fn add_bank(page: &mut TextBuffer, bank: &Bank) -> Result<(), NoMemory>
-    ensures { OnOk result (page.new ≡ page.old ++ bank_line
-        (bank_value bank.now.name bank.now.tid bank.now.body.now)) }
+/// The line of a bank.
+pub fn bank_line(bank: &Bank) -> Line
+    ensures { result ≡ bank_line (bank_value bank.now.name bank.now.tid bank.now.body.now) }
 {
     let mut line = Line::new();
     line.blank_number(bank.body.len() as u64);
     line.blank_type(bank.tid);
     line.put(&shown_name(bank.name));
     line.put(b"  bank ");
-    page.text(line.as_slice())
+    line
 }
 
-/// Adds why the data of an event are no bank area.
-fn add_area_fault(page: &mut TextBuffer, fault: BankFault) -> Result<(), NoMemory>
-    ensures { OnOk result (page.new ≡ page.old ++ area_fault_text fault) }
+/// Puts in front why the data of an event are no bank area.
+fn put_area_fault(line: &mut Line, fault: BankFault)
+    requires { length line.old ≤ 8 }
+    ensures added { line.new ≡ area_fault_text fault ++ line.old }
+    ensures short { length line.new ≤ length line.old + 51 }
 {
     match fault {
-        BankFault::Short { at } => add_named(page, b"Short", at),
-        BankFault::BadFlags { found } => add_named(page, b"BadFlags", found as u64),
-        BankFault::BadSize { at } => add_named(page, b"BadSize", at),
+        BankFault::Short { at } => line.named(b"Short", at),
+        BankFault::BadFlags { found } => line.named(b"BadFlags", found as u64),
+        BankFault::BadSize { at } => line.named(b"BadSize", at),
     }
 }
 
-/// Adds the line of data that are no bank area.
-pub fn add_no_banks(page: &mut TextBuffer, fault: BankFault) -> Result<(), NoMemory>
-    ensures { OnOk result (page.new ≡ page.old ++ no_banks_line fault) }
+/// The line of data that are no bank area.
+pub fn no_banks_line(fault: BankFault) -> Line
+    ensures { result ≡ no_banks_line fault }
 {
-    page.text(b"  no banks ")?;
-    add_area_fault(page, fault)?;
-    page.end_line()
+    let mut line = Line::new();
+    put_area_fault(&mut line, fault);
+    line.put(b"  no banks ");
+    line
 }

@@ -1,5 +1,6 @@
-ghost use Rattle.std.specs.Prelude.{◌≡◌, IfOk, IfErr};
+ghost use Rattle.std.specs.Prelude.{◌≡◌, IfOk, IfErr, IsTrue};
 ghost use Rattle.daq_io.specs.Counts.{CountsFault};
+ghost use Rattle.daq_io.specs.FileLeft.{ReadsFirst};
 ghost use Rattle.daq_io.specs.Seen.{Ends, Same};
 ghost use Rattle.midas_tools.specs.Findings.{IsFileOpened, RefusesFile};
 
@@ -23,6 +24,8 @@ pub fn open<F: Files>(mut files: F, name: &FileName) -> Result<FileSource<F>, (R
         name.now source.number) }
     ensures first { IfOk result (λ source. source.first ≡ source.files) }
     ensures faults { IfOk result (λ source. F.faults source.files ≡ F.faults files) }
+    ensures bytes_read { IfOk result (λ source. F.bytes_read source.files ≡ F.bytes_read files) }
+    ensures none_read { IfErr result (λ r. F.bytes_read r.1 ≡ F.bytes_read files) }
     ensures refused { IfErr result (λ r. RefusesFile (F.seen files) name.now (F.faults files)
         (F.faults r.1) (F.clashes files) (F.clashes r.1) r.0) }
     ensures same { IfErr result (λ r. Same (F.seen files) (F.seen r.1)) }
@@ -41,6 +44,8 @@ pub fn open<F: Files>(mut files: F, name: &FileName) -> Result<FileSource<F>, (R
 /// Closes the file that was read, and gives the files back.
 pub fn close<F: Files>(source: FileSource<F>) -> (Result<(), Failed>, F)
     ensures ended { Ends (F.seen source.first) (F.seen result.1) source.number }
+    ensures front { IsTrue (F.seen source.first).tells → ReadsFirst (F.seen source.first)
+        (F.seen source.files) source.number (F.bytes_read source.first) (F.bytes_read result.1) }
     ensures faults { CountsFault (F.faults source.files) (F.faults result.1) result.0 }
 {
     let number = source.file();

@@ -1,20 +1,26 @@
-use Rattle.std.proofs.Common.{rules}
+use Rattle.std.proofs.Common.{◌∙◌, rules, refl, ap}
+use Rattle.midas_tools.specs.declared.opening.Refused.TheVariants.{NameCompressed}
 use Rattle.midas_tools.proofs.Complete.{dump_completes}
-use Rattle.midas_tools.proofs.Dumped.{dump_refused, dump_read}
+use Rattle.midas_tools.proofs.Dumped.{dump_refused, dump_read, origin_of}
 use Rattle.midas_tools.proofs.dump.dump_file.Goals as goal
 
-pub returns-in-Ok-clause-writes : goal.returns-in-Ok-clause-writes
-returns-in-Ok-clause-writes g c =
-    dump_read (g.F.Files.seen c.args.files) c.args.name.now _ _ _ _ c.in-Ok.ensures.opened c.dump_source-end.ensures.dumps.now c.dump_source-end.ensures.dumps.progress _ _ _ _ c.dump_source-end.ensures.dumps.dumps c.close_dump.ensures.closed
+pub returns-then-compressed-clause-writes : goal.returns-then-compressed-clause-writes
+returns-then-compressed-clause-writes g c =
+    dump_refused (g.F.Files.seen c.args.files) c.args.name.now _ _ (g.K.Sink.written c.args.out.now) (g.K.Sink.written c.refuse.new.out) 0 0 0 0 _ _ NameCompressed c.refuse.result (search rules, refl) c.refuse.ensures refl
+
+pub returns-in-Ok-open-clause-writes : goal.returns-in-Ok-open-clause-writes
+returns-in-Ok-open-clause-writes g c =
+    dump_read (g.F.Files.seen c.args.files) c.args.name.now (g.F.Files.bytes_read c.args.files) (g.F.Files.bytes_read c.close_dump.result.1) (g.K.Sink.written c.args.out.now) (g.K.Sink.written c.dump_source-end.new.out)
+    (g.F.Files.seen c.in-Ok-open.source.files) c.in-Ok-open.source.number c.in-Ok-open.ensures.opened (g.F.Files.seen c.dump_source-end.result.1.files)
+    (record { files = g.F.Files.seen c.dump_source-end.result.1.first; bytes_read = g.F.Files.bytes_read c.dump_source-end.result.1.first; number = c.dump_source-end.result.1.number }) _ _ c.dump_source-end.result.0 c.close_dump.result.0
+    (c.dump_source-end.ensures.origin ∙ (origin_of (g.F.Files.seen c.in-Ok-open.source.first) (g.F.Files.seen c.in-Ok-open.source.files) (g.F.Files.bytes_read c.in-Ok-open.source.first) (g.F.Files.bytes_read c.args.files) c.in-Ok-open.source.number
+    (ap g.F.Files.seen c.in-Ok-open.ensures.first) (ap g.F.Files.bytes_read c.in-Ok-open.ensures.first ∙ c.in-Ok-open.ensures.bytes_read))) c.dump_source-end.ensures.dumps
+    c.close_dump.ensures.front c.close_dump.ensures.closed
+
+pub returns-in-Ok-open-clause-complete : goal.returns-in-Ok-open-clause-complete
+returns-in-Ok-open-clause-complete g c =
+    dump_completes _ _ _ _ _ _ _ _ _ _ c.close_dump.result.0 (returns-in-Ok-open-clause-writes g c) (search rules) (search rules)
 
 pub returns-in-Err-clause-writes : goal.returns-in-Err-clause-writes
 returns-in-Err-clause-writes g c =
-    dump_refused (g.F.Files.seen c.args.files) c.args.name.now (g.K.Sink.written c.args.out.now) (g.K.Sink.written c.refuse.new.out) _ _ _ _ _ _ c.in-Err.refused c.refuse.result c.in-Err.ensures.refused c.refuse.ensures
-
-pub returns-in-Ok-clause-complete : goal.returns-in-Ok-clause-complete
-returns-in-Ok-clause-complete g c =
-    dump_completes _ _ _ _ _ _ _ _ c.close_dump.result.0 (returns-in-Ok-clause-writes g c) (search rules) (search rules)
-
-pub returns-in-Err-clause-complete : goal.returns-in-Err-clause-complete
-returns-in-Err-clause-complete g c =
-    dump_completes _ _ _ _ _ _ _ _ c.refuse.result (returns-in-Err-clause-writes g c) (search rules) (search rules)
+    dump_refused (g.F.Files.seen c.args.files) c.args.name.now _ _ (g.K.Sink.written c.args.out.now) (g.K.Sink.written c.refuse-in-Err.new.out) _ _ _ _ _ _ c.in-Err.refused c.refuse-in-Err.result c.in-Err.ensures.refused c.refuse-in-Err.ensures c.in-Err.ensures.none_read

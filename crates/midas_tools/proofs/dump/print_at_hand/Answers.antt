@@ -1,35 +1,26 @@
-use Rattle.std.proofs.Common.{◌∙◌, ℕ, List, refl, subst, arith}
+use Rattle.std.proofs.Common.{◌∙◌, ℕ, List, Err, Ok, refl, subst, arith}
 use Rattle.std.proofs.lemmas.Result.{err_from_is_err_and}
 use Rattle.event_header.specs.Headers.{event_of}
-use Rattle.midas_tools.specs.Areas.{Adds, AreEventLines}
+use Rattle.midas_tools.specs.Areas.{PassesLines, AreEventLines}
 use Rattle.midas_tools.proofs.Dumping.{one_more, one_cut, stepped_on}
 use Rattle.midas_tools.proofs.dump.print_at_hand.Goals as goal
-
-pub loop-header-init : goal.loop-header-init
-loop-header-init g c = record { printing = λ first told_first p. p; origin = refl; source = refl; sink = refl; onward = omega arith }
-
-pub returns-in_err-added-clause-prints : goal.returns-in_err-added-clause-prints
-returns-in_err-added-clause-prints g c = λ first told_first before.
-    let p = err_from_is_err_and c.from_residual.result c.from_residual.ensures.1 in
-    rw (p.1, p.2) (c.loop-header.invariant.printing first told_first before).whole
 
 pub loop-header-preserved : goal.loop-header-preserved
 loop-header-preserved g c = record {
   printing = λ first told_first before.
-      one_more first (g.S.Source.left c.pass_event.new.self.source) c.pass_event.new.self.progress told_first (g.K.Sink.written c.loop-header.out) (g.K.Sink.written c.flush_full.new.out) c.loop-header.page c.add_whole_event-added.new.page c.flush_full.new.page tt c.in_ok-flush_full.field-0 _
+      one_more first (g.S.Source.left c.pass_event.new.self.source) c.pass_event.new.self.progress told_first (g.K.Sink.written c.loop-header.out) (g.K.Sink.written c.print_event-printed.new.out) c.loop-header.page c.print_event-printed.new.page tt c.in_ok-printed.field-0 _
       (stepped_on _ _ _ _ _ _ _ _ _ _ (c.loop-header.invariant.printing first told_first before) c.in-Some.ensures.whole c.pass_event.ensures.reads c.pass_event.ensures.begun)
-      (subst (λ (b : List ℕ). Adds (AreEventLines (event_of c.in-Some.header b)) c.loop-header.page c.add_whole_event-added.new.page) c.in-Some.ensures.data c.in_ok-added.ensures)
-      c.in_ok-flush_full.ensures.passes c.pass_event.ensures.fault c.pass_event.ensures.end;
+      (subst (λ (b : List ℕ). PassesLines (AreEventLines (event_of c.in-Some.header b)) (g.K.Sink.written c.loop-header.out) (g.K.Sink.written c.print_event-printed.new.out) c.loop-header.page c.print_event-printed.new.page (Ok c.in_ok-printed.field-0)) c.in-Some.ensures.data c.in_ok-printed.ensures.passes)
+      c.pass_event.ensures.fault c.pass_event.ensures.end;
   origin = c.pass_event.ensures.origin ∙ c.loop-header.invariant.origin;
   source = c.pass_event.ensures.faults ∙ c.loop-header.invariant.source;
-  sink = c.in_ok-flush_full.ensures.faults.done ∙ c.loop-header.invariant.sink;
+  sink = c.in_ok-printed.ensures.faults.done ∙ c.loop-header.invariant.sink;
   onward = omega (arith, c.pass_event.ensures.onward, c.loop-header.invariant.onward);
 }
 
-pub returns-in_err-flush_full-clause-prints : goal.returns-in_err-flush_full-clause-prints
-returns-in_err-flush_full-clause-prints g c = λ first told_first before.
-    let p = err_from_is_err_and c.from_residual-in_err-flush_full.result c.from_residual-in_err-flush_full.ensures.1 in
-    rw (p.1, p.2) (one_cut first (g.S.Source.left c.pass_event.new.self.source) c.pass_event.new.self.progress told_first (g.K.Sink.written c.loop-header.out) (g.K.Sink.written c.flush_full.new.out) c.loop-header.page c.add_whole_event-added.new.page c.flush_full.new.page tt c.in_err-flush_full.field-0.0 _
+pub returns-in_err-printed-clause-prints : goal.returns-in_err-printed-clause-prints
+returns-in_err-printed-clause-prints g c = λ first told_first before.
+    let p = err_from_is_err_and c.from_residual.result c.from_residual.ensures.1 in
+    rw p.1 (one_cut first (g.S.Source.left c.pass_event.new.self.source) c.pass_event.new.self.progress told_first (g.K.Sink.written c.loop-header.out) (g.K.Sink.written c.print_event-printed.new.out) c.loop-header.page c.print_event-printed.new.page tt c.in_err-printed.field-0.0 _
     (stepped_on _ _ _ _ _ _ _ _ _ _ (c.loop-header.invariant.printing first told_first before) c.in-Some.ensures.whole c.pass_event.ensures.reads c.pass_event.ensures.begun)
-    (subst (λ (b : List ℕ). Adds (AreEventLines (event_of c.in-Some.header b)) c.loop-header.page c.add_whole_event-added.new.page) c.in-Some.ensures.data c.in_ok-added.ensures)
-    c.in_err-flush_full.ensures.passes)
+    (subst (λ (b : List ℕ). PassesLines (AreEventLines (event_of c.in-Some.header b)) (g.K.Sink.written c.loop-header.out) (g.K.Sink.written c.print_event-printed.new.out) c.loop-header.page c.print_event-printed.new.page (Err c.in_err-printed.field-0.0)) c.in-Some.ensures.data c.in_err-printed.ensures.passes))
