@@ -29,7 +29,7 @@ fn files_with(
     bytes: &[u8],
     fails: Vec<FileFail>,
 ) -> Result<MemFiles, NoMemory> {
-    let mut files = MemFiles::new(alloc, 1, 1000, fails)?;
+    let mut files = MemFiles::new(alloc, 1, 150_000, fails)?;
     files.add(name, bytes.to_vec(alloc)?)?;
     Ok(files)
 }
@@ -166,6 +166,41 @@ fn names_that_are_no_file(rt: HostRuntime) -> Result<(), Fail> {
         assert_eq!(rt; end, ToolEnd::Input(fault));
         let (end, _files) = analyze_file(alloc, files, &name, &mut out);
         assert_eq!(rt; end, ToolEnd::Input(fault));
+    }
+    Ok(())
+}
+
+#[test]
+fn lines_of_what_was_read_before_a_read_fault(rt: HostRuntime) -> Result<(), Fail> {
+    let alloc = rt.alloc();
+    let name = FileName::new("run00001.mid")?;
+    let file = one_event(alloc)?;
+    let (good, _) = file.as_slice().split_at(file.as_slice().len().min(421));
+    let (front, _) = good.split_at(good.len().min(229));
+    // A second event, whose data are longer than what is read at a time.
+    let mut long = front.to_vec(alloc)?;
+    long.extend_from_slice(&[1, 0, 0, 0, 2, 0, 0, 0, 0xE8, 3, 0, 0, 0, 0, 2, 0])?;
+    long.resize(131_317, b'x')?;
+    for (bytes, call, text) in [
+        (good, 0, ""),
+        (
+            long.as_slice(),
+            1,
+            "begin 1 1000 173\nevent 1 0 1 1000 24\n  bank GEN0 UINT32 4\n",
+        ),
+        (
+            good,
+            1,
+            "begin 1 1000 173\nevent 1 0 1 1000 24\n  bank GEN0 UINT32 4\nend 1 1010 176\n",
+        ),
+    ] {
+        let op = FileOp::Read;
+        let fail = [FileFail { op, call }].to_vec(alloc)?;
+        let files = files_with(alloc, name, bytes, fail)?;
+        let mut out = MemSink::new(alloc, 1000, Vec::new(alloc))?;
+        let (end, _files) = dump_file(alloc, files, &name, &mut out);
+        assert_eq!(rt; end, ToolEnd::FileFault);
+        assert_eq!(rt; out.bytes(), text.as_bytes());
     }
     Ok(())
 }

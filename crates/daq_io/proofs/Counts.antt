@@ -1,5 +1,5 @@
 -- Counts of faults and of clashes, by the answer of a call.
-use Rattle.std.specs.Prelude.{◌≡◌, ℕ, ◌+◌, ◌-◌, ◌≤◌}
+use Rattle.std.specs.Prelude.{◌≡◌, ℕ, ◌+◌, ◌≤◌}
 use Rattle.std.proofs.Common.{◌∙◌, sym, arith, add-zero, inl, inr}
 use Rattle.daq_io.specs.Counts.{Rose, RoseBy, RoseJustBy}
 

@@ -1,12 +1,12 @@
 -- A source over one of several files, after each of its reads.
-use Rattle.std.proofs.Common.{◌≡◌, ◌∙◌, ℕ, List, [], ◌++◌, length, take, Result, Ok, Err, IfOk, OnErr, refl, sym, ap, subst, append_assoc}
+use Rattle.std.proofs.Common.{◌≡◌, ◌∙◌, ℕ, List, [], ◌++◌, length, take, Result, Ok, Err, IfOk, OnErr, sym, ap, subst, append_assoc}
 use Rattle.std.specs.Prelude.{IsTrue}
 use Rattle.std.specs.Io.{ReadsAtMost}
 use Rattle.std.proofs.Common.{length-append}
 use Rattle.daq_io.specs.declared.faults.Failed.{Failed}
 use Rattle.daq_io.specs.Counts.{RoseJustBy}
 use Rattle.daq_io.specs.FileLeft.{ReadsFirst, IsOneRead}
-use Rattle.daq_io.specs.Seen.{Seen, KeepsOthers, Reads, Same}
+use Rattle.daq_io.specs.Seen.{Seen, Reads, Same}
 use Rattle.daq_io.proofs.Counts.{RoseJustBy-none, RoseJustBy-then}
 use Rattle.daq_io.proofs.SeenLaws.{KeepsFiles-trans, KeepsOthers-trans}
 

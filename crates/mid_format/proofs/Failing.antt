@@ -1,7 +1,7 @@
 -- Where the source fails: what it gave before, and that no record lies whole in it.
-use Rattle.std.proofs.Common.{◌≡◌, ◌∙◌, ℕ, ◌+◌, ◌-◌, ◌^◌, ◌<◌, ◌≤◌, ◌==◌, ◌||◌, not, nat_lt, Bool, true, false, if◌then◌else◌, List, [], ◌++◌, length, take, Option, Some, None, Result, Ok, Err, OnErr, refl, ap, sym, subst, arith, length-append, length-take}
+use Rattle.std.proofs.Common.{◌≡◌, ℕ, ◌+◌, ◌^◌, ◌<◌, ◌==◌, ◌||◌, not, nat_lt, Bool, true, false, if◌then◌else◌, List, ◌++◌, length, Option, Some, None, Result, Ok, Err, OnErr, ap, sym, subst, arith, length-append}
 use Rattle.std.specs.Prelude.{is_some}
-use Rattle.std.proofs.lemmas.List.{nil_from_length, append-nil}
+use Rattle.std.proofs.lemmas.List.{nil_from_length}
 use Rattle.std.specs.Io.KnownBytes.{Consumes}
 use Rattle.std.proofs.KnownBytes.{Consumes-trans}
 use Rattle.daq_model.specs.Events.{begin_id, end_id, event_limit, record_limit}
@@ -10,8 +10,8 @@ use Rattle.event_header.specs.Headers.{header_encoding}
 use Rattle.event_header.specs.Pieces.{FailsBehind}
 use Rattle.event_header.proofs.Headers.{length-header_encoding}
 use Rattle.event_header.specs.declared.head.Header.{Header}
-use Rattle.mid_format.specs.Faults.{header_at, size_fault, header_fault, OfSource}
-use Rattle.mid_format.specs.Parts.{IsInRange, ReadsHead, LacksRecord, FailsInside}
+use Rattle.mid_format.specs.Faults.{size_fault, header_fault, OfSource}
+use Rattle.mid_format.specs.Parts.{ReadsHead, FailsInside}
 use Rattle.mid_format.specs.HasRead.{LacksNext, FailsAfter}
 use Rattle.mid_format.specs.declared.faults.MidFault.{MidFault}
 use Rattle.mid_format.specs.declared.faults.MidFault.TheVariants.{Truncated, NoBegin, NoEnd, AfterEnd, TooBig, ReadFault, BadRecord, TooLong}

@@ -17,7 +17,7 @@ use Rattle.event_header.proofs.Headers.{length-header_encoding, header_back}
 use Rattle.event_header.specs.declared.head.Header.{Header}
 use Rattle.mid_format.specs.Faults.{fault_at, OfBytes, OfSource}
 use Rattle.mid_format.specs.Parts.{IsInRange, ReadsHead, ReadsBody, FailsInside, IsCut, IsBehindEnd}
-use Rattle.mid_format.specs.HasRead.{IsStorable, IsBegunFile, IsEndedFile, IsMidFault, BeginsWith, IsReadSoFar, IsFaultAt, StandsBehind, FailsAfter, HasRead}
+use Rattle.mid_format.specs.HasRead.{IsStorable, IsBegunFile, IsEndedFile, IsMidFault, BeginsWith, IsReadSoFar, IsFaultAt, StandsBehind, HasRead}
 use Rattle.mid_format.specs.Steps.{IsGoing, BeginsNow, BeginsReading, BeginStops, FinishesReading, FinishStops}
 use Rattle.mid_format.specs.declared.faults.MidFault.{MidFault}
 use Rattle.mid_format.specs.declared.faults.MidFault.TheVariants.{AfterEnd, ReadFault}

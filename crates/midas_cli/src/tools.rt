@@ -37,8 +37,8 @@ fn call_tool<F: Files, K: Sink>(
     name: &FileName,
     out: &mut K,
 ) -> (ToolEnd, F)
-    ensures writes { ToolWrites tool (F.seen files) name.now (K.written out.old)
-        (K.written out.new) result.0 }
+    ensures writes { ToolWrites tool (F.seen files) name.now (F.bytes_read files)
+        (F.bytes_read result.1) (K.written out.old) (K.written out.new) result.0 }
     ensures sink { SinkByEnd result.0 (K.faults out.old) (K.faults out.new) }
     ensures faults { FilesByEnd result.0 (F.faults files) (F.faults result.1) }
     ensures complete { Completes (F.seen files) name.now (K.faults out.old) (K.faults out.new)
@@ -61,7 +61,7 @@ pub fn run_tool<S, K: Sink, F: Files, E, C, P>(
 ) -> (Outcome, Outside<S, K, F, E, C, P>)
     ensures status { result.0.status ≡ status_of result.0.cause }
     ensures ran { ToolRan call.tool (F.seen outside.run_files) call.name (K.written outside.out)
-        (K.written result.1.out) (call_counts K.faults F.faults F.clashes outside result.1)
+        (K.written result.1.out) (call_counts K.faults F.faults F.clashes F.bytes_read outside result.1)
         (F.first result.1.run_files) result.0.cause }
     ensures same { Same (F.seen outside.run_files) (F.seen result.1.run_files) }
     ensures session { result.0.session ≡ None }

@@ -5,12 +5,11 @@ use Rattle.std.proofs.lemmas.List.{append-nil}
 use Rattle.daq_types.specs.declared.events.Event.{Event}
 use Rattle.daq_io.specs.Streams.{AppendsPart}
 use Rattle.daq_io.specs.declared.faults.Failed.{Failed}
-use Rattle.bank_format.specs.BankAreas.{BankValue}
 use Rattle.bank_format.specs.Faults.{HoldsBanks, IsFirstFault}
 use Rattle.bank_format.specs.Places.{BankReading}
 use Rattle.bank_format.specs.declared.faults.BankFault.{BankFault}
 use Rattle.midas_tools.specs.Printing.{PrintsSoFar, PassesText}
-use Rattle.midas_tools.specs.Texts.{bank_line, event_line, no_banks_line}
+use Rattle.midas_tools.specs.Texts.{event_line, no_banks_line}
 use Rattle.midas_tools.proofs.Printing.{AppendsPart-more, PrintsSoFar-more, PrintsSoFar-then, PrintsSoFar-fails, both_pass, first_fails}
 use Rattle.midas_tools.specs.Areas.{AreBankLines, AreEventLines, AreLinesOf, PassesLines, bank_lines}
 

@@ -13,7 +13,7 @@ use Rattle.mid_format.specs.HasRead.{FailsAfter}
 use Rattle.mid_format.specs.declared.faults.MidFault.{MidFault}
 use Rattle.mid_format.specs.declared.faults.MidFault.TheVariants.{ReadFault}
 use Rattle.midas_tools.specs.Dumps.{DumpsTo, IsDump, IsPart, ListsRead, ListsWhole, PrintsDump, PrintsRead, PrintsSome, WritesOn, WritesRead, WritesSome, end_lines}
-use Rattle.midas_tools.specs.Findings.{Finds, WritesAll, WritesPart, IsFileOpened, IsThere, RefusesFile, SaysWhy, ClosesWell, Closed}
+use Rattle.midas_tools.specs.Findings.{Finds, WritesAll, WritesPart, IsFileOpened, RefusesFile, SaysWhy, ClosesWell, Closed}
 use Rattle.midas_tools.specs.declared.opening.Refused.{Refused}
 use Rattle.midas_tools.specs.declared.opening.Refused.TheVariants.{NameCompressed, NameMissing, OpenFailed}
 use Rattle.midas_tools.specs.declared.ends.InputFault.TheVariants.{Mid, Compressed, Missing, ScriptTooLong}
@@ -98,18 +98,20 @@ module _ (seen : Seen) (name : List ℕ) (read_old read_new : ℕ) (told_old tol
   dump_refused faults_old faults_new clashes_old clashes_new sink_old sink_new NameMissing result r (inr part) none =
       subst (λ (e : ToolEnd). Writes e) (sym part.0) (inl (record { found = Input Missing; text = _; finds = (r.0, refl, r.1); written = part.1 }))
   dump_refused faults_old faults_new clashes_old clashes_new sink_old sink_new OpenFailed result r s none =
-      subst (λ (e : ToolEnd). Writes e) (sym s.0)
-      (r.0, inl (record {
-        text = [];
-        lists = λ told.
-            let found : (file : Stored) × (seen.at name ≡ Some file) = file_at (seen.at name) (r.2 told) in
-            record {
-              count = 0;
-              counted = RoseJustBy-none read_old read_new none;
-              there = record { file = found.0; at_is = found.1; fact = nothing_whole (take 0 found.0.bytes) (nil_from_length (take 0 found.0.bytes) (omega (arith, length-take 0 found.0.bytes))) };
-            };
-        written = no_part told_old told_new s.1;
-      }))
+      subst (λ (e : ToolEnd). Writes e) (sym s.0) (
+        r.0,
+        inl (record {
+          text = [];
+          lists = λ told.
+              let found : (file : Stored) × (seen.at name ≡ Some file) = file_at (seen.at name) (r.2 told) in
+              record {
+                count = 0;
+                counted = RoseJustBy-none read_old read_new none;
+                there = record { file = found.0; at_is = found.1; fact = nothing_whole (take 0 found.0.bytes) (nil_from_length (take 0 found.0.bytes) (omega (arith, length-take 0 found.0.bytes))) };
+              };
+          written = no_part told_old told_new s.1;
+        }),
+      )
 
   module _ (opened : Seen) (number : ℕ) (o : IsFileOpened seen opened name number) where
     some_written : PrintsSome (told_left opened number) told_old told_new → WritesSome seen name told_old told_new

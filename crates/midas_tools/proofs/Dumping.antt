@@ -23,7 +23,7 @@ use Rattle.mid_format.specs.declared.faults.MidFault.TheVariants.{Truncated, NoB
 use Rattle.mid_format.specs.declared.progress.Progress.{Progress}
 use Rattle.midas_tools.specs.Areas.{AreEventLines, AreLinesOf, PassesLines}
 use Rattle.midas_tools.proofs.AreasLaws.{AreLinesOf-more}
-use Rattle.midas_tools.specs.Dumps.{DumpsTo, EndsAt, EndsText, HandEnds, IsDump, IsPart, Listing, Printing, PrintsDump, PrintsRead, PrintsSome, PrintsUpTo, ReadCounts, begin_lines, end_lines, end_of, ended_text, fault_lines, new_begin}
+use Rattle.midas_tools.specs.Dumps.{DumpsTo, EndsAt, EndsText, HandEnds, IsDump, IsPart, Listing, Printing, PrintsRead, PrintsSome, PrintsUpTo, ReadCounts, begin_lines, end_lines, end_of, ended_text, fault_lines, new_begin}
 use Rattle.midas_tools.specs.Findings.{SinkByEnd}
 use Rattle.midas_tools.specs.Printing.{PrintsSoFar, PassesText}
 use Rattle.midas_tools.proofs.Printing.{PrintsSoFar-none, PrintsSoFar-more, PrintsSoFar-all, PrintsSoFar-fails, none_passes, text_passes, text_fails}

@@ -1,4 +1,4 @@
-use Rattle.std.proofs.Common.{◌∙◌, ℕ, List, Err, Ok, refl, subst, arith}
+use Rattle.std.proofs.Common.{◌∙◌, ℕ, List, Err, Ok, subst, arith}
 use Rattle.std.proofs.lemmas.Result.{err_from_is_err_and}
 use Rattle.event_header.specs.Headers.{event_of}
 use Rattle.midas_tools.specs.Areas.{PassesLines, AreEventLines}

@@ -50,12 +50,12 @@ events-preserved g c =
     c.begin-in-events.ensures c.in_ok-print_begin.ensures.passes) in
     record {
       printing = c.in_ok-print_at_hand-in-Ok-Some.ensures.prints _ _ (one_more (g.S.Source.left c.args.reader.now.source) (g.S.Source.left c.next-given.new.self.source) c.next-given.new.self.progress (g.K.Sink.written c.args.out.now) (g.K.Sink.written c.print_begin.new.out) (g.K.Sink.written c.print_event.new.out)
-    c.print_begin.new.page c.print_event.new.page c.in-Ok-Some.field-0-0 c.in_ok-print_event-in-Ok-Some.field-0 c.next-given.new.into.event
-    (subst (λ (r : Result (Option (Unit {0})) MidFault). Stepped (g.S.Source.left c.args.reader.now.source) (g.S.Source.left c.next-given.new.self.source) c.next-given.new.self.progress (g.K.Sink.written c.args.out.now) (g.K.Sink.written c.print_begin.new.out)
-    c.print_begin.new.page r c.next-given.new.into.event) given st)
-    (subst (λ (e : Event). PassesLines (AreEventLines e) (g.K.Sink.written c.print_begin.new.out) (g.K.Sink.written c.print_event.new.out) c.print_begin.new.page c.print_event.new.page (Ok c.in_ok-print_event-in-Ok-Some.field-0))
-    (event_again c.header.result c.body.result.now c.next-given.new.into.event c.header.ensures c.body.ensures) c.in_ok-print_event-in-Ok-Some.ensures.passes)
-    (c.next-given.ensures.fault ∙ ap fault_of given) (not_ended _ c.in-Ok-Some.field-0-0 _ given c.next-given.ensures.end));
+          c.print_begin.new.page c.print_event.new.page c.in-Ok-Some.field-0-0 c.in_ok-print_event-in-Ok-Some.field-0 c.next-given.new.into.event
+          (subst (λ (r : Result (Option (Unit {0})) MidFault). Stepped (g.S.Source.left c.args.reader.now.source) (g.S.Source.left c.next-given.new.self.source) c.next-given.new.self.progress (g.K.Sink.written c.args.out.now) (g.K.Sink.written c.print_begin.new.out)
+          c.print_begin.new.page r c.next-given.new.into.event) given st)
+          (subst (λ (e : Event). PassesLines (AreEventLines e) (g.K.Sink.written c.print_begin.new.out) (g.K.Sink.written c.print_event.new.out) c.print_begin.new.page c.print_event.new.page (Ok c.in_ok-print_event-in-Ok-Some.field-0))
+          (event_again c.header.result c.body.result.now c.next-given.new.into.event c.header.ensures c.body.ensures) c.in_ok-print_event-in-Ok-Some.ensures.passes)
+          (c.next-given.ensures.fault ∙ ap fault_of given) (not_ended _ c.in-Ok-Some.field-0-0 _ given c.next-given.ensures.end));
       room = search rules;
       origin = c.print_at_hand.ensures.origin ∙ (c.next-given.ensures.origin ∙ c.events.invariant.origin);
       source = c.print_at_hand.ensures.source ∙ (counts_ok _ _ _ _ _ c.events.invariant.printing.sound c.next-given.ensures.counted given ∙ c.events.invariant.source);
@@ -91,7 +91,7 @@ returns-in-Ok-None-clause-lists g c =
     c.begin-in-events.ensures c.in_ok-print_begin.ensures.passes) in (
       up_to_end _ _ _ _ _ _ c.next-given.new.into.event
           (subst (λ (r : Result (Option (Unit {0})) MidFault). Stepped (g.S.Source.left c.args.reader.now.source) (g.S.Source.left c.next-given.new.self.source) c.next-given.new.self.progress (g.K.Sink.written c.args.out.now) (g.K.Sink.written c.print_begin.new.out)
-    c.print_begin.new.page r c.next-given.new.into.event) given st)
+          c.print_begin.new.page r c.next-given.new.into.event) given st)
           (c.next-given.ensures.fault ∙ ap fault_of given),
       ended_at _ _ given c.next-given.ensures.end,
     )

@@ -1,5 +1,4 @@
-use Rattle.std.proofs.Common.{◌∙◌, ℕ, List, Option, Some, ap, subst, sym}
-use Rattle.mid_format.specs.declared.faults.MidFault.{MidFault}
+use Rattle.std.proofs.Common.{◌∙◌, ℕ, List, ap, subst, sym}
 use Rattle.midas_tools.specs.Dumps.{fault_lines}
 use Rattle.midas_tools.specs.Printing.{PassesText}
 use Rattle.midas_tools.proofs.Dumping.{fault_line_is}

@@ -1,7 +1,7 @@
 use Rattle.std.proofs.Common.{◌++◌}
 use Rattle.std.proofs.lemmas.Result.{err_from_is_err_and}
 use Rattle.midas_tools.specs.Dumps.{end_lines, fault_lines}
-use Rattle.midas_tools.proofs.Printing.{AppendsPart-more, PrintsSoFar-all, PrintsSoFar-fails, on_err_part, on_ok_all, text_fails, text_passes}
+use Rattle.midas_tools.proofs.Printing.{AppendsPart-more, on_err_part, on_ok_all, text_fails, text_passes}
 use Rattle.midas_tools.proofs.dump.print_last.Goals as goal
 
 pub returns-in_err-print_end-clause-part : goal.returns-in_err-print_end-clause-part
