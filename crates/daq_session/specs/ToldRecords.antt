@@ -201,10 +201,10 @@ session_told told declared slots first_files files r =
 -- objects; one record for each start that was begun, in order, each of which fits these calls, and no two of one start; each answer
 -- that the run number got; the channels of its logger, which are those that were declared; who called, and that each member kept
 -- its contract over its own calls; all that the laws say of the session, of its runs, its files, its front-ends and its callers;
--- that each start is over; what the counts of its run files tell; that one fault of these gives one answer, and that none is counted
--- without one, or but where a start was refused; that each run file that is in no record is as it was, where no fault was counted;
--- each of its runs that came about; and that each other start was refused by a front-end whose equipment takes no part in the run,
--- or by the logger for a fault or a clash of names that was counted.
+-- that each start is over; what the counts of its run files tell; that one fault of these gives one answer, and that no clash is
+-- counted without one, and no fault but where a start was refused; that each run file that is in no record is as it was, where no
+-- fault was counted; each of its runs that came about; and that each other start was refused by a front-end whose equipment takes no
+-- part in the run, or by the logger for a fault or a clash of names that was counted.
 pub record RecordTells {D F K : Type 0} {g : _} (told : CrewTold Generator F K) (declared : Declared) (own : MainOwn)
     (first_files files : F) (r : SessionRecord D g) : Type 0 where
   pub histories : AreHistoriesOf declared r
@@ -220,7 +220,7 @@ pub record RecordTells {D F K : Type 0} {g : _} (told : CrewTold Generator F K) 
   pub over : AreStartsOver (engine_calls (session_told told declared slots first_files files r) main_caller)
   pub counts : CountsHold (session_told told declared slots first_files files r) (told.read first_files) (told.read files)
   pub one_answer : OneAnswer (session_told told declared slots first_files files r) r.runs (told.read first_files) (told.read files)
-  pub rises : RisesTold (session_told told declared slots first_files files r) r.runs (told.read first_files) (told.read files)
+  pub rises : RisesTold r.runs (told.read first_files) (told.read files)
   pub left : IsTrue (told.read first_files).seen.tells → NoneRose (told.read first_files) (told.read files) →
       (name : List ℕ) → IsInNoRecord r.runs name →
       (told.read files).seen.at name ≡ (told.read first_files).seen.at name

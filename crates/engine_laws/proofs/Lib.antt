@@ -7,5 +7,6 @@ pub mod Begun
 pub mod Tallied
 pub mod Completed
 pub mod CalledOff
+pub mod NosRefuse
 pub mod RunsOver
 pub mod MainCalls

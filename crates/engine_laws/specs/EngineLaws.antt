@@ -7,6 +7,7 @@ use Rattle.daq_types.specs.declared.runs.Transition.TheVariants.{Start, Stop, St
 use Rattle.daq_types.specs.declared.runs.StartOutcome.{StartOutcome}
 use Rattle.daq_types.specs.declared.runs.Why.{Why}
 use Rattle.transitions.specs.declared.sheet.Sheet.{Sheet}
+use Rattle.transitions.specs.declared.answers.Answer.TheVariants.{No}
 use Rattle.transitions.specs.declared.answers.Tally.{Tally}
 use Rattle.transitions.specs.declared.answers.ClientTally.{ClientTally}
 use Rattle.transitions.specs.declared.replies.Progress.TheVariants.{Done}
@@ -81,6 +82,17 @@ RefusalsAreAnswers = (by client : ℕ) → (history : EngineHistory) →
     (sheet : Sheet) → (start : ℕ) → (why : Why) → (tallies : List ClientTally) →
     (has : HasTransition history Start sheet start (Refused client why) tallies) →
     IsRefusedTurn (member_turns client (entries_by by history)) (state_at (engine_past has.earlier)) sheet start why
+
+-- Where the caller of a client answered No to its turn of a start, the Done of that start says that this client refused it, for
+-- that reason: so one client refuses a start, and one only.
+abbrev pub NosAreRefusals : Type 0
+NosAreRefusals = (by client : ℕ) → (history : EngineHistory) →
+    IsLegalEngine engine_opening history → SpeaksFor by client history →
+    (sheet : Sheet) → (start : ℕ) → (outcome : StartOutcome) → (tallies : List ClientTally) →
+    HasTransition history Start sheet start outcome tallies →
+    (turn : MemberTurn) → HasTurn (member_turns client (entries_by by history)) turn →
+    turn.transition ≡ Start → turn.order.start ≡ start → (why : Why) → turn.answer ≡ Some (No why) →
+    outcome ≡ Refused client why
 
 -- Where the Done of a start says that it was refused, the caller of each client that is called for a start-abort answered the
 -- client's turn of that.

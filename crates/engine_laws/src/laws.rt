@@ -1,6 +1,6 @@
 //! Laws of the turns of one client of an engine: each function does nothing, and its contract is the law.
 
-ghost use Rattle.engine_laws.specs.EngineLaws.{GivesEngineTurns, TurnsWereBegun, StartsFromStopped, StopsFromRun, DonesHaveBegins, OthersComplete, TalliesAreAnswers, RefusalsAreAnswers, RefusedAreCalledOff, RunsAreOver, CalledAreTold, MainHasTransition};
+ghost use Rattle.engine_laws.specs.EngineLaws.{GivesEngineTurns, TurnsWereBegun, StartsFromStopped, StopsFromRun, DonesHaveBegins, OthersComplete, TalliesAreAnswers, RefusalsAreAnswers, NosAreRefusals, RefusedAreCalledOff, RunsAreOver, CalledAreTold, MainHasTransition};
 
 use transitions::laws;
 
@@ -25,12 +25,14 @@ pub fn turns_begun()
 
 /// Each Done belongs to the begin before it, and each tally of a client in it is what its caller answered to the client's turn
 /// of that transition; the turn of the one client that wants the dump has it. Only the Done of a start tells a refusal, which is
-/// what the caller of the client that it names answered to the client's turn of that start.
+/// what the caller of the client that it names answered to the client's turn of that start; and each No to a turn of a start is
+/// the refusal that its Done tells.
 pub fn tallies_answered()
     ensures begins { DonesHaveBegins }
     ensures completed { OthersComplete }
     ensures tallies { TalliesAreAnswers }
     ensures refusals { RefusalsAreAnswers }
+    ensures nos { NosAreRefusals }
 {
     laws::called_in_order();
     laws::follows();

@@ -159,7 +159,7 @@ module _ {D F : Type 0} {g : _} (seen : F → Seen) (fronts : List FrontDeclared
       (subst (λ (clients : RunClients). RecordsFit clients own r.runs) (same_clients agree channels declared) fits)
 
   pub rises_met : GotAll → RisesToldEach → ChannelsAgree → (read : F → RunFiles) → HasLoggerReasons read logger → (channels : List ChannelSpec) → AreDeclared channels logger.slots → (own : MainOwn) → (more : List EngineEntry) → ended.own ≡ own.engine ++ more → starts_begun more ≡ []
-      → RecordsFit (clients_declared fronts channels analyzers) own r.runs → RisesTold closed r.runs (read logger.first) (read logger.files)
+      → RecordsFit (clients_declared fronts channels analyzers) own r.runs → RisesTold r.runs (read logger.first) (read logger.files)
   rises_met all each agree read reasons channels declared own more calls none fits =
       each closed (ends_met seen fronts analyzers logger r ended all) (read logger.first) (read logger.files) (reasons_met all read reasons) own more
       (engine_by_main seen fronts analyzers logger r ended ∙ calls) none r.runs

@@ -105,8 +105,7 @@ RisesToldSo {D} {F} seen read r = (fronts : List FrontDeclared) → (analyzers :
     (channels : List ChannelSpec) → AreDeclared channels logger.slots →
     (own : MainOwn) → (more : List EngineEntry) → ended.own ≡ own.engine ++ more → starts_begun more ≡ [] →
     RecordsFit (clients_declared fronts channels analyzers) own r.runs →
-    RisesTold (closed_session (first_database ended.shared) fronts analyzers logger.slots (seen logger.first) (seen logger.files) r)
-    r.runs (read logger.first) (read logger.files)
+    RisesTold r.runs (read logger.first) (read logger.files)
 
 -- The record of a start that was refused fits the main thread's own calls, with the quota of its start, and was refused so.
 pub record RefusalSo (c : ClosedSession) (first now : RunFiles) (own : MainOwn) (r : RunRecord) (client : ℕ) (why : Why) : Type 0 where

@@ -1,12 +1,11 @@
 -- A count that rose is told by a record: where all that the logger told of a start is in the record of it.
-use Rattle.std.specs.Prelude.{◌≡◌, ◌≤◌, ◌<◌, ◌+◌, ℕ, zero, suc, cond, is_some, sum_by, List, [], ◌∷◌, ◌++◌, length, map, slice_get, Contains, Option, Some, None, refl, ◌⊎◌}
+use Rattle.std.specs.Prelude.{◌≡◌, ◌≤◌, ◌<◌, ℕ, zero, suc, cond, is_some, sum_by, List, [], ◌∷◌, ◌++◌, length, map, slice_get, Contains, Option, Some, None, refl}
 use Rattle.std.specs.List.{AllByRecursion}
 use Rattle.std.proofs.Common.{ap, sym, subst, ◌∙◌, arith, inl, inr, append-nil}
 use Rattle.std.proofs.lemmas.List.Sums.{sum_by-cons}
 use Rattle.daq_types.specs.Callers.{main_caller}
 use Rattle.daq_types.specs.declared.runs.ChannelState.{ChannelState}
 use Rattle.daq_types.specs.declared.runs.ChannelState.TheVariants.{Idle as IsIdle, Writing as IsWriting, Ended, NoEnd, NoMark, Broken as IsBroken}
-use Rattle.daq_types.specs.declared.runs.Order.{Order}
 use Rattle.daq_types.specs.declared.runs.StartOutcome.{StartOutcome}
 use Rattle.daq_types.specs.declared.runs.StartOutcome.TheVariants.{Completed, Refused}
 use Rattle.daq_types.specs.declared.runs.Transition.{Transition}
@@ -21,7 +20,7 @@ use Rattle.transitions.specs.declared.answers.Answer.TheVariants.{Yes, No}
 use Rattle.transitions.specs.declared.answers.Tally.{Tally}
 use Rattle.transitions.specs.declared.answers.Tally.TheVariants.{Plain, Front, Channels, Report}
 use Rattle.transitions.specs.declared.entry.EngineEntry.{EngineEntry}
-use Rattle.transitions.specs.EnginePoints.{engine_past, state_at, tally_of}
+use Rattle.transitions.specs.EnginePoints.{tally_of}
 use Rattle.member_model.specs.Turns.{MemberTurn, HasTurn, AreEngineTurns}
 use Rattle.member_model.specs.TurnCalls.{member_turns}
 use Rattle.mid_logger.specs.declared.channel.Channel.{Channel}
@@ -40,8 +39,8 @@ use Rattle.loggers.specs.OtherFiles.{specs_in}
 use Rattle.loggers.specs.Reasons.{AnswerFits, ClashesAreTold}
 use Rattle.loggers.specs.ToldCounts.{faults_of_state, faults_of_answer, clashes_of_answer, undone_of_answer, undone_by, counted_of, faults_told, starts_undone, broken_off}
 use Rattle.loggers.proofs.ManyRose.{member_counts, off_of}
-use Rattle.engine_laws.specs.BegunTurns.{HasTransition, HasTally, IsRefusedTurn}
-use Rattle.engine_laws.specs.EngineLaws.{RefusalsAreAnswers}
+use Rattle.engine_laws.specs.BegunTurns.{HasTransition, HasTally}
+use Rattle.engine_laws.specs.EngineLaws.{NosAreRefusals}
 use Rattle.run_records.specs.declared.records.FileRecord.{FileRecord}
 use Rattle.run_records.specs.declared.records.RunRecord.{RunRecord}
 use Rattle.session_engine.specs.MadeTransitions.{TransitionIn}
@@ -59,7 +58,7 @@ use Rattle.session_laws.specs.MembersAtEnd.{MembersAtEnd}
 use Rattle.session_laws.specs.CountedFaults.{LoggerReasons}
 use Rattle.session_laws.specs.MadeRuns.{RunIn}
 use Rattle.session_laws.specs.RecordedRuns.{run_channels, clients_in}
-use Rattle.session_laws.specs.OneAnswer.{faults_recorded, clashes_recorded, clashes_of_outcome, LoggerAloneRefused, NoneRefused, RisesToldEach}
+use Rattle.session_laws.specs.OneAnswer.{faults_recorded, clashes_recorded, clashes_of_outcome, NoneRefused, RisesToldEach}
 use Rattle.session_laws.proofs.KeptTogether.{names_own}
 use Rattle.session_laws.proofs.LoggerEnd.{none_taken_back}
 use Rattle.session_laws.proofs.NamesStay.{StartBegun, start_begun, abort_begun, HasSpec, has_spec}
@@ -71,7 +70,7 @@ use Rattle.session_laws.proofs.UndoneNames.{UndoneLaws, Turned, one_end, one_sto
 -- the laws of engines and of loggers
 pub record RiseLaws : Type 0 where
   pub undone : UndoneLaws
-  pub refusals : RefusalsAreAnswers
+  pub nos : NosAreRefusals
   pub names : ClashesAreTold
 
 -- Lists.
@@ -386,8 +385,9 @@ module _ (laws : RiseLaws) (c : ClosedSession) (ends : MembersAtEnd c) where
           let off : broken_off c.slots ≡ 0 = slots_none c.slots off_none in
           reasons.no_fault (omega (arith, told, undone, off))
 
-    -- Where no start was refused but by the logger, and none for a name.
-    module _ (alone : LoggerAloneRefused c runs) (quiet : sum_by clashes_recorded runs ≡ 0) where
+    -- Where none of these starts was refused for a name.
+    module _ (quiet : sum_by clashes_recorded runs ≡ 0) where
+      -- a start that the logger refused for a name has it in its record, whoever else refused others
       refused_at : (t : MemberTurn) (channel : ℕ) → HasTurn ts t → t.transition ≡ Start → t.answer ≡ Some (No (Exists channel)) → (o : OfStart t.order.start) → (outcome : StartOutcome) → o.kept.outcome ≡ outcome → ⊥
       refused_at t channel has starts answered o Completed is = never_refused t (Exists channel) has starts answered o is
       refused_at t channel has starts answered o (Refused client why) is =
@@ -395,17 +395,12 @@ module _ (laws : RiseLaws) (c : ClosedSession) (ends : MembersAtEnd c) where
           let refused : FitsRefused (clients_in c) own (run_of o.kept o.fit.0) o.kept = was_refused (clients_in c) own (run_of o.kept o.fit.0) o.kept client why o.kept.outcome is o.fit.1 in
           let start = refused.start in
           let sheet : Sheet = start_sheet (length c.analyzers) o.kept.run o.kept.time0 o.fit.0 start.dump in
-          let by : client ≡ n = alone o.place o.kept client why o.at is in
-          let outcome : o.kept.outcome ≡ Refused n why = is ∙ ap (λ (i : ℕ). Refused i why) by in
-          let here : TransitionIn own.engine Start sheet o.kept.start (Refused n why) start.tallies = subst (λ (x : StartOutcome). TransitionIn own.engine Start sheet o.kept.start x start.tallies) outcome start.made in
-          let made : TransitionIn (engine_calls c main_caller) Start sheet o.kept.start (Refused n why) start.tallies =
-          subst (λ (l : List EngineEntry). TransitionIn l Start sheet o.kept.start (Refused n why) start.tallies) (sym calls) (made_then own.engine more Start sheet o.kept.start (Refused n why) start.tallies here) in
-          let stood : HasTransition c.engine Start sheet o.kept.start (Refused n why) start.tallies = has_made laws.undone.main c.engine Start sheet o.kept.start (Refused n why) start.tallies ends.engine made in
-          let turn : IsRefusedTurn ts (state_at (engine_past stood.earlier)) sheet o.kept.start why = laws.refusals (logger_caller c) n c.engine ends.engine (speaks n c.engine (names_own c ends)) sheet o.kept.start why start.tallies stood in
-          let same : t ≡ turn.turn = one_start ts t.order.start t turn.turn are (record { stands = has; is = starts; of = refl }) (record { stands = turn.stands; is = turn.starts; of = ap (λ (x : Order). x.start) turn.of_begin.order ∙ o.is }) in
-          let both : Some (No (Exists channel)) ≡ Some (No why) = sym answered ∙ (ap (λ (u : MemberTurn). u.answer) same ∙ turn.answered) in
-          let cause : Exists channel ≡ why = cc (both) in
-          let one : clashes_recorded o.kept ≡ 1 = ap clashes_of_outcome (is ∙ ap (λ (w : Why). Refused client w) (sym cause)) in
+          let here : TransitionIn own.engine Start sheet o.kept.start (Refused client why) start.tallies = subst (λ (x : StartOutcome). TransitionIn own.engine Start sheet o.kept.start x start.tallies) is start.made in
+          let made : TransitionIn (engine_calls c main_caller) Start sheet o.kept.start (Refused client why) start.tallies =
+          subst (λ (l : List EngineEntry). TransitionIn l Start sheet o.kept.start (Refused client why) start.tallies) (sym calls) (made_then own.engine more Start sheet o.kept.start (Refused client why) start.tallies here) in
+          let stood : HasTransition c.engine Start sheet o.kept.start (Refused client why) start.tallies = has_made laws.undone.main c.engine Start sheet o.kept.start (Refused client why) start.tallies ends.engine made in
+          let told : Refused client why ≡ Refused n (Exists channel) = laws.nos (logger_caller c) n c.engine ends.engine (speaks n c.engine (names_own c ends)) sheet o.kept.start (Refused client why) start.tallies stood t has starts (sym o.is) (Exists channel) answered in
+          let one : clashes_recorded o.kept ≡ 1 = ap clashes_of_outcome (is ∙ told) in
           omega (arith, one, quiet, member_counts clashes_recorded runs o.place o.kept o.at)
 
       clash_none : (t : MemberTurn) → HasTurn ts t → (answer : Option Answer) → t.answer ≡ answer → counted_of clashes_of_answer answer ≡ 0

@@ -73,24 +73,19 @@ OneAnswerEach = (c : ClosedSession) → (ends : MembersAtEnd c) → (first now :
     engine_calls c main_caller ≡ own.engine ++ more → (runs : List RunRecord) → RecordsFit (clients_in c) own runs →
     OneAnswer c runs first now
 
--- No front-end and no analyzer refused one of these starts.
-abbrev pub LoggerAloneRefused : ClosedSession → List RunRecord → Type 0
-LoggerAloneRefused c runs = (number : ℕ) → (r : RunRecord) → (client : ℕ) → (why : Why) →
-    slice_get runs number ≡ Some r → r.outcome ≡ Refused client why → client ≡ logger_client c
-
 -- None of these starts was refused.
 abbrev pub NoneRefused : List RunRecord → Type 0
 NoneRefused runs = (number : ℕ) → (r : RunRecord) → slice_get runs number ≡ Some r → r.outcome ≡ Completed
 
 -- Where the run files were so at first, and are so now, each rise of a count is told. No clash was counted where no record tells
--- of one, and no start was refused but by the logger. And no fault was counted where no start was refused, and no file broke off:
--- a start that is refused is undone, and what fails then is not told.
-pub record RisesTold (c : ClosedSession) (runs : List RunRecord) (first now : RunFiles) : Type 0 where
-  pub clashes : LoggerAloneRefused c runs → sum_by clashes_recorded runs ≡ 0 → now.clashes ≡ first.clashes
+-- of one. And no fault was counted where no start was refused, and no file broke off: a start that is refused is undone, and what
+-- fails then is not told.
+pub record RisesTold (runs : List RunRecord) (first now : RunFiles) : Type 0 where
+  pub clashes : sum_by clashes_recorded runs ≡ 0 → now.clashes ≡ first.clashes
   pub faults : NoneRefused runs → sum_by faults_recorded runs ≡ 0 → now.faults ≡ first.faults
 
 -- So it is with a closed session, where there is one record for each start that the main thread began, and they fit its calls.
 abbrev pub RisesToldEach : Type 0
 RisesToldEach = (c : ClosedSession) → (ends : MembersAtEnd c) → (first now : RunFiles) → LoggerReasons c ends first now →
     (own : MainOwn) → (more : List EngineEntry) → engine_calls c main_caller ≡ own.engine ++ more → starts_begun more ≡ [] →
-    (runs : List RunRecord) → RecordsFit (clients_in c) own runs → RisesTold c runs first now
+    (runs : List RunRecord) → RecordsFit (clients_in c) own runs → RisesTold runs first now

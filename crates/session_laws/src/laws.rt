@@ -140,8 +140,8 @@ pub fn one_answer()
     counts_tell();
 }
 
-/// And none is counted without an answer: no clash, where no record tells of one and no start was refused but by the logger; and
-/// no fault, where no start was refused and no file broke off.
+/// And none is counted without an answer: no clash, where no record tells of one; and no fault, where no start was refused and no
+/// file broke off.
 pub fn rises_told()
     ensures { RisesToldEach }
 {

@@ -1,3 +1,4 @@
+use Rattle.engine_laws.proofs.NosRefuse.{nos_are_refusals}
 use Rattle.engine_laws.proofs.StopsCompleted.{others_complete}
 use Rattle.engine_laws.proofs.Tallied.{dones_have_begins, tallies_are_answers, refusals_are_answers}
 use Rattle.engine_laws.proofs.laws.tallies_answered.Goals as goal
@@ -9,4 +10,5 @@ returns c =
       completed = others_complete c.follows.ensures;
       tallies = tallies_are_answers c.follows.ensures c.called_in_order.ensures;
       refusals = refusals_are_answers c.follows.ensures c.called_in_order.ensures;
+      nos = nos_are_refusals c.called_in_order.ensures;
     }
