@@ -1,7 +1,7 @@
 -- Counts that rose by so many, and what is told of a list by its members.
 use Rattle.std.specs.Prelude.{◌≡◌, ◌≤◌, ◌+◌, ◌-◌, ◌^◌, ◌==◌, min, nat_lt, ℕ, zero, suc, Bool, true, false, if◌then◌else◌, cond, is_some, sum_by, List, [], ◌∷◌, map, slice_get, slice_set, Option, Some, None, ◌⊎◌, refl}
 use Rattle.std.specs.Option.{option_map}
-use Rattle.std.proofs.Common.{ap, sym, subst, ◌∙◌, arith, inl, inr}
+use Rattle.std.proofs.Common.{ap, subst, arith, inl, inr}
 use Rattle.std.proofs.lemmas.List.Sums.{sum_by-cons}
 use Rattle.daq_types.specs.declared.runs.ChannelState.{ChannelState}
 use Rattle.daq_types.specs.declared.runs.ChannelState.TheVariants.{Broken as IsBroken}

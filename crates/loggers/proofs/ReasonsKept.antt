@@ -1,5 +1,5 @@
 -- Each call keeps that what a logger answers rests on the counts of the run files.
-use Rattle.std.specs.Prelude.{◌≡◌, ◌≤◌, ◌+◌, nat_lt, ℕ, Bool, true, false, cond, is_some, sum_by, List, [], ◌∷◌, length, map, slice_set, Option, Some, None, Result, Ok, Err, ⊤, ◌⊎◌, refl}
+use Rattle.std.specs.Prelude.{◌≡◌, ◌≤◌, ◌+◌, nat_lt, ℕ, Bool, true, false, cond, is_some, sum_by, List, [], ◌∷◌, length, map, slice_set, Option, Some, None, Result, Ok, Err, ⊤, refl}
 use Rattle.std.specs.List.{list_all}
 use Rattle.std.specs.Option.{option_map}
 use Rattle.std.proofs.Common.{ap, sym, subst, ◌∙◌, arith, inl, inr}
@@ -13,7 +13,7 @@ use Rattle.daq_types.specs.declared.runs.Transition.{Transition}
 use Rattle.daq_types.specs.declared.runs.Transition.TheVariants.{Start, Stop, Pause, Resume, StartAbort}
 use Rattle.daq_types.specs.declared.runs.Why.{Why}
 use Rattle.daq_types.specs.declared.runs.Why.TheVariants.{NotReady, Exists, Fault, BufferRefused}
-use Rattle.daq_io.specs.Counts.{Rose, RoseBy}
+use Rattle.daq_io.specs.Counts.{RoseBy}
 use Rattle.daq_io.specs.Seen.{Seen}
 use Rattle.daq_io.proofs.Counts.{RoseBy-fewer, RoseBy-then}
 use Rattle.buffer_core.specs.declared.entry.BufferEntry.{BufferEntry}
@@ -40,7 +40,7 @@ use Rattle.loggers.specs.Moments.{RunFiles, LoggerMoment, ChannelStep, StepsChan
 use Rattle.loggers.specs.ChannelSteps.{OpensChannel, AbortsChannel, PullsChannel}
 use Rattle.loggers.specs.SlotPulls.{PullsSlot, PullsNumbered}
 use Rattle.loggers.specs.Finishing.{EndingMoment, EndsSlot, EndsSlotAt, EndsFiles, LoggerFinish, FinishesBy, FinishesLogger, is_settled_slot, waiting_stop, states_idle}
-use Rattle.loggers.specs.Turning.{BeginsBuffer, EndsBuffer, PausesBuffer, ResumesBuffer, LoggerTurn, OpensBelow, BeginsBelow, AbortsAll, UndoesOpens, UndoesBegins, StartsSo, TakesStart, TakesStop, TakesMark, TakesAbort, TakesTurnBy, TakesTurn, IsIdleOutside, is_run_on, is_started, is_of_start, buffers_begun, start_answer}
+use Rattle.loggers.specs.Turning.{BeginsBuffer, EndsBuffer, PausesBuffer, ResumesBuffer, LoggerTurn, OpensBelow, BeginsBelow, AbortsAll, UndoesOpens, UndoesBegins, StartsSo, TakesStart, TakesStop, TakesMark, TakesAbort, TakesTurnBy, TakesTurn, is_run_on, is_started, is_of_start, buffers_begun, start_answer}
 use Rattle.loggers.specs.LoggerStands.{logger_turn}
 use Rattle.loggers.specs.NewLoggers.{HasNewChannels}
 use Rattle.loggers.specs.ToldCounts.{faults_of_state, faults_of_refusal, faults_of_answer, clashes_of_answer, undone_by, counted_of, faults_told, clashes_told, starts_undone, broken_off}
@@ -544,12 +544,12 @@ turn_more_reasons slots later ports more first old new turns t kept rises fits s
       ];
     }
 
-pub turn_reasons : (t : LoggerTurn) (first : RunFiles) (turns : List MemberTurn) → TakesTurn t → IsIdleOutside t.run t.before.slots → GivesReasons t.before.slots t.before.ports first t.before.files turns
+pub turn_reasons : (t : LoggerTurn) (first : RunFiles) (turns : List MemberTurn) → TakesTurn t → GivesReasons t.before.slots t.before.ports first t.before.files turns
     → GivesReasons t.after.slots t.after.ports first t.after.files (logger_turn t.transition t.order t.dump t.answer ∷ turns)
-turn_reasons t first turns takes idle gives =
+turn_reasons t first turns takes gives =
     let turned : Turned t.transition t = turned_by t.transition t takes in
     let asks : TurnAsks t = turn_asks t takes in
-    turn_more_reasons t.before.slots t.after.slots t.before.ports t.after.ports first t.before.files t.after.files turns (logger_turn t.transition t.order t.dump t.answer) turned.kept (turn_rises t idle takes) (turn_fits t takes) turned.start asks.refused asks.stay gives
+    turn_more_reasons t.before.slots t.after.slots t.before.ports t.after.ports first t.before.files t.after.files turns (logger_turn t.transition t.order t.dump t.answer) turned.kept (turn_rises t takes) (turn_fits t takes) turned.start asks.refused asks.stay gives
 
 pub pull_reasons : (n : ℕ) (answer : Pulled) (a b : LoggerMoment) (first : RunFiles) (turns : List MemberTurn) → PullsNumbered n answer a b → GivesReasons a.slots a.ports first a.files turns → GivesReasons b.slots b.ports first b.files turns
 pull_reasons n answer a b first turns pulls gives = later_reasons a.slots b.slots a.ports b.ports first a.files b.files turns (pulled_kept n answer (slot_at a.slots n) a b refl pulls) (pull_rises n answer (slot_at a.slots n) a b refl pulls) (pull_asks n answer a b pulls) gives

@@ -1,5 +1,5 @@
 -- A fault or a clash that is counted is told: what each step of a logger keeps of that.
-use Rattle.std.specs.Prelude.{◌≡◌, ◌≤◌, ◌+◌, ◌<◌, nat_lt, ℕ, zero, suc, Bool, true, false, cond, is_some, sum_by, List, [], ◌∷◌, length, map, replicate, slice_get, slice_set, Option, Some, None, Result, Ok, Err, ⊤, ◌⊎◌, refl}
+use Rattle.std.specs.Prelude.{◌≡◌, ◌≤◌, ◌+◌, ◌<◌, nat_lt, ℕ, zero, suc, Bool, true, false, cond, is_some, sum_by, List, [], ◌∷◌, length, map, replicate, slice_get, slice_set, Option, Some, None, Result, Ok, Err, ⊤, refl}
 use Rattle.std.specs.Option.{option_map}
 use Rattle.std.proofs.Common.{ap, sym, subst, ◌∙◌, arith, inl, inr}
 use Rattle.std.proofs.lemmas.List.Sums.{sum_by-cons}
@@ -34,7 +34,7 @@ use Rattle.loggers.specs.Moments.{RunFiles, LoggerMoment, ChannelStep, StepsChan
 use Rattle.loggers.specs.ChannelSteps.{OpensChannel, AbortsChannel, PullsChannel}
 use Rattle.loggers.specs.SlotPulls.{PullsSlot}
 use Rattle.loggers.specs.Finishing.{EndingMoment, EndsSlot, EndsSlotAt, EndsFiles, LoggerFinish, states_idle}
-use Rattle.loggers.specs.Turning.{BeginsBuffer, EndsBuffer, PausesBuffer, ResumesBuffer, LoggerTurn, IsIdleOutside, OpensBelow, BeginsBelow, AbortsAll, StartsAll, UndoesOpens, UndoesBegins, StartsSo, TakesStart, TakesStop, TakesMark, TakesAbort, TakesTurnBy, TakesTurn, is_run_on, is_started, is_of_start, buffers_begun, start_answer}
+use Rattle.loggers.specs.Turning.{BeginsBuffer, EndsBuffer, PausesBuffer, ResumesBuffer, LoggerTurn, OpensBelow, BeginsBelow, AbortsAll, StartsAll, UndoesOpens, UndoesBegins, StartsSo, TakesStart, TakesStop, TakesMark, TakesAbort, TakesTurnBy, TakesTurn, is_run_on, is_started, is_of_start, buffers_begun, start_answer}
 use Rattle.loggers.specs.OtherFiles.{specs_in}
 use Rattle.loggers.specs.ToldCounts.{faults_of_state, faults_of_answer, clashes_of_answer, undone_by, counted_of, broken_off}
 use Rattle.loggers.specs.Reasons.{IsChannelNumber, NamesRefuser, NamesChannels, AnswerFits}
@@ -271,9 +271,9 @@ starts_rise (Err why) order dump begun a b idle starts = refused_start why order
 answered_rise : (transition : Transition) (t : LoggerTurn) (known : Option Answer) → t.answer ≡ known → RisesAnswered transition known t.before t.after → RisesAnswered transition t.answer t.before t.after
 answered_rise transition t known is kept = subst (λ (answer : Option Answer). RisesAnswered transition answer t.before t.after) (sym is) kept
 
-start_rises : (on : Bool) (t : LoggerTurn) → (on ≡ false → AreIdleChannels t.before.slots) → TakesStart on t → RisesAnswered Start t.answer t.before t.after
-start_rises true t idle takes = answered_rise Start t (Some (No NotReady)) takes.answer_is (rises_moment 0 0 t.before t.after takes.moment)
-start_rises false t idle takes = answered_rise Start t (Some (start_answer takes.result)) takes.answer_is (starts_rise takes.result t.order _ takes.begun t.before t.after (idle refl) takes.starts)
+start_rises : (on : Bool) (t : LoggerTurn) → TakesStart on t → RisesAnswered Start t.answer t.before t.after
+start_rises true t takes = answered_rise Start t (Some (No NotReady)) takes.answer_is (rises_moment 0 0 t.before t.after takes.moment)
+start_rises false t takes = answered_rise Start t (Some (start_answer takes.result)) takes.answer_is (starts_rise takes.result t.order _ takes.begun t.before t.after takes.idle takes.starts)
 
 stop_rises : (of : Bool) (t : LoggerTurn) → TakesStop of t → RisesAnswered Stop t.answer t.before t.after
 stop_rises true t takes = answered_rise Stop t None takes.answer_is (ends_rise 0 t.order.start (length t.before.ports) t.before t.after takes.ends)
@@ -294,15 +294,15 @@ abort_turn_rises true t takes = answered_rise StartAbort t (Some (Yes Plain)) ta
     (moment_then 1 0 0 0 t.before takes.ended t.after (λ none. refl) (ends_rise 1 t.order.start (buffers_begun t.run) t.before takes.ended takes.ends) (aborts_rise 1 (omega arith) takes.ended t.after takes.aborts))
 abort_turn_rises false t takes = answered_rise StartAbort t (Some (Yes Plain)) takes.answer_is (rises_moment 1 0 t.before t.after takes.moment)
 
-rises_by : (transition : Transition) (t : LoggerTurn) → IsIdleOutside t.run t.before.slots → TakesTurnBy transition t → RisesAnswered transition t.answer t.before t.after
-rises_by Start t idle takes = start_rises (is_run_on t.run) t idle takes
-rises_by Stop t idle takes = stop_rises (is_started t.run t.order.start) t takes
-rises_by Pause t idle takes = pause_rises (is_started t.run t.order.start) t takes
-rises_by Resume t idle takes = resume_rises (is_started t.run t.order.start) t takes
-rises_by StartAbort t idle takes = abort_turn_rises (is_of_start t.run t.order.start) t takes
+rises_by : (transition : Transition) (t : LoggerTurn) → TakesTurnBy transition t → RisesAnswered transition t.answer t.before t.after
+rises_by Start t takes = start_rises (is_run_on t.run) t takes
+rises_by Stop t takes = stop_rises (is_started t.run t.order.start) t takes
+rises_by Pause t takes = pause_rises (is_started t.run t.order.start) t takes
+rises_by Resume t takes = resume_rises (is_started t.run t.order.start) t takes
+rises_by StartAbort t takes = abort_turn_rises (is_of_start t.run t.order.start) t takes
 
-pub turn_rises : (t : LoggerTurn) → IsIdleOutside t.run t.before.slots → TakesTurn t → RisesAnswered t.transition t.answer t.before t.after
-turn_rises t idle takes = rises_by t.transition t idle takes
+pub turn_rises : (t : LoggerTurn) → TakesTurn t → RisesAnswered t.transition t.answer t.before t.after
+turn_rises t takes = rises_by t.transition t takes
 
 -- Answers.
 

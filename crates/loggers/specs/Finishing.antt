@@ -10,6 +10,7 @@ use Rattle.buffer_core.specs.Slots.{slot_at}
 use Rattle.mid_logger.specs.declared.channel.Channel.{Channel}
 use Rattle.mid_logger.specs.declared.stage.ChannelStage.{ChannelStage}
 use Rattle.mid_logger.specs.declared.stage.ChannelStage.TheVariants.{Drained, Broken}
+use Rattle.loggers.specs.declared.logger.Logger.{Logger}
 use Rattle.loggers.specs.declared.logged_run.LoggedRun.{LoggedRun}
 use Rattle.loggers.specs.declared.logged_run.RunPart.{RunPart}
 use Rattle.loggers.specs.declared.logged_run.RunPart.TheVariants.{Stopping}
@@ -41,6 +42,9 @@ pub record EndingMoment : Type 0 where
   pub files : RunFiles
   pub states : List ChannelState
 
+abbrev pub ending_of : List (Option Channel) → RunFiles → (states : List ChannelState) → EndingMoment
+ending_of slots files states = record { slots = slots; files = files; states = states }
+
 -- The file of this channel, which has this number, is ended, and its state is told at its number.
 pub record EndsNumbered (time : ℕ) (dump : Option (List ℕ)) (number : ℕ) (before : Channel) (a b : EndingMoment) : Type 0 where
   pub after : Channel
@@ -69,6 +73,21 @@ pub record LoggerFinish : Type 0 where
   pub later_files : RunFiles
   pub answer : Option Answer
 
+-- a call to finish with its answer, by the logger and the run files before it and behind it
+abbrev pub logger_finished : {F : Type 0} → (read : F → RunFiles) → (before after : Logger) → (files later_files : F) →
+    (answer : Option Answer) → LoggerFinish
+logger_finished read before after files later_files answer = record {
+  run = before.run;
+  later_run = after.run;
+  stop_dump = before.stop_dump;
+  later_stop_dump = after.stop_dump;
+  slots = before.channels;
+  later_slots = after.channels;
+  files = read files;
+  later_files = read later_files;
+  answer = answer;
+}
+
 -- there is no answer yet, and nothing is done
 pub record LeavesWaiting (f : LoggerFinish) : Type 0 where
   pub answer_is : f.answer ≡ None
@@ -81,14 +100,17 @@ pub record LeavesWaiting (f : LoggerFinish) : Type 0 where
 abbrev pub states_idle : List ChannelState
 states_idle = replicate channel_limit IsIdle
 
+-- The file of each channel, in order of number, is ended at this time with this dump, and its state is told.
+abbrev pub EndsSlots : (time : ℕ) → (dump : Option (List ℕ)) → (a b : EndingMoment) → Type 0
+EndsSlots time dump a b = InTurn (λ number. EndsSlotAt time dump number) (length a.slots) a b
+
 -- The file of each channel, in order of number, is ended at the time of the stop with its dump; the answer tells the
 -- states.
 pub record EndsFiles (f : LoggerFinish) (time : ℕ) : Type 0 where
   pub states : List ChannelState
   pub answer_is : f.answer ≡ Some (Yes (Channels states))
-  pub ends : InTurn (λ number. EndsSlotAt time f.stop_dump number) (length f.slots)
-      (record { slots = f.slots; files = f.files; states = states_idle })
-      (record { slots = f.later_slots; files = f.later_files; states = states })
+  pub ends : EndsSlots time f.stop_dump (ending_of f.slots f.files states_idle)
+      (ending_of f.later_slots f.later_files states)
   pub run : f.later_run ≡ None
   pub stop_dump : f.later_stop_dump ≡ None
 

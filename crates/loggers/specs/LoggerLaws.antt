@@ -13,6 +13,20 @@ use Rattle.loggers.specs.NewLoggers.{NoneTakenBack}
 use Rattle.loggers.specs.LoggerFaults.{NotesFaults}
 use Rattle.loggers.specs.LoggerStands.{logger_turn, LoggerStands}
 
+-- Where the logger stood before a turn that comes once the latest was answered, it stands behind it, with that turn and its
+-- answer, if no client of it is known to be detached by another.
+abbrev pub StandsAfterTurn : LoggerTurn → Type 0
+StandsAfterTurn t = (turns : List MemberTurn) → NoneOpen turns → NoneTakenBack t.after.ports →
+    LoggerStands t.run t.stop_dump t.before.slots t.before.ports turns t.before.files.seen →
+    LoggerStands t.later_run t.later_stop_dump t.after.slots t.after.ports
+    (logger_turn t.transition t.order t.dump t.answer ∷ turns) t.after.files.seen
+
+-- Where it stood before a call to finish, it stands behind it, with the answer to the stop that waits, if there is one.
+abbrev pub StandsAfterFinish : LoggerFinish → Type 0
+StandsAfterFinish f = (ports : List Access) → (turns : List MemberTurn) →
+    LoggerStands f.run f.stop_dump f.slots ports turns f.files.seen →
+    LoggerStands f.later_run f.later_stop_dump f.later_slots ports (latest_answered turns f.answer) f.later_files.seen
+
 -- Behind a turn that comes once the latest was answered the logger stands with that turn and its answer, where no
 -- client of it is known to be detached by another.
 abbrev pub TurnsKeep : Type 0

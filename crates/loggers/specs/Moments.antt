@@ -24,13 +24,14 @@ pub record LoggerMoment : Type 0 where
   pub ports : List Access
   pub files : RunFiles
 
-abbrev pub moment_of : List (Option Channel) → List Access → Seen → (faults clashes : ℕ) → (first : Option (List ℕ)) →
-    LoggerMoment
-moment_of slots ports seen faults clashes first = record {
-  slots = slots;
-  ports = ports;
-  files = record { seen = seen; faults = faults; clashes = clashes; first = first };
-}
+abbrev pub moment_of : List (Option Channel) → List Access → RunFiles → LoggerMoment
+moment_of slots ports files = record { slots = slots; ports = ports; files = files }
+
+-- run files, by what is told of them, their counts of faults and of clashes, and the name of the first fault
+abbrev pub files_by : {F : Type 0} → (seen : F → Seen) → (faults clashes : F → ℕ) → (first : F → Option (List ℕ)) → F →
+    RunFiles
+files_by seen faults clashes first files =
+    record { seen = seen files; faults = faults files; clashes = clashes files; first = first files }
 
 -- The steps of the numbers from 0 on, so many, were done one after another.
 abbrev pub InTurn : {M : Type 0} → (Step : ℕ → M → M → Type 0) → (count : ℕ) → (a b : M) → Type 0

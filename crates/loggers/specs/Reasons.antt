@@ -22,7 +22,7 @@ use Rattle.mid_logger.specs.declared.channel_spec.ChannelSpec.{ChannelSpec}
 use Rattle.mid_logger.specs.declared.pulled.Pulled.{Pulled}
 use Rattle.loggers.specs.Moments.{RunFiles, LoggerMoment, channel_limit}
 use Rattle.loggers.specs.SlotPulls.{PullsNumbered}
-use Rattle.loggers.specs.Turning.{LoggerTurn, TakesTurn, IsIdleOutside}
+use Rattle.loggers.specs.Turning.{LoggerTurn, TakesTurn}
 use Rattle.loggers.specs.Finishing.{LoggerFinish, FinishesLogger}
 use Rattle.loggers.specs.LoggerStands.{logger_turn}
 use Rattle.loggers.specs.OtherFiles.{specs_in}
@@ -153,11 +153,9 @@ abbrev pub IsLatestOpen : List MemberTurn → Type 0
 IsLatestOpen [] = ⊥
 IsLatestOpen (t ∷ ts) = t.answer ≡ None
 
--- A turn that finds each channel idle while no run is on keeps that, and so do a pull, and a call to finish while the latest turn
--- is not answered.
+-- A turn keeps that, and so do a pull, and a call to finish while the latest turn is not answered.
 abbrev pub TurnsGiveReasons : Type 0
 TurnsGiveReasons = (t : LoggerTurn) → (first : RunFiles) → (turns : List MemberTurn) → TakesTurn t →
-    IsIdleOutside t.run t.before.slots →
     GivesReasons t.before.slots t.before.ports first t.before.files turns →
     GivesReasons t.after.slots t.after.ports first t.after.files (logger_turn t.transition t.order t.dump t.answer ∷ turns)
 

@@ -7,16 +7,18 @@ use Rattle.daq_types.specs.declared.runs.Why.{Why}
 use Rattle.daq_types.specs.declared.runs.Why.TheVariants.{NotReady, BufferRefused}
 use Rattle.buffer_core.specs.declared.replies.MarkRefusal.{MarkRefusal}
 use Rattle.buffer_core.specs.declared.entry.BufferEntry.TheVariants.{Begin, Pause as PausesRun, Resume as ResumesRun, End}
+use Rattle.buffer_core.specs.Ports.{Access}
 use Rattle.buffer_core.specs.Slots.{slot_at}
 use Rattle.transitions.specs.declared.answers.Answer.{Answer}
 use Rattle.transitions.specs.declared.answers.Answer.TheVariants.{Yes, No}
 use Rattle.transitions.specs.declared.answers.Tally.TheVariants.{Plain}
 use Rattle.mid_logger.specs.declared.channel.Channel.{Channel}
 use Rattle.mid_logger.specs.Channels.{stage_begun, stage_ended, place_marked}
+use Rattle.loggers.specs.declared.logger.Logger.{Logger}
 use Rattle.loggers.specs.declared.logged_run.LoggedRun.{LoggedRun}
 use Rattle.loggers.specs.declared.logged_run.RunPart.{RunPart}
 use Rattle.loggers.specs.declared.logged_run.RunPart.TheVariants.{Refused, Started, Stopping}
-use Rattle.loggers.specs.Moments.{LoggerMoment, InTurn, StepsChannel, StepsAt, CallsBuffer, MarksBuffer, AreIdleChannels}
+use Rattle.loggers.specs.Moments.{RunFiles, LoggerMoment, moment_of, InTurn, StepsChannel, StepsAt, CallsBuffer, MarksBuffer, AreIdleChannels}
 use Rattle.loggers.specs.ChannelSteps.{OpensChannel, AbortsChannel}
 
 -- Marks.
@@ -59,6 +61,22 @@ pub record LoggerTurn : Type 0 where
   pub later_stop_dump : Option (List ℕ)
   pub before : LoggerMoment
   pub after : LoggerMoment
+
+-- a turn with its answer, by the logger, what it knows of its ports, and the run files, before it and behind it
+abbrev pub logger_turned : {F : Type 0} → (read : F → RunFiles) → Transition → Order → (dump : Option (List ℕ)) →
+    (answer : Option Answer) → (before after : Logger) → (ports later_ports : List Access) → (files later_files : F) → LoggerTurn
+logger_turned read transition order dump answer before after ports later_ports files later_files = record {
+  transition = transition;
+  order = order;
+  dump = dump;
+  answer = answer;
+  run = before.run;
+  later_run = after.run;
+  stop_dump = before.stop_dump;
+  later_stop_dump = after.stop_dump;
+  before = moment_of before.channels ports (read files);
+  after = moment_of after.channels later_ports (read later_files);
+}
 
 -- the turn is answered at once, and nothing is done
 pub record LeavesLogger (t : LoggerTurn) (answer : Answer) : Type 0 where
@@ -167,8 +185,9 @@ abbrev pub start_part : Result ⊤ Why → RunPart
 start_part (Ok done) = Started
 start_part (Err why) = Refused
 
--- A start while no run is on.
+-- A start while no run is on, and so every channel is idle.
 pub record StartsLogger (t : LoggerTurn) : Type 0 where
+  pub idle : AreIdleChannels t.before.slots
   pub result : Result ⊤ Why
   pub begun : ℕ
   pub answer_is : t.answer ≡ Some (start_answer result)

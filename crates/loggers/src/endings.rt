@@ -5,8 +5,8 @@ ghost use Rattle.daq_model.specs.Events.{record_limit};
 ghost use Rattle.buffer_core.specs.Slots.{slot_at};
 ghost use Rattle.mid_logger.specs.declared.channel.Channel.{Channel as a_channel};
 ghost use Rattle.mid_logger.specs.Channels.{IsOpenFile, written_run};
-ghost use Rattle.loggers.specs.Moments.{InTurn, HaveFilesOpen};
-ghost use Rattle.loggers.specs.Finishing.{EndsSlot, EndsSlotAt, states_idle, waiting_stop};
+ghost use Rattle.loggers.specs.Moments.{files_by, HaveFilesOpen};
+ghost use Rattle.loggers.specs.Finishing.{EndsSlot, EndsSlotAt, EndsSlots, ending_of, states_idle, waiting_stop};
 
 use crate::logged_run::{LoggedRun, RunPart};
 use crate::slots::Slots;
@@ -41,25 +41,10 @@ fn end_slot<F: Files>(
         IsOpenFile (F.seen files.old) c.spec (written_run c.stage) }
     requires small { IfSome dump.now (λ bytes. length bytes ≤ record_limit) }
     ensures ends { (slots : List (Option a_channel)) → slot_at slots number ≡ slot.old →
-        EndsSlot time dump.now number slot.old (record {
-          slots = slots;
-          files = record {
-            seen = F.seen files.old;
-            faults = F.faults files.old;
-            clashes = F.clashes files.old;
-            first = F.first files.old;
-          };
-          states = states.old;
-        }) (record {
-          slots = slice_set slots number slot.new;
-          files = record {
-            seen = F.seen files.new;
-            faults = F.faults files.new;
-            clashes = F.clashes files.new;
-            first = F.first files.new;
-          };
-          states = states.new;
-        }) }
+        EndsSlot time dump.now number slot.old
+        (ending_of slots (files_by F.seen F.faults F.clashes F.first files.old) states.old)
+        (ending_of (slice_set slots number slot.new)
+        (files_by F.seen F.faults F.clashes F.first files.new) states.new) }
 {
     if let Some(channel) = slot {
         states[number] = channel.close(files, time, dump);
@@ -78,25 +63,9 @@ fn end_file_at<F: Files>(
     requires number { number < 16 }
     requires files { HaveFilesOpen slots.old (F.seen files.old) }
     requires small { IfSome dump.now (λ bytes. length bytes ≤ record_limit) }
-    ensures ends { EndsSlotAt time dump.now number (record {
-      slots = slots.old;
-      files = record {
-        seen = F.seen files.old;
-        faults = F.faults files.old;
-        clashes = F.clashes files.old;
-        first = F.first files.old;
-      };
-      states = states.old;
-    }) (record {
-      slots = slots.new;
-      files = record {
-        seen = F.seen files.new;
-        faults = F.faults files.new;
-        clashes = F.clashes files.new;
-        first = F.first files.new;
-      };
-      states = states.new;
-    }) }
+    ensures ends { EndsSlotAt time dump.now number
+        (ending_of slots.old (files_by F.seen F.faults F.clashes F.first files.old) states.old)
+        (ending_of slots.new (files_by F.seen F.faults F.clashes F.first files.new) states.new) }
     ensures files { HaveFilesOpen slots.new (F.seen files.new) }
     ensures many { length slots.new ≡ length slots.old }
 {
@@ -116,25 +85,9 @@ pub fn end_files<F: Files>(
     requires many { length slots.old ≤ 16 }
     requires files { HaveFilesOpen slots.old (F.seen files.old) }
     requires small { IfSome dump.now (λ bytes. length bytes ≤ record_limit) }
-    ensures ends { InTurn (λ number. EndsSlotAt time dump.now number) (length slots.old) (record {
-      slots = slots.old;
-      files = record {
-        seen = F.seen files.old;
-        faults = F.faults files.old;
-        clashes = F.clashes files.old;
-        first = F.first files.old;
-      };
-      states = states_idle;
-    }) (record {
-      slots = slots.new;
-      files = record {
-        seen = F.seen files.new;
-        faults = F.faults files.new;
-        clashes = F.clashes files.new;
-        first = F.first files.new;
-      };
-      states = result;
-    }) }
+    ensures ends { EndsSlots time dump.now (ending_of slots.old
+        (files_by F.seen F.faults F.clashes F.first files.old) states_idle)
+        (ending_of slots.new (files_by F.seen F.faults F.clashes F.first files.new) result) }
     ensures files { HaveFilesOpen slots.new (F.seen files.new) }
 {
     let mut states = [ChannelState::Idle; 16];

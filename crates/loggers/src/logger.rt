@@ -3,18 +3,19 @@ ghost use Rattle.daq_model.specs.Events.{record_limit};
 ghost use Rattle.daq_io.specs.Seen.{Seen};
 ghost use Rattle.buffer_core.specs.Ports.{Access};
 ghost use Rattle.buffer_core.specs.Slots.{some_slot};
-ghost use Rattle.member_model.specs.Turns.{MemberTurn, NoneOpen, latest_answered};
+ghost use Rattle.member_model.specs.Turns.{MemberTurn};
 ghost use Rattle.daq_types.specs.declared.runs.Transition.TheVariants.{Start, Stop, Pause, Resume, StartAbort};
 ghost use Rattle.transitions.specs.declared.answers.Answer.TheVariants.{Yes};
 ghost use Rattle.transitions.specs.declared.answers.Tally.TheVariants.{Plain};
-ghost use Rattle.loggers.specs.Moments.{RunFiles, moment_of, IsLoggerReady, HaveFilesOpen, HaveEntries, UseEntries, AreIdleChannels, AreSamePorts};
-ghost use Rattle.loggers.specs.Turning.{TakesTurn, TakesStart, TakesStop, TakesMark, TakesAbort, StartsLogger, PausesBuffer, ResumesBuffer, is_run_on, is_started, is_of_start, buffers_begun, IsIdleOutside, start_answer, start_part};
-ghost use Rattle.loggers.specs.Finishing.{FinishesLogger};
+ghost use Rattle.loggers.specs.Moments.{RunFiles, files_by, moment_of, IsLoggerReady, HaveFilesOpen, HaveEntries, UseEntries, AreIdleChannels, AreSamePorts};
+ghost use Rattle.loggers.specs.Turning.{logger_turned, TakesTurn, TakesStart, TakesStop, TakesMark, TakesAbort, StartsLogger, PausesBuffer, ResumesBuffer, is_run_on, is_started, is_of_start, buffers_begun, IsIdleOutside, start_answer, start_part};
+ghost use Rattle.loggers.specs.Finishing.{FinishesLogger, logger_finished};
 ghost use Rattle.loggers.specs.SlotPulls.{HasEventRoom, PullsNumbered};
 ghost use Rattle.loggers.specs.NewLoggers.{HaveNumbers, HasNewChannels, HavePorts, AreUnused, HaveRooms, NoneTakenBack};
 ghost use Rattle.loggers.specs.LoggerCalls.{KeepsLoggerCalls};
 ghost use Rattle.loggers.specs.LoggerFaults.{HasFailed, NotesFaults};
-ghost use Rattle.loggers.specs.LoggerStands.{LoggerStands, logger_turn};
+ghost use Rattle.loggers.specs.LoggerLaws.{StandsAfterTurn, StandsAfterFinish};
+ghost use Rattle.loggers.specs.LoggerStands.{LoggerStands};
 ghost use Rattle.loggers.specs.Reasons.{GivesReasons};
 
 use crate::endings::{end_files, stop_time};
@@ -168,20 +169,9 @@ impl Logger {
         requires idle { IsIdleOutside self.old.run self.old.channels }
         requires begun { buffers_begun self.old.run ≤ length ports.old }
         requires small { IfSome dump (λ bytes. length bytes ≤ record_limit) }
-        ensures takes { TakesTurn (record {
-          transition = transition;
-          order = order.now;
-          dump = dump;
-          answer = result;
-          run = self.old.run;
-          later_run = self.new.run;
-          stop_dump = self.old.stop_dump;
-          later_stop_dump = self.new.stop_dump;
-          before = moment_of self.old.channels (map P.access ports.old) (F.seen files.old)
-              (F.faults files.old) (F.clashes files.old) (F.first files.old);
-          after = moment_of self.new.channels (map P.access ports.new) (F.seen files.new)
-              (F.faults files.new) (F.clashes files.new) (F.first files.new);
-        }) }
+        ensures takes { TakesTurn (logger_turned
+            (files_by F.seen F.faults F.clashes F.first) transition order.now dump result self.old
+            self.new (map P.access ports.old) (map P.access ports.new) files.old files.new) }
         ensures ready { IsLoggerReady self.new.channels (map P.access ports.new)
             (F.seen files.new) }
         ensures idle { IsIdleOutside self.new.run self.new.channels }
@@ -197,13 +187,9 @@ impl Logger {
         ensures room { ((number : ℕ)
             → HasEventRoom number self.old.channels (map P.access ports.old)) →
             (number : ℕ) → HasEventRoom number self.new.channels (map P.access ports.new) }
-        ensures keeps { (turns : List MemberTurn) → NoneOpen turns →
-            NoneTakenBack (map P.access ports.new) →
-            LoggerStands self.old.run self.old.stop_dump self.old.channels
-            (map P.access ports.old) turns (F.seen files.old) →
-            LoggerStands self.new.run self.new.stop_dump self.new.channels
-            (map P.access ports.new) (logger_turn transition order.now dump result ∷ turns)
-            (F.seen files.new) }
+        ensures keeps { StandsAfterTurn (logger_turned
+            (files_by F.seen F.faults F.clashes F.first) transition order.now dump result self.old
+            self.new (map P.access ports.old) (map P.access ports.new) files.old files.new) }
     {
         logger_laws::turns_keep();
         self.take_turn(rt, files, ports, transition, order, dump)
@@ -225,20 +211,9 @@ impl Logger {
         requires idle { IsIdleOutside self.old.run self.old.channels }
         requires begun { buffers_begun self.old.run ≤ length ports.old }
         requires small { IfSome dump (λ bytes. length bytes ≤ record_limit) }
-        ensures takes { TakesTurn (record {
-          transition = transition;
-          order = order.now;
-          dump = dump;
-          answer = result;
-          run = self.old.run;
-          later_run = self.new.run;
-          stop_dump = self.old.stop_dump;
-          later_stop_dump = self.new.stop_dump;
-          before = moment_of self.old.channels (map P.access ports.old) (F.seen files.old)
-              (F.faults files.old) (F.clashes files.old) (F.first files.old);
-          after = moment_of self.new.channels (map P.access ports.new) (F.seen files.new)
-              (F.faults files.new) (F.clashes files.new) (F.first files.new);
-        }) }
+        ensures takes { TakesTurn (logger_turned
+            (files_by F.seen F.faults F.clashes F.first) transition order.now dump result self.old
+            self.new (map P.access ports.old) (map P.access ports.new) files.old files.new) }
         ensures ready { IsLoggerReady self.new.channels (map P.access ports.new)
             (F.seen files.new) }
         ensures idle { IsIdleOutside self.new.run self.new.channels }
@@ -270,20 +245,10 @@ impl Logger {
         requires idle { IsIdleOutside self.old.run self.old.channels }
         requires begun { buffers_begun self.old.run ≤ length ports.old }
         requires small { IfSome dump.now (λ bytes. length bytes ≤ record_limit) }
-        ensures takes { TakesStart (is_run_on self.old.run) (record {
-          transition = Start;
-          order = order.now;
-          dump = dump.now;
-          answer = Some result;
-          run = self.old.run;
-          later_run = self.new.run;
-          stop_dump = self.old.stop_dump;
-          later_stop_dump = self.new.stop_dump;
-          before = moment_of self.old.channels (map P.access ports.old) (F.seen files.old)
-              (F.faults files.old) (F.clashes files.old) (F.first files.old);
-          after = moment_of self.new.channels (map P.access ports.new) (F.seen files.new)
-              (F.faults files.new) (F.clashes files.new) (F.first files.new);
-        }) }
+        ensures takes { TakesStart (is_run_on self.old.run)
+            (logger_turned (files_by F.seen F.faults F.clashes F.first) Start order.now dump.now
+            (Some result) self.old self.new (map P.access ports.old)
+            (map P.access ports.new) files.old files.new) }
         ensures ready { IsLoggerReady self.new.channels (map P.access ports.new)
             (F.seen files.new) }
         ensures idle { IsIdleOutside self.new.run self.new.channels }
@@ -309,20 +274,10 @@ impl Logger {
         requires entries { HaveEntries 49 (map P.access ports.old) }
         requires idle { AreIdleChannels self.old.channels }
         requires small { IfSome dump.now (λ bytes. length bytes ≤ record_limit) }
-        ensures starts { StartsLogger (record {
-          transition = Start;
-          order = order.now;
-          dump = dump.now;
-          answer = Some result;
-          run = self.old.run;
-          later_run = self.new.run;
-          stop_dump = self.old.stop_dump;
-          later_stop_dump = self.new.stop_dump;
-          before = moment_of self.old.channels (map P.access ports.old) (F.seen files.old)
-              (F.faults files.old) (F.clashes files.old) (F.first files.old);
-          after = moment_of self.new.channels (map P.access ports.new) (F.seen files.new)
-              (F.faults files.new) (F.clashes files.new) (F.first files.new);
-        }) }
+        ensures starts { StartsLogger (logger_turned
+            (files_by F.seen F.faults F.clashes F.first) Start order.now dump.now
+            (Some result) self.old self.new (map P.access ports.old)
+            (map P.access ports.new) files.old files.new) }
         ensures ready { IsLoggerReady self.new.channels (map P.access ports.new)
             (F.seen files.new) }
         ensures idle { IsIdleOutside self.new.run self.new.channels }
@@ -359,20 +314,9 @@ impl Logger {
         requires entries { HaveEntries 49 (map P.access ports.old) }
         requires idle { IsIdleOutside self.old.run self.old.channels }
         requires begun { buffers_begun self.old.run ≤ length ports.old }
-        ensures takes { TakesStop (is_started self.old.run order.now.start) (record {
-          transition = Stop;
-          order = order.now;
-          dump = dump;
-          answer = result;
-          run = self.old.run;
-          later_run = self.new.run;
-          stop_dump = self.old.stop_dump;
-          later_stop_dump = self.new.stop_dump;
-          before = moment_of self.old.channels (map P.access ports.old) (F.seen files.old)
-              (F.faults files.old) (F.clashes files.old) (F.first files.old);
-          after = moment_of self.new.channels (map P.access ports.new) (F.seen files.new)
-              (F.faults files.new) (F.clashes files.new) (F.first files.new);
-        }) }
+        ensures takes { TakesStop (is_started self.old.run order.now.start)
+            (logger_turned (files_by F.seen F.faults F.clashes F.first) Stop order.now dump result
+            self.old self.new (map P.access ports.old) (map P.access ports.new) files.old files.new) }
         ensures ready { IsLoggerReady self.new.channels (map P.access ports.new)
             (F.seen files.new) }
         ensures idle { IsIdleOutside self.new.run self.new.channels }
@@ -409,20 +353,10 @@ impl Logger {
         requires idle { IsIdleOutside self.old.run self.old.channels }
         requires begun { buffers_begun self.old.run ≤ length ports.old }
         ensures takes { (dump : Option (List ℕ)) →
-            TakesMark PausesBuffer (is_started self.old.run order.now.start) (record {
-              transition = Pause;
-              order = order.now;
-              dump = dump;
-              answer = Some result;
-              run = self.old.run;
-              later_run = self.new.run;
-              stop_dump = self.old.stop_dump;
-              later_stop_dump = self.new.stop_dump;
-              before = moment_of self.old.channels (map P.access ports.old) (F.seen files.old)
-                  (F.faults files.old) (F.clashes files.old) (F.first files.old);
-              after = moment_of self.new.channels (map P.access ports.new) (F.seen files.new)
-                  (F.faults files.new) (F.clashes files.new) (F.first files.new);
-            }) }
+            TakesMark PausesBuffer (is_started self.old.run order.now.start)
+            (logger_turned (files_by F.seen F.faults F.clashes F.first) Pause order.now dump
+            (Some result) self.old self.new (map P.access ports.old)
+            (map P.access ports.new) files.old files.new) }
         ensures ready { IsLoggerReady self.new.channels (map P.access ports.new)
             (F.seen files.new) }
         ensures idle { IsIdleOutside self.new.run self.new.channels }
@@ -451,20 +385,10 @@ impl Logger {
         requires idle { IsIdleOutside self.old.run self.old.channels }
         requires begun { buffers_begun self.old.run ≤ length ports.old }
         ensures takes { (dump : Option (List ℕ)) →
-            TakesMark ResumesBuffer (is_started self.old.run order.now.start) (record {
-              transition = Resume;
-              order = order.now;
-              dump = dump;
-              answer = Some result;
-              run = self.old.run;
-              later_run = self.new.run;
-              stop_dump = self.old.stop_dump;
-              later_stop_dump = self.new.stop_dump;
-              before = moment_of self.old.channels (map P.access ports.old) (F.seen files.old)
-                  (F.faults files.old) (F.clashes files.old) (F.first files.old);
-              after = moment_of self.new.channels (map P.access ports.new) (F.seen files.new)
-                  (F.faults files.new) (F.clashes files.new) (F.first files.new);
-            }) }
+            TakesMark ResumesBuffer (is_started self.old.run order.now.start)
+            (logger_turned (files_by F.seen F.faults F.clashes F.first) Resume order.now dump
+            (Some result) self.old self.new (map P.access ports.old)
+            (map P.access ports.new) files.old files.new) }
         ensures ready { IsLoggerReady self.new.channels (map P.access ports.new)
             (F.seen files.new) }
         ensures idle { IsIdleOutside self.new.run self.new.channels }
@@ -492,21 +416,11 @@ impl Logger {
         requires entries { HaveEntries 49 (map P.access ports.old) }
         requires idle { IsIdleOutside self.old.run self.old.channels }
         requires begun { buffers_begun self.old.run ≤ length ports.old }
-        ensures takes { (dump : Option (List ℕ))
-            → TakesAbort (is_of_start self.old.run order.now.start) (record {
-              transition = StartAbort;
-              order = order.now;
-              dump = dump;
-              answer = Some result;
-              run = self.old.run;
-              later_run = self.new.run;
-              stop_dump = self.old.stop_dump;
-              later_stop_dump = self.new.stop_dump;
-              before = moment_of self.old.channels (map P.access ports.old) (F.seen files.old)
-                  (F.faults files.old) (F.clashes files.old) (F.first files.old);
-              after = moment_of self.new.channels (map P.access ports.new) (F.seen files.new)
-                  (F.faults files.new) (F.clashes files.new) (F.first files.new);
-            }) }
+        ensures takes { (dump : Option (List ℕ)) →
+            TakesAbort (is_of_start self.old.run order.now.start)
+            (logger_turned (files_by F.seen F.faults F.clashes F.first) StartAbort order.now dump
+            (Some result) self.old self.new (map P.access ports.old)
+            (map P.access ports.new) files.old files.new) }
         ensures ready { IsLoggerReady self.new.channels (map P.access ports.new)
             (F.seen files.new) }
         ensures idle { IsIdleOutside self.new.run self.new.channels }
@@ -539,10 +453,10 @@ impl Logger {
         requires idle { IsIdleOutside self.old.run self.old.channels }
         requires room { HasEventRoom channel self.old.channels (map P.access ports.old) }
         ensures pulls { PullsNumbered channel result
-            (moment_of self.old.channels (map P.access ports.old) (F.seen files.old)
-            (F.faults files.old) (F.clashes files.old) (F.first files.old))
-            (moment_of self.new.channels (map P.access ports.new) (F.seen files.new)
-            (F.faults files.new) (F.clashes files.new) (F.first files.new)) }
+            (moment_of self.old.channels (map P.access ports.old)
+            (files_by F.seen F.faults F.clashes F.first files.old))
+            (moment_of self.new.channels (map P.access ports.new)
+            (files_by F.seen F.faults F.clashes F.first files.new)) }
         ensures run { self.new.run ≡ self.old.run }
         ensures stop_dump { self.new.stop_dump ≡ self.old.stop_dump }
         ensures ready { IsLoggerReady self.new.channels (map P.access ports.new)
@@ -578,27 +492,9 @@ impl Logger {
         requires files { HaveFilesOpen self.old.channels (F.seen files.old) }
         requires idle { IsIdleOutside self.old.run self.old.channels }
         requires small { IfSome self.old.stop_dump (λ bytes. length bytes ≤ record_limit) }
-        ensures finishes { FinishesLogger (record {
-          run = self.old.run;
-          later_run = self.new.run;
-          stop_dump = self.old.stop_dump;
-          later_stop_dump = self.new.stop_dump;
-          slots = self.old.channels;
-          later_slots = self.new.channels;
-          files = record {
-            seen = F.seen files.old;
-            faults = F.faults files.old;
-            clashes = F.clashes files.old;
-            first = F.first files.old;
-          };
-          later_files = record {
-            seen = F.seen files.new;
-            faults = F.faults files.new;
-            clashes = F.clashes files.new;
-            first = F.first files.new;
-          };
-          answer = result;
-        }) }
+        ensures finishes { FinishesLogger (logger_finished
+            (files_by F.seen F.faults F.clashes F.first) self.old self.new files.old files.new
+            result) }
         ensures ready { (ports : List Access) →
             IsLoggerReady self.old.channels ports (F.seen files.old) →
             IsLoggerReady self.new.channels ports (F.seen files.new) }
@@ -611,11 +507,9 @@ impl Logger {
             KeepsLoggerCalls self.new.channels ports }
         ensures failed { NotesFaults self.old.channels self.new.channels
             (F.faults files.old) (F.faults files.new) }
-        ensures keeps { (ports : List Access) → (turns : List MemberTurn) →
-            LoggerStands self.old.run self.old.stop_dump self.old.channels ports turns
-            (F.seen files.old) →
-            LoggerStands self.new.run self.new.stop_dump self.new.channels ports
-            (latest_answered turns result) (F.seen files.new) }
+        ensures keeps { StandsAfterFinish (logger_finished
+            (files_by F.seen F.faults F.clashes F.first) self.old self.new files.old files.new
+            result) }
     {
         logger_laws::finishes_keep();
         self.end_run(files)
@@ -627,27 +521,9 @@ impl Logger {
         requires files { HaveFilesOpen self.old.channels (F.seen files.old) }
         requires idle { IsIdleOutside self.old.run self.old.channels }
         requires small { IfSome self.old.stop_dump (λ bytes. length bytes ≤ record_limit) }
-        ensures finishes { FinishesLogger (record {
-          run = self.old.run;
-          later_run = self.new.run;
-          stop_dump = self.old.stop_dump;
-          later_stop_dump = self.new.stop_dump;
-          slots = self.old.channels;
-          later_slots = self.new.channels;
-          files = record {
-            seen = F.seen files.old;
-            faults = F.faults files.old;
-            clashes = F.clashes files.old;
-            first = F.first files.old;
-          };
-          later_files = record {
-            seen = F.seen files.new;
-            faults = F.faults files.new;
-            clashes = F.clashes files.new;
-            first = F.first files.new;
-          };
-          answer = result;
-        }) }
+        ensures finishes { FinishesLogger (logger_finished
+            (files_by F.seen F.faults F.clashes F.first) self.old self.new files.old files.new
+            result) }
         ensures ready { (ports : List Access) →
             IsLoggerReady self.old.channels ports (F.seen files.old) →
             IsLoggerReady self.new.channels ports (F.seen files.new) }

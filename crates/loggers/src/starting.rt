@@ -3,7 +3,7 @@
 ghost use Rattle.std.specs.Prelude.{◌≡◌, ◌≤◌, ℕ, length, map, OnOk, OnErr, IfErr, Some};
 ghost use Rattle.daq_model.specs.Events.{record_limit};
 ghost use Rattle.buffer_core.specs.Slots.{slot_at};
-ghost use Rattle.loggers.specs.Moments.{moment_of, IsLoggerReady, AreIdleChannels, HaveEntries, UseEntries};
+ghost use Rattle.loggers.specs.Moments.{files_by, moment_of, IsLoggerReady, AreIdleChannels, HaveEntries, UseEntries};
 ghost use Rattle.loggers.specs.Turning.{OpensBelow, RefusesOpen, AbortsAll, StartsSo};
 
 use crate::marks::begin_all;
@@ -28,15 +28,15 @@ fn open_all<R: Wait, F: Files, P: BufferPort>(
     requires idle { AreIdleChannels slots.old }
     requires small { length dump.now ≤ record_limit }
     ensures opens { OnOk result (OpensBelow order.now dump.now (length slots.old)
-        (moment_of slots.old (map P.access ports.old) (F.seen files.old) (F.faults files.old)
-        (F.clashes files.old) (F.first files.old))
-        (moment_of slots.new (map P.access ports.new) (F.seen files.new) (F.faults files.new)
-        (F.clashes files.new) (F.first files.new))) }
+        (moment_of slots.old (map P.access ports.old)
+        (files_by F.seen F.faults F.clashes F.first files.old))
+        (moment_of slots.new (map P.access ports.new)
+        (files_by F.seen F.faults F.clashes F.first files.new))) }
     ensures refuses { IfErr result (λ why. RefusesOpen order.now dump.now why
-        (moment_of slots.old (map P.access ports.old) (F.seen files.old) (F.faults files.old)
-        (F.clashes files.old) (F.first files.old))
-        (moment_of slots.new (map P.access ports.new) (F.seen files.new) (F.faults files.new)
-        (F.clashes files.new) (F.first files.new))) }
+        (moment_of slots.old (map P.access ports.old)
+        (files_by F.seen F.faults F.clashes F.first files.old))
+        (moment_of slots.new (map P.access ports.new)
+        (files_by F.seen F.faults F.clashes F.first files.new))) }
     ensures ready { IsLoggerReady slots.new (map P.access ports.new) (F.seen files.new) }
     ensures entries { UseEntries 32 (map P.access ports.old) (map P.access ports.new) }
 {
@@ -58,11 +58,10 @@ pub fn abort_all<R: Wait, F: Files, P: BufferPort>(
 )
     requires ready { IsLoggerReady slots.old (map P.access ports.old) (F.seen files.old) }
     requires entries { HaveEntries 16 (map P.access ports.old) }
-    ensures aborts { AbortsAll
-        (moment_of slots.old (map P.access ports.old) (F.seen files.old) (F.faults files.old)
-        (F.clashes files.old) (F.first files.old))
-        (moment_of slots.new (map P.access ports.new) (F.seen files.new) (F.faults files.new)
-        (F.clashes files.new) (F.first files.new)) }
+    ensures aborts { AbortsAll (moment_of slots.old (map P.access ports.old)
+        (files_by F.seen F.faults F.clashes F.first files.old))
+        (moment_of slots.new (map P.access ports.new)
+        (files_by F.seen F.faults F.clashes F.first files.new)) }
     ensures idle { AreIdleChannels slots.new }
     ensures ready { IsLoggerReady slots.new (map P.access ports.new) (F.seen files.new) }
     ensures count { length ports.new ≡ length ports.old }
@@ -87,10 +86,10 @@ pub fn start_run<R: Wait, F: Files, P: BufferPort>(
     requires idle { AreIdleChannels slots.old }
     requires small { length dump.now ≤ record_limit }
     ensures starts { StartsSo result.1 order.now dump.now result.0
-        (moment_of slots.old (map P.access ports.old) (F.seen files.old) (F.faults files.old)
-        (F.clashes files.old) (F.first files.old))
-        (moment_of slots.new (map P.access ports.new) (F.seen files.new) (F.faults files.new)
-        (F.clashes files.new) (F.first files.new)) }
+        (moment_of slots.old (map P.access ports.old)
+        (files_by F.seen F.faults F.clashes F.first files.old))
+        (moment_of slots.new (map P.access ports.new)
+        (files_by F.seen F.faults F.clashes F.first files.new)) }
     ensures idle { OnErr result.1 (AreIdleChannels slots.new) }
     ensures ready { IsLoggerReady slots.new (map P.access ports.new) (F.seen files.new) }
     ensures begun { result.0 ≤ length ports.new }

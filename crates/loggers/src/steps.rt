@@ -7,7 +7,7 @@ ghost use Rattle.buffer_core.specs.Slots.{slot_at};
 ghost use Rattle.mid_logger.specs.declared.channel.Channel.{Channel as a_channel};
 ghost use Rattle.mid_logger.specs.declared.stage.ChannelStage.TheVariants.{Idle};
 ghost use Rattle.mid_logger.specs.Channels.{IsOpenFile, written_run};
-ghost use Rattle.loggers.specs.Moments.{moment_of, StepsAt, StepsSlot, StepsChannel, IsLoggerReady, HaveEntries, UseEntries, LeavesOthers};
+ghost use Rattle.loggers.specs.Moments.{files_by, moment_of, StepsAt, StepsSlot, StepsChannel, IsLoggerReady, HaveEntries, UseEntries, LeavesOthers};
 ghost use Rattle.loggers.specs.ChannelSteps.{OpensChannel, AbortsChannel};
 ghost use Rattle.loggers.specs.SlotPulls.{HasEventRoom, PullsSlot, PullsNumbered};
 
@@ -31,21 +31,20 @@ fn open_slot<R: Wait, F: Files, P: BufferPort>(
     requires entries { HaveEntries 2 (map P.access ports.old) }
     requires idle { (c : a_channel) → slot.old ≡ Some c → c.stage ≡ Idle }
     requires small { length dump.now ≤ record_limit }
-    ensures opens { OnOk result
-        ((slots : List (Option a_channel)) → (number : ℕ) → slot_at slots number ≡ slot.old →
-        StepsSlot (OpensChannel order.now dump.now (Ok tt)) number slot.old
-        (moment_of slots (map P.access ports.old) (F.seen files.old) (F.faults files.old)
-        (F.clashes files.old) (F.first files.old))
-        (moment_of (slice_set slots number slot.new) (map P.access ports.new) (F.seen files.new)
-        (F.faults files.new) (F.clashes files.new) (F.first files.new))) }
-    ensures refuses { IfErr result
-        (λ why. (c : a_channel) × (slot.old ≡ Some c) × ((slots : List (Option a_channel)) →
+    ensures opens { OnOk result ((slots : List (Option a_channel)) →
         (number : ℕ) → slot_at slots number ≡ slot.old →
+        StepsSlot (OpensChannel order.now dump.now (Ok tt)) number slot.old
+        (moment_of slots (map P.access ports.old)
+        (files_by F.seen F.faults F.clashes F.first files.old))
+        (moment_of (slice_set slots number slot.new) (map P.access ports.new)
+        (files_by F.seen F.faults F.clashes F.first files.new))) }
+    ensures refuses { IfErr result (λ why. (c : a_channel) × (slot.old ≡ Some c) ×
+        ((slots : List (Option a_channel)) → (number : ℕ) → slot_at slots number ≡ slot.old →
         StepsChannel (OpensChannel order.now dump.now (Err why)) number c
-        (moment_of slots (map P.access ports.old) (F.seen files.old) (F.faults files.old)
-        (F.clashes files.old) (F.first files.old))
-        (moment_of (slice_set slots number slot.new) (map P.access ports.new) (F.seen files.new)
-        (F.faults files.new) (F.clashes files.new) (F.first files.new)))) }
+        (moment_of slots (map P.access ports.old)
+        (files_by F.seen F.faults F.clashes F.first files.old))
+        (moment_of (slice_set slots number slot.new) (map P.access ports.new)
+        (files_by F.seen F.faults F.clashes F.first files.new)))) }
     ensures entries { UseEntries 2 (map P.access ports.old) (map P.access ports.new) }
 {
     let Some(channel) = slot else {
@@ -73,16 +72,17 @@ pub fn open_at<R: Wait, F: Files, P: BufferPort>(
     requires idle { (c : a_channel) → slot_at slots.old number ≡ Some c → c.stage ≡ Idle }
     requires small { length dump.now ≤ record_limit }
     ensures opens { OnOk result (StepsAt (OpensChannel order.now dump.now (Ok tt)) number
-        (moment_of slots.old (map P.access ports.old) (F.seen files.old) (F.faults files.old)
-        (F.clashes files.old) (F.first files.old))
-        (moment_of slots.new (map P.access ports.new) (F.seen files.new) (F.faults files.new)
-        (F.clashes files.new) (F.first files.new))) }
-    ensures refuses { IfErr result (λ why. (c : a_channel) × (slot_at slots.old number ≡ Some c)
-        × StepsChannel (OpensChannel order.now dump.now (Err why)) number c
-        (moment_of slots.old (map P.access ports.old) (F.seen files.old) (F.faults files.old)
-        (F.clashes files.old) (F.first files.old))
-        (moment_of slots.new (map P.access ports.new) (F.seen files.new) (F.faults files.new)
-        (F.clashes files.new) (F.first files.new))) }
+        (moment_of slots.old (map P.access ports.old)
+        (files_by F.seen F.faults F.clashes F.first files.old))
+        (moment_of slots.new (map P.access ports.new)
+        (files_by F.seen F.faults F.clashes F.first files.new))) }
+    ensures refuses { IfErr result (λ why. (c : a_channel) ×
+        (slot_at slots.old number ≡ Some c) ×
+        StepsChannel (OpensChannel order.now dump.now (Err why)) number c
+        (moment_of slots.old (map P.access ports.old)
+        (files_by F.seen F.faults F.clashes F.first files.old))
+        (moment_of slots.new (map P.access ports.new)
+        (files_by F.seen F.faults F.clashes F.first files.new))) }
     ensures ready { IsLoggerReady slots.new (map P.access ports.new) (F.seen files.new) }
     ensures entries { UseEntries 2 (map P.access ports.old) (map P.access ports.new) }
     ensures others { LeavesOthers number slots.old slots.new }
@@ -105,13 +105,13 @@ fn abort_slot<R: Wait, F: Files, P: BufferPort>(
     requires entries { HaveEntries 1 (map P.access ports.old) }
     requires file { (c : a_channel) → slot.old ≡ Some c →
         IsOpenFile (F.seen files.old) c.spec (written_run c.stage) }
-    ensures aborts { (slots : List (Option a_channel)) → (number : ℕ) → slot_at slots number
-        ≡ slot.old →
+    ensures aborts { (slots : List (Option a_channel)) →
+        (number : ℕ) → slot_at slots number ≡ slot.old →
         StepsSlot AbortsChannel number slot.old
-        (moment_of slots (map P.access ports.old) (F.seen files.old) (F.faults files.old)
-        (F.clashes files.old) (F.first files.old))
-        (moment_of (slice_set slots number slot.new) (map P.access ports.new) (F.seen files.new)
-        (F.faults files.new) (F.clashes files.new) (F.first files.new)) }
+        (moment_of slots (map P.access ports.old)
+        (files_by F.seen F.faults F.clashes F.first files.old))
+        (moment_of (slice_set slots number slot.new) (map P.access ports.new)
+        (files_by F.seen F.faults F.clashes F.first files.new)) }
     ensures idle { (c : a_channel) → slot.new ≡ Some c → c.stage ≡ Idle }
     ensures entries { UseEntries 1 (map P.access ports.old) (map P.access ports.new) }
 {
@@ -135,10 +135,10 @@ pub fn abort_at<R: Wait, F: Files, P: BufferPort>(
     requires ready { IsLoggerReady slots.old (map P.access ports.old) (F.seen files.old) }
     requires entries { HaveEntries 1 (map P.access ports.old) }
     ensures aborts { StepsAt AbortsChannel number
-        (moment_of slots.old (map P.access ports.old) (F.seen files.old) (F.faults files.old)
-        (F.clashes files.old) (F.first files.old))
-        (moment_of slots.new (map P.access ports.new) (F.seen files.new) (F.faults files.new)
-        (F.clashes files.new) (F.first files.new)) }
+        (moment_of slots.old (map P.access ports.old)
+        (files_by F.seen F.faults F.clashes F.first files.old))
+        (moment_of slots.new (map P.access ports.new)
+        (files_by F.seen F.faults F.clashes F.first files.new)) }
     ensures idle { (c : a_channel) → slot_at slots.new number ≡ Some c → c.stage ≡ Idle }
     ensures ready { IsLoggerReady slots.new (map P.access ports.new) (F.seen files.new) }
     ensures entries { UseEntries 1 (map P.access ports.old) (map P.access ports.new) }
@@ -165,13 +165,12 @@ fn pull_slot<R: Wait, F: Files, P: BufferPort>(
     requires room { (c : a_channel) → (a : Access) → slot.old ≡ Some c →
         slice_get (map P.access ports.old) c.spec.buffer ≡ Some a →
         min event_limit (a.size - 24) ≤ c.event.room }
-    ensures pulls { (slots : List (Option a_channel)) → (number : ℕ) → slot_at slots number
-        ≡ slot.old →
-        PullsSlot slot.old number result
-        (moment_of slots (map P.access ports.old) (F.seen files.old) (F.faults files.old)
-        (F.clashes files.old) (F.first files.old))
-        (moment_of (slice_set slots number slot.new) (map P.access ports.new) (F.seen files.new)
-        (F.faults files.new) (F.clashes files.new) (F.first files.new)) }
+    ensures pulls { (slots : List (Option a_channel)) →
+        (number : ℕ) → slot_at slots number ≡ slot.old →
+        PullsSlot slot.old number result (moment_of slots (map P.access ports.old)
+        (files_by F.seen F.faults F.clashes F.first files.old))
+        (moment_of (slice_set slots number slot.new) (map P.access ports.new)
+        (files_by F.seen F.faults F.clashes F.first files.new)) }
     ensures entries { UseEntries 2 (map P.access ports.old) (map P.access ports.new) }
 {
     let Some(channel) = slot else {
@@ -195,10 +194,10 @@ pub fn pull_at<R: Wait, F: Files, P: BufferPort>(
     requires entries { HaveEntries 2 (map P.access ports.old) }
     requires room { HasEventRoom number slots.old (map P.access ports.old) }
     ensures pulls { PullsNumbered number result
-        (moment_of slots.old (map P.access ports.old) (F.seen files.old) (F.faults files.old)
-        (F.clashes files.old) (F.first files.old))
-        (moment_of slots.new (map P.access ports.new) (F.seen files.new) (F.faults files.new)
-        (F.clashes files.new) (F.first files.new)) }
+        (moment_of slots.old (map P.access ports.old)
+        (files_by F.seen F.faults F.clashes F.first files.old))
+        (moment_of slots.new (map P.access ports.new)
+        (files_by F.seen F.faults F.clashes F.first files.new)) }
     ensures ready { IsLoggerReady slots.new (map P.access ports.new) (F.seen files.new) }
     ensures entries { UseEntries 2 (map P.access ports.old) (map P.access ports.new) }
 {
