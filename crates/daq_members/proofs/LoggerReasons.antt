@@ -8,7 +8,6 @@ use Rattle.transitions.specs.declared.replies.Polled.TheVariants.{Turn, Idle as 
 use Rattle.member_model.specs.Turns.{MemberTurn, latest_answered}
 use Rattle.member_model.specs.TurnCalls.{member_turns}
 use Rattle.loggers.specs.Moments.{RunFiles, LoggerMoment}
-use Rattle.loggers.specs.Turning.{IsIdleOutside}
 use Rattle.loggers.specs.Reasons.{GivesReasons, IsLatestOpen, TurnsGiveReasons, PullsGiveReasons, FinishesGiveReasons}
 use Rattle.daq_members.specs.OwnTurns.{start_unanswered, open_start, start_owed}
 use Rattle.daq_members.specs.LoggerTaken.{LoggerTaken, PullsBelow, TakesLoggerBy, TakesLogger, pulled_channels}
@@ -39,19 +38,19 @@ latest_open : (turns : List MemberTurn) (owed : ℕ) → open_start turns ≡ So
 latest_open [] owed is = absurd (cc (is))
 latest_open (t ∷ ts) owed is = unanswered t.answer t.order.start owed is
 
-reasons_by : ReasonLaws → (t : LoggerTaken) (first : RunFiles) (reply : Polled) (owed : Option ℕ) → start_owed t.client t.calls ≡ owed → TakesLoggerBy reply owed t → IsIdleOutside t.run t.before.slots → Gives first t.before (member_turns t.client t.calls) → Gives first t.after (member_turns t.client t.later_calls)
-reasons_by laws t first Closed owed is leaves idle gives = same_gives first t.before t.after _ _ leaves.moment (ap (member_turns t.client) leaves.asks ∙ closed_turns t.client t.calls) gives
-reasons_by laws t first NoClient owed is leaves idle gives = same_gives first t.before t.after _ _ leaves.moment (ap (member_turns t.client) leaves.asks ∙ unknown_turns t.client t.calls) gives
-reasons_by laws t first (NoTurn state) owed is works idle gives =
+reasons_by : ReasonLaws → (t : LoggerTaken) (first : RunFiles) (reply : Polled) (owed : Option ℕ) → start_owed t.client t.calls ≡ owed → TakesLoggerBy reply owed t → Gives first t.before (member_turns t.client t.calls) → Gives first t.after (member_turns t.client t.later_calls)
+reasons_by laws t first Closed owed is leaves gives = same_gives first t.before t.after _ _ leaves.moment (ap (member_turns t.client) leaves.asks ∙ closed_turns t.client t.calls) gives
+reasons_by laws t first NoClient owed is leaves gives = same_gives first t.before t.after _ _ leaves.moment (ap (member_turns t.client) leaves.asks ∙ unknown_turns t.client t.calls) gives
+reasons_by laws t first (NoTurn state) owed is works gives =
     subst (λ (ts : List MemberTurn). Gives first t.after ts) (sym (ap (member_turns t.client) works.asks ∙ idle_turns t.client t.calls state))
     (pulled laws.pulls first (member_turns t.client t.calls) pulled_channels works.got t.before t.after works.pulls gives)
-reasons_by laws t first (Turn transition order dump blank) None is taken idle gives =
+reasons_by laws t first (Turn transition order dump blank) None is taken gives =
     subst (λ (ts : List MemberTurn). Gives first t.after ts) (sym (taken_turns t.client t.calls _ t.later_calls transition order dump blank taken.answer is refl taken.gives))
-    (laws.turns _ first (member_turns t.client t.calls) taken.takes idle gives)
-reasons_by laws t first (Turn transition order dump blank) (Some start) is ends idle gives =
+    (laws.turns _ first (member_turns t.client t.calls) taken.takes gives)
+reasons_by laws t first (Turn transition order dump blank) (Some start) is ends gives =
     subst (λ (ts : List MemberTurn). Gives first t.after ts) (sym (finished_turns t.client t.calls _ t.later_calls transition order dump blank start ends.answer is refl ends.gives))
     (subst (λ (ports : List Access). GivesReasons t.after.slots ports first t.after.files (latest_answered (member_turns t.client t.calls) ends.answer)) (sym ends.ports)
     (laws.finishes _ ends.pulled.ports first (member_turns t.client t.calls) ends.finishes (latest_open (member_turns t.client t.calls) start is) (pulled laws.pulls first (member_turns t.client t.calls) pulled_channels ends.got t.before ends.pulled ends.pulls gives)))
 
-pub reasons_kept : ReasonLaws → (t : LoggerTaken) (first : RunFiles) → TakesLogger t → IsIdleOutside t.run t.before.slots → Gives first t.before (member_turns t.client t.calls) → Gives first t.after (member_turns t.client t.later_calls)
-reasons_kept laws t first takes idle gives = reasons_by laws t first takes.reply (start_owed t.client t.calls) refl takes.takes idle gives
+pub reasons_kept : ReasonLaws → (t : LoggerTaken) (first : RunFiles) → TakesLogger t → Gives first t.before (member_turns t.client t.calls) → Gives first t.after (member_turns t.client t.later_calls)
+reasons_kept laws t first takes gives = reasons_by laws t first takes.reply (start_owed t.client t.calls) refl takes.takes gives

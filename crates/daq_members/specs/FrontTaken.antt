@@ -8,8 +8,9 @@ use Rattle.buffer_core.specs.declared.entry.BufferEntry.{BufferEntry}
 use Rattle.buffer_core.specs.Ports.{Access}
 use Rattle.odb_tree.specs.declared.entry.DatabaseEntry.{DatabaseEntry}
 use Rattle.odb_watch.specs.declared.entry.WatchEntry.{WatchEntry}
-use Rattle.odb_port.specs.DatabasePorts.{DatabaseAccess, AddsCall}
+use Rattle.odb_port.specs.DatabasePorts.{DatabaseAccess, AddsCall, own_watched}
 use Rattle.odb_runinfo.specs.RunSets.{IsSet, sent_set}
+use Rattle.turn_lock.specs.Passes.{own_entries}
 use Rattle.transitions.specs.declared.answers.Answer.{Answer}
 use Rattle.transitions.specs.declared.replies.Polled.{Polled}
 use Rattle.transitions.specs.declared.replies.Polled.TheVariants.{Turn, Idle as NoTurn, Closed, NoClient}
@@ -20,9 +21,10 @@ use Rattle.member_model.specs.TurnCalls.{member_turns}
 use Rattle.front_ends.specs.declared.front_run.FrontRun.{FrontRun}
 use Rattle.front_ends.specs.declared.front_step.FrontStep.{FrontStep}
 use Rattle.front_ends.specs.declared.front_step.FrontStep.TheVariants.{Sent, NoWork}
-use Rattle.front_ends.specs.Fronts.{front_answer, run_after, finish_answer, run_finished, is_at_work, SendsNext, events_sent}
+use Rattle.front_ends.specs.Fronts.{FrontState, front_answer, run_after, finish_answer, run_finished, is_at_work, SendsNext, events_sent}
 use Rattle.front_ends.specs.FrontKept.{FrontStands, KeepsFront, KeepsMoments}
 use Rattle.composition.specs.SentSets.{AreTurnSets}
+use Rattle.daq_members.specs.declared.seat.Seat.{Seat}
 use Rattle.daq_members.specs.declared.turned.Turned.{Turned}
 use Rattle.daq_members.specs.declared.turned.Turned.TheVariants.{Worked, Idle, Ended}
 use Rattle.daq_members.specs.OwnTurns.{start_owed, GivesAnswer}
@@ -44,6 +46,26 @@ pub record FrontTaken : Type 0 where
   pub database : DatabaseAccess
   pub later_database : DatabaseAccess
   pub turned : Turned
+
+-- a turn of a front-end of this name that is a member, with its access to its buffer and to the database, before and behind
+abbrev pub front_member_taken : {E : Type 0} → (takes : E → Order → Bool) → (makes : E → Order → ℕ → Event) → (name : List ℕ) →
+    (seat later_seat : Seat) → (front later_front : FrontState E) → (port later_port : Access) →
+    (database later_database : DatabaseAccess) → Turned → FrontTaken
+front_member_taken takes makes name seat later_seat front later_front port later_port database later_database turned = record {
+  client = seat.client;
+  name = name;
+  takes = takes front.equipment;
+  makes = makes front.equipment;
+  run = front.run;
+  later_run = later_front.run;
+  calls = own_entries seat.pass;
+  later_calls = own_entries later_seat.pass;
+  port = port;
+  later_port = later_port;
+  database = database;
+  later_database = later_database;
+  turned = turned;
+}
 
 -- Worked, where something was done
 abbrev pub turned_by : Bool → Turned
@@ -140,6 +162,12 @@ pub record FrontMemberStands (client : ℕ) (name : List ℕ) (takes : Order →
   pub kept : KeepsMoments own (member_turns client calls) moments
   pub told : AreEngineTurns (member_turns client calls) →
       AreNumbersSet name own (member_turns client calls) moments sets
+
+-- Where that held before the turn, it holds behind it.
+abbrev pub KeepsFrontStanding : FrontTaken → Type 0
+KeepsFrontStanding t =
+    FrontMemberStands t.client t.name t.takes t.makes t.run t.calls t.port.own (own_watched t.database) →
+    FrontMemberStands t.client t.name t.takes t.makes t.later_run t.later_calls t.later_port.own (own_watched t.later_database)
 
 -- It keeps the front-end's contract, its turns have moments, and all its calls on the database are the sets of its
 -- turns.

@@ -36,12 +36,6 @@ pub record LoggerSeen (F : Type 0) : Type 0 where
   pub files : F
   pub first : F
 
--- run files, by what is told of them, their counts of faults and of clashes, and the name of the first fault
-abbrev pub files_by : {F : Type 0} → (seen : F → Seen) → (faults clashes : F → ℕ) → (first : F → Option (List ℕ)) → F →
-    RunFiles
-files_by seen faults clashes first files =
-    record { seen = seen files; faults = faults files; clashes = clashes files; first = first files }
-
 -- On the engine the logger polls and answers for its own client alone; the ports are the client's own, and it is ready for
 -- each turn. Where no client of it is known to be detached by another, it keeps its contract over its own calls on engine,
 -- buffers and files; and all files but those of its channels in the runs that it was told to start are as they were when

@@ -4,17 +4,22 @@ use Rattle.std.specs.Prelude.{◌≡◌, ℕ, zero, suc, Bool, true, false, ◌|
 use Rattle.daq_types.specs.declared.runs.Order.{Order}
 use Rattle.daq_types.specs.declared.runs.Transition.{Transition}
 use Rattle.buffer_core.specs.Ports.{Access}
+use Rattle.turn_lock.specs.Passes.{own_entries}
 use Rattle.transitions.specs.declared.answers.Answer.{Answer}
 use Rattle.transitions.specs.declared.replies.Polled.{Polled}
 use Rattle.transitions.specs.declared.replies.Polled.TheVariants.{Turn, Idle as NoTurn, Closed, NoClient}
 use Rattle.transitions.specs.declared.entry.EngineEntry.{EngineEntry}
+use Rattle.member_model.specs.TurnCalls.{member_turns}
 use Rattle.mid_logger.specs.declared.pulled.Pulled.{Pulled}
 use Rattle.mid_logger.specs.declared.pulled.Pulled.TheVariants.{Wrote, Dropped, Nothing, Broke, NoChannel}
 use Rattle.loggers.specs.declared.logged_run.LoggedRun.{LoggedRun}
-use Rattle.loggers.specs.Moments.{LoggerMoment}
+use Rattle.loggers.specs.Moments.{RunFiles, LoggerMoment, moment_of}
+use Rattle.loggers.specs.NewLoggers.{NoneTakenBack}
+use Rattle.loggers.specs.LoggerStands.{LoggerStands}
 use Rattle.loggers.specs.Turning.{TakesTurn}
 use Rattle.loggers.specs.Finishing.{FinishesLogger}
 use Rattle.loggers.specs.SlotPulls.{PullsNumbered}
+use Rattle.daq_members.specs.declared.logger_member.LoggerMember.{LoggerMember}
 use Rattle.daq_members.specs.declared.turned.Turned.{Turned}
 use Rattle.daq_members.specs.declared.turned.Turned.TheVariants.{Worked, Idle, Ended}
 use Rattle.daq_members.specs.OwnTurns.{start_owed, GivesAnswer}
@@ -55,6 +60,30 @@ pub record LoggerTaken : Type 0 where
   pub before : LoggerMoment
   pub after : LoggerMoment
   pub turned : Turned
+
+-- a turn of a logger that is a member, with its ports and the run files, before and behind
+abbrev pub logger_member_taken : {F : Type 0} → (read : F → RunFiles) → (before after : LoggerMember) →
+    (ports later_ports : List Access) → (files later_files : F) → Turned → LoggerTaken
+logger_member_taken read before after ports later_ports files later_files turned = record {
+  client = before.seat.client;
+  calls = own_entries before.seat.pass;
+  later_calls = own_entries after.seat.pass;
+  run = before.logger.run;
+  later_run = after.logger.run;
+  stop_dump = before.logger.stop_dump;
+  later_stop_dump = after.logger.stop_dump;
+  before = moment_of before.logger.channels ports (read files);
+  after = moment_of after.logger.channels later_ports (read later_files);
+  turned = turned;
+}
+
+-- Where the logger kept its contract over the turns that its calls on the engine told before, it keeps it over those that they
+-- tell behind the turn, if no client of it is known to be detached by another.
+abbrev pub KeepsLoggerMember : LoggerTaken → Type 0
+KeepsLoggerMember t = NoneTakenBack t.after.ports →
+    LoggerStands t.run t.stop_dump t.before.slots t.before.ports (member_turns t.client t.calls) t.before.files.seen →
+    LoggerStands t.later_run t.later_stop_dump t.after.slots t.after.ports (member_turns t.client t.later_calls)
+    t.after.files.seen
 
 -- Nothing is done but to ask.
 pub record LeavesTurn (t : LoggerTaken) (reply : Polled) (turned : Turned) : Type 0 where

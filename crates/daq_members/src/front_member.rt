@@ -16,7 +16,7 @@ ghost use Rattle.front_ends.specs.Fronts.{front_answer, run_after, finish_answer
 ghost use Rattle.loggers.specs.Moments.{IsSameAccess};
 ghost use Rattle.daq_members.specs.OwnTurns.{start_owed, GivesAnswer};
 ghost use Rattle.daq_members.specs.SentSets.{number_set_at, number_if, AddsNumberIf};
-ghost use Rattle.daq_members.specs.FrontTaken.{turned_by, is_sent, SetsSent, StepsFront, TakesFront, FrontMemberStands};
+ghost use Rattle.daq_members.specs.FrontTaken.{turned_by, is_sent, SetsSent, StepsFront, TakesFront, FrontMemberStands, KeepsFrontStanding, front_member_taken};
 
 use crate::seat::Seat;
 use crate::turned::Turned;
@@ -151,21 +151,9 @@ impl<'a, E: Equipment> FrontMember<'a, E> {
         requires entries { 1 ≤ (P.access port.old).entries }
         requires bytes { event_room ≤ (P.access port.old).bytes }
         requires size { 104 ≤ (P.access port.old).size }
-        ensures takes { TakesFront (record {
-          client = self.old.seat.client;
-          name = self.old.name;
-          takes = E.takes self.old.front.equipment;
-          makes = E.makes self.old.front.equipment;
-          run = self.old.front.run;
-          later_run = self.new.front.run;
-          calls = own_entries self.old.seat.pass;
-          later_calls = own_entries self.new.seat.pass;
-          port = P.access port.old;
-          later_port = P.access port.new;
-          database = D.access database.old;
-          later_database = D.access database.new;
-          turned = result;
-        }) }
+        ensures takes { TakesFront (front_member_taken E.takes E.makes self.old.name self.old.seat
+            self.new.seat self.old.front self.new.front (P.access port.old) (P.access port.new)
+            (D.access database.old) (D.access database.new) result) }
         ensures client { self.new.seat.client ≡ self.old.seat.client }
         ensures engine { self.new.seat.engine.now ≡ self.old.seat.engine.now }
         ensures name { self.new.name ≡ self.old.name }
@@ -175,14 +163,9 @@ impl<'a, E: Equipment> FrontMember<'a, E> {
             ≡ E.makes self.old.front.equipment }
         ensures same_port { IsSameAccess (P.access port.old) (P.access port.new) }
         ensures same { IsSamePort (D.access database.old) (D.access database.new) }
-        ensures keeps { FrontMemberStands self.old.seat.client self.old.name
-            (E.takes self.old.front.equipment) (E.makes self.old.front.equipment)
-            self.old.front.run (own_entries self.old.seat.pass)
-            (P.access port.old).own (own_watched (D.access database.old)) →
-            FrontMemberStands self.old.seat.client self.old.name
-            (E.takes self.old.front.equipment) (E.makes self.old.front.equipment)
-            self.new.front.run (own_entries self.new.seat.pass)
-            (P.access port.new).own (own_watched (D.access database.new)) }
+        ensures keeps { KeepsFrontStanding (front_member_taken E.takes E.makes self.old.name
+            self.old.seat self.new.seat self.old.front self.new.front (P.access port.old)
+            (P.access port.new) (D.access database.old) (D.access database.new) result) }
     {
         let owed = self.seat.owed;
         match self.seat.poll(rt) {

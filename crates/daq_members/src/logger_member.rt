@@ -6,13 +6,13 @@ ghost use Rattle.buffer_core.specs.Slots.{slot_at};
 ghost use Rattle.turn_lock.specs.Passes.{own_entries};
 ghost use Rattle.member_model.specs.Turns.{MemberTurn};
 ghost use Rattle.member_model.specs.TurnCalls.{member_turns};
-ghost use Rattle.loggers.specs.Moments.{moment_of, IsLoggerReady, HaveEntries, UseEntries, AreSamePorts};
+ghost use Rattle.loggers.specs.Moments.{files_by, moment_of, IsLoggerReady, HaveEntries, UseEntries, AreSamePorts};
 ghost use Rattle.loggers.specs.NewLoggers.{NoneTakenBack};
 ghost use Rattle.loggers.specs.SlotPulls.{HasEventRoom, PullsNumbered};
 ghost use Rattle.loggers.specs.Turning.{IsIdleOutside, buffers_begun};
 ghost use Rattle.loggers.specs.LoggerStands.{LoggerStands};
 ghost use Rattle.daq_members.specs.FrontTaken.{turned_by};
-ghost use Rattle.daq_members.specs.LoggerTaken.{TakesLogger, HaveCaller, PullsBelow, pulled_channels, has_pulled};
+ghost use Rattle.daq_members.specs.LoggerTaken.{TakesLogger, KeepsLoggerMember, logger_member_taken, HaveCaller, PullsBelow, pulled_channels, has_pulled};
 
 use crate::front_member::turned_by;
 use crate::seat::Seat;
@@ -99,20 +99,9 @@ impl<'a> LoggerMember<'a> {
         requires idle { IsIdleOutside self.old.logger.run self.old.logger.channels }
         requires begun { buffers_begun self.old.logger.run ≤ length ports.old }
         requires small { IfSome self.old.logger.stop_dump (λ bytes. length bytes ≤ record_limit) }
-        ensures takes { TakesLogger (record {
-          client = self.old.seat.client;
-          calls = own_entries self.old.seat.pass;
-          later_calls = own_entries self.new.seat.pass;
-          run = self.old.logger.run;
-          later_run = self.new.logger.run;
-          stop_dump = self.old.logger.stop_dump;
-          later_stop_dump = self.new.logger.stop_dump;
-          before = moment_of self.old.logger.channels (map P.access ports.old) (F.seen files.old)
-              (F.faults files.old) (F.clashes files.old) (F.first files.old);
-          after = moment_of self.new.logger.channels (map P.access ports.new) (F.seen files.new)
-              (F.faults files.new) (F.clashes files.new) (F.first files.new);
-          turned = result;
-        }) }
+        ensures takes { TakesLogger (logger_member_taken
+            (files_by F.seen F.faults F.clashes F.first) self.old self.new (map P.access ports.old)
+            (map P.access ports.new) files.old files.new result) }
         ensures client { self.new.seat.client ≡ self.old.seat.client }
         ensures engine { self.new.seat.engine.now ≡ self.old.seat.engine.now }
         ensures same { AreSamePorts (map P.access ports.old) (map P.access ports.new) }
@@ -123,15 +112,9 @@ impl<'a> LoggerMember<'a> {
         ensures idle { IsIdleOutside self.new.logger.run self.new.logger.channels }
         ensures begun { buffers_begun self.new.logger.run ≤ length ports.new }
         ensures small { IfSome self.new.logger.stop_dump (λ bytes. length bytes ≤ record_limit) }
-        ensures keeps { NoneTakenBack (map P.access ports.new) →
-            LoggerStands self.old.logger.run self.old.logger.stop_dump self.old.logger.channels
-            (map P.access ports.old)
-            (member_turns self.old.seat.client (own_entries self.old.seat.pass))
-            (F.seen files.old) →
-            LoggerStands self.new.logger.run self.new.logger.stop_dump self.new.logger.channels
-            (map P.access ports.new)
-            (member_turns self.old.seat.client (own_entries self.new.seat.pass))
-            (F.seen files.new) }
+        ensures keeps { KeepsLoggerMember (logger_member_taken
+            (files_by F.seen F.faults F.clashes F.first) self.old self.new (map P.access ports.old)
+            (map P.access ports.new) files.old files.new result) }
     {
         let owed = self.seat.owed;
         match self.seat.poll(rt) {
@@ -177,10 +160,10 @@ impl<'a> LoggerMember<'a> {
             (map P.access ports.old) }
         requires idle { IsIdleOutside self.old.logger.run self.old.logger.channels }
         ensures pulls { PullsBelow pulled_channels result
-            (moment_of self.old.logger.channels (map P.access ports.old) (F.seen files.old)
-            (F.faults files.old) (F.clashes files.old) (F.first files.old))
-            (moment_of self.new.logger.channels (map P.access ports.new) (F.seen files.new)
-            (F.faults files.new) (F.clashes files.new) (F.first files.new)) }
+            (moment_of self.old.logger.channels (map P.access ports.old)
+            (files_by F.seen F.faults F.clashes F.first files.old))
+            (moment_of self.new.logger.channels (map P.access ports.new)
+            (files_by F.seen F.faults F.clashes F.first files.new)) }
         ensures seat { self.new.seat ≡ self.old.seat }
         ensures run { self.new.logger.run ≡ self.old.logger.run }
         ensures stop_dump { self.new.logger.stop_dump ≡ self.old.logger.stop_dump }
@@ -227,10 +210,10 @@ impl<'a> LoggerMember<'a> {
             (map P.access ports.old) }
         requires idle { IsIdleOutside self.old.logger.run self.old.logger.channels }
         ensures pulls { PullsNumbered channel result
-            (moment_of self.old.logger.channels (map P.access ports.old) (F.seen files.old)
-            (F.faults files.old) (F.clashes files.old) (F.first files.old))
-            (moment_of self.new.logger.channels (map P.access ports.new) (F.seen files.new)
-            (F.faults files.new) (F.clashes files.new) (F.first files.new)) }
+            (moment_of self.old.logger.channels (map P.access ports.old)
+            (files_by F.seen F.faults F.clashes F.first files.old))
+            (moment_of self.new.logger.channels (map P.access ports.new)
+            (files_by F.seen F.faults F.clashes F.first files.new)) }
         ensures uses { UseEntries 2 (map P.access ports.old) (map P.access ports.new) }
         ensures seat { self.new.seat ≡ self.old.seat }
         ensures run { self.new.logger.run ≡ self.old.logger.run }

@@ -46,7 +46,8 @@ pub struct LoggerSeat<'a, P: EndlessPort, F: Files> {
 impl<'a, P: EndlessPort, F: Files> Model for LoggerSeat<'a, P, F> {
     ghost use Rattle.std.specs.Prelude.{map};
     ghost use Rattle.turn_lock.specs.Passes.{own_entries};
-    ghost use Rattle.daq_members.specs.LoggerSeats.{LoggerSeen, IsLoggerAtSeat, files_by};
+    ghost use Rattle.loggers.specs.Moments.{files_by};
+    ghost use Rattle.daq_members.specs.LoggerSeats.{LoggerSeen, IsLoggerAtSeat};
 
     ghost Value = { LoggerSeen F };
 
@@ -76,7 +77,8 @@ impl<'a, P: EndlessPort, F: Files> Model for LoggerSeat<'a, P, F> {
 }
 
 impl<'a, P: EndlessPort, F: Files> LoggerSeat<'a, P, F> {
-    ghost use Rattle.daq_members.specs.LoggerSeats.{IsLoggerSeated, HasLoggerReasons, KeepsLoggerNames, IsSameLogger, logger_taken, files_by};
+    ghost use Rattle.loggers.specs.Moments.{files_by};
+    ghost use Rattle.daq_members.specs.LoggerSeats.{IsLoggerSeated, HasLoggerReasons, KeepsLoggerNames, IsSameLogger, logger_taken};
 
     /// A logger that is ready for its turns, and had none, with its own ports to the buffers and the run files.
     pub fn new(member: LoggerMember<'a>, ports: Ports<P>, files: F) -> LoggerSeat<'a, P, F>

@@ -1,7 +1,7 @@
 // A session whose members have their turns in rounds of the main thread.
 ghost use Rattle.std.specs.Prelude.{◌≡◌};
 ghost use Rattle.session_crew.specs.Crews.{AreMembers, IsSameCrew, KeepContracts, NotesRunFaults, crew_seen, crew_told};
-ghost use Rattle.daq_members.specs.LoggerSeats.{files_by};
+ghost use Rattle.loggers.specs.Moments.{files_by};
 ghost use Rattle.member_threads.specs.MemberTurns.{FrontTurns, LoggerTurns, AnalyzerTurns};
 ghost use Rattle.member_threads.specs.Scattered.{EachEnded, members_seen};
 

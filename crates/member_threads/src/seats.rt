@@ -18,7 +18,7 @@ impl<'a, E: Equipment, P: EndlessPort, D: WatchPort> Member for FrontSeat<'a, E,
 }
 
 impl<'a, P: EndlessPort, F: Files> Member for LoggerSeat<'a, P, F> {
-    ghost use Rattle.daq_members.specs.LoggerSeats.{files_by};
+    ghost use Rattle.loggers.specs.Moments.{files_by};
     ghost use Rattle.member_threads.specs.MemberTurns.{LoggerTurns};
 
     ghost turns = { LoggerTurns (files_by F.seen F.faults F.clashes F.first) };

@@ -5,12 +5,12 @@ use Rattle.daq_types.specs.declared.runs.Order.{Order}
 use Rattle.daq_io.specs.Seen.{Seen}
 use Rattle.transitions.specs.Limits.{most_clients}
 use Rattle.loggers.specs.LoggerFaults.{NotesFaults}
-use Rattle.loggers.specs.Moments.{RunFiles}
+use Rattle.loggers.specs.Moments.{RunFiles, files_by}
 use Rattle.daq_members.specs.declared.turned.Turned.{Turned}
 use Rattle.daq_members.specs.FrontTaken.{TakesFront}
 use Rattle.daq_members.specs.LoggerTaken.{TakesLogger}
 use Rattle.daq_members.specs.FrontSeats.{FrontSeen, IsSameFront, IsSeated, front_taken}
-use Rattle.daq_members.specs.LoggerSeats.{LoggerSeen, IsSameLogger, IsLoggerSeated, HasLoggerReasons, KeepsLoggerNames, logger_taken, files_by}
+use Rattle.daq_members.specs.LoggerSeats.{LoggerSeen, IsSameLogger, IsLoggerSeated, HasLoggerReasons, KeepsLoggerNames, logger_taken}
 use Rattle.analyzer_seats.specs.SeatedAnalyzers.{AnalyzerSeen, IsAnalyzerSeated, IsSameAnalyzer}
 use Rattle.analyzer_seats.specs.ManyAnalyzers.{TurnsAnalyzer, AreSameAnalyzers}
 

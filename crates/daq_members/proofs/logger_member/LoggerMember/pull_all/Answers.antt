@@ -1,5 +1,5 @@
 use Rattle.std.specs.Prelude.{◌-◌, ◌*◌, map}
-use Rattle.loggers.specs.Moments.{moment_of}
+use Rattle.loggers.specs.Moments.{files_by, moment_of}
 use Rattle.std.proofs.Common.{refl, arith, ◌∙◌}
 use Rattle.daq_members.proofs.LoggerLaws.{entries_fewer, entries_left, pulls_more, as_many, same_ports, same_then}
 use Rattle.daq_members.proofs.logger_member.LoggerMember.pull_all.Goals as goal
@@ -29,9 +29,9 @@ loop-channel-preserved g c =
     let so_far = c.loop-channel.invariant in
     record {
       pulls = pulls_more c.loop-channel.channel c.loop-channel.got c.or_pulled-got.result c.pull_one.result
-          (moment_of c.args.self.now.logger.channels (map g.P.BufferPort.access c.args.ports.now) (g.F.Files.seen c.args.files.now) (g.F.Files.faults c.args.files.now) (g.F.Files.clashes c.args.files.now) (g.F.Files.first c.args.files.now))
-          (moment_of c.loop-channel.self.logger.channels (map g.P.BufferPort.access c.loop-channel.ports) (g.F.Files.seen c.loop-channel.files) (g.F.Files.faults c.loop-channel.files) (g.F.Files.clashes c.loop-channel.files) (g.F.Files.first c.loop-channel.files))
-          (moment_of c.pull_one.new.self.logger.channels (map g.P.BufferPort.access c.pull_one.new.ports) (g.F.Files.seen c.pull_one.new.files) (g.F.Files.faults c.pull_one.new.files) (g.F.Files.clashes c.pull_one.new.files) (g.F.Files.first c.pull_one.new.files))
+          (moment_of c.args.self.now.logger.channels (map g.P.BufferPort.access c.args.ports.now) (files_by g.F.Files.seen g.F.Files.faults g.F.Files.clashes g.F.Files.first c.args.files.now))
+          (moment_of c.loop-channel.self.logger.channels (map g.P.BufferPort.access c.loop-channel.ports) (files_by g.F.Files.seen g.F.Files.faults g.F.Files.clashes g.F.Files.first c.loop-channel.files))
+          (moment_of c.pull_one.new.self.logger.channels (map g.P.BufferPort.access c.pull_one.new.ports) (files_by g.F.Files.seen g.F.Files.faults g.F.Files.clashes g.F.Files.first c.pull_one.new.files))
           so_far.pulls did.pulls c.or_pulled-got.ensures;
       many = as_many g.P.BufferPort.access c.loop-channel.ports c.pull_one.new.ports did.uses ∙ so_far.many;
       within = omega arith;

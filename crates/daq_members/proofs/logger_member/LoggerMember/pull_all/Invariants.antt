@@ -1,7 +1,7 @@
 -- So far each channel below the number pulled once, and there is room for the pulls of the others.
 use Rattle.std.specs.Prelude.{◌≡◌, ◌≤◌, ◌-◌, ◌*◌, ℕ, List, length, map}
 use Rattle.member_model.specs.Turns.{MemberTurn}
-use Rattle.loggers.specs.Moments.{moment_of, IsLoggerReady, HaveEntries, AreSamePorts}
+use Rattle.loggers.specs.Moments.{files_by, moment_of, IsLoggerReady, HaveEntries, AreSamePorts}
 use Rattle.loggers.specs.SlotPulls.{HasEventRoom}
 use Rattle.loggers.specs.Turning.{IsIdleOutside}
 use Rattle.loggers.specs.LoggerStands.{LoggerStands}
@@ -11,8 +11,8 @@ use Rattle.daq_members.proofs.logger_member.LoggerMember.pull_all.Given as goal
 abbrev pub invariant-loop-channel : goal.invariant-loop-channel
 invariant-loop-channel g l = record {
   pulls : PullsBelow l.channel l.got
-      (moment_of l.fn.self.logger.channels (map g.P.BufferPort.access l.fn.ports) (g.F.Files.seen l.fn.files) (g.F.Files.faults l.fn.files) (g.F.Files.clashes l.fn.files) (g.F.Files.first l.fn.files))
-      (moment_of l.self.logger.channels (map g.P.BufferPort.access l.ports) (g.F.Files.seen l.files) (g.F.Files.faults l.files) (g.F.Files.clashes l.files) (g.F.Files.first l.files));
+      (moment_of l.fn.self.logger.channels (map g.P.BufferPort.access l.fn.ports) (files_by g.F.Files.seen g.F.Files.faults g.F.Files.clashes g.F.Files.first l.fn.files))
+      (moment_of l.self.logger.channels (map g.P.BufferPort.access l.ports) (files_by g.F.Files.seen g.F.Files.faults g.F.Files.clashes g.F.Files.first l.files));
   within : l.channel ≤ 16;
   many : length l.ports ≡ length l.fn.ports;
   entries : HaveEntries (2 * (16 - l.channel)) (map g.P.BufferPort.access l.ports);

@@ -1,5 +1,6 @@
 use Rattle.std.proofs.Common.{subst}
-use Rattle.daq_members.specs.LoggerSeats.{LoggerSeen, KeepsLoggerNames, files_by}
+use Rattle.loggers.specs.Moments.{files_by}
+use Rattle.daq_members.specs.LoggerSeats.{LoggerSeen, KeepsLoggerNames}
 use Rattle.daq_members.proofs.logger_seat.LoggerSeat.into_parts.Goals as goal
 
 pub returns-clause-names : goal.returns-clause-names

@@ -68,7 +68,7 @@ invariant_of-self g c =
             let known = known_before c.still_known.ensures.turns c.still_known.ensures.pulls _ did.takes none in
             rw did.client (others_kept laws _ _ did.takes before.ready (before.stands known) (before.others known));
       };
-      reasons = rw did.client (reasons_kept reasons _ _ did.takes before.idle c.self.invariant.reasons);
+      reasons = rw did.client (reasons_kept reasons _ _ did.takes c.self.invariant.reasons);
       names = λ none.
           let known = known_before c.still_known.ensures.turns c.still_known.ensures.pulls _ did.takes none in
           rw did.client (names_stay names _ _ did.takes before.ready before.idle (before.stands known) c.self.invariant.reasons (c.self.invariant.names known));
