@@ -9,6 +9,7 @@ use Rattle.mid_logger.specs.declared.channel_spec.ChannelSpec.{ChannelSpec}
 use Rattle.loggers.specs.NewLoggers.{HasNewChannels}
 use Rattle.loggers.specs.Moments.{RunFiles, AreIdleChannels, IsLoggerReady}
 use Rattle.loggers.specs.LoggerFaults.{HasFailed}
+use Rattle.loggers.specs.OtherFiles.{AreDeclared}
 use Rattle.loggers.specs.Reasons.{GivesReasons}
 use Rattle.loggers.specs.declared.logger.Logger.{Logger}
 use Rattle.turn_lock.specs.Passes.{own_entries}
@@ -34,7 +35,7 @@ use Rattle.daq_members.specs.LoggerSeats.{LoggerSeen}
 use Rattle.analyzers.specs.declared.analyzer_run.EventRequest.{EventRequest}
 use Rattle.analyzers.specs.Analyzers.{AnalyzerState}
 use Rattle.analyzer_seats.specs.SeatedAnalyzers.{AnalyzerSeen}
-use Rattle.session_crew.specs.Crews.{CrewSeen}
+use Rattle.session_crew.specs.Crews.{CrewSeen, CrewTold, IsSameCrew}
 use Rattle.session_objects.specs.declared.objects.SessionBuffer.{SessionBuffer}
 use Rattle.session_objects.specs.declared.objects.SessionObjects.{SessionObjects}
 use Rattle.session_objects.specs.Objects.{first_analyzer}
@@ -118,6 +119,18 @@ pub record AreMembersOf {D F : Type 0} (fronts : List FrontDeclared) (analyzers 
       IsFrontOf objects shared client declared front
   pub logger : IsLoggerOf objects (length fronts) last
   pub analyzers_are : AreAnalyzersOf objects (first_analyzer fronts) analyzers seated_analyzers
+
+-- The members of a session stay those of its declarations and objects, whatever turns they take.
+abbrev pub KeepsMembers : (D : Type 0) → {F K : Type 0} → CrewTold Generator F K → Type 0
+KeepsMembers D {F} {K} told = (fronts : List FrontDeclared) → (analyzers : List AnalyzerDeclared) → (objects : SessionObjects) →
+    (shared : SharedOdb D) → (before after : CrewSeen Generator F K) → IsSameCrew told before after →
+    AreMembersOf fronts analyzers objects shared before.fronts before.logger before.analyzers →
+    AreMembersOf fronts analyzers objects shared after.fronts after.logger after.analyzers
+
+-- So does the logger the channels that were declared.
+abbrev pub KeepsChannels : {F K : Type 0} → CrewTold Generator F K → Type 0
+KeepsChannels {F} {K} told = (channels : List ChannelSpec) → (before after : CrewSeen Generator F K) →
+    IsSameCrew told before after → AreDeclared channels before.logger.slots → AreDeclared channels after.logger.slots
 
 -- what the seat of a front-end shows of its calls
 abbrev pub front_calls : FrontSeen Generator → FrontCalls
