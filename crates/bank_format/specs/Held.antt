@@ -2,6 +2,7 @@
 use Rattle.std.specs.Prelude.{◌≡◌, ℕ, ◌≤◌, length, drop, vec_len, vec_capacity}
 use Rattle.std.specs.Global.{Vec}
 use Rattle.std.specs.List.{AllByRecursion}
+use Rattle.daq_model.specs.Events.{event_limit}
 use Rattle.bank_format.specs.declared.formats.Format.{Format}
 use Rattle.bank_format.specs.BankAreas.{IsBank, plain_banks}
 use Rattle.bank_format.specs.Places.{banks_in}
@@ -13,5 +14,5 @@ pub record IsHeld (f : Format) (limit : ℕ) (v : Vec ℕ) : Type 0 where
   pub counted : vec_len v ≡ length v.items
   pub within : vec_len v ≤ limit
   pub front : 8 ≤ limit
-  pub most : limit ≤ 4194304
+  pub most : limit ≤ event_limit
   pub room : limit ≤ vec_capacity v
