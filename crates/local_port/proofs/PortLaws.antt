@@ -8,14 +8,14 @@ use Rattle.buffer_core.specs.declared.replies.NoSlot.{NoSlot}
 use Rattle.buffer_core.specs.declared.replies.Received.{Received}
 use Rattle.buffer_core.specs.declared.entry.BufferEntry.{BufferEntry}
 use Rattle.buffer_core.specs.declared.entry.BufferEntry.TheVariants.{Attach, Receive}
-use Rattle.buffer_core.specs.Window.{Window, IsWindow}
+use Rattle.buffer_core.specs.Window.{Window}
 use Rattle.buffer_core.specs.Calls.{IsReply, window_after, event_after}
 use Rattle.buffer_core.specs.Histories.{IsLegal, replay}
 use Rattle.buffer_core.specs.Ports.{Access, BufferIdentity, GotEvent, Called, Calls, Receives, IsNewNumber, IsGivenAt, knowing, got_after, slots_got, GivesSound, IsSmallBuf}
 use Rattle.buffer_core.specs.CallersView.{access_in, given_by, given_in, taken_back_in}
 use Rattle.buffer_core.proofs.HistoryLaws.{replay-push, legal_push}
 use Rattle.buffer_core.proofs.TakenBack.{CallsNext, new_number as number_next}
-use Rattle.buffer_core.proofs.PortCalls.{gets_few as few_next, gives, gives_whole as whole_next, called as called_next, calls as calls_next, receives as receives_next, size_stays}
+use Rattle.buffer_core.proofs.PortCalls.{gets_few as few_next, gives, gives_whole as whole_next, calls as calls_next, receives as receives_next, size_stays}
 use Rattle.local_port.specs.Ported.{Ported, IsPorted, AppendsCall, access_of}
 
 -- a call more
