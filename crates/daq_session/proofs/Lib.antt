@@ -3,6 +3,7 @@ pub mod NumberLaws
 pub mod SessionsEnd
 pub mod ClosedLaws
 pub mod EndedLaws
+pub mod LeftLaws
 pub mod AskedLaws
 pub mod AloneLaws
 pub mod ScriptLaws

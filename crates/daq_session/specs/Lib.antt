@@ -1,5 +1,6 @@
 pub mod RunNumbers
 pub mod Endings
+pub mod LinesEnded
 pub mod Environments
 pub mod ToldRecords
 pub mod Sessions

@@ -3,7 +3,9 @@ ghost use Rattle.std.specs.Prelude.{◌≡◌, ℕ, true, List, Option, None};
 ghost use Rattle.std.specs.List.{list_any};
 ghost use Rattle.session_commands.specs.Endings.{NotesFailed, asks_files, is_fault};
 ghost use Rattle.daq_session.specs.Endings.{FaultedFile, script_end};
+ghost use Rattle.daq_session.specs.LinesEnded.{HasEnd};
 
+use crate::played::LinesEnd;
 use daq_io::Files;
 use daq_types::FileName;
 use database_files::FileReply;
@@ -87,8 +89,8 @@ fn end_by_lines(ending: Ending, refusals: &Refusals) -> ScriptEnd
     }
 }
 
-/// Why a script ended whose lines ended so, with these refused.
-pub fn end_of<F: Files, E: Files>(
+/// Why a script ended that ended so, with these lines refused.
+fn end_by<F: Files, E: Files>(
     ending: Ending,
     refusals: &Refusals,
     failed: bool,
@@ -119,4 +121,18 @@ pub fn end_of<F: Files, E: Files>(
             }
         }
     }
+}
+
+/// Why a script ended whose lines came to this.
+pub fn end_of<S, O, E: Files, C, F: Files, K>(lines: &LinesEnd<S, O, E, C, F, K>) -> ScriptEnd
+    ensures { (run odb : ℕ) → HasEnd F.faults F.first E.faults E.first run odb lines.now result }
+{
+    end_by(
+        lines.ending.with_closing(lines.closing),
+        &lines.script.desk.refusals,
+        lines.failed,
+        &lines.run_files,
+        lines.replies.as_slice(),
+        &lines.odb_files,
+    )
 }

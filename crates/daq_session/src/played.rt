@@ -14,11 +14,12 @@ ghost use Rattle.session_objects.specs.Kept.{HasFreshBut, out_to_fronts, out_to_
 ghost use Rattle.session_objects.specs.Members.{AreMembersOf};
 ghost use Rattle.session_objects.specs.Objects.{HaveCallers, SuitMembers};
 ghost use Rattle.daq_session.specs.Environments.{outside_told};
+ghost use Rattle.daq_session.specs.LinesEnded.{outside_left};
 ghost use Rattle.daq_session.specs.Played.{PlaysObjects, PlaysOpened, unopened_lines};
 
 use crate::opening::{SessionRoom, open_keys, open_members};
 use crate::places::Places;
-use daq_io::{Clock, Files, Gate, Pick, Sink, Source};
+use daq_io::{Clock, Files, Gate, Outside, Pick, Sink, Source};
 use database_files::FileReplies;
 use odb_lock::{LockedDatabase, SharedAccess, WatchedSeen};
 use odb_tree::Database;
@@ -49,6 +50,34 @@ pub struct LinesEnd<S, O, E, C, F, K> {
     pub run_files: F,
     pub pick: K,
     pub script: Script<S, O>,
+}
+
+impl<S, O, E, C, F, K> LinesEnd<S, O, E, C, F, K> {
+    /// The replies of the lines that called the files of the database, and the outside as the script leaves it.
+    pub fn into_outside(self) -> (FileReplies, Outside<S, O, F, E, C, K>)
+        ensures replies { result.0 ≡ self.replies }
+        ensures outside { result.1 ≡ outside_left self }
+    {
+        let LinesEnd {
+            replies,
+            odb_files,
+            clock,
+            run_files,
+            pick,
+            script,
+            ..
+        } = self;
+        let Script { src, out, .. } = script;
+        let outside = Outside {
+            src,
+            out,
+            run_files,
+            odb_files,
+            clock,
+            pick,
+        };
+        (replies, outside)
+    }
 }
 
 /// What is left of a session that was open, to be closed.

@@ -252,36 +252,10 @@ fn run_session<
         members,
         script,
     );
-    let LinesEnd {
-        ending,
-        closing,
-        failed,
-        replies,
-        odb_files,
-        clock,
-        run_files,
-        pick,
-        script,
-    } = lines;
-    let Script { desk, src, out } = script;
     scripts_keep();
-    let end = end_of(
-        ending.with_closing(closing),
-        &desk.refusals,
-        failed,
-        &run_files,
-        replies.as_slice(),
-        &odb_files,
-    );
+    let end = end_of(&lines);
     let record = close_left::<D, F, K>(shared, left);
-    let outside = Outside {
-        src,
-        out,
-        run_files,
-        odb_files,
-        clock,
-        pick,
-    };
+    let (replies, outside) = lines.into_outside();
     (end, record, replies, outside)
 }
 

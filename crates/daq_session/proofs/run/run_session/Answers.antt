@@ -8,6 +8,7 @@ use Rattle.daq_session.specs.declared.ends.ScriptEnd.TheVariants.{NoMemory}
 use Rattle.daq_session.proofs.AskedLaws.{kept_asked}
 use Rattle.daq_session.proofs.ClosedLaws.{is_back, memory_ends, memory_found}
 use Rattle.daq_session.proofs.EndedLaws.{kept_ended}
+use Rattle.daq_session.proofs.LeftLaws.{lines_left}
 use Rattle.daq_session.proofs.run.run_session.Goals as goal
 
 pub close_left-record-requires-clause-back : goal.close_left-record-requires-clause-back
@@ -25,7 +26,7 @@ returns g c =
     let final : Stage = played.final in
     let refusals = lines.script.desk.refusals in
     let kept = c.scripts_keep.ensures _ final lines.ending lines.closing _ _ _ _ refusals played.finished in
-    let end = rw (c.with_closing.ensures, c.as_slice.ensures) at c.end_of-end.ensures (g.F.Files.faults outside.run_files) (g.E.Files.faults outside.odb_files) in
+    let end = c.end_of-end.ensures (g.F.Files.faults outside.run_files) (g.E.Files.faults outside.odb_files) in
     let faults = end (λ asks. (played.tells.failed, rw (played.tells.replies_are, played.tells.files_are) at kept.faults refl asks)) in
     let saved : c.end_of-end.result ≢ NoMemory → StageSaved final = λ other. kept.saved (memory_found lines.ending lines.closing faults.0 refusals c.end_of-end.result faults.2 other) tt in
     let keeps = c.close_left-record.ensures.kept outside.run_files final lines.ending c.end_of-end.result lines.run_files c.requires.rows
@@ -33,7 +34,7 @@ returns g c =
     (memory_ends lines.ending lines.closing faults.0 refusals c.end_of-end.result faults.2)
     played.ends in
     record {
-      ran = record {
+      ran = lines_left _ outside lines _ _ _ _ c.into_outside-replies.ensures.outside c.into_outside-replies.ensures.replies (record {
         final = final;
         plays = record {
           access = shared_access (odb_identity c.args.database.shared) main_caller [];
@@ -62,5 +63,5 @@ returns g c =
         keeps = keeps;
         asked = kept_asked _ outside.run_files final lines.run_files _ (kept.quotas refl) c.end_of-end.result c.close_left-record.result keeps;
         ended = λ other. kept_ended _ outside.run_files final lines.run_files (saved other) c.end_of-end.result c.close_left-record.result keeps;
-      };
+      });
     }
