@@ -34,7 +34,7 @@ use Rattle.script_desk.specs.Closing.{EndCounts}
 use Rattle.session_commands.specs.declared.script.Script.{Script}
 use Rattle.session_commands.specs.declared.side.MainSide.{MainSide}
 use Rattle.session_commands.specs.Endings.{NotesFailed, closing_calls}
-use Rattle.session_commands.specs.Finishing.{FinishedAt, FinishesLine, FinishesOpening, ScriptAt, SideTold, script_at, stage_open, stage_unopened}
+use Rattle.session_commands.specs.Finishing.{FinishedAt, FinishesLine, FinishesOpening, ScriptAt, SideTold, script_point, stage_open, stage_unopened}
 use Rattle.session_commands.specs.Keeping.{EndsOver, KnowsRuns, RunsKept, StageKept, StageSpares}
 use Rattle.daq_session.specs.declared.ends.ScriptEnd.{ScriptEnd}
 use Rattle.daq_session.specs.declared.ends.ScriptEnd.TheVariants.{NoMemory}
@@ -50,8 +50,7 @@ use Rattle.daq_session.specs.Sessions.{KeepsSession, SessionKept}
 
 -- where the lines of a script stand
 abbrev pub lines_at : {S O F E C K : Type 0} → OutsideTold S O F E C K → Script S O → ScriptAt
-lines_at told script = script_at (told.left script.src) (told.written script.out) script.desk.reader script.desk.last
-    script.desk.refusals script.desk.number
+lines_at told script = script_point told.left told.written script
 
 -- what the main thread's port to a shared database, the files of the dumps and the clock tell
 abbrev pub side_of : {D S O F E C K : Type 0} {g : _} → OutsideTold S O F E C K → SideTold (SharedAccess D g) E C

@@ -1,5 +1,5 @@
 -- How the lines of a session's script are played, by where they stand, and by what the main thread has besides its runs.
-use Rattle.std.specs.Prelude.{◌≡◌, ℕ, Bool, List, Option}
+use Rattle.std.specs.Prelude.{◌≡◌, ℕ, Bool, List, Option, None}
 use Rattle.daq_io.specs.Seen.{Seen}
 use Rattle.transitions.specs.declared.entry.EngineEntry.{EngineEntry}
 use Rattle.odb_port.specs.DatabasePorts.{DatabaseAccess}
@@ -16,8 +16,9 @@ use Rattle.session_lines.specs.ScriptLines.{BreaksScriptLine, ClosesScript, Does
 use Rattle.script_desk.specs.declared.endings.Ending.{Ending}
 use Rattle.script_desk.specs.declared.halts.Halt.{Halt}
 use Rattle.script_desk.specs.declared.play_end.PlayEnd.{PlayEnd}
-use Rattle.script_desk.specs.Playing.{HasLine, OpensAt, PlaysTo}
+use Rattle.script_desk.specs.Playing.{HasLine, OpensAt, Played, PlaysTo}
 use Rattle.script_desk.specs.Closing.{Finished}
+use Rattle.session_commands.specs.declared.script.Script.{Script}
 use Rattle.session_commands.specs.declared.side.MainSide.{MainSide}
 use Rattle.session_commands.specs.Endings.{closing_calls}
 use Rattle.session_commands.specs.Keeping.{KnowsRuns}
@@ -69,6 +70,11 @@ abbrev pub script_at : (left written : Option (List ℕ)) → Reading → (last 
 script_at left written reading last refusals number =
     record { left = left; written = written; reading = reading; last = last; refusals = refusals; number = number }
 
+-- where the lines of a script stand, by what is left of its source, and by its text
+abbrev pub script_point : {S O : Type 0} → (left : S → Option (List ℕ)) → (written : O → Option (List ℕ)) → Script S O → ScriptAt
+script_point left written script = script_at (left script.src) (written script.out) script.desk.reader script.desk.last
+    script.desk.refusals script.desk.number
+
 -- The lines up to the first start were played, or all of them, of a session in which nothing was declared before.
 abbrev pub PlaysFirst : {D E C : Type 0} (told : SideTold D E C) (access : DatabaseAccess) (files : E) (clock : C)
     (source written : Option (List ℕ)) → PlayEnd → (behind : ScriptAt) (quota : ℕ) → Declared → MainSide D E C → Type 0
@@ -97,6 +103,12 @@ FinishesOpening at behind now final ending closing =
     OpensAt DoesScriptLine BreaksScriptLine opens_session first source at.left written at.written at.reading at.last now
     at.refusals at.number →
     FinishedAt first source written ending closing behind final
+
+-- Where the lines of a script opened no session, it was played to its end with the last of them.
+abbrev pub UnopenedFinish : Type 0
+UnopenedFinish = (first now : Stage) (ending : Ending) (source left told_first told : Option (List ℕ)) (refusals : Refusals) →
+    Played DoesScriptLine BreaksScriptLine first ending source left told_first told now refusals → now.runs ≡ None →
+    Finished DoesScriptLine BreaksScriptLine ClosesScript GivesUp first ending None source left told_first told now refusals
 
 -- An open session was played from the line that opened it to the end of its script, and its engine was closed by the main
 -- thread's last call there: these are the records of its runs, and the main thread's own calls on the engine.

@@ -5,9 +5,11 @@ use Rattle.script_desk.specs.declared.endings.Ending.{Ending}
 use Rattle.script_desk.specs.declared.endings.Ending.TheVariants.{Halted}
 use Rattle.script_desk.specs.declared.halts.Halt.{Halt}
 use Rattle.script_desk.specs.declared.halts.Halt.TheVariants.{NoMemory as no_memory}
-use Rattle.script_desk.specs.Closing.{ended_by}
+use Rattle.script_desk.specs.Closing.{Finished, ended_by}
+use Rattle.session_replies.specs.declared.refusals.Refusals.{Refusals}
 use Rattle.session_replies.specs.declared.replies.Reply.{Reply}
 use Rattle.session_lines.specs.Stages.{Stage}
+use Rattle.session_lines.specs.ScriptLines.{BreaksScriptLine, ClosesScript, DoesScriptLine, GivesUp}
 use Rattle.session_commands.specs.Endings.{NotesFailed, OneReply, asks_files, is_fault}
 use Rattle.session_commands.specs.Keeping.{EndsOver, StageKept, StageSaved, StageSpares}
 use Rattle.session_commands.specs.KeptDumps.{KeepsDumps}
@@ -32,3 +34,11 @@ pub record KeptByScript (lines : List (List ℕ)) (replies : List Reply) (ending
       NotesFailed (list_any is_fault final.database.replies) first.database.files.faults final.database.files.faults
   pub one_reply : first.database.replies ≡ [] →
       OneReply final.database.replies first.database.files final.database.files
+
+-- So does each script that was played to its end.
+abbrev pub ScriptsKeep : Type 0
+ScriptsKeep = (first final : Stage) (ending : Ending) (closing : Option Halt) (source left told_first told : Option (List ℕ))
+    (refusals : Refusals) →
+    (finished : Finished DoesScriptLine BreaksScriptLine ClosesScript GivesUp first ending closing source left told_first told final
+    refusals) →
+    KeptByScript finished.lines finished.replies ending closing first final

@@ -5,13 +5,13 @@ ghost use Rattle.turn_lock.specs.Passes.{IsOf, held_by, number_of, own_entries};
 ghost use Rattle.odb_port.specs.DatabasePorts.{IsSamePort};
 ghost use Rattle.transition_lock.specs.SharedEngines.{engine_lock_of};
 ghost use Rattle.loggers.specs.LoggerFaults.{HasFailed};
-ghost use Rattle.daq_members.specs.LoggerSeats.{files_by};
+ghost use Rattle.loggers.specs.Moments.{files_by};
 ghost use Rattle.member_threads.specs.MemberTurns.{FrontTurns, LoggerTurns, AnalyzerTurns};
 ghost use Rattle.member_threads.specs.Scattered.{EachEnded, members_seen};
 ghost use Rattle.session_crew.specs.Crews.{IsSameCrew, KeepContracts, NotesRunFaults, crew_seen, crew_told};
 ghost use Rattle.script_desk.specs.Closing.{EndCounts};
 ghost use Rattle.session_commands.specs.Endings.{NotesFailed};
-ghost use Rattle.session_commands.specs.Finishing.{PlaysOpen, script_at, side_told};
+ghost use Rattle.session_commands.specs.Finishing.{PlaysOpen, script_point, side_told};
 
 use crate::lasting::LastingPort;
 use crate::main_play::{MainEnd, MainPlay};
@@ -117,11 +117,7 @@ pub fn play_crew<
     ensures played { PlaysOpen
         (side_told D.access E.seen E.faults E.clashes E.first C.tells C.ahead)
         lists.now runs.entry side result.end.side
-        (script_at (S.left script.src) (O.written script.out) script.desk.reader script.desk.last
-        script.desk.refusals script.desk.number)
-        (script_at (S.left result.end.script.src) (O.written result.end.script.out)
-        result.end.script.desk.reader result.end.script.desk.last
-        result.end.script.desk.refusals result.end.script.desk.number)
+        (script_point S.left O.written script) (script_point S.left O.written result.end.script)
         result.end.ending result.end.closing result.end.records (own_entries result.end.main) }
     ensures main { number_of result.end.main ≡ main_caller }
     ensures own { IsOf (engine_lock_of runs.entry.main.engine) result.end.main }

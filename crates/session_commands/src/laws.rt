@@ -1,17 +1,13 @@
 //! What the lines of a script say together. Each function does nothing, and its contract is the law.
-ghost use Rattle.std.specs.Prelude.{◌≡◌, ℕ, List, Option, None};
+ghost use Rattle.std.specs.Prelude.{Option, None};
 ghost use Rattle.script_desk.specs.declared.endings.Ending.{Ending};
 ghost use Rattle.script_desk.specs.declared.endings.Ending.TheVariants.{Halted};
 ghost use Rattle.script_desk.specs.declared.halts.Halt.{Halt};
 ghost use Rattle.script_desk.specs.declared.halts.Halt.TheVariants.{NoMemory as no_memory};
-ghost use Rattle.script_desk.specs.Playing.{Played};
-ghost use Rattle.script_desk.specs.Closing.{Finished};
-ghost use Rattle.session_replies.specs.declared.refusals.Refusals.{Refusals as Refused};
 ghost use Rattle.session_lines.specs.Stages.{Stage};
 ghost use Rattle.session_lines.specs.RunLines.{CutsOpening, OpensSession};
-ghost use Rattle.session_lines.specs.ScriptLines.{BreaksScriptLine, ClosesScript, DoesScriptLine, GivesUp};
-ghost use Rattle.session_commands.specs.Finishing.{FinishesLine, FinishesOpening, ScriptAt};
-ghost use Rattle.session_commands.specs.KeptByScripts.{KeptByScript};
+ghost use Rattle.session_commands.specs.Finishing.{FinishesLine, FinishesOpening, ScriptAt, UnopenedFinish};
+ghost use Rattle.session_commands.specs.KeptByScripts.{ScriptsKeep};
 
 use crate::unopened::Unopened;
 use daq_io::{Clock, Files};
@@ -34,23 +30,14 @@ pub fn first_start_opens<'a, D: Database, E: Files, C: Clock>(_shared: &'a Share
         → FinishesOpening at behind now final ending closing }
     ensures cut { (at : ScriptAt) (now new : Stage) → CutsOpening now new
         → FinishesOpening at at now new (Halted no_memory) None }
-    ensures unopened { (first now : Stage) (ending : Ending)
-        (source left told_first told : Option (List ℕ)) (refusals : Refused)
-        → Played DoesScriptLine BreaksScriptLine first ending source left told_first told now
-        refusals → now.runs ≡ None
-        → Finished DoesScriptLine BreaksScriptLine ClosesScript GivesUp first ending None source
-        left told_first told now refusals }
+    ensures unopened { UnopenedFinish }
 {
     lines_end::<Unopened<SharedAccess<'a, D>, E, C>>();
 }
 
 /// What a script that was played to its end keeps of its session.
 pub fn scripts_keep()
-    ensures { (first final : Stage) (ending : Ending) (closing : Option Halt)
-        (source left told_first told : Option (List ℕ)) (refusals : Refused)
-        → (finished : Finished DoesScriptLine BreaksScriptLine ClosesScript GivesUp first ending
-        closing source left told_first told final refusals)
-        → KeptByScript finished.lines finished.replies ending closing first final }
+    ensures { ScriptsKeep }
 {
     commands_fit::<PassedOver>();
     runs_fit();

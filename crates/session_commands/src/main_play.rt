@@ -48,7 +48,7 @@ pub struct MainEnd<S: Source, O: Sink, D: LastingPort, E: Files, C: Clock> {
 impl<'a, S: Source, O: Sink, D: LastingPort, E: Files, C: Clock> Playing
     for MainPlay<'a, S, O, D, E, C> {
     ghost use Rattle.script_desk.specs.Closing.{EndCounts};
-    ghost use Rattle.session_commands.specs.Finishing.{script_at, side_told};
+    ghost use Rattle.session_commands.specs.Finishing.{script_point, side_told};
     ghost use Rattle.session_commands.specs.MainEnds.{MainEnds};
 
     type Played = MainEnd<S, O, D, E, C>;
@@ -56,10 +56,7 @@ impl<'a, S: Source, O: Sink, D: LastingPort, E: Files, C: Clock> Playing
     ghost plays = { λ main end. MainEnds
         (side_told D.access E.seen E.faults E.clashes E.first C.tells C.ahead)
         main.lists.now main.runs main.side end.side
-        (script_at (S.left main.script.src) (O.written main.script.out) main.script.desk.reader
-        main.script.desk.last main.script.desk.refusals main.script.desk.number)
-        (script_at (S.left end.script.src) (O.written end.script.out) end.script.desk.reader
-        end.script.desk.last end.script.desk.refusals end.script.desk.number)
+        (script_point S.left O.written main.script) (script_point S.left O.written end.script)
         end.ending end.closing end.records end.main
         × EndCounts end.ending end.closing (S.faults main.script.src) (S.faults end.script.src)
         (O.faults main.script.out) (O.faults end.script.out) };
