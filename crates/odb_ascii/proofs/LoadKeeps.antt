@@ -25,7 +25,7 @@ use Rattle.odb_tree.specs.declared.refusals.What.TheVariants.{Items, Size}
 use Rattle.odb_tree.specs.Rows.{Rows, row_at}
 use Rattle.odb_tree.specs.Making.{new_number}
 use Rattle.odb_tree.specs.Calls.{reply_or, number_at, create_fault, set_all_fault, after_set_all, rows_after}
-use Rattle.odb_tree.specs.Histories.{IsLegal, replay}
+use Rattle.odb_tree.specs.Histories.{IsLegalRows, rows_replay}
 use Rattle.odb_tree.specs.Databases.{IsDatabase}
 use Rattle.odb_tree.proofs.Sound.{database_created, database_set_all}
 use Rattle.odb_lines.specs.ItemLines.{is_string, IsFrontNumber, IsItemLine, IsAloneText}
@@ -212,11 +212,11 @@ both_all : {X : Type 0} (P : X → Type 0) (xs ys : List X) → AllByRecursion P
 both_all P [] ys h k = k
 both_all P (x ∷ xs) ys h k = (h.0, both_all P xs ys h.1 k)
 
-both_legal : (s : Rows) (xs ys : List (ℕ × DatabaseEntry)) → IsLegal s xs → IsLegal (replay s xs) ys → IsLegal s (xs ++ ys)
+both_legal : (s : Rows) (xs ys : List (ℕ × DatabaseEntry)) → IsLegalRows s xs → IsLegalRows (rows_replay s xs) ys → IsLegalRows s (xs ++ ys)
 both_legal s [] ys h k = k
 both_legal s (x ∷ xs) ys h k = (h.0, both_legal (rows_after s x.1) xs ys h.1 k)
 
-both_lead : (s : Rows) (xs ys : List (ℕ × DatabaseEntry)) → replay s (xs ++ ys) ≡ replay (replay s xs) ys
+both_lead : (s : Rows) (xs ys : List (ℕ × DatabaseEntry)) → rows_replay s (xs ++ ys) ≡ rows_replay (rows_replay s xs) ys
 both_lead s [] ys = refl
 both_lead s (x ∷ xs) ys = both_lead (rows_after s x.1) xs ys
 
@@ -228,8 +228,8 @@ calls_behind s mid after h k = record {
   calls = h.calls ++ k.calls;
   main = both_all (λ (e : ℕ × DatabaseEntry). e.0 ≡ main_caller) h.calls k.calls h.main k.main;
   plain = both_all (λ (e : ℕ × DatabaseEntry). IsTextCall e.1) h.calls k.calls h.plain k.plain;
-  legal = both_legal s h.calls k.calls h.legal (subst (λ (r : Rows). IsLegal r k.calls) (sym h.leads) k.legal);
-  leads = both_lead s h.calls k.calls ∙ (ap (λ (r : Rows). replay r k.calls) h.leads ∙ k.leads);
+  legal = both_legal s h.calls k.calls h.legal (subst (λ (r : Rows). IsLegalRows r k.calls) (sym h.leads) k.legal);
+  leads = both_lead s h.calls k.calls ∙ (ap (λ (r : Rows). rows_replay r k.calls) h.leads ∙ k.leads);
 }
 
 make_calls : (s : Rows) (p : List (List ℕ)) (o : Option OdbRefusal) → create_fault s p Dir ≡ o → IsPath p → LeadTextCalls s (after_make_by s p o)

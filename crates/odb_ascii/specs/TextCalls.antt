@@ -6,7 +6,7 @@ use Rattle.odb_tree.specs.declared.rows.NewKey.TheVariants.{Dir, Keys}
 use Rattle.odb_tree.specs.declared.entry.DatabaseEntry.{DatabaseEntry}
 use Rattle.odb_tree.specs.declared.entry.DatabaseEntry.TheVariants.{Create, Set, SetAll, Get, Find, ListDir, Delete, Resize, PathOf}
 use Rattle.odb_tree.specs.Rows.{Rows}
-use Rattle.odb_tree.specs.Histories.{IsLegal, replay}
+use Rattle.odb_tree.specs.Histories.{IsLegalRows, rows_replay}
 
 -- a call that makes a directory, or writes a key whole
 abbrev pub IsTextCall : DatabaseEntry → Type 0
@@ -26,5 +26,5 @@ pub record LeadTextCalls (s after : Rows) : Type 0 where
   pub calls : List (ℕ × DatabaseEntry)
   pub main : AllByRecursion (λ (e : ℕ × DatabaseEntry). e.0 ≡ main_caller) calls
   pub plain : AllByRecursion (λ (e : ℕ × DatabaseEntry). IsTextCall e.1) calls
-  pub legal : IsLegal s calls
-  pub leads : replay s calls ≡ after
+  pub legal : IsLegalRows s calls
+  pub leads : rows_replay s calls ≡ after

@@ -18,7 +18,7 @@ use Rattle.odb_tree.specs.declared.rows.NewKey.{NewKey}
 use Rattle.odb_tree.specs.declared.rows.NewKey.TheVariants.{Dir, Keys}
 use Rattle.odb_tree.specs.Rows.{Rows}
 use Rattle.odb_tree.specs.Calls.{Gives, GivesItem, create_reply, set_reply, get_reply, find_reply, list_reply, delete_reply, path_with, rows_after}
-use Rattle.odb_tree.specs.Histories.{IsLegal, IsLegalCall}
+use Rattle.odb_tree.specs.Histories.{IsLegalRows, IsLegalCall}
 use Rattle.odb_port.specs.DatabasePorts.{IsSettled, calls_by}
 use Rattle.odb_script.specs.declared.forms.Command.{Command}
 use Rattle.odb_script.specs.declared.forms.Command.TheVariants as command
@@ -40,18 +40,18 @@ item_given tid.Text given reply gives settled = given_is given reply gives settl
 item_given _ given reply gives settled = gives
 
 -- the same calls are legal
-legal_as : (s : Rows) (calls more : List DatabaseEntry) → calls ≡ more → IsLegal s (calls_by 0 calls) → IsLegal s (calls_by 0 more)
-legal_as s calls more is legal = subst (λ (es : List DatabaseEntry). IsLegal s (calls_by 0 es)) is legal
+legal_as : (s : Rows) (calls more : List DatabaseEntry) → calls ≡ more → IsLegalRows s (calls_by 0 calls) → IsLegalRows s (calls_by 0 more)
+legal_as s calls more is legal = subst (λ (es : List DatabaseEntry). IsLegalRows s (calls_by 0 es)) is legal
 
 -- Each command.
 
-create_answered : (s : Rows) (kind : NewKey) (p : List (List ℕ)) (calls : List DatabaseEntry) (reply : CommandReply) → IsLegal s (calls_by 0 calls) → CreatesKey kind p calls reply → IsAnswered (create_at s kind p) calls reply
+create_answered : (s : Rows) (kind : NewKey) (p : List (List ℕ)) (calls : List DatabaseEntry) (reply : CommandReply) → IsLegalRows s (calls_by 0 calls) → CreatesKey kind p calls reply → IsAnswered (create_at s kind p) calls reply
 create_answered s kind p calls reply legal does =
     let here = legal_as s calls (call.Create p kind does.0 ∷ []) does.1 legal in
     let same : does.0 ≡ create_reply s p kind = given_is does.0 (create_reply s p kind) here.0.reply does.2 in
     (does.1 ∙ ap (λ (got : Result ℕ OdbRefusal). call.Create p kind got ∷ []) same, does.3 ∙ ap done_or same)
 
-item_answered : (s : Rows) (p : List (List ℕ)) (index : ℕ) (item : Result Item CommandRefusal) (calls : List DatabaseEntry) (reply : CommandReply) → IsLegal s (calls_by 0 calls) → SetsItem p index item calls reply
+item_answered : (s : Rows) (p : List (List ℕ)) (index : ℕ) (item : Result Item CommandRefusal) (calls : List DatabaseEntry) (reply : CommandReply) → IsLegalRows s (calls_by 0 calls) → SetsItem p index item calls reply
     → IsAnswered (set_item s p index item) calls reply
 item_answered s p index (Err why) calls reply legal does = does
 item_answered s p index (Ok item) calls reply legal does =
@@ -59,12 +59,12 @@ item_answered s p index (Ok item) calls reply legal does =
     let same : does.0 ≡ set_reply s p index item = item_given (tid_of item) does.0 (set_reply s p index item) here.0.reply does.2 in
     (does.1 ∙ ap (λ (got : Result ℕ OdbRefusal). call.Set p index item got ∷ []) same, does.3 ∙ ap done_or same)
 
-set_in_answered : (s : Rows) (p : List (List ℕ)) (index : ℕ) (text : List ℕ) (got : Result HeldValue OdbRefusal) (calls : List DatabaseEntry) (reply : CommandReply) → IsLegal s (calls_by 0 calls) → SetsIn p index text got calls reply
+set_in_answered : (s : Rows) (p : List (List ℕ)) (index : ℕ) (text : List ℕ) (got : Result HeldValue OdbRefusal) (calls : List DatabaseEntry) (reply : CommandReply) → IsLegalRows s (calls_by 0 calls) → SetsIn p index text got calls reply
     → IsAnswered (set_in s p index text got) calls reply
 set_in_answered s p index text (Err why) calls reply legal does = does
 set_in_answered s p index text (Ok v) calls reply legal does = item_answered s p index (item_for v index text) calls reply legal does
 
-set_answered : (s : Rows) (index : ℕ) (text : List ℕ) (p : List (List ℕ)) (calls : List DatabaseEntry) (reply : CommandReply) → IsLegal s (calls_by 0 calls) → Sets index text p calls reply → IsAnswered (set_at s index text p) calls reply
+set_answered : (s : Rows) (index : ℕ) (text : List ℕ) (p : List (List ℕ)) (calls : List DatabaseEntry) (reply : CommandReply) → IsLegalRows s (calls_by 0 calls) → Sets index text p calls reply → IsAnswered (set_at s index text p) calls reply
 set_answered s index text p calls reply legal does =
     let here = legal_as s calls (call.Get p does.0 ∷ does.1) does.2 legal in
     let same : does.0 ≡ get_reply s p = given_is does.0 (get_reply s p) here.0.reply does.3 in
@@ -76,7 +76,7 @@ set_answered s index text p calls reply legal does =
       rest.1,
     )
 
-found_answered : (s : Rows) (v : HeldValue) (found : Result ℕ OdbRefusal) (calls : List DatabaseEntry) (reply : CommandReply) → IsLegal s (calls_by 0 calls) → NamesFound v found calls reply → IsAnswered (key_found s v found) calls reply
+found_answered : (s : Rows) (v : HeldValue) (found : Result ℕ OdbRefusal) (calls : List DatabaseEntry) (reply : CommandReply) → IsLegalRows s (calls_by 0 calls) → NamesFound v found calls reply → IsAnswered (key_found s v found) calls reply
 found_answered s v (Err why) calls reply legal does = does
 found_answered s v (Ok row) calls reply legal does =
     let here = legal_as s calls (call.PathOf row (Ok does.0) ∷ []) does.1 legal in
@@ -85,7 +85,7 @@ found_answered s v (Ok row) calls reply legal does =
       does.2 ∙ ap (λ (path : Option (List (List ℕ))). Key (unwrap_or path []) v) same,
     )
 
-shown_answered : (s : Rows) (p : List (List ℕ)) (index : Option ℕ) (v : HeldValue) (calls : List DatabaseEntry) (reply : CommandReply) → IsLegal s (calls_by 0 calls) → Shows p index v calls reply → IsAnswered (shown_value s p index v) calls reply
+shown_answered : (s : Rows) (p : List (List ℕ)) (index : Option ℕ) (v : HeldValue) (calls : List DatabaseEntry) (reply : CommandReply) → IsLegalRows s (calls_by 0 calls) → Shows p index v calls reply → IsAnswered (shown_value s p index v) calls reply
 shown_answered s p None v calls reply legal does =
     let here = legal_as s calls (call.Find p does.0 ∷ does.1) does.2 legal in
     let same : does.0 ≡ find_reply s p = here.0.reply in
@@ -98,12 +98,12 @@ shown_answered s p None v calls reply legal does =
     )
 shown_answered s p (Some index) v calls reply legal does = does
 
-get_in_answered : (s : Rows) (p : List (List ℕ)) (index : Option ℕ) (got : Result HeldValue OdbRefusal) (calls : List DatabaseEntry) (reply : CommandReply) → IsLegal s (calls_by 0 calls) → GetsIn p index got calls reply
+get_in_answered : (s : Rows) (p : List (List ℕ)) (index : Option ℕ) (got : Result HeldValue OdbRefusal) (calls : List DatabaseEntry) (reply : CommandReply) → IsLegalRows s (calls_by 0 calls) → GetsIn p index got calls reply
     → IsAnswered (get_in s p index got) calls reply
 get_in_answered s p index (Err why) calls reply legal does = does
 get_in_answered s p index (Ok v) calls reply legal does = shown_answered s p index v calls reply legal does
 
-get_answered : (s : Rows) (index : Option ℕ) (p : List (List ℕ)) (calls : List DatabaseEntry) (reply : CommandReply) → IsLegal s (calls_by 0 calls) → Gets index p calls reply → IsAnswered (get_at s index p) calls reply
+get_answered : (s : Rows) (index : Option ℕ) (p : List (List ℕ)) (calls : List DatabaseEntry) (reply : CommandReply) → IsLegalRows s (calls_by 0 calls) → Gets index p calls reply → IsAnswered (get_at s index p) calls reply
 get_answered s index p calls reply legal does =
     let here = legal_as s calls (call.Get p does.0 ∷ does.1) does.2 legal in
     let same : does.0 ≡ get_reply s p = given_is does.0 (get_reply s p) here.0.reply does.3 in
@@ -115,13 +115,13 @@ get_answered s index p calls reply legal does =
       rest.1,
     )
 
-list_answered : (s : Rows) (p : List (List ℕ)) (calls : List DatabaseEntry) (reply : CommandReply) → IsLegal s (calls_by 0 calls) → Lists p calls reply → IsAnswered (list_at s p) calls reply
+list_answered : (s : Rows) (p : List (List ℕ)) (calls : List DatabaseEntry) (reply : CommandReply) → IsLegalRows s (calls_by 0 calls) → Lists p calls reply → IsAnswered (list_at s p) calls reply
 list_answered s p calls reply legal does =
     let here = legal_as s calls (call.ListDir p does.0 ∷ []) does.1 legal in
     let same : does.0 ≡ list_reply s p = given_is does.0 (list_reply s p) here.0.reply does.2 in
     (does.1 ∙ ap (λ (got : Result (List Child) OdbRefusal). call.ListDir p got ∷ []) same, does.3 ∙ ap listed_or same)
 
-remove_answered : (s : Rows) (p : List (List ℕ)) (b : Bool) (calls : List DatabaseEntry) (reply : CommandReply) → IsLegal s (calls_by 0 calls) → RemovesIf b p calls reply
+remove_answered : (s : Rows) (p : List (List ℕ)) (b : Bool) (calls : List DatabaseEntry) (reply : CommandReply) → IsLegalRows s (calls_by 0 calls) → RemovesIf b p calls reply
     → IsAnswered (if b then refused Protected else removed s p) calls reply
 remove_answered s p true calls reply legal does = does
 remove_answered s p false calls reply legal does =
@@ -134,7 +134,7 @@ path_answered : (read : Result (List (List ℕ)) PathRefusal) (answer : List (Li
 path_answered (Err why) answer Then calls reply each does = does
 path_answered (Ok p) answer Then calls reply each does = each p does
 
-pub performs_answered : (s : Rows) (c : Command) (calls : List DatabaseEntry) (reply : CommandReply) → Performs c calls reply → IsLegal s (calls_by 0 calls) → IsAnswerOf (answer_of s c) calls reply
+pub performs_answered : (s : Rows) (c : Command) (calls : List DatabaseEntry) (reply : CommandReply) → Performs c calls reply → IsLegalRows s (calls_by 0 calls) → IsAnswerOf (answer_of s c) calls reply
 performs_answered s (command.Create type path len) calls reply does legal =
     path_answered (path_reply path) (create_at s (Keys type len)) (CreatesKey (Keys type len)) calls reply (λ p it. create_answered s (Keys type len) p calls reply legal it) does
 performs_answered s (command.CreateDir path) calls reply does legal = path_answered (path_reply path) (create_at s Dir) (CreatesKey Dir) calls reply (λ p it. create_answered s Dir p calls reply legal it) does
@@ -153,16 +153,16 @@ own_cons false e h is = rw is refl
 not_main : (caller : ℕ) → (caller == 0) ≡ false → caller ≢ 0
 not_main caller is same = let clash : true ≡ false = sym (eq-eqb caller 0 same) ∙ is in cc
 
-own_legal_by : (b : Bool) (s : Rows) (e : ℕ × DatabaseEntry) (own : List DatabaseEntry) → (e.0 == 0) ≡ b → IsLegalCall s e.0 e.1 → (e.0 ≢ 0 → rows_after s e.1 ≡ s) → IsLegal (rows_after s e.1) (calls_by 0 own)
-    → IsLegal s (calls_by 0 (if b then e.1 ∷ own else own))
+own_legal_by : (b : Bool) (s : Rows) (e : ℕ × DatabaseEntry) (own : List DatabaseEntry) → (e.0 == 0) ≡ b → IsLegalCall s e.0 e.1 → (e.0 ≢ 0 → rows_after s e.1 ≡ s) → IsLegalRows (rows_after s e.1) (calls_by 0 own)
+    → IsLegalRows s (calls_by 0 (if b then e.1 ∷ own else own))
 own_legal_by true s e own is here leaves rest = (record { may = λ shapes. refl; sound = here.sound; reply = here.reply }, rest)
-own_legal_by false s e own is here leaves rest = subst (λ (r : Rows). IsLegal r (calls_by 0 own)) (leaves (not_main e.0 is)) rest
+own_legal_by false s e own is here leaves rest = subst (λ (r : Rows). IsLegalRows r (calls_by 0 own)) (leaves (not_main e.0 is)) rest
 
-own_legal : (s : Rows) (h : List (ℕ × DatabaseEntry)) → IsLegal s h → OthersLeave s h → IsLegal s (calls_by 0 (entries_by 0 h))
+own_legal : (s : Rows) (h : List (ℕ × DatabaseEntry)) → IsLegalRows s h → OthersLeave s h → IsLegalRows s (calls_by 0 (entries_by 0 h))
 own_legal s [] legal leave = tt
 own_legal s (e ∷ h) legal leave =
-    subst (λ (es : List DatabaseEntry). IsLegal s (calls_by 0 es)) (sym (own_cons (e.0 == 0) e h refl))
+    subst (λ (es : List DatabaseEntry). IsLegalRows s (calls_by 0 es)) (sym (own_cons (e.0 == 0) e h refl))
     (own_legal_by (e.0 == 0) s e (entries_by 0 h) refl legal.0 leave.0 (own_legal (rows_after s e.1) h legal.1 leave.1))
 
-pub performs_among : (s : Rows) (h : List (ℕ × DatabaseEntry)) (c : Command) (reply : CommandReply) → Performs c (entries_by 0 h) reply → IsLegal s h → OthersLeave s h → IsAnswerOf (answer_of s c) (entries_by 0 h) reply
+pub performs_among : (s : Rows) (h : List (ℕ × DatabaseEntry)) (c : Command) (reply : CommandReply) → Performs c (entries_by 0 h) reply → IsLegalRows s h → OthersLeave s h → IsAnswerOf (answer_of s c) (entries_by 0 h) reply
 performs_among s h c reply does legal leave = performs_answered s c (entries_by 0 h) reply does (own_legal s h legal leave)

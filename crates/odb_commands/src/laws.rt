@@ -3,7 +3,7 @@ ghost use Rattle.odb_tree.specs.Rows.{Rows};
 ghost use Rattle.odb_script.specs.declared.forms.Command.{Command};
 ghost use Rattle.std.specs.Prelude.{◌≡◌, List, ℕ, true};
 ghost use Rattle.daq_types.specs.Callers.{entries_by, main_caller};
-ghost use Rattle.odb_tree.specs.Histories.{IsLegal};
+ghost use Rattle.odb_tree.specs.Histories.{IsLegalRows};
 ghost use Rattle.odb_port.specs.DatabasePorts.{calls_by};
 ghost use Rattle.odb_tree.specs.declared.entry.DatabaseEntry.{DatabaseEntry};
 ghost use Rattle.odb_commands.specs.declared.replies.CommandReply.{CommandReply};
@@ -31,7 +31,7 @@ pub fn calls_spare_runinfo()
 /// Where a command's calls are legal from some rows, they and its reply are those that these rows give.
 pub fn answers_are_legal()
     ensures { (s : Rows) (command : Command) (calls : List DatabaseEntry) (reply : CommandReply)
-        → Performs command calls reply → IsLegal s (calls_by main_caller calls)
+        → Performs command calls reply → IsLegalRows s (calls_by main_caller calls)
         → IsAnswerOf (answer_of s command) calls reply }
 {}
 
@@ -39,7 +39,7 @@ pub fn answers_are_legal()
 pub fn answers_among_others()
     ensures { (s : Rows) (history : List (ℕ × DatabaseEntry)) (command : Command)
         (reply : CommandReply) → Performs command (entries_by main_caller history) reply
-        → IsLegal s history → OthersLeave s history
+        → IsLegalRows s history → OthersLeave s history
         → IsAnswerOf (answer_of s command) (entries_by main_caller history) reply }
 {}
 

@@ -4,9 +4,9 @@ use Rattle.odb_tree.specs.declared.entry.DatabaseEntry.{DatabaseEntry}
 use Rattle.odb_tree.specs.declared.entry.DatabaseEntry.TheVariants.{Create, Set, SetAll, Get, ListDir, Resize, PathOf}
 use Rattle.odb_tree.specs.declared.refusals.OdbRefusal.TheVariants.{NoMemory as no_memory}
 use Rattle.odb_tree.specs.Rows.{Rows}
-use Rattle.odb_tree.specs.Calls.{IsReply, rows_after}
+use Rattle.odb_tree.specs.Calls.{IsRowsReply, rows_after}
 use Rattle.odb_tree.specs.Databases.{IsDatabase}
-use Rattle.odb_tree.specs.Histories.{IsLegal, replay}
+use Rattle.odb_tree.specs.Histories.{IsLegalRows, rows_replay}
 
 -- the rows at first, and the rows now; the calls since, each with the number of its caller; and room for so many calls
 -- more in the journal
@@ -19,13 +19,13 @@ pub record Noted : Type 0 where
 -- at first the rows were those of a database, and the history is legal and led to the rows now
 pub record IsNoted (n : Noted) : Type 0 where
   pub database : IsDatabase n.start
-  pub legal : IsLegal n.start n.history
-  pub replayed : n.rows ≡ replay n.start n.history
+  pub legal : IsLegalRows n.start n.history
+  pub replayed : n.rows ≡ rows_replay n.start n.history
 
 -- one call more, by this caller
 pub record Does (p q : Noted) (caller : ℕ) (entry : DatabaseEntry) : Type 0 where
   pub from : IsNoted p
-  pub reply : IsReply p.rows entry
+  pub reply : IsRowsReply p.rows entry
   pub rows : q.rows ≡ rows_after p.rows entry
   pub history : q.history ≡ p.history ++ (caller, entry) ∷ []
   pub start : q.start ≡ p.start

@@ -4,9 +4,9 @@ ghost use Rattle.daq_types.specs.declared.types.Tid.{Tid};
 ghost use Rattle.odb_value.specs.Items.{tid_of};
 ghost use Rattle.odb_tree.specs.declared.refusals.OdbRefusal.TheVariants.{NoMemory as no_memory};
 ghost use Rattle.odb_tree.specs.declared.entry.DatabaseEntry.TheVariants.{Create, Set, SetAll, Get, Find, ListDir, Delete, Resize, PathOf};
-ghost use Rattle.odb_tree.specs.Calls.{IsReply};
+ghost use Rattle.odb_tree.specs.Calls.{IsRowsReply};
 ghost use Rattle.odb_tree.specs.Databases.{IsDatabase};
-ghost use Rattle.odb_tree.specs.Histories.{IsLegal, replay};
+ghost use Rattle.odb_tree.specs.Histories.{IsLegalRows, rows_replay};
 ghost use Rattle.odb_journal.specs.Noted.{Does, KeepsCalls};
 
 use daq_types::{Caller, Journal, NoMemory};
@@ -54,10 +54,10 @@ fn get_twice<D: Database>(
     database: &D,
     path: &Path,
 ) -> Result<(Value, Value), OdbRefusal>
-    ensures value { IfOk result (λ values. IsReply (D.rows database.now)
+    ensures value { IfOk result (λ values. IsRowsReply (D.rows database.now)
         (Get path.now (Ok values.0))) }
     ensures same { IfOk result (λ values. values.1 ≡ values.0) }
-    ensures refused { IfErr result (λ refusal. IsReply (D.rows database.now)
+    ensures refused { IfErr result (λ refusal. IsRowsReply (D.rows database.now)
         (Get path.now (Err refusal))) }
 {
     let value = database.get(alloc, path)?;
@@ -71,10 +71,10 @@ fn list_twice<D: Database>(
     database: &D,
     path: &Path,
 ) -> Result<(Children, Children), OdbRefusal>
-    ensures children { IfOk result (λ lists. IsReply (D.rows database.now)
+    ensures children { IfOk result (λ lists. IsRowsReply (D.rows database.now)
         (ListDir path.now (Ok lists.0))) }
     ensures same { IfOk result (λ lists. lists.1 ≡ lists.0) }
-    ensures refused { IfErr result (λ refusal. IsReply (D.rows database.now)
+    ensures refused { IfErr result (λ refusal. IsRowsReply (D.rows database.now)
         (ListDir path.now (Err refusal))) }
 {
     let children = database.list(alloc, path)?;
@@ -101,7 +101,7 @@ fn path_twice<D: Database>(
     database: &D,
     row: u32,
 ) -> Result<(Option<Path>, Option<Path>), NoMemory>
-    ensures path { IfOk result (λ paths. IsReply (D.rows database.now) (PathOf row (Ok paths.0))) }
+    ensures path { IfOk result (λ paths. IsRowsReply (D.rows database.now) (PathOf row (Ok paths.0))) }
     ensures same { IfOk result (λ paths. paths.1 ≡ paths.0) }
 {
     let path = database.path_of(alloc, row)?;
@@ -137,7 +137,7 @@ impl<D: Database> LocalDatabase<D> {
 
     /// Does nothing. Its contract is what holds at any time: the calls noted so far are those of one database.
     pub fn tells_legal(&self)
-        ensures { IsLegal self.now.start self.now.history }
+        ensures { IsLegalRows self.now.start self.now.history }
     {
         // A look at a field tells the invariant.
         let _ = &self.entries;
@@ -148,8 +148,8 @@ impl<D: Database> LocalDatabase<D> {
         ensures rows { D.rows result.0 ≡ self.rows }
         ensures history { result.1 ≡ self.history }
         ensures database { IsDatabase self.start }
-        ensures legal { IsLegal self.start self.history }
-        ensures replayed { self.rows ≡ replay self.start self.history }
+        ensures legal { IsLegalRows self.start self.history }
+        ensures replayed { self.rows ≡ rows_replay self.start self.history }
     {
         let LocalDatabase {
             start,

@@ -6,7 +6,7 @@ use Rattle.daq_types.specs.declared.memory.NoMemory.{NoMemory}
 use Rattle.odb_tree.specs.declared.notes.Watch.{Watch as a_watch}
 use Rattle.odb_tree.specs.declared.entry.DatabaseEntry.{DatabaseEntry}
 use Rattle.odb_tree.specs.Rows.{Rows}
-use Rattle.odb_tree.specs.Calls.{IsReply, rows_after}
+use Rattle.odb_tree.specs.Calls.{IsRowsReply, rows_after}
 use Rattle.odb_tree.specs.Noting.{Change, Watched, changes_of, all_noted, watched_call}
 use Rattle.odb_tree.proofs.Noted.{none_noted}
 use Rattle.odb_ascii.specs.declared.acts.LoadRefusal.{LoadRefusal}
@@ -36,12 +36,12 @@ pub opens_unwatched : (s : Watched) (rows : Rows) → s.rows ≡ rows → s.slot
 opens_unwatched s rows same none = same_watched s (unwatched rows) same none
 
 -- a call that may write
-pub call_step : (before after : Watched) (entry : DatabaseEntry) → IsReply before.rows entry → after.rows ≡ rows_after before.rows entry
+pub call_step : (before after : Watched) (entry : DatabaseEntry) → IsRowsReply before.rows entry → after.rows ≡ rows_after before.rows entry
     → after.slots ≡ all_noted (changes_of before.rows entry) before.slots → StepsWatched before (Call entry) after
 call_step before after entry reply rows notes = (reply, same_watched after (watched_call before entry) rows notes)
 
 -- a look-up
-pub look_step : (before : Watched) (entry : DatabaseEntry) → IsReply before.rows entry → rows_after before.rows entry ≡ before.rows → changes_of before.rows entry ≡ []
+pub look_step : (before : Watched) (entry : DatabaseEntry) → IsRowsReply before.rows entry → rows_after before.rows entry ≡ before.rows → changes_of before.rows entry ≡ []
     → StepsWatched before (Call entry) before
 look_step before entry reply rows none = (
   reply,
@@ -50,7 +50,7 @@ look_step before entry reply rows none = (
 )
 
 -- a removal from the state that was held
-pub removal_step : (before held after : Watched) (entry : DatabaseEntry) → held ≡ before → IsReply held.rows entry → after.rows ≡ rows_after held.rows entry → after.slots ≡ held.slots
+pub removal_step : (before held after : Watched) (entry : DatabaseEntry) → held ≡ before → IsRowsReply held.rows entry → after.rows ≡ rows_after held.rows entry → after.slots ≡ held.slots
     → changes_of held.rows entry ≡ [] → StepsWatched before (Call entry) after
 removal_step before held after entry same reply rows slots none =
     subst (λ (s : Watched). StepsWatched s (Call entry) after) same

@@ -5,7 +5,7 @@ use Rattle.std.proofs.lemmas.List.{append-nil, map-append}
 use Rattle.daq_types.specs.Callers.{main_caller}
 use Rattle.odb_tree.specs.declared.entry.DatabaseEntry.{DatabaseEntry}
 use Rattle.odb_tree.specs.Rows.{Rows}
-use Rattle.odb_tree.specs.Histories.{IsLegal}
+use Rattle.odb_tree.specs.Histories.{IsLegalRows}
 use Rattle.odb_tree.specs.Noting.{Watched, watched_call}
 use Rattle.odb_watch.specs.declared.entry.WatchEntry.{WatchEntry}
 use Rattle.odb_watch.specs.declared.entry.WatchEntry.TheVariants.{Call}
@@ -14,7 +14,7 @@ use Rattle.odb_journal.specs.Noted.{Noted, Does}
 use Rattle.odb_port.specs.DatabasePorts.{CalledDatabase, DatabaseIdentity, AddsCall, as_watched, called_by, local_access}
 
 -- a legal history of calls on the rows is one of a watched database
-legal_watched : (s : Watched) (history : List (ℕ × DatabaseEntry)) → IsLegal s.rows history → IsLegalDatabase s (as_watched history)
+legal_watched : (s : Watched) (history : List (ℕ × DatabaseEntry)) → IsLegalRows s.rows history → IsLegalDatabase s (as_watched history)
 legal_watched s [] legal = (s, refl)
 legal_watched s (e ∷ history) legal =
     let next : Watched = watched_call s e.1 in
@@ -25,7 +25,7 @@ legal_watched s (e ∷ history) legal =
 abbrev alone : Rows → DatabaseIdentity
 alone rows = record { opened = unwatched rows; ports = 1; numbers = [] }
 
-adds_own : (caller : ℕ) (p q : Noted) (entry : DatabaseEntry) → Does p q caller entry → IsLegal q.start q.history → AddsCall (local_access (called_by caller p)) (local_access (called_by caller q)) entry
+adds_own : (caller : ℕ) (p q : Noted) (entry : DatabaseEntry) → Does p q caller entry → IsLegalRows q.start q.history → AddsCall (local_access (called_by caller p)) (local_access (called_by caller q)) entry
 adds_own caller p q entry did legal = record {
   same = record { database = ap alone did.start; caller = refl; undisturbed = refl };
   between = [];
@@ -39,12 +39,12 @@ adds_own caller p q entry did legal = record {
 }
 
 -- the same of a database that is seen as this one
-pub calls_port : (d : CalledDatabase) (caller : ℕ) (p q : Noted) (entry : DatabaseEntry) → called_by caller p ≡ d → Does p q caller entry → IsLegal q.start q.history
+pub calls_port : (d : CalledDatabase) (caller : ℕ) (p q : Noted) (entry : DatabaseEntry) → called_by caller p ≡ d → Does p q caller entry → IsLegalRows q.start q.history
     → AddsCall (local_access d) (local_access (called_by caller q)) entry
 calls_port d caller p q entry view did legal = subst (λ (x : CalledDatabase). AddsCall (local_access x) (local_access (called_by caller q)) entry) view (adds_own caller p q entry did legal)
 
 -- by the main thread
-pub calls_main : (d : CalledDatabase) (caller : ℕ) (p q : Noted) (entry : DatabaseEntry) → called_by caller p ≡ d → d.caller ≡ main_caller → Does p q main_caller entry → IsLegal q.start q.history
+pub calls_main : (d : CalledDatabase) (caller : ℕ) (p q : Noted) (entry : DatabaseEntry) → called_by caller p ≡ d → d.caller ≡ main_caller → Does p q main_caller entry → IsLegalRows q.start q.history
     → AddsCall (local_access d) (local_access (called_by caller q)) entry
 calls_main d caller p q entry view main did legal =
     let is : caller ≡ main_caller = ap (λ (x : CalledDatabase). x.caller) view ∙ main in

@@ -1,5 +1,5 @@
 ghost use Rattle.std.specs.Prelude.{◌≡◌, ◌≤◌, OnOk};
-ghost use Rattle.odb_tree.specs.Histories.{IsLegal};
+ghost use Rattle.odb_tree.specs.Histories.{IsLegalRows};
 ghost use Rattle.odb_port.specs.DatabasePorts.{KeepsDatabase, called_by};
 
 use crate::port::DatabasePort;
@@ -53,7 +53,7 @@ impl<D: Database> LocalAccess<D> {
 
     /// Does nothing. Its contract is what holds at any time: the calls noted so far are those of one database.
     pub fn tells_legal(&self)
-        ensures { IsLegal self.now.start self.now.history }
+        ensures { IsLegalRows self.now.start self.now.history }
     {
         self.database.tells_legal();
     }

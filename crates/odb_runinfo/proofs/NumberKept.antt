@@ -23,9 +23,9 @@ use Rattle.odb_tree.specs.declared.entry.DatabaseEntry.TheVariants.{Create, Set,
 use Rattle.odb_tree.specs.Rows.{Rows, row_at, change_row, change_at, rows_outside}
 use Rattle.odb_tree.specs.Lookups.{obstacle_to_new, seek_key}
 use Rattle.odb_tree.specs.Limits.{len_fault, limit_fault}
-use Rattle.odb_tree.specs.Calls.{IsReply, after_resize, after_set_all_at, get_reply, number_at, replace_fault, resize_reply_to, rows_after, set_all_fault, set_all_reply, set_fault, set_reply, set_reply_to, there_fault, tid_fault, value_fault}
+use Rattle.odb_tree.specs.Calls.{IsRowsReply, after_resize, after_set_all_at, get_reply, number_at, replace_fault, resize_reply_to, rows_after, set_all_fault, set_all_reply, set_fault, set_reply, set_reply_to, there_fault, tid_fault, value_fault}
 use Rattle.odb_tree.specs.Changes.{IsKeyAt}
-use Rattle.odb_tree.specs.Histories.{IsLegal, replay}
+use Rattle.odb_tree.specs.Histories.{IsLegalRows, rows_replay}
 use Rattle.odb_tree.specs.Databases.{IsSoundCall}
 use Rattle.odb_tree.proofs.Limited.{or_none_left, or_none_right, own_none}
 use Rattle.odb_tree.proofs.CallLemmas.{can_put, sought_key, types_agree}
@@ -236,7 +236,7 @@ replaced s q v n (Some r) e reply value has = changed s.rows q (λ _. v) (λ w a
 
 -- The calls.
 
-number_kept : (s : Rows) (e : DatabaseEntry) → IsSoundCall e → IsReply s e → SparesRuninfo e → HasRunNumber s.rows → HasRunNumber (rows_after s e).rows
+number_kept : (s : Rows) (e : DatabaseEntry) → IsSoundCall e → IsRowsReply s e → SparesRuninfo e → HasRunNumber s.rows → HasRunNumber (rows_after s e).rows
 number_kept s (Create p kind (Ok n)) sound reply spares has = appended s.rows _ has
 number_kept s (Create p kind (Err why)) sound reply spares has = has
 number_kept s (Set p index item (Ok n)) sound reply spares has =
@@ -255,7 +255,7 @@ number_kept s (Resize p len (Ok n)) sound reply spares has =
 number_kept s (Resize p len (Err why)) sound reply spares has = has
 number_kept s (PathOf row answer) sound reply spares has = has
 
-pub number_stays : (s : Rows) (h : List (ℕ × DatabaseEntry)) → IsLegal s h → AllSpareRuninfo h → HasRunNumber s.rows → HasRunNumber (replay s h).rows
+pub number_stays : (s : Rows) (h : List (ℕ × DatabaseEntry)) → IsLegalRows s h → AllSpareRuninfo h → HasRunNumber s.rows → HasRunNumber (rows_replay s h).rows
 number_stays s [] legal spares has = has
 number_stays s (e ∷ es) legal spares has = number_stays (rows_after s e.1) es legal.1 spares.1 (number_kept s e.1 legal.0.sound legal.0.reply spares.0 has)
 

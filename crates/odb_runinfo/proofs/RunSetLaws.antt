@@ -9,8 +9,8 @@ use Rattle.odb_tree.specs.declared.entry.DatabaseEntry.{DatabaseEntry}
 use Rattle.odb_tree.specs.declared.entry.DatabaseEntry.TheVariants.{Set}
 use Rattle.odb_tree.specs.declared.refusals.OdbRefusal.{OdbRefusal}
 use Rattle.odb_tree.specs.Rows.{Rows}
-use Rattle.odb_tree.specs.Calls.{IsReply, rows_after, set_reply}
-use Rattle.odb_tree.specs.Histories.{IsLegal}
+use Rattle.odb_tree.specs.Calls.{IsRowsReply, rows_after, set_reply}
+use Rattle.odb_tree.specs.Histories.{IsLegalRows}
 use Rattle.odb_port.specs.DatabasePorts.{calls_by}
 use Rattle.odb_runinfo.specs.RunNumberKept.{AllSpareRuninfo, SparesRuninfo}
 use Rattle.odb_runinfo.specs.RunSets.{Assignment, AreNumbers, AreSets, IsSet, assigned, assignments, is_number, next_run, number_asked, sent_key_made}
@@ -33,15 +33,15 @@ pub number_spares : (got : Result HeldValue OdbRefusal) → SparesRuninfo (numbe
 number_spares got = tt
 
 -- the reply to a set of a number is that of the rows
-number_set : (s : Rows) (path : List (List ℕ)) (item : Item) (reply : Result ℕ OdbRefusal) → is_number item ≡ true → IsReply s (Set path 0 item reply) → reply ≡ set_reply s path 0 item
+number_set : (s : Rows) (path : List (List ℕ)) (item : Item) (reply : Result ℕ OdbRefusal) → is_number item ≡ true → IsRowsReply s (Set path 0 item reply) → reply ≡ set_reply s path 0 item
 number_set s path (Text bytes) reply number is = absurd (false≢true number)
 number_set s path _ reply number is = is
 
-one_assigned : (s : Rows) (a : Assignment) (entry : DatabaseEntry) → IsSet a entry → is_number a.item ≡ true → IsReply s entry → entry ≡ assigned s a
+one_assigned : (s : Rows) (a : Assignment) (entry : DatabaseEntry) → IsSet a entry → is_number a.item ≡ true → IsRowsReply s entry → entry ≡ assigned s a
 one_assigned s a entry set number is =
-    set.is ∙ ap (λ (r : Result ℕ OdbRefusal). Set a.path 0 a.item r) (number_set s a.path a.item set.reply number (subst (λ (e : DatabaseEntry). IsReply s e) set.is is))
+    set.is ∙ ap (λ (r : Result ℕ OdbRefusal). Set a.path 0 a.item r) (number_set s a.path a.item set.reply number (subst (λ (e : DatabaseEntry). IsRowsReply s e) set.is is))
 
-pub sets_assigned : (s : Rows) (caller : ℕ) (sets : List Assignment) (calls : List DatabaseEntry) → AreSets sets calls → AreNumbers sets → IsLegal s (calls_by caller calls) → calls ≡ assignments s sets
+pub sets_assigned : (s : Rows) (caller : ℕ) (sets : List Assignment) (calls : List DatabaseEntry) → AreSets sets calls → AreNumbers sets → IsLegalRows s (calls_by caller calls) → calls ≡ assignments s sets
 sets_assigned s caller [] [] are numbers legal = refl
 sets_assigned s caller [] (entry ∷ calls) are numbers legal = absurd are
 sets_assigned s caller (a ∷ sets) [] are numbers legal = absurd are

@@ -6,7 +6,7 @@ ghost use Rattle.odb_tree.specs.declared.refusals.OdbRefusal.{OdbRefusal};
 ghost use Rattle.odb_value.specs.Values.{HeldValue};
 ghost use Rattle.odb_port.specs.DatabasePorts.{calls_by};
 ghost use Rattle.odb_tree.specs.Rows.{Rows};
-ghost use Rattle.odb_tree.specs.Histories.{IsLegal, replay};
+ghost use Rattle.odb_tree.specs.Histories.{IsLegalRows, rows_replay};
 ghost use Rattle.odb_tree.specs.Calls.{get_reply};
 ghost use Rattle.odb_runinfo.specs.declared.keys.RunKey.TheVariants.{RunNumber};
 ghost use Rattle.odb_runinfo.specs.RunKeys.{key_path, session_rows};
@@ -15,8 +15,8 @@ ghost use Rattle.odb_runinfo.specs.RunSets.{AreNumbers, AreSets, Assignment, ass
 
 /// After any legal calls that remove nothing below `/Runinfo`, the run number is there, an INT32 with an item 0.
 pub fn run_number_stays()
-    ensures { (s : Rows) (h : List (ℕ × DatabaseEntry)) → IsLegal s h → AllSpareRuninfo h
-        → HasRunNumber s.rows → HasRunNumber (replay s h).rows }
+    ensures { (s : Rows) (h : List (ℕ × DatabaseEntry)) → IsLegalRows s h → AllSpareRuninfo h
+        → HasRunNumber s.rows → HasRunNumber (rows_replay s h).rows }
 {}
 
 /// A session opens with the run number.
@@ -35,8 +35,8 @@ pub fn run_number_given()
 /// The rows with which a session opens are those of a database, and so are they after each legal history of calls.
 pub fn database_opens()
     ensures opens { IsDatabase session_rows }
-    ensures stays { (history : List (ℕ × DatabaseEntry)) → IsLegal session_rows history
-        → IsDatabase (replay session_rows history) }
+    ensures stays { (history : List (ℕ × DatabaseEntry)) → IsLegalRows session_rows history
+        → IsDatabase (rows_replay session_rows history) }
 {}
 
 /// The session's own calls remove nothing below `/Runinfo`, whatever they are answered.
@@ -51,6 +51,6 @@ pub fn own_calls_spare()
 /// Where the calls that set numbers are legal from some rows, each has the reply that these rows give at its point.
 pub fn sets_are_legal()
     ensures { (s : Rows) (caller : ℕ) (sets : List Assignment) (calls : List DatabaseEntry)
-        → AreSets sets calls → AreNumbers sets → IsLegal s (calls_by caller calls)
+        → AreSets sets calls → AreNumbers sets → IsLegalRows s (calls_by caller calls)
         → calls ≡ assignments s sets }
 {}

@@ -14,8 +14,8 @@ use Rattle.odb_tree.specs.Rows.{Rows, no_rows, is_key, row_at}
 use Rattle.odb_tree.specs.Lookups.{parent_of, obstacle_at, obstacle_from, obstacle_to_new}
 use Rattle.odb_tree.specs.Making.{Way, last_of, further, go_on, no_way, way_to, new_number, new_row, created}
 use Rattle.odb_tree.specs.Limits.{limit_fault}
-use Rattle.odb_tree.specs.Calls.{IsReply, rows_after, reply_or, exists_fault, kept_fault, items_fault, create_fault, create_reply, after_create, value_fault, set_all_fault, set_all_reply, after_set_all, after_set_all_at, number_at, new_value}
-use Rattle.odb_tree.specs.Histories.{IsLegal, replay}
+use Rattle.odb_tree.specs.Calls.{IsRowsReply, rows_after, reply_or, exists_fault, kept_fault, items_fault, create_fault, create_reply, after_create, value_fault, set_all_fault, set_all_reply, after_set_all, after_set_all_at, number_at, new_value}
+use Rattle.odb_tree.specs.Histories.{IsLegalRows, rows_replay}
 use Rattle.odb_tree.proofs.WalkLaws.{not_true}
 use Rattle.odb_tree.specs.WalkLaws.{NoneAt}
 use Rattle.odb_tree.specs.Trees.{HasDir, IsDir, IsTree, with_rows, IsNewRow, AreNew, AreShort}
@@ -211,7 +211,7 @@ tree_set_all s p v n None e h k = tree_created s p (Some v) h (set_all_makes s p
 tree_set_all s p v n (Some r) e h k = tree_changed s p (λ _. v) h
 
 -- each call keeps a tree
-pub tree_after : (s : Rows) (entry : DatabaseEntry) → IsTree s → IsReply s entry → IsTree (rows_after s entry)
+pub tree_after : (s : Rows) (entry : DatabaseEntry) → IsTree s → IsRowsReply s entry → IsTree (rows_after s entry)
 tree_after s (Create p kind (Ok n)) h k = tree_created s p (new_value kind) h (create_makes s p kind n k).0
 tree_after s (Create p kind (Err refusal)) h k = h
 tree_after s (Set p index item (Ok n)) h k = tree_changed s p (λ v. put_in v index item) h
@@ -228,7 +228,7 @@ tree_after s (Resize p len (Err refusal)) h k = h
 tree_after s (PathOf row reply) h k = h
 
 -- a legal history keeps a tree
-pub tree_replayed : (s : Rows) (history : List (ℕ × DatabaseEntry)) → IsTree s → IsLegal s history → IsTree (replay s history)
+pub tree_replayed : (s : Rows) (history : List (ℕ × DatabaseEntry)) → IsTree s → IsLegalRows s history → IsTree (rows_replay s history)
 tree_replayed s [] h k = h
 tree_replayed s (e ∷ es) h k = tree_replayed (rows_after s e.1) es (tree_after s e.1 h k.0.reply) k.1
 

@@ -10,7 +10,7 @@ use Rattle.odb_tree.specs.declared.rows.Row.{Row}
 use Rattle.odb_tree.specs.declared.entry.DatabaseEntry.{DatabaseEntry}
 use Rattle.odb_tree.specs.declared.entry.DatabaseEntry.TheVariants.{Create, Set, SetAll, Get, Find, ListDir, Delete, Resize, PathOf}
 use Rattle.odb_tree.specs.Rows.{Rows, row_at, change_row, change_at}
-use Rattle.odb_tree.specs.Calls.{IsReply, rows_after, set_all_reply, after_set_all_at}
+use Rattle.odb_tree.specs.Calls.{IsRowsReply, rows_after, set_all_reply, after_set_all_at}
 use Rattle.odb_tree.specs.Walks.{walk}
 use Rattle.odb_tree.specs.WalkLaws.{NoneAt, OneAt}
 use Rattle.odb_tree.specs.Trees.{IsTree, AreShort}
@@ -44,7 +44,7 @@ short_set_all : (s : Rows) (p : List (List ℕ)) (v : HeldValue) (number : ℕ) 
 short_set_all s p v number None e h deep k = short_append depth_limit s.rows _ h (short_more (length p) depth_limit _ deep (set_all_makes s p v number k e).1)
 short_set_all s p v number (Some r) e h deep k = short_changed depth_limit s.rows p (λ _. v) h
 
-pub short_after : (s : Rows) (entry : DatabaseEntry) → AreShort depth_limit s.rows → IsSoundCall entry → IsReply s entry → AreShort depth_limit (rows_after s entry).rows
+pub short_after : (s : Rows) (entry : DatabaseEntry) → AreShort depth_limit s.rows → IsSoundCall entry → IsRowsReply s entry → AreShort depth_limit (rows_after s entry).rows
 short_after s (Create p kind (Ok n)) h deep k = short_append depth_limit s.rows _ h (short_more (length p) depth_limit _ deep.short (create_makes s p kind n k).1)
 short_after s (Create p kind (Err refusal)) h deep k = h
 short_after s (Set p index item (Ok n)) h deep k = short_changed depth_limit s.rows p (λ v. put_in v index item) h

@@ -22,9 +22,9 @@ use Rattle.odb_tree.specs.Lookups.{obstacle_to_new, seek_key, absent_fault}
 use Rattle.odb_tree.specs.Limits.{IsWithin, len_fault, limit_fault}
 use Rattle.odb_tree.specs.Changes.{CanPut, IsKeyAt}
 use Rattle.odb_tree.specs.Places.{made_for}
-use Rattle.odb_tree.specs.Calls.{GivesItem, IsReply, rows_after, reply_or, create_fault, create_reply, exists_fault, kept_fault, items_fault, tid_fault, new_value, after_create, set_fault, set_reply, set_reply_to, after_set, set_all_fault, set_all_reply, after_set_all, after_set_all_at, number_at, after_resize, resize_reply_to, count_gone}
+use Rattle.odb_tree.specs.Calls.{GivesItem, IsRowsReply, rows_after, reply_or, create_fault, create_reply, exists_fault, kept_fault, items_fault, tid_fault, new_value, after_create, set_fault, set_reply, set_reply_to, after_set, set_all_fault, set_all_reply, after_set_all, after_set_all_at, number_at, after_resize, resize_reply_to, count_gone}
 use Rattle.odb_tree.specs.Making.{new_number, created}
-use Rattle.odb_tree.specs.Histories.{IsLegal, replay}
+use Rattle.odb_tree.specs.Histories.{IsLegalRows, rows_replay}
 use Rattle.odb_tree.specs.Trees.{AreShort}
 use Rattle.odb_tree.specs.Databases.{IsRow, IsDatabase, IsSoundCall}
 use Rattle.odb_tree.proofs.Limited.{or_none_left, or_none_right, own_none, within}
@@ -94,7 +94,7 @@ rows_set s p index item h sound set =
     (λ v is w. value_put v index item w
     (can_put_there s.rows p index item item set.value set.at (can_put s p index item set.value (set_fault s p index item set.value) refl set.fits) refl x at v is) sound))
 
-each_row : (s : Rows) (entry : DatabaseEntry) → IsDatabase s → IsSoundCall entry → IsReply s entry → All IsRow (rows_after s entry).rows
+each_row : (s : Rows) (entry : DatabaseEntry) → IsDatabase s → IsSoundCall entry → IsRowsReply s entry → All IsRow (rows_after s entry).rows
 each_row s (Create p kind (Ok n)) h path reply =
     All-append IsRow s.rows (made_for s p (new_value kind)) h.rows
     (made_rows s p (new_value kind) h.rows path (create_value s p kind (ok_none (create_fault s p kind) (new_number s p) n reply))
@@ -118,7 +118,7 @@ each_row s (PathOf row reply) h call is = h.rows
 
 -- limits
 
-within_after : (s : Rows) (entry : DatabaseEntry) → IsWithin s → IsReply s entry → IsWithin (rows_after s entry)
+within_after : (s : Rows) (entry : DatabaseEntry) → IsWithin s → IsRowsReply s entry → IsWithin (rows_after s entry)
 within_after s (Create p kind (Ok n)) h reply = create_within s p kind (create_fault s p kind) refl (ok_none (create_fault s p kind) (new_number s p) n reply)
 within_after s (Create p kind (Err why)) h reply = h
 within_after s (Set p index item (Ok n)) h reply =
@@ -137,12 +137,12 @@ within_after s (Resize p len (Err why)) h reply = h
 within_after s (PathOf row reply) h is = h
 
 -- each call keeps a database
-pub database_after : (s : Rows) (entry : DatabaseEntry) → IsDatabase s → IsSoundCall entry → IsReply s entry → IsDatabase (rows_after s entry)
+pub database_after : (s : Rows) (entry : DatabaseEntry) → IsDatabase s → IsSoundCall entry → IsRowsReply s entry → IsDatabase (rows_after s entry)
 database_after s entry h call reply =
     record { tree = tree_after s entry h.tree reply; rows = each_row s entry h call reply; within = within_after s entry h.within reply }
 
 -- and so does a legal history
-pub database_replayed : (s : Rows) (history : List (ℕ × DatabaseEntry)) → IsDatabase s → IsLegal s history → IsDatabase (replay s history)
+pub database_replayed : (s : Rows) (history : List (ℕ × DatabaseEntry)) → IsDatabase s → IsLegalRows s history → IsDatabase (rows_replay s history)
 database_replayed s [] h legal = h
 database_replayed s (e ∷ es) h legal = database_replayed (rows_after s e.1) es (database_after s e.1 h legal.0.sound legal.0.reply) legal.1
 

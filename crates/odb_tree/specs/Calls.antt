@@ -221,16 +221,16 @@ GivesItem tid.Text given reply = Gives given reply
 GivesItem type given reply = given ≡ reply
 
 -- the entry's reply is the one that the database gives, or memory was wanting; `find` and `delete` take none
-abbrev pub IsReply : Rows → DatabaseEntry → Type 0
-IsReply s (Create p kind reply) = Gives reply (create_reply s p kind)
-IsReply s (Set p index item reply) = GivesItem (tid_of item) reply (set_reply s p index item)
-IsReply s (SetAll p v reply) = Gives reply (set_all_reply s p v)
-IsReply s (Get p reply) = Gives reply (get_reply s p)
-IsReply s (Find p reply) = reply ≡ find_reply s p
-IsReply s (ListDir p reply) = Gives reply (list_reply s p)
-IsReply s (Delete p reply) = reply ≡ delete_reply s p
-IsReply s (Resize p len reply) = Gives reply (resize_reply s p len)
-IsReply s (PathOf row reply) = GivesPath reply (path_with s.rows row)
+abbrev pub IsRowsReply : Rows → DatabaseEntry → Type 0
+IsRowsReply s (Create p kind reply) = Gives reply (create_reply s p kind)
+IsRowsReply s (Set p index item reply) = GivesItem (tid_of item) reply (set_reply s p index item)
+IsRowsReply s (SetAll p v reply) = Gives reply (set_all_reply s p v)
+IsRowsReply s (Get p reply) = Gives reply (get_reply s p)
+IsRowsReply s (Find p reply) = reply ≡ find_reply s p
+IsRowsReply s (ListDir p reply) = Gives reply (list_reply s p)
+IsRowsReply s (Delete p reply) = reply ≡ delete_reply s p
+IsRowsReply s (Resize p len reply) = Gives reply (resize_reply s p len)
+IsRowsReply s (PathOf row reply) = GivesPath reply (path_with s.rows row)
 
 -- the rows after a call with this reply: a refusal, want of memory too, leaves them as they were
 abbrev pub rows_after : Rows → DatabaseEntry → Rows

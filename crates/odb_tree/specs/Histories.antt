@@ -3,16 +3,13 @@ use Rattle.std.specs.Prelude.{◌≡◌, ℕ, Bool, true, false, List, [], ◌�
 use Rattle.odb_tree.specs.declared.entry.DatabaseEntry.{DatabaseEntry}
 use Rattle.odb_tree.specs.declared.entry.DatabaseEntry.TheVariants.{Create, SetAll, Delete, Resize}
 use Rattle.odb_tree.specs.Rows.{Rows}
-use Rattle.odb_tree.specs.Calls.{IsReply, rows_after}
+use Rattle.odb_tree.specs.Calls.{IsRowsReply, rows_after}
 use Rattle.odb_tree.specs.Databases.{IsSoundCall}
 
-abbrev pub History : Type 0
-History = List (ℕ × DatabaseEntry)
-
 -- the rows after all these calls
-abbrev pub replay : Rows → List (ℕ × DatabaseEntry) → Rows
-replay s [] = s
-replay s (e ∷ es) = replay (rows_after s e.1) es
+abbrev pub rows_replay : Rows → List (ℕ × DatabaseEntry) → Rows
+rows_replay s [] = s
+rows_replay s (e ∷ es) = rows_replay (rows_after s e.1) es
 
 -- the calls that may make, remove or resize a row
 abbrev pub shapes_rows : DatabaseEntry → Bool
@@ -30,9 +27,9 @@ IsCaller caller entry = shapes_rows entry ≡ true → caller ≡ 0
 pub record IsLegalCall (s : Rows) (caller : ℕ) (entry : DatabaseEntry) : Type 0 where
   pub may : IsCaller caller entry
   pub sound : IsSoundCall entry
-  pub reply : IsReply s entry
+  pub reply : IsRowsReply s entry
 
 -- each call is legal at its point
-abbrev pub IsLegal : Rows → List (ℕ × DatabaseEntry) → Type 0
-IsLegal s [] = ⊤
-IsLegal s (e ∷ es) = IsLegalCall s e.0 e.1 × IsLegal (rows_after s e.1) es
+abbrev pub IsLegalRows : Rows → List (ℕ × DatabaseEntry) → Type 0
+IsLegalRows s [] = ⊤
+IsLegalRows s (e ∷ es) = IsLegalCall s e.0 e.1 × IsLegalRows (rows_after s e.1) es

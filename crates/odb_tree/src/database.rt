@@ -4,7 +4,7 @@ ghost use Rattle.odb_value.specs.Items.{tid_of};
 ghost use Rattle.odb_tree.specs.declared.refusals.OdbRefusal.TheVariants.{NoMemory as no_memory};
 ghost use Rattle.odb_tree.specs.Databases.{IsDatabase};
 ghost use Rattle.odb_tree.specs.declared.entry.DatabaseEntry.TheVariants.{Create, Set, SetAll, Get, Find, ListDir, Delete, Resize, PathOf};
-ghost use Rattle.odb_tree.specs.Calls.{IsReply, rows_after, is_row_below};
+ghost use Rattle.odb_tree.specs.Calls.{IsRowsReply, rows_after, is_row_below};
 ghost use Rattle.odb_tree.specs.Noting.{changes_of, all_noted};
 
 use crate::children::Children;
@@ -15,7 +15,7 @@ use odb_path::Path;
 use odb_value::{Item, Value};
 use std::alloc::Global;
 
-/// An online database, seen as a list of rows. Each call replies what `IsReply` says of the rows before it, and leaves
+/// An online database, seen as a list of rows. Each call replies what `IsRowsReply` says of the rows before it, and leaves
 /// `rows_after` of them. Want of memory is the one answer that no clause ties to the rows; it leaves them as they were.
 /// The rows are always those of a database, which `find` and `list` tell.
 ///
@@ -32,7 +32,7 @@ pub trait Database: Drop {
 
     /// Makes a key or a directory, and the missing directories of its path, and answers the number of its row.
     fn create(&mut self, alloc: Global, path: &Path, kind: NewKey) -> Result<u32, OdbRefusal>
-        ensures reply { IsReply (rows self.old) (Create path.now kind result) }
+        ensures reply { IsRowsReply (rows self.old) (Create path.now kind result) }
         ensures after { rows self.new ≡ rows_after (rows self.old) (Create path.now kind result) }
         ensures notes { watches self.new ≡ all_noted (changes_of (rows self.old)
             (Create path.now kind result)) (watches self.old) };
@@ -46,7 +46,7 @@ pub trait Database: Drop {
         index: u32,
         item: &Item,
     ) -> Result<u32, OdbRefusal>
-        ensures reply { IsReply (rows self.old) (Set path.now index item.now result) }
+        ensures reply { IsRowsReply (rows self.old) (Set path.now index item.now result) }
         ensures memory { result ≡ Err no_memory → tid_of item.now ≡ Tid.Text }
         ensures after { rows self.new ≡ rows_after (rows self.old)
             (Set path.now index item.now result) }
@@ -55,7 +55,7 @@ pub trait Database: Drop {
 
     /// Replaces the value of a key by one of the same type, or makes the key with it, and answers the number of its row.
     fn set_all(&mut self, alloc: Global, path: &Path, value: &Value) -> Result<u32, OdbRefusal>
-        ensures reply { IsReply (rows self.old) (SetAll path.now value.now result) }
+        ensures reply { IsRowsReply (rows self.old) (SetAll path.now value.now result) }
         ensures after { rows self.new ≡ rows_after (rows self.old)
             (SetAll path.now value.now result) }
         ensures notes { watches self.new ≡ all_noted (changes_of (rows self.old)
@@ -63,36 +63,36 @@ pub trait Database: Drop {
 
     /// The value of a key.
     fn get(&self, alloc: Global, path: &Path) -> Result<Value, OdbRefusal>
-        ensures { IsReply (rows self.now) (Get path.now result) };
+        ensures { IsRowsReply (rows self.now) (Get path.now result) };
 
     /// The number of the row of a key or a directory; 0 for the root. Takes no memory.
     fn find(&self, path: &Path) -> Result<u32, OdbRefusal>
-        ensures reply { IsReply (rows self.now) (Find path.now result) }
+        ensures reply { IsRowsReply (rows self.now) (Find path.now result) }
         ensures memory { result ≢ Err no_memory }
         ensures database { IsDatabase (rows self.now) };
 
     /// What stands in a directory: its keys, and then its directories, each in order of making.
     fn list(&self, alloc: Global, path: &Path) -> Result<Children, OdbRefusal>
-        ensures reply { IsReply (rows self.now) (ListDir path.now result) }
+        ensures reply { IsRowsReply (rows self.now) (ListDir path.now result) }
         ensures database { IsDatabase (rows self.now) };
 
     /// Removes a row and all below it, and answers how many rows went. For the root all rows go. Takes no memory.
     fn delete(&mut self, path: &Path) -> Result<u32, OdbRefusal>
-        ensures reply { IsReply (rows self.old) (Delete path.now result) }
+        ensures reply { IsRowsReply (rows self.old) (Delete path.now result) }
         ensures memory { result ≢ Err no_memory }
         ensures after { rows self.new ≡ rows_after (rows self.old) (Delete path.now result) }
         ensures notes { watches self.new ≡ watches self.old };
 
     /// Gives a key so many items: cuts at the end, or adds items of a new key. Answers the number of its row.
     fn resize(&mut self, alloc: Global, path: &Path, len: u32) -> Result<u32, OdbRefusal>
-        ensures reply { IsReply (rows self.old) (Resize path.now len result) }
+        ensures reply { IsRowsReply (rows self.old) (Resize path.now len result) }
         ensures after { rows self.new ≡ rows_after (rows self.old) (Resize path.now len result) }
         ensures notes { watches self.new ≡ all_noted (changes_of (rows self.old)
             (Resize path.now len result)) (watches self.old) };
 
     /// The path of the row with this number, and of the root for 0; None exactly where there is none.
     fn path_of(&self, alloc: Global, row: u32) -> Result<Option<Path>, NoMemory>
-        ensures { IsReply (rows self.now) (PathOf row result) };
+        ensures { IsRowsReply (rows self.now) (PathOf row result) };
 
     /// Whether both numbers are those of rows that are there, or 0 for the root, and the first is the second or lies
     /// below it. Takes no memory.

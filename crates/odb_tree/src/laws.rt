@@ -8,9 +8,9 @@ ghost use Rattle.odb_tree.specs.declared.entry.DatabaseEntry.{DatabaseEntry};
 ghost use Rattle.odb_tree.specs.declared.entry.DatabaseEntry.TheVariants.{Create, SetAll, ListDir};
 ghost use Rattle.odb_tree.specs.declared.rows.NewKey.{NewKey};
 ghost use Rattle.odb_tree.specs.Places.{AreInserted, made_for};
-ghost use Rattle.odb_tree.specs.Calls.{IsReply, child_of, rows_after, after_delete, after_set, after_set_all, after_resize, after_create, new_value};
+ghost use Rattle.odb_tree.specs.Calls.{IsRowsReply, child_of, rows_after, after_delete, after_set, after_set_all, after_resize, after_create, new_value};
 ghost use Rattle.odb_tree.specs.Databases.{IsDatabase, IsSoundCall};
-ghost use Rattle.odb_tree.specs.Histories.{IsLegal, replay};
+ghost use Rattle.odb_tree.specs.Histories.{IsLegalRows, rows_replay};
 ghost use Rattle.odb_tree.specs.Rows.{Rows, no_rows, is_listed, keys_in, dirs_in, rows_outside, change_at, row_at};
 ghost use Rattle.odb_value.specs.declared.items.Item.{Item};
 ghost use Rattle.odb_value.specs.Values.{HeldValue};
@@ -55,10 +55,10 @@ pub fn change_keeps_places()
 /// The new database is a tree, and each legal history keeps a tree.
 pub fn trees_stay()
     ensures begins { IsTree no_rows }
-    ensures after { (s : Rows) (entry : DatabaseEntry) → IsTree s → IsReply s entry
+    ensures after { (s : Rows) (entry : DatabaseEntry) → IsTree s → IsRowsReply s entry
         → IsTree (rows_after s entry) }
-    ensures stays { (s : Rows) (history : List (ℕ × DatabaseEntry)) → IsTree s → IsLegal s history
-        → IsTree (replay s history) }
+    ensures stays { (s : Rows) (history : List (ℕ × DatabaseEntry)) → IsTree s → IsLegalRows s history
+        → IsTree (rows_replay s history) }
 {}
 
 /// After `delete` the walk is as it was, but without the row and what is below it.
@@ -82,7 +82,7 @@ pub fn walk_after_change()
 /// parent. All other rows keep their places. A path has at most 32 names.
 pub fn walk_after_create()
     ensures inserted { (s : Rows) (p : List (List ℕ)) (kind : NewKey) (number : ℕ) → IsTree s
-        → length p ≤ depth_limit → IsReply s (Create p kind (Ok number))
+        → length p ≤ depth_limit → IsRowsReply s (Create p kind (Ok number))
         → AreInserted s (made_for s p (new_value kind)) }
     ensures rows { (s : Rows) (p : List (List ℕ)) (kind : NewKey) → after_create s p kind
         ≡ with_rows s (made_for s p (new_value kind)) }
@@ -91,7 +91,7 @@ pub fn walk_after_create()
 /// In a tree the rows that `set_all` makes where there is no row come into the walk just like those of `create`.
 pub fn walk_after_set_all()
     ensures inserted { (s : Rows) (p : List (List ℕ)) (v : HeldValue) (number : ℕ) → IsTree s
-        → length p ≤ depth_limit → IsReply s (SetAll p v (Ok number)) → row_at s.rows p ≡ None
+        → length p ≤ depth_limit → IsRowsReply s (SetAll p v (Ok number)) → row_at s.rows p ≡ None
         → AreInserted s (made_for s p (Some v)) }
     ensures rows { (s : Rows) (p : List (List ℕ)) (v : HeldValue) → row_at s.rows p ≡ None
         → after_set_all s p v ≡ with_rows s (made_for s p (Some v)) }
@@ -101,9 +101,9 @@ pub fn walk_after_set_all()
 pub fn databases_stay()
     ensures begins { IsDatabase no_rows }
     ensures after { (s : Rows) (entry : DatabaseEntry) → IsDatabase s → IsSoundCall entry
-        → IsReply s entry → IsDatabase (rows_after s entry) }
+        → IsRowsReply s entry → IsDatabase (rows_after s entry) }
     ensures stays { (s : Rows) (history : List (ℕ × DatabaseEntry)) → IsDatabase s
-        → IsLegal s history → IsDatabase (replay s history) }
+        → IsLegalRows s history → IsDatabase (rows_replay s history) }
 {}
 
 /// The walk through a database has its rows, each once, and so at most one row at a path.
@@ -115,7 +115,7 @@ pub fn walk_has_all_rows()
 /// What `list` answers are the rows that the walk meets directly below the directory, in order.
 pub fn list_follows_walk()
     ensures { (s : Rows) (p : List (List ℕ)) (children : List Child) → IsDatabase s
-        → IsReply s (ListDir p (Ok children)) → children
+        → IsRowsReply s (ListDir p (Ok children)) → children
         ≡ map child_of (directly_below p (walk s)) }
 {}
 

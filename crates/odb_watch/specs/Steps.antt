@@ -6,7 +6,7 @@ use Rattle.daq_types.specs.Callers.{main_caller}
 use Rattle.odb_tree.specs.declared.notes.Note.{Note}
 use Rattle.odb_tree.specs.declared.notes.Watch.{Watch as a_watch}
 use Rattle.odb_tree.specs.Rows.{Rows}
-use Rattle.odb_tree.specs.Calls.{IsReply}
+use Rattle.odb_tree.specs.Calls.{IsRowsReply}
 use Rattle.odb_tree.specs.Noting.{Watched, watched_call}
 use Rattle.odb_tree.specs.Databases.{IsSoundCall}
 use Rattle.odb_tree.specs.Histories.{shapes_rows}
@@ -52,7 +52,7 @@ LoadsText before text (Err why) after = IsTextFault before.rows (lines text) why
 
 -- A call: the reply is one that the rows and the watches before give, and those after it are what the call leaves.
 abbrev pub StepsWatched : (before : Watched) → WatchEntry → (after : Watched) → Type 0
-StepsWatched before (Call entry) after = IsReply before.rows entry × (after ≡ watched_call before entry)
+StepsWatched before (Call entry) after = IsRowsReply before.rows entry × (after ≡ watched_call before entry)
 StepsWatched before (Watch row reply) after = GivesWatch before.slots reply × (after ≡ with_watches before (after_watch before.slots row reply))
 StepsWatched before (Notes w reply) after = GivesKept (slot before.slots w) reply × (after ≡ with_watches before (emptied_at before.slots w reply))
 StepsWatched before (Unwatch w reply) after = GivesUnwatch before.slots w reply × (after ≡ with_watches before (after_unwatch before.slots w reply))

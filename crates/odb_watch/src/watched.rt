@@ -4,7 +4,7 @@ ghost use Rattle.odb_value.specs.Items.{tid_of};
 ghost use Rattle.odb_tree.specs.declared.refusals.OdbRefusal.TheVariants.{NoMemory as no_memory};
 ghost use Rattle.odb_tree.specs.declared.entry.DatabaseEntry.TheVariants.{Create, Set, SetAll, Get, Find, ListDir, Delete, Resize, PathOf};
 ghost use Rattle.odb_tree.specs.Databases.{IsDatabase};
-ghost use Rattle.odb_tree.specs.Calls.{IsReply, rows_after, is_row_below};
+ghost use Rattle.odb_tree.specs.Calls.{IsRowsReply, rows_after, is_row_below};
 ghost use Rattle.odb_tree.specs.Noting.{changes_of, all_noted, notes_limit};
 ghost use Rattle.odb_watch.specs.declared.entry.WatchEntry.TheVariants.{Watch as begin_of, Notes as notes_of, Unwatch as end_of};
 ghost use Rattle.odb_watch.specs.Steps.{StepsWatched, moved_out};
@@ -93,7 +93,7 @@ impl<D: Database> Database for Watches<D> {
     ghost watches = { λ w. w.slots };
 
     fn create(&mut self, alloc: Global, path: &Path, kind: NewKey) -> Result<u32, OdbRefusal>
-        ensures reply { IsReply self.old.rows (Create path.now kind result) }
+        ensures reply { IsRowsReply self.old.rows (Create path.now kind result) }
         ensures after { self.new.rows ≡ rows_after self.old.rows (Create path.now kind result) }
         ensures notes { self.new.slots ≡ all_noted (changes_of self.old.rows
             (Create path.now kind result)) self.old.slots }
@@ -115,7 +115,7 @@ impl<D: Database> Database for Watches<D> {
         index: u32,
         item: &Item,
     ) -> Result<u32, OdbRefusal>
-        ensures reply { IsReply self.old.rows (Set path.now index item.now result) }
+        ensures reply { IsRowsReply self.old.rows (Set path.now index item.now result) }
         ensures memory { result ≡ Err no_memory → tid_of item.now ≡ Tid.Text }
         ensures after { self.new.rows ≡ rows_after self.old.rows
             (Set path.now index item.now result) }
@@ -128,7 +128,7 @@ impl<D: Database> Database for Watches<D> {
     }
 
     fn set_all(&mut self, alloc: Global, path: &Path, value: &Value) -> Result<u32, OdbRefusal>
-        ensures reply { IsReply self.old.rows (SetAll path.now value.now result) }
+        ensures reply { IsRowsReply self.old.rows (SetAll path.now value.now result) }
         ensures after { self.new.rows ≡ rows_after self.old.rows
             (SetAll path.now value.now result) }
         ensures notes { self.new.slots ≡ all_noted (changes_of self.old.rows
@@ -158,7 +158,7 @@ impl<D: Database> Database for Watches<D> {
     }
 
     fn delete(&mut self, path: &Path) -> Result<u32, OdbRefusal>
-        ensures reply { IsReply self.old.rows (Delete path.now result) }
+        ensures reply { IsRowsReply self.old.rows (Delete path.now result) }
         ensures memory { result ≢ Err no_memory }
         ensures after { self.new.rows ≡ rows_after self.old.rows (Delete path.now result) }
         ensures notes { self.new.slots ≡ self.old.slots }
@@ -167,7 +167,7 @@ impl<D: Database> Database for Watches<D> {
     }
 
     fn resize(&mut self, alloc: Global, path: &Path, len: u32) -> Result<u32, OdbRefusal>
-        ensures reply { IsReply self.old.rows (Resize path.now len result) }
+        ensures reply { IsRowsReply self.old.rows (Resize path.now len result) }
         ensures after { self.new.rows ≡ rows_after self.old.rows (Resize path.now len result) }
         ensures notes { self.new.slots ≡ all_noted (changes_of self.old.rows
             (Resize path.now len result)) self.old.slots }

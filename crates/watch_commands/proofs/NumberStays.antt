@@ -7,7 +7,7 @@ use Rattle.odb_tree.specs.declared.entry.DatabaseEntry.{DatabaseEntry}
 use Rattle.odb_tree.specs.declared.entry.DatabaseEntry.TheVariants.{Create, Set, SetAll, Get, Find, ListDir, Delete, Resize, PathOf}
 use Rattle.odb_tree.specs.Rows.{Rows}
 use Rattle.odb_tree.specs.Noting.{Watched}
-use Rattle.odb_tree.specs.Histories.{IsLegal, replay}
+use Rattle.odb_tree.specs.Histories.{IsLegalRows, rows_replay}
 use Rattle.odb_ascii.specs.TextSteps.{TextStep, run_steps}
 use Rattle.odb_ascii.specs.Grammar.{SpellsSteps}
 use Rattle.odb_ascii.specs.TextCalls.{IsTextCall, LeadTextCalls}
@@ -19,7 +19,7 @@ use Rattle.watch_commands.specs.WatchSpares.{SparesWatched, AllSpareWatched}
 
 -- what holds of calls on the rows alone, and of texts
 abbrev Number_stays : Type 0
-Number_stays = (s : Rows) (h : List (ℕ × DatabaseEntry)) → IsLegal s h → AllSpareRuninfo h → HasRunNumber s.rows → HasRunNumber (replay s h).rows
+Number_stays = (s : Rows) (h : List (ℕ × DatabaseEntry)) → IsLegalRows s h → AllSpareRuninfo h → HasRunNumber s.rows → HasRunNumber (rows_replay s h).rows
 
 abbrev Texts_are_calls : Type 0
 Texts_are_calls = (s after : Rows) (text : List (List ℕ)) (steps : List TextStep) → SpellsSteps 1 [] text steps → run_steps steps s ≡ Ok after → LeadTextCalls s after
