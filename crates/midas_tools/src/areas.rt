@@ -4,7 +4,7 @@ ghost use Rattle.event_header.specs.Headers.{event_of};
 ghost use Rattle.midas_tools.specs.Areas.{AreEventLines, PassesLines, bank_lines};
 ghost use Rattle.midas_tools.specs.Printing.{PassesText};
 
-use crate::lines::{bank_line, event_line, no_banks_line};
+use crate::lines::{no_banks_line, print_bank_line, print_event_line};
 use crate::page::Page;
 use bank_format::Banks;
 use daq_io::{Failed, Sink};
@@ -17,7 +17,7 @@ fn print_banks<K: Sink>(page: &mut Page, banks: &mut Banks, out: &mut K) -> Resu
     ensures faults { CountsFault (K.faults out.old) (K.faults out.new) result }
 {
     while let Some(bank) = banks.next() {
-        page.print(&bank_line(&bank), out)?;
+        print_bank_line(page, &bank, out)?;
     }
     Ok(())
 }
@@ -34,7 +34,7 @@ pub fn print_event<K: Sink>(
     ensures faults { CountsFault (K.faults out.old) (K.faults out.new) result }
 {
     let area = Banks::read(body);
-    page.print(&event_line(header, body), out)?;
+    print_event_line(page, header, body, out)?;
     match area {
         Ok(mut banks) => print_banks(page, &mut banks, out),
         Err(fault) => page.print(&no_banks_line(fault), out),

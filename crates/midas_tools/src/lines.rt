@@ -1,11 +1,15 @@
 ghost use Rattle.std.specs.Prelude.{◌≡◌, ◌≤◌, ◌+◌, ◌++◌, length, OnOk, map};
 ghost use Rattle.bank_format.specs.BankAreas.{bank_value};
+ghost use Rattle.daq_io.specs.Counts.{CountsFault};
 ghost use Rattle.event_header.specs.Headers.{event_of};
+ghost use Rattle.midas_tools.specs.Printing.{PassesText};
 ghost use Rattle.midas_tools.specs.Texts.{area_fault_text, bad_line, bank_line, event_line, fault_text, no_banks_line, number_text, ok_line, record_line, run_number_line, shown};
 
 use crate::ends::InputFault;
 use crate::line::Line;
+use crate::page::Page;
 use bank_format::{Bank, BankFault};
+use daq_io::{Failed, Sink};
 use daq_text::TextBuffer;
 use daq_types::NoMemory;
 use event_header::Header;
@@ -81,9 +85,16 @@ pub fn record_line(word: &[u8], header: &Header) -> Line
     line
 }
 
-/// The line of the event with this header and these data.
-pub fn event_line(header: &Header, body: &[u8]) -> Line
-    ensures { result ≡ event_line (event_of header.now body.now) }
+/// Prints the line of the event with this header and these data.
+pub fn print_event_line<K: Sink>(
+    page: &mut Page,
+    header: &Header,
+    body: &[u8],
+    out: &mut K,
+) -> Result<(), Failed>
+    ensures passes { PassesText (K.written out.old) (K.written out.new) page.old page.new
+        (event_line (event_of header.now body.now)) result }
+    ensures faults { CountsFault (K.faults out.old) (K.faults out.new) result }
 {
     let mut line = Line::new();
     line.blank_number(body.len() as u64);
@@ -92,7 +103,7 @@ pub fn event_line(header: &Header, body: &[u8]) -> Line
     line.blank_number(header.trigger_mask as u64);
     line.blank_number(header.event_id as u64);
     line.put(b"event");
-    line
+    page.print(&line, out)
 }
 
 /// A byte of a bank's name as it is printed.
@@ -115,16 +126,18 @@ fn shown_name(name: [u8; 4]) -> [u8; 4]
     [shown(a), shown(b), shown(c), shown(d)]
 }
 
-/// The line of a bank.
-pub fn bank_line(bank: &Bank) -> Line
-    ensures { result ≡ bank_line (bank_value bank.now.name bank.now.tid bank.now.body.now) }
+/// Prints the line of a bank.
+pub fn print_bank_line<K: Sink>(page: &mut Page, bank: &Bank, out: &mut K) -> Result<(), Failed>
+    ensures passes { PassesText (K.written out.old) (K.written out.new) page.old page.new
+        (bank_line (bank_value bank.now.name bank.now.tid bank.now.body.now)) result }
+    ensures faults { CountsFault (K.faults out.old) (K.faults out.new) result }
 {
     let mut line = Line::new();
     line.blank_number(bank.body.len() as u64);
     line.blank_type(bank.tid);
     line.put(&shown_name(bank.name));
     line.put(b"  bank ");
-    line
+    page.print(&line, out)
 }
 
 /// Puts in front why the data of an event are no bank area.

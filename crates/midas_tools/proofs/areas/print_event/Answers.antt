@@ -1,4 +1,4 @@
-use Rattle.std.proofs.Common.{ℕ, List, Err, Ok, ap, inl, inr, refl, subst}
+use Rattle.std.proofs.Common.{ℕ, List, ap, inl, inr, refl, subst}
 use Rattle.std.proofs.lemmas.Result.{err_from_is_err_and}
 use Rattle.event_header.specs.Headers.{event_of}
 use Rattle.midas_tools.specs.Areas.{bank_lines}
@@ -7,25 +7,24 @@ use Rattle.midas_tools.specs.Texts.{no_banks_line}
 use Rattle.midas_tools.proofs.AreasLaws.{event_cut, event_passes}
 use Rattle.midas_tools.proofs.areas.print_event.Goals as goal
 
-pub returns-in_err-print-clause-passes : goal.returns-in_err-print-clause-passes
-returns-in_err-print-clause-passes g c =
+pub returns-in_err-print_event_line-clause-passes : goal.returns-in_err-print_event_line-clause-passes
+returns-in_err-print_event_line-clause-passes g c =
     let p = err_from_is_err_and c.from_residual.result c.from_residual.ensures.1 in
-    rw p.1 (event_cut (event_of c.args.header.now c.args.body.now) (g.K.Sink.written c.args.out.now) (g.K.Sink.written c.args.out.now) (g.K.Sink.written c.print.new.out) c.args.page.now c.print.new.self c.print.new.self
-    c.read-area.result c.in_err-print.field-0.0 c.read-area.ensures.found c.read-area.ensures.fault
-    (subst (λ (l : List ℕ). PassesText (g.K.Sink.written c.args.out.now) (g.K.Sink.written c.print.new.out) c.args.page.now c.print.new.self l (Err c.in_err-print.field-0.0)) c.event_line.ensures c.in_err-print.ensures.passes))
+    rw p.1 (event_cut (event_of c.args.header.now c.args.body.now) (g.K.Sink.written c.args.out.now) (g.K.Sink.written c.args.out.now) (g.K.Sink.written c.print_event_line.new.out) c.args.page.now c.print_event_line.new.page c.print_event_line.new.page
+    c.read-area.result c.in_err-print_event_line.field-0.0 c.read-area.ensures.found c.read-area.ensures.fault c.in_err-print_event_line.ensures.passes)
 
 pub returns-in-Ok-clause-passes : goal.returns-in-Ok-clause-passes
 returns-in-Ok-clause-passes g c =
-    event_passes (event_of c.args.header.now c.args.body.now) (g.K.Sink.written c.args.out.now) (g.K.Sink.written c.print.new.out) (g.K.Sink.written c.print_banks.new.out) c.args.page.now c.print.new.self c.print_banks.new.page
-    (bank_lines c.in-Ok.banks.left) c.in_ok-print.field-0 c.print_banks.result
+    event_passes (event_of c.args.header.now c.args.body.now) (g.K.Sink.written c.args.out.now) (g.K.Sink.written c.print_event_line.new.out) (g.K.Sink.written c.print_banks.new.out) c.args.page.now c.print_event_line.new.page c.print_banks.new.page
+    (bank_lines c.in-Ok.banks.left) c.in_ok-print_event_line.field-0 c.print_banks.result
     (inl (record { banks = c.in-Ok.banks.all; held = c.in-Ok.ensures.found; text_is = ap (λ b. bank_lines b.left) c.in-Ok.ensures.unread }))
-    (subst (λ (l : List ℕ). PassesText (g.K.Sink.written c.args.out.now) (g.K.Sink.written c.print.new.out) c.args.page.now c.print.new.self l (Ok c.in_ok-print.field-0)) c.event_line.ensures c.in_ok-print.ensures.passes)
+    c.in_ok-print_event_line.ensures.passes
     c.print_banks.ensures.passes
 
 pub returns-in-Err-clause-passes : goal.returns-in-Err-clause-passes
 returns-in-Err-clause-passes g c =
-    event_passes (event_of c.args.header.now c.args.body.now) (g.K.Sink.written c.args.out.now) (g.K.Sink.written c.print.new.out) (g.K.Sink.written c.print-in-Err.new.out) c.args.page.now c.print.new.self c.print-in-Err.new.self
-    (no_banks_line c.in-Err.fault) c.in_ok-print.field-0 c.print-in-Err.result
+    event_passes (event_of c.args.header.now c.args.body.now) (g.K.Sink.written c.args.out.now) (g.K.Sink.written c.print_event_line.new.out) (g.K.Sink.written c.print.new.out) c.args.page.now c.print_event_line.new.page c.print.new.self
+    (no_banks_line c.in-Err.fault) c.in_ok-print_event_line.field-0 c.print.result
     (inr (record { fault = c.in-Err.fault; first = c.in-Err.ensures.fault; text_is = refl }))
-    (subst (λ (l : List ℕ). PassesText (g.K.Sink.written c.args.out.now) (g.K.Sink.written c.print.new.out) c.args.page.now c.print.new.self l (Ok c.in_ok-print.field-0)) c.event_line.ensures c.in_ok-print.ensures.passes)
-    (subst (λ (l : List ℕ). PassesText (g.K.Sink.written c.print.new.out) (g.K.Sink.written c.print-in-Err.new.out) c.print.new.self c.print-in-Err.new.self l c.print-in-Err.result) c.no_banks_line.ensures c.print-in-Err.ensures.passes)
+    c.in_ok-print_event_line.ensures.passes
+    (subst (λ (l : List ℕ). PassesText (g.K.Sink.written c.print_event_line.new.out) (g.K.Sink.written c.print.new.out) c.print_event_line.new.page c.print.new.self l c.print.result) c.no_banks_line.ensures c.print.ensures.passes)
