@@ -70,13 +70,14 @@ GivesBody old new file (whole_body text) = ReadsWholeText old new file text
 GivesBody old new file long_body = (text : List ℕ) × ReadsTooLong old new file text
 GivesBody old new file no_body = SomeRead old new file
 
--- what was read, if the file was closed behind it
+-- what was read, if the file was closed behind it; a close that failed comes before want of memory
 abbrev pub closed_body : Body → Result (Unit {0}) Failed → Result FileRead NoMemory
 closed_body (whole_body text) (Ok done) = Ok (Whole text)
 closed_body (whole_body text) (Err e) = Ok read_fault
 closed_body long_body (Ok done) = Ok read_too_long
 closed_body long_body (Err e) = Ok read_fault
-closed_body no_body closed = Err (record {})
+closed_body no_body (Ok done) = Err (record {})
+closed_body no_body (Err e) = Ok read_fault
 
 -- what was left under the number, and was read
 abbrev pub GivesRead : Seen → (file : ℕ) → FileRead → Type 0

@@ -1,4 +1,4 @@
-ghost use Rattle.std.specs.Prelude.{◌≡◌, ◌≤◌, ◌<◌, ◌++◌, [], IsTrue, IfOk, OnOk, OnErr, length};
+ghost use Rattle.std.specs.Prelude.{◌≡◌, ◌≤◌, ◌<◌, ◌++◌, [], IsTrue, IsSome, IfOk, OnOk, OnErr, length};
 ghost use Rattle.daq_io.specs.Counts.{CountsFault, NamesFirst};
 ghost use Rattle.daq_io.specs.Seen.{Ends, Same};
 ghost use Rattle.database_files.specs.FileReplies.{reply_of, FaultsOf, ClashesOf, NamesFault};
@@ -112,24 +112,26 @@ fn closed_behind(body: Body, closed: Result<(), Failed>) -> Result<FileRead, NoM
     ensures { result ≡ closed_body body closed }
 {
     match (body, closed) {
-        (Body::NoMemory, _) => Err(NoMemory),
         (Body::Whole { text }, Ok(())) => Ok(FileRead::Whole { text }),
         (Body::TooLong, Ok(())) => Ok(FileRead::TooLong),
+        (Body::NoMemory, Ok(())) => Err(NoMemory),
         (_, Err(_)) => Ok(FileRead::Fault),
     }
 }
 
-/// Reads what is left of the file of this number, and closes it.
+/// Reads what is left of the file of this number, and closes it. A close that fails is told before want of memory.
 fn read_and_close<E: Files>(alloc: Global, files: &mut E, file: u32) -> Result<FileRead, NoMemory>
     requires { IsTrue ((E.seen files.old).reads file) }
     ensures read { IfOk result (GivesRead (E.seen files.old) file) }
     ensures ended { Ends (E.seen files.old) (E.seen files.new) file }
     ensures faults { IfOk result (λ read. FaultsOf (reply_of read) (E.faults files.old)
         (E.faults files.new)) }
+    ensures faultless { OnErr result (E.faults files.new ≡ E.faults files.old) }
     ensures later { E.faults files.old ≤ E.faults files.new }
     ensures clashes { E.clashes files.new ≡ E.clashes files.old }
     ensures first { IfOk result (λ read. NamesFault (reply_of read)
         ((E.seen files.old).name_of file) (E.first files.old) (E.first files.new)) }
+    ensures nameless { OnErr result (E.first files.new ≡ E.first files.old) }
 {
     let body = read_body(alloc, files, file);
     let closed = files.close(file);
@@ -139,7 +141,8 @@ fn read_and_close<E: Files>(alloc: Global, files: &mut E, file: u32) -> Result<F
     }
 }
 
-/// Reads the file of this name to its end and closes it. Changes no name and no byte, whatever comes of it.
+/// Reads the file of this name to its end and closes it. Changes no name and no byte, whatever comes of it. Memory is wanting
+/// only for a file that is there, and only where no call failed.
 pub fn read_file<E: Files>(
     alloc: Global,
     files: &mut E,
@@ -154,7 +157,11 @@ pub fn read_file<E: Files>(
     ensures first { IfOk result (λ read. NamesFault (reply_of read) name.now (E.first files.old)
         (E.first files.new)) }
     ensures later { E.faults files.old ≤ E.faults files.new }
+    ensures faultless { OnErr result (E.faults files.new ≡ E.faults files.old) }
+    ensures nameless { OnErr result (E.first files.new ≡ E.first files.old) }
     ensures unclashed { OnErr result (E.clashes files.new ≡ E.clashes files.old) }
+    ensures there { OnErr result (IsTrue (E.seen files.old).tells
+        → IsSome ((E.seen files.old).at name.now)) }
 {
     match files.open_read(name) {
         Ok(file) => read_and_close(alloc, files, file),
