@@ -1,13 +1,15 @@
 -- Calls that a command made, and where memory cut them short.
-use Rattle.std.proofs.Common.{◌≡◌, ◌≢◌, ℕ, Bool, true, false, List, [], ◌∷◌, Option, Some, None, Result, Ok, Err, refl, ap, sym, subst, ◌∙◌, inl, inr}
-use Rattle.std.specs.Prelude.{IfOk, OnErr, length, slice_get}
-use Rattle.std.proofs.lemmas.Bool.{false≢true}
+use Rattle.std.proofs.Common.{◌≡◌, ◌≢◌, ℕ, ◌<◌, Bool, true, false, List, [], ◌∷◌, Option, Some, None, Result, Ok, Err, refl, ap, sym, subst, ◌∙◌, inl, inr}
+use Rattle.std.specs.Prelude.{IfOk, IsSome, IsTrue, OnErr, length, slice_get}
+use Rattle.std.proofs.lemmas.Bool.{false≢true, lt-ltb}
 use Rattle.std.proofs.lemmas.Result.{IfOk-weaker, on_err_weaker}
 use Rattle.std.specs.Option.{unwrap_or}
 use Rattle.daq_types.specs.declared.memory.NoMemory.{NoMemory}
 use Rattle.odb_path.specs.declared.refusals.PathRefusal.{PathRefusal}
 use Rattle.odb_path.specs.PathText.{path_reply}
 use Rattle.odb_value.specs.declared.items.Item.{Item}
+use Rattle.odb_value.specs.declared.refusals.ItemRefusal.{ItemRefusal}
+use Rattle.odb_value.specs.ItemTexts.{item_read}
 use Rattle.odb_value.specs.Values.{HeldValue}
 use Rattle.odb_tree.specs.declared.children.Child.{Child}
 use Rattle.odb_tree.specs.declared.entry.DatabaseEntry.{DatabaseEntry}
@@ -16,16 +18,15 @@ use Rattle.odb_tree.specs.declared.refusals.OdbRefusal.{OdbRefusal}
 use Rattle.odb_tree.specs.declared.refusals.OdbRefusal.TheVariants.{NoKey, NoMemory as no_memory}
 use Rattle.odb_tree.specs.declared.rows.NewKey.{NewKey}
 use Rattle.odb_tree.specs.declared.rows.NewKey.TheVariants.{Dir, Keys}
-use Rattle.odb_journal.specs.Noted.{unanswered}
-use Rattle.odb_port.specs.DatabasePorts.{DatabaseAccess, AddsCall, AddsCalls, CutsCalls, IsSettled}
+use Rattle.odb_port.specs.DatabasePorts.{DatabaseAccess, AddsCall, IsSettled}
 use Rattle.odb_script.specs.declared.forms.Command.{Command}
 use Rattle.odb_script.specs.declared.forms.Command.TheVariants as command
 use Rattle.odb_commands.specs.declared.replies.CommandRefusal.{CommandRefusal}
-use Rattle.odb_commands.specs.declared.replies.CommandRefusal.TheVariants.{Path, Protected, Database}
+use Rattle.odb_commands.specs.declared.replies.CommandRefusal.TheVariants.{Path, Protected, Item as BadItem, Database}
 use Rattle.odb_commands.specs.declared.replies.CommandReply.{CommandReply}
-use Rattle.odb_commands.specs.declared.replies.CommandReply.TheVariants.{Key, Refused}
-use Rattle.odb_commands.specs.Answers.{done_or, item_for, is_protected, listed_or, one_or}
-use Rattle.odb_commands.specs.CommandCalls.{Answers, AtPath, calls_database, CreatesKey, CutsAnswer, Gets, GetsIn, Lists, Names, NamesFound, Performs, RemovesIf, RemovesKey, SaysAtOnce, Sets, SetsIn, SetsItem, Shows}
+use Rattle.odb_commands.specs.declared.replies.CommandReply.TheVariants.{Key, One, Refused}
+use Rattle.odb_commands.specs.Answers.{done_or, item_for, item_or, is_protected, listed_or, one_or}
+use Rattle.odb_commands.specs.CommandCalls.{Answers, AtPath, calls_database, CreatesKey, CutsAnswer, Gets, GetsIn, Lists, Names, NamesFound, Performs, RemovesIf, RemovesKey, reply_takes_memory, SaysAtOnce, Sets, SetsIn, SetsItem, Shows}
 
 -- An answer without any call; a call that is refused only by what it finds is settled.
 
@@ -119,8 +120,15 @@ on_err : {T E : Type 0} (P : Type 0) (result : Result T E) → P → OnErr resul
 on_err P (Ok x) holds = tt
 on_err P (Err why) holds = holds
 
-pub not_begun : {T E : Type 0} (result : Result T E) (a : DatabaseAccess) (Does : List DatabaseEntry → CommandReply → Type 0) → Some_do Does → OnErr result (CutsAnswer a a Does)
-not_begun result a Does some = on_err (CutsAnswer a a Does) result (record { calls = some.0; are = (some.1, some.2); made = []; short = tt; adds = refl })
+-- of these all are made only where the reply takes memory
+abbrev Some_cut : (Does : List DatabaseEntry → CommandReply → Type 0) → Type 0
+Some_cut Does = (some : Some_do Does) × ([] ≡ some.0 → IsTrue (reply_takes_memory some.1))
+
+not_begun_at : (a : DatabaseAccess) (Does : List DatabaseEntry → CommandReply → Type 0) → Some_cut Does → CutsAnswer a a Does
+not_begun_at a Does some = record { calls = some.0.0; reply = some.0.1; does = some.0.2; made = []; short = tt; rest = some.1; adds = refl }
+
+pub not_begun : {T E : Type 0} (result : Result T E) (a : DatabaseAccess) (Does : List DatabaseEntry → CommandReply → Type 0) → Some_cut Does → OnErr result (CutsAnswer a a Does)
+not_begun result a Does some = on_err (CutsAnswer a a Does) result (not_begun_at a Does some)
 
 abbrev pub some_create : (kind : NewKey) (p : List (List ℕ)) → Some_do (CreatesKey kind p)
 some_create kind p = (call.Create p kind (Err NoKey) ∷ [], done_or (Err NoKey), (Err NoKey, refl, no_key, refl))
@@ -129,17 +137,11 @@ abbrev some_item : (p : List (List ℕ)) (index : ℕ) (item : Result Item Comma
 some_item p index (Err why) = ([], Refused why, (refl, refl))
 some_item p index (Ok item) = (call.Set p index item (Err NoKey) ∷ [], done_or (Err NoKey), (Err NoKey, refl, no_key, refl))
 
-abbrev pub some_set_in : (p : List (List ℕ)) (index : ℕ) (text : List ℕ) (v : HeldValue) → Some_do (SetsIn p index text (Ok v))
-some_set_in p index text v = some_item p index (item_for v index text)
-
 abbrev pub some_set : (index : ℕ) (text : List ℕ) (p : List (List ℕ)) → Some_do (Sets index text p)
 some_set index text p = (call.Get p (Err NoKey) ∷ [], Refused (Database NoKey), (Err NoKey, [], refl, no_key, (refl, refl)))
 
 abbrev pub some_get : (index : Option ℕ) (p : List (List ℕ)) → Some_do (Gets index p)
 some_get index p = (call.Get p (Err NoKey) ∷ [], Refused (Database NoKey), (Err NoKey, [], refl, no_key, (refl, refl)))
-
-abbrev pub some_shown : (p : List (List ℕ)) (index : ℕ) (v : HeldValue) → Some_do (Shows p (Some index) v)
-some_shown p index v = ([], one_or (length v.items) (slice_get v.items index), (refl, refl))
 
 abbrev pub some_list : (p : List (List ℕ)) → Some_do (Lists p)
 some_list p = (call.ListDir p (Err NoKey) ∷ [], listed_or (Err NoKey), (Err NoKey, refl, no_key, refl))
@@ -155,14 +157,59 @@ abbrev pub some_at_path : (read : Result (List (List ℕ)) PathRefusal) (Then : 
 some_at_path (Err why) Then each = ([], Refused (Path why), (refl, refl))
 some_at_path (Ok p) Then each = each p
 
+-- Memory ended while a text of the line was read, or an item copied.
+
+pub cut_create : (kind : NewKey) (p : List (List ℕ)) → Some_cut (CreatesKey kind p)
+cut_create kind p = (some_create kind p, λ h. absurd (cc))
+
+pub cut_set : (index : ℕ) (text : List ℕ) (p : List (List ℕ)) → Some_cut (Sets index text p)
+cut_set index text p = (some_set index text p, λ h. absurd (cc))
+
+pub cut_get : (index : Option ℕ) (p : List (List ℕ)) → Some_cut (Gets index p)
+cut_get index p = (some_get index p, λ h. absurd (cc))
+
+pub cut_list : (p : List (List ℕ)) → Some_cut (Lists p)
+cut_list p = (some_list p, λ h. absurd (cc))
+
+remove_cut_if : (b : Bool) (p : List (List ℕ)) → Some_cut (RemovesIf b p)
+remove_cut_if true p = (remove_if true p, λ h. refl)
+remove_cut_if false p = (remove_if false p, λ h. absurd (cc))
+
+pub cut_remove : (p : List (List ℕ)) → Some_cut (RemovesKey p)
+cut_remove p = remove_cut_if (is_protected p) p
+
+pub cut_at_path : (read : Result (List (List ℕ)) PathRefusal) (Then : List (List ℕ) → List DatabaseEntry → CommandReply → Type 0) → ((p : List (List ℕ)) → Some_cut (Then p)) → Some_cut (AtPath read Then)
+cut_at_path (Err why) Then each = (([], Refused (Path why), (refl, refl)), λ h. refl)
+cut_at_path (Ok p) Then each = each p
+
+item_cut_by : (p : List (List ℕ)) (index : ℕ) (read : Result Item ItemRefusal) → Some_cut (SetsItem p index (item_or read))
+item_cut_by p index (Err why) = (some_item p index (Err (BadItem why)), λ h. refl)
+item_cut_by p index (Ok item) = (some_item p index (Ok item), λ h. absurd (cc))
+
+read_within : (v : HeldValue) (index : ℕ) (text : List ℕ) → index < length v.items → item_for v index text ≡ item_or (item_read v.tid text)
+read_within v index text within = rw (lt-ltb index (length v.items) within) refl
+
+pub cut_set_in : (p : List (List ℕ)) (index : ℕ) (text : List ℕ) (v : HeldValue) → index < length v.items → Some_cut (SetsIn p index text (Ok v))
+cut_set_in p index text v within = subst (λ (item : Result Item CommandRefusal). Some_cut (SetsItem p index item)) (sym (read_within v index text within)) (item_cut_by p index (item_read v.tid text))
+
+one_cut : (p : List (List ℕ)) (len : ℕ) (item : Option Item) → IsSome item → Some_cut (SaysAtOnce (one_or len item))
+one_cut p len None some = absurd (false≢true some)
+one_cut p len (Some item) some = (([], One item, (refl, refl)), λ h. refl)
+
+pub shown_not_begun : {T E : Type 0} (result : Result T E) (a : DatabaseAccess) (p : List (List ℕ)) (index : ℕ) (v : HeldValue) → OnErr result (IsSome (slice_get v.items index)) → OnErr result (CutsAnswer a a (Shows p (Some index) v))
+shown_not_begun result a p index v some =
+    on_err_weaker result (λ (there : IsSome (slice_get v.items index)). not_begun_at a (Shows p (Some index) v) (one_cut p (length v.items) (slice_get v.items index) there)) some
+
 -- Memory ended at the first call,
 
 create_cut_at : (a b : DatabaseAccess) (kind : NewKey) (p : List (List ℕ)) (got : Result ℕ OdbRefusal) → AddsCall a b (call.Create p kind got) → got ≡ Err no_memory → CutsAnswer a b (CreatesKey kind p)
 create_cut_at a b kind p got called wanting = let some = some_create kind p in record {
   calls = some.0;
-  are = (some.1, some.2);
+  reply = some.1;
+  does = some.2;
   made = call.Create p kind got ∷ [];
   short = inr (ap (λ (r : Result ℕ OdbRefusal). call.Create p kind r) wanting, refl);
+  rest = λ same. absurd (cc);
   adds = (b, called, refl);
 }
 
@@ -172,9 +219,11 @@ create_cut result a b kind p got called wanting = on_err (CutsAnswer a b (Create
 item_cut_at : (a b : DatabaseAccess) (p : List (List ℕ)) (index : ℕ) (item : Item) (got : Result ℕ OdbRefusal) → AddsCall a b (call.Set p index item got) → got ≡ Err no_memory → CutsAnswer a b (SetsItem p index (Ok item))
 item_cut_at a b p index item got called wanting = let some = some_item p index (Ok item) in record {
   calls = some.0;
-  are = (some.1, some.2);
+  reply = some.1;
+  does = some.2;
   made = call.Set p index item got ∷ [];
   short = inr (ap (λ (r : Result ℕ OdbRefusal). call.Set p index item r) wanting, refl);
+  rest = λ same. absurd (cc);
   adds = (b, called, refl);
 }
 
@@ -184,9 +233,11 @@ item_cut result a b p index item got called wanting = on_err (CutsAnswer a b (Se
 name_cut_at : (a b : DatabaseAccess) (v : HeldValue) (row : ℕ) (got : Result (Option (List (List ℕ))) NoMemory) (memory : NoMemory) → AddsCall a b (call.PathOf row got) → got ≡ Err memory → CutsAnswer a b (Names v row)
 name_cut_at a b v row got memory called wanting = record {
   calls = call.PathOf row (Ok None) ∷ [];
-  are = (Key [] v, (None, refl, refl));
+  reply = Key [] v;
+  does = (None, refl, refl);
   made = call.PathOf row got ∷ [];
   short = inr (ap (λ (r : Result (Option (List (List ℕ))) NoMemory). call.PathOf row r) wanting, refl);
+  rest = λ same. absurd (cc);
   adds = (b, called, refl);
 }
 
@@ -196,9 +247,11 @@ name_cut result a b v row got memory called wanting = on_err (CutsAnswer a b (Na
 list_cut_at : (a b : DatabaseAccess) (p : List (List ℕ)) (got : Result (List Child) OdbRefusal) → AddsCall a b (call.ListDir p got) → got ≡ Err no_memory → CutsAnswer a b (Lists p)
 list_cut_at a b p got called wanting = let some = some_list p in record {
   calls = some.0;
-  are = (some.1, some.2);
+  reply = some.1;
+  does = some.2;
   made = call.ListDir p got ∷ [];
   short = inr (ap (λ (r : Result (List Child) OdbRefusal). call.ListDir p r) wanting, refl);
+  rest = λ same. absurd (cc);
   adds = (b, called, refl);
 }
 
@@ -208,9 +261,11 @@ list_cut result a b p got called wanting = on_err (CutsAnswer a b (Lists p)) res
 set_cut_at : (a b : DatabaseAccess) (index : ℕ) (text : List ℕ) (p copy : List (List ℕ)) (got : Result HeldValue OdbRefusal) → AddsCall a b (call.Get copy got) → copy ≡ p → got ≡ Err no_memory → CutsAnswer a b (Sets index text p)
 set_cut_at a b index text p copy got called is wanting = let some = some_set index text p in record {
   calls = some.0;
-  are = (some.1, some.2);
+  reply = some.1;
+  does = some.2;
   made = call.Get p got ∷ [];
   short = inr (ap (λ (r : Result HeldValue OdbRefusal). call.Get p r) wanting, refl);
+  rest = λ same. absurd (cc);
   adds = (b, got_at a b p copy got got called is refl, refl);
 }
 
@@ -220,9 +275,11 @@ set_cut result a b index text p copy got called is wanting = on_err (CutsAnswer 
 get_cut_at : (a b : DatabaseAccess) (index : Option ℕ) (p copy : List (List ℕ)) (got : Result HeldValue OdbRefusal) → AddsCall a b (call.Get copy got) → copy ≡ p → got ≡ Err no_memory → CutsAnswer a b (Gets index p)
 get_cut_at a b index p copy got called is wanting = let some = some_get index p in record {
   calls = some.0;
-  are = (some.1, some.2);
+  reply = some.1;
+  does = some.2;
   made = call.Get p got ∷ [];
   short = inr (ap (λ (r : Result HeldValue OdbRefusal). call.Get p r) wanting, refl);
+  rest = λ same. absurd (cc);
   adds = (b, got_at a b p copy got got called is refl, refl);
 }
 
@@ -231,13 +288,19 @@ get_cut result a b index p copy got called is wanting = on_err (CutsAnswer a b (
 
 -- or behind it.
 
+abbrev behind_first : List DatabaseEntry → List DatabaseEntry
+behind_first [] = []
+behind_first (e ∷ es) = es
+
 pub set_cut_behind : (a b c : DatabaseAccess) (index : ℕ) (text : List ℕ) (p copy : List (List ℕ)) (given got : Result HeldValue OdbRefusal) → AddsCall a b (call.Get copy given) → copy ≡ p → got ≡ given → IsSettled got
     → CutsAnswer b c (SetsIn p index text got) → CutsAnswer a c (Sets index text p)
 set_cut_behind a b c index text p copy given got called is same settled rest = record {
   calls = call.Get p got ∷ rest.calls;
-  are = (rest.are.0, (got, rest.calls, refl, settled, rest.are.1));
+  reply = rest.reply;
+  does = (got, rest.calls, refl, settled, rest.does);
   made = call.Get p got ∷ rest.made;
   short = inl (refl, rest.short);
+  rest = λ same. rest.rest (ap behind_first same);
   adds = (b, got_at a b p copy given got called is same, rest.adds);
 }
 
@@ -245,9 +308,11 @@ pub get_cut_behind : (a b c : DatabaseAccess) (index : Option ℕ) (p copy : Lis
     → CutsAnswer b c (GetsIn p index got) → CutsAnswer a c (Gets index p)
 get_cut_behind a b c index p copy given got called is same settled rest = record {
   calls = call.Get p got ∷ rest.calls;
-  are = (rest.are.0, (got, rest.calls, refl, settled, rest.are.1));
+  reply = rest.reply;
+  does = (got, rest.calls, refl, settled, rest.does);
   made = call.Get p got ∷ rest.made;
   short = inl (refl, rest.short);
+  rest = λ same. rest.rest (ap behind_first same);
   adds = (b, got_at a b p copy given got called is same, rest.adds);
 }
 
@@ -255,9 +320,11 @@ pub show_cut_behind : (a b c : DatabaseAccess) (p : List (List ℕ)) (v : HeldVa
     → CutsAnswer a c (Shows p None v)
 show_cut_behind a b c p v found called settled rest = record {
   calls = call.Find p found ∷ rest.calls;
-  are = (rest.are.0, (found, rest.calls, refl, settled_by found settled, rest.are.1));
+  reply = rest.reply;
+  does = (found, rest.calls, refl, settled_by found settled, rest.does);
   made = call.Find p found ∷ rest.made;
   short = inl (refl, rest.short);
+  rest = λ same. rest.rest (ap behind_first same);
   adds = (b, called, rest.adds);
 }
 

@@ -1,6 +1,6 @@
 -- What a command of the database does: the calls that it makes, in order, each with the reply that it got, whatever that
 -- is; and what the command is answered, by its line and these replies alone.
-use Rattle.std.specs.Prelude.{◌≡◌, ◌≢◌, ℕ, Bool, true, false, List, [], ◌∷◌, length, slice_get, Option, Some, None, Result, Ok, Err}
+use Rattle.std.specs.Prelude.{◌≡◌, ◌≢◌, ℕ, Bool, true, false, IsTrue, List, [], ◌∷◌, length, slice_get, Option, Some, None, Result, Ok, Err}
 use Rattle.std.specs.Option.{unwrap_or}
 use Rattle.daq_types.specs.Callers.{main_caller}
 use Rattle.odb_path.specs.declared.refusals.PathRefusal.{PathRefusal}
@@ -15,13 +15,13 @@ use Rattle.odb_tree.specs.declared.rows.NewKey.{NewKey}
 use Rattle.odb_tree.specs.declared.rows.NewKey.TheVariants.{Dir, Keys}
 use Rattle.odb_tree.specs.Rows.{Rows}
 use Rattle.odb_tree.specs.Calls.{rows_after}
-use Rattle.odb_port.specs.DatabasePorts.{DatabaseAccess, AddsCalls, CutsCalls, IsSettled}
+use Rattle.odb_port.specs.DatabasePorts.{DatabaseAccess, AddsCalls, IsCutShort, IsSettled}
 use Rattle.odb_script.specs.declared.forms.Command.{Command}
 use Rattle.odb_script.specs.declared.forms.Command.TheVariants as command
 use Rattle.odb_commands.specs.declared.replies.CommandRefusal.{CommandRefusal}
-use Rattle.odb_commands.specs.declared.replies.CommandRefusal.TheVariants.{Path, Protected, Database}
+use Rattle.odb_commands.specs.declared.replies.CommandRefusal.TheVariants.{Path, Protected, Item as BadItem, Database}
 use Rattle.odb_commands.specs.declared.replies.CommandReply.{CommandReply}
-use Rattle.odb_commands.specs.declared.replies.CommandReply.TheVariants.{Key, Refused}
+use Rattle.odb_commands.specs.declared.replies.CommandReply.TheVariants.{Done, Key, One, Listed, Refused}
 use Rattle.odb_commands.specs.Answers.{Answer, done_or, item_for, is_protected, listed_or, one_or}
 
 -- no call, and this answer
@@ -97,9 +97,32 @@ pub record Answers (a b : DatabaseAccess) (Does : List DatabaseEntry → Command
   pub made : AddsCalls a b calls
   pub does : Does calls reply
 
--- Memory ended before the reply: the first calls were made of some that do so.
-abbrev pub CutsAnswer : (a b : DatabaseAccess) → (Does : List DatabaseEntry → CommandReply → Type 0) → Type 0
-CutsAnswer a b Does = CutsCalls a b (λ calls. (reply : CommandReply) × Does calls reply)
+-- whether a reply takes memory behind the last call of its command: the path or the value of the line is read for it, or an
+-- item is copied
+
+abbrev pub refusal_takes_memory : CommandRefusal → Bool
+refusal_takes_memory (Path why) = true
+refusal_takes_memory Protected = true
+refusal_takes_memory (BadItem why) = true
+refusal_takes_memory (Database why) = false
+
+abbrev pub reply_takes_memory : CommandReply → Bool
+reply_takes_memory Done = false
+reply_takes_memory (Key p v) = false
+reply_takes_memory (One item) = true
+reply_takes_memory (Listed children) = false
+reply_takes_memory (Refused why) = refusal_takes_memory why
+
+-- Memory ended before the reply: the first calls were made of some that do so, and all of them only where the reply takes
+-- memory.
+pub record CutsAnswer (a b : DatabaseAccess) (Does : List DatabaseEntry → CommandReply → Type 0) : Type 0 where
+  pub calls : List DatabaseEntry
+  pub reply : CommandReply
+  pub does : Does calls reply
+  pub made : List DatabaseEntry
+  pub short : IsCutShort calls made
+  pub rest : made ≡ calls → IsTrue (reply_takes_memory reply)
+  pub adds : AddsCalls a b made
 
 -- whether the command is one of the database's
 abbrev pub calls_database : Command → Bool

@@ -414,7 +414,8 @@ pub fn remove<R: Wait, P: DatabasePort>(
 }
 
 /// Answers a command of the database, by the main thread: makes its calls, each once and in order, and gives the reply. None
-/// for any other command. Where memory ends, the first of its calls were made, the last of them maybe with that reply.
+/// for any other command. Where memory ends, the first of its calls were made, the last of them maybe with that reply, and all
+/// of them only where its own reply takes memory behind them.
 pub fn run_command<R: Wait, P: DatabasePort>(
     rt: &R,
     alloc: Global,

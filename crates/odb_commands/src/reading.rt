@@ -1,4 +1,4 @@
-ghost use Rattle.std.specs.Prelude.{◌≡◌, Err, IfOk, OnErr, codes, length, slice_get};
+ghost use Rattle.std.specs.Prelude.{◌≡◌, ◌<◌, Err, IfOk, IsSome, OnErr, codes, length, slice_get};
 ghost use Rattle.odb_path.specs.Paths.{same_name};
 ghost use Rattle.odb_path.specs.PathText.{path_reply};
 ghost use Rattle.odb_tree.specs.declared.refusals.OdbRefusal.TheVariants.{NoMemory as no_memory};
@@ -43,7 +43,8 @@ pub(crate) fn item_for(
     index: u32,
     text: &[u8],
 ) -> Result<Result<Item, CommandRefusal>, NoMemory>
-    ensures { IfOk result (λ item. item ≡ item_for value.now index text.now) }
+    ensures item { IfOk result (λ item. item ≡ item_for value.now index text.now) }
+    ensures memory { OnErr result (index < length value.now.items) }
 {
     let len = value.items().len();
     if index as usize >= len {
@@ -59,8 +60,9 @@ pub(crate) fn item_for(
 
 /// The reply with one item of this value.
 pub(crate) fn one_of(alloc: Global, value: &Value, index: u32) -> Result<CommandReply, NoMemory>
-    ensures { IfOk result (λ reply. reply ≡ one_or (length value.now.items)
+    ensures reply { IfOk result (λ reply. reply ≡ one_or (length value.now.items)
         (slice_get value.now.items index)) }
+    ensures memory { OnErr result (IsSome (slice_get value.now.items index)) }
 {
     let items = value.items();
     match items.get(index as usize) {

@@ -1,8 +1,8 @@
-use Rattle.odb_commands.proofs.Made.{not_begun, some_get, gets_behind_if, get_cut, get_cut_behind_if}
+use Rattle.odb_commands.proofs.Made.{not_begun, cut_get, gets_behind_if, get_cut, get_cut_behind_if}
 use Rattle.odb_commands.proofs.commands.get_at.Goals as goal
 
 pub returns-in_err-copy-clause-interrupted : goal.returns-in_err-copy-clause-interrupted
-returns-in_err-copy-clause-interrupted g c = not_begun _ _ _ (some_get c.args.index c.args.path)
+returns-in_err-copy-clause-interrupted g c = not_begun _ _ _ (cut_get c.args.index c.args.path)
 
 pub returns-in_err-got-clause-interrupted : goal.returns-in_err-got-clause-interrupted
 returns-in_err-got-clause-interrupted g c = get_cut _ _ _ _ _ _ _ c.get.ensures c.in_ok-copy.ensures c.in_err-got.ensures.memory
