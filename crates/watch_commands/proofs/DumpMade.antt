@@ -18,13 +18,13 @@ use Rattle.database_files.specs.declared.replies.FileReply.TheVariants as file
 use Rattle.database_files.specs.declared.replies.FileRead.{FileRead}
 use Rattle.database_files.specs.declared.replies.FileRead.TheVariants as was
 use Rattle.database_files.specs.FileReplies.{FaultsOf, ClashesOf, NamesFault}
-use Rattle.database_files.specs.WholeFiles.{ReadsFile, WritesFile}
-use Rattle.watch_commands.specs.declared.replies.WatchCommandRefusal.TheVariants.{BadFileName, Missing, FileFault}
+use Rattle.database_files.specs.WholeFiles.{ReadsFile, WritesFile, file_limit}
+use Rattle.watch_commands.specs.declared.replies.WatchCommandRefusal.TheVariants.{BadFileName, Missing, FileFault, TooLong}
 use Rattle.watch_commands.specs.declared.replies.WatchReply.TheVariants.{Refused}
 use Rattle.watch_commands.specs.declared.replies.WatchAnswer.{WatchAnswer}
 use Rattle.watch_commands.specs.WatchAnswers.{refused_for, said_with, loaded_or, saved_or}
 use Rattle.watch_commands.specs.WatchCalls.{OnFileName, IsLoadSettled, LoadsWhole, LoadsRead, LoadsFile, SavesFile, AnswersWatch, CutsWatch, FaultsIf, ClashesIf, NamesFaultIf, IsLoadable}
-use Rattle.watch_commands.proofs.WatchMade.{Some_does, cut_at_first}
+use Rattle.watch_commands.proofs.WatchMade.{Some_does, Some_cut, cut_at_first}
 
 -- A text is loaded.
 
@@ -42,7 +42,7 @@ whole_loaded a b text given got answer called same settled is = record {
 pub whole_cut : {T E : Type 0} (result : Result T E) (a b : DatabaseAccess) (text : List ℕ) (got : Result Loaded LoadRefusal) → AddsEntry a b (call.Load text got) → got ≡ Err load.NoMemory → OnErr result (CutsWatch a b (LoadsWhole text))
 whole_cut result a b text got called wanting =
     cut_at_first result a b (LoadsWhole text) (call.Load text got) (call.Load text (Err (load.BadLine 0))) (loaded_or (Err (load.BadLine 0))) (Err (load.BadLine 0), refl, not_for_memory, refl)
-    (inr (ap (λ (r : Result Loaded LoadRefusal). call.Load text r) wanting, refl)) called
+    (inr (ap (λ (r : Result Loaded LoadRefusal). call.Load text r) wanting, refl)) (λ same. cc) called
 
 -- A file is read, and its text loaded.
 
@@ -67,6 +67,7 @@ file_cut_if old new name read result a b same reads cut =
       does = (read, same, reads, some.does);
       made = some.made;
       short = some.short;
+      rest = some.rest;
       adds = some.adds;
     }) cut
 
@@ -82,6 +83,31 @@ pub some_loads : (old new : Seen) (name : List ℕ) → Same old new → Some_do
 some_loads old new name same =
     let read : (read : FileRead) × ReadsFile old name read × Some_does (LoadsRead read) = some_read old name old.tells (old.at name) refl refl in
     (read.2.0, read.2.1, (read.0, same, read.1, read.2.2))
+
+-- Memory ended while a file was read, which is there: its text would have been loaded, or it is too long.
+
+whole_begun : (text : List ℕ) → Some_cut (LoadsWhole text)
+whole_begun text = ((call.Load text (Err (load.BadLine 0)) ∷ [], loaded_or (Err (load.BadLine 0)), (Err (load.BadLine 0), refl, not_for_memory, refl)), λ h. absurd (cc))
+
+read_by_length : (seen : Seen) (name : List ℕ) (found : Stored) → seen.at name ≡ Some found → (file_limit < length found.bytes) ⊎ (length found.bytes ≤ file_limit) → (read : FileRead) × ReadsFile seen name read × Some_cut (LoadsRead read)
+read_by_length seen name found is (inl long) = (was.TooLong, λ h. (found, is, long), (([], said_with file.TooLong (Refused TooLong), (refl, refl)), λ h. refl))
+read_by_length seen name found is (inr fits) = (was.Whole found.bytes, record { there = λ h. (found, is, refl); fits = fits }, whole_begun found.bytes)
+
+long_or_not : (n limit : ℕ) → (limit < n) ⊎ (n ≤ limit)
+long_or_not zero limit = inr (omega arith)
+long_or_not (suc n) zero = inl (omega arith)
+long_or_not (suc n) (suc limit) = elim (long_or_not n limit) as (λ _. (suc limit < suc n) ⊎ (suc n ≤ suc limit)) [ inl h ↦ inl (omega (arith, h)) | inr h ↦ inr (omega (arith, h)) ]
+
+read_begun : (seen : Seen) (name : List ℕ) (tells : Bool) (at : Option Stored) → seen.tells ≡ tells → seen.at name ≡ at → (IsTrue seen.tells → IsSome (seen.at name)) → (read : FileRead) × ReadsFile seen name read × Some_cut (LoadsRead read)
+read_begun seen name false at told is there =
+    (was.Whole [], record { there = λ (h : IsTrue seen.tells). (let wrong : false ≡ true = sym told ∙ h in absurd (cc)); fits = omega arith }, whole_begun [])
+read_begun seen name true None told is there = absurd (false≢true (subst (λ (o : Option Stored). IsSome o) is (there told)))
+read_begun seen name true (Some found) told is there = read_by_length seen name found is (long_or_not (length found.bytes) file_limit)
+
+pub cut_loads : (old new : Seen) (name : List ℕ) → Same old new → (IsTrue old.tells → IsSome (old.at name)) → Some_cut (LoadsFile old new name)
+cut_loads old new name same there =
+    let read : (read : FileRead) × ReadsFile old name read × Some_cut (LoadsRead read) = read_begun old name old.tells (old.at name) refl refl there in
+    ((read.2.0.0, read.2.0.1, (read.0, same, read.1, read.2.0.2)), read.2.1)
 
 -- The text of the database is saved to a file.
 
@@ -109,7 +135,7 @@ pub save_cut : {T E : Type 0} (result : Result T E) (seen : Seen) (name : List �
 save_cut result seen name a b got memory called wanting =
     let some : (came : FileReply) × WritesFile seen seen name [] came = some_written seen name seen.tells (seen.at name) refl refl in
     cut_at_first result a b (SavesFile seen seen name) (call.Save got) (call.Save (Ok [])) (saved_or 0 some.0) ([], some.0, refl, some.1, refl)
-    (inr (ap (λ (r : Result (List ℕ) NoMemory). call.Save r) wanting, refl)) called
+    (inr (ap (λ (r : Result (List ℕ) NoMemory). call.Save r) wanting, refl)) (λ same. cc) called
 
 -- The name of a file is read.
 
@@ -128,6 +154,7 @@ on_name_cut_if text name old new D result a b good same cut =
       does = inr (good, subst (λ (n : List ℕ). D n some.calls some.answer) same some.does);
       made = some.made;
       short = some.short;
+      rest = some.rest;
       adds = some.adds;
     }) cut
 
@@ -201,3 +228,12 @@ done_clashes_of came old new is counted = let counted_done : ClashesOf file.Done
 -- where memory was wanting behind the reading, the file was read whole
 pub unclashed_if : {T E : Type 0} (result : Result T E) (came : FileReply) (old new : ℕ) → OnErr result (came ≡ file.Done) → ClashesOf came old new → OnErr result (new ≡ old)
 unclashed_if result came old new is counted = on_err_weaker result (λ (e : came ≡ file.Done). done_clashes_of came old new e counted) is
+
+-- and then no fault was counted either
+pub faultless_if : {T E : Type 0} (result : Result T E) (came : FileReply) (old new : ℕ) → OnErr result (came ≡ file.Done) → FaultsOf came old new → OnErr result (new ≡ old)
+faultless_if result came old new is counted =
+    on_err_weaker result (λ (e : came ≡ file.Done). (let done : FaultsOf file.Done old new = subst (λ (r : FileReply). FaultsOf r old new) e counted in done)) is
+
+pub nameless_if : {T E : Type 0} (result : Result T E) (came : FileReply) (name : List ℕ) (old new : Option (List ℕ)) → OnErr result (came ≡ file.Done) → NamesFault came name old new → OnErr result (new ≡ old)
+nameless_if result came name old new is named =
+    on_err_weaker result (λ (e : came ≡ file.Done). (let done : NamesFault file.Done name old new = subst (λ (r : FileReply). NamesFault r name old new) e named in done)) is

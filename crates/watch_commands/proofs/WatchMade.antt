@@ -1,6 +1,6 @@
 -- Calls that a command for watches made, and where memory cut them short.
 use Rattle.std.proofs.Common.{◌≡◌, ◌≢◌, ℕ, zero, suc, ◌+◌, ◌<◌, ◌≤◌, List, [], ◌∷◌, ◌++◌, length, map, take, drop, get_or, Option, None, Result, Ok, Err, refl, ap, sym, subst, ◌∙◌, inl, inr, arith}
-use Rattle.std.specs.Prelude.{IfOk, OnErr}
+use Rattle.std.specs.Prelude.{IfOk, IsTrue, OnErr}
 use Rattle.std.proofs.lemmas.Result.{IfOk-weaker, on_err_weaker}
 use Rattle.daq_types.specs.declared.memory.NoMemory.{NoMemory}
 use Rattle.odb_path.specs.declared.refusals.PathRefusal.{PathRefusal}
@@ -20,7 +20,7 @@ use Rattle.watch_commands.specs.declared.replies.WatchCommandRefusal.TheVariants
 use Rattle.watch_commands.specs.declared.replies.WatchReply.TheVariants.{Told}
 use Rattle.watch_commands.specs.declared.replies.WatchAnswer.{WatchAnswer}
 use Rattle.watch_commands.specs.WatchAnswers.{said, refused_for, watching_or, ended_or, note_told, path_asked}
-use Rattle.watch_commands.specs.WatchCalls.{OnPath, IsWatchSettled, WatchesRow, WatchesFound, WatchesPath, TellsNotes, TellsTaken, TakesNotes, EndsWatch, AnswersWatch, BreaksOffCalls, CutsWatch}
+use Rattle.watch_commands.specs.WatchCalls.{OnPath, IsWatchSettled, WatchesRow, WatchesFound, WatchesPath, TellsNotes, TellsTaken, TakesNotes, EndsWatch, AnswersWatch, BreaksOffCalls, CutsWatch, watch_reply_takes_memory}
 
 -- there is something that the command can do
 abbrev pub Some_does : (List WatchEntry → WatchAnswer → Type 0) → Type 0
@@ -30,18 +30,26 @@ on_err : {T E : Type 0} (P : Type 0) (result : Result T E) → P → OnErr resul
 on_err P (Ok x) holds = tt
 on_err P (Err why) holds = holds
 
--- memory ended before any call
-pub not_begun_at : (a : DatabaseAccess) (D : List WatchEntry → WatchAnswer → Type 0) → Some_does D → CutsWatch a a D
-not_begun_at a D some = record { calls = some.0; answer = some.1; does = some.2; made = []; short = tt; adds = refl }
+-- so there is, and without any call only where the reply takes memory
+abbrev pub Some_cut : (List WatchEntry → WatchAnswer → Type 0) → Type 0
+Some_cut D = (some : Some_does D) × ([] ≡ some.0 → IsTrue (watch_reply_takes_memory some.1.reply))
 
-pub not_begun : {T E : Type 0} (result : Result T E) (a : DatabaseAccess) (D : List WatchEntry → WatchAnswer → Type 0) → Some_does D → OnErr result (CutsWatch a a D)
+-- memory ended before any call
+pub not_begun_at : (a : DatabaseAccess) (D : List WatchEntry → WatchAnswer → Type 0) → Some_cut D → CutsWatch a a D
+not_begun_at a D some = record { calls = some.0.0; answer = some.0.1; does = some.0.2; made = []; short = tt; rest = some.1; adds = refl }
+
+pub not_begun : {T E : Type 0} (result : Result T E) (a : DatabaseAccess) (D : List WatchEntry → WatchAnswer → Type 0) → Some_cut D → OnErr result (CutsWatch a a D)
 not_begun result a D some = on_err (CutsWatch a a D) result (not_begun_at a D some)
 
 -- it ended at the first call
-pub cut_at_first : {T E : Type 0} (result : Result T E) (a b : DatabaseAccess) (D : List WatchEntry → WatchAnswer → Type 0) (entry wanted : WatchEntry) (answer : WatchAnswer) → D (wanted ∷ []) answer → BreaksOffCalls (wanted ∷ []) (entry ∷ []) → AddsEntry a b entry
-    → OnErr result (CutsWatch a b D)
-cut_at_first result a b D entry wanted answer does short called =
-    on_err (CutsWatch a b D) result (record { calls = wanted ∷ []; answer = answer; does = does; made = entry ∷ []; short = short; adds = (b, called, refl) })
+pub cut_at_first : {T E : Type 0} (result : Result T E) (a b : DatabaseAccess) (D : List WatchEntry → WatchAnswer → Type 0) (entry wanted : WatchEntry) (answer : WatchAnswer) → D (wanted ∷ []) answer → BreaksOffCalls (wanted ∷ []) (entry ∷ [])
+    → entry ∷ [] ≢ wanted ∷ [] → AddsEntry a b entry → OnErr result (CutsWatch a b D)
+cut_at_first result a b D entry wanted answer does short other called =
+    on_err (CutsWatch a b D) result (record { calls = wanted ∷ []; answer = answer; does = does; made = entry ∷ []; short = short; rest = λ same. absurd (other same); adds = (b, called, refl) })
+
+abbrev behind_first : List WatchEntry → List WatchEntry
+behind_first [] = []
+behind_first (e ∷ es) = es
 
 -- The same with what the files of the database tell, which stay.
 
@@ -54,7 +62,7 @@ files_stay s result a b D did =
 pub files_stay_cut : {S T E : Type 0} (s : S) (result : Result T E) (a b : DatabaseAccess) (D : List WatchEntry → WatchAnswer → Type 0) → OnErr result (CutsWatch a b D)
     → OnErr result (CutsWatch a b (λ calls answer. (s ≡ s) × D calls answer))
 files_stay_cut s result a b D cut =
-    on_err_weaker result (λ (some : CutsWatch a b D). record { calls = some.calls; answer = some.answer; does = (refl, some.does); made = some.made; short = some.short; adds = some.adds }) cut
+    on_err_weaker result (λ (some : CutsWatch a b D). record { calls = some.calls; answer = some.answer; does = (refl, some.does); made = some.made; short = some.short; rest = some.rest; adds = some.adds }) cut
 
 -- `watch`.
 
@@ -75,7 +83,7 @@ row_watched a b row given got answer called same settled is = record {
 pub row_cut : {T E : Type 0} (result : Result T E) (a b : DatabaseAccess) (row : ℕ) (got : Result ℕ WatchRefusal) → AddsEntry a b (call.Watch row got) → got ≡ Err watch.NoMemory → OnErr result (CutsWatch a b (WatchesRow row))
 row_cut result a b row got called wanting =
     cut_at_first result a b (WatchesRow row) (call.Watch row got) (call.Watch row (Err watch.NoWatchSlot)) (watching_or (Err watch.NoWatchSlot)) (Err watch.NoWatchSlot, refl, no_slot, refl)
-    (inr (ap (λ (r : Result ℕ WatchRefusal). call.Watch row r) wanting, refl)) called
+    (inr (ap (λ (r : Result ℕ WatchRefusal). call.Watch row r) wanting, refl)) (λ same. cc) called
 
 settled_by : {X : Type 0} (got : Result X OdbRefusal) → got ≢ Err odb.NoMemory → IsSettled got
 settled_by (Ok x) found = tt
@@ -101,6 +109,7 @@ path_cut a b c p found called settled rest = record {
   does = (found, rest.calls, refl, settled_by found settled, rest.does);
   made = call.Call (Find p found) ∷ rest.made;
   short = inl (refl, rest.short);
+  rest = λ same. rest.rest (ap behind_first same);
   adds = (b, called, rest.adds);
 }
 
@@ -115,10 +124,17 @@ abbrev pub some_on_path : (read : Result (List (List ℕ)) PathRefusal) → Some
 some_on_path (Err why) = ([], refused_for (Path why), (refl, refl))
 some_on_path (Ok p) = some_watch p
 
+pub cut_on_path : (read : Result (List (List ℕ)) PathRefusal) → Some_cut (OnPath read WatchesPath)
+cut_on_path (Err why) = (some_on_path (Err why), λ h. refl)
+cut_on_path (Ok p) = (some_watch p, λ h. absurd (cc))
+
 -- `notes`.
 
 abbrev pub some_notes : (w : ℕ) → Some_does (TakesNotes w)
 some_notes w = (call.Notes w (Err (record {})) ∷ [], refused_for NoWatch, (Err (record {}), [], refl, (refl, refl)))
+
+pub cut_notes : (w : ℕ) → Some_cut (TakesNotes w)
+cut_notes w = (some_notes w, λ h. absurd (cc))
 
 notes_taken : (a b c : DatabaseAccess) (w : ℕ) (got : Result (List Note × ℕ) no_watch) (answer : WatchAnswer) → AddsEntry a b (call.Notes w got) → AnswersWatch b c (TellsTaken got) answer → AnswersWatch a c (TakesNotes w) answer
 notes_taken a b c w got answer called rest = record {
@@ -144,6 +160,7 @@ notes_cut a b c w got called rest = record {
   does = (got, rest.calls, refl, rest.does);
   made = call.Notes w got ∷ rest.made;
   short = inl (refl, rest.short);
+  rest = λ same. rest.rest (ap behind_first same);
   adds = (b, called, rest.adds);
 }
 
@@ -213,6 +230,10 @@ take_and_rest [] i d h = absurd (omega (arith, h))
 take_and_rest (n ∷ ns) zero d h = refl
 take_and_rest (n ∷ ns) (suc i) d h = ap (λ (l : List Note). n ∷ l) (take_and_rest ns i d (omega (arith, h)))
 
+behind_front : (front xs ys : List WatchEntry) → front ++ xs ≡ front ++ ys → xs ≡ ys
+behind_front [] xs ys h = h
+behind_front (e ∷ front) xs ys h = behind_front front xs ys (ap behind_first h)
+
 telling_cut_at : (a b c : DatabaseAccess) (notes : List Note) (lost : ℕ) (told : List ToldNote) (i : ℕ) (d : Note) (got : Result (Option (List (List ℕ))) NoMemory) (memory : NoMemory) → IsTelling a b notes told i → i < length notes
     → AddsEntry b c (call.Call (PathOf (get_or notes i d).row got)) → got ≡ Err memory → CutsWatch a c (TellsNotes notes lost)
 unfolding untold
@@ -231,6 +252,7 @@ telling_cut_at a b c notes lost told i d got memory now within called wanting =
       does = (told ++ rest, (whole, refl), refl);
       made = map path_asked told ++ failed ∷ [];
       short = subst (λ (l : List WatchEntry). BreaksOffCalls l (map path_asked told ++ failed ∷ [])) (sym (map_both path_asked told rest)) (breaks_behind (map path_asked told) (map path_asked rest) (failed ∷ []) first);
+      rest = λ same. (let other : failed ∷ [] ≡ map path_asked rest = behind_front (map path_asked told) (failed ∷ []) (map path_asked rest) (same ∙ map_both path_asked told rest) in absurd (cc));
       adds = adds_more a b c (map path_asked told) failed now.adds called;
     }
 

@@ -1,6 +1,6 @@
 -- What a command for watches or dumps does: the calls on the database that it makes, in order, each with the reply that it
 -- got, whatever that is; what it does to the files of the database; and what it is answered, by its line and by these alone.
-use Rattle.std.specs.Prelude.{◌≡◌, ◌≢◌, ◌⊎◌, ℕ, ◌≤◌, List, [], ◌∷◌, length, map, Option, Some, None, Result, Ok, Err}
+use Rattle.std.specs.Prelude.{◌≡◌, ◌≢◌, ◌⊎◌, ℕ, ◌≤◌, Bool, true, false, IsTrue, List, [], ◌∷◌, length, map, Option, Some, None, Result, Ok, Err}
 use Rattle.daq_types.specs.Names.{IsFileName}
 use Rattle.daq_io.specs.Seen.{Seen, Same}
 use Rattle.odb_path.specs.declared.refusals.PathRefusal.{PathRefusal}
@@ -25,7 +25,9 @@ use Rattle.database_files.specs.declared.replies.FileRead.TheVariants as was
 use Rattle.database_files.specs.FileReplies.{FaultsOf, ClashesOf, NamesFault}
 use Rattle.database_files.specs.WholeFiles.{ReadsFile, WritesFile}
 use Rattle.watch_commands.specs.declared.replies.ToldNote.{ToldNote}
+use Rattle.watch_commands.specs.declared.replies.WatchCommandRefusal.{WatchCommandRefusal}
 use Rattle.watch_commands.specs.declared.replies.WatchCommandRefusal.TheVariants.{Path, Database, NoWatch, BadFileName, Missing, FileFault, TooLong}
+use Rattle.watch_commands.specs.declared.replies.WatchReply.{WatchReply}
 use Rattle.watch_commands.specs.declared.replies.WatchReply.TheVariants.{Told, Refused}
 use Rattle.watch_commands.specs.declared.replies.WatchAnswer.{WatchAnswer}
 use Rattle.watch_commands.specs.WatchAnswers.{said, refused_for, said_with, watching_or, ended_or, loaded_or, saved_or, note_told, path_asked}
@@ -125,13 +127,27 @@ BreaksOffCalls calls [] = Unit {0}
 BreaksOffCalls [] (e ∷ made) = ⊥
 BreaksOffCalls (c ∷ calls) (e ∷ made) = ((e ≡ c) × BreaksOffCalls calls made) ⊎ ((e ≡ without_memory c) × (made ≡ []))
 
--- Memory ended before the answer: the first calls were made of some that do so.
+-- whether a reply takes memory behind the last call of its command: the path of the line is read for it, or a file that has
+-- too many bytes
+
+abbrev pub watch_refusal_takes_memory : WatchCommandRefusal → Bool
+watch_refusal_takes_memory (Path why) = true
+watch_refusal_takes_memory TooLong = true
+watch_refusal_takes_memory _ = false
+
+abbrev pub watch_reply_takes_memory : WatchReply → Bool
+watch_reply_takes_memory (Refused why) = watch_refusal_takes_memory why
+watch_reply_takes_memory _ = false
+
+-- Memory ended before the answer: the first calls were made of some that do so, and all of them only where the reply takes
+-- memory.
 pub record CutsWatch (a b : DatabaseAccess) (Does : List WatchEntry → WatchAnswer → Type 0) : Type 0 where
   pub calls : List WatchEntry
   pub answer : WatchAnswer
   pub does : Does calls answer
   pub made : List WatchEntry
   pub short : BreaksOffCalls calls made
+  pub rest : made ≡ calls → IsTrue (watch_reply_takes_memory answer.reply)
   pub adds : AddsEntries a b made
 
 -- What the files of the database count of a command, by what its calls on them came to. One that makes none leaves the

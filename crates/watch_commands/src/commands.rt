@@ -20,7 +20,8 @@ pub const WATCH_CALLS: u32 = 256;
 
 /// Performs a command for watches or dumps, by the main thread: makes its calls on the database and on its files, each once
 /// and in order, and gives the answer. None for any other command. Where memory ends, the first of its calls on the database
-/// were made, the last of them maybe with that reply, and no file changed.
+/// were made, the last of them maybe with that reply, and all of them only where its reply takes memory behind them; no file
+/// changed, and no call on the files failed.
 pub fn run_watch_command<R: Wait, P: WatchPort, E: Files>(
     rt: &R,
     alloc: Global,
@@ -42,6 +43,8 @@ pub fn run_watch_command<R: Wait, P: WatchPort, E: Files>(
     ensures first { IfOk result (λ answer. NamesFaultIf (came_of answer) (file_word command.now)
         (E.first files.old) (E.first files.new)) }
     ensures later { E.faults files.old ≤ E.faults files.new }
+    ensures faultless { OnErr result (E.faults files.new ≡ E.faults files.old) }
+    ensures nameless { OnErr result (E.first files.new ≡ E.first files.old) }
     ensures unclashed { OnErr result (E.clashes files.new ≡ E.clashes files.old) }
     ensures same { IsSamePort (P.access port.old) (P.access port.new) }
     ensures room { (P.access port.old).room ≤ (P.access port.new).room + WATCH_CALLS }

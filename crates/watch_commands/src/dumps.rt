@@ -127,6 +127,8 @@ fn load_at<R: Wait, P: WatchPort, E: Files>(
     ensures first { IfOk result (λ answer. NamesFaultIf answer.file name.now (E.first files.old)
         (E.first files.new)) }
     ensures later { E.faults files.old ≤ E.faults files.new }
+    ensures faultless { OnErr result (E.faults files.new ≡ E.faults files.old) }
+    ensures nameless { OnErr result (E.first files.new ≡ E.first files.old) }
     ensures unclashed { OnErr result (E.clashes files.new ≡ E.clashes files.old) }
     ensures same { IsSamePort (P.access port.old) (P.access port.new) }
     ensures room { (P.access port.old).room ≤ (P.access port.new).room }
@@ -158,6 +160,8 @@ pub fn load<R: Wait, P: WatchPort, E: Files>(
     ensures first { IfOk result (λ answer. NamesFaultIf answer.file file.now (E.first files.old)
         (E.first files.new)) }
     ensures later { E.faults files.old ≤ E.faults files.new }
+    ensures faultless { OnErr result (E.faults files.new ≡ E.faults files.old) }
+    ensures nameless { OnErr result (E.first files.new ≡ E.first files.old) }
     ensures unclashed { OnErr result (E.clashes files.new ≡ E.clashes files.old) }
     ensures same { IsSamePort (P.access port.old) (P.access port.new) }
     ensures room { (P.access port.old).room ≤ (P.access port.new).room }
@@ -201,6 +205,8 @@ fn save_at<R: Wait, P: WatchPort, E: Files>(
     ensures first { IfOk result (λ answer. NamesFaultIf answer.file name.now (E.first files.old)
         (E.first files.new)) }
     ensures later { E.faults files.old ≤ E.faults files.new }
+    ensures faultless { OnErr result (E.faults files.new ≡ E.faults files.old) }
+    ensures nameless { OnErr result (E.first files.new ≡ E.first files.old) }
     ensures unclashed { OnErr result (E.clashes files.new ≡ E.clashes files.old) }
     ensures same { IsSamePort (P.access port.old) (P.access port.new) }
     ensures room { (P.access port.old).room ≤ (P.access port.new).room }
@@ -234,6 +240,8 @@ pub fn save<R: Wait, P: WatchPort, E: Files>(
     ensures first { IfOk result (λ answer. NamesFaultIf answer.file file.now (E.first files.old)
         (E.first files.new)) }
     ensures later { E.faults files.old ≤ E.faults files.new }
+    ensures faultless { OnErr result (E.faults files.new ≡ E.faults files.old) }
+    ensures nameless { OnErr result (E.first files.new ≡ E.first files.old) }
     ensures unclashed { OnErr result (E.clashes files.new ≡ E.clashes files.old) }
     ensures same { IsSamePort (P.access port.old) (P.access port.new) }
     ensures room { (P.access port.old).room ≤ (P.access port.new).room }

@@ -1,12 +1,12 @@
 use Rattle.watch_commands.proofs.WatchMade.{not_begun}
-use Rattle.watch_commands.proofs.DumpMade.{loadable, some_loads, file_loaded_if, file_cut_if, faults_if, clashes_if, names_fault_if, unclashed_if}
+use Rattle.watch_commands.proofs.DumpMade.{loadable, cut_loads, file_loaded_if, file_cut_if, faults_if, clashes_if, names_fault_if, unclashed_if, faultless_if, nameless_if}
 use Rattle.watch_commands.proofs.dumps.load_at.Goals as goal
 
 pub load_read-requires-clause-small : goal.load_read-requires-clause-small
 load_read-requires-clause-small g c = loadable _ _ _ c.in_ok-read.ensures.read
 
 pub returns-in_err-read-clause-interrupted : goal.returns-in_err-read-clause-interrupted
-returns-in_err-read-clause-interrupted g c = not_begun _ _ _ (some_loads _ _ _ c.read_file.ensures.same)
+returns-in_err-read-clause-interrupted g c = not_begun _ _ _ (cut_loads _ _ _ c.read_file.ensures.same c.in_err-read.ensures.there)
 
 pub returns-clause-did : goal.returns-clause-did
 returns-clause-did g c = file_loaded_if _ _ _ _ _ _ _ c.read_file.ensures.same c.in_ok-read.ensures.read c.load_read.ensures.did
@@ -25,3 +25,9 @@ returns-clause-first g c = names_fault_if _ _ _ _ _ c.load_read.ensures.file c.i
 
 pub returns-clause-unclashed : goal.returns-clause-unclashed
 returns-clause-unclashed g c = unclashed_if _ _ _ _ c.load_read.ensures.whole c.in_ok-read.ensures.clashes
+
+pub returns-clause-faultless : goal.returns-clause-faultless
+returns-clause-faultless g c = faultless_if _ _ _ _ c.load_read.ensures.whole c.in_ok-read.ensures.faults
+
+pub returns-clause-nameless : goal.returns-clause-nameless
+returns-clause-nameless g c = nameless_if _ _ _ _ _ c.load_read.ensures.whole c.in_ok-read.ensures.first
