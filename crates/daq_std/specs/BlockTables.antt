@@ -1,5 +1,5 @@
 -- Files in blocks, each under a number.
-use Rattle.std.specs.Prelude.{◌≡◌, ◌≢◌, ℕ, List, [], Option, Some, None, Bool, true, false, slice_get}
+use Rattle.std.specs.Prelude.{◌≡◌, ◌≢◌, ℕ, List, [], Option, Some, None, Bool, true, false, IsSome, slice_get}
 use Rattle.daq_std.specs.Blocks.{bytes_given, left_of}
 use Rattle.daq_std.specs.declared.blocks.BlockFile.{BlockFile}
 
@@ -9,6 +9,11 @@ pub record IsOpened {F : Type 0} (file : F) (block : BlockFile F) : Type 0 where
   pub nothing_pending : block.pending.bytes ≡ []
   pub nothing_ahead : block.ahead ≡ []
   pub whole : block.broken ≡ false
+
+-- There is a block, and a file in it.
+abbrev pub HasFile : {F : Type 0} → Option (BlockFile F) → Type 0
+HasFile None = ⊥
+HasFile (Some block) = IsSome block.file
 
 -- the bytes that the file in a block, if there is one, was given
 abbrev pub bytes_given_by : {F : Type 0} → (F → Option (List ℕ)) → Option (BlockFile F) → Option (List ℕ)

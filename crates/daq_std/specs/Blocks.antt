@@ -2,6 +2,10 @@
 use Rattle.std.specs.Prelude.{ℕ, List, Option, Some, None}
 use Rattle.std.specs.Io.KnownBytes.{prepend_known, append_known}
 
+-- the most bytes that a block has: so many go to the system, or come from it, at a time
+abbrev pub block_room : ℕ
+block_room = 65536
+
 -- the bytes that the file was given, where it tells them: those that were written out, and then those that were not yet
 abbrev pub bytes_given : {F : Type 0} → (F → Option (List ℕ)) → Option F → List ℕ → Option (List ℕ)
 bytes_given contents None pending = None

@@ -19,13 +19,14 @@ pub struct ReadAhead {
 
 impl Model for ReadAhead {
     ghost use Rattle.std.specs.Prelude.{◌≤◌, ℕ, List, length, slice_range, vec_capacity};
+    ghost use Rattle.daq_std.specs.Blocks.{block_room};
 
     ghost Value = { List ℕ };
 
     ghost view = { λ a. slice_range a.block.items a.start a.end };
 
     ghost invariant = { λ a. (a.start ≤ a.end) × (a.end ≤ length a.block.items)
-        × (65536 ≤ vec_capacity a.block) };
+        × (block_room ≤ vec_capacity a.block) };
 }
 
 impl ReadAhead {

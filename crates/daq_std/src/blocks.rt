@@ -1,10 +1,11 @@
-ghost use Rattle.std.specs.Prelude.{◌≡◌, [], IsTrue, IfOk, OnOk, OnErr, IsErr, IsNone};
+ghost use Rattle.std.specs.Prelude.{◌≡◌, [], IsTrue, IfOk, OnOk, OnErr, IsErr, IsNone, IsSome};
 ghost use Rattle.std.specs.Io.{ReadsAtMost};
 ghost use Rattle.std.specs.Io.KnownBytes.{Appends, Keeps, ReadConsumes};
 ghost use Rattle.daq_std.specs.Blocks.{bytes_given, left_of};
 ghost use Rattle.daq_std.specs.BlockTables.{IsOpened};
 
 use crate::ahead::ReadAhead;
+use crate::disk::OnDisk;
 use daq_io::{ByteRoom, Failed};
 use daq_types::NoMemory;
 use std::alloc::Global;
@@ -125,11 +126,12 @@ impl<F: Read + Write + OpenFile + Drop> BlockFile<F> {
         ensures within { ReadsAtMost result into.new }
         ensures bytes { ReadConsumes (left_of F.remaining self.old.file self.old.ahead)
             (left_of F.remaining self.new.file self.new.ahead) result into.new }
+        ensures open { OnOk result (IsSome self.old.file) }
     {
+        let Some(file) = &mut self.file else {
+            return Err(Failed);
+        };
         if self.ahead.is_empty() {
-            let Some(file) = &mut self.file else {
-                return Err(Failed);
-            };
             if into.len() >= BLOCK_BYTES {
                 return read_past(file, into);
             }
@@ -140,7 +142,7 @@ impl<F: Read + Write + OpenFile + Drop> BlockFile<F> {
 
     /// Writes what is left, has the system put all of the file on the disk, and hands the file out. Where a part was not
     /// written, also before, the file is let go.
-    pub fn close(&mut self) -> Result<F, Failed>
+    pub fn close(&mut self) -> Result<OnDisk<F>, Failed>
         ensures whole { IfOk result (λ file. Keeps (bytes_given F.contents self.old.file
             self.old.pending.bytes) (F.contents file)) }
         ensures broken { IsTrue self.old.broken → IsErr result }
@@ -148,10 +150,7 @@ impl<F: Read + Write + OpenFile + Drop> BlockFile<F> {
     {
         let written = self.flush();
         match (self.file.take(), written) {
-            (Some(file), Ok(())) if !self.broken => match file.sync_all() {
-                Ok(()) => Ok(file),
-                Err(_) => Err(Failed),
-            },
+            (Some(file), Ok(())) if !self.broken => OnDisk::sync(file),
             _ => Err(Failed),
         }
     }

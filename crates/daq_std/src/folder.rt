@@ -15,8 +15,9 @@ const NAME_ROOM: usize = 256;
 #[derive(Drop)]
 pub struct SystemFolder<R> {
     system: R,
-    folder: String,
-    path: ByteRoom,
+    pub folder: String,
+    /// The path that was made last, for the system.
+    pub path: ByteRoom,
 }
 
 /// Whether a name is one from the root of the system.
@@ -31,7 +32,9 @@ fn is_rooted(name: &FileName) -> bool
 
 impl<R: rt::Files + Drop> SystemFolder<R> {
     /// A folder, with room for the longest path.
-    pub fn new(alloc: Global, system: R, folder: &str) -> Result<SystemFolder<R>, NoMemory> {
+    pub fn new(alloc: Global, system: R, folder: &str) -> Result<SystemFolder<R>, NoMemory>
+        ensures { IfOk result (λ made. string_bytes made.folder ≡ folder.now) }
+    {
         let room = folder.len().saturating_add(NAME_ROOM);
         Ok(SystemFolder {
             system,
@@ -42,8 +45,9 @@ impl<R: rt::Files + Drop> SystemFolder<R> {
 
     /// Makes the path of the file of this name: below the folder, or from the root where the name begins with `/`.
     fn enter(&mut self, name: &FileName) -> Result<(), Failed>
-        ensures { OnOk result (self.new.path.bytes
+        ensures path { OnOk result (self.new.path.bytes
             ≡ path_in (string_bytes self.old.folder) name.now) }
+        ensures folder { self.new.folder ≡ self.old.folder }
     {
         self.path.clear();
         if is_rooted(name) {
@@ -62,7 +66,9 @@ impl<R: rt::Files + Drop> SystemFolder<R> {
     }
 
     /// The path that was made last.
-    fn path(&self) -> Result<&str, Failed> {
+    fn path(&self) -> Result<&str, Failed>
+        ensures { IfOk result (λ path. path.now ≡ self.now.path.bytes) }
+    {
         match std::str::from_utf8(self.path.as_slice()) {
             Ok(path) => Ok(path),
             Err(_) => Err(Failed),
@@ -71,7 +77,10 @@ impl<R: rt::Files + Drop> SystemFolder<R> {
 
     /// Makes a file of this name, where there is none.
     pub fn create(&mut self, name: &FileName) -> Result<R::File, NameRefused>
-        ensures { ¬ IsErrOf result NameRefused.Missing }
+        ensures never_missing { ¬ IsErrOf result NameRefused.Missing }
+        ensures path { ¬ IsErrOf result NameRefused.Failed
+            → self.new.path.bytes ≡ path_in (string_bytes self.old.folder) name.now }
+        ensures folder { self.new.folder ≡ self.old.folder }
     {
         self.enter(name)?;
         match File::create_new(&self.system, self.path()?) {
@@ -85,7 +94,10 @@ impl<R: rt::Files + Drop> SystemFolder<R> {
 
     /// Opens the file of this name to read it.
     pub fn open(&mut self, name: &FileName) -> Result<R::File, NameRefused>
-        ensures { ¬ IsErrOf result NameRefused.Exists }
+        ensures never_exists { ¬ IsErrOf result NameRefused.Exists }
+        ensures path { ¬ IsErrOf result NameRefused.Failed
+            → self.new.path.bytes ≡ path_in (string_bytes self.old.folder) name.now }
+        ensures folder { self.new.folder ≡ self.old.folder }
     {
         self.enter(name)?;
         match File::open(&self.system, self.path()?) {
@@ -98,7 +110,11 @@ impl<R: rt::Files + Drop> SystemFolder<R> {
     }
 
     /// Removes the file of this name, if there is one.
-    pub fn remove(&mut self, name: &FileName) -> Result<(), Failed> {
+    pub fn remove(&mut self, name: &FileName) -> Result<(), Failed>
+        ensures path { OnOk result (self.new.path.bytes
+            ≡ path_in (string_bytes self.old.folder) name.now) }
+        ensures folder { self.new.folder ≡ self.old.folder }
+    {
         self.enter(name)?;
         match self.system.remove_file(self.path()?) {
             Ok(()) => Ok(()),

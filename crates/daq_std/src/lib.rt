@@ -5,9 +5,11 @@
 mod ahead;
 mod blocks;
 mod choices;
+mod disk;
 mod faults;
 mod files;
 mod folder;
+pub mod laws;
 mod streams;
 mod table;
 

@@ -1,9 +1,10 @@
 ghost use Rattle.std.specs.Prelude.{◌≡◌, IfOk, IfSome, IsErr, IsTrue, OnErr, OnOk, length, slice_get};
 ghost use Rattle.std.specs.Io.{ReadsAtMost};
 ghost use Rattle.std.specs.Io.KnownBytes.{Appends, Keeps, ReadConsumes};
-ghost use Rattle.daq_std.specs.BlockTables.{ChangesBlock, IsOpened, ahead_at, bytes_given_at, is_broken_at};
+ghost use Rattle.daq_std.specs.BlockTables.{ChangesBlock, HasFile, IsOpened, ahead_at, bytes_given_at, is_broken_at};
 
 use crate::blocks::BlockFile;
+use crate::disk::OnDisk;
 use daq_io::Failed;
 use daq_types::NoMemory;
 use std::alloc::Global;
@@ -60,6 +61,7 @@ impl<F: Read + Write + OpenFile + Drop> BlockTable<F> {
         ensures within { ReadsAtMost result into.new }
         ensures bytes { ReadConsumes (ahead_at F.remaining self.old.blocks.items number)
             (ahead_at F.remaining self.new.blocks.items number) result into.new }
+        ensures open { OnOk result (HasFile (slice_get self.old.blocks.items number)) }
         ensures others { ChangesBlock self.old.blocks.items self.new.blocks.items number }
     {
         if number as usize >= self.blocks.as_slice().len() {
@@ -71,7 +73,7 @@ impl<F: Read + Write + OpenFile + Drop> BlockTable<F> {
 
     /// Writes what is left of the file of this number, has all of it put on the disk, and hands the file out. It does not
     /// where a write failed before.
-    pub fn finish(&mut self, number: u32) -> Result<F, Failed>
+    pub fn finish(&mut self, number: u32) -> Result<OnDisk<F>, Failed>
         ensures whole { IfOk result (λ file. Keeps (bytes_given_at F.contents
             self.old.blocks.items number) (F.contents file)) }
         ensures broken { IsTrue (is_broken_at self.old.blocks.items number) → IsErr result }
