@@ -7,6 +7,8 @@ mod commands;
 #[cfg(test)]
 mod dump_files;
 #[cfg(test)]
+mod failing_disk;
+#[cfg(test)]
 mod memory;
 #[cfg(test)]
 mod objects;

@@ -1,4 +1,6 @@
 //! Calls on any of the objects of the outside.
+ghost use Rattle.std.specs.Prelude.{IsTrue};
+
 use daq_io::{Clock, Failed, Files, NameRefused, Pick, Sink, Source, write_all};
 use daq_types::FileName;
 
@@ -16,6 +18,31 @@ pub fn write_and_read<F: Files>(
     let count = files.read(number, into)?;
     files.close(number)?;
     Ok(count)
+}
+
+/// Appends to a file, and answers whether it took the bytes. It is still being written.
+fn is_appended<F: Files>(files: &mut F, file: u32, bytes: &[u8]) -> bool
+    requires { IsTrue ((F.seen files.old).writes file) }
+    ensures { IsTrue ((F.seen files.new).writes file) }
+{
+    match files.append(file, bytes) {
+        Ok(()) => true,
+        Err(Failed) => false,
+    }
+}
+
+/// Makes a file, appends twice to it and closes it, and answers whether it took the bytes each time, and was closed well.
+pub fn append_twice_and_close<F: Files>(
+    files: &mut F,
+    name: &FileName,
+    first: &[u8],
+    second: &[u8],
+) -> Result<[bool; 3], NameRefused> {
+    let number = files.create(name)?;
+    let is_first_taken = is_appended(files, number, first);
+    let is_second_taken = is_appended(files, number, second);
+    let is_closed_well = files.close(number).is_ok();
+    Ok([is_first_taken, is_second_taken, is_closed_well])
 }
 
 /// Copies the source to the sink, in pieces of three bytes, and answers how many bytes that were.

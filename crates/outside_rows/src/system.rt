@@ -1,9 +1,13 @@
-//! One row for each real object.
-use crate::objects::{copy, first_three, is_send, next_three, write_and_read};
-use daq_io::{Files, NameRefused};
+//! Rows of each real object.
+use crate::failing_disk::{FailingDisk, FailingStep};
+use crate::objects::{
+    append_twice_and_close, copy, first_three, is_send, next_three, write_and_read,
+};
+use daq_io::{Failed, Files, NameRefused};
 use daq_std::{RoundPick, StdClock, StdFiles, StdSink, StdSource};
 use daq_types::FileName;
 use std::fs;
+use std::io::ErrorKind;
 use std::test::Fail;
 
 #[test]
@@ -18,6 +22,8 @@ fn files_of_a_folder(rt: HostRuntime) -> Result<(), Fail> {
         Ok(5)
     );
     assert!(rt; into.starts_with(b"MIDAS"));
+    let lies_below = fs::read(&rt, "files_of_a_folder/run00001.mid")?;
+    assert_eq!(rt; lies_below.as_slice(), b"MIDAS".as_slice());
     assert_eq!(rt; files.create(&run), Err(NameRefused::Exists));
     assert_eq!(rt; files.remove(&run), Ok(()));
     assert_eq!(rt; files.open_read(&run), Err(NameRefused::Missing));
@@ -32,12 +38,95 @@ fn files_of_a_folder(rt: HostRuntime) -> Result<(), Fail> {
         "a name from the root"
     );
     files.close(number)?;
-
-    let below = FileName::new("no/run00001.mid")?;
-    assert_eq!(rt; files.create(&below), Err(NameRefused::Failed));
-    assert_eq!(rt; files.first_fault(), Some(below));
+    assert_eq!(rt; files.create(&nothing), Err(NameRefused::Exists));
     is_send(&files);
     fs::remove_dir(&rt, folder)?;
+    Ok(())
+}
+
+#[test]
+fn names_that_the_system_refuses(rt: HostRuntime) -> Result<(), Fail> {
+    let folder = "names_that_the_system_refuses";
+    fs::create_dir(&rt, folder)?;
+    fs::create_dir(&rt, "names_that_the_system_refuses/part")?;
+    let mut files = StdFiles::new(rt.alloc(), rt, folder, 1)?;
+    let mut into = [0; 8];
+    let run = FileName::new("run00001.mid")?;
+    write_and_read(&mut files, &run, b"MIDAS", &mut into)?;
+    let below_nothing = FileName::new("no/run00001.mid")?;
+    assert_eq!(rt; files.open_read(&below_nothing), Err(NameRefused::Missing));
+    assert_eq!(rt; files.remove(&below_nothing), Ok(()));
+    assert_eq!(rt; files.first_fault(), None, "a clash of names is no fault");
+
+    let below_file = FileName::new("run00001.mid/x")?;
+    assert_eq!(rt; files.open_read(&below_file), Err(NameRefused::Failed));
+    assert_eq!(rt; files.first_fault(), Some(below_file));
+    assert_eq!(rt; files.remove(&below_file), Err(Failed));
+    assert_eq!(rt; files.create(&below_file), Err(NameRefused::Failed));
+    assert_eq!(rt; files.create(&below_nothing), Err(NameRefused::Failed));
+    let below_root = FileName::new("/dev/null/x")?;
+    assert_eq!(rt; files.remove(&below_root), Err(Failed));
+
+    let part = FileName::new("part")?;
+    assert_eq!(rt; files.remove(&part), Err(Failed), "a folder");
+    let number = files.open_read(&part)?;
+    assert_eq!(rt; files.read(number, &mut into), Err(Failed), "a folder");
+    files.close(number)?;
+    fs::remove_dir_all(&rt, folder)?;
+    Ok(())
+}
+
+#[test]
+fn reasons_of_the_system(rt: HostRuntime) -> Result<(), Fail> {
+    let run = FileName::new("run00001.mid")?;
+    for (kind, created, opened, removed) in [
+        (
+            ErrorKind::AlreadyExists,
+            NameRefused::Exists,
+            NameRefused::Failed,
+            Err(Failed),
+        ),
+        (
+            ErrorKind::NotFound,
+            NameRefused::Failed,
+            NameRefused::Missing,
+            Ok(()),
+        ),
+        (
+            ErrorKind::PermissionDenied,
+            NameRefused::Failed,
+            NameRefused::Failed,
+            Err(Failed),
+        ),
+    ] {
+        let step = FailingStep::Path(kind);
+        let mut files = StdFiles::new(rt.alloc(), FailingDisk { step }, "runs", 1)?;
+        assert_eq!(rt; files.create(&run), Err(created), "{kind:?}");
+        assert_eq!(rt; files.open_read(&run), Err(opened), "{kind:?}");
+        assert_eq!(rt; files.remove(&run), removed, "{kind:?}");
+        assert_eq!(rt; files.first_fault(), Some(run), "{kind:?}");
+    }
+    Ok(())
+}
+
+#[test]
+fn steps_that_fail(rt: HostRuntime) -> Result<(), Fail> {
+    let run = FileName::new("run00001.mid")?;
+    let bytes = vec![in rt.alloc(); 0; 65537]?;
+    for (step, count, expected) in [
+        (FailingStep::Nothing, 65537, [true, true, true]),
+        (FailingStep::Sync, 0, [true, true, false]),
+        (FailingStep::SecondWrite, 0, [true, true, true]),
+        (FailingStep::SecondWrite, 65536, [true, true, false]),
+        (FailingStep::SecondWrite, 65537, [true, false, false]),
+    ] {
+        let mut files = StdFiles::new(rt.alloc(), FailingDisk { step }, "runs", 1)?;
+        let second = bytes.get(..count).ok_or("bytes")?;
+        let answer = append_twice_and_close(&mut files, &run, b"MIDAS", second)?;
+        assert_eq!(rt; answer, expected, "{step:?} {count}");
+        let first_fault = if answer == [true; 3] { None } else { Some(run) };
+        assert_eq!(rt; files.first_fault(), first_fault, "{step:?} {count}");
+    }
     Ok(())
 }
 
