@@ -11,9 +11,9 @@ pub record IsOpened {F : Type 0} (file : F) (block : BlockFile F) : Type 0 where
   pub whole : block.broken ≡ false
 
 -- There is a block, and a file in it.
-abbrev pub HasFile : {F : Type 0} → Option (BlockFile F) → Type 0
-HasFile None = ⊥
-HasFile (Some block) = IsSome block.file
+abbrev pub HasOpenFile : {F : Type 0} → Option (BlockFile F) → Type 0
+HasOpenFile None = ⊥
+HasOpenFile (Some block) = IsSome block.file
 
 -- the bytes that the file in a block, if there is one, was given
 abbrev pub bytes_given_by : {F : Type 0} → (F → Option (List ℕ)) → Option (BlockFile F) → Option (List ℕ)

@@ -1,7 +1,7 @@
 ghost use Rattle.std.specs.Prelude.{◌≡◌, IfOk, IfSome, IsErr, IsTrue, OnErr, OnOk, length, slice_get};
 ghost use Rattle.std.specs.Io.{ReadsAtMost};
 ghost use Rattle.std.specs.Io.KnownBytes.{Appends, Keeps, ReadConsumes};
-ghost use Rattle.daq_std.specs.BlockTables.{ChangesBlock, HasFile, IsOpened, ahead_at, bytes_given_at, is_broken_at};
+ghost use Rattle.daq_std.specs.BlockTables.{ChangesBlock, HasOpenFile, IsOpened, ahead_at, bytes_given_at, is_broken_at};
 
 use crate::blocks::BlockFile;
 use crate::disk::OnDisk;
@@ -61,7 +61,7 @@ impl<F: Read + Write + OpenFile + Drop> BlockTable<F> {
         ensures within { ReadsAtMost result into.new }
         ensures bytes { ReadConsumes (ahead_at F.remaining self.old.blocks.items number)
             (ahead_at F.remaining self.new.blocks.items number) result into.new }
-        ensures open { OnOk result (HasFile (slice_get self.old.blocks.items number)) }
+        ensures open { OnOk result (HasOpenFile (slice_get self.old.blocks.items number)) }
         ensures others { ChangesBlock self.old.blocks.items self.new.blocks.items number }
     {
         if number as usize >= self.blocks.as_slice().len() {
