@@ -1,12 +1,15 @@
 -- Members of several kinds behind turns of their own.
 use Rattle.std.specs.Prelude.{◌≡◌, ℕ, zero, suc, ◌+◌, ◌≤◌, List, length}
 use Rattle.std.proofs.Common.{sym, subst, arith}
+use Rattle.std.proofs.lemmas.List.{length-map}
 use Rattle.std.proofs.lemmas.List.Elements.{length_all_zip}
 use Rattle.daq_members.specs.declared.turned.Turned.{Turned}
 use Rattle.session_engine.specs.MadeTransitions.{HadRounds}
 use Rattle.member_threads.specs.Turns.{HadTurns}
 use Rattle.member_threads.specs.Scattered.{MembersSeen, AreFewMembers, HadEach, CameBack, members_seen}
+use Rattle.member_threads.specs.Posts.{PostSeen, RoundsEach, posts_members, members_away}
 use Rattle.member_threads.proofs.TurnLaws.{stays, turns_follow, zip_stays, zip_follows}
+use Rattle.member_threads.proofs.RoundLaws.{each_round}
 
 -- a session's members are few enough
 pub seen_few : {A B C : Type 0} (fronts : List A) (logger : B) (analyzers : List C) → length fronts + 1 + length analyzers ≤ 64 → AreFewMembers (members_seen fronts logger analyzers)
@@ -28,27 +31,33 @@ module _ {A B C : Type 0} (ta : A → A → Turned → Type 0) (tb : B → B →
   }
 
   -- however many rounds they had
-  rounds_each : {P : Type 0} (away : P → MembersSeen A B C) (count : ℕ) (before after : P) → HadRounds (λ (b a : P). HadEach ta tb tc (away b) (away a)) count before after
-      → HadEach ta tb tc (away before) (away after)
-  rounds_each {P = P} away zero before after same = subst (λ (p : P). HadEach ta tb tc (away before) (away p)) (sym same) (each_stays (away before))
-  rounds_each away (suc n) before after rounds = each_follows (away before) (away rounds.0) (away after) (rounds_each away n before rounds.0 rounds.1) rounds.2
+  rounds_each : (count : ℕ) (before after : MembersSeen (PostSeen A) (PostSeen B) (PostSeen C)) → HadRounds (RoundsEach ta tb tc) count before after
+      → HadEach ta tb tc (members_away before) (members_away after)
+  rounds_each zero before after same =
+      subst (λ (posts : MembersSeen (PostSeen A) (PostSeen B) (PostSeen C)). HadEach ta tb tc (members_away before) (members_away posts)) (sym same) (each_stays (members_away before))
+  rounds_each (suc n) before after rounds =
+      each_follows (members_away before) (members_away rounds.0) (members_away after) (rounds_each n before rounds.0 rounds.1) (each_round ta tb tc rounds.0 after rounds.2)
 
-  pub each_behind : {P : Type 0} (away : P → MembersSeen A B C) (count : ℕ) (first : MembersSeen A B C) (before after : P) → HadEach ta tb tc first (away before)
-      → HadRounds (λ (b a : P). HadEach ta tb tc (away b) (away a)) count before after → HadEach ta tb tc first (away after)
-  each_behind away count first before after had rounds = each_follows first (away before) (away after) had (rounds_each away count before after rounds)
+  pub each_behind : (count : ℕ) (first : MembersSeen A B C) (before after : MembersSeen (PostSeen A) (PostSeen B) (PostSeen C)) → HadEach ta tb tc first (members_away before)
+      → HadRounds (RoundsEach ta tb tc) count before after → HadEach ta tb tc first (members_away after)
+  each_behind count first before after had rounds = each_follows first (members_away before) (members_away after) had (rounds_each count before after rounds)
 
-  pub each_few : (before after : MembersSeen A B C) → HadEach ta tb tc before after → AreFewMembers before → AreFewMembers after
+  pub each_few : (before : MembersSeen A B C) (after : MembersSeen (PostSeen A) (PostSeen B) (PostSeen C)) → HadEach ta tb tc before (members_away after) → AreFewMembers before
+      → AreFewMembers after
   each_few before after had few =
-      let fronts = length_all_zip (HadTurns ta) before.fronts after.fronts had.fronts in
-      let loggers = length_all_zip (HadTurns tb) before.loggers after.loggers had.loggers in
-      let analyzers = length_all_zip (HadTurns tc) before.analyzers after.analyzers had.analyzers in
+      let fronts = length_all_zip (HadTurns ta) before.fronts (posts_members after.fronts) had.fronts in
+      let loggers = length_all_zip (HadTurns tb) before.loggers (posts_members after.loggers) had.loggers in
+      let analyzers = length_all_zip (HadTurns tc) before.analyzers (posts_members after.analyzers) had.analyzers in
+      let all_fronts = length-map after.fronts (λ (post : PostSeen A). post.member) in
+      let all_loggers = length-map after.loggers (λ (post : PostSeen B). post.member) in
+      let all_analyzers = length-map after.analyzers (λ (post : PostSeen C). post.member) in
       let few_fronts = few.fronts in
       let few_loggers = few.loggers in
       let few_analyzers = few.analyzers in
       record {
-        fronts = omega (arith, fronts, few_fronts);
-        loggers = omega (arith, loggers, few_loggers);
-        analyzers = omega (arith, analyzers, few_analyzers);
+        fronts = omega (arith, fronts, all_fronts, few_fronts);
+        loggers = omega (arith, loggers, all_loggers, few_loggers);
+        analyzers = omega (arith, analyzers, all_analyzers, few_analyzers);
       }
 
   pub back_behind : (before between after : MembersSeen A B C) → HadEach ta tb tc before between → CameBack ta tb tc between after → CameBack ta tb tc before after

@@ -4,3 +4,4 @@ pub mod EndLaws
 pub mod EachLaws
 pub mod MemberLaws
 pub mod SendLaws
+pub mod RoundLaws

@@ -62,9 +62,3 @@ module _ {M : Type 0} (turns : M → M → Turned → Type 0) where
 
   pub one_ended : (later more : List M) (moved : M) → more ≡ later ++ moved ∷ [] → All (HasEnded turns) later → HasEnded turns moved → All (HasEnded turns) more
   one_ended later more moved pushed so_far ended = subst (λ (l : List M). All (HasEnded turns) l) (sym pushed) (All-push (HasEnded turns) later moved so_far ended)
-
-  -- a list of one
-  pub one_sent : (member later : M) (old new : List M) → old ≡ [] → new ≡ old ++ later ∷ [] → HadTurns turns member later → AllZip (HadTurns turns) (member ∷ []) new
-  one_sent member later old new none pushed had =
-      let is : new ≡ later ∷ [] = pushed ∙ ap (λ (l : List M). l ++ later ∷ []) none in
-      subst (λ (l : List M). AllZip (HadTurns turns) (member ∷ []) l) (sym is) (had, tt)

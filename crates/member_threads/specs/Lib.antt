@@ -1,4 +1,4 @@
 pub mod Turns
-pub mod Posts
 pub mod Scattered
+pub mod Posts
 pub mod MemberTurns

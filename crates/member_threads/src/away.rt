@@ -1,6 +1,7 @@
 // The members of a session while they are away, and as they come back.
 ghost use Rattle.std.specs.Prelude.{◌≡◌, ◌+◌, ◌≤◌, [], length, vec_capacity, IfOk};
 ghost use Rattle.member_threads.specs.Scattered.{members_seen, no_members, HadEach, CameBack, AreFewMembers};
+ghost use Rattle.member_threads.specs.Posts.{RoundsEach, members_away};
 
 use crate::member::Member;
 use crate::post::send;
@@ -41,8 +42,9 @@ pub(crate) struct Away<A: Member, B: Member, C: Member> {
 
 impl<A: Member, B: Member, C: Member> Model for Away<A, B, C> {
     ghost use Rattle.member_threads.specs.Scattered.{MembersSeen};
+    ghost use Rattle.member_threads.specs.Posts.{PostSeen};
 
-    ghost Value = { MembersSeen A B C };
+    ghost Value = { MembersSeen (PostSeen A) (PostSeen B) (PostSeen C) };
 
     ghost view = { λ s. record {
       fronts = s.fronts;
@@ -66,9 +68,9 @@ impl<A: Member + Drop, B: Member + Drop, C: Member + Drop> Away<A, B, C> {
         })
     }
 
-    /// One turn of each member that is here. Says whether one worked.
+    /// One turn of each member that is here, and of no other. Says whether one worked.
     fn turn<R: Wait, G: Gate>(&mut self, rt: &R, stir: &Stir, gate: &G) -> bool
-        ensures { HadEach A.turns B.turns C.turns self.old self.new }
+        ensures { RoundsEach A.turns B.turns C.turns self.old self.new }
     {
         let fronts = turn_all(rt, stir, &mut self.fronts, gate);
         let loggers = turn_all(rt, stir, &mut self.loggers, gate);
@@ -89,7 +91,7 @@ impl<A: Member + Drop, B: Member + Drop, C: Member + Drop> Away<A, B, C> {
             × (back.old.analyzers.items ≡ []) }
         requires room { (64 ≤ vec_capacity back.old.fronts) × (64 ≤ vec_capacity back.old.loggers)
             × (64 ≤ vec_capacity back.old.analyzers) }
-        ensures back { CameBack A.turns B.turns C.turns self.old (record {
+        ensures back { CameBack A.turns B.turns C.turns (members_away self.old) (record {
           fronts = back.new.fronts.items;
           loggers = back.new.loggers.items;
           analyzers = back.new.analyzers.items;
@@ -123,7 +125,7 @@ impl<A: Member + Drop + Send, B: Member + Drop + Send, C: Member + Drop + Send> 
         requires few { length members.fronts.items + 1 + length members.analyzers.items ≤ 64 }
         requires nobody { self.old ≡ no_members }
         ensures { HadEach A.turns B.turns C.turns (members_seen members.fronts.items members.logger
-            members.analyzers.items) self.new }
+            members.analyzers.items) (members_away self.new) }
     {
         let Members {
             fronts,
@@ -178,9 +180,9 @@ impl<A, B, C> Back<A, B, C> {
 }
 
 /// Members that are away, with the gate that they pass, and what they see of one another's work. They have rounds as far as
-/// they are here.
+/// they are here. Contracts see them as `Post` shows each.
 #[derive(Drop)]
-pub(crate) struct Posts<'a, A: Member, B: Member, C: Member, G: Gate> {
+pub struct Posts<'a, A: Member, B: Member, C: Member, G: Gate> {
     pub(crate) away: Away<A, B, C>,
     pub(crate) stir: &'a Stir,
     pub(crate) gate: &'a G,
@@ -188,13 +190,23 @@ pub(crate) struct Posts<'a, A: Member, B: Member, C: Member, G: Gate> {
     pub(crate) still: u32,
 }
 
+impl<'a, A: Member, B: Member, C: Member, G: Gate> Model for Posts<'a, A, B, C, G> {
+    ghost use Rattle.member_threads.specs.Scattered.{MembersSeen};
+    ghost use Rattle.member_threads.specs.Posts.{PostSeen};
+
+    ghost Value = { MembersSeen (PostSeen A) (PostSeen B) (PostSeen C) };
+
+    ghost view = { λ s. s.away };
+}
+
 impl<'a, A: Member + Drop, B: Member + Drop, C: Member + Drop, G: Gate> Rounds
     for Posts<'a, A, B, C, G> {
-    ghost use Rattle.member_threads.specs.Scattered.{HadEach};
+    ghost use Rattle.member_threads.specs.Posts.{RoundsEach};
 
-    ghost round = { λ before after. HadEach A.turns B.turns C.turns before.away after.away };
+    ghost round = { RoundsEach A.turns B.turns C.turns };
 
-    /// One turn of each member that is here. Where none of them worked, the main thread waits for the others.
+    /// One turn of each member that is here, and of no other: first the front-ends, then the logger, then the analyzers, each in
+    /// order. Where none of them worked, the main thread waits for the others.
     fn round<R: Wait>(&mut self, rt: &R) {
         if self.away.turn(rt, self.stir, self.gate) {
             self.still = 0;

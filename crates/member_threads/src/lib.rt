@@ -21,7 +21,7 @@ mod scattered;
 mod seats;
 mod stir;
 
-pub use away::Members;
+pub use away::{Members, Posts};
 pub use in_threads::{ThreadRoom, play_in_threads};
 pub use in_turns::play_in_turns;
 pub use member::Member;

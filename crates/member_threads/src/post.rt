@@ -1,5 +1,6 @@
 // A member that was sent away.
 ghost use Rattle.member_threads.specs.Turns.{HadTurns, HasEnded};
+ghost use Rattle.member_threads.specs.Posts.{RoundsPost};
 
 use crate::member::{Member, until_ended};
 use crate::recall::Recall;
@@ -23,19 +24,19 @@ impl<M: Member> Promise<M> for Went<M> {
     ghost kept_by = { λ went member. HadTurns M.turns went.was.value member };
 }
 
-/// A member that was sent away: its thread, or itself, where no thread could be had. Contracts see the member as far as it is
-/// known here: as it was when its thread began, or as it is.
+/// A member that was sent away: its thread, or itself, where no thread could be had. Contracts see which of the two it is, and
+/// the member as far as it is known here: as it was when its thread began, or as it is.
 #[derive(Drop)]
 pub struct Post<M: Member> {
     pub(crate) thread: Result<PromisedHandle<M, Went<M>>, M>,
 }
 
 impl<M: Member> Model for Post<M> {
-    ghost use Rattle.member_threads.specs.Posts.{member_of};
+    ghost use Rattle.member_threads.specs.Posts.{PostSeen, post_seen};
 
-    ghost Value = { M };
+    ghost Value = { PostSeen M };
 
-    ghost view = { λ p. member_of (λ handle. handle.promise.was.value) p.thread };
+    ghost view = { λ p. post_seen (λ handle. handle.promise.was.value) p.thread };
 }
 
 /// What a member's thread does: the member has its turns until it ends, where it isn't called back before.
@@ -78,7 +79,7 @@ where
     R: 's,
     M: 's,
     G: 's,
-    ensures { HadTurns M.turns member result }
+    ensures { HadTurns M.turns member result.member }
 {
     let was = Snapshot::of(&member);
     let goes = move || go(rt, recall, stir, gate, number, member);
@@ -94,9 +95,9 @@ where
 }
 
 impl<M: Member> Post<M> {
-    /// One turn, if the member is here. Says whether it worked.
+    /// One turn, if the member is here, and none otherwise. Says whether it worked.
     pub(crate) fn turn<R: Wait, G: Gate>(&mut self, rt: &R, gate: &G) -> bool
-        ensures { HadTurns M.turns self.old self.new }
+        ensures { RoundsPost M.turns self.old self.new }
     {
         if let Err(member) = &mut self.thread {
             let turned = member.turn(rt, gate);

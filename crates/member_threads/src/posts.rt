@@ -2,6 +2,7 @@
 ghost use Rattle.std.specs.Prelude.{◌≡◌, ◌+◌, ◌<◌, ◌≤◌, [], length, vec_capacity, All};
 ghost use Rattle.std.specs.List.{AllZip};
 ghost use Rattle.member_threads.specs.Turns.{HadTurns, HasEnded};
+ghost use Rattle.member_threads.specs.Posts.{RoundsPost, RoundsAt, posts_members};
 
 use crate::member::Member;
 use crate::post::{Post, finish, send};
@@ -33,7 +34,7 @@ where
     requires few { length members.items ≤ 64 }
     requires first { first ≤ 65 }
     requires empty { posts.old ≡ [] }
-    ensures { AllZip (HadTurns M.turns) members.items posts.new }
+    ensures { AllZip (HadTurns M.turns) members.items (posts_members posts.new) }
 {
     let mut here = Journal::of(members);
     while let Some(member) = here.take_first() {
@@ -50,7 +51,7 @@ fn turn_at<R: Wait, M: Member, G: Gate>(
     place: usize,
 ) -> bool
     requires { place < length posts.old }
-    ensures { AllZip (HadTurns M.turns) posts.old posts.new }
+    ensures { RoundsAt M.turns place posts.old posts.new }
 {
     let Some(post) = posts.get_mut(place) else {
         unreachable!()
@@ -58,14 +59,15 @@ fn turn_at<R: Wait, M: Member, G: Gate>(
     post.turn(rt, gate)
 }
 
-/// One turn of each of these members that is here. Those that worked are counted. Says whether one did.
+/// One turn of each of these members that is here, and of no other, in order. Those that worked are counted. Says whether one
+/// did.
 pub(crate) fn turn_all<R: Wait, M: Member, G: Gate>(
     rt: &R,
     stir: &Stir,
     posts: &mut PostList<M>,
     gate: &G,
 ) -> bool
-    ensures { AllZip (HadTurns M.turns) posts.old posts.new }
+    ensures { AllZip (RoundsPost M.turns) posts.old posts.new }
 {
     let mut worked = false;
     for place in 0..posts.len() {
@@ -88,7 +90,7 @@ pub(crate) fn call_all_back<R: Threads + Wait, M: Member + Drop, G: Gate>(
     requires few { length posts.old ≤ 64 }
     requires room { 64 ≤ vec_capacity members.old }
     requires empty { members.old.items ≡ [] }
-    ensures had { AllZip (HadTurns M.turns) posts.old members.new.items }
+    ensures had { AllZip (HadTurns M.turns) (posts_members posts.old) members.new.items }
     ensures ended { All (HasEnded M.turns) members.new.items }
     ensures room { 64 ≤ vec_capacity members.new }
 {

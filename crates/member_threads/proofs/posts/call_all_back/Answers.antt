@@ -1,20 +1,24 @@
 use Rattle.std.specs.Prelude.{◌≡◌}
-use Rattle.std.proofs.Common.{arith, subst}
+use Rattle.std.proofs.Common.{ap, arith, subst}
 use Rattle.member_threads.specs.Turns.{HadTurns}
+use Rattle.member_threads.specs.Posts.{PostSeen, posts_members}
 use Rattle.member_threads.proofs.TurnLaws.{turns_follow}
 use Rattle.member_threads.proofs.PostLaws.{one_moved, all_moved, one_ended, one_counted, first_counts}
+use Rattle.member_threads.proofs.RoundLaws.{first_member, rest_members, none_member}
 use Rattle.member_threads.proofs.posts.call_all_back.Goals as goal
 
 pub loop-post-preserved-in-Ok : goal.loop-post-preserved-in-Ok
 loop-post-preserved-in-Ok g c =
     let turns = g.M.Member.turns in
     let at = c.loop-post.invariant in
-    let was : c.in-Ok.handle.promise.was.value ≡ c.in-Some.post = rw c.in-Ok.is at c.post.view_is in
-    let joined : HadTurns turns c.in-Some.post c.join.result = subst (λ m. HadTurns turns m c.join.result) was c.join.ensures in
-    let had : HadTurns turns c.in-Some.post c.finish.result = turns_follow turns c.in-Some.post c.join.result c.finish.result joined c.finish.ensures.had in
+    let seen = rw c.in-Ok.is at c.post.view_is in
+    let was : c.in-Ok.handle.promise.was.value ≡ c.in-Some.post.member = ap (λ (post : PostSeen g.row.M.Denot). post.member) seen in
+    let joined : HadTurns turns c.in-Some.post.member c.join.result = subst (λ m. HadTurns turns m c.join.result) was c.join.ensures in
+    let had : HadTurns turns c.in-Some.post.member c.finish.result = turns_follow turns c.in-Some.post.member c.join.result c.finish.result joined c.finish.ensures.had in
     record {
-      moved = one_moved turns c.args.posts.now c.loop-post.posts c.take_first.new.self c.loop-post.members.items c.push_reserved.new.self.items c.in-Some.post c.finish.result
-          c.in-Some.ensures.first c.in-Some.ensures.rest c.push_reserved.ensures.items at.moved had;
+      moved = one_moved turns (posts_members c.args.posts.now) (posts_members c.loop-post.posts) (posts_members c.take_first.new.self) c.loop-post.members.items c.push_reserved.new.self.items
+          c.in-Some.post.member c.finish.result (first_member c.loop-post.posts c.in-Some.post c.in-Some.ensures.first)
+          (rest_members c.loop-post.posts c.take_first.new.self c.in-Some.ensures.rest) c.push_reserved.ensures.items at.moved had;
       ended = one_ended turns c.loop-post.members.items c.push_reserved.new.self.items c.finish.result c.push_reserved.ensures.items at.ended c.finish.ensures.ended;
       count = one_counted c.loop-post.posts c.take_first.new.self c.in-Some.post _ _ _ c.in-Some.ensures.first c.in-Some.ensures.rest c.push_reserved.ensures.len at.count;
       room = omega (arith, c.push_reserved.ensures.capacity, at.room);
@@ -40,15 +44,19 @@ pub loop-post-preserved : goal.loop-post-preserved
 loop-post-preserved g c =
     let turns = g.M.Member.turns in
     let at = c.loop-post.invariant in
-    let was : c.in-Err.member ≡ c.in-Some.post = rw c.in-Err.is at c.post.view_is in
-    let had : HadTurns turns c.in-Some.post c.finish-in-Err.result = subst (λ m. HadTurns turns m c.finish-in-Err.result) was c.finish-in-Err.ensures.had in
+    let seen = rw c.in-Err.is at c.post.view_is in
+    let was : c.in-Err.member ≡ c.in-Some.post.member = ap (λ (post : PostSeen g.row.M.Denot). post.member) seen in
+    let had : HadTurns turns c.in-Some.post.member c.finish-in-Err.result = subst (λ m. HadTurns turns m c.finish-in-Err.result) was c.finish-in-Err.ensures.had in
     record {
-      moved = one_moved turns c.args.posts.now c.loop-post.posts c.take_first.new.self c.loop-post.members.items c.push_reserved-in-Err.new.self.items c.in-Some.post c.finish-in-Err.result
-          c.in-Some.ensures.first c.in-Some.ensures.rest c.push_reserved-in-Err.ensures.items at.moved had;
+      moved = one_moved turns (posts_members c.args.posts.now) (posts_members c.loop-post.posts) (posts_members c.take_first.new.self) c.loop-post.members.items c.push_reserved-in-Err.new.self.items
+          c.in-Some.post.member c.finish-in-Err.result (first_member c.loop-post.posts c.in-Some.post c.in-Some.ensures.first)
+          (rest_members c.loop-post.posts c.take_first.new.self c.in-Some.ensures.rest) c.push_reserved-in-Err.ensures.items at.moved had;
       ended = one_ended turns c.loop-post.members.items c.push_reserved-in-Err.new.self.items c.finish-in-Err.result c.push_reserved-in-Err.ensures.items at.ended c.finish-in-Err.ensures.ended;
       count = one_counted c.loop-post.posts c.take_first.new.self c.in-Some.post _ _ _ c.in-Some.ensures.first c.in-Some.ensures.rest c.push_reserved-in-Err.ensures.len at.count;
       room = omega (arith, c.push_reserved-in-Err.ensures.capacity, at.room);
     }
 
 pub returns-clause-had : goal.returns-clause-had
-returns-clause-had g c = all_moved g.M.Member.turns c.args.posts.now c.loop-post.posts c.loop-post.members.items c.in_default.ensures.first c.loop-post.invariant.moved
+returns-clause-had g c =
+    all_moved g.M.Member.turns (posts_members c.args.posts.now) (posts_members c.loop-post.posts) c.loop-post.members.items (none_member c.loop-post.posts c.in_default.ensures.first)
+    c.loop-post.invariant.moved
