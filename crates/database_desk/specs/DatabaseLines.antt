@@ -1,5 +1,5 @@
 -- What the commands of the online database do, and what they are answered.
-use Rattle.std.specs.Prelude.{◌≡◌, ℕ, ◌≤◌, ◌⊎◌, ◌||◌, Bool, List, [], ◌∷◌, ◌++◌, Option, Some, None}
+use Rattle.std.specs.Prelude.{◌≡◌, ℕ, ◌⊎◌, ◌||◌, Bool, List, [], ◌∷◌, ◌++◌, Option, Some, None}
 use Rattle.daq_io.specs.Seen.{Same}
 use Rattle.odb_script.specs.declared.forms.Command.{Command}
 use Rattle.odb_commands.specs.declared.replies.CommandReply.{CommandReply}
@@ -50,12 +50,13 @@ pub record CutsRows (command : Command) (old new : DatabaseStage) : Type 0 where
   pub files : new.files ≡ old.files
   pub replies : new.replies ≡ old.replies
 
--- no name and no byte of a file changed, and no name clashed
+-- no name and no byte of a file changed, no call on the files failed, and no name clashed
 pub record CutsDump (command : Command) (old new : DatabaseStage) : Type 0 where
   pub cut : CutsWatch old.access new.access (PerformsWatch command old.files.seen new.files.seen)
   pub kept : Same old.files.seen new.files.seen
-  pub faults : old.files.faults ≤ new.files.faults
+  pub faults : new.files.faults ≡ old.files.faults
   pub clashes : new.files.clashes ≡ old.files.clashes
+  pub first : new.files.first ≡ old.files.first
   pub replies : new.replies ≡ old.replies
 
 abbrev pub BreaksDatabase : Command → (old new : DatabaseStage) → Type 0

@@ -1,6 +1,6 @@
 -- Each fault and each clash of the files of the dumps that came of a line was counted.
 use Rattle.std.proofs.Common.{◌≡◌, ℕ, List, [], Option, Some, None, refl, sym, subst, arith}
-use Rattle.std.specs.Prelude.{◌≤◌, ◌++◌, Bool, cond, count_by}
+use Rattle.std.specs.Prelude.{◌++◌, Bool, cond, count_by}
 use Rattle.std.proofs.lemmas.List.Sums.{sum_by-append}
 use Rattle.daq_io.specs.Counts.{RoseBy}
 use Rattle.daq_io.proofs.Counts.{RoseBy-then}
@@ -19,12 +19,9 @@ use Rattle.script_desk.proofs.KeepingLaws.{closing_keeps, cut_keeps, plays_keep}
 use Rattle.session_commands.specs.Endings.{OneReply, is_clash, is_fault}
 use Rattle.session_commands.proofs.FilesWalk.{FilesKept, KeptByCut, KeptByLine, break_kept, closed_kept, given_up_kept, line_kept}
 
--- a count that stayed rose by none, and one that rose and does not fall rose as much
+-- a count that stayed rose by none
 same_rose : (old new : ℕ) → new ≡ old → RoseBy 0 old new
 same_rose old new same = omega (arith, same)
-
-later_rose : (many first old new : ℕ) → old ≤ new → RoseBy many first old → RoseBy many first new
-later_rose many first old new later rose = omega (arith, later, rose)
 
 fault_counted : (came : Option FileReply) (number : ℕ) (old new : ℕ) → FaultsIf came old new → RoseBy (count_by is_fault (file_replied number came)) old new
 fault_counted None number old new same = same_rose old new same
@@ -57,8 +54,8 @@ line_counts first came number replies old new faults clashes kept = record {
 }
 
 cut_counts : (first : DumpFiles) → KeptByCut (Counted first)
-cut_counts first replies old new later same kept = record {
-  faults = later_rose (count_by is_fault replies) first.faults old.faults new.faults later kept.faults;
+cut_counts first replies old new still same kept = record {
+  faults = subst (λ (n : ℕ). RoseBy (count_by is_fault replies) first.faults n) (sym still) kept.faults;
   clashes = subst (λ (n : ℕ). RoseBy (count_by is_clash replies) first.clashes n) (sym same) kept.clashes;
 }
 

@@ -1,7 +1,7 @@
 -- What the lines of a script keep of the files of the dumps and of what came of the lines that called them, by one walk over the
 -- lines: it is kept by a line that called the files or did not, and maybe where memory ended in one.
 use Rattle.std.proofs.Common.{◌≡◌, ℕ, List, Option, Some, None, ap, sym, ◌∙◌, subst}
-use Rattle.std.specs.Prelude.{◌≤◌, ◌++◌, ◌⊎◌}
+use Rattle.std.specs.Prelude.{◌++◌, ◌⊎◌}
 use Rattle.std.proofs.Math.Logic.{⊎_elim}
 use Rattle.database_files.specs.declared.replies.FileReply.{FileReply}
 use Rattle.watch_commands.specs.WatchCalls.{ClashesIf, FaultsIf}
@@ -29,7 +29,7 @@ module _ (Kept : List (ℕ × FileReply) → DumpFiles → Type 0) where
 
   -- and it is kept where memory ended in one
   abbrev pub KeptByCut : Type 0
-  KeptByCut = (replies : List (ℕ × FileReply)) → (old new : DumpFiles) → old.faults ≤ new.faults → new.clashes ≡ old.clashes → Kept replies old → Kept replies new
+  KeptByCut = (replies : List (ℕ × FileReply)) → (old new : DumpFiles) → new.faults ≡ old.faults → new.clashes ≡ old.clashes → Kept replies old → Kept replies new
 
   same_kept : (old new : DatabaseStage) → new.files ≡ old.files → new.replies ≡ old.replies → Kept old.replies old.files → Kept new.replies new.files
   same_kept old new files replies kept = subst (λ (came : List (ℕ × FileReply)). Kept came new.files) (sym replies) (subst (λ (f : DumpFiles). Kept old.replies f) (sym files) kept)

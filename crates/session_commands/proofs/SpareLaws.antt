@@ -126,7 +126,7 @@ broken_on laws command old new broke = ⊎_elim
     (λ (same : new ≡ old). same_on old.access new.access (ap (λ (d : DatabaseStage). d.access) same))
     (λ (cut : CutsRows command old new ⊎ CutsDump command old new). ⊎_elim
     (λ (rows : CutsRows command old new). rows_on laws old.access new.access rows.cut.made rows.cut.adds
-    (short_spare rows.cut.calls rows.cut.made (laws.rows command rows.cut.calls rows.cut.are.0 rows.cut.are.1) rows.cut.short))
+    (short_spare rows.cut.calls rows.cut.made (laws.rows command rows.cut.calls rows.cut.reply rows.cut.does) rows.cut.short))
     (λ (dump : CutsDump command old new). entries_on laws old.access new.access dump.cut.made dump.cut.adds
     (broken_spare dump.cut.calls dump.cut.made (laws.dumps command old.files.seen new.files.seen dump.cut.calls dump.cut.answer dump.cut.does) dump.cut.short))
     cut)
