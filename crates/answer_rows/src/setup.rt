@@ -35,6 +35,9 @@ fn analyzer(session: &mut Declarations, name: &str, buffer: &str) -> Option<Setu
 
 const LONG_NAME: SetupRefusal = SetupRefusal::BadName(NameRefusal::LongName);
 
+/// The buffers of a session would have more bytes than 2^30.
+const BUFFERS_TOO_LARGE: SetupRefusal = SetupRefusal::TooMany { most: 1073741824 };
+
 #[test]
 fn buffers_are_refused_in_order(rt: HostRuntime) {
     let mut session = Declarations::new(rt.alloc()).expect(&rt, "memory");
@@ -54,17 +57,9 @@ fn buffers_are_refused_in_order(rt: HostRuntime) {
         ("B", 268435456, None),
         ("C", 268435456, None),
         ("D", 268435456, None),
-        (
-            "E",
-            268435456,
-            Some(SetupRefusal::TooMany { most: 1073741824 }),
-        ),
+        ("E", 268435456, Some(BUFFERS_TOO_LARGE)),
         ("system", 0, Some(SetupRefusal::BadBufferSize)),
-        (
-            "system",
-            268435456,
-            Some(SetupRefusal::TooMany { most: 1073741824 }),
-        ),
+        ("system", 268435456, Some(BUFFERS_TOO_LARGE)),
         ("system", 4096, None),
         ("E", 256, None),
         ("F", 256, None),
