@@ -22,7 +22,7 @@ use analyzers::Analyzer;
 use buffer_lock::SharedPort;
 use daq_io::{Files, Gate, Pick};
 use daq_members::{EndlessPort, FrontMember, FrontSeat, LoggerMember, LoggerSeat, Seat};
-use daq_types::{BoundedList, NoMemory};
+use daq_types::{BoundedList, Caller, NoMemory};
 use event_header::MAX_DATA;
 use frontend_kit::Generator;
 use loggers::{ChannelSpecs, Logger, Ports};
@@ -171,7 +171,7 @@ impl SessionObjects {
         ensures access { access_by_pass result.access
             ≡ new_access database.now (caller_of_client client) }
     {
-        let caller = client + 1;
+        let caller = Caller::of_client(client).number();
         let number = declared[client as usize].buffer as usize;
         let pass = passes.take_of_buffer(number, caller);
         let port = SharedPort::new(&self.buffers[number].shared, pass);
@@ -258,7 +258,7 @@ impl SessionObjects {
             ≡ map (λ buffer. new_port buffer.shared (caller_of_client (length declared.now)))
             self.now.buffers.items) }
     {
-        let caller = declared.len() as u32 + 1;
+        let caller = Caller::of_client(declared.len() as u32).number();
         let mut ports = BoundedList::new(alloc)?;
         for number in 0..self.buffers.len() {
             let pass = passes.take_of_buffer(number, caller);
@@ -286,7 +286,8 @@ impl SessionObjects {
         ensures calls { own_entries result.pass ≡ [] }
     {
         let client = declared.len() as u32;
-        let pass = take_fresh(&mut passes.engine, client + 1);
+        let caller = Caller::of_client(client).number();
+        let pass = take_fresh(&mut passes.engine, caller);
         Seat::new(&self.engine, pass, client)
     }
 
@@ -316,10 +317,11 @@ impl SessionObjects {
             ≡ new_port buffer.shared (caller_of_client (first_analyzer declared.now + place)) }
     {
         let client = declared.len() as u32 + 1 + place;
+        let caller = Caller::of_client(client).number();
         let number = analyzers[place as usize].buffer as usize;
-        let pass = passes.take_of_buffer(number, client + 1);
+        let pass = passes.take_of_buffer(number, caller);
         let port = SharedPort::new(&self.buffers[number].shared, pass);
-        let pass = take_fresh(&mut passes.engine, client + 1);
+        let pass = take_fresh(&mut passes.engine, caller);
         let seat = Seat::new(&self.engine, pass, client);
         AnalyzerPlaces { seat, port }
     }

@@ -21,7 +21,8 @@ take_of_buffer-pass-requires-clause-there g c =
     let l : n < length c.args.self.now.buffers.items = search rules in
     let b = there_below c.args.self.now.buffers.items n l in
     let count : passes_of (lock_of b.0.shared) ≡ length c.args.declared.now + 2 + length c.args.analyzers.now = c.requires.callers.buffers n b.0 b.1 in
-    λ roster at. port_has c.args.self.now c.args.database.now c.args.declared.now n c.loop-number.passes c.loop-number.invariant.1 b.0 roster b.1 at (omega arith)
+    let has_number : c.number-caller.result ≡ length c.args.declared.now + 1 = c.number-caller.ensures ∙ c.of_client.ensures in
+    λ roster at. rw has_number (port_has c.args.self.now c.args.database.now c.args.declared.now n c.loop-number.passes c.loop-number.invariant.1 b.0 roster b.1 at (omega arith))
 
 pub new-requires-in-loop-number-clause-own : goal.new-requires-in-loop-number-clause-own
 new-requires-in-loop-number-clause-own g c =
@@ -58,17 +59,18 @@ loop-number-preserved g c =
     let r = there_below c.loop-number.passes.buffers.items n (omega arith) in
     let taken = c.take_of_buffer-pass.ensures.taken.there r.0 r.1 in
     let port = c.new-in-loop-number.result in
+    let has_number : c.number-caller.result ≡ length c.args.declared.now + 1 = c.number-caller.ensures ∙ c.of_client.ensures in
     let caller : ℕ = length c.args.declared.now + 1 in
     let made : SessionBuffer → Access = λ z. new_port z.shared caller in
     let is : access_by ring_window port ≡ made b = new_port_is port b.shared caller c.new-in-loop-number.ensures.buffer
-    (ap (λ p. number_of p) c.new-in-loop-number.ensures.pass ∙ taken.2.is)
+    (ap (λ p. number_of p) c.new-in-loop-number.ensures.pass ∙ (taken.2.is ∙ has_number))
     (ap (λ p. seen_by p) c.new-in-loop-number.ensures.pass ∙ (taken.2.fresh (k.buffers n b r.0 at_b r.1).fresh).seen) in
     let pushed : c.push.new.self ≡ c.loop-number.ports ++ port ∷ [] = c.push.ensures in
     let count : length c.loop-number.ports ≡ n = inv.0 in
     let more : take (n + 1) bs ≡ take n bs ++ b ∷ [] = take_more bs n b l ∙ ap (λ (z : SessionBuffer). take n bs ++ z ∷ []) (sym c.index.ensures) in (
       ap length pushed ∙ length-append c.loop-number.ports (port ∷ []) ∙ ap (λ (m : ℕ). m + 1) count,
       port_out c.args.self.now c.args.database.now c.args.declared.now n c.loop-number.passes k c.take_of_buffer-pass.new.self c.take_of_buffer-pass.result
-          c.take_of_buffer-pass.ensures.taken c.take_of_buffer-pass.ensures.engine c.take_of_buffer-pass.ensures.database,
+          (rw has_number at c.take_of_buffer-pass.ensures.taken) c.take_of_buffer-pass.ensures.engine c.take_of_buffer-pass.ensures.database,
       ap (map (access_by ring_window)) pushed ∙ map-append (access_by ring_window) c.loop-number.ports (port ∷ [])
           ∙ ap (λ (heads : List Access). heads ++ access_by ring_window port ∷ []) inv.2 ∙ ap (λ (a : Access). map made (take n bs) ++ a ∷ []) is
           ∙ sym (map-append made (take n bs) (b ∷ [])) ∙ ap (map made) (sym more),

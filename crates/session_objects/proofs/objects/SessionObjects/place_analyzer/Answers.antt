@@ -21,8 +21,9 @@ take_of_buffer-pass-requires-clause-there g c =
     let b = there_below c.args.self.now.buffers.items d.buffer (c.requires.callers.read_from c.args.place d at_d) in
     let count : passes_of (lock_of b.0.shared) ≡ length c.args.declared.now + 2 + length c.args.analyzers.now = c.requires.callers.buffers d.buffer b.0 b.1 in
     let within : c.args.place < length c.args.analyzers.now = c.requires.place in
-    λ roster at. analyzer_has c.args.self.now c.args.database.now c.args.declared.now c.args.analyzers.now (length c.args.self.now.buffers.items) c.args.place c.args.passes.now
-    c.requires.out d.buffer b.0 roster b.1 at (omega arith)
+    let has_number : c.number-caller.result ≡ length c.args.declared.now + 1 + c.args.place + 1 = c.number-caller.ensures ∙ c.of_client.ensures in
+    λ roster at. rw has_number (analyzer_has c.args.self.now c.args.database.now c.args.declared.now c.args.analyzers.now (length c.args.self.now.buffers.items) c.args.place c.args.passes.now
+    c.requires.out d.buffer b.0 roster b.1 at (omega arith))
 
 pub index-requires : goal.index-requires
 index-requires g c =
@@ -56,10 +57,11 @@ pub take_fresh-pass-requires : goal.take_fresh-pass-requires
 take_fresh-pass-requires g c =
     let within : c.args.place < length c.args.analyzers.now = c.requires.place in
     let count : passes_of (engine_lock_of c.args.self.now.engine) ≡ length c.args.declared.now + 2 + length c.args.analyzers.now = c.requires.callers.engine in
-    let P : Passes _ _ _ _ → Type 0 = λ en. Contains (numbers_of en) (length c.args.declared.now + 1 + c.args.place + 1) in
+    let has_number : c.number-caller.result ≡ length c.args.declared.now + 1 + c.args.place + 1 = c.number-caller.ensures ∙ c.of_client.ensures in
+    let P : Passes _ _ _ _ → Type 0 = λ en. Contains (numbers_of en) c.number-caller.result in
     subst P (sym c.take_of_buffer-pass.ensures.engine)
-    (analyzer_has_engine c.args.self.now c.args.database.now c.args.declared.now c.args.analyzers.now (length c.args.self.now.buffers.items) c.args.place c.args.passes.now
-    c.requires.out (omega arith))
+    (rw has_number (analyzer_has_engine c.args.self.now c.args.database.now c.args.declared.now c.args.analyzers.now (length c.args.self.now.buffers.items) c.args.place c.args.passes.now
+    c.requires.out (omega arith)))
 
 pub new-seat-requires-clause-own : goal.new-seat-requires-clause-own
 new-seat-requires-clause-own g c =
@@ -72,10 +74,11 @@ returns-clause-out g c =
     let at_d : slice_get c.args.analyzers.now c.args.place ≡ Some d = slice_get-get_or c.args.analyzers.now c.args.place c.index-analyzers-place.result c.requires.place in
     let s1 = c.take_of_buffer-pass.new.self in
     let s2 : SessionPasses _ _ = record s1 { engine = c.take_fresh-pass.new.passes } in
+    let has_number : c.number-caller.result ≡ length c.args.declared.now + 1 + c.args.place + 1 = c.number-caller.ensures ∙ c.of_client.ensures in
     analyzer_out c.args.self.now c.args.database.now c.args.declared.now c.args.analyzers.now (length c.args.self.now.buffers.items) c.args.place c.args.passes.now c.requires.out
     d s1 s2 c.take_of_buffer-pass.result c.take_fresh-pass.result at_d
-    c.take_of_buffer-pass.ensures.taken c.take_of_buffer-pass.ensures.engine c.take_of_buffer-pass.ensures.database
-    c.take_fresh-pass.ensures refl refl
+    (rw has_number at c.take_of_buffer-pass.ensures.taken) c.take_of_buffer-pass.ensures.engine c.take_of_buffer-pass.ensures.database
+    (rw has_number at c.take_fresh-pass.ensures) refl refl
 
 pub returns-clause-port : goal.returns-clause-port
 returns-clause-port g c =
@@ -88,10 +91,11 @@ returns-clause-port g c =
     let r = there_below c.args.passes.now.buffers.items d0.buffer (omega arith) in
     let k = c.requires.out.buffers d0.buffer b0 r.0 at_b r.1 in
     let taken = c.take_of_buffer-pass.ensures.taken.there r.0 r.1 in
+    let has_number : c.number-caller.result ≡ length c.args.declared.now + 1 + c.args.place + 1 = c.number-caller.ensures ∙ c.of_client.ensures in
     λ d buffer at there.
     let same_d : d0 ≡ d = some_same d0 d (sym at0 ∙ at) in
     let same_b : b0 ≡ buffer = some_same b0 buffer (sym at_b ∙ ap (λ (z : AnalyzerDeclared). slice_get c.args.self.now.buffers.items z.buffer) same_d ∙ there) in
     new_port_is c.new-port.result buffer.shared (length c.args.declared.now + 1 + c.args.place + 1)
     (c.new-port.ensures.buffer ∙ ap (λ (z : SessionBuffer). z.shared) same_b)
-    (ap (λ p. number_of p) c.new-port.ensures.pass ∙ taken.2.is)
+    (ap (λ p. number_of p) c.new-port.ensures.pass ∙ (taken.2.is ∙ has_number))
     (ap (λ p. seen_by p) c.new-port.ensures.pass ∙ (taken.2.fresh k.fresh).seen)

@@ -22,7 +22,8 @@ take_of_buffer-pass-requires-clause-there g c =
     let b = there_below c.args.self.now.buffers.items d.buffer (c.requires.callers.sent_into c.args.client d at_d) in
     let count : passes_of (lock_of b.0.shared) ≡ length c.args.declared.now + 2 + length c.args.analyzers.now = c.requires.callers.buffers d.buffer b.0 b.1 in
     let within : c.args.client < length c.args.declared.now = c.requires.client in
-    λ roster at. buffer_has c.args.self.now c.args.database.now c.args.declared.now c.args.client c.args.passes.now c.requires.out d.buffer b.0 roster b.1 at (omega arith)
+    let has_number : c.number-caller.result ≡ c.args.client + 1 = c.number-caller.ensures ∙ c.of_client.ensures in
+    λ roster at. rw has_number (buffer_has c.args.self.now c.args.database.now c.args.declared.now c.args.client c.args.passes.now c.requires.out d.buffer b.0 roster b.1 at (omega arith))
 
 pub index-requires : goal.index-requires
 index-requires g c =
@@ -56,9 +57,10 @@ pub take_fresh-requires : goal.take_fresh-requires
 take_fresh-requires g c =
     let within : c.args.client < length c.args.declared.now = c.requires.client in
     let more : length c.args.declared.now < passes_of (odb_lock_of c.args.database.now) = c.requires.callers.database in
-    let P : Passes _ _ _ _ → Type 0 = λ db. Contains (numbers_of db) (c.args.client + 1) in
+    let has_number : c.number-caller.result ≡ c.args.client + 1 = c.number-caller.ensures ∙ c.of_client.ensures in
+    let P : Passes _ _ _ _ → Type 0 = λ db. Contains (numbers_of db) c.number-caller.result in
     subst P (sym c.take_of_buffer-pass.ensures.database)
-    (database_has c.args.self.now c.args.database.now c.args.declared.now c.args.client c.args.passes.now c.requires.out (omega arith))
+    (rw has_number (database_has c.args.self.now c.args.database.now c.args.declared.now c.args.client c.args.passes.now c.requires.out (omega arith)))
 
 pub new-access-requires-clause-own : goal.new-access-requires-clause-own
 new-access-requires-clause-own g c =
@@ -74,9 +76,10 @@ pub take_fresh-requires-2 : goal.take_fresh-requires-2
 take_fresh-requires-2 g c =
     let within : c.args.client < length c.args.declared.now = c.requires.client in
     let count : passes_of (engine_lock_of c.args.self.now.engine) ≡ length c.args.declared.now + 2 + length c.args.analyzers.now = c.requires.callers.engine in
-    let P : Passes _ _ _ _ → Type 0 = λ en. Contains (numbers_of en) (c.args.client + 1) in
+    let has_number : c.number-caller.result ≡ c.args.client + 1 = c.number-caller.ensures ∙ c.of_client.ensures in
+    let P : Passes _ _ _ _ → Type 0 = λ en. Contains (numbers_of en) c.number-caller.result in
     subst P (sym c.take_of_buffer-pass.ensures.engine)
-    (engine_has c.args.self.now c.args.database.now c.args.declared.now c.args.client c.args.passes.now c.requires.out (omega arith))
+    (rw has_number (engine_has c.args.self.now c.args.database.now c.args.declared.now c.args.client c.args.passes.now c.requires.out (omega arith)))
 
 pub new-seat-requires-clause-own : goal.new-seat-requires-clause-own
 new-seat-requires-clause-own g c =
@@ -90,10 +93,11 @@ returns-clause-out g c =
     let s1 = c.take_of_buffer-pass.new.self in
     let s2 : SessionPasses _ _ = record s1 { database = c.take_fresh.new.passes } in
     let s3 : SessionPasses _ _ = record s2 { engine = c.take_fresh-2.new.passes } in
+    let has_number : c.number-caller.result ≡ c.args.client + 1 = c.number-caller.ensures ∙ c.of_client.ensures in
     front_out c.args.self.now c.args.database.now c.args.declared.now c.args.client c.args.passes.now c.requires.out d s1 s2 s3
     c.take_of_buffer-pass.result c.take_fresh.result c.take_fresh-2.result at_d
-    c.take_of_buffer-pass.ensures.taken c.take_of_buffer-pass.ensures.engine c.take_of_buffer-pass.ensures.database
-    c.take_fresh.ensures refl refl c.take_fresh-2.ensures refl refl
+    (rw has_number at c.take_of_buffer-pass.ensures.taken) c.take_of_buffer-pass.ensures.engine c.take_of_buffer-pass.ensures.database
+    (rw has_number at c.take_fresh.ensures) refl refl (rw has_number at c.take_fresh-2.ensures) refl refl
 
 pub returns-clause-port : goal.returns-clause-port
 returns-clause-port g c =
@@ -106,10 +110,11 @@ returns-clause-port g c =
     let r = there_below c.args.passes.now.buffers.items d0.buffer (omega arith) in
     let k = c.requires.out.buffers d0.buffer b0 r.0 at_b r.1 in
     let taken = c.take_of_buffer-pass.ensures.taken.there r.0 r.1 in
+    let has_number : c.number-caller.result ≡ c.args.client + 1 = c.number-caller.ensures ∙ c.of_client.ensures in
     λ d buffer at there.
     let same_d : d0 ≡ d = some_same d0 d (sym at0 ∙ at) in
     let same_b : b0 ≡ buffer = some_same b0 buffer (sym at_b ∙ ap (λ (z : FrontDeclared). slice_get c.args.self.now.buffers.items z.buffer) same_d ∙ there) in
     new_port_is c.new-port.result buffer.shared (c.args.client + 1)
     (c.new-port.ensures.buffer ∙ ap (λ (z : SessionBuffer). z.shared) same_b)
-    (ap (λ p. number_of p) c.new-port.ensures.pass ∙ taken.2.is)
+    (ap (λ p. number_of p) c.new-port.ensures.pass ∙ (taken.2.is ∙ has_number))
     (ap (λ p. seen_by p) c.new-port.ensures.pass ∙ (taken.2.fresh k.fresh).seen)
