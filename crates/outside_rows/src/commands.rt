@@ -303,44 +303,47 @@ fn places_of_faulty_words(rt: HostRuntime) {
     }
 }
 
+/// Lines with which no form goes on from a place.
+const NO_FORM: [(&str, u32); 34] = [
+    ("start now", 6),
+    ("stop  1", 6),
+    ("exit 0", 5),
+    ("events", 6),
+    ("events  ", 8),
+    ("events -1", 7),
+    ("events 4294967296", 7),
+    ("events 0x100000000", 7),
+    ("events 0X10", 7),
+    ("events 0x", 7),
+    ("events 0xg", 7),
+    ("events 1f", 7),
+    ("events \"\"", 7),
+    ("events 3 4", 9),
+    ("create", 6),
+    ("create uint8 /A", 7),
+    ("create dir /A", 7),
+    ("create UINT8", 12),
+    ("create UINT8 /A x", 16),
+    ("create UINT8 /A 1 2", 18),
+    ("create DIR", 10),
+    ("create DIR /A 3", 14),
+    ("set", 3),
+    ("set /A  ", 8),
+    ("set /A x y", 9),
+    ("set /A 4294967296 y", 18),
+    ("set /A 1 x y", 11),
+    ("get", 3),
+    ("get /A x", 7),
+    ("get /A 1 2", 9),
+    ("ls", 2),
+    ("ls /A /B", 6),
+    ("rm", 2),
+    ("rm /A /B", 6),
+];
+
 #[test]
 fn places_where_no_form_goes_on(rt: HostRuntime) {
-    for (line, place) in [
-        ("start now", 6),
-        ("stop  1", 6),
-        ("exit 0", 5),
-        ("events", 6),
-        ("events  ", 8),
-        ("events -1", 7),
-        ("events 4294967296", 7),
-        ("events 0x100000000", 7),
-        ("events 0X10", 7),
-        ("events 0x", 7),
-        ("events 0xg", 7),
-        ("events 1f", 7),
-        ("events \"\"", 7),
-        ("events 3 4", 9),
-        ("create", 6),
-        ("create uint8 /A", 7),
-        ("create dir /A", 7),
-        ("create UINT8", 12),
-        ("create UINT8 /A x", 16),
-        ("create UINT8 /A 1 2", 18),
-        ("create DIR", 10),
-        ("create DIR /A 3", 14),
-        ("set", 3),
-        ("set /A  ", 8),
-        ("set /A x y", 9),
-        ("set /A 4294967296 y", 18),
-        ("set /A 1 x y", 11),
-        ("get", 3),
-        ("get /A x", 7),
-        ("get /A 1 2", 9),
-        ("ls", 2),
-        ("ls /A /B", 6),
-        ("rm", 2),
-        ("rm /A /B", 6),
-    ] {
+    for (line, place) in NO_FORM {
         assert_eq!(rt; refused_at(line.as_bytes()), Some(place), "{line}");
     }
 }
