@@ -1,3 +1,5 @@
+use crate::causes::Cause;
+use crate::outcome::status;
 use crate::top::midas;
 use daq_io::Outside;
 use daq_mem::NoGate;
@@ -8,9 +10,6 @@ use std::io::{self, Stdin, Stdout};
 use std::process::ExitCode;
 use std::sync::Wait;
 use std::thread::Threads;
-
-/// The status where the words find no memory.
-const NO_MEMORY_STATUS: u8 = 5;
 
 /// How many run files are in use at a time, at most: each channel writes one.
 const RUN_FILES: u32 = 16;
@@ -65,7 +64,7 @@ fn real_outside(rt: HostRuntime) -> Result<RealOutside, NoMemory> {
 /// the outcome, 0 to 5. Where there is no memory for the words or the objects it is 5, and nothing was done.
 pub fn run_program<R: Threads + Wait + Sync>(threads: &R, rt: HostRuntime) -> ExitCode {
     let (Ok(words), Ok(outside)) = (given_words(rt), real_outside(rt)) else {
-        return ExitCode::from(NO_MEMORY_STATUS);
+        return ExitCode::from(status(&Cause::NoMemory));
     };
     let (outcome, _outside) = midas(threads, rt.alloc(), &words, outside, &NoGate);
     ExitCode::from(outcome.status)

@@ -106,14 +106,6 @@ IsCutShort calls [] = Unit {0}
 IsCutShort [] (e ∷ made) = ⊥
 IsCutShort (c ∷ calls) (e ∷ made) = ((e ≡ c) × IsCutShort calls made) ⊎ ((e ≡ unanswered c) × (made ≡ []))
 
--- Memory ended before the caller had made such calls: it made the first of some.
-pub record CutsCalls (a b : DatabaseAccess) (Are : List DatabaseEntry → Type 0) : Type 0 where
-  pub calls : List DatabaseEntry
-  pub are : Are calls
-  pub made : List DatabaseEntry
-  pub short : IsCutShort calls made
-  pub adds : AddsCalls a b made
-
 -- A database of one thread with the journal of its calls: the rows at first and now; the calls since, each with its caller;
 -- whose calls come next; and room to note so many calls more.
 pub record CalledDatabase : Type 0 where
