@@ -1,4 +1,4 @@
-ghost use Rattle.std.specs.Prelude.{◌≡◌, ◌<◌, ◌==◌, ◌↔◌, ◌||◌, ◌&&◌, Some, None, IfOk, IsTrue, IsSome, IsNone, IsErr, IsErrOf, IsOk, OnOk, OnErr, MatchOption, option_map, is_some, if◌then◌else◌, ℕ, List, [], length, take, min, replicate};
+ghost use Rattle.std.specs.Prelude.{◌≡◌, ◌≤◌, ◌+◌, ◌<◌, ◌==◌, ◌↔◌, ◌||◌, ◌&&◌, Some, None, IfOk, IsTrue, IsSome, IsNone, IsErr, IsErrOf, IsOk, OnOk, OnErr, MatchOption, option_map, is_some, if◌then◌else◌, ℕ, List, [], length, take, min, replicate};
 ghost use Rattle.std.specs.Io.{ReadsAtMost};
 ghost use Rattle.daq_io.specs.Counts.{CountsClash, CountsFault, CountsNamed, NamesFirst, NamesFirstOf, RoseJustBy};
 ghost use Rattle.daq_io.specs.Seen.{Closes, Creates, Ends, Extends, ExtendsPart, InUse, IsFree, Opens, Reads, Removes, Same, Stores, is_closed};
@@ -346,6 +346,8 @@ impl Files for MemFiles {
         ensures clashes { (seen_files self.new).clashes ≡ (seen_files self.old).clashes }
         ensures bytes_read { IfOk result (λ count. RoseJustBy count (seen_files self.old).bytes_read
             (seen_files self.new).bytes_read) }
+        ensures no_more_counted { IfOk result (λ count. (seen_files self.new).bytes_read
+            ≤ (seen_files self.old).bytes_read + count) }
         ensures none_read { OnErr result ((seen_files self.new).bytes_read
             ≡ (seen_files self.old).bytes_read) }
         ensures first { NamesFirst ((seen_files self.old).seen.name_of file)
