@@ -61,7 +61,8 @@ pub fn run_tool<S, K: Sink, F: Files, E, C, P>(
 ) -> (Outcome, Outside<S, K, F, E, C, P>)
     ensures status { result.0.status ≡ status_of result.0.cause }
     ensures ran { ToolRan call.tool (F.seen outside.run_files) call.name (K.written outside.out)
-        (K.written result.1.out) (call_counts K.faults F.faults F.clashes F.bytes_read outside result.1)
+        (K.written result.1.out)
+        (call_counts K.faults F.faults F.clashes F.bytes_read outside result.1)
         (F.first result.1.run_files) result.0.cause }
     ensures same { Same (F.seen outside.run_files) (F.seen result.1.run_files) }
     ensures session { result.0.session ≡ None }

@@ -56,7 +56,8 @@ pub fn midas<
     // Every name and byte of the run files stays.
     ensures tool { (tool : Tool) → (name : List ℕ) → IsOnFile tool name words.now
         → ToolRan tool (F.seen outside.run_files) name (K.written outside.out)
-        (K.written result.1.out) (call_counts K.faults F.faults F.clashes F.bytes_read outside result.1)
+        (K.written result.1.out)
+        (call_counts K.faults F.faults F.clashes F.bytes_read outside result.1)
         (F.first result.1.run_files) result.0.cause
         ⊎ ((result.0.cause ≡ Cause.NoMemory) × (result.1 ≡ outside)) }
     // The words `gen N`: the script of N is written.

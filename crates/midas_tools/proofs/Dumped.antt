@@ -13,7 +13,7 @@ use Rattle.mid_format.specs.HasRead.{FailsAfter}
 use Rattle.mid_format.specs.declared.faults.MidFault.{MidFault}
 use Rattle.mid_format.specs.declared.faults.MidFault.TheVariants.{ReadFault}
 use Rattle.midas_tools.specs.Dumps.{DumpsTo, IsDump, IsPart, ListsRead, ListsWhole, PrintsDump, PrintsRead, PrintsSome, WritesOn, WritesRead, WritesSome, end_lines}
-use Rattle.midas_tools.specs.Findings.{Finds, WritesAll, WritesPart, IsFileOpened, RefusesFile, SaysWhy, ClosesWell, Closed}
+use Rattle.midas_tools.specs.Findings.{Finds, WritesAll, WritesPart, IsFileOpened, RefusesFile, Printed, SaysWhy, ClosesWell, Closed}
 use Rattle.midas_tools.specs.declared.opening.Refused.{Refused}
 use Rattle.midas_tools.specs.declared.opening.Refused.TheVariants.{NameCompressed, NameMissing, OpenFailed}
 use Rattle.midas_tools.specs.declared.ends.InputFault.TheVariants.{Mid, Compressed, Missing, ScriptTooLong}
@@ -177,3 +177,25 @@ module _ (seen : Seen) (name : List ℕ) (read_old read_new : ℕ) (told_old tol
         let same : now_read ≡ record { files = opened; bytes_read = read_old; number = number } = same_origin now_read (record { files = opened; bytes_read = read_old; number = number }) is in
         dump_closed after files_old files_new end result (subst (λ (x : Origin). DumpsTo (told_left opened number) (told_left after x.number) told_old told_new end) same d)
         (subst (λ (x : Origin). IsTrue x.files.tells → ReadsFirst x.files after x.number x.bytes_read read_new) same front) c
+
+-- Where memory is wanting the file was not opened: a call that opened it, or was refused it, ends otherwise.
+
+done_or_failed : (files_old files_new : ℕ) (end result : ToolEnd) → end ≢ NoMemory → ClosesWell files_old files_new end result → result ≢ NoMemory
+done_or_failed files_old files_new end result ne (inl well) e = ne (sym well.0 ∙ e)
+done_or_failed files_old files_new end result ne (inr failed) e = let clash : FileFault ≡ NoMemory = sym failed.0 ∙ e in absurd cc
+
+pub closed_has_memory : (source now told_old told_new : Option (List ℕ)) (files_old files_new : ℕ) (end result : ToolEnd) → DumpsTo source now told_old told_new end → Closed end files_old files_new result → result ≢ NoMemory
+closed_has_memory source now told_old told_new files_old files_new Done result d c = done_or_failed files_old files_new Done result (λ e. absurd cc) c
+closed_has_memory source now told_old told_new files_old files_new (Input fault) result d c = done_or_failed files_old files_new (Input fault) result (λ e. absurd cc) c
+closed_has_memory source now told_old told_new files_old files_new FileFault result d c = λ e. let clash : FileFault ≡ NoMemory = sym c.0 ∙ e in absurd cc
+closed_has_memory source now told_old told_new files_old files_new SinkFault result d c = λ e. let clash : SinkFault ≡ NoMemory = sym c ∙ e in absurd cc
+closed_has_memory source now told_old told_new files_old files_new NoMemory result d c = absurd d
+
+printed_has_memory : (text : List ℕ) (told_old told_new : Option (List ℕ)) (sink_old sink_new : ℕ) (end result : ToolEnd) → end ≢ NoMemory → Printed text told_old told_new sink_old sink_new end result → result ≢ NoMemory
+printed_has_memory text told_old told_new sink_old sink_new end result ne (inl whole) e = ne (sym whole.0 ∙ e)
+printed_has_memory text told_old told_new sink_old sink_new end result ne (inr part) e = let clash : SinkFault ≡ NoMemory = sym part.0 ∙ e in absurd cc
+
+pub refused_has_memory : (told_old told_new : Option (List ℕ)) (sink_old sink_new : ℕ) (refused : Refused) (result : ToolEnd) → SaysWhy refused told_old told_new sink_old sink_new result → result ≢ NoMemory
+refused_has_memory told_old told_new sink_old sink_new NameCompressed result s = printed_has_memory _ told_old told_new sink_old sink_new (Input Compressed) result (λ e. absurd cc) s
+refused_has_memory told_old told_new sink_old sink_new NameMissing result s = printed_has_memory _ told_old told_new sink_old sink_new (Input Missing) result (λ e. absurd cc) s
+refused_has_memory told_old told_new sink_old sink_new OpenFailed result s = λ e. let clash : FileFault ≡ NoMemory = sym s.0 ∙ e in absurd cc

@@ -113,15 +113,15 @@ abbrev pub WritesFound : (seen : Seen) (name : List ℕ) (told_old told_new : Op
 WritesFound seen name told_old told_new = (found : ToolEnd) × WritesAll IsDump seen name told_old told_new found
 
 -- What `dump` writes, which prints as it reads: its text. Where a call on the files fails, the lines of all that was read
--- of the file before it, or all of its text, where only the close failed; where the sink fails a part of the text, or of
--- the lines of what was read; where memory is wanting nothing.
+-- of the file before it, or all of its text; where the sink fails a part of the text, or of the lines of what was read; where
+-- memory is wanting nothing, and nothing was read.
 abbrev pub WritesOn : (seen : Seen) (name : List ℕ) (read_old read_new : ℕ) (told_old told_new : Option (List ℕ)) → ToolEnd → Type 0
 WritesOn seen name read_old read_new told_old told_new Done = WritesAll IsDump seen name told_old told_new Done
 WritesOn seen name read_old read_new told_old told_new (Input fault) = WritesAll IsDump seen name told_old told_new (Input fault)
 WritesOn seen name read_old read_new told_old told_new FileFault =
     (is_compressed name ≡ false) × (WritesRead seen name read_old read_new told_old told_new ⊎ WritesFound seen name told_old told_new)
 WritesOn seen name read_old read_new told_old told_new SinkFault = WritesPart IsDump seen name told_old told_new ⊎ ((is_compressed name ≡ false) × WritesSome seen name told_old told_new)
-WritesOn seen name read_old read_new told_old told_new NoMemory = (is_compressed name ≡ false) × Keeps told_old told_new
+WritesOn seen name read_old read_new told_old told_new NoMemory = (is_compressed name ≡ false) × Keeps told_old told_new × (read_new ≡ read_old)
 
 -- The text so far: the lines of the begin record and of the events that were read.
 pub record Listing (first now : Option (List ℕ)) (progress : Progress) (text : List ℕ) : Type 0 where

@@ -69,13 +69,13 @@ pub record WritesPart (Says : List ℕ → Option MidFault → List ℕ → Type
   pub written : AppendsPart told_old told_new text
 
 -- What a tool writes that prints when it has read all: its text, a part of it where the sink fails, and nothing where a
--- call on the files fails or there is no memory.
+-- call on the files fails or there is no memory, which is so only of a file that is there.
 abbrev pub Writes : (Says : List ℕ → Option MidFault → List ℕ → Type 0) (seen : Seen) (name : List ℕ) (told_old told_new : Option (List ℕ)) → ToolEnd → Type 0
 Writes Says seen name told_old told_new Done = WritesAll Says seen name told_old told_new Done
 Writes Says seen name told_old told_new (Input fault) = WritesAll Says seen name told_old told_new (Input fault)
 Writes Says seen name told_old told_new FileFault = (is_compressed name ≡ false) × Keeps told_old told_new
 Writes Says seen name told_old told_new SinkFault = WritesPart Says seen name told_old told_new
-Writes Says seen name told_old told_new NoMemory = (is_compressed name ≡ false) × Keeps told_old told_new
+Writes Says seen name told_old told_new NoMemory = (is_compressed name ≡ false) × Keeps told_old told_new × (IsTrue seen.tells → IsSome (seen.at name))
 
 -- the sink's count of faults: it rose exactly where the sink failed
 abbrev pub SinkByEnd : ToolEnd → (old new : ℕ) → Type 0

@@ -4,6 +4,14 @@ use Rattle.std.specs.Io.KnownBytes.{Appends}
 use Rattle.daq_io.specs.declared.faults.Failed.{Failed}
 use Rattle.daq_io.specs.Streams.{AppendsPart}
 
+-- the most bytes of a line
+abbrev pub line_room : ℕ
+line_room = 128
+
+-- how many bytes a page has room for, which are written at a time
+abbrev pub page_room : ℕ
+page_room = 65536
+
 -- Of this text all was written but what is on the page.
 pub record PrintsSoFar (first now : Option (List ℕ)) (page text : List ℕ) : Type 0 where
   pub done : List ℕ

@@ -260,6 +260,8 @@ pub fn dump_file<F: Files, K: Sink>(
     ensures complete { Completes (F.seen files) name.now (K.faults out.old) (K.faults out.new)
         (F.faults files) (F.faults result.1) result.0 }
     ensures clashes { ClashCounts result.0 (F.clashes files) (F.clashes result.1) }
+    // Where memory is wanting the name was not looked for.
+    ensures unclashed { result.0 ≡ ToolEnd.NoMemory → F.clashes result.1 ≡ F.clashes files }
     ensures same { Same (F.seen files) (F.seen result.1) }
 {
     if name.compressed() {

@@ -1,4 +1,5 @@
 ghost use Rattle.std.specs.Prelude.{◌≡◌, ◌≤◌, ◌+◌, ◌-◌, ◌++◌, ◌∷◌, [], drop, length};
+ghost use Rattle.midas_tools.specs.Printing.{line_room};
 ghost use Rattle.midas_tools.specs.Texts.{number_text, type_text};
 
 use daq_types::Tid;
@@ -18,12 +19,13 @@ pub struct Line {
 
 impl Model for Line {
     ghost use Rattle.std.specs.Prelude.{◌≤◌, ℕ, List, drop};
+    ghost use Rattle.midas_tools.specs.Printing.{line_room};
 
     ghost Value = { List ℕ };
 
     ghost view = { λ l. drop l.start l.bytes };
 
-    ghost invariant = { λ l. l.start ≤ 128 };
+    ghost invariant = { λ l. l.start ≤ line_room };
 }
 
 /// Writes a text so that it ends at this place.
@@ -64,7 +66,7 @@ impl Line {
     /// The line as far as it is made.
     pub fn as_slice(&self) -> &[u8]
         ensures made { result.now ≡ self.now }
-        ensures short { length result.now ≤ 128 }
+        ensures short { length result.now ≤ line_room }
     {
         let (_, made) = self.bytes.split_at(self.start);
         made
@@ -72,7 +74,7 @@ impl Line {
 
     /// Puts these bytes in front.
     pub fn put(&mut self, text: &[u8])
-        requires { length text.now + length self.old ≤ 128 }
+        requires { length text.now + length self.old ≤ line_room }
         ensures { self.new ≡ text.now ++ self.old }
     {
         write_before(&mut self.bytes, self.start, text);
@@ -82,7 +84,7 @@ impl Line {
     /// Puts a blank and a number in front.
     #[inline(always)]
     pub fn blank_number(&mut self, number: u64)
-        requires { length self.old + 21 ≤ 128 }
+        requires { length self.old + 21 ≤ line_room }
         ensures added { self.new ≡ number_text number ++ self.old }
         ensures short { length self.new ≤ length self.old + 21 }
     {
@@ -91,7 +93,7 @@ impl Line {
 
     /// Puts a name, a blank and a number in front.
     pub fn named(&mut self, name: &[u8], number: u64)
-        requires { length name.now + length self.old + 21 ≤ 128 }
+        requires { length name.now + length self.old + 21 ≤ line_room }
         ensures added { self.new ≡ (name.now ++ number_text number) ++ self.old }
         ensures short { length self.new ≤ length name.now + length self.old + 21 }
     {
@@ -101,7 +103,7 @@ impl Line {
 
     /// Puts a blank and a type's name in front, or a blank and its number where it has no name.
     pub fn blank_type(&mut self, code: u32)
-        requires { length self.old + 21 ≤ 128 }
+        requires { length self.old + 21 ≤ line_room }
         ensures added { self.new ≡ (32 ∷ type_text code) ++ self.old }
         ensures short { length self.new ≤ length self.old + 21 }
     {

@@ -1,8 +1,8 @@
-ghost use Rattle.std.specs.Prelude.{◌≡◌, [], IfOk, OnOk, OnErr};
+ghost use Rattle.std.specs.Prelude.{◌≡◌, ◌≤◌, [], length, IfOk, OnOk, OnErr};
 ghost use Rattle.std.specs.Io.KnownBytes.{Appends};
 ghost use Rattle.daq_io.specs.Counts.{CountsFault};
 ghost use Rattle.daq_io.specs.Streams.{AppendsPart};
-ghost use Rattle.midas_tools.specs.Printing.{PassesText};
+ghost use Rattle.midas_tools.specs.Printing.{PassesText, page_room};
 
 use crate::line::Line;
 use daq_io::{ByteRoom, Failed, Sink, write_all};
@@ -20,13 +20,14 @@ pub struct Page {
 }
 
 impl Model for Page {
-    ghost use Rattle.std.specs.Prelude.{◌≤◌, ℕ, List};
+    ghost use Rattle.std.specs.Prelude.{◌≡◌, ℕ, List};
+    ghost use Rattle.midas_tools.specs.Printing.{page_room};
 
     ghost Value = { List ℕ };
 
     ghost view = { λ p. p.room.bytes };
 
-    ghost invariant = { λ p. 128 ≤ p.room.room };
+    ghost invariant = { λ p. p.room.room ≡ page_room };
 }
 
 impl Page {
@@ -54,6 +55,7 @@ impl Page {
     pub fn print<K: Sink>(&mut self, line: &Line, out: &mut K) -> Result<(), Failed>
         ensures passes { PassesText (K.written out.old) (K.written out.new) self.old self.new
             line.now result }
+        ensures fits { OnOk result (length self.new ≤ page_room) }
         ensures faults { CountsFault (K.faults out.old) (K.faults out.new) result }
     {
         if self.room.put(line.as_slice()) {

@@ -1,7 +1,7 @@
 use Rattle.std.proofs.Common.{◌∙◌, rules, refl, ap}
 use Rattle.midas_tools.specs.declared.opening.Refused.TheVariants.{NameCompressed}
 use Rattle.midas_tools.proofs.Complete.{dump_completes}
-use Rattle.midas_tools.proofs.Dumped.{dump_refused, dump_read, origin_of}
+use Rattle.midas_tools.proofs.Dumped.{dump_refused, dump_read, origin_of, closed_has_memory, refused_has_memory}
 use Rattle.midas_tools.proofs.dump.dump_file.Goals as goal
 
 pub returns-then-compressed-clause-writes : goal.returns-then-compressed-clause-writes
@@ -24,3 +24,9 @@ returns-in-Ok-open-clause-complete g c =
 pub returns-in-Err-clause-writes : goal.returns-in-Err-clause-writes
 returns-in-Err-clause-writes g c =
     dump_refused (g.F.Files.seen c.args.files) c.args.name.now _ _ (g.K.Sink.written c.args.out.now) (g.K.Sink.written c.refuse-in-Err.new.out) _ _ _ _ _ _ c.in-Err.refused c.refuse-in-Err.result c.in-Err.ensures.refused c.refuse-in-Err.ensures c.in-Err.ensures.none_read
+
+pub returns-in-Ok-open-clause-unclashed : goal.returns-in-Ok-open-clause-unclashed
+returns-in-Ok-open-clause-unclashed g c = λ e. absurd (closed_has_memory _ _ _ _ _ _ _ _ c.dump_source-end.ensures.dumps c.close_dump.ensures.closed e)
+
+pub returns-in-Err-clause-unclashed : goal.returns-in-Err-clause-unclashed
+returns-in-Err-clause-unclashed g c = λ e. absurd (refused_has_memory _ _ _ _ _ _ c.refuse-in-Err.ensures e)
