@@ -2,7 +2,7 @@
 use Rattle.std.specs.Prelude.{ℕ, List, Option, Some, None}
 use Rattle.std.specs.Io.KnownBytes.{prepend_known, append_known}
 
--- the most bytes that a block has: so many go to the system, or come from it, at a time
+-- how many bytes a block has room for; what is longer goes past it
 abbrev pub block_room : ℕ
 block_room = 65536
 
