@@ -23,6 +23,7 @@ pub RoseJustBy-none : (a b : ℕ) → b ≡ a → RoseJustBy 0 a b
 RoseJustBy-none a b e = inl (e ∙ sym (add-zero a))
 
 pub RoseJustBy-then : (many more a b c : ℕ) → RoseJustBy many a b → RoseJustBy more b c → RoseJustBy (many + more) a c
-RoseJustBy-then many more a b c p (inr end) = inr end
 RoseJustBy-then many more a b c (inl p) (inl q) = inl (omega (arith, p, q))
-RoseJustBy-then many more a b c (inr end) (inl q) = inr (omega (arith, end, q))
+RoseJustBy-then many more a b c (inl p) (inr q) = inr (omega (arith, p, q.0), q.1)
+RoseJustBy-then many more a b c (inr p) (inl q) = inr (omega (arith, p.0), omega (arith, p.1, q))
+RoseJustBy-then many more a b c (inr p) (inr q) = inr (omega (arith, p.0), q.1)

@@ -12,9 +12,9 @@ Rose old new = min (old + 1) (2 ^ 64 - 1) ≤ new
 abbrev pub RoseBy : (many old new : ℕ) → Type 0
 RoseBy many old new = min (old + many) (2 ^ 64 - 1) ≤ new
 
--- The count rose by just so many, or it stands at its type's end.
+-- The count rose by just so many; or it stands at its type's end, which that many would reach or pass.
 abbrev pub RoseJustBy : (many old new : ℕ) → Type 0
-RoseJustBy many old new = (new ≡ old + many) ⊎ (2 ^ 64 - 1 ≤ new)
+RoseJustBy many old new = (new ≡ old + many) ⊎ ((2 ^ 64 - 1 ≤ old + many) × (2 ^ 64 - 1 ≤ new))
 
 -- What a call whose only error is a fault does to the count of faults: it rose exactly where the call failed.
 pub record CountsFault {T E : Type 0} (old new : ℕ) (result : Result T E) : Type 0 where

@@ -15,7 +15,8 @@ pub trait Source {
     /// How many calls have failed. The count stands still at 2^64 - 1.
     ghost faults: { Self → ℕ };
 
-    /// The bytes at hand, the first of those left, which were read ahead.
+    /// The bytes at hand, which were read ahead. A source that can be looked ahead in says that they are the first of those
+    /// left.
     ghost at_hand: { Self → List ℕ } = { λ _. [] };
 
     /// Where the bytes come from, for a source that reads one of several files. No read changes it.

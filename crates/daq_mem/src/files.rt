@@ -346,8 +346,6 @@ impl Files for MemFiles {
         ensures clashes { (seen_files self.new).clashes ≡ (seen_files self.old).clashes }
         ensures bytes_read { IfOk result (λ count. RoseJustBy count (seen_files self.old).bytes_read
             (seen_files self.new).bytes_read) }
-        ensures no_more_counted { IfOk result (λ count. (seen_files self.new).bytes_read
-            ≤ (seen_files self.old).bytes_read + count) }
         ensures none_read { OnErr result ((seen_files self.new).bytes_read
             ≡ (seen_files self.old).bytes_read) }
         ensures first { NamesFirst ((seen_files self.old).seen.name_of file)

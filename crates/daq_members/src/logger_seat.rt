@@ -63,7 +63,8 @@ impl<'a, P: EndlessPort, F: Files> Model for LoggerSeat<'a, P, F> {
       first = s.first.value;
     } };
 
-    ghost invariant = { λ s. IsLoggerAtSeat F.seen (files_by F.seen F.faults F.clashes F.first) (record {
+    ghost invariant = { λ s. IsLoggerAtSeat F.seen
+        (files_by F.seen F.faults F.clashes F.first) (record {
       engine = s.member.seat.engine.now;
       client = s.member.seat.client;
       run = s.member.logger.run;

@@ -315,8 +315,9 @@ impl Logger {
         requires idle { IsIdleOutside self.old.run self.old.channels }
         requires begun { buffers_begun self.old.run ≤ length ports.old }
         ensures takes { TakesStop (is_started self.old.run order.now.start)
-            (logger_turned (files_by F.seen F.faults F.clashes F.first) Stop order.now dump result
-            self.old self.new (map P.access ports.old) (map P.access ports.new) files.old files.new) }
+            (logger_turned (files_by F.seen F.faults F.clashes F.first) Stop order.now dump
+            result self.old self.new (map P.access ports.old) (map P.access ports.new)
+            files.old files.new) }
         ensures ready { IsLoggerReady self.new.channels (map P.access ports.new)
             (F.seen files.new) }
         ensures idle { IsIdleOutside self.new.run self.new.channels }

@@ -101,7 +101,8 @@ fn path_twice<D: Database>(
     database: &D,
     row: u32,
 ) -> Result<(Option<Path>, Option<Path>), NoMemory>
-    ensures path { IfOk result (λ paths. IsRowsReply (D.rows database.now) (PathOf row (Ok paths.0))) }
+    ensures path { IfOk result (λ paths. IsRowsReply (D.rows database.now)
+        (PathOf row (Ok paths.0))) }
     ensures same { IfOk result (λ paths. paths.1 ≡ paths.0) }
 {
     let path = database.path_of(alloc, row)?;

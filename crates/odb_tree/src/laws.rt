@@ -57,8 +57,8 @@ pub fn trees_stay()
     ensures begins { IsTree no_rows }
     ensures after { (s : Rows) (entry : DatabaseEntry) → IsTree s → IsRowsReply s entry
         → IsTree (rows_after s entry) }
-    ensures stays { (s : Rows) (history : List (ℕ × DatabaseEntry)) → IsTree s → IsLegalRows s history
-        → IsTree (rows_replay s history) }
+    ensures stays { (s : Rows) (history : List (ℕ × DatabaseEntry)) → IsTree s
+        → IsLegalRows s history → IsTree (rows_replay s history) }
 {}
 
 /// After `delete` the walk is as it was, but without the row and what is below it.

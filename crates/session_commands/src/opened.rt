@@ -70,8 +70,9 @@ impl<'a, D: LastingPort, M: Rounds, E: Files, C: Clock> Answerer for Opened<'a, 
 
     ghost gives_up = { GivesUp };
 
-    ghost stays = { λ a b. StaysOpen M.round a.crew b.crew a.runs.main.engine b.runs.main.engine (D.access a.database.access)
-        (D.access b.database.access) a.lists.now b.lists.now };
+    ghost stays = { λ a b. StaysOpen M.round a.crew b.crew a.runs.main.engine
+        b.runs.main.engine (D.access a.database.access) (D.access b.database.access)
+        a.lists.now b.lists.now };
 
     /// An open session answers each line.
     fn is_left(&self, _line: &Result<Command<'_>, LineRefusal>) -> bool {
