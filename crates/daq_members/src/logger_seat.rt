@@ -65,16 +65,16 @@ impl<'a, P: EndlessPort, F: Files> Model for LoggerSeat<'a, P, F> {
 
     ghost invariant = { λ s. IsLoggerAtSeat F.seen
         (files_by F.seen F.faults F.clashes F.first) (record {
-      engine = s.member.seat.engine.now;
-      client = s.member.seat.client;
-      run = s.member.logger.run;
-      stop_dump = s.member.logger.stop_dump;
-      calls = own_entries s.member.seat.pass;
-      slots = s.member.logger.channels;
-      ports = map P.access s.ports;
-      files = s.files;
-      first = s.first.value;
-    }) };
+          engine = s.member.seat.engine.now;
+          client = s.member.seat.client;
+          run = s.member.logger.run;
+          stop_dump = s.member.logger.stop_dump;
+          calls = own_entries s.member.seat.pass;
+          slots = s.member.logger.channels;
+          ports = map P.access s.ports;
+          files = s.files;
+          first = s.first.value;
+        }) };
 }
 
 impl<'a, P: EndlessPort, F: Files> LoggerSeat<'a, P, F> {
