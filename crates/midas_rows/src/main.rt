@@ -1,5 +1,6 @@
-//! Scripts over objects in memory: what the program prints of each, its status, its records, and what its tools then say of the
-//! run files. All of it is printed.
+//! Scripts over objects in memory: what the program prints of each, its status, its records, and what its tools then say of
+//! the run files. All of it is printed, and then the program itself is run with the words that it is called with. Under the
+//! gate one of these is not UTF-8, so it answers with the usage line and status 2.
 #![tactic(auto)]
 
 mod database_rows;
@@ -22,6 +23,7 @@ use crate::telling::{Page, tell_row};
 use daq_io::write_all;
 use daq_std::StdSink;
 use daq_types::NoMemory;
+use midas_cli::run_program;
 use std::alloc::Global;
 use std::process::ExitCode;
 use std::sync::Wait;
@@ -81,7 +83,7 @@ fn main(rt: HostRuntime) -> ExitCode {
     };
     let mut out = StdSink::new(rt.stdout());
     match write_all(&mut out, page.as_slice()) {
-        Ok(()) => ExitCode::SUCCESS,
+        Ok(()) => run_program(&rt, rt),
         Err(_) => ExitCode::from(NOT_WRITTEN),
     }
 }
