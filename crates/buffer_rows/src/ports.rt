@@ -128,9 +128,9 @@ const STEPS: [Step; 15] = [
 #[test]
 fn a_port_replies_as_its_buffer(rt: HostRuntime) -> Result<(), Fail> {
     let mut port = new_port(rt.alloc())?;
-    for step in STEPS {
+    for step in &STEPS {
         port.reserve(1, 24)?;
-        run_step(&rt, &mut port, step)?;
+        run_step(&rt, &mut port, *step)?;
     }
     let (_, journal) = port.into_parts();
     assert_eq!(rt; journal.len(), STEPS.len());

@@ -382,6 +382,18 @@ const ROWS: [&[Step]; 10] = [
     &GATED,
 ];
 
+/// A request and a client give their numbers back, which are the next ones then.
+const FREED: [Step; 8] = [
+    Request(7, 1, ANY, All, Err(RequestRefusal::NoRequestSlot)),
+    Cancel(7, 3, Ok(())),
+    Request(7, 1, ANY, All, Ok(3)),
+    Detach(5, Ok(())),
+    Detach(5, Err(NoClient)),
+    Request(5, 1, ANY, All, Err(RequestRefusal::NoClient)),
+    Attach(Ok(5)),
+    Request(5, 1, ANY, All, Ok(0)),
+];
+
 fn use_numbers_again<R: Abort + AllocGlobal, B: EventBuffer>(
     rt: &R,
     buffer: &mut B,
@@ -393,19 +405,7 @@ fn use_numbers_again<R: Abort + AllocGlobal, B: EventBuffer>(
     for request in 0..10 {
         assert_eq!(rt; buffer.request(7, 1, ANY, All), Ok(request));
     }
-    for step in [
-        Request(7, 1, ANY, All, Err(RequestRefusal::NoRequestSlot)),
-        Cancel(7, 3, Ok(())),
-        Request(7, 1, ANY, All, Ok(3)),
-        Detach(5, Ok(())),
-        Detach(5, Err(NoClient)),
-        Request(5, 1, ANY, All, Err(RequestRefusal::NoClient)),
-        Attach(Ok(5)),
-        Request(5, 1, ANY, All, Ok(0)),
-    ] {
-        run_step(rt, buffer, step)?;
-    }
-    Ok(())
+    run_all(rt, buffer, &FREED)
 }
 
 /// Makes the calls on a new buffer of 256 bytes of each kind.
@@ -420,7 +420,7 @@ fn both_run<R: Abort + AllocGlobal>(rt: &R, steps: &[Step]) -> Result<(), Fail> 
 
 #[test]
 fn both_buffers_reply_by_the_rows(rt: HostRuntime) -> Result<(), Fail> {
-    for steps in ROWS {
+    for steps in &ROWS {
         both_run(&rt, steps)?;
     }
     use_numbers_again(&rt, &mut PlainBuffer::new(rt.alloc(), 256)?)?;

@@ -4,7 +4,7 @@ use std::test::Fail;
 
 #[test]
 fn patterns_by_the_rule(rt: HostRuntime) {
-    for (text, is_pattern) in [
+    for (text, is_pattern) in &[
         ("run%05d.mid", true),
         ("%05d", true),
         ("run.mid", false),
@@ -13,19 +13,19 @@ fn patterns_by_the_rule(rt: HostRuntime) {
         ("run%05d%.mid", false),
         ("run %05d.mid", false),
     ] {
-        assert_eq!(rt; Pattern::new(text).is_ok(), is_pattern);
+        assert_eq!(rt; Pattern::new(text).is_ok(), *is_pattern);
     }
 }
 
 #[test]
 fn names_of_runs(rt: HostRuntime) -> Result<(), Fail> {
-    for (run, name) in [
+    for (run, name) in &[
         (1, "run00001.mid"),
         (99999, "run99999.mid"),
         (123456, "run123456.mid"),
     ] {
         match Pattern::new("run%05d.mid") {
-            Ok(pattern) => assert_eq!(rt; pattern.name(run).as_slice(), name.as_bytes()),
+            Ok(pattern) => assert_eq!(rt; pattern.name(*run).as_slice(), name.as_bytes()),
             Err(_) => assert!(rt; false),
         }
     }

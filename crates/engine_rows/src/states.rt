@@ -3,39 +3,42 @@ use daq_types::{RunState, Transition};
 use run_states::{Role, after, allowed};
 use std::test::Fail;
 
+/// States, transitions, and the state that follows where the transition is allowed.
+const TRANSITIONS: [(RunState, Transition, Option<RunState>); 15] = [
+    (
+        RunState::Stopped,
+        Transition::Start,
+        Some(RunState::Running),
+    ),
+    (RunState::Stopped, Transition::Stop, None),
+    (RunState::Stopped, Transition::Pause, None),
+    (RunState::Stopped, Transition::Resume, None),
+    (RunState::Running, Transition::Start, None),
+    (RunState::Running, Transition::Stop, Some(RunState::Stopped)),
+    (RunState::Running, Transition::Pause, Some(RunState::Paused)),
+    (RunState::Running, Transition::Resume, None),
+    (RunState::Paused, Transition::Start, None),
+    (RunState::Paused, Transition::Stop, Some(RunState::Stopped)),
+    (RunState::Paused, Transition::Pause, None),
+    (
+        RunState::Paused,
+        Transition::Resume,
+        Some(RunState::Running),
+    ),
+    (RunState::Stopped, Transition::StartAbort, None),
+    (RunState::Running, Transition::StartAbort, None),
+    (RunState::Paused, Transition::StartAbort, None),
+];
+
 #[test]
 fn transitions_by_state(rt: HostRuntime) {
-    for (state, transition, next) in [
-        (
-            RunState::Stopped,
-            Transition::Start,
-            Some(RunState::Running),
-        ),
-        (RunState::Stopped, Transition::Stop, None),
-        (RunState::Stopped, Transition::Pause, None),
-        (RunState::Stopped, Transition::Resume, None),
-        (RunState::Running, Transition::Start, None),
-        (RunState::Running, Transition::Stop, Some(RunState::Stopped)),
-        (RunState::Running, Transition::Pause, Some(RunState::Paused)),
-        (RunState::Running, Transition::Resume, None),
-        (RunState::Paused, Transition::Start, None),
-        (RunState::Paused, Transition::Stop, Some(RunState::Stopped)),
-        (RunState::Paused, Transition::Pause, None),
-        (
-            RunState::Paused,
-            Transition::Resume,
-            Some(RunState::Running),
-        ),
-        (RunState::Stopped, Transition::StartAbort, None),
-        (RunState::Running, Transition::StartAbort, None),
-        (RunState::Paused, Transition::StartAbort, None),
-    ] {
-        let found = if allowed(state, transition) {
-            Some(after(state, transition))
+    for (state, transition, next) in &TRANSITIONS {
+        let found = if allowed(*state, *transition) {
+            Some(after(*state, *transition))
         } else {
             None
         };
-        assert!(rt; found == next);
+        assert!(rt; found == *next);
     }
 }
 

@@ -158,12 +158,24 @@ fn make_calls(
     Ok(())
 }
 
-/// Clients 0 and 1 have start 500; client 2 has start 200, start-abort 800, and wants the dump and a report.
-fn three_clients(alloc: Global) -> Result<Engine, Fail> {
+/// What a client is called by: its number, that for start-abort, and whether it wants the dump and a report.
+type Client = (u32, u32, bool);
+
+/// A client that wants the dump and a report.
+const ONE: [Client; 1] = [(500, 500, true)];
+
+/// Two such clients, of which the first is called first.
+const TWO: [Client; 2] = [(500, 500, true), (600, 600, true)];
+
+/// Two clients that want neither, and one that wants both, is called first, and last for start-abort.
+const THREE: [Client; 3] = [(500, 500, false), (500, 500, false), (200, 800, true)];
+
+/// An engine with these clients.
+fn new_engine(alloc: Global, clients: &[Client]) -> Result<Engine, NoMemory> {
     let mut engine = Engine::new(alloc)?;
-    let _first = add_client(&mut engine, 500, 500, false);
-    let _second = add_client(&mut engine, 500, 500, false);
-    let _third = add_client(&mut engine, 200, 800, true);
+    for (sequence, start_abort, wants) in clients {
+        let _client = add_client(&mut engine, *sequence, *start_abort, *wants);
+    }
     Ok(engine)
 }
 
@@ -178,133 +190,110 @@ fn told_at(tallies: &Tallies, place: usize) -> Option<(u32, bool)> {
 /// What a lock guards crosses threads.
 fn is_sent<T: Send + Drop>(_value: &T) {}
 
-#[test]
-fn turns_by_sequence(rt: HostRuntime) -> Result<(), Fail> {
-    let mut engine = three_clients(rt.alloc())?;
-    make_calls(
-        &rt,
-        rt.alloc(),
-        &mut engine,
-        &[
-            Poll(9, Found::NoClient),
-            Begin(
-                Pause,
-                Err(BeginRefusal::WrongState {
-                    state: RunState::Stopped,
-                }),
-            ),
-            Begin(Start, Ok(1)),
-            Yes(1, false),
-            Yes(2, false),
-            Poll(0, Found::Idle(RunState::Stopped)),
-            Poll(2, Found::Turn(Start, true, true)),
-            Poll(2, Found::Turn(Start, false, false)),
-            Yes(2, true),
-            Poll(1, Found::Idle(RunState::Stopped)),
-            Poll(0, Found::Turn(Start, false, false)),
-            Yes(0, true),
-            Check(Progress::Going, 0),
-            Poll(1, Found::Turn(Start, false, false)),
-            Close(false),
-            Yes(1, true),
-            Poll(0, Found::Idle(RunState::Running)),
-            Check(DONE, 3),
-            Check(Progress::None, 0),
-        ],
-    )
-}
+const BY_SEQUENCE: [Call; 19] = [
+    Poll(9, Found::NoClient),
+    Begin(
+        Pause,
+        Err(BeginRefusal::WrongState {
+            state: RunState::Stopped,
+        }),
+    ),
+    Begin(Start, Ok(1)),
+    Yes(1, false),
+    Yes(2, false),
+    Poll(0, Found::Idle(RunState::Stopped)),
+    Poll(2, Found::Turn(Start, true, true)),
+    Poll(2, Found::Turn(Start, false, false)),
+    Yes(2, true),
+    Poll(1, Found::Idle(RunState::Stopped)),
+    Poll(0, Found::Turn(Start, false, false)),
+    Yes(0, true),
+    Check(Progress::Going, 0),
+    Poll(1, Found::Turn(Start, false, false)),
+    Close(false),
+    Yes(1, true),
+    Poll(0, Found::Idle(RunState::Running)),
+    Check(DONE, 3),
+    Check(Progress::None, 0),
+];
 
-#[test]
-fn no_client(rt: HostRuntime) -> Result<(), Fail> {
-    let mut engine = Engine::new(rt.alloc())?;
-    make_calls(
-        &rt,
-        rt.alloc(),
-        &mut engine,
-        &[
-            BeginBare(Start, Ok(1)),
-            Check(DONE, 0),
-            Check(Progress::None, 0),
-            BeginBare(
-                Start,
-                Err(BeginRefusal::WrongState {
-                    state: RunState::Running,
-                }),
-            ),
-            Close(true),
-            Register(Err(RegisterRefusal::Closed)),
-        ],
-    )
-}
+const WITHOUT_CLIENTS: [Call; 6] = [
+    BeginBare(Start, Ok(1)),
+    Check(DONE, 0),
+    Check(Progress::None, 0),
+    BeginBare(
+        Start,
+        Err(BeginRefusal::WrongState {
+            state: RunState::Running,
+        }),
+    ),
+    Close(true),
+    Register(Err(RegisterRefusal::Closed)),
+];
 
-#[test]
-fn start_refused(rt: HostRuntime) -> Result<(), Fail> {
-    let mut engine = three_clients(rt.alloc())?;
-    let outcome = StartOutcome::Refused {
+const REFUSED: Progress = Progress::Done {
+    outcome: StartOutcome::Refused {
         client: 0,
         why: Why::NotReady,
-    };
-    make_calls(
-        &rt,
-        rt.alloc(),
-        &mut engine,
-        &[
-            Begin(Start, Ok(1)),
-            Poll(2, Found::Turn(Start, true, true)),
-            Yes(2, true),
-            Poll(0, Found::Turn(Start, false, false)),
-            No(0, true),
-            Poll(1, Found::Idle(RunState::Stopped)),
-            Poll(0, Found::Turn(StartAbort, false, false)),
-            Yes(0, true),
-            Poll(1, Found::Turn(StartAbort, false, false)),
-            No(1, true),
-            Poll(2, Found::Turn(StartAbort, false, false)),
-            Yes(2, true),
-            Check(Progress::Done { outcome }, 4),
-            Begin(Start, Ok(2)),
-        ],
-    )
-}
+    },
+};
+
+const START_REFUSED: [Call; 14] = [
+    Begin(Start, Ok(1)),
+    Poll(2, Found::Turn(Start, true, true)),
+    Yes(2, true),
+    Poll(0, Found::Turn(Start, false, false)),
+    No(0, true),
+    Poll(1, Found::Idle(RunState::Stopped)),
+    Poll(0, Found::Turn(StartAbort, false, false)),
+    Yes(0, true),
+    Poll(1, Found::Turn(StartAbort, false, false)),
+    No(1, true),
+    Poll(2, Found::Turn(StartAbort, false, false)),
+    Yes(2, true),
+    Check(REFUSED, 4),
+    Begin(Start, Ok(2)),
+];
+
+const STOP_NOT_REFUSED: [Call; 9] = [
+    Begin(Start, Ok(1)),
+    Poll(0, Found::Turn(Start, true, true)),
+    Yes(0, true),
+    Check(DONE, 1),
+    Begin(Stop, Ok(1)),
+    Poll(0, Found::Turn(Stop, true, false)),
+    No(0, true),
+    Poll(0, Found::Idle(RunState::Stopped)),
+    Check(DONE, 1),
+];
+
+const DUMP_GIVEN_ONCE: [Call; 8] = [
+    Begin(Start, Ok(1)),
+    Poll(0, Found::Turn(Start, true, true)),
+    Poll(0, Found::Turn(Start, false, false)),
+    Yes(0, true),
+    Poll(1, Found::Turn(Start, false, true)),
+    Poll(1, Found::Turn(Start, false, false)),
+    Yes(1, true),
+    Check(DONE, 2),
+];
+
+/// Clients, and calls on an engine that has them.
+const ROWS: [(&[Client], &[Call]); 5] = [
+    (&THREE, &BY_SEQUENCE),
+    (&[], &WITHOUT_CLIENTS),
+    (&THREE, &START_REFUSED),
+    (&ONE, &STOP_NOT_REFUSED),
+    (&TWO, &DUMP_GIVEN_ONCE),
+];
 
 #[test]
-fn stop_not_refused(rt: HostRuntime) -> Result<(), Fail> {
-    let mut engine = Engine::new(rt.alloc())?;
-    is_sent(&engine);
-    let _client = add_client(&mut engine, 500, 500, true);
-    make_calls(
-        &rt,
-        rt.alloc(),
-        &mut engine,
-        &[
-            Begin(Start, Ok(1)),
-            Poll(0, Found::Turn(Start, true, true)),
-            Yes(0, true),
-            Check(DONE, 1),
-            Begin(Stop, Ok(1)),
-            Poll(0, Found::Turn(Stop, true, false)),
-            No(0, true),
-            Poll(0, Found::Idle(RunState::Stopped)),
-            Check(DONE, 1),
-        ],
-    )
-}
-
-#[test]
-fn most_clients(rt: HostRuntime) -> Result<(), Fail> {
-    let mut engine = Engine::new(rt.alloc())?;
-    for number in 0..64u32 {
-        assert_eq!(rt; add_client(&mut engine, 500, 500, false), Ok(number));
+fn calls_and_answers(rt: HostRuntime) -> Result<(), Fail> {
+    for (clients, calls) in &ROWS {
+        let mut engine = new_engine(rt.alloc(), clients)?;
+        make_calls(&rt, rt.alloc(), &mut engine, calls)?;
     }
-    make_calls(
-        &rt,
-        rt.alloc(),
-        &mut engine,
-        &[
-            Register(Err(RegisterRefusal::NoSlot)),
-            Poll(63, Found::Idle(RunState::Stopped)),
-        ],
-    )
+    Ok(())
 }
 
 /// Each client below this number finds this turn and answers Yes to it.
@@ -322,14 +311,23 @@ fn each_agrees(
 }
 
 #[test]
-fn most_tallies(rt: HostRuntime) -> Result<(), Fail> {
+fn most_clients_and_tallies(rt: HostRuntime) -> Result<(), Fail> {
     let alloc = rt.alloc();
     let mut engine = Engine::new(alloc)?;
-    for _ in 0..64u32 {
-        let _client = add_client(&mut engine, 500, 500, false);
+    for number in 0..64u32 {
+        assert_eq!(rt; add_client(&mut engine, 500, 500, false), Ok(number));
     }
     let turn = Found::Turn(Start, false, false);
-    make_calls(&rt, alloc, &mut engine, &[Begin(Start, Ok(1))])?;
+    make_calls(
+        &rt,
+        alloc,
+        &mut engine,
+        &[
+            Register(Err(RegisterRefusal::NoSlot)),
+            Poll(63, Found::Idle(RunState::Stopped)),
+            Begin(Start, Ok(1)),
+        ],
+    )?;
     each_agrees(&rt, alloc, &mut engine, 63, turn)?;
     make_calls(&rt, alloc, &mut engine, &[Poll(63, turn), No(63, true)])?;
     each_agrees(
@@ -354,66 +352,47 @@ fn most_tallies(rt: HostRuntime) -> Result<(), Fail> {
     )
 }
 
-#[test]
-fn dump_given_once(rt: HostRuntime) -> Result<(), Fail> {
-    let mut engine = Engine::new(rt.alloc())?;
-    let _first = add_client(&mut engine, 500, 500, true);
-    let _second = add_client(&mut engine, 600, 600, true);
-    make_calls(
-        &rt,
-        rt.alloc(),
-        &mut engine,
-        &[
-            Begin(Start, Ok(1)),
-            Poll(0, Found::Turn(Start, true, true)),
-            Poll(0, Found::Turn(Start, false, false)),
-            Yes(0, true),
-            Poll(1, Found::Turn(Start, false, true)),
-            Poll(1, Found::Turn(Start, false, false)),
-            Yes(1, true),
-            Check(DONE, 2),
-        ],
-    )
-}
+/// Calls of a run whose stop is answered by its clients.
+const RUN: [Call; 10] = [
+    Begin(Start, Ok(1)),
+    Poll(2, Found::Turn(Start, true, true)),
+    Yes(2, true),
+    Poll(0, Found::Turn(Start, false, false)),
+    Yes(0, true),
+    Poll(1, Found::Turn(Start, false, false)),
+    Yes(1, true),
+    Check(DONE, 3),
+    Begin(Stop, Ok(1)),
+    Poll(2, Found::Turn(Stop, true, false)),
+];
 
 #[test]
 fn tallies_by_answer(rt: HostRuntime) -> Result<(), Fail> {
-    let mut engine = three_clients(rt.alloc())?;
-    let turn = Found::Turn(Stop, false, false);
-    make_calls(
-        &rt,
-        rt.alloc(),
-        &mut engine,
-        &[
-            Begin(Start, Ok(1)),
-            Poll(2, Found::Turn(Start, true, true)),
-            Yes(2, true),
-            Poll(0, Found::Turn(Start, false, false)),
-            Yes(0, true),
-            Poll(1, Found::Turn(Start, false, false)),
-            Yes(1, true),
-            Check(DONE, 3),
-            Begin(Stop, Ok(1)),
-            Poll(2, Found::Turn(Stop, true, false)),
-        ],
-    )?;
+    let alloc = rt.alloc();
+    let mut engine = new_engine(alloc, &THREE)?;
+    make_calls(&rt, alloc, &mut engine, &RUN)?;
     let counted = Tally::Front {
         sent: 7,
         ended: FrontEnded::Quota,
     };
     assert!(rt; engine.answer(2, Answer::Yes(counted)).is_ok());
+    let turn = Found::Turn(Stop, false, false);
     make_calls(
         &rt,
-        rt.alloc(),
+        alloc,
         &mut engine,
         &[Poll(0, turn), No(0, true), Poll(1, turn), Yes(1, true)],
     )?;
-    let mut tallies = Tallies::new(rt.alloc())?;
+    let mut tallies = Tallies::new(alloc)?;
     assert!(rt; engine.check(&mut tallies) == DONE);
-    assert_eq!(rt; told_at(&tallies, 0), Some((2, false)));
-    assert_eq!(rt; told_at(&tallies, 1), Some((0, true)));
-    assert_eq!(rt; told_at(&tallies, 2), Some((1, true)));
-    assert!(rt; told_at(&tallies, 3).is_none());
+    for (place, told) in &[
+        (0, Some((2, false))),
+        (1, Some((0, true))),
+        (2, Some((1, true))),
+        (3, None),
+    ] {
+        assert_eq!(rt; told_at(&tallies, *place), *told);
+    }
     assert_eq!(rt; tallies.as_slice().len(), 3);
     assert!(rt; tallies.pop().is_some());
     assert_eq!(rt; tallies.into_vec().len(), 2);
@@ -423,6 +402,7 @@ fn tallies_by_answer(rt: HostRuntime) -> Result<(), Fail> {
 #[test]
 fn handed_back(rt: HostRuntime) -> Result<(), Fail> {
     let mut engine = Engine::new(rt.alloc())?;
+    is_sent(&engine);
     match engine.begin(Pause, new_sheet(rt.alloc())?) {
         Ok(_) => assert!(rt; false),
         Err((_, sheet)) => {

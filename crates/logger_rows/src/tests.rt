@@ -214,38 +214,51 @@ fn with_third<F: daq_io::Files + Drop>(alloc: Global, mut files: F) -> Result<F,
     Ok(files)
 }
 
+/// How many channels and buffers a logger has.
+type Counts = (u32, u32);
+
+const RUNS: [(Counts, &[Step]); 4] = [
+    ((16, 8), &SIXTEEN),
+    ((2, 2), &LARGE),
+    ((1, 1), &PAUSED),
+    ((1, 1), &BEHIND),
+];
+
 #[test]
 fn runs_of_several_channels(rt: HostRuntime) -> Result<(), Fail> {
     let alloc = rt.alloc();
-    for (counts, steps) in [
-        ((16, 8), SIXTEEN.as_slice()),
-        ((2, 2), LARGE.as_slice()),
-        ((1, 1), PAUSED.as_slice()),
-        ((1, 1), BEHIND.as_slice()),
-    ] {
-        play(&rt, alloc, counts, sound_files(alloc)?, steps)?;
+    for (counts, steps) in &RUNS {
+        play(&rt, alloc, *counts, sound_files(alloc)?, steps)?;
     }
     let files = with_third(alloc, sound_files(alloc)?)?;
     play(&rt, alloc, (4, 2), files, &TAKEN)
 }
 
+/// Which call of a kind fails. A begin record is two appends, an event one, an end record two.
+const FAILS: [(Counts, FileOp, u64, &[Step]); 10] = [
+    ((2, 1), FileOp::Create, 0, &FAULT_AT_0),
+    ((2, 1), FileOp::Append, 0, &FAULT_AT_0),
+    ((2, 1), FileOp::Append, 1, &FAULT_AT_0),
+    ((2, 1), FileOp::Create, 1, &FAULT_AT_1),
+    ((2, 1), FileOp::Append, 2, &FAULT_AT_1),
+    ((2, 1), FileOp::Append, 3, &FAULT_AT_1),
+    ((1, 1), FileOp::Append, 2, &BROKEN),
+    ((1, 1), FileOp::Append, 3, &LATE),
+    ((1, 1), FileOp::Append, 4, &LATE),
+    ((1, 1), FileOp::Close, 0, &LATE),
+];
+
 #[test]
 fn each_call_fails_in_turn(rt: HostRuntime) -> Result<(), Fail> {
     let alloc = rt.alloc();
-    // A begin record is two appends, an event one, an end record two.
-    for (counts, op, call, steps) in [
-        ((2, 1), FileOp::Create, 0, FAULT_AT_0.as_slice()),
-        ((2, 1), FileOp::Append, 0, FAULT_AT_0.as_slice()),
-        ((2, 1), FileOp::Append, 1, FAULT_AT_0.as_slice()),
-        ((2, 1), FileOp::Create, 1, FAULT_AT_1.as_slice()),
-        ((2, 1), FileOp::Append, 2, FAULT_AT_1.as_slice()),
-        ((2, 1), FileOp::Append, 3, FAULT_AT_1.as_slice()),
-        ((1, 1), FileOp::Append, 2, BROKEN.as_slice()),
-        ((1, 1), FileOp::Append, 3, LATE.as_slice()),
-        ((1, 1), FileOp::Append, 4, LATE.as_slice()),
-        ((1, 1), FileOp::Close, 0, LATE.as_slice()),
-    ] {
-        play(&rt, alloc, counts, failing_files(alloc, op, call)?, steps)?;
+    for (counts, op, call, steps) in &FAILS {
+        play(
+            &rt,
+            alloc,
+            *counts,
+            failing_files(alloc, *op, *call)?,
+            steps,
+        )?;
     }
     for call in 0..2u64 {
         let files = failing_files(alloc, FileOp::Remove, call)?;

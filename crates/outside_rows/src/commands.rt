@@ -1,146 +1,238 @@
 //! Worked lines of the script with their commands, and the places at which lines are refused.
-use daq_text::TextBuffer;
-use daq_types::{Kind, NoMemory};
-use odb_script::{Command, LineRefusal};
+use daq_types::Kind;
+use odb_script::{Command, LineRefusal, LineText};
+use std::process::Abort;
 use std::test::Fail;
 
-/// Writes a text in angle brackets.
-fn spell_text(text: &mut TextBuffer, bytes: &[u8]) -> Result<(), NoMemory> {
-    text.text(b" <")?;
-    text.text(bytes)?;
-    text.text(b">")
+/// A command with all its parts: its form, and what it says of one, as of a type or a kind; its texts; and its numbers.
+type Parts<'a> = ((&'static str, &'static str), [&'a [u8]; 2], [u32; 3]);
+
+/// A command with one number.
+fn of_number(form: &'static str, number: u32) -> Parts<'static> {
+    ((form, ""), [b"".as_slice(); 2], [number, 0, 0])
 }
 
-/// Writes a command with one text.
-fn spell_one(text: &mut TextBuffer, name: &str, bytes: &[u8]) -> Result<(), NoMemory> {
-    text.text(name.as_bytes())?;
-    spell_text(text, bytes)
+/// A command with one text and a number.
+fn of_text<'a>(said: (&'static str, &'static str), text: LineText<'a>, number: u32) -> Parts<'a> {
+    (said, [text.as_slice(), b"".as_slice()], [number, 0, 0])
 }
 
-/// Writes a command with one number.
-fn spell_number(text: &mut TextBuffer, name: &str, number: u32) -> Result<(), NoMemory> {
-    text.text(name.as_bytes())?;
-    text.blank_number(number as u64)
-}
-
-/// How a kind of request is written.
-fn kind_text(kind: Kind) -> &'static [u8] {
+/// The word for a kind of request.
+fn kind_word(kind: Kind) -> &'static str {
     match kind {
-        Kind::All => b" all".as_slice(),
-        Kind::NonBlocking => b" some".as_slice(),
+        Kind::All => "all",
+        Kind::NonBlocking => "some",
     }
 }
 
-/// Writes a command that declares a member that reads, with all its parts, and nothing for any other.
-fn spell_reader(text: &mut TextBuffer, command: Command<'_>) -> Result<(), NoMemory> {
+/// The parts of a command that declares a buffer or a member; those of any other are no such.
+fn parts_of_declared(command: Command<'_>) -> Parts<'_> {
     match command {
-        Command::Channel {
-            number,
-            pattern,
-            buffer,
-            id,
-            mask,
-        } => {
-            spell_number(text, "channel", number)?;
-            spell_text(text, pattern.as_slice())?;
-            spell_text(text, buffer.as_slice())?;
-            text.blank_number(id as u64)?;
-            text.blank_number(mask as u64)
-        }
-        Command::Analyzer {
-            name,
-            buffer,
-            id,
-            mask,
-            kind,
-        } => {
-            spell_one(text, "analyzer", name.as_slice())?;
-            spell_text(text, buffer.as_slice())?;
-            text.blank_number(id as u64)?;
-            text.blank_number(mask as u64)?;
-            text.text(kind_text(kind))
-        }
-        _ => Ok(()),
-    }
-}
-
-/// Writes a command that declares a buffer or a front-end, with all its parts; other commands in other ways.
-fn spell_declared(text: &mut TextBuffer, command: Command<'_>) -> Result<(), NoMemory> {
-    match command {
-        Command::Buffer { name, size } => {
-            spell_one(text, "buffer", name.as_slice())?;
-            text.blank_number(size as u64)
-        }
+        Command::Buffer { name, size } => of_text(("buffer", ""), name, size),
         Command::Equip {
             name,
             id,
             mask,
             buffer,
             limit,
-        } => {
-            spell_one(text, "equip", name.as_slice())?;
-            text.blank_number(id as u64)?;
-            text.blank_number(mask as u64)?;
-            spell_text(text, buffer.as_slice())?;
-            text.blank_number(limit as u64)
-        }
-        other => spell_reader(text, other),
+        } => (
+            ("equip", ""),
+            [name.as_slice(), buffer.as_slice()],
+            [id, mask as u32, limit],
+        ),
+        Command::Channel {
+            number,
+            pattern,
+            buffer,
+            id,
+            mask,
+        } => (
+            ("channel", ""),
+            [pattern.as_slice(), buffer.as_slice()],
+            [number, id as u32, mask as u32],
+        ),
+        Command::Analyzer {
+            name,
+            buffer,
+            id,
+            mask,
+            kind,
+        } => (
+            ("analyzer", kind_word(kind)),
+            [name.as_slice(), buffer.as_slice()],
+            [id as u32, mask as u32, 0],
+        ),
+        _ => of_number("no other", 0),
     }
 }
 
-/// Writes a command of the database's keys with all its parts; other commands in other ways.
-fn spell_key(text: &mut TextBuffer, command: Command<'_>) -> Result<(), NoMemory> {
+/// The parts of a command on the keys of the database; other commands in other ways.
+fn parts_of_key(command: Command<'_>) -> Parts<'_> {
     match command {
-        Command::Create { tid, path, len } => {
-            text.text(b"create ")?;
-            spell_one(text, tid.name(), path.as_slice())?;
-            text.blank_number(len as u64)
-        }
-        Command::CreateDir { path } => spell_one(text, "directory", path.as_slice()),
-        Command::Set { path, index, value } => {
-            spell_one(text, "set", path.as_slice())?;
-            text.blank_number(index as u64)?;
-            spell_text(text, value.as_slice())
-        }
-        Command::Get { path, index } => {
-            spell_one(text, "get", path.as_slice())?;
-            match index {
-                None => Ok(()),
-                Some(index) => text.blank_number(index as u64),
-            }
-        }
-        Command::List { path } => spell_one(text, "list", path.as_slice()),
-        Command::Remove { path } => spell_one(text, "remove", path.as_slice()),
-        other => spell_declared(text, other),
+        Command::Create { tid, path, len } => of_text(("create", tid.name()), path, len),
+        Command::CreateDir { path } => of_text(("directory", ""), path, 0),
+        Command::Set { path, index, value } => (
+            ("set", ""),
+            [path.as_slice(), value.as_slice()],
+            [index, 0, 0],
+        ),
+        Command::Get { path, index: None } => of_text(("get", ""), path, 0),
+        Command::Get {
+            path,
+            index: Some(index),
+        } => of_text(("get", "one"), path, index),
+        Command::List { path } => of_text(("list", ""), path, 0),
+        Command::Remove { path } => of_text(("remove", ""), path, 0),
+        other => parts_of_declared(other),
     }
 }
 
-/// Writes a command with all its parts, texts in angle brackets.
-fn spell(text: &mut TextBuffer, command: Command<'_>) -> Result<(), NoMemory> {
+/// The parts of a command.
+fn parts_of(command: Command<'_>) -> Parts<'_> {
     match command {
-        Command::Nothing => text.text(b"nothing"),
-        Command::Start => text.text(b"start"),
-        Command::Stop => text.text(b"stop"),
-        Command::Pause => text.text(b"pause"),
-        Command::Resume => text.text(b"resume"),
-        Command::Exit => text.text(b"exit"),
-        Command::Events { count } => spell_number(text, "events", count),
-        Command::Load { file } => spell_one(text, "load", file.as_slice()),
-        Command::Save { file } => spell_one(text, "save", file.as_slice()),
-        Command::Watch { path } => spell_one(text, "watch", path.as_slice()),
-        Command::Notes { watch } => spell_number(text, "notes", watch),
-        Command::Unwatch { watch } => spell_number(text, "unwatch", watch),
-        other => spell_key(text, other),
+        Command::Nothing => of_number("nothing", 0),
+        Command::Start => of_number("start", 0),
+        Command::Stop => of_number("stop", 0),
+        Command::Pause => of_number("pause", 0),
+        Command::Resume => of_number("resume", 0),
+        Command::Exit => of_number("exit", 0),
+        Command::Events { count } => of_number("events", count),
+        Command::Load { file } => of_text(("load", ""), file, 0),
+        Command::Save { file } => of_text(("save", ""), file, 0),
+        Command::Watch { path } => of_text(("watch", ""), path, 0),
+        Command::Notes { watch } => of_number("notes", watch),
+        Command::Unwatch { watch } => of_number("unwatch", watch),
+        other => parts_of_key(other),
     }
 }
 
-/// Writes the command of a line, or that it is refused.
-fn spell_line(text: &mut TextBuffer, line: &[u8]) -> Result<(), NoMemory> {
-    match Command::read(line) {
-        Ok(command) => spell(text, command),
-        Err(_) => text.text(b"refused"),
-    }
-}
+/// Lines and the parts of their commands.
+const COMMANDS: [(&str, (&str, &str), [&str; 2], [u32; 3]); 44] = [
+    ("", ("nothing", ""), ["", ""], [0, 0, 0]),
+    (" \t ", ("nothing", ""), ["", ""], [0, 0, 0]),
+    ("# any \" text", ("nothing", ""), ["", ""], [0, 0, 0]),
+    ("events 3", ("events", ""), ["", ""], [3, 0, 0]),
+    ("\tevents \t 007 ", ("events", ""), ["", ""], [7, 0, 0]),
+    (
+        "events 4294967295",
+        ("events", ""),
+        ["", ""],
+        [4294967295, 0, 0],
+    ),
+    (
+        "events 0x000aBcDeF",
+        ("events", ""),
+        ["", ""],
+        [11259375, 0, 0],
+    ),
+    (
+        "events 0xFFFFFFFF",
+        ("events", ""),
+        ["", ""],
+        [4294967295, 0, 0],
+    ),
+    ("events \"5\"", ("events", ""), ["", ""], [5, 0, 0]),
+    ("start", ("start", ""), ["", ""], [0, 0, 0]),
+    ("\"start\"", ("start", ""), ["", ""], [0, 0, 0]),
+    (" stop ", ("stop", ""), ["", ""], [0, 0, 0]),
+    ("exit", ("exit", ""), ["", ""], [0, 0, 0]),
+    (" \"exit\"\t", ("exit", ""), ["", ""], [0, 0, 0]),
+    ("pause", ("pause", ""), ["", ""], [0, 0, 0]),
+    ("resume\t", ("resume", ""), ["", ""], [0, 0, 0]),
+    ("load a.odb", ("load", ""), ["a.odb", ""], [0, 0, 0]),
+    ("save \"\"", ("save", ""), ["", ""], [0, 0, 0]),
+    ("watch /A", ("watch", ""), ["/A", ""], [0, 0, 0]),
+    ("notes 0", ("notes", ""), ["", ""], [0, 0, 0]),
+    ("unwatch 63", ("unwatch", ""), ["", ""], [63, 0, 0]),
+    (
+        "create UINT8 /A/b 2",
+        ("create", "UINT8"),
+        ["/A/b", ""],
+        [2, 0, 0],
+    ),
+    ("create WORD A", ("create", "UINT16"), ["A", ""], [1, 0, 0]),
+    (
+        "create STRING \"/A/b c\" 0",
+        ("create", "STRING"),
+        ["/A/b c", ""],
+        [0, 0, 0],
+    ),
+    ("create LINK /A", ("create", "LINK"), ["/A", ""], [1, 0, 0]),
+    ("create DIR /A", ("directory", ""), ["/A", ""], [0, 0, 0]),
+    (
+        "create \"DIR\" \"\"",
+        ("directory", ""),
+        ["", ""],
+        [0, 0, 0],
+    ),
+    ("set /A/b 1 0xff", ("set", ""), ["/A/b", "0xff"], [1, 0, 0]),
+    ("set /A 0x10", ("set", ""), ["/A", "0x10"], [0, 0, 0]),
+    ("set /A \"\"", ("set", ""), ["/A", ""], [0, 0, 0]),
+    (
+        "set /A \"2\" \" x \"",
+        ("set", ""),
+        ["/A", " x "],
+        [2, 0, 0],
+    ),
+    ("set /A x", ("set", ""), ["/A", "x"], [0, 0, 0]),
+    ("get /A/b", ("get", ""), ["/A/b", ""], [0, 0, 0]),
+    (
+        "get \"/A b\" 4294967295",
+        ("get", "one"),
+        ["/A b", ""],
+        [4294967295, 0, 0],
+    ),
+    ("ls /", ("list", ""), ["/", ""], [0, 0, 0]),
+    (
+        "rm /Runinfo/State",
+        ("remove", ""),
+        ["/Runinfo/State", ""],
+        [0, 0, 0],
+    ),
+    ("buffer B 1024", ("buffer", ""), ["B", ""], [1024, 0, 0]),
+    (
+        "buffer \"\" 0xffffffff",
+        ("buffer", ""),
+        ["", ""],
+        [4294967295, 0, 0],
+    ),
+    (
+        "equip FE 1 0 SYSTEM",
+        ("equip", ""),
+        ["FE", "SYSTEM"],
+        [1, 0, 4294967295],
+    ),
+    (
+        "equip F 4294967295 0xffff \"a b\" 7",
+        ("equip", ""),
+        ["F", "a b"],
+        [4294967295, 65535, 7],
+    ),
+    (
+        "channel 0 run%05d.mid SYSTEM 65535 65535",
+        ("channel", ""),
+        ["run%05d.mid", "SYSTEM"],
+        [0, 65535, 65535],
+    ),
+    (
+        "channel 16 \"\" b 0 1",
+        ("channel", ""),
+        ["", "b"],
+        [16, 0, 1],
+    ),
+    (
+        "analyzer ANA SYSTEM 65535 0 all",
+        ("analyzer", "all"),
+        ["ANA", "SYSTEM"],
+        [65535, 0, 0],
+    ),
+    (
+        "analyzer A \"b c\" 1 0xffff some",
+        ("analyzer", "some"),
+        ["A", "b c"],
+        [1, 65535, 0],
+    ),
+];
 
 /// The place at which a line is refused.
 fn refused_at(line: &[u8]) -> Option<u32> {
@@ -152,156 +244,37 @@ fn refused_at(line: &[u8]) -> Option<u32> {
 
 #[test]
 fn lines_that_are_commands(rt: HostRuntime) -> Result<(), Fail> {
-    for (line, wanted) in [
-        ("", "nothing"),
-        (" \t ", "nothing"),
-        ("# any \" text", "nothing"),
-        ("events 3", "events 3"),
-        ("\tevents \t 007 ", "events 7"),
-        ("events 4294967295", "events 4294967295"),
-        ("events 0x000aBcDeF", "events 11259375"),
-        ("events 0xFFFFFFFF", "events 4294967295"),
-        ("events \"5\"", "events 5"),
-        ("start", "start"),
-        ("\"start\"", "start"),
-        (" stop ", "stop"),
-        ("exit", "exit"),
-        ("create UINT8 /A/b 2", "create UINT8 </A/b> 2"),
-        ("create WORD A", "create UINT16 <A> 1"),
-        ("create STRING \"/A/b c\" 0", "create STRING </A/b c> 0"),
-        ("create LINK /A", "create LINK </A> 1"),
-        ("create DIR /A", "directory </A>"),
-        ("create \"DIR\" \"\"", "directory <>"),
-        ("set /A/b 1 0xff", "set </A/b> 1 <0xff>"),
-        ("set /A 0x10", "set </A> 0 <0x10>"),
-        ("set /A \"\"", "set </A> 0 <>"),
-        ("set /A \"2\" \" x \"", "set </A> 2 < x >"),
-        ("set /A x", "set </A> 0 <x>"),
-        ("get /A/b", "get </A/b>"),
-        ("get \"/A b\" 4294967295", "get </A b> 4294967295"),
-        ("ls /", "list </>"),
-        ("rm /Runinfo/State", "remove </Runinfo/State>"),
-    ] {
-        let mut text = TextBuffer::new(rt.alloc());
-        spell_line(&mut text, line.as_bytes())?;
-        assert_eq!(rt; text.as_slice(), wanted.as_bytes(), "{line}");
+    for (line, said, [first, second], numbers) in &COMMANDS {
+        let command = Command::read(line.as_bytes()).ok().ok_or(*line)?;
+        assert_eq!(rt; command.is_exit(), said.0 == "exit", "{line}");
+        let parts = (*said, [first.as_bytes(), second.as_bytes()], *numbers);
+        assert!(rt; parts_of(command) == parts, "{line}");
     }
     Ok(())
 }
 
-#[test]
-fn lines_of_a_session(rt: HostRuntime) -> Result<(), Fail> {
-    for (line, wanted) in [
-        ("buffer B 1024", "buffer <B> 1024"),
-        ("buffer \"\" 0xffffffff", "buffer <> 4294967295"),
-        ("equip FE 1 0 SYSTEM", "equip <FE> 1 0 <SYSTEM> 4294967295"),
-        (
-            "equip F 4294967295 0xffff \"a b\" 7",
-            "equip <F> 4294967295 65535 <a b> 7",
-        ),
-        (
-            "channel 0 run%05d.mid SYSTEM 65535 65535",
-            "channel 0 <run%05d.mid> <SYSTEM> 65535 65535",
-        ),
-        ("channel 16 \"\" b 0 1", "channel 16 <> <b> 0 1"),
-        (
-            "analyzer ANA SYSTEM 65535 0 all",
-            "analyzer <ANA> <SYSTEM> 65535 0 all",
-        ),
-        (
-            "analyzer A \"b c\" 1 0xffff some",
-            "analyzer <A> <b c> 1 65535 some",
-        ),
-        ("pause", "pause"),
-        ("resume\t", "resume"),
-        ("load a.odb", "load <a.odb>"),
-        ("save \"\"", "save <>"),
-        ("watch /A", "watch </A>"),
-        ("notes 0", "notes 0"),
-        ("unwatch 63", "unwatch 63"),
-    ] {
-        let mut text = TextBuffer::new(rt.alloc());
-        spell_line(&mut text, line.as_bytes())?;
-        assert_eq!(rt; text.as_slice(), wanted.as_bytes(), "{line}");
-    }
-    Ok(())
-}
-
-#[test]
-fn places_in_lines_of_a_session(rt: HostRuntime) {
-    for (line, place) in [
-        ("buffer B", 8),
-        ("buffer B x", 9),
-        ("buffer B 4294967296", 9),
-        ("buffer B 8 8", 11),
-        ("equip FE x", 9),
-        ("equip FE 1 65536 SYSTEM", 11),
-        ("equip FE 1 0", 12),
-        ("equip FE 1 0 SYSTEM x", 20),
-        ("equip FE 1 0 SYSTEM 1 2", 22),
-        ("channel 0 p B 65536 0", 14),
-        ("channel 0 p B 1 65536", 16),
-        ("channel 0 p B 1", 15),
-        ("channel 0 p B 1 1 x", 18),
-        ("analyzer A", 10),
-        ("analyzer A B 65536 1 all", 13),
-        ("analyzer A B 1 1", 16),
-        ("analyzer A B 1 1 none", 17),
-        ("analyzer A B 1 1 all 1", 21),
-        ("pause 1", 6),
-        ("resume x", 7),
-        ("load", 4),
-        ("save a b", 7),
-        ("watch", 5),
-        ("notes x", 6),
-        ("unwatch 1 2", 10),
-    ] {
-        assert_eq!(rt; refused_at(line.as_bytes()), Some(place), "{line}");
-    }
-}
-
-#[test]
-fn the_line_that_ends_a_script(rt: HostRuntime) {
-    for (line, ends) in [
-        ("exit", true),
-        (" \"exit\"\t", true),
-        ("stop", false),
-        ("exit 0", false),
-    ] {
-        let exit = match Command::read(line.as_bytes()) {
-            Ok(command) => command.is_exit(),
-            Err(_) => false,
-        };
-        assert_eq!(rt; exit, ends, "{line}");
-    }
-}
-
-#[test]
-fn places_of_faulty_words(rt: HostRuntime) {
-    for (line, place) in [
-        ("frob", 0),
-        ("Start", 0),
-        (" # x", 1),
-        ("stop\r", 0),
-        ("\"\"", 0),
-        ("se\"t /A 1", 0),
-        ("get /A\"b\"", 4),
-        ("get \"/A\"x", 4),
-        ("get \"a\"\"b\"", 4),
-        ("\"a\"\"b\"", 0),
-        ("\"", 1),
-        ("frob \"x", 0),
-        ("stop \"x", 7),
-        ("stop \"", 6),
-        ("stop a\"b", 5),
-        ("set /A \"x y", 11),
-        ("set /A x \"y", 11),
-        ("set /A x y\"z", 9),
-        ("create FOO \"x", 7),
-    ] {
-        assert_eq!(rt; refused_at(line.as_bytes()), Some(place), "{line}");
-    }
-}
+/// Lines with a word that is none, and the place at which each is refused.
+const FAULTY_WORDS: [(&str, u32); 19] = [
+    ("frob", 0),
+    ("Start", 0),
+    (" # x", 1),
+    ("stop\r", 0),
+    ("\"\"", 0),
+    ("se\"t /A 1", 0),
+    ("get /A\"b\"", 4),
+    ("get \"/A\"x", 4),
+    ("get \"a\"\"b\"", 4),
+    ("\"a\"\"b\"", 0),
+    ("\"", 1),
+    ("frob \"x", 0),
+    ("stop \"x", 7),
+    ("stop \"", 6),
+    ("stop a\"b", 5),
+    ("set /A \"x y", 11),
+    ("set /A x \"y", 11),
+    ("set /A x y\"z", 9),
+    ("create FOO \"x", 7),
+];
 
 /// Lines with which no form goes on from a place.
 const NO_FORM: [(&str, u32); 34] = [
@@ -341,11 +314,47 @@ const NO_FORM: [(&str, u32); 34] = [
     ("rm /A /B", 6),
 ];
 
-#[test]
-fn places_where_no_form_goes_on(rt: HostRuntime) {
-    for (line, place) in NO_FORM {
-        assert_eq!(rt; refused_at(line.as_bytes()), Some(place), "{line}");
+/// Lines of a session's declarations and files with which no form goes on from a place.
+const NO_FORM_OF_A_SESSION: [(&str, u32); 25] = [
+    ("buffer B", 8),
+    ("buffer B x", 9),
+    ("buffer B 4294967296", 9),
+    ("buffer B 8 8", 11),
+    ("equip FE x", 9),
+    ("equip FE 1 65536 SYSTEM", 11),
+    ("equip FE 1 0", 12),
+    ("equip FE 1 0 SYSTEM x", 20),
+    ("equip FE 1 0 SYSTEM 1 2", 22),
+    ("channel 0 p B 65536 0", 14),
+    ("channel 0 p B 1 65536", 16),
+    ("channel 0 p B 1", 15),
+    ("channel 0 p B 1 1 x", 18),
+    ("analyzer A", 10),
+    ("analyzer A B 65536 1 all", 13),
+    ("analyzer A B 1 1", 16),
+    ("analyzer A B 1 1 none", 17),
+    ("analyzer A B 1 1 all 1", 21),
+    ("pause 1", 6),
+    ("resume x", 7),
+    ("load", 4),
+    ("save a b", 7),
+    ("watch", 5),
+    ("notes x", 6),
+    ("unwatch 1 2", 10),
+];
+
+/// Looks at the places at which these lines are refused.
+fn look_at_places(rt: &impl Abort, rows: &[(&str, u32)]) {
+    for (line, place) in rows {
+        assert_eq!(rt; refused_at(line.as_bytes()), Some(*place), "{line}");
     }
+}
+
+#[test]
+fn places_at_which_lines_are_refused(rt: HostRuntime) {
+    look_at_places(&rt, &FAULTY_WORDS);
+    look_at_places(&rt, &NO_FORM);
+    look_at_places(&rt, &NO_FORM_OF_A_SESSION);
 }
 
 #[test]

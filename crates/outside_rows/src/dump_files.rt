@@ -49,19 +49,19 @@ fn written_and_read_back(rt: HostRuntime) -> Result<(), Fail> {
 #[test]
 fn each_call_fails_once(rt: HostRuntime) -> Result<(), Fail> {
     let alloc = rt.alloc();
-    for (op, written, read) in [
+    for (op, written, read) in &[
         (FileOp::Create, FileReply::Fault, FileReply::Clash),
         (FileOp::Append, FileReply::Fault, FileReply::Done),
         (FileOp::Close, FileReply::Fault, FileReply::Done),
         (FileOp::OpenRead, FileReply::Done, FileReply::Fault),
         (FileOp::Read, FileReply::Done, FileReply::Fault),
     ] {
-        let fails = vec![in alloc; FileFail { op, call: 0 }]?;
+        let fails = vec![in alloc; FileFail { op: *op, call: 0 }]?;
         let mut files = MemFiles::new(alloc, 2, 1000, fails)?;
         let reply = write_file(&mut files, &dump_name(), b"text");
         let got = read_file(alloc, &mut files, &dump_name())?.reply();
-        assert_eq!(rt; reply, written);
-        assert_eq!(rt; got, read);
+        assert_eq!(rt; reply, *written);
+        assert_eq!(rt; got, *read);
     }
     Ok(())
 }

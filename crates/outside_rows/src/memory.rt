@@ -93,15 +93,14 @@ fn what_does_not_fit_is_a_fault(rt: HostRuntime) -> Result<(), Fail> {
 fn listed_calls_on_files_fail(rt: HostRuntime) -> Result<(), Fail> {
     let alloc = rt.alloc();
     let run = FileName::new("run00001.mid")?;
-    let ops = [
+    for op in &[
         FileOp::Create,
         FileOp::Append,
         FileOp::Close,
         FileOp::OpenRead,
         FileOp::Read,
-    ];
-    for op in ops {
-        let fails = vec![in alloc; FileFail { op, call: 0 }]?;
+    ] {
+        let fails = vec![in alloc; FileFail { op: *op, call: 0 }]?;
         let mut files = MemFiles::new(alloc, 1, 4, fails)?;
         let mut into = [0; 4];
         let answer = write_and_read(&mut files, &run, b"abc", &mut into);

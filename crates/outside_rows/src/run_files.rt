@@ -60,13 +60,14 @@ fn read_two<S: Source>(
     [first, second]
 }
 
-/// What becomes of the first bytes of a file.
+/// What becomes of the first bytes of a file, behind whose end one more byte lies.
 fn cut(len: usize) -> Result<Option<()>, MidFault> {
     let at = len as u64;
     match len {
         0 => Err(MidFault::NoBegin { at }),
         189 | 229 => Err(MidFault::NoEnd { at }),
         421 => Ok(None),
+        422 => Err(MidFault::AfterEnd { at: 421 }),
         _ => Err(MidFault::Truncated { at }),
     }
 }
@@ -89,8 +90,9 @@ fn with_bytes(alloc: Global, place: usize, bytes: [u8; 4]) -> Result<Vec<u8>, Al
 
 #[test]
 fn every_cut_of_a_file(rt: HostRuntime) -> Result<(), Fail> {
-    let file = one_event(rt.alloc())?;
-    for len in 0..422 {
+    let mut file = one_event(rt.alloc())?;
+    file.push(0)?;
+    for len in 0..423 {
         let (front, _) = file.as_slice().split_at(file.as_slice().len().min(len));
         let answers = answers_to(rt.alloc(), front)?;
         let first = if len < 229 { cut(len) } else { Ok(Some(())) };
@@ -99,32 +101,29 @@ fn every_cut_of_a_file(rt: HostRuntime) -> Result<(), Fail> {
     Ok(())
 }
 
-#[test]
-fn a_byte_behind_the_end(rt: HostRuntime) -> Result<(), Fail> {
-    let mut file = one_event(rt.alloc())?;
-    file.push(0)?;
-    let answers = answers_to(rt.alloc(), file.as_slice())?;
-    assert_eq!(rt;
-        answers,
-        [Ok(Some(())), Err(MidFault::AfterEnd { at: 421 })]
-    );
-    Ok(())
-}
+/// Places of the file, other bytes there, and the fault that this is.
+const WRONG_FIELDS: [(usize, [u8; 4], MidFault); 6] = [
+    (0, [1, 0x80, 0x4D, 0x49], MidFault::NoBegin { at: 0 }),
+    (0, [0, 0x80, 0x4D, 0x48], MidFault::NoBegin { at: 0 }),
+    (
+        201,
+        [1, 0, 0x40, 0],
+        MidFault::TooBig {
+            at: 189,
+            size: 4_194_305,
+        },
+    ),
+    (229, [0, 0x80, 0x4D, 0x49], MidFault::BadRecord { at: 229 }),
+    (229, [1, 0x80, 0x4E, 0x49], MidFault::BadRecord { at: 229 }),
+    (233, [2, 0, 0, 0], MidFault::BadRecord { at: 229 }),
+];
 
 #[test]
 fn files_with_one_wrong_field(rt: HostRuntime) -> Result<(), Fail> {
-    let size = 4194305;
-    for (place, bytes, fault) in [
-        (0, [1, 0x80, 0x4D, 0x49], MidFault::NoBegin { at: 0 }),
-        (0, [0, 0x80, 0x4D, 0x48], MidFault::NoBegin { at: 0 }),
-        (201, [1, 0, 0x40, 0], MidFault::TooBig { at: 189, size }),
-        (229, [0, 0x80, 0x4D, 0x49], MidFault::BadRecord { at: 229 }),
-        (229, [1, 0x80, 0x4E, 0x49], MidFault::BadRecord { at: 229 }),
-        (233, [2, 0, 0, 0], MidFault::BadRecord { at: 229 }),
-    ] {
-        let file = with_bytes(rt.alloc(), place, bytes)?;
+    for (place, bytes, fault) in &WRONG_FIELDS {
+        let file = with_bytes(rt.alloc(), *place, *bytes)?;
         let [_, second] = answers_to(rt.alloc(), file.as_slice())?;
-        assert_eq!(rt; second, Err(fault), "at {place}");
+        assert_eq!(rt; second, Err(*fault), "at {place}");
     }
     Ok(())
 }
@@ -205,10 +204,10 @@ fn read_on<S: Ahead>(
 #[test]
 fn events_at_hand(rt: HostRuntime) -> Result<(), Fail> {
     let alloc = rt.alloc();
-    for len in [1, 39, 80, 229, 255] {
+    for len in &[1, 39, 80, 229, 255] {
         let mut into = EventBuf::new(alloc, 4_194_304)?;
         let file = MemSource::new(three_events(alloc)?, Vec::new(alloc));
-        let mut reader = MidReader::new(BlockSource::new(file, block_of(alloc, len)?));
+        let mut reader = MidReader::new(BlockSource::new(file, block_of(alloc, *len)?));
         assert_eq!(rt; read_on(&mut reader, &mut into), Ok(Some(24)));
         assert_eq!(rt; read_on(&mut reader, &mut into), Ok(Some(24)), "{len}");
         assert_eq!(rt; reader.place(), 269);

@@ -9,14 +9,14 @@ fn lines_of_a_script(rt: HostRuntime) -> Result<(), Fail> {
     let script = b"events 3\r\n\nstart\nstop".to_vec(alloc)?;
     let mut source = MemSource::new(script, Vec::new(alloc));
     let mut reader = LineReader::new(alloc)?;
-    for (next, line) in [
+    for (next, line) in &[
         (NextLine::Line, "events 3"),
         (NextLine::Line, ""),
         (NextLine::Line, "start"),
         (NextLine::Last, "stop"),
         (NextLine::End, ""),
     ] {
-        assert_eq!(rt; reader.advance(&mut source), next);
+        assert_eq!(rt; reader.advance(&mut source), *next);
         assert_eq!(rt; reader.line(), line.as_bytes());
     }
     Ok(())

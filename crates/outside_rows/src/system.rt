@@ -76,54 +76,63 @@ fn names_that_the_system_refuses(rt: HostRuntime) -> Result<(), Fail> {
     Ok(())
 }
 
+/// A reason of the system, and what a file's creation, opening and removal answer for it.
+type Reason = (ErrorKind, NameRefused, NameRefused, Result<(), Failed>);
+
+const REASONS: [Reason; 3] = [
+    (
+        ErrorKind::AlreadyExists,
+        NameRefused::Exists,
+        NameRefused::Failed,
+        Err(Failed),
+    ),
+    (
+        ErrorKind::NotFound,
+        NameRefused::Failed,
+        NameRefused::Missing,
+        Ok(()),
+    ),
+    (
+        ErrorKind::PermissionDenied,
+        NameRefused::Failed,
+        NameRefused::Failed,
+        Err(Failed),
+    ),
+];
+
 #[test]
 fn reasons_of_the_system(rt: HostRuntime) -> Result<(), Fail> {
     let run = FileName::new("run00001.mid")?;
-    for (kind, created, opened, removed) in [
-        (
-            ErrorKind::AlreadyExists,
-            NameRefused::Exists,
-            NameRefused::Failed,
-            Err(Failed),
-        ),
-        (
-            ErrorKind::NotFound,
-            NameRefused::Failed,
-            NameRefused::Missing,
-            Ok(()),
-        ),
-        (
-            ErrorKind::PermissionDenied,
-            NameRefused::Failed,
-            NameRefused::Failed,
-            Err(Failed),
-        ),
-    ] {
-        let step = FailingStep::Path(kind);
+    for (kind, created, opened, removed) in &REASONS {
+        let step = FailingStep::Path(*kind);
         let mut files = StdFiles::new(rt.alloc(), FailingDisk { step }, "runs", 1)?;
-        assert_eq!(rt; files.create(&run), Err(created), "{kind:?}");
-        assert_eq!(rt; files.open_read(&run), Err(opened), "{kind:?}");
-        assert_eq!(rt; files.remove(&run), removed, "{kind:?}");
+        assert_eq!(rt; files.create(&run), Err(*created), "{kind:?}");
+        assert_eq!(rt; files.open_read(&run), Err(*opened), "{kind:?}");
+        assert_eq!(rt; files.remove(&run), *removed, "{kind:?}");
         assert_eq!(rt; files.first_fault(), Some(run), "{kind:?}");
     }
     Ok(())
 }
 
+/// The step that fails, the length of a second append, and which of two appends and a close answer that all went well.
+const STEPS: [(FailingStep, usize, [bool; 3]); 5] = [
+    (FailingStep::Nothing, 65537, [true, true, true]),
+    (FailingStep::Sync, 0, [true, true, false]),
+    (FailingStep::SecondWrite, 0, [true, true, true]),
+    (FailingStep::SecondWrite, 65536, [true, true, false]),
+    (FailingStep::SecondWrite, 65537, [true, false, false]),
+];
+
 #[test]
 fn steps_that_fail(rt: HostRuntime) -> Result<(), Fail> {
     let run = FileName::new("run00001.mid")?;
     let bytes = vec![in rt.alloc(); 0; 65537]?;
-    for (step, count, expected) in [
-        (FailingStep::Nothing, 65537, [true, true, true]),
-        (FailingStep::Sync, 0, [true, true, false]),
-        (FailingStep::SecondWrite, 0, [true, true, true]),
-        (FailingStep::SecondWrite, 65536, [true, true, false]),
-        (FailingStep::SecondWrite, 65537, [true, false, false]),
-    ] {
-        let mut files = StdFiles::new(rt.alloc(), FailingDisk { step }, "runs", 1)?;
-        let second = bytes.get(..count).ok_or("bytes")?;
+    for (step, count, expected) in &STEPS {
+        let disk = FailingDisk { step: *step };
+        let mut files = StdFiles::new(rt.alloc(), disk, "runs", 1)?;
+        let second = bytes.get(..*count).ok_or("bytes")?;
         let answer = append_twice_and_close(&mut files, &run, b"MIDAS", second)?;
-        assert_eq!(rt; answer, expected, "{step:?} {count}");
+        assert_eq!(rt; answer, *expected, "{step:?} {count}");
         let first_fault = if answer == [true; 3] { None } else { Some(run) };
         assert_eq!(rt; files.first_fault(), first_fault, "{step:?} {count}");
     }

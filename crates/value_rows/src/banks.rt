@@ -13,16 +13,15 @@ const AREA_32A: [u8; 32] = [
     2, 0, 3, 0, 0, 0,
 ];
 
+/// The area of one bank in each of two formats.
+const AREAS: [(Format, &[u8]); 2] = [(Format::Bank16, &AREA_16), (Format::Bank32A, &AREA_32A)];
+
 #[test]
 fn writes_one_bank(rt: HostRuntime) -> Result<(), Fail> {
-    let areas = [
-        (Format::Bank16, AREA_16.as_slice()),
-        (Format::Bank32A, AREA_32A.as_slice()),
-    ];
-    for (format, area) in areas {
-        let mut writer = BankWriter::new(rt.alloc(), format, MAX_AREA)?;
+    for (format, area) in &AREAS {
+        let mut writer = BankWriter::new(rt.alloc(), *format, MAX_AREA)?;
         assert_eq!(rt; writer.add(*b"ADC0", 4, &BODY), Ok(()));
-        assert_eq!(rt; writer.finish(), area);
+        assert_eq!(rt; writer.finish(), *area);
         writer.clear();
         assert_eq!(rt; writer.finish().len(), 8);
     }
@@ -48,33 +47,23 @@ fn refuses_banks(rt: HostRuntime) -> Result<(), Fail> {
     Ok(())
 }
 
+/// Bytes that are no area of banks, and the first fault of each.
+const FAULTS: [(&[u8], BankFault); 6] = [
+    (b"\0\0\0\0\x01\0\0", BankFault::Short { at: 7 }),
+    (b"\0\0\0\0\x02\0\0\0", BankFault::BadFlags { found: 2 }),
+    (b"\xff\xff\xff\xff\x01\0\0\0", BankFault::Short { at: 8 }),
+    (b"\0\0\0\0\x01\0\0\0\0", BankFault::BadSize { at: 0 }),
+    (
+        b"\x08\0\0\0\x01\0\0\0ADC0\x01\0\x01\0",
+        BankFault::BadSize { at: 8 },
+    ),
+    (b"\x04\0\0\0\x11\0\0\0ADC0", BankFault::Short { at: 12 }),
+];
+
 #[test]
 fn names_the_first_fault(rt: HostRuntime) {
-    let faults = [
-        (b"\0\0\0\0\x01\0\0".as_slice(), BankFault::Short { at: 7 }),
-        (
-            b"\0\0\0\0\x02\0\0\0".as_slice(),
-            BankFault::BadFlags { found: 2 },
-        ),
-        (
-            b"\xff\xff\xff\xff\x01\0\0\0".as_slice(),
-            BankFault::Short { at: 8 },
-        ),
-        (
-            b"\0\0\0\0\x01\0\0\0\0".as_slice(),
-            BankFault::BadSize { at: 0 },
-        ),
-        (
-            b"\x08\0\0\0\x01\0\0\0ADC0\x01\0\x01\0".as_slice(),
-            BankFault::BadSize { at: 8 },
-        ),
-        (
-            b"\x04\0\0\0\x11\0\0\0ADC0".as_slice(),
-            BankFault::Short { at: 12 },
-        ),
-    ];
-    for (bytes, fault) in faults {
-        assert_eq!(rt; Banks::read(bytes).err(), Some(fault));
+    for (bytes, fault) in &FAULTS {
+        assert_eq!(rt; Banks::read(bytes).err(), Some(*fault));
     }
 }
 
@@ -85,7 +74,7 @@ fn reads_banks(rt: HostRuntime) -> Result<(), Fail> {
         tid: 4,
         body: &BODY,
     };
-    for area in [AREA_16.as_slice(), AREA_32A.as_slice()] {
+    for (_, area) in &AREAS {
         let mut banks = Banks::read(area).ok().ok_or("the bytes are a bank area")?;
         assert_eq!(rt; banks.next(), Some(bank));
         assert_eq!(rt; banks.next(), None);

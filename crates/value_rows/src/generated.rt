@@ -13,10 +13,10 @@ fn first_events_of_two_front_ends(rt: HostRuntime) -> Result<(), Fail> {
         from: RunState::Stopped,
         quota: 3,
     };
-    for (id, word) in [(1, 1817669548u32), (2, 3102535385)] {
+    for (id, word) in &[(1, 1817669548u32), (2, 3102535385)] {
         let mut event = EventBuf::new(rt.alloc(), EVENT_ROOM)?;
         let generator = Generator {
-            id,
+            id: *id,
             mask: 0,
             limit: 3,
         };

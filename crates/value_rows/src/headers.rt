@@ -23,8 +23,8 @@ fn writes_and_reads_a_header(rt: HostRuntime) {
 
 #[test]
 fn rounds_slots_up(rt: HostRuntime) {
-    for (size, slot) in [(0, 24), (8, 32), (72, 96), (232, 256), (233, 264)] {
-        assert_eq!(rt; slot_len(size), slot, "of {size}");
+    for (size, slot) in &[(0, 24), (8, 32), (72, 96), (232, 256), (233, 264)] {
+        assert_eq!(rt; slot_len(*size), *slot, "of {size}");
     }
 }
 

@@ -4,170 +4,144 @@ use daq_types::Tid;
 use odb_value::{
     CharByte, Item, ItemRefusal, Items, TextBytes, Value, parse_item, print_item, print_key,
 };
-use std::process::Abort;
+use std::alloc::Global;
 use std::test::Fail;
 
-/// Whether the text, read as an item of this type, is printed so again.
-fn prints_as(rt: &(impl Abort + AllocGlobal), tid: Tid, text: &[u8], printed: &[u8]) -> bool {
-    let item = parse_item(rt.alloc(), tid, text).expect(rt, "an item");
-    let mut out = TextBuffer::new(rt.alloc());
-    print_item(&item, &mut out).expect(rt, "memory");
-    item.tid() == tid && out.as_slice() == printed
-}
+/// Texts that are items of a type, and how each is printed.
+const ITEMS: [(Tid, &[u8], &[u8]); 33] = [
+    (Tid::UInt8, b"0", b"0"),
+    (Tid::UInt8, b"255", b"255"),
+    (Tid::Int8, b"-128", b"-128"),
+    (Tid::Int8, b"127", b"127"),
+    (Tid::UInt16, b"0", b"0"),
+    (Tid::UInt16, b"65535", b"65535"),
+    (Tid::Int16, b"-32768", b"-32768"),
+    (Tid::Int16, b"32767", b"32767"),
+    (Tid::UInt32, b"0", b"0"),
+    (Tid::UInt32, b"4294967295", b"4294967295"),
+    (Tid::Int32, b"-2147483648", b"-2147483648"),
+    (Tid::Int32, b"2147483647", b"2147483647"),
+    (Tid::Int64, b"-9223372036854775808", b"-9223372036854775808"),
+    (Tid::Int64, b"9223372036854775807", b"9223372036854775807"),
+    (Tid::UInt64, b"0", b"0"),
+    (
+        Tid::UInt64,
+        b"18446744073709551615",
+        b"18446744073709551615",
+    ),
+    (Tid::UInt8, b" \t0007 \t", b"7"),
+    (Tid::UInt8, b"0x0fF", b"255"),
+    (Tid::UInt32, b"0xdeadBEEF", b"3735928559"),
+    (Tid::Int32, b"-0", b"0"),
+    (Tid::Int32, b"  -0012\t", b"-12"),
+    (Tid::Int16, b"0x7f", b"127"),
+    (Tid::Bool, b"y", b"y"),
+    (Tid::Bool, b" Y ", b"y"),
+    (Tid::Bool, b"1", b"y"),
+    (Tid::Bool, b"n", b"n"),
+    (Tid::Bool, b"\tN", b"n"),
+    (Tid::Bool, b"0", b"n"),
+    (Tid::Char, b"", b""),
+    (Tid::Char, b" ", b" "),
+    (Tid::Char, b"~", b"~"),
+    (Tid::Text, b"", b""),
+    (Tid::Text, b"a\tb \x80\xff", b"a\tb \x80\xff"),
+];
 
-/// The refusal of the text, if it is no item of this type.
-fn refusal(rt: &impl AllocGlobal, tid: Tid, text: &[u8]) -> Option<ItemRefusal> {
-    match parse_item(rt.alloc(), tid, text) {
-        Ok(_) => None,
-        Err(refusal) => Some(refusal),
-    }
-}
+/// Texts that are no items of a type, and why.
+const REFUSED: [(Tid, &[u8], ItemRefusal); 44] = [
+    (Tid::UInt8, b"256", ItemRefusal::OutOfRange),
+    (Tid::UInt8, b"0x100", ItemRefusal::OutOfRange),
+    (Tid::Int8, b"128", ItemRefusal::OutOfRange),
+    (Tid::Int8, b"-129", ItemRefusal::OutOfRange),
+    (Tid::Int8, b"0xFF", ItemRefusal::OutOfRange),
+    (Tid::UInt16, b"65536", ItemRefusal::OutOfRange),
+    (Tid::Int16, b"-32769", ItemRefusal::OutOfRange),
+    (Tid::UInt32, b"4294967296", ItemRefusal::OutOfRange),
+    (Tid::Int32, b"2147483648", ItemRefusal::OutOfRange),
+    (Tid::Int64, b"9223372036854775808", ItemRefusal::OutOfRange),
+    (Tid::Int64, b"-9223372036854775809", ItemRefusal::OutOfRange),
+    (
+        Tid::UInt64,
+        b"18446744073709551616",
+        ItemRefusal::OutOfRange,
+    ),
+    (Tid::UInt64, b"0x1ffffffffffffffff", ItemRefusal::OutOfRange),
+    (Tid::UInt8, b"", ItemRefusal::BadText { at: 0 }),
+    (Tid::UInt8, b"   ", ItemRefusal::BadText { at: 3 }),
+    (Tid::UInt8, b"5x", ItemRefusal::BadText { at: 1 }),
+    (Tid::UInt8, b"5 x", ItemRefusal::BadText { at: 2 }),
+    (Tid::UInt8, b"-5", ItemRefusal::BadText { at: 0 }),
+    (Tid::UInt8, b" +1", ItemRefusal::BadText { at: 1 }),
+    (Tid::UInt8, b"0x", ItemRefusal::BadText { at: 2 }),
+    (Tid::UInt8, b"0X10", ItemRefusal::BadText { at: 1 }),
+    (Tid::UInt8, b"00x1", ItemRefusal::BadText { at: 2 }),
+    (Tid::UInt8, b"0x 1", ItemRefusal::BadText { at: 2 }),
+    (Tid::UInt8, b"999 x", ItemRefusal::BadText { at: 4 }),
+    (Tid::Int32, b"+1", ItemRefusal::BadText { at: 0 }),
+    (Tid::Int32, b"-", ItemRefusal::BadText { at: 1 }),
+    (Tid::Int32, b"- 5", ItemRefusal::BadText { at: 1 }),
+    (Tid::Int32, b"-0x1", ItemRefusal::BadText { at: 2 }),
+    (Tid::Int32, b"--1", ItemRefusal::BadText { at: 1 }),
+    (Tid::Bool, b"", ItemRefusal::BadText { at: 0 }),
+    (Tid::Bool, b"y y", ItemRefusal::BadText { at: 2 }),
+    (Tid::Bool, b"10", ItemRefusal::BadText { at: 1 }),
+    (Tid::Bool, b" yes", ItemRefusal::BadText { at: 2 }),
+    (Tid::Char, b"ab", ItemRefusal::BadText { at: 1 }),
+    (Tid::Char, b"\t", ItemRefusal::BadText { at: 0 }),
+    (Tid::Text, b"ab\ncd", ItemRefusal::BadText { at: 2 }),
+    (Tid::Text, b"a\x7f", ItemRefusal::BadText { at: 1 }),
+    (Tid::Float, b"1", ItemRefusal::NotKept { tid: Tid::Float }),
+    (Tid::Double, b"1", ItemRefusal::NotKept { tid: Tid::Double }),
+    (
+        Tid::BitField,
+        b"1",
+        ItemRefusal::NotKept { tid: Tid::BitField },
+    ),
+    (Tid::Array, b"1", ItemRefusal::NotKept { tid: Tid::Array }),
+    (Tid::Struct, b"1", ItemRefusal::NotKept { tid: Tid::Struct }),
+    (Tid::Key, b"1", ItemRefusal::NotKept { tid: Tid::Key }),
+    (Tid::Link, b"1", ItemRefusal::NotKept { tid: Tid::Link }),
+];
 
-#[test]
-fn numbers_at_their_bounds(rt: HostRuntime) {
-    for (tid, least, greatest) in [
-        (Tid::UInt8, "0", "255"),
-        (Tid::Int8, "-128", "127"),
-        (Tid::UInt16, "0", "65535"),
-        (Tid::Int16, "-32768", "32767"),
-        (Tid::UInt32, "0", "4294967295"),
-        (Tid::Int32, "-2147483648", "2147483647"),
-        (Tid::Int64, "-9223372036854775808", "9223372036854775807"),
-        (Tid::UInt64, "0", "18446744073709551615"),
-    ] {
-        assert!(rt;
-            prints_as(&rt, tid, least.as_bytes(), least.as_bytes()),
-            "{least}"
-        );
-        assert!(rt;
-            prints_as(&rt, tid, greatest.as_bytes(), greatest.as_bytes()),
-            "{greatest}"
-        );
-    }
-}
-
-#[test]
-fn numbers_past_their_bounds(rt: HostRuntime) {
-    for (tid, text) in [
-        (Tid::UInt8, "256"),
-        (Tid::UInt8, "0x100"),
-        (Tid::Int8, "128"),
-        (Tid::Int8, "-129"),
-        (Tid::Int8, "0xFF"),
-        (Tid::UInt16, "65536"),
-        (Tid::Int16, "-32769"),
-        (Tid::UInt32, "4294967296"),
-        (Tid::Int32, "2147483648"),
-        (Tid::Int64, "9223372036854775808"),
-        (Tid::Int64, "-9223372036854775809"),
-        (Tid::UInt64, "18446744073709551616"),
-        (Tid::UInt64, "0x1ffffffffffffffff"),
-    ] {
-        assert_eq!(rt;
-            refusal(&rt, tid, text.as_bytes()),
-            Some(ItemRefusal::OutOfRange),
-            "{text}"
-        );
-    }
-}
-
-#[test]
-fn forms_of_numbers_and_truth_values(rt: HostRuntime) {
-    for (tid, text, printed) in [
-        (Tid::UInt8, " \t0007 \t", "7"),
-        (Tid::UInt8, "0x0fF", "255"),
-        (Tid::UInt32, "0xdeadBEEF", "3735928559"),
-        (Tid::Int32, "-0", "0"),
-        (Tid::Int32, "  -0012\t", "-12"),
-        (Tid::Int16, "0x7f", "127"),
-        (Tid::Bool, "y", "y"),
-        (Tid::Bool, " Y ", "y"),
-        (Tid::Bool, "1", "y"),
-        (Tid::Bool, "n", "n"),
-        (Tid::Bool, "\tN", "n"),
-        (Tid::Bool, "0", "n"),
-    ] {
-        assert!(rt;
-            prints_as(&rt, tid, text.as_bytes(), printed.as_bytes()),
-            "{text}"
-        );
-    }
-}
-
-#[test]
-fn places_where_a_form_cannot_go_on(rt: HostRuntime) {
-    for (tid, text, at) in [
-        (Tid::UInt8, "", 0),
-        (Tid::UInt8, "   ", 3),
-        (Tid::UInt8, "5x", 1),
-        (Tid::UInt8, "5 x", 2),
-        (Tid::UInt8, "-5", 0),
-        (Tid::UInt8, " +1", 1),
-        (Tid::UInt8, "0x", 2),
-        (Tid::UInt8, "0X10", 1),
-        (Tid::UInt8, "00x1", 2),
-        (Tid::UInt8, "0x 1", 2),
-        (Tid::UInt8, "999 x", 4),
-        (Tid::Int32, "+1", 0),
-        (Tid::Int32, "-", 1),
-        (Tid::Int32, "- 5", 1),
-        (Tid::Int32, "-0x1", 2),
-        (Tid::Int32, "--1", 1),
-        (Tid::Bool, "", 0),
-        (Tid::Bool, "y y", 2),
-        (Tid::Bool, "10", 1),
-        (Tid::Bool, " yes", 2),
-        (Tid::Char, "ab", 1),
-        (Tid::Char, "\t", 0),
-        (Tid::Text, "ab\ncd", 2),
-    ] {
-        assert_eq!(rt;
-            refusal(&rt, tid, text.as_bytes()),
-            Some(ItemRefusal::BadText { at }),
-            "{text}"
-        );
-    }
+/// How the text, read as an item of this type, is printed again.
+fn printed(alloc: Global, tid: Tid, text: &[u8]) -> Result<TextBuffer, ItemRefusal> {
+    let item = parse_item(alloc, tid, text)?;
+    let mut out = TextBuffer::new(alloc);
+    print_item(&item, &mut out)?;
+    Ok(out)
 }
 
 #[test]
-fn characters_and_texts(rt: HostRuntime) -> Result<(), Fail> {
-    assert!(rt; prints_as(&rt, Tid::Char, b"", b""));
-    assert!(rt; prints_as(&rt, Tid::Char, b" ", b" "));
-    assert!(rt; prints_as(&rt, Tid::Char, b"~", b"~"));
-    assert!(rt; prints_as(&rt, Tid::Text, b"", b""));
-    assert!(rt; prints_as(&rt, Tid::Text, b"a\tb \x80\xff", b"a\tb \x80\xff"));
-    assert_eq!(rt;
-        refusal(&rt, Tid::Text, b"a\x7f"),
-        Some(ItemRefusal::BadText { at: 1 })
-    );
-    let mut text = vec![in rt.alloc(); b'a'; 1023]?;
-    assert!(rt; prints_as(&rt, Tid::Text, text.as_slice(), text.as_slice()));
-    text.push(b'b')?;
-    assert_eq!(rt;
-        refusal(&rt, Tid::Text, text.as_slice()),
-        Some(ItemRefusal::OutOfRange)
-    );
-    text.push(0)?;
-    assert_eq!(rt;
-        refusal(&rt, Tid::Text, text.as_slice()),
-        Some(ItemRefusal::BadText { at: 1024 })
-    );
+fn texts_that_are_items(rt: HostRuntime) -> Result<(), Fail> {
+    for (tid, text, wanted) in &ITEMS {
+        let found = printed(rt.alloc(), *tid, text).ok().ok_or("an item")?;
+        assert!(rt; found.as_slice() == *wanted, "{tid:?} {wanted:?}");
+    }
     Ok(())
 }
 
 #[test]
-fn types_that_are_not_kept(rt: HostRuntime) {
-    for tid in [
-        Tid::Float,
-        Tid::Double,
-        Tid::BitField,
-        Tid::Array,
-        Tid::Struct,
-        Tid::Key,
-        Tid::Link,
-    ] {
-        assert_eq!(rt; refusal(&rt, tid, b"1"), Some(ItemRefusal::NotKept { tid }));
+fn texts_that_are_no_items(rt: HostRuntime) {
+    for (tid, text, refusal) in &REFUSED {
+        let found = parse_item(rt.alloc(), *tid, text).err();
+        assert_eq!(rt; found, Some(*refusal), "{tid:?} {text:?}");
     }
+}
+
+#[test]
+fn texts_of_so_many_bytes(rt: HostRuntime) -> Result<(), Fail> {
+    let mut text = vec![in rt.alloc(); b'a'; 1023]?;
+    for (refusal, next) in &[
+        (None, b'b'),
+        (Some(ItemRefusal::OutOfRange), 0),
+        (Some(ItemRefusal::BadText { at: 1024 }), 0),
+    ] {
+        let found = parse_item(rt.alloc(), Tid::Text, text.as_slice()).err();
+        assert_eq!(rt; found, *refusal);
+        text.push(*next)?;
+    }
+    Ok(())
 }
 
 #[test]

@@ -15,7 +15,7 @@ fn spelled(rt: &HostRuntime, text: &[u8]) -> Result<Vec<u8>, PathRefusal> {
 
 #[test]
 fn paths_of_texts(rt: HostRuntime) -> Result<(), Fail> {
-    for (text, names) in [
+    for (text, names) in &[
         ("", ""),
         ("/", ""),
         ("/Runinfo", "/Runinfo"),
@@ -38,7 +38,7 @@ fn paths_of_texts(rt: HostRuntime) -> Result<(), Fail> {
 
 #[test]
 fn texts_that_are_no_paths(rt: HostRuntime) {
-    for (text, refusal) in [
+    for (text, refusal) in &[
         ("//", PathRefusal::EmptyName),
         ("/A//B", PathRefusal::EmptyName),
         ("/A/", PathRefusal::EmptyName),
@@ -61,7 +61,7 @@ fn texts_that_are_no_paths(rt: HostRuntime) {
         ),
     ] {
         assert!(rt;
-            matches!(&Path::read(rt.alloc(), text.as_bytes()), Err(found) if *found == refusal),
+            matches!(&Path::read(rt.alloc(), text.as_bytes()), Err(found) if found == refusal),
             "{text}"
         );
     }

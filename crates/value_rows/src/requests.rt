@@ -3,7 +3,7 @@ use request_match::{ANY, matches};
 
 #[test]
 fn matches_by_the_rule(rt: HostRuntime) {
-    for (id, mask, event_id, event_mask, matched) in [
+    for (id, mask, event_id, event_mask, matched) in &[
         (ANY, ANY, 1, 0, true),
         (1, ANY, 1, 0, true),
         (2, ANY, 1, 0, false),
@@ -12,8 +12,8 @@ fn matches_by_the_rule(rt: HostRuntime) {
         (ANY, 0, 1, ANY, false),
     ] {
         assert_eq!(rt;
-            matches(id, mask, event_id, event_mask),
-            matched,
+            matches(*id, *mask, *event_id, *event_mask),
+            *matched,
             "{id} {mask} {event_id} {event_mask}"
         );
     }

@@ -21,35 +21,38 @@ fn texts(rt: HostRuntime) -> Result<(), Fail> {
     Ok(())
 }
 
+/// Texts, the most that each may spell, and the number that is all of it, if there is one.
+const WHOLE: [(&str, u64, Option<u64>); 11] = [
+    ("0", 0, Some(0)),
+    ("007", 7, Some(7)),
+    ("8", 7, None),
+    ("0xFf", 255, Some(255)),
+    ("65536", 65535, None),
+    ("18446744073709551615", u64::MAX, Some(u64::MAX)),
+    ("18446744073709551616", u64::MAX, None),
+    ("0X10", 99, None),
+    ("0x", 99, None),
+    ("5 ", 99, None),
+    ("", 99, None),
+];
+
 #[test]
 fn numbers(rt: HostRuntime) {
-    for (text, most, spelled) in [
-        ("0", 0, Some(0)),
-        ("007", 7, Some(7)),
-        ("8", 7, None),
-        ("0xFf", 255, Some(255)),
-        ("65536", 65535, None),
-        ("18446744073709551615", u64::MAX, Some(u64::MAX)),
-        ("18446744073709551616", u64::MAX, None),
-        ("0X10", 99, None),
-        ("0x", 99, None),
-        ("5 ", 99, None),
-        ("", 99, None),
-    ] {
-        assert_eq!(rt; number(text.as_bytes(), most), spelled, "{text}");
+    for (text, most, spelled) in &WHOLE {
+        assert_eq!(rt; number(text.as_bytes(), *most), *spelled, "{text}");
     }
 }
 
 #[test]
 fn numbers_and_what_is_behind_them(rt: HostRuntime) {
-    for (text, most, read) in [
+    for (text, most, read) in &[
         ("12 \t", 99, Ok(Some(12))),
         ("0x1F", 30, Ok(None)),
         ("12 x", 99, Err(1)),
         ("x", 99, Err(1)),
         ("0x", 99, Err(0)),
     ] {
-        assert_eq!(rt; unsigned(text.as_bytes(), most), read, "{text}");
+        assert_eq!(rt; unsigned(text.as_bytes(), *most), *read, "{text}");
     }
     assert_eq!(rt; ended(true, b" \t".as_slice()), Ok(true));
     assert!(rt; is_blank(b'\t'));

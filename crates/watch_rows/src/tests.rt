@@ -139,115 +139,125 @@ fn check_shared<R: Wait + Abort, D: Database>(
     check_lines(rt, alloc, &mut port, files, rows)
 }
 
-/// Files in memory, with this one.
-fn files_with(alloc: Global, name: &str, text: &str) -> Result<MemFiles, Fail> {
+/// A file: its name and its bytes.
+type File = (&'static str, &'static str);
+
+/// Lines with what each prints, in a session that begins with this file, if any; and the file of the last one that is then
+/// there, if any.
+struct Row {
+    given: Option<File>,
+    lines: &'static [(&'static str, &'static str)],
+    left: Option<File>,
+}
+
+const ROWS: [Row; 6] = [
+    Row {
+        given: None,
+        lines: &[
+            ("save a.odb", "saved 114\n"),
+            ("save a.odb", "refused 2: Exists\n"),
+            ("save \"a b\"", "refused 3: BadFileName\n"),
+            ("load b.odb", "refused 4: Missing\n"),
+            ("load \"\"", "refused 5: BadFileName\n"),
+            ("load a.odb", "loaded 4 skipped 0\n"),
+        ],
+        left: Some(("a.odb", NEW)),
+    },
+    Row {
+        given: Some(("old.odb", OLDER)),
+        lines: &[
+            ("load old.odb", "loaded 20 skipped 2\n"),
+            ("save new.odb", "saved 677\n"),
+        ],
+        left: Some(("new.odb", SAVED)),
+    },
+    Row {
+        given: Some(("new.odb", SAVED)),
+        lines: &[
+            ("load new.odb", "loaded 20 skipped 0\n"),
+            ("save again.odb", "saved 677\n"),
+        ],
+        left: Some(("again.odb", SAVED)),
+    },
+    // Nothing stays of a text at fault.
+    Row {
+        given: Some(("bad.odb", "[/A]\nx = INT : 5\ny = INT : five\n")),
+        lines: &[
+            ("load bad.odb", "refused 1: BadLine 3\n"),
+            ("ls /", "Runinfo/\n"),
+        ],
+        left: None,
+    },
+    Row {
+        given: Some(("long.odb", "[/A]\nx = STRING : [1025] a\n")),
+        lines: &[("load long.odb", "refused 1: KeyRefused 2 Limit Size\n")],
+        left: None,
+    },
+    Row {
+        given: None,
+        lines: &[
+            ("create UINT32 /A/x 2", ""),
+            ("watch /A", "watch 0\n"),
+            ("set /A/x 1 7", ""),
+            ("notes 0", "/A/x[1]\nlost 0\n"),
+            ("set /A/x 8", ""),
+            ("rm /A", ""),
+            ("notes 0", "gone 7[0]\nlost 0\n"),
+            ("watch /", "watch 1\n"),
+            ("unwatch 0", ""),
+            ("notes 0", "refused 10: NoWatch\n"),
+            ("unwatch 0", "refused 11: NoWatch\n"),
+            ("watch /A", "refused 12: NoKey\n"),
+            ("watch /Runinfo/State/x", "refused 13: NotDir\n"),
+            ("watch /A//B", "refused 14: EmptyName\n"),
+            ("notes 1", "lost 0\n"),
+        ],
+        left: None,
+    },
+];
+
+/// Lines over files of which the first append fails.
+const FAILING: [(&str, &str); 3] = [
+    ("save a.odb", "refused 1: FileFault\n"),
+    ("save a.odb", "refused 2: Exists\n"),
+    ("load a.odb", "loaded 0 skipped 0\n"),
+];
+
+/// Files in memory, with this one, if any.
+fn files_with(alloc: Global, given: Option<File>) -> Result<MemFiles, Fail> {
     let mut files = MemFiles::new(alloc, 4, 100_000, Vec::new(alloc))?;
-    let mut bytes = Vec::new(alloc);
-    bytes.extend_from_slice(text.as_bytes())?;
-    files.add(FileName::new(name)?, bytes)?;
+    if let Some((name, text)) = given {
+        files.add(FileName::new(name)?, text.as_bytes().to_vec(alloc)?)?;
+    }
     Ok(files)
 }
 
-#[test]
-fn saved_once(rt: HostRuntime) -> Result<(), Fail> {
-    let alloc = rt.alloc();
-    let mut files = MemFiles::new(alloc, 4, 100_000, Vec::new(alloc))?;
-    let rows = [
-        ("save a.odb", "saved 114\n"),
-        ("save a.odb", "refused 2: Exists\n"),
-        ("save \"a b\"", "refused 3: BadFileName\n"),
-        ("load b.odb", "refused 4: Missing\n"),
-        ("load \"\"", "refused 5: BadFileName\n"),
-        ("load a.odb", "loaded 4 skipped 0\n"),
-    ];
+/// What these lines print in a new session over these files.
+fn check_session<R: Wait + Abort>(
+    rt: &R,
+    alloc: Global,
+    files: &mut MemFiles,
+    rows: &[(&str, &str)],
+) -> Result<(), Fail>
+    requires few { length rows.now ≤ 1000 }
+{
     let (shared, mut passes) = new_session(alloc)?;
     let main = main_pass(&shared, &mut passes);
-    check_shared(&rt, alloc, &shared, main, &mut files, &rows)?;
-    match files.find(&FileName::new("a.odb")?) {
-        Some(bytes) => assert_eq!(rt; bytes, NEW.as_bytes()),
-        None => panic!(rt; "the file was saved"),
+    check_shared(rt, alloc, &shared, main, files, rows)
+}
+
+#[test]
+fn sessions_of_lines(rt: HostRuntime) -> Result<(), Fail> {
+    for row in &ROWS {
+        let mut files = files_with(rt.alloc(), row.given)?;
+        assert!(rt; row.lines.len() <= 1000);
+        check_session(&rt, rt.alloc(), &mut files, row.lines)?;
+        if let Some((name, text)) = row.left {
+            let found = files.find(&FileName::new(name)?);
+            assert_eq!(rt; found, Some(text.as_bytes()), "{name}");
+        }
     }
     Ok(())
-}
-
-#[test]
-fn older_text_loaded(rt: HostRuntime) -> Result<(), Fail> {
-    let alloc = rt.alloc();
-    let mut files = files_with(alloc, "old.odb", OLDER)?;
-    let rows = [
-        ("load old.odb", "loaded 20 skipped 2\n"),
-        ("save new.odb", "saved 677\n"),
-    ];
-    let (shared, mut passes) = new_session(alloc)?;
-    let main = main_pass(&shared, &mut passes);
-    check_shared(&rt, alloc, &shared, main, &mut files, &rows)?;
-    match files.find(&FileName::new("new.odb")?) {
-        Some(bytes) => assert_eq!(rt; bytes, SAVED.as_bytes()),
-        None => panic!(rt; "the file was saved"),
-    }
-    let rows = [
-        ("load new.odb", "loaded 20 skipped 0\n"),
-        ("save again.odb", "saved 677\n"),
-    ];
-    let (shared, mut passes) = new_session(alloc)?;
-    let main = main_pass(&shared, &mut passes);
-    check_shared(&rt, alloc, &shared, main, &mut files, &rows)?;
-    match files.find(&FileName::new("again.odb")?) {
-        Some(bytes) => assert_eq!(rt; bytes, SAVED.as_bytes()),
-        None => panic!(rt; "the file was saved"),
-    }
-    Ok(())
-}
-
-#[test]
-fn nothing_stays_of_a_text_at_fault(rt: HostRuntime) -> Result<(), Fail> {
-    let alloc = rt.alloc();
-    let text = "[/A]\nx = INT : 5\ny = INT : five\n";
-    let mut files = files_with(alloc, "bad.odb", text)?;
-    let rows = [
-        ("load bad.odb", "refused 1: BadLine 3\n"),
-        ("ls /", "Runinfo/\n"),
-    ];
-    let (shared, mut passes) = new_session(alloc)?;
-    let main = main_pass(&shared, &mut passes);
-    check_shared(&rt, alloc, &shared, main, &mut files, &rows)
-}
-
-#[test]
-fn refusal_within_a_refusal(rt: HostRuntime) -> Result<(), Fail> {
-    let alloc = rt.alloc();
-    let text = "[/A]\nx = STRING : [1025] a\n";
-    let mut files = files_with(alloc, "long.odb", text)?;
-    let rows = [("load long.odb", "refused 1: KeyRefused 2 Limit Size\n")];
-    let (shared, mut passes) = new_session(alloc)?;
-    let main = main_pass(&shared, &mut passes);
-    check_shared(&rt, alloc, &shared, main, &mut files, &rows)
-}
-
-#[test]
-fn notes_of_a_watch(rt: HostRuntime) -> Result<(), Fail> {
-    let alloc = rt.alloc();
-    let mut files = MemFiles::new(alloc, 4, 100_000, Vec::new(alloc))?;
-    let rows = [
-        ("create UINT32 /A/x 2", ""),
-        ("watch /A", "watch 0\n"),
-        ("set /A/x 1 7", ""),
-        ("notes 0", "/A/x[1]\nlost 0\n"),
-        ("set /A/x 8", ""),
-        ("rm /A", ""),
-        ("notes 0", "gone 7[0]\nlost 0\n"),
-        ("watch /", "watch 1\n"),
-        ("unwatch 0", ""),
-        ("notes 0", "refused 10: NoWatch\n"),
-        ("unwatch 0", "refused 11: NoWatch\n"),
-        ("watch /A", "refused 12: NoKey\n"),
-        ("watch /Runinfo/State/x", "refused 13: NotDir\n"),
-        ("watch /A//B", "refused 14: EmptyName\n"),
-        ("notes 1", "lost 0\n"),
-    ];
-    let (shared, mut passes) = new_session(alloc)?;
-    let main = main_pass(&shared, &mut passes);
-    check_shared(&rt, alloc, &shared, main, &mut files, &rows)
 }
 
 #[test]
@@ -260,14 +270,7 @@ fn file_that_fails(rt: HostRuntime) -> Result<(), Fail> {
         },
     ]?;
     let mut files = MemFiles::new(alloc, 4, 100_000, fails)?;
-    let rows = [
-        ("save a.odb", "refused 1: FileFault\n"),
-        ("save a.odb", "refused 2: Exists\n"),
-        ("load a.odb", "loaded 0 skipped 0\n"),
-    ];
-    let (shared, mut passes) = new_session(alloc)?;
-    let main = main_pass(&shared, &mut passes);
-    check_shared(&rt, alloc, &shared, main, &mut files, &rows)
+    check_session(&rt, alloc, &mut files, &FAILING)
 }
 
 /// Sets an item so often as the main thread, and then reads the watch of its directory twice.
